@@ -1,0 +1,9 @@
+pub mod Blocks
+pub mod Fronts
+pub mod Refusals
+pub mod Registers
+pub mod Rotations
+pub mod Spellings
+pub mod Tables
+pub mod Varints
+pub mod Words
