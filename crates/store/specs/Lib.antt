@@ -1,0 +1,6 @@
+pub mod Files
+pub mod Calls
+pub mod MemStore
+pub mod MemFacts
+pub mod FileFacts
+pub mod FaultFacts

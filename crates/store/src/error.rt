@@ -1,0 +1,48 @@
+// Why a store refused a call.
+ghost use Rattle.std.specs.Prelude.{◌≡◌};
+ghost use Rattle.std.specs.IoError.{error_kind};
+ghost use Rattle.store.specs.declared.error.StoreError.TheVariants.{Memory};
+ghost use Rattle.store.specs.FileFacts.{refusal_of};
+
+use std::alloc::{AllocError, AllocFailed};
+use std::io;
+
+/// Why a store refused a call.
+#[derive(Clone, Copy, Debug, PartialEq, Eq)]
+pub enum StoreError {
+    /// Out of memory. The call did nothing.
+    Memory,
+    /// No file has this name. Only `len` and `read_at` answer so.
+    Missing,
+    /// The device failed, and the store has counted it. A call that changes files may have been done in part.
+    Device,
+}
+
+impl From<AllocError> for StoreError {
+    ghost from_gives = { λ _ e. e ≡ Memory };
+
+    fn from(_: AllocError) -> Self {
+        StoreError::Memory
+    }
+}
+
+impl<T: Drop> From<AllocFailed<T>> for StoreError {
+    ghost from_gives = { λ _ e. e ≡ Memory };
+
+    fn from(_: AllocFailed<T>) -> Self {
+        StoreError::Memory
+    }
+}
+
+/// What an error of the system is, in a call that has changed nothing.
+impl From<io::Error> for StoreError {
+    ghost from_gives = { λ error refusal. refusal ≡ refusal_of (error_kind error) };
+
+    fn from(error: io::Error) -> Self {
+        match error.kind() {
+            io::ErrorKind::NotFound => StoreError::Missing,
+            io::ErrorKind::OutOfMemory => StoreError::Memory,
+            _ => StoreError::Device,
+        }
+    }
+}

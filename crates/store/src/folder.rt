@@ -1,0 +1,267 @@
+// A folder of the system, by one call of the system for each call of a store.
+//
+// Nothing here counts: an error says what the system answered, and `file_store` decides what that is to a store.
+
+ghost use Rattle.std.specs.Prelude.{◌≤◌, length, IfOk};
+
+use crate::StoreError;
+use sqlite_std_file::{OpenError, Unknown};
+use std::alloc::{AllocError, Global};
+use std::collections::BTreeMap;
+use std::fs::{self, File, OpenFile, OpenOptions};
+use std::io::{self, ErrorKind, Write};
+use std::os::fd::AsRawFd;
+use std::os::unix::fs::FileExt;
+
+const LOCK: &str = "LOCK";
+
+// What is made beside it as it is locked, and taken away again.
+const LOCK_LOG: &str = "LOCK-wal";
+
+// How many files are kept open: LevelDB's own limit is 1,000, and a process mostly has 1,024 descriptors.
+const OPEN_FILES: usize = 800;
+
+// A read of more bytes asks for the file's length first, so that it takes no more memory than its answer.
+const LARGE_READ: usize = 1 << 20;
+
+// So does a read from this offset on: the system takes no range that ends past byte 2^63.
+const FAR_OFFSET: u64 = 1 << 62;
+
+// A file that is kept open: for reads alone, or for appends too.
+#[derive(Drop)]
+struct KeptFile {
+    file: File,
+    appends: bool,
+}
+
+// A folder, and the files of it that are open.
+#[derive(Drop)]
+pub struct Folder {
+    rt: HostRuntime,
+    // ends in a slash
+    path: String,
+    folder: File,
+    kept: BTreeMap<String, KeptFile>,
+    lock: Option<sqlite_std_file::File>,
+    // whether a name was made, moved or taken away since the folder was last synced
+    names_changed: bool,
+}
+
+impl Folder {
+    // Missing where nothing is at the path, Device where it isn't a folder that can be opened.
+    pub fn open(rt: &HostRuntime, path: &str) -> Result<Folder, StoreError> {
+        if !fs::metadata(rt, path)?.is_dir() {
+            return Err(StoreError::Device);
+        }
+        let folder = fs::open(rt, path)?;
+        let mut with_slash = String::from_str(rt.alloc(), path)?;
+        with_slash.push('/')?;
+        Ok(Folder {
+            rt: rt.clone()?,
+            path: with_slash,
+            folder,
+            kept: BTreeMap::new(rt.alloc()),
+            lock: None,
+            names_changed: false,
+        })
+    }
+
+    // The names of the plain files, and of links to one.
+    pub fn list(&mut self, alloc: Global) -> Result<Vec<String>, StoreError> {
+        let mut names = Vec::new(alloc);
+        for entry in fs::read_dir(&self.rt, self.path.as_str())? {
+            let entry = entry?;
+            if self.is_plain(entry.path().as_str())? {
+                names.push(String::from_str(alloc, entry.file_name())?)?;
+            }
+        }
+        Ok(names)
+    }
+
+    pub fn len(&mut self, name: &str) -> Result<u64, StoreError> {
+        Ok(self.kept_file(name, false)?.metadata()?.len())
+    }
+
+    pub fn read_at(
+        &mut self,
+        alloc: Global,
+        name: &str,
+        offset: u64,
+        count: usize,
+    ) -> Result<Vec<u8>, StoreError> {
+        let file = self.kept_file(name, false)?;
+        let count = count_within(file, offset, count)?;
+        let mut bytes = vec![in alloc; 0u8; count]?;
+        let read = fill(file, bytes.as_mut_slice(), offset)?;
+        bytes.truncate(read);
+        Ok(bytes)
+    }
+
+    pub fn create(&mut self, name: &str) -> Result<(), StoreError> {
+        let path = self.path_of(name)?;
+        self.kept.remove(name);
+        self.names_changed = true;
+        let mut options = OpenOptions::new();
+        options.read(true).write(true).create(true).truncate(true);
+        let file = open_with(&self.rt, &options, path.as_str()).map_err(|_| StoreError::Device)?;
+        // The file is made: where no memory is left to keep it open, the next call opens it again.
+        let _ = self.keep(
+            name,
+            KeptFile {
+                file,
+                appends: true,
+            },
+        );
+        Ok(())
+    }
+
+    // Once it writes, a failure is Device, since it may have written some of the bytes.
+    pub fn append(&mut self, name: &str, bytes: &[u8]) -> Result<(), StoreError> {
+        let mut file = self.kept_file(name, true)?;
+        file.write_all(bytes).map_err(|_| StoreError::Device)
+    }
+
+    // Syncs the folder first where its names changed, as LevelDB does before it syncs its MANIFEST
+    // (`SyncDirIfManifest` in util/env_posix.cc): what a file says of others is kept only behind their names.
+    pub fn sync(&mut self, name: &str) -> Result<(), StoreError> {
+        if self.names_changed {
+            self.folder.sync_all()?;
+            self.names_changed = false;
+        }
+        self.kept_file(name, false)?.sync_data()?;
+        Ok(())
+    }
+
+    pub fn rename(&mut self, from: &str, to: &str) -> Result<(), StoreError> {
+        let from_path = self.path_of(from)?;
+        let to_path = self.path_of(to)?;
+        self.kept.remove(from);
+        self.kept.remove(to);
+        self.names_changed = true;
+        fs::rename(&self.rt, from_path.as_str(), to_path.as_str()).map_err(|_| StoreError::Device)
+    }
+
+    pub fn remove(&mut self, name: &str) -> Result<(), StoreError> {
+        let path = self.path_of(name)?;
+        self.kept.remove(name);
+        self.names_changed = true;
+        fs::remove_file(&self.rt, path.as_str()).map_err(|_| StoreError::Device)
+    }
+
+    // Whether this process now holds the lock, which it didn't before.
+    pub fn lock(&mut self) -> Result<bool, StoreError> {
+        if self.lock.is_some() {
+            return Ok(false);
+        }
+        let path = self.path_of(LOCK)?;
+        let files = match sqlite_std_file::open(&self.rt, path.as_str(), Unknown) {
+            Ok(files) => files,
+            Err(OpenError::Busy) => return Ok(false),
+            Err(_) => return Err(StoreError::Device),
+        };
+        let log = self.path_of(LOCK_LOG)?;
+        fs::remove_file(&self.rt, log.as_str())?;
+        self.lock = Some(files.db);
+        Ok(true)
+    }
+
+    // The system gives a lock back as its file is closed.
+    pub fn unlock(&mut self) {
+        self.lock = None;
+    }
+
+    // The path of a name, or Missing where it isn't one that a file of the folder can have.
+    fn path_of(&self, name: &str) -> Result<String, StoreError> {
+        let is_folder = name.is_empty() || name == "." || name == "..";
+        if is_folder || name.contains('/') || name.contains('\0') {
+            return Err(StoreError::Missing);
+        }
+        let mut path = String::from_str(self.rt.alloc(), self.path.as_str())?;
+        path.push_str(name)?;
+        Ok(path)
+    }
+
+    // Whether a plain file is at a path, or a link to one.
+    fn is_plain(&self, path: &str) -> io::Result<bool> {
+        match fs::metadata(&self.rt, path) {
+            Ok(found) => Ok(found.is_file()),
+            Err(error) if error.kind() == ErrorKind::NotFound => Ok(false),
+            Err(error) => Err(error),
+        }
+    }
+
+    // The file of a name, opened where it isn't open yet.
+    fn kept_file(&mut self, name: &str, appends: bool) -> Result<&File, StoreError> {
+        let is_kept = match self.kept.get(name) {
+            Some(kept) => kept.appends || !appends,
+            None => false,
+        };
+        if !is_kept {
+            self.open_file(name, appends)?;
+        }
+        match self.kept.get(name) {
+            Some(kept) => Ok(&kept.file),
+            None => Err(StoreError::Device),
+        }
+    }
+
+    // Opens a file that is there, which changes nothing.
+    fn open_file(&mut self, name: &str, appends: bool) -> Result<(), StoreError> {
+        let path = self.path_of(name)?;
+        if !self.is_plain(path.as_str())? {
+            return Err(StoreError::Missing);
+        }
+        let mut options = OpenOptions::new();
+        options.read(true).append(appends);
+        let file = open_with(&self.rt, &options, path.as_str())?;
+        Ok(self.keep(name, KeptFile { file, appends })?)
+    }
+
+    // Keeps a file open. The first name gives way where the most are open: an old table, by LevelDB's names.
+    fn keep(&mut self, name: &str, file: KeptFile) -> Result<(), AllocError> {
+        let name = String::from_str(self.rt.alloc(), name)?;
+        if self.kept.len() >= OPEN_FILES {
+            self.kept.pop_first();
+        }
+        self.kept.insert(name, file)?;
+        Ok(())
+    }
+}
+
+// Opens a file, and not as one of the standard streams where those were closed: what is printed must not land in it.
+fn open_with(rt: &HostRuntime, options: &OpenOptions, path: &str) -> io::Result<File> {
+    let file = options.open(rt, path)?;
+    if file.as_raw_fd() > 2 {
+        Ok(file)
+    } else {
+        file.try_clone()
+    }
+}
+
+// How many bytes to read: of a large count, or far out, no more than are there.
+fn count_within(file: &File, offset: u64, count: usize) -> io::Result<usize> {
+    if count <= LARGE_READ && offset < FAR_OFFSET {
+        return Ok(count);
+    }
+    let rest = file.metadata()?.len().saturating_sub(offset);
+    Ok(count.min(rest as usize))
+}
+
+// Reads from an offset on until the buffer is full or the file ends, and says how many bytes came.
+fn fill(file: &File, buffer: &mut [u8], offset: u64) -> io::Result<usize>
+    ensures { IfOk result (λ read. read ≤ length buffer.new) }
+{
+    let mut read = 0;
+    for _ in 0..u64::MAX {
+        if read == buffer.len() {
+            break;
+        }
+        match file.read_at(&mut buffer[read..], offset.saturating_add(read as u64)) {
+            Ok(0) => break,
+            Ok(count) => read += count,
+            Err(error) if error.kind() == ErrorKind::Interrupted => {}
+            Err(error) => return Err(error),
+        }
+    }
+    Ok(read)
+}

@@ -1,0 +1,21 @@
+//! A directory of named files, by the calls that a database makes of it.
+#![tactic(auto)]
+
+mod counters;
+mod error;
+mod fault_store;
+mod file_store;
+mod folder;
+mod memory;
+mod store;
+
+pub use error::StoreError;
+pub use fault_store::{Fault, FaultStore};
+pub use file_store::FileStore;
+pub use memory::MemStore;
+pub use store::Store;
+
+#[cfg(test)]
+mod file_tests;
+#[cfg(test)]
+mod tests;

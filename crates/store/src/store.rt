@@ -1,0 +1,126 @@
+// What a database asks of a directory, and what it may rely on.
+ghost use Rattle.std.specs.Prelude.{◌≡◌, ◌≢◌, ◌⊎◌, ◌<◌, List, ℕ, [], length, take, drop, map, string_bytes, IfOk, OnOk, IsTrue, IsSome, true, false};
+ghost use Rattle.std.specs.FinMap as map;
+ghost use Rattle.store.specs.Files.{Facts, Lists, Appends, AppendsBeginning, Renames, Removes, Locks, MayLock};
+ghost use Rattle.store.specs.Calls.{Counts, Keeps, Changes};
+
+use crate::StoreError;
+use std::alloc::Global;
+
+/// Named files, as a database keeps them in one directory: the calls of LevelDB's `Env` (include/leveldb/env.h) that it
+/// needs. A name is any text.
+///
+/// While a store is faithful it returns what was written, and its calls do what their clauses say: an Ok is exact, and
+/// files of other names stay. Of one that isn't, only the clauses that don't ask for it hold.
+///
+/// Of its errors Memory changes nothing, and Device is counted. Only `len` and `read_at` answer Missing; `sync`,
+/// `remove` and `unlock` never answer Memory. A call that needs a file and changes it, or syncs it, answers Device where
+/// that file is missing.
+pub trait Store {
+    /// The files, whether it was faithful so far, and its counts of failures and of denied locks.
+    ghost facts: { Self → Facts };
+
+    /// The names of all files, each once, in no order.
+    fn list(&mut self, alloc: Global) -> Result<Vec<String>, StoreError>
+        ensures counts { Counts (facts self.old) (facts self.new) result }
+        ensures undenied { (facts self.new).denials ≡ (facts self.old).denials }
+        ensures names { IfOk result (λ names. IsTrue (facts self.new).faithful →
+            Lists (facts self.old).files (map string_bytes names.items)) }
+        ensures same { Keeps (facts self.old) (facts self.new) }
+        ensures missing { result ≢ Err StoreError.Missing };
+
+    /// The length of a file in bytes.
+    fn len(&mut self, name: &str) -> Result<u64, StoreError>
+        ensures counts { Counts (facts self.old) (facts self.new) result }
+        ensures undenied { (facts self.new).denials ≡ (facts self.old).denials }
+        ensures length { IfOk result (λ len. IsTrue (facts self.new).faithful →
+            (bytes : List ℕ) × (map.get (facts self.old).files name.now ≡ Some bytes) × (len ≡ length bytes)) }
+        ensures missing { IsTrue (facts self.new).faithful → result ≡ Err StoreError.Missing →
+            map.get (facts self.old).files name.now ≡ None }
+        ensures same { Keeps (facts self.old) (facts self.new) };
+
+    /// The bytes of a file from `offset` on, `count` of them or up to its end.
+    fn read_at(
+        &mut self,
+        alloc: Global,
+        name: &str,
+        offset: u64,
+        count: usize,
+    ) -> Result<Vec<u8>, StoreError>
+        ensures counts { Counts (facts self.old) (facts self.new) result }
+        ensures undenied { (facts self.new).denials ≡ (facts self.old).denials }
+        ensures bytes { IfOk result (λ read. IsTrue (facts self.new).faithful →
+            (bytes : List ℕ) × (map.get (facts self.old).files name.now ≡ Some bytes) × (read.items ≡ take count (drop offset bytes))) }
+        ensures missing { IsTrue (facts self.new).faithful → result ≡ Err StoreError.Missing →
+            map.get (facts self.old).files name.now ≡ None }
+        ensures same { Keeps (facts self.old) (facts self.new) };
+
+    /// Makes an empty file, or empties the one that is there. A call that fails with Device may have done so.
+    fn create(&mut self, name: &str) -> Result<(), StoreError>
+        ensures counts { Counts (facts self.old) (facts self.new) result }
+        ensures undenied { (facts self.new).denials ≡ (facts self.old).denials }
+        ensures files { Changes (facts self.old) (facts self.new) result
+            (λ old new. new ≡ map.insert old name.now [])
+            (λ old new. (new ≡ old) ⊎ (new ≡ map.insert old name.now [])) }
+        ensures missing { result ≢ Err StoreError.Missing };
+
+    /// Adds bytes at the end of a file. A call that fails with Device may have added a beginning of them.
+    fn append(&mut self, name: &str, bytes: &[u8]) -> Result<(), StoreError>
+        ensures counts { Counts (facts self.old) (facts self.new) result }
+        ensures undenied { (facts self.new).denials ≡ (facts self.old).denials }
+        ensures files { Changes (facts self.old) (facts self.new) result
+            (λ old new. Appends old new name.now bytes.now)
+            (λ old new. AppendsBeginning old new name.now bytes.now) }
+        ensures absent { IsTrue (facts self.new).faithful → map.get (facts self.old).files name.now ≡ None → result ≡ Err StoreError.Device }
+        ensures missing { result ≢ Err StoreError.Missing };
+
+    /// Has the device keep what was written to a file, and the names as they are now.
+    fn sync(&mut self, name: &str) -> Result<(), StoreError>
+        ensures counts { Counts (facts self.old) (facts self.new) result }
+        ensures undenied { (facts self.new).denials ≡ (facts self.old).denials }
+        ensures present { IsTrue (facts self.new).faithful → OnOk result (IsSome (map.get (facts self.old).files name.now)) }
+        ensures same { Keeps (facts self.old) (facts self.new) }
+        ensures absent { IsTrue (facts self.new).faithful → map.get (facts self.old).files name.now ≡ None → result ≡ Err StoreError.Device }
+        ensures missing { result ≢ Err StoreError.Missing }
+        ensures memory { result ≢ Err StoreError.Memory };
+
+    /// Gives a file another name, in place of a file that has it. A call that fails with Device may have done so.
+    fn rename(&mut self, from: &str, to: &str) -> Result<(), StoreError>
+        ensures counts { Counts (facts self.old) (facts self.new) result }
+        ensures undenied { (facts self.new).denials ≡ (facts self.old).denials }
+        ensures files { Changes (facts self.old) (facts self.new) result
+            (λ old new. Renames old new from.now to.now)
+            (λ old new. (new ≡ old) ⊎ Renames old new from.now to.now) }
+        ensures absent { IsTrue (facts self.new).faithful → map.get (facts self.old).files from.now ≡ None → result ≡ Err StoreError.Device }
+        ensures missing { result ≢ Err StoreError.Missing };
+
+    /// Takes a file away. A call that fails with Device may have done so.
+    fn remove(&mut self, name: &str) -> Result<(), StoreError>
+        ensures counts { Counts (facts self.old) (facts self.new) result }
+        ensures undenied { (facts self.new).denials ≡ (facts self.old).denials }
+        ensures files { Changes (facts self.old) (facts self.new) result
+            (λ old new. Removes old new name.now)
+            (λ old new. (new ≡ old) ⊎ Removes old new name.now) }
+        ensures absent { IsTrue (facts self.new).faithful → map.get (facts self.old).files name.now ≡ None → result ≡ Err StoreError.Device }
+        ensures missing { result ≢ Err StoreError.Missing }
+        ensures memory { result ≢ Err StoreError.Memory };
+
+    /// Takes the lock of the directory, and makes the empty file `LOCK` where it is missing, as LevelDB does.
+    /// `false` is a denial, which is counted: the lock is held, here or elsewhere. Whether it fails or denies, it may
+    /// have made the file.
+    fn lock(&mut self) -> Result<bool, StoreError>
+        ensures counts { Counts (facts self.old) (facts self.new) result }
+        ensures undenied { result ≢ Ok false → (facts self.new).denials ≡ (facts self.old).denials }
+        ensures denied { result ≡ Ok false → (facts self.old).denials < (facts self.new).denials }
+        ensures files { Changes (facts self.old) (facts self.new) result MayLock MayLock }
+        ensures held { IsTrue (facts self.new).faithful → result ≡ Ok true → Locks (facts self.old).files (facts self.new).files }
+        ensures missing { result ≢ Err StoreError.Missing };
+
+    /// Gives the lock back, where it is held here.
+    fn unlock(&mut self) -> Result<(), StoreError>
+        ensures counts { Counts (facts self.old) (facts self.new) result }
+        ensures undenied { (facts self.new).denials ≡ (facts self.old).denials }
+        ensures same { Keeps (facts self.old) (facts self.new) }
+        ensures missing { result ≢ Err StoreError.Missing }
+        ensures memory { result ≢ Err StoreError.Memory };
+}
