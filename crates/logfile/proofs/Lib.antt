@@ -1,0 +1,12 @@
+pub mod Appends
+pub mod Headers
+pub mod Joins
+pub mod LogLaws
+pub mod Parsed
+pub mod Pieces
+pub mod Steps
+pub mod Written
+pub mod Faulty
+pub mod Parts
+pub mod OneFault
+pub mod Determined

@@ -1,0 +1,20 @@
+//! Log files (LevelDB's doc/log_format.md): blocks of 32,768 bytes, in which lie the fragments of records.
+//! That document calls a fragment a record, and a record a user record.
+#![tactic(auto)]
+
+mod appending;
+mod blocks;
+mod fragment;
+mod joining;
+mod kind;
+mod reading;
+mod record;
+mod writing;
+
+pub use appending::{appended, beginnings, failed_append, one_writing, written_length};
+pub use reading::{faults_are_real, one_kind_of_fault, one_reading, read_log};
+pub use record::Tail;
+pub use writing::LogWriter;
+
+#[cfg(test)]
+mod tests;
