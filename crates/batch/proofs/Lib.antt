@@ -1,0 +1,4 @@
+pub mod Batches
+pub mod Made
+pub mod AtFront
+pub mod Refused
