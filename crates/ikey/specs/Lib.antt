@@ -1,0 +1,5 @@
+pub mod Below
+pub mod Entries
+pub mod Keys
+pub mod KeyViews
+pub mod Orders

@@ -1,0 +1,57 @@
+//! The order of user keys, which a database is told (LevelDB's include/leveldb/comparator.h).
+
+ghost use Rattle.std.specs.Prelude.{◌≡◌, ◌<◌, ◌^◌, List, ℕ, length, codes};
+ghost use Rattle.std.proofs.Common.{lit<};
+ghost use Rattle.std.specs.Ordering.{nat_cmp};
+ghost use Rattle.std.specs.declared.cmp.Ordering.{Ordering};
+ghost use Rattle.std.specs.Cmp.{IsTotalOrder};
+ghost use Rattle.std.specs.Cmp.Lexicographic.{slice_cmp, nat_list_cmp_total};
+ghost use Rattle.std.specs.FinMap.{IsAntisymmetric, slice_cmp-IsAntisymmetric, nat_cmp-IsAntisymmetric};
+
+use std::cmp::Ordering;
+
+/// A total order of byte strings, with the name under which a database records it.
+pub trait KeyOrder {
+    ghost name: { List ℕ };
+
+    ghost cmp: { List ℕ → List ℕ → Ordering };
+
+    /// The name that a MANIFEST records. A database under another name has another order.
+    fn name() -> &'static str
+        ensures { result.now ≡ name };
+
+    /// How two user keys compare.
+    fn compare(a: &[u8], b: &[u8]) -> Ordering
+        ensures { result ≡ cmp a.now b.now };
+
+    ghost total: { IsTotalOrder cmp };
+
+    /// Only equal bytes compare as equal.
+    ghost exact: { IsAntisymmetric cmp };
+
+    /// A version edit can hold the name.
+    ghost name_fits: { length name < 2 ^ 32 };
+}
+
+/// The first byte that differs decides, and a proper prefix comes first.
+pub struct Bytewise;
+
+impl KeyOrder for Bytewise {
+    ghost name = { codes "leveldb.BytewiseComparator" };
+
+    ghost cmp = { slice_cmp nat_cmp };
+
+    fn name() -> &'static str {
+        "leveldb.BytewiseComparator"
+    }
+
+    fn compare(a: &[u8], b: &[u8]) -> Ordering {
+        a.cmp(b)
+    }
+
+    ghost total = { nat_list_cmp_total };
+
+    ghost exact = { slice_cmp-IsAntisymmetric nat_cmp-IsAntisymmetric };
+
+    ghost name_fits = { lit< tt };
+}

@@ -1,0 +1,17 @@
+//! Entries and their internal keys: a user key, the sequence number of a write and its kind; and the orders of keys.
+#![tactic(auto)]
+
+mod entry;
+mod entry_order;
+mod internal_key;
+mod key_order;
+
+pub use entry::Entry;
+pub use entry_order::{EntryOrder, Internal, Plain};
+pub use internal_key::{
+    InternalKey, Kind, SEQUENCE_END, compare_keys, one_key, pack, seek_key, unpack,
+};
+pub use key_order::{Bytewise, KeyOrder};
+
+#[cfg(test)]
+mod tests;
