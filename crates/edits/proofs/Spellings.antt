@@ -1,0 +1,63 @@
+-- The parts of an edit, one behind the other.
+use Rattle.std.proofs.Common.{◌≡◌, ℕ, ◌^◌, ◌<◌, ◌≤◌, List, ◌++◌, length, take, drop, refl, sym}
+use Rattle.std.proofs.lemmas.List.{take-append-drop, take_at}
+use Rattle.coding.specs.Varint.{IsVarint, IsString, AppendsVarint}
+use Rattle.coding.proofs.Fronts.{varint_front, string_front}
+use Rattle.edits.specs.declared.field.TableFile.{TableFile}
+use Rattle.coding.specs.Spelling.{Pair, Begins, BeginsNone, Appends, IsPrefixFree}
+use Rattle.edits.specs.Edit.{IsLong, IsSequence, IsLevel, IsTableNumber, IsTable, IsPlaced}
+use Rattle.coding.proofs.Spellings.{free_pair, appends_pair}
+
+pub free_varint : IsPrefixFree IsVarint
+free_varint = varint_front
+
+pub free_string : IsPrefixFree IsString
+free_string = string_front
+
+pub free_long : IsPrefixFree IsLong
+free_long a b x y m n h k e = varint_front a b x y m n h.0 k.0 e
+
+pub free_sequence : IsPrefixFree IsSequence
+free_sequence a b x y m n h k e = varint_front a b x y m n h.0 k.0 e
+
+pub free_level : IsPrefixFree IsLevel
+free_level a b x y m n h k e = varint_front a b x y m n h.0 k.0 e
+
+pub free_table_number : IsPrefixFree IsTableNumber
+free_table_number a b x y m n h k e = varint_front a b x y m n h.0.0 k.0.0 e
+
+pub free_keys : IsPrefixFree (Pair IsString IsString)
+free_keys = free_pair IsString IsString free_string free_string
+
+pub free_table : IsPrefixFree IsTable
+free_table a b x y m n h k e =
+    let same = free_pair IsTableNumber (Pair IsLong (Pair IsString IsString)) free_table_number (free_pair IsLong (Pair IsString IsString) free_long free_keys) a b x y
+    (m.number, (m.size, (m.smallest, m.largest))) (n.number, (n.size, (n.smallest, n.largest))) h k e in
+    (λ i. record { number = (same.0 i).0; size = (same.0 i).1.0; smallest = (same.0 i).1.1.0; largest = (same.0 i).1.1.1 }, same.1)
+
+pub free_placed : IsPrefixFree IsPlaced
+free_placed a b x y m n h k e =
+    let same = free_pair IsLevel IsTable free_level free_table a b x y (m.level, m.table) (n.level, n.table) h k e in
+    (λ i. record { level = (same.0 i).0; table = (same.0 i).1 }, same.1)
+
+-- a number at the front, as the reader of numbers answers it
+pub varint_begins : (bytes : List ℕ) (used n : ℕ) → used ≤ length bytes → IsVarint (take used bytes) n → Begins IsVarint bytes n (drop used bytes)
+varint_begins bytes used n within h = (take used bytes, h, sym (take-append-drop used bytes))
+
+pub varint_none : (bytes front rest : List ℕ) (n : ℕ) → ((used : ℕ) → IsVarint (take used bytes) n → ⊥) → IsVarint front n → bytes ≡ front ++ rest → ⊥
+varint_none bytes front rest n none h e = none (length front) (rw (e, take_at front rest (length front) refl) h)
+
+pub none_table : (bytes : List ℕ) → BeginsNone (Pair IsTableNumber (Pair IsLong (Pair IsString IsString))) bytes → BeginsNone IsTable bytes
+none_table bytes none table rest b = none (table.number, (table.size, (table.smallest, table.largest))) rest b
+
+pub none_placed : (bytes : List ℕ) → BeginsNone (Pair IsLevel IsTable) bytes → BeginsNone IsPlaced bytes
+none_placed bytes none placed rest b = none (placed.level, placed.table) rest b
+
+-- what the writer of tables has put
+pub put_parts : (start first second third last : List ℕ) (table : TableFile) → AppendsVarint start first table.number → AppendsVarint first second table.size
+    → Appends IsString second third table.smallest → Appends IsString third last table.largest
+    → 0 < table.number → table.number < 2 ^ 64 → table.size < 2 ^ 64 → Appends IsTable start last table
+put_parts start first second third last table number size smallest largest some fits small =
+    appends_pair IsTableNumber (Pair IsLong (Pair IsString IsString)) start first last table.number (table.size, (table.smallest, table.largest)) (number.0, ((number.1, fits), some), number.2)
+    (appends_pair IsLong (Pair IsString IsString) first second last table.size (table.smallest, table.largest) (size.0, (size.1, small), size.2)
+    (appends_pair IsString IsString second third last table.smallest table.largest smallest largest))

@@ -1,0 +1,4 @@
+pub mod Edit
+pub mod Layout
+pub mod Names
+pub mod Snapshot
