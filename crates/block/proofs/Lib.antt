@@ -1,0 +1,12 @@
+pub mod BlockLaws
+pub mod BuilderLaws
+pub mod EntryLaws
+pub mod EntryParts
+pub mod Fronts
+pub mod Moves
+pub mod Opening
+pub mod Restarts
+pub mod Rests
+pub mod Seeks
+pub mod Trailers
+pub mod Walks

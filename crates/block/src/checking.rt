@@ -1,0 +1,82 @@
+//! Checking the entries of a block against its restarts and its order.
+
+ghost use Rattle.std.specs.Prelude.{◌≡◌, ◌<◌, ◌^◌, ◌++◌, List, ℕ, None, length, IfErr, IfOk, IfNone, IfSome};
+ghost use Rattle.std.specs.List.{flat_map};
+ghost use Rattle.coding.specs.Errors.{RefusesOnly};
+ghost use Rattle.coding.specs.Fixed.{fixed32};
+ghost use Rattle.ikey.specs.Entries.{Pair};
+ghost use Rattle.block.specs.Block.{IsBody, AreAbove};
+
+use crate::entry::entry_at;
+use coding::{Damage, ReadError, get_fixed32};
+use ikey::EntryOrder;
+use std::alloc::Global;
+use std::mem;
+
+/// Whether the bytes are entries whose keys rise in the order O, and the restarts are offsets of entries that
+/// share nothing, the first of them 0. Two keys are kept at a time.
+pub fn check_entries<O: EntryOrder>(
+    alloc: Global,
+    body: &[u8],
+    restarts: &[u8],
+) -> Result<(), ReadError>
+    requires { length body.now < 2 ^ 32 }
+    ensures found { IfOk result (λ _. (pairs : List Pair) × (list : List ℕ) × (restarts.now ≡ flat_map fixed32 list) × IsBody pairs list body.now × AreAbove O.below None pairs) }
+    ensures refused { IfErr result (λ e. RefusesOnly e ((pairs : List Pair) (list : List ℕ) → restarts.now ≡ flat_map fixed32 list → IsBody pairs list body.now → AreAbove O.below None pairs → ⊥)) }
+{
+    // Where there is no entry, the restart 0 stands all the same.
+    if body.is_empty() {
+        return match restarts {
+            [0, 0, 0, 0] => Ok(()),
+            _ => Err(ReadError::Corrupt(Damage::Order)),
+        };
+    }
+    let mut previous = Vec::new(alloc);
+    let mut key = Vec::new(alloc);
+    let mut rest = body;
+    let mut waiting = restarts;
+    while !rest.is_empty() {
+        let offset = body.len() - rest.len();
+        let Some((entry, behind)) = entry_at(rest) else {
+            return Err(ReadError::Corrupt(Damage::Length));
+        };
+        if entry.shared > previous.len() {
+            return Err(ReadError::Corrupt(Damage::Length));
+        }
+        key.clear();
+        key.extend_from_slice(&previous[..entry.shared])?;
+        key.extend_from_slice(entry.rest)?;
+        if offset > 0 && !O::is_below(&previous, &key) {
+            return Err(ReadError::Corrupt(Damage::Order));
+        }
+        if let Some(later) = behind_restart(waiting, offset) {
+            if entry.shared > 0 {
+                return Err(ReadError::Corrupt(Damage::Order));
+            }
+            waiting = later;
+        }
+        mem::swap(&mut previous, &mut key);
+        rest = behind;
+    }
+    if !waiting.is_empty() {
+        return Err(ReadError::Corrupt(Damage::Order));
+    }
+    match behind_restart(restarts, 0) {
+        Some(_) => Ok(()),
+        None => Err(ReadError::Corrupt(Damage::Order)),
+    }
+}
+
+// The restarts behind the first one, where that is this offset.
+fn behind_restart(restarts: &[u8], offset: usize) -> Option<&[u8]>
+    requires { offset < 2 ^ 32 }
+    ensures found { IfSome result (λ later. restarts.now ≡ fixed32 offset ++ later.now) }
+    ensures none { IfNone result ((later : List ℕ) → restarts.now ≡ fixed32 offset ++ later → ⊥) }
+{
+    let first = get_fixed32(restarts)?;
+    if first as usize != offset {
+        return None;
+    }
+    let (_, later) = restarts.split_at(4);
+    Some(later)
+}

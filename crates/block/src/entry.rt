@@ -1,0 +1,93 @@
+//! One entry of a block (LevelDB's table/block_builder.cc).
+
+ghost use Rattle.std.specs.Prelude.{◌≡◌, ◌<◌, ◌≤◌, ◌-◌, ◌^◌, ◌++◌, List, ℕ, nat_eq, length, take, drop, OnOk, IfNone, IfSome};
+ghost use Rattle.std.specs.List.{common_prefix_len};
+ghost use Rattle.coding.specs.Varint.{IsVarint};
+ghost use Rattle.block.specs.Block.{IsEntry};
+
+use coding::{get_varint32, put_varint32};
+use std::alloc::AllocError;
+
+/// An entry that is read. Its key is the first `shared` bytes of the key before it, and `rest`.
+#[derive(Clone, Copy, Debug)]
+pub struct Entry<'a> {
+    pub shared: usize,
+    pub rest: &'a [u8],
+    pub value: &'a [u8],
+}
+
+/// The entry at the front, and the bytes behind it. There is none where the bytes end too soon, or a length
+/// isn't a number of at most 32 bits in its shortest form.
+pub fn entry_at(bytes: &[u8]) -> Option<(Entry<'_>, &[u8])>
+    ensures found { IfSome result (λ found. (front : List ℕ) × IsEntry found.0.shared found.0.rest.now found.0.value.now front × (bytes.now ≡ front ++ found.1.now)) }
+    ensures none { IfNone result ((shared : ℕ) (rest value front behind : List ℕ) → IsEntry shared rest value front → bytes.now ≡ front ++ behind → ⊥) }
+{
+    let (shared, behind) = length_at(bytes)?;
+    let (rest_length, behind) = length_at(behind)?;
+    let (value_length, behind) = length_at(behind)?;
+    let (rest, behind) = split_front(behind, rest_length)?;
+    let (value, behind) = split_front(behind, value_length)?;
+    Some((
+        Entry {
+            shared,
+            rest,
+            value,
+        },
+        behind,
+    ))
+}
+
+// The number of at most 32 bits at the front, and the bytes behind it.
+fn length_at(bytes: &[u8]) -> Option<(usize, &[u8])>
+    ensures range { IfSome result (λ found. found.0 < 2 ^ 32) }
+    ensures found { IfSome result (λ found. (front : List ℕ) × IsVarint front found.0 × (bytes.now ≡ front ++ found.1.now)) }
+    ensures none { IfNone result ((number : ℕ) (front behind : List ℕ) → number < 2 ^ 32 → IsVarint front number → bytes.now ≡ front ++ behind → ⊥) }
+{
+    let (number, used) = get_varint32(bytes)?;
+    let (_, behind) = bytes.split_at(used);
+    Some((number as usize, behind))
+}
+
+fn split_front(bytes: &[u8], len: usize) -> Option<(&[u8], &[u8])>
+    ensures found { IfSome result (λ found. (bytes.now ≡ found.0.now ++ found.1.now) × (length found.0.now ≡ len)) }
+    ensures none { IfNone result (length bytes.now < len) }
+{
+    if bytes.len() < len {
+        return None;
+    }
+    Some(bytes.split_at(len))
+}
+
+/// Writes an entry at the end, or a beginning of it where memory runs out.
+pub fn put_entry(
+    out: &mut Vec<u8>,
+    shared: usize,
+    rest: &[u8],
+    value: &[u8],
+) -> Result<(), AllocError>
+    requires shared { shared < 2 ^ 32 }
+    requires rest { length rest.now < 2 ^ 32 }
+    requires value { length value.now < 2 ^ 32 }
+    ensures written { OnOk result ((bytes : List ℕ) × IsEntry shared rest.now value.now bytes × (out.new.items ≡ out.old.items ++ bytes)) }
+    ensures front { take (length out.old.items) out.new.items ≡ out.old.items }
+{
+    put_varint32(out, shared as u32)?;
+    put_varint32(out, rest.len() as u32)?;
+    put_varint32(out, value.len() as u32)?;
+    out.extend_from_slice(rest)?;
+    out.extend_from_slice(value)?;
+    Ok(())
+}
+
+/// How many bytes at the front of the two are the same.
+pub fn shared_length(a: &[u8], b: &[u8]) -> usize
+    ensures value { result ≡ common_prefix_len nat_eq a.now b.now }
+    ensures in_a { result ≤ length a.now }
+    ensures in_b { result ≤ length b.now }
+{
+    let mut shared = 0;
+    while shared < a.len() && shared < b.len() && a[shared] == b[shared] {
+        shared += 1;
+    }
+    shared
+}
