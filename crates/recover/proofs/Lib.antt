@@ -1,0 +1,12 @@
+pub mod NamedFiles
+pub mod Keeping
+pub mod Adding
+pub mod NewLogs
+pub mod SameNumbers
+pub mod OneMeaning
+pub mod NameScan
+pub mod Refused
+pub mod SaidNumbers
+pub mod Replayed
+pub mod WholeReading
+pub mod Bounds

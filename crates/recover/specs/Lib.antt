@@ -1,0 +1,9 @@
+pub mod Entries
+pub mod Tables
+pub mod Logs
+pub mod Directory
+pub mod Numbers
+pub mod Reading
+pub mod Laws
+pub mod Scan
+pub mod Parts

@@ -1,0 +1,87 @@
+-- What the names of a directory say, what reading its MANIFEST and its logs gives, and why it is refused
+-- (LevelDB's db/db_impl.cc, DBImpl::Recover).
+use Rattle.std.specs.Prelude.{◌≡◌, ◌≢◌, ◌⊎◌, ◌<◌, ◌≤◌, ◌-◌, ◌^◌, ◌↔◌, ℕ, min, true, List, [], ◌∷◌, IsTrue, MatchBool, Result, Err, Contains, None}
+use Rattle.std.specs.FinMap.{get, contains_key}
+use Rattle.coding.specs.declared.error.DbError.{DbError}
+use Rattle.coding.specs.declared.error.DbError.TheVariants as error
+use Rattle.store.specs.Files.{Facts, Files}
+use Rattle.ikey.specs.Orders.{Order}
+use Rattle.edits.specs.Edit.{HasPastLimit}
+use Rattle.edits.specs.Layout.{fields_of}
+use Rattle.edits.specs.Names.{name_of, IsFileName, IsNumbered}
+use Rattle.edits.specs.declared.field.Field.{Field}
+use Rattle.edits.specs.declared.layout.Layout.{Layout}
+use Rattle.edits.specs.declared.names.FileName.{FileName}
+use Rattle.edits.specs.declared.names.FileName.TheVariants.{Current, Log, Table, OldTable}
+use Rattle.recover.specs.declared.listing.Listing.{Listing}
+use Rattle.recover.specs.declared.reading.Recovered.{Recovered}
+use Rattle.recover.specs.Logs.{logged}
+use Rattle.recover.specs.Numbers.{number_of, IsNextNumber}
+use Rattle.recover.specs.Directory.{Directory, IsConsistent, HasManifest, used_in}
+
+-- A call that changes no file: what holds of any store, and that the files stay while it is faithful.
+pub record Reads {T : Type 0} (old new : Facts) (result : Result T DbError) : Type 0 where
+  pub faithful : IsTrue new.faithful → IsTrue old.faithful
+  pub failures : old.failures ≤ new.failures
+  pub denials : old.denials ≤ new.denials
+  pub io : result ≡ Err error.Io → old.failures < new.failures
+  pub same : IsTrue new.faithful → new.files ≡ old.files
+
+-- ---- names
+
+-- they rise, the first above this one
+abbrev pub RiseFrom : ℕ → List ℕ → Type 0
+RiseFrom low [] = Unit {0}
+RiseFrom low (n ∷ ns) = (low < n) × RiseFrom n ns
+
+-- a table is there, under either ending
+abbrev pub HasTableFile : Files → Type 0
+HasTableFile files = (n : ℕ) × IsNumbered n × ((contains_key files (name_of (Table n)) ≡ true) ⊎ (contains_key files (name_of (OldTable n)) ≡ true))
+
+abbrev pub HasNoTableFile : Files → Type 0
+HasNoTableFile files = (n : ℕ) → IsNumbered n → (get files (name_of (Table n)) ≡ None) × (get files (name_of (OldTable n)) ≡ None)
+
+-- What the names of the files say.
+pub record IsListing (files : Files) (listing : Listing) : Type 0 where
+  pub current : listing.has_current ≡ contains_key files (name_of Current)
+  pub tables : MatchBool listing.has_table (HasTableFile files) (HasNoTableFile files)
+  -- the numbers of the logs, rising
+  pub rising : RiseFrom 0 listing.logs.items
+  pub logs : (n : ℕ) → IsNumbered n → Contains listing.logs.items n ↔ (contains_key files (name_of (Log n)) ≡ true)
+  pub numbered : (n : ℕ) → Contains listing.logs.items n → IsNumbered n
+  -- the greatest number in a name, or 0
+  pub bound : (file : FileName) → IsFileName file → contains_key files (name_of file) ≡ true → number_of file ≤ listing.highest
+  pub attained : (listing.highest ≡ 0) ⊎ ((file : FileName) × IsFileName file × (contains_key files (name_of file) ≡ true) × (number_of file ≡ listing.highest))
+
+-- the next file number, as far as 64 bits tell it
+abbrev pub IsNumberUpTo : Order → Files → ℕ → Type 0
+IsNumberUpTo order files number = (n : ℕ) × IsNextNumber order files n × (number ≡ min n (2 ^ 64 - 1))
+
+-- ---- contents
+
+-- The files are a consistent directory without tables, of this layout, with these entries in its logs.
+pub record Recovers (order : Order) (files : Files) (recovered : Recovered) : Type 0 where
+  pub directory : Directory
+  pub consistent : IsConsistent order files directory
+  pub plain : directory.tables ≡ []
+  pub layout : recovered.layout ≡ directory.layout
+  pub entries : recovered.entries.items ≡ logged directory.logs
+  pub used : recovered.used ≡ used_in directory
+  pub number : IsNumberUpTo order files recovered.next_number
+
+-- Why a directory wasn't read: out of memory, since the store failed, since it isn't consistent, or since it has
+-- what isn't supported.
+abbrev pub RefusesDirectory : DbError → Facts → Facts → Type 0 → Type 0 → Type 0
+RefusesDirectory error.OutOfMemory old new damaged unsupported = Unit {0}
+RefusesDirectory error.Io old new damaged unsupported = old.failures < new.failures
+RefusesDirectory (error.Corrupt file what) old new damaged unsupported = IsTrue new.faithful → damaged
+RefusesDirectory (error.Unsupported what) old new damaged unsupported = IsTrue new.faithful → unsupported
+RefusesDirectory _ old new damaged unsupported = ⊥
+
+abbrev pub IsInconsistent : Order → Files → Type 0
+IsInconsistent order files = (d : Directory) → IsConsistent order files d → ⊥
+
+-- Whatever MANIFEST is current, it names a table past the limit of numbers, or leaves tables, which aren't read yet.
+abbrev pub IsBeyondReading : Order → Files → Type 0
+IsBeyondReading order files = (number : ℕ) (edits : List (List Field)) (layout : Layout) → HasManifest order files number edits layout
+    → HasPastLimit (fields_of edits) ⊎ (layout.tables.items ≢ [])
