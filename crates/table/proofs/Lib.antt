@@ -1,0 +1,13 @@
+pub mod Handles
+pub mod Footers
+pub mod Comparing
+pub mod StoredBlocks
+pub mod Steps
+pub mod Apart
+pub mod Layouts
+pub mod Walks
+pub mod Metaindexes
+pub mod FrameParts
+pub mod Indexes
+pub mod DataBlocks
+pub mod Seeks

@@ -1,0 +1,53 @@
+-- What the calls that read a table answer over a store.
+use Rattle.std.specs.Prelude.{◌≡◌, ◌<◌, ◌≤◌, ℕ, List, Some, IsTrue}
+use Rattle.std.specs.FinMap.{get}
+use Rattle.coding.specs.declared.error.DbError.{DbError}
+use Rattle.coding.specs.declared.error.DbError.TheVariants.{OutOfMemory, Io, Corrupt, Unsupported}
+use Rattle.coding.specs.declared.error.FileKind.TheVariants as file_kind
+use Rattle.coding.specs.declared.error.Damage.TheVariants as damage
+use Rattle.coding.specs.declared.error.ReadError.{ReadError}
+use Rattle.coding.specs.declared.error.ReadError.TheVariants as read_error
+use Rattle.store.specs.declared.error.StoreError.{StoreError}
+use Rattle.store.specs.declared.error.StoreError.TheVariants as store_error
+use Rattle.store.specs.Files.{Facts}
+
+-- A call that only reads: once a store has returned something else than what was written, that is so for good; a
+-- faithful one has the same files afterwards; the counts don't fall.
+pub record Reads (old new : Facts) : Type 0 where
+  pub faithful : IsTrue new.faithful → IsTrue old.faithful
+  pub files : IsTrue new.faithful → new.files ≡ old.files
+  pub failures : old.failures ≤ new.failures
+  pub denials : old.denials ≤ new.denials
+
+-- the store has this file under this name
+abbrev pub HasFile : Facts → List ℕ → List ℕ → Type 0
+HasFile facts name file = get facts.files name ≡ Some file
+
+-- of a faithful store, the file of this name is there, and this is so of its bytes
+abbrev pub Finds : Facts → Facts → List ℕ → (List ℕ → Type 0) → Type 0
+Finds old new name is = IsTrue new.faithful → (file : List ℕ) × HasFile old name file × is file
+
+-- of a faithful store, this is so of the bytes of the file of this name, where it is there
+abbrev pub Answers : Facts → Facts → List ℕ → (List ℕ → Type 0) → Type 0
+Answers old new name is = IsTrue new.faithful → (file : List ℕ) → HasFile old name file → is file
+
+-- Why a file isn't read: out of memory, since the store failed, or, of a faithful store, since the file isn't
+-- there or this is so of its bytes.
+abbrev pub Refuses : DbError → Facts → Facts → List ℕ → (List ℕ → Type 0) → Type 0
+Refuses OutOfMemory old new name is = Unit {0}
+Refuses Io old new name is = old.failures < new.failures
+Refuses (Corrupt file what) old new name is = IsTrue new.faithful → (file : List ℕ) → HasFile old name file → is file
+Refuses (Unsupported what) old new name is = IsTrue new.faithful → (file : List ℕ) → HasFile old name file → is file
+Refuses e old new name is = ⊥
+
+-- the refusal that stands for one of the store
+abbrev pub refusal_of : StoreError → DbError
+refusal_of store_error.Memory = OutOfMemory
+refusal_of store_error.Missing = Corrupt file_kind.Table damage.Missing
+refusal_of store_error.Device = Io
+
+-- the refusal of bytes that aren't read, with the file added
+abbrev pub table_refusal : ReadError → DbError
+table_refusal read_error.Memory = OutOfMemory
+table_refusal (read_error.Corrupt what) = Corrupt file_kind.Table what
+table_refusal (read_error.Unsupported what) = Unsupported what

@@ -1,0 +1,74 @@
+//! Data blocks, read from a store (LevelDB's `doc/table_format.md`, "data block").
+
+ghost use Rattle.std.specs.Prelude.{◌≡◌, ◌<◌, ◌^◌, ◌++◌, ℕ, List, length, map, IfOk, IfErr, OnOk};
+ghost use Rattle.std.specs.List.{flat_map};
+ghost use Rattle.block.specs.Block.{IsBlock, Refuses as RefusesBlock};
+ghost use Rattle.ikey.specs.Below.{IsBelowInternal};
+ghost use Rattle.ikey.specs.Entries.{Pair};
+ghost use Rattle.table.specs.Frame.{Frame, IsFrame, IsLong, AnyLong};
+ghost use Rattle.table.specs.Reading.{Reads, Finds, Answers, Refuses};
+ghost use Rattle.table.specs.Table.{HasBlock, AreData, IsTable, ArePairs};
+ghost use Rattle.table.specs.Views.{pairs_of};
+ghost use Rattle.table.specs.declared.handle.Place.{Place as PlaceValue};
+
+use crate::handle::{Handle, Place};
+use crate::pair::{KeyValue, pairs_in};
+use crate::reading::{read_stored, table_refusal};
+use block::Block;
+use coding::DbError;
+use ikey::{Internal, KeyOrder};
+use std::alloc::{AllocError, Global};
+use store::Store;
+
+/// The data block at a handle. Corrupt and Unsupported as `read_stored`; Corrupt too where the keys don't rise.
+pub fn read_data<K: KeyOrder, S: Store>(
+    alloc: Global,
+    store: &mut S,
+    name: &str,
+    handle: Handle,
+) -> Result<Block<Internal<K>>, DbError>
+    ensures reads { Reads (S.facts store.old) (S.facts store.new) }
+    ensures found { IfOk result (λ block. Finds (S.facts store.old) (S.facts store.new) name.now (λ file. HasBlock K.cmp file handle block.pairs)) }
+    ensures refused { IfErr result (λ e. Refuses e (S.facts store.old) (S.facts store.new) name.now
+        (λ file. (pairs : List Pair) → HasBlock K.cmp file handle pairs → IsLong handle)) }
+{
+    let bytes = read_stored(alloc, store, name, handle)?;
+    match Block::<Internal<K>>::open(alloc, bytes) {
+        Ok(block) => Ok(block),
+        Err(e) => Err(table_refusal(e)),
+    }
+}
+
+/// The pairs of the data blocks of these places, in order.
+pub fn read_all<K: KeyOrder, S: Store>(
+    alloc: Global,
+    store: &mut S,
+    name: &str,
+    places: &[Place],
+) -> Result<Vec<KeyValue>, DbError>
+    ensures reads { Reads (S.facts store.old) (S.facts store.new) }
+    ensures found { IfOk result (λ found. Answers (S.facts store.old) (S.facts store.new) name.now
+        (λ file. (blocks : List (List Pair)) → AreData K.cmp file places.now blocks → pairs_of found.items ≡ flat_map (λ (pairs : List Pair). pairs) blocks)) }
+    ensures refused { IfErr result (λ e. Refuses e (S.facts store.old) (S.facts store.new) name.now
+        (λ file. (blocks : List (List Pair)) → AreData K.cmp file places.now blocks → AnyLong (map (λ (place : PlaceValue). place.handle) places.now))) }
+{
+    let mut found = Vec::new(alloc);
+    for place in places {
+        let block = read_data::<K, S>(alloc, store, name, place.handle)?;
+        push_pairs(alloc, &mut found, block)?;
+    }
+    Ok(found)
+}
+
+// Adds the pairs of a block at the end.
+fn push_pairs<K: KeyOrder>(
+    alloc: Global,
+    found: &mut Vec<KeyValue>,
+    block: Block<Internal<K>>,
+) -> Result<(), AllocError>
+    ensures { OnOk result (pairs_of found.new.items ≡ pairs_of found.old.items ++ block.pairs) }
+{
+    let mut pairs = pairs_in(alloc, block)?;
+    found.append(&mut pairs)?;
+    Ok(())
+}

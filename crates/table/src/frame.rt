@@ -1,0 +1,39 @@
+//! The end of a table file, read from a store.
+
+ghost use Rattle.std.specs.Prelude.{◌≡◌, ℕ, List, IfOk, IfErr};
+ghost use Rattle.table.specs.Frame.{HasFooter};
+ghost use Rattle.table.specs.Reading.{Reads, Finds, Refuses};
+ghost use Rattle.table.specs.declared.handle.Handle.{Handle as HandleValue};
+
+use crate::footer::{FOOTER_LENGTH, Footer, read_footer};
+use crate::reading::{file_length, read_part};
+use coding::{Damage, DbError, FileKind};
+use std::alloc::Global;
+use store::Store;
+
+/// A footer, and how many bytes stand before it.
+#[derive(Clone, Copy, Debug, PartialEq, Eq)]
+pub struct Ends {
+    /// How many bytes stand before the footer.
+    pub before: u64,
+    pub footer: Footer,
+}
+
+/// Reads the footer, which is the last 48 bytes. Corrupt, where the file is shorter or they are no footer.
+pub fn read_ends<S: Store>(alloc: Global, store: &mut S, name: &str) -> Result<Ends, DbError>
+    ensures reads { Reads (S.facts store.old) (S.facts store.new) }
+    ensures found { IfOk result (λ ends. Finds (S.facts store.old) (S.facts store.new) name.now (λ file. HasFooter file ends.before ends.footer.metaindex ends.footer.index)) }
+    ensures refused { IfErr result (λ e. Refuses e (S.facts store.old) (S.facts store.new) name.now
+        (λ file. (before : ℕ) (metaindex index : HandleValue) → HasFooter file before metaindex index → ⊥)) }
+{
+    let len = file_length(store, name)?;
+    if len < FOOTER_LENGTH as u64 {
+        return Err(DbError::Corrupt(FileKind::Table, Damage::Length));
+    }
+    let before = len - FOOTER_LENGTH as u64;
+    let bytes = read_part(alloc, store, name, before, FOOTER_LENGTH)?;
+    match read_footer(&bytes) {
+        Ok(footer) => Ok(Ends { before, footer }),
+        Err(what) => Err(DbError::Corrupt(FileKind::Table, what)),
+    }
+}

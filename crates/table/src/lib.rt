@@ -1,0 +1,23 @@
+//! Table files (LevelDB's `doc/table_format.md`): entries sorted by internal key, in blocks that an index finds, with
+//! a filter that says which user keys a block can't hold.
+#![tactic(auto)]
+
+mod data;
+mod footer;
+mod frame;
+mod handle;
+mod index;
+mod layout;
+mod metaindex;
+mod pair;
+mod reading;
+mod seeking;
+mod stored;
+mod table;
+
+pub use handle::{Handle, Place};
+pub use pair::KeyValue;
+pub use table::{Table, one_table};
+
+#[cfg(test)]
+mod tests;

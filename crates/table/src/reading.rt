@@ -1,0 +1,114 @@
+//! Reading parts of a table file from a store.
+
+ghost use Rattle.std.specs.Prelude.{◌≡◌, ◌<◌, ◌≤◌, ◌+◌, ◌^◌, ℕ, List, length, take, drop, IfOk, IfErr, MatchBool, IsTrue};
+ghost use Rattle.table.specs.Reading.{Reads, Finds, Refuses, refusal_of, table_refusal};
+ghost use Rattle.table.specs.Stored.{IsStored, end_of};
+
+use crate::handle::Handle;
+use crate::stored::{TRAILER_LENGTH, stored_block};
+use block::MAX_BLOCK_LENGTH;
+use coding::{Damage, DbError, Feature, FileKind, ReadError};
+use std::alloc::Global;
+use store::{Store, StoreError};
+
+/// The refusal that stands for one of the store, by a call that reads a table.
+pub fn refusal(e: StoreError) -> DbError
+    ensures { result ≡ refusal_of e }
+{
+    match e {
+        StoreError::Memory => DbError::OutOfMemory,
+        StoreError::Missing => DbError::Corrupt(FileKind::Table, Damage::Missing),
+        StoreError::Device => DbError::Io,
+    }
+}
+
+/// The refusal of bytes of a table.
+pub fn table_refusal(e: ReadError) -> DbError
+    ensures { result ≡ table_refusal e }
+{
+    match e {
+        ReadError::Memory => DbError::OutOfMemory,
+        ReadError::Corrupt(what) => DbError::Corrupt(FileKind::Table, what),
+        ReadError::Unsupported(what) => DbError::Unsupported(what),
+    }
+}
+
+/// How many bytes the file has. A missing file is Corrupt.
+pub fn file_length<S: Store>(store: &mut S, name: &str) -> Result<u64, DbError>
+    ensures reads { Reads (S.facts store.old) (S.facts store.new) }
+    ensures found { IfOk result (λ len. Finds (S.facts store.old) (S.facts store.new) name.now (λ file. len ≡ length file)) }
+    ensures refused { IfErr result (λ e. Refuses e (S.facts store.old) (S.facts store.new) name.now (λ file. ⊥)) }
+{
+    match store.len(name) {
+        Ok(len) => Ok(len),
+        Err(e) => Err(refusal(e)),
+    }
+}
+
+/// So many bytes of the file from an offset on. Fewer are Corrupt.
+pub fn read_part<S: Store>(
+    alloc: Global,
+    store: &mut S,
+    name: &str,
+    offset: u64,
+    count: usize,
+) -> Result<Vec<u8>, DbError>
+    ensures reads { Reads (S.facts store.old) (S.facts store.new) }
+    ensures length { IfOk result (λ bytes. length bytes.items ≡ count) }
+    ensures found { IfOk result (λ bytes. Finds (S.facts store.old) (S.facts store.new) name.now (λ file. bytes.items ≡ take count (drop offset file))) }
+    ensures refused { IfErr result (λ e. Refuses e (S.facts store.old) (S.facts store.new) name.now (λ file. length file < offset + count)) }
+{
+    match store.read_at(alloc, name, offset, count) {
+        Ok(bytes) => {
+            if bytes.len() != count {
+                return Err(DbError::Corrupt(FileKind::Table, Damage::Length));
+            }
+            Ok(bytes)
+        }
+        Err(e) => Err(refusal(e)),
+    }
+}
+
+/// The block that the file has at a handle: its checksum is compared, and then its type. No memory is taken before
+/// the file is known to have that many bytes. A block of more than 2^30 bytes is Unsupported.
+pub fn read_stored<S: Store>(
+    alloc: Global,
+    store: &mut S,
+    name: &str,
+    handle: Handle,
+) -> Result<Vec<u8>, DbError>
+    ensures reads { Reads (S.facts store.old) (S.facts store.new) }
+    ensures found { IfOk result (λ block. Finds (S.facts store.old) (S.facts store.new) name.now (λ file. IsStored file handle block.items)) }
+    ensures refused { IfErr result (λ e. Refuses e (S.facts store.old) (S.facts store.new) name.now
+        (λ file. (block : List ℕ) → IsStored file handle block → 2 ^ 30 < handle.size)) }
+{
+    let len = file_length(store, name)?;
+    let count = match stored_length(handle, len) {
+        Ok(count) => count,
+        Err(e) => return Err(table_refusal(e)),
+    };
+    let mut bytes = read_part(alloc, store, name, handle.offset, count)?;
+    let size = match stored_block(&bytes) {
+        Ok(block) => block.len(),
+        Err(e) => return Err(table_refusal(e)),
+    };
+    bytes.truncate(size);
+    Ok(bytes)
+}
+
+// How many bytes the block at a handle takes in a file of this length, with what stands behind it.
+fn stored_length(handle: Handle, len: u64) -> Result<usize, ReadError>
+    ensures count { IfOk result (λ count. count ≡ handle.size + 5) }
+    ensures inside { IfOk result (λ _. end_of handle ≤ len) }
+    ensures refused { IfErr result (λ _. end_of handle ≤ len → 2 ^ 30 < handle.size) }
+{
+    let room = len.saturating_sub(handle.offset);
+    let trailer = TRAILER_LENGTH as u64;
+    if room < trailer || handle.size > room - trailer {
+        return Err(ReadError::Corrupt(Damage::Length));
+    }
+    if handle.size > MAX_BLOCK_LENGTH as u64 {
+        return Err(ReadError::Unsupported(Feature::BlockSize));
+    }
+    Ok(handle.size as usize + TRAILER_LENGTH)
+}

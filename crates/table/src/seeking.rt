@@ -1,0 +1,82 @@
+//! Finding an entry by its key.
+
+ghost use Rattle.std.specs.Prelude.{◌≡◌, ◌≤◌, ◌+◌, ℕ, List, length, map, slice_index_or, IfOk, IfErr};
+ghost use Rattle.std.specs.List.{flat_map};
+ghost use Rattle.ikey.specs.Below.{IsBelowInternal};
+ghost use Rattle.ikey.specs.Entries.{Pair};
+ghost use Rattle.table.specs.Frame.{IsLong, AnyLong};
+ghost use Rattle.table.specs.Reading.{Reads, Finds, Answers, Refuses};
+ghost use Rattle.table.specs.Seeking.{IsFirstOf, found_pair};
+ghost use Rattle.table.specs.Table.{HasBlock, AreData};
+ghost use Rattle.table.specs.declared.handle.Place.{Place as PlaceValue};
+
+use crate::data::read_data;
+use crate::handle::{Handle, Place};
+use crate::pair::KeyValue;
+use block::{Block, BlockCursor};
+use coding::{Bytes, DbError};
+use ikey::{EntryOrder, Internal, KeyOrder};
+use std::alloc::{AllocError, Global};
+use std::rc::Rc;
+use store::Store;
+
+/// The first place whose key isn't below the target, or the number of places: no entry of a block in front of it
+/// can be the one that is sought.
+pub fn first_place<K: KeyOrder>(places: &[Place], target: &[u8]) -> usize
+    ensures inside { result ≤ length places.now }
+    ensures front { (i : ℕ) (d : PlaceValue) → result ≡ i + 1 → IsBelowInternal K.cmp (slice_index_or places.now i d).key target.now }
+{
+    let mut low = 0;
+    let mut high = places.len();
+    while low < high {
+        let middle = low + (high - low) / 2;
+        if Internal::<K>::is_below(places[middle].key.as_slice(), target) {
+            low = middle + 1;
+        } else {
+            high = middle;
+        }
+    }
+    low
+}
+
+/// The first entry of these places' blocks that isn't below the target.
+pub fn seek_from<K: KeyOrder, S: Store>(
+    alloc: Global,
+    store: &mut S,
+    name: &str,
+    places: &[Place],
+    target: &[u8],
+) -> Result<Option<KeyValue>, DbError>
+    ensures reads { Reads (S.facts store.old) (S.facts store.new) }
+    ensures found { IfOk result (λ found. Answers (S.facts store.old) (S.facts store.new) name.now
+        (λ file. (blocks : List (List Pair)) → AreData K.cmp file places.now blocks
+        → IsFirstOf (IsBelowInternal K.cmp) target.now (flat_map (λ (pairs : List Pair). pairs) blocks) (found_pair found))) }
+    ensures refused { IfErr result (λ e. Refuses e (S.facts store.old) (S.facts store.new) name.now
+        (λ file. (blocks : List (List Pair)) → AreData K.cmp file places.now blocks → AnyLong (map (λ (place : PlaceValue). place.handle) places.now))) }
+{
+    for place in places {
+        let block = read_data::<K, S>(alloc, store, name, place.handle)?;
+        if let Some(found) = seek_in::<K>(alloc, block, target)? {
+            return Ok(Some(found));
+        }
+    }
+    Ok(None)
+}
+
+// The first pair of a block that isn't below the target.
+fn seek_in<K: KeyOrder>(
+    alloc: Global,
+    block: Block<Internal<K>>,
+    target: &[u8],
+) -> Result<Option<KeyValue>, AllocError>
+    ensures { IfOk result (λ found. IsFirstOf (IsBelowInternal K.cmp) target.now block.pairs (found_pair found)) }
+{
+    let mut cursor = BlockCursor::new(alloc, Rc::new(alloc, block)?);
+    cursor.seek(target)?;
+    if !cursor.stands() {
+        return Ok(None);
+    }
+    let key = Bytes::copied_from(alloc, cursor.key())?;
+    let value = Bytes::copied_from(alloc, cursor.value())?;
+    Ok(Some(KeyValue { key, value }))
+}

@@ -1,0 +1,55 @@
+//! Blocks as a file has them, with a type and a checksum behind each (LevelDB's `doc/table_format.md`).
+
+ghost use Rattle.std.specs.Prelude.{◌≡◌, ◌++◌, ℕ, List, length, IfOk, IfErr, OnOk};
+ghost use Rattle.table.specs.Stored.{trailer_of};
+
+use crate::handle::Handle;
+use coding::{Damage, Feature, ReadError, crc32c, get_fixed32, mask, put_fixed32};
+use std::alloc::AllocError;
+
+/// How many bytes stand behind a block: its type, and the checksum of block and type.
+pub const TRAILER_LENGTH: usize = 5;
+
+// The type of a block that isn't compressed.
+const UNCOMPRESSED: u8 = 0;
+
+/// The block that the bytes are together with what stands behind it. The checksum is compared first, and then the
+/// type, so that a type is only believed where the bytes are undamaged.
+pub fn stored_block(bytes: &[u8]) -> Result<&[u8], ReadError>
+    ensures found { IfOk result (λ block. bytes.now ≡ block.now ++ trailer_of block.now) }
+    ensures refused { IfErr result (λ _. (block : List ℕ) → bytes.now ≡ block ++ trailer_of block → ⊥) }
+{
+    if bytes.len() < TRAILER_LENGTH {
+        return Err(ReadError::Corrupt(Damage::Length));
+    }
+    let (block, behind) = bytes.split_at(bytes.len() - TRAILER_LENGTH);
+    let [kind, stored @ ..] = behind else {
+        return Err(ReadError::Corrupt(Damage::Length));
+    };
+    let Some(stored) = get_fixed32(stored) else {
+        return Err(ReadError::Corrupt(Damage::Length));
+    };
+    if stored != mask(crc32c(block, &[*kind])) {
+        return Err(ReadError::Corrupt(Damage::Checksum));
+    }
+    if *kind != UNCOMPRESSED {
+        return Err(ReadError::Unsupported(Feature::BlockType));
+    }
+    Ok(block)
+}
+
+/// Writes a block at the end, and its type and checksum behind it, or a beginning of it where memory runs out.
+/// The handle says where it is.
+pub fn put_stored(out: &mut Vec<u8>, block: &[u8]) -> Result<Handle, AllocError>
+    ensures written { OnOk result (out.new.items ≡ out.old.items ++ (block.now ++ trailer_of block.now)) }
+    ensures handle { IfOk result (λ handle. handle ≡ record { offset = length out.old.items; size = length block.now }) }
+{
+    let handle = Handle {
+        offset: out.len() as u64,
+        size: block.len() as u64,
+    };
+    out.extend_from_slice(block)?;
+    out.push(UNCOMPRESSED)?;
+    put_fixed32(out, mask(crc32c(block, &[UNCOMPRESSED])))?;
+    Ok(handle)
+}

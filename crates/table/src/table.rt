@@ -1,0 +1,156 @@
+//! A table that is open.
+
+ghost use Rattle.table.specs.Table.{OneTable};
+
+use crate::data::{read_all, read_data};
+use crate::frame::read_ends;
+use crate::handle::{Handle, Place};
+use crate::index::read_places;
+use crate::layout::{all_handles, are_separate, push_places};
+use crate::metaindex::read_filter;
+use crate::pair::KeyValue;
+use crate::seeking::{first_place, seek_from};
+use block::Block;
+use coding::{Damage, DbError, FileKind};
+use filter::FilterBlock;
+use ikey::{Internal, KeyOrder};
+use std::alloc::{AllocError, Global};
+use std::marker::{Model, PhantomData};
+use store::Store;
+
+/// A table that is open (LevelDB's `doc/table_format.md`), whose user keys are in the order K. Contracts see the name
+/// of its file, and what was read of it: its index, and its filter block if it has one.
+#[derive(Drop)]
+pub struct Table<K: KeyOrder> {
+    name: String,
+    places: Vec<Place>,
+    filter: Option<FilterBlock>,
+    order: PhantomData<K>,
+}
+
+impl<K: KeyOrder> Model for Table<K> {
+    ghost use Rattle.std.specs.Prelude.{string_bytes};
+    ghost use Rattle.table.specs.Frame.{Opened};
+
+    ghost Value = { Opened };
+
+    ghost view = { λ t. record { name = string_bytes t.name; frame = record { places = t.places.items; filter = t.filter } } };
+}
+
+impl<K: KeyOrder> Table<K> {
+    ghost use Rattle.std.specs.Prelude.{◌≡◌, ◌<◌, ◌^◌, ℕ, List, Option, Some, None, IfOk, IfErr, MatchBool, length};
+    ghost use Rattle.filter.specs.Hash.{hash_of};
+    ghost use Rattle.table.specs.Frame.{Frame, IsFrame, IsOversized, TableAdmits, TableDenies, IsLong, AnyLong, handles};
+    ghost use Rattle.table.specs.Reading.{Reads, Finds, Answers, Refuses};
+    ghost use Rattle.ikey.specs.Entries.{InternalEntry, Pair};
+    ghost use Rattle.table.specs.Table.{HasBlock, IsTable, ArePairs};
+    ghost use Rattle.ikey.specs.Keys.{Key, IsKey};
+    ghost use Rattle.table.specs.Seeking.{IsFirstFrom, pairs_found, entry_list};
+    ghost use Rattle.table.specs.Views.{pairs_of};
+
+    /// Reads footer, metaindex, filter block and index of a file. Corrupt, where they are no frame of a table;
+    /// Unsupported, where one of these blocks has a type other than 0 or more than 2^30 bytes.
+    pub fn open<S: Store>(alloc: Global, store: &mut S, name: &str) -> Result<Self, DbError>
+        ensures reads { Reads (S.facts store.old) (S.facts store.new) }
+        ensures name { IfOk result (λ table. table.name ≡ name.now) }
+        ensures found { IfOk result (λ table. Finds (S.facts store.old) (S.facts store.new) name.now (λ file. IsFrame K.cmp file table.frame)) }
+        ensures refused { IfErr result (λ e. Refuses e (S.facts store.old) (S.facts store.new) name.now
+            (λ file. (frame : Frame) (is : IsFrame K.cmp file frame) → IsOversized K.cmp file frame is)) }
+    {
+        let ends = read_ends(alloc, store, name)?;
+        let (named, filter) = read_filter(alloc, store, name, ends.footer.metaindex)?;
+        let places = read_places::<K, S>(alloc, store, name, ends.footer.index)?;
+        let mut handles = all_handles(alloc, ends.footer, named, &places)?;
+        if !are_separate(ends.before, &mut handles) {
+            return Err(DbError::Corrupt(FileKind::Table, Damage::Order));
+        }
+        let name = String::from_str(alloc, name)?;
+        Ok(Table {
+            name,
+            places,
+            filter,
+            order: PhantomData,
+        })
+    }
+
+    /// The handles of the data blocks, in order.
+    pub fn index(&self, alloc: Global) -> Result<Vec<Handle>, AllocError>
+        ensures { IfOk result (λ found. found.items ≡ handles self.now.frame) }
+    {
+        let mut found = Vec::new(alloc);
+        push_places(&mut found, &self.places)?;
+        Ok(found)
+    }
+
+    /// The data block at a handle. Corrupt, where there is none; Unsupported, where it has a type other than 0 or more
+    /// than 2^30 bytes.
+    pub fn read_block<S: Store>(
+        &self,
+        alloc: Global,
+        store: &mut S,
+        handle: Handle,
+    ) -> Result<Block<Internal<K>>, DbError>
+        ensures reads { Reads (S.facts store.old) (S.facts store.new) }
+        ensures found { IfOk result (λ block. Finds (S.facts store.old) (S.facts store.new) self.now.name (λ file. HasBlock K.cmp file handle block.pairs)) }
+        ensures refused { IfErr result (λ e. Refuses e (S.facts store.old) (S.facts store.new) self.now.name
+            (λ file. (pairs : List Pair) → HasBlock K.cmp file handle pairs → IsLong handle)) }
+    {
+        read_data::<K, S>(alloc, store, &self.name, handle)
+    }
+
+    /// The entries, in order, as the bytes of their internal keys and their values. What bounds, filter and the order
+    /// of the blocks say isn't checked. Corrupt and Unsupported as `read_block`.
+    pub fn entries<S: Store>(&self, alloc: Global, store: &mut S) -> Result<Vec<KeyValue>, DbError>
+        ensures reads { Reads (S.facts store.old) (S.facts store.new) }
+        ensures found { IfOk result (λ found. Answers (S.facts store.old) (S.facts store.new) self.now.name
+            (λ file. (entries : List InternalEntry) → IsFrame K.cmp file self.now.frame → IsTable K.cmp file entries → ArePairs (pairs_of found.items) entries)) }
+        ensures refused { IfErr result (λ e. Refuses e (S.facts store.old) (S.facts store.new) self.now.name
+            (λ file. (entries : List InternalEntry) → IsFrame K.cmp file self.now.frame → IsTable K.cmp file entries → AnyLong (handles self.now.frame))) }
+    {
+        match read_all::<K, S>(alloc, store, &self.name, &self.places) {
+            Ok(found) => Ok(found),
+            Err(e) => Err(e),
+        }
+    }
+
+    /// The first entry whose internal key isn't below the target, an internal key, as the bytes of its key and its
+    /// value, if there is one. Of the blocks only those are read that can have it. Corrupt and Unsupported as
+    /// `read_block`.
+    pub fn seek<S: Store>(
+        &self,
+        alloc: Global,
+        store: &mut S,
+        target: &[u8],
+    ) -> Result<Option<KeyValue>, DbError>
+        ensures reads { Reads (S.facts store.old) (S.facts store.new) }
+        ensures found { IfOk result (λ found. Answers (S.facts store.old) (S.facts store.new) self.now.name
+            (λ file. (entries : List InternalEntry) (key : Key) → IsFrame K.cmp file self.now.frame → IsTable K.cmp file entries → IsKey target.now key
+            → (at : Option InternalEntry) × IsFirstFrom K.cmp key entries at × ArePairs (pairs_found found) (entry_list at))) }
+        ensures refused { IfErr result (λ e. Refuses e (S.facts store.old) (S.facts store.new) self.now.name
+            (λ file. (entries : List InternalEntry) → IsFrame K.cmp file self.now.frame → IsTable K.cmp file entries → AnyLong (handles self.now.frame))) }
+    {
+        let start = first_place::<K>(&self.places, target);
+        let places = &self.places[start..];
+        match seek_from::<K, S>(alloc, store, &self.name, places, target) {
+            Ok(found) => Ok(found),
+            Err(e) => Err(e),
+        }
+    }
+
+    /// Whether the data block at a handle may hold an entry of the user key: no for few keys that it doesn't hold, and
+    /// never for one that it holds. Without a filter block, yes.
+    pub fn admits(&self, handle: Handle, key: &[u8]) -> bool
+        ensures { MatchBool result (TableAdmits self.now.frame.filter handle.offset (hash_of key.now))
+            (TableDenies self.now.frame.filter handle.offset (hash_of key.now)) }
+    {
+        match &self.filter {
+            None => true,
+            Some(filter) => filter.may_hold(handle.offset, key),
+        }
+    }
+}
+
+/// No file is two tables.
+pub fn one_table()
+    ensures { OneTable }
+{}
