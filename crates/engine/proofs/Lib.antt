@@ -1,0 +1,14 @@
+pub mod Appending
+pub mod Runs
+pub mod Steps
+pub mod Views
+pub mod WriteSteps
+pub mod StoreCalls
+pub mod Reopening
+pub mod OpenSteps
+pub mod FoundSteps
+pub mod NewManifests
+pub mod OpenMachine
+pub mod OpenLock
+pub mod AnyStore
+pub mod FirstStates

@@ -1,0 +1,13 @@
+pub mod Machine
+pub mod Step
+pub mod Entries
+pub mod Directory
+pub mod Stands
+pub mod Follows
+pub mod Reads
+pub mod Logs
+pub mod StandsDb
+pub mod Calls
+pub mod Opening
+pub mod Outcomes
+pub mod First
