@@ -26,7 +26,7 @@ FRAGMENT_HEADER = 7
 
 KEY = "61"
 WRITTEN = "31"
-LARGE_VALUE = "c3" * 32_000_000
+LARGE_VALUE = "c3" * 16_000_000
 
 CHECKS = []
 
@@ -379,7 +379,7 @@ def held_by_quickstart(folder):
     while the body runs."""
     leveldb_writes(folder, [f"put 62 {LARGE_VALUE}"])
     want_logs_alone(folder)
-    for _ in range(20):
+    for _ in range(5):
         holder = subprocess.Popen([QUICKSTART, folder], stdout=subprocess.PIPE, stderr=subprocess.PIPE, text=True)
         while not is_locked(folder) and holder.poll() is None:
             pass
