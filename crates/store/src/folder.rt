@@ -1,4 +1,4 @@
-// A folder of the system, by one call of the system for each call of a store.
+// A folder of the system, by one call of the system for each call of a store, but for the lock.
 //
 // Nothing here counts: an error says what the system answered, and `file_store` decides what that is to a store.
 
@@ -154,13 +154,13 @@ impl Folder {
             return Ok(false);
         }
         let path = self.path_of(LOCK)?;
+        let log = self.path_of(LOCK_LOG)?;
         let files = match sqlite_std_file::open(&self.rt, path.as_str(), Unknown) {
             Ok(files) => files,
             Err(OpenError::Busy) => return Ok(false),
             Err(_) => return Err(StoreError::Device),
         };
-        let log = self.path_of(LOCK_LOG)?;
-        fs::remove_file(&self.rt, log.as_str())?;
+        fs::remove_file(&self.rt, log.as_str()).map_err(|_| StoreError::Device)?;
         self.lock = Some(files.db);
         Ok(true)
     }
