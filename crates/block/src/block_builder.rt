@@ -46,7 +46,7 @@ impl<O: EntryOrder> BlockBuilder<O> {
     ghost use Rattle.std.specs.Option.{ForSome};
     ghost use Rattle.ikey.specs.Entries.{Pair};
     ghost use Rattle.block.specs.Block.{IsBlock};
-    ghost use Rattle.block.specs.Written.{Added, IsWritten, last_key};
+    ghost use Rattle.block.specs.Written.{Added, IsWritten, last_key, key_behind};
     ghost use Rattle.block.specs.Built.{written_length};
 
     /// A block without entries, with a restart every `interval` entries. It takes no memory.
@@ -100,8 +100,23 @@ impl<O: EntryOrder> BlockBuilder<O> {
         Ok(())
     }
 
+    /// Whether no entry was added.
+    pub fn is_empty(&self) -> bool
+        ensures { MatchBool result (self.now.pairs ≡ []) (self.now.pairs ≡ [] → ⊥) }
+    {
+        self.count == 0
+    }
+
+    /// The key of the last entry, and nothing before the first.
+    pub fn last_key(&self) -> &[u8]
+        ensures { result.now ≡ key_behind [] self.now.pairs }
+    {
+        &self.last_key
+    }
+
     /// How many bytes `finish` would give now.
     pub fn size(&self) -> usize
+        ensures range { result < 2 ^ 32 }
         ensures size { result ≡ written_length self.now }
         ensures written { (bytes : List ℕ) → IsWritten self.now.interval self.now.pairs bytes → result ≡ length bytes }
     {

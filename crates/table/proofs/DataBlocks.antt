@@ -53,7 +53,7 @@ data_more cmp file (place ∷ places) zero d (x ∷ blocks) pairs p h k = absurd
 data_more cmp file (place ∷ places) (suc n) d [] pairs p h k = absurd h
 data_more cmp file (place ∷ places) (suc n) d (x ∷ blocks) pairs p h k = (h.0, data_more cmp file places n d blocks pairs (omega arith) h.1 k)
 
-joined_more : (blocks : List (List Pair)) (pairs : List Pair) → joined (blocks ++ pairs ∷ []) ≡ joined blocks ++ pairs
+pub joined_more : (blocks : List (List Pair)) (pairs : List Pair) → joined (blocks ++ pairs ∷ []) ≡ joined blocks ++ pairs
 joined_more [] pairs = append-nil pairs
 joined_more (x ∷ blocks) pairs = ap (λ (t : List Pair). x ++ t) (joined_more blocks pairs) ∙ sym (append_assoc x (joined blocks) pairs)
 

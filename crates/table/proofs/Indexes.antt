@@ -15,7 +15,7 @@ pub record ArePlaced (pairs : List Pair) (cursor : Placed) (places : List Place)
   pub count : length found ≡ length places
   pub places_are : ArePlaces found places
 
-places_more : (pairs : List Pair) (places : List Place) (pair : Pair) (place : Place) → ArePlaces pairs places → pair.key ≡ place.key → IsHandle pair.value place.handle → ArePlaces (pairs ++ pair ∷ []) (places ++ place ∷ [])
+pub places_more : (pairs : List Pair) (places : List Place) (pair : Pair) (place : Place) → ArePlaces pairs places → pair.key ≡ place.key → IsHandle pair.value place.handle → ArePlaces (pairs ++ pair ∷ []) (places ++ place ∷ [])
 places_more [] [] pair place h k v = (k, v, tt)
 places_more [] (y ∷ places) pair place h k v = absurd h
 places_more (x ∷ pairs) [] pair place h k v = absurd h

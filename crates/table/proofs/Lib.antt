@@ -11,3 +11,14 @@ pub mod FrameParts
 pub mod Indexes
 pub mod DataBlocks
 pub mod Seeks
+pub mod Rising
+pub mod Growing
+pub mod Hashed
+pub mod Parts
+pub mod Finishing
+pub mod Storing
+pub mod Lengths
+pub mod Writes
+pub mod Kept
+pub mod Adding
+pub mod Written

@@ -18,7 +18,7 @@ reads_then a b c h k = record {
   faithful = λ t. h.faithful (k.faithful t);
   files = λ t. k.files t ∙ h.files (k.faithful t);
   failures = omega (arith, h.failures, k.failures);
-  denials = omega (arith, h.denials, k.denials);
+  denials = k.denials ∙ h.denials;
 }
 
 pub file_back : (a b : Facts) (name file : List ℕ) → Reads a b → IsTrue b.faithful → HasFile b name file → HasFile a name file
@@ -118,4 +118,4 @@ refuses_later (Unsupported what) a b c name P Q f h k none = λ t file there. f 
 refuses_later _ a b c name P Q f h k none = absurd none
 
 pub reads_none : (a : Facts) → Reads a a
-reads_none a = record { faithful = λ t. t; files = λ t. refl; failures = omega arith; denials = omega arith }
+reads_none a = record { faithful = λ t. t; files = λ t. refl; failures = omega arith; denials = refl }

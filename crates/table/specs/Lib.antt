@@ -1,6 +1,9 @@
+pub mod Building
 pub mod Frame
 pub mod Reading
 pub mod Seeking
+pub mod Steps
 pub mod Stored
 pub mod Table
 pub mod Views
+pub mod Writing

@@ -12,12 +12,12 @@ use Rattle.store.specs.declared.error.StoreError.TheVariants as store_error
 use Rattle.store.specs.Files.{Facts}
 
 -- A call that only reads: once a store has returned something else than what was written, that is so for good; a
--- faithful one has the same files afterwards; the counts don't fall.
+-- faithful one has the same files afterwards; the failures don't fall, and the lock isn't asked for.
 pub record Reads (old new : Facts) : Type 0 where
   pub faithful : IsTrue new.faithful → IsTrue old.faithful
   pub files : IsTrue new.faithful → new.files ≡ old.files
   pub failures : old.failures ≤ new.failures
-  pub denials : old.denials ≤ new.denials
+  pub denials : new.denials ≡ old.denials
 
 -- the store has this file under this name
 abbrev pub HasFile : Facts → List ℕ → List ℕ → Type 0

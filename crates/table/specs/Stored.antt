@@ -19,6 +19,10 @@ IsHandle bytes handle = Pair IsNumber IsNumber bytes (handle.offset, handle.size
 abbrev pub trailer_of : List ℕ → List ℕ
 trailer_of block = 0 ∷ fixed32 (masked (checksum (block ++ 0 ∷ [])))
 
+-- a block as a file has it
+abbrev pub stored : List ℕ → List ℕ
+stored block = block ++ trailer_of block
+
 -- where a block with its trailer ends
 abbrev pub end_of : Handle → ℕ
 end_of handle = handle.offset + (handle.size + 5)

@@ -2,7 +2,9 @@
 //! a filter that says which user keys a block can't hold.
 #![tactic(auto)]
 
+mod builder;
 mod data;
+mod ends;
 mod footer;
 mod frame;
 mod handle;
@@ -14,7 +16,9 @@ mod reading;
 mod seeking;
 mod stored;
 mod table;
+mod writing;
 
+pub use builder::TableBuilder;
 pub use handle::{Handle, Place};
 pub use pair::KeyValue;
 pub use table::{Table, one_table};

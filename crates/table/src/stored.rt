@@ -1,9 +1,8 @@
 //! Blocks as a file has them, with a type and a checksum behind each (LevelDB's `doc/table_format.md`).
 
 ghost use Rattle.std.specs.Prelude.{◌≡◌, ◌++◌, ℕ, List, length, IfOk, IfErr, OnOk};
-ghost use Rattle.table.specs.Stored.{trailer_of};
+ghost use Rattle.table.specs.Stored.{trailer_of, stored};
 
-use crate::handle::Handle;
 use coding::{Damage, Feature, ReadError, crc32c, get_fixed32, mask, put_fixed32};
 use std::alloc::AllocError;
 
@@ -39,17 +38,19 @@ pub fn stored_block(bytes: &[u8]) -> Result<&[u8], ReadError>
 }
 
 /// Writes a block at the end, and its type and checksum behind it, or a beginning of it where memory runs out.
-/// The handle says where it is.
-pub fn put_stored(out: &mut Vec<u8>, block: &[u8]) -> Result<Handle, AllocError>
-    ensures written { OnOk result (out.new.items ≡ out.old.items ++ (block.now ++ trailer_of block.now)) }
-    ensures handle { IfOk result (λ handle. handle ≡ record { offset = length out.old.items; size = length block.now }) }
+pub fn put_stored(out: &mut Vec<u8>, block: &[u8]) -> Result<(), AllocError>
+    ensures { OnOk result (out.new.items ≡ out.old.items ++ stored block.now) }
 {
-    let handle = Handle {
-        offset: out.len() as u64,
-        size: block.len() as u64,
-    };
     out.extend_from_slice(block)?;
     out.push(UNCOMPRESSED)?;
-    put_fixed32(out, mask(crc32c(block, &[UNCOMPRESSED])))?;
-    Ok(handle)
+    put_fixed32(out, mask(crc32c(block, &[UNCOMPRESSED])))
+}
+
+/// Writes type and checksum behind a block, or a beginning of it where memory runs out.
+pub fn put_trailer(block: &mut Vec<u8>) -> Result<(), AllocError>
+    ensures { OnOk result (block.new.items ≡ stored block.old.items) }
+{
+    let sum = mask(crc32c(block, &[UNCOMPRESSED]));
+    block.push(UNCOMPRESSED)?;
+    put_fixed32(block, sum)
 }

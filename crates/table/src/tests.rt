@@ -1,7 +1,7 @@
 use super::*;
 use crate::footer::{put_footer, read_footer};
 use crate::handle::{put_handle, whole_handle};
-use crate::stored::{put_stored, stored_block};
+use crate::stored::{put_stored, put_trailer, stored_block};
 use coding::DbError;
 use ikey::{Bytewise, Kind, pack, seek_key};
 use std::alloc::Global;
@@ -255,16 +255,12 @@ fn footers_are_written_as_they_are_read(rt: HostRuntime) -> Result<(), Fail> {
 #[test]
 fn blocks_are_stored_with_type_and_checksum(rt: HostRuntime) -> Result<(), Fail> {
     let mut out = Vec::new(rt.alloc());
-    let handle = put_stored(&mut out, &ONE_ENTRY[..21])?;
-    assert_eq!(rt;
-        handle,
-        Handle {
-            offset: 0,
-            size: 21
-        }
-    );
+    put_stored(&mut out, &ONE_ENTRY[..21])?;
     assert_eq!(rt; out.as_slice(), &ONE_ENTRY[..26]);
     assert!(rt; stored_block(&out).is_ok());
+    let mut block = Vec::from_slice(rt.alloc(), &ONE_ENTRY[..21])?;
+    put_trailer(&mut block)?;
+    assert_eq!(rt; block.as_slice(), out.as_slice());
     // An empty block of type 1, with the checksum made to fit.
     let other = [0, 0, 0, 0, 1, 0, 0, 0, 1];
     let mut stored = Vec::from_slice(rt.alloc(), &other)?;
@@ -298,5 +294,21 @@ fn handles_are_two_numbers(rt: HostRuntime) -> Result<(), Fail> {
     );
     assert_eq!(rt; whole_handle(&[0xAC, 0x02]), None);
     assert_eq!(rt; whole_handle(&[1, 2, 3]), None);
+    Ok(())
+}
+
+#[test]
+fn one_entry_is_written(rt: HostRuntime) -> Result<(), Fail> {
+    let alloc = rt.alloc();
+    let mut store = MemStore::new(alloc);
+    let mut builder = TableBuilder::<Bytewise>::new(alloc, NAME, 4096)?;
+    assert_eq!(rt; builder.size(), 0);
+    builder.add(&mut store, &pack(alloc, b"a", 1, Kind::Put)?, b"1")?;
+    assert_eq!(rt; builder.size(), 21);
+    builder.finish(alloc, &mut store)?;
+    assert_eq!(rt;
+        store.read_at(alloc, NAME, 0, 1000)?.as_slice(),
+        ONE_ENTRY.as_slice()
+    );
     Ok(())
 }

@@ -1,0 +1,132 @@
+-- What the calls that write a table do to the files of a store.
+use Rattle.std.proofs.Common.{Bool, true, false, cond, ◌≡◌, ◌≢◌, ◌⊎◌, ◌≤◌, ℕ, List, [], ◌++◌, take, Option, Some, Result, Ok, Err, IsTrue, inl, inr, refl, sym, ap, ◌∙◌, arith}
+use Rattle.std.specs.Cmp.{tied_itself}
+use Rattle.std.specs.Cmp.Lexicographic.{slice_cmp, nat_list_cmp_total}
+use Rattle.std.specs.Ordering.{is_eq, nat_cmp, eq_by_cmp}
+use Rattle.std.specs.declared.cmp.Ordering.{Ordering}
+use Rattle.std.specs.declared.cmp.Ordering.TheVariants.{Less, Equal, Greater}
+use Rattle.std.specs.FinMap.{get, insert, get-insert, slice_cmp-IsAntisymmetric, nat_cmp-IsAntisymmetric}
+use Rattle.coding.specs.declared.error.DbError.{DbError}
+use Rattle.coding.specs.declared.error.DbError.TheVariants.{OutOfMemory, Io, Unsupported}
+use Rattle.filter.specs.Builder.{GivesUpOnly}
+use Rattle.store.specs.Files.{Facts, Files, Appends, AppendsBeginning}
+use Rattle.store.specs.Calls.{Counts, Changes}
+use Rattle.store.specs.declared.error.StoreError.{StoreError}
+use Rattle.store.specs.declared.error.StoreError.TheVariants as store_error
+use Rattle.table.specs.Reading.{HasFile}
+use Rattle.table.specs.Steps.{Appended}
+use Rattle.table.specs.Writing.{KeepsOthers, Writes, WriteRefuses}
+
+-- ---- look-ups
+
+equal_of : (r : Ordering) → is_eq r ≡ true → r ≡ Equal
+equal_of Less e = cc
+equal_of Equal e = refl
+equal_of Greater e = cc
+
+other_at : (b : Bool) (x y : Option (List ℕ)) → (b ≡ true → ⊥) → cond b x y ≡ y
+other_at true x y h = absurd (h refl)
+other_at false x y h = refl
+
+get_other : (files : Files) (name file other : List ℕ) → other ≢ name → get (insert files name file) other ≡ get files other
+get_other files name file other apart =
+    get-insert nat_list_cmp_total files name file other
+    ∙ other_at (eq_by_cmp (slice_cmp nat_cmp) other name) (Some file) (get files other) (λ is. apart (slice_cmp-IsAntisymmetric nat_cmp-IsAntisymmetric other name (equal_of (slice_cmp nat_cmp other name) is)))
+
+get_same : (files : Files) (name file : List ℕ) → get (insert files name file) name ≡ Some file
+get_same files name file = get-insert nat_list_cmp_total files name file name ∙ ap (λ (b : Bool). cond b (Some file) (get files name)) (ap is_eq (tied_itself nat_list_cmp_total name))
+
+same_others : (old new : Files) (name : List ℕ) → new ≡ old → KeepsOthers old new name
+same_others old new name is other apart = ap (λ (f : Files). get f other) is
+
+put_others : (old new : Files) (name bytes : List ℕ) → new ≡ insert old name bytes → KeepsOthers old new name
+put_others old new name bytes is other apart = ap (λ (f : Files). get f other) is ∙ get_other old name bytes other apart
+
+-- ---- the store's calls
+
+writes : {T : Type 0} (old new : Facts) (name : List ℕ) (result : Result T StoreError) → Counts old new result → new.denials ≡ old.denials → (IsTrue new.faithful → KeepsOthers old.files new.files name) → Writes old new name
+writes old new name result counts undenied others = record { faithful = counts.faithful; failures = counts.failures; denials = undenied; others = others }
+
+abbrev Made : List ℕ → Files → Files → Type 0
+Made name old new = new ≡ insert old name []
+
+abbrev MayBeMade : List ℕ → Files → Files → Type 0
+MayBeMade name old new = (new ≡ old) ⊎ (new ≡ insert old name [])
+
+abbrev Longer : List ℕ → List ℕ → Files → Files → Type 0
+Longer name bytes old new = Appends old new name bytes
+
+abbrev MayBeLonger : List ℕ → List ℕ → Files → Files → Type 0
+MayBeLonger name bytes old new = AppendsBeginning old new name bytes
+
+abbrev done : Result (Unit {0}) StoreError
+done = Ok tt
+
+made_others : (old new : Files) (name : List ℕ) → MayBeMade name old new → KeepsOthers old new name
+made_others old new name (inl is) = same_others old new name is
+made_others old new name (inr is) = put_others old new name [] is
+
+longer_others : (old new : Files) (name bytes : List ℕ) → MayBeLonger name bytes old new → KeepsOthers old new name
+longer_others old new name bytes (inl is) = same_others old new name is
+longer_others old new name bytes (inr some) = put_others old new name (some.1.0 ++ take some.0 bytes) some.1.2
+
+pub create_writes : (old new : Facts) (name : List ℕ) → Counts old new done → new.denials ≡ old.denials → Changes old new done (Made name) (MayBeMade name) → Writes old new name
+create_writes old new name counts undenied files = writes old new name done counts undenied (λ t. put_others old.files new.files name [] (files.ok t))
+
+pub create_makes : (old new : Facts) (name : List ℕ) → Changes old new done (Made name) (MayBeMade name) → IsTrue new.faithful → HasFile new name []
+create_makes old new name files t = ap (λ (f : Files). get f name) (files.ok t) ∙ get_same old.files name []
+
+pub create_refused : (old new : Facts) (name : List ℕ) (e : StoreError) → Counts {T = Unit {0}} old new (Err e) → new.denials ≡ old.denials → Changes {T = Unit {0}} old new (Err e) (Made name) (MayBeMade name) → (e ≡ store_error.Missing → ⊥) → Writes old new name
+create_refused old new name store_error.Memory counts undenied files there = writes old new name _ counts undenied (λ t. same_others old.files new.files name (files.memory t refl))
+create_refused old new name store_error.Missing counts undenied files there = absurd (there refl)
+create_refused old new name store_error.Device counts undenied files there = writes old new name _ counts undenied (λ t. made_others old.files new.files name (files.device t refl))
+
+pub append_writes : (old new : Facts) (name bytes : List ℕ) → Counts old new done → new.denials ≡ old.denials → Changes old new done (Longer name bytes) (MayBeLonger name bytes) → Writes old new name
+append_writes old new name bytes counts undenied files = writes old new name done counts undenied (λ t. let a = files.ok t in put_others old.files new.files name (a.0 ++ bytes) a.2)
+
+pub append_appends : (old new : Facts) (name bytes : List ℕ) → Changes old new done (Longer name bytes) (MayBeLonger name bytes) → Appended old new name bytes
+append_appends old new name bytes files t before there =
+    let a = files.ok t in
+    let same : a.0 ≡ before = let e : Some a.0 ≡ Some before = sym a.1 ∙ there in cc in
+    ap (λ (f : Files). get f name) a.2 ∙ get_same old.files name (a.0 ++ bytes) ∙ ap (λ (v : List ℕ). Some (v ++ bytes)) same
+
+pub append_refused : (old new : Facts) (name bytes : List ℕ) (e : StoreError) → Counts {T = Unit {0}} old new (Err e) → new.denials ≡ old.denials → Changes {T = Unit {0}} old new (Err e) (Longer name bytes) (MayBeLonger name bytes) → (e ≡ store_error.Missing → ⊥) → Writes old new name
+append_refused old new name bytes store_error.Memory counts undenied files there = writes old new name _ counts undenied (λ t. same_others old.files new.files name (files.memory t refl))
+append_refused old new name bytes store_error.Missing counts undenied files there = absurd (there refl)
+append_refused old new name bytes store_error.Device counts undenied files there = writes old new name _ counts undenied (λ t. longer_others old.files new.files name bytes (files.device t refl))
+
+-- ---- one call after another
+
+pub writes_none : (old : Facts) (name : List ℕ) → Writes old old name
+writes_none old name = record { faithful = λ t. t; failures = omega arith; denials = refl; others = λ t other apart. refl }
+
+pub writes_then : (a b c : Facts) (name : List ℕ) → Writes a b name → Writes b c name → Writes a c name
+writes_then a b c name h k = record {
+  faithful = λ t. h.faithful (k.faithful t);
+  failures = omega (arith, h.failures, k.failures);
+  denials = k.denials ∙ h.denials;
+  others = λ t other apart. k.others t other apart ∙ h.others (k.faithful t) other apart;
+}
+
+pub refuses_more : (e : DbError) (old new : Facts) (P Q : Type 0) → (P → Q) → WriteRefuses e old new P → WriteRefuses e old new Q
+refuses_more OutOfMemory old new P Q f h = tt
+refuses_more Io old new P Q f h = h
+refuses_more (Unsupported what) old new P Q f h = f h
+refuses_more _ old new P Q f h = absurd h
+
+pub refuses_later : (e : DbError) (a b c : Facts) (P Q : Type 0) → (P → Q) → a.failures ≤ b.failures → WriteRefuses e b c P → WriteRefuses e a c Q
+refuses_later OutOfMemory a b c P Q f le h = tt
+refuses_later Io a b c P Q f le h = omega (arith, le, h)
+refuses_later (Unsupported what) a b c P Q f le h = f h
+refuses_later _ a b c P Q f le h = absurd h
+
+-- a refusal before the store is called
+pub gives_up : (e : DbError) (old new : Facts) (P Q : Type 0) → (P → Q) → GivesUpOnly e P → WriteRefuses e old new Q
+gives_up OutOfMemory old new P Q f h = tt
+gives_up (Unsupported what) old new P Q f h = f h
+gives_up _ old new P Q f h = absurd h
+
+pub only_gives_up : (e : DbError) (P Q : Type 0) → (P → Q) → GivesUpOnly e P → GivesUpOnly e Q
+only_gives_up OutOfMemory P Q f h = tt
+only_gives_up (Unsupported what) P Q f h = f h
+only_gives_up _ P Q f h = absurd h

@@ -1,0 +1,34 @@
+//! Writing a table file to a store.
+
+ghost use Rattle.std.specs.Prelude.{◌≡◌, [], List, IsTrue, IfErr, OnOk};
+ghost use Rattle.table.specs.Reading.{HasFile};
+ghost use Rattle.table.specs.Steps.{Appended};
+ghost use Rattle.table.specs.Writing.{Writes, WriteRefuses};
+
+use crate::reading::refusal;
+use coding::DbError;
+use store::Store;
+
+/// Creates the file, or empties the one that is there.
+pub fn create<S: Store>(store: &mut S, name: &str) -> Result<(), DbError>
+    ensures writes { Writes (S.facts store.old) (S.facts store.new) name.now }
+    ensures created { OnOk result (IsTrue (S.facts store.new).faithful → HasFile (S.facts store.new) name.now []) }
+    ensures refused { IfErr result (λ e. WriteRefuses e (S.facts store.old) (S.facts store.new) ⊥) }
+{
+    match store.create(name) {
+        Ok(()) => Ok(()),
+        Err(e) => Err(refusal(e)),
+    }
+}
+
+/// Writes bytes at the end of the file. A refusal may have written a beginning of them.
+pub fn append<S: Store>(store: &mut S, name: &str, bytes: &[u8]) -> Result<(), DbError>
+    ensures writes { Writes (S.facts store.old) (S.facts store.new) name.now }
+    ensures appended { OnOk result (Appended (S.facts store.old) (S.facts store.new) name.now bytes.now) }
+    ensures refused { IfErr result (λ e. WriteRefuses e (S.facts store.old) (S.facts store.new) ⊥) }
+{
+    match store.append(name, bytes) {
+        Ok(()) => Ok(()),
+        Err(e) => Err(refusal(e)),
+    }
+}
