@@ -1,5 +1,5 @@
 -- The lock around an open.
-use Rattle.std.proofs.Common.{◌≡◌, ◌≢◌, ◌⊎◌, ℕ, ◌+◌, ◌<◌, ◌≤◌, cond, Bool, true, false, List, [], map, length, Option, Some, None, is_some, MatchOption, Result, Ok, IsTrue, inl, inr, refl, sym, ap, subst, ◌∙◌, arith}
+use Rattle.std.proofs.Common.{◌≡◌, ◌≢◌, ◌⊎◌, ℕ, ◌+◌, ◌<◌, ◌≤◌, cond, Bool, true, false, List, [], map, length, Option, Some, None, is_some, MatchOption, Result, Ok, Err, IsTrue, inl, inr, refl, sym, ap, subst, ◌∙◌, arith}
 use Rattle.std.specs.Option.{option_or}
 use Rattle.std.specs.FinMap.{get, contains_key, insert}
 use Rattle.batch.specs.declared.operation.Operation.{Operation}
@@ -23,8 +23,9 @@ use Rattle.recover.proofs.Adding.{table_of}
 use Rattle.engine.specs.declared.command.Mode.{Mode}
 use Rattle.engine.specs.declared.command.Answer.{Answer}
 use Rattle.engine.specs.declared.command.Answer.TheVariants.{Refused}
+use Rattle.engine.specs.Calls.{RefusesLock, TakesLock}
 use Rattle.engine.specs.Machine.{Machine, Contents, current, after_batch}
-use Rattle.engine.specs.Step.{CountsRise, Becomes, Opens, OpenAnswered, OpenRefused, Interrupted}
+use Rattle.engine.specs.Step.{Counted, Becomes, Opens, OpenAnswered, OpenRefused, Interrupted}
 use Rattle.engine.specs.Directory.{Means, MeansAccepted, IsReadable, IsAtRest}
 use Rattle.engine.specs.Stands.{StandsClosed}
 use Rattle.engine.specs.Follows.{Leads}
@@ -133,31 +134,37 @@ module _ (order : Order) (old new : Files) (law : FreeChangeLaw) (only : OnlyLoc
 
 -- ---- taking the lock
 
-pub locked : (order : Order) (old new : Facts) (m : Machine) → FreeChangeLaw → old.failures ≤ new.failures → old.denials ≤ new.denials → MayLock old.files new.files → StandsClosed order old m → Rests order new m
-locked order old new m law failures denials may s = record {
-  failures = omega (arith, s.counts.failures, failures);
-  denials = omega (arith, s.counts.denials, denials);
+abbrev Same : Result (Unit {0}) DbError → Result (Unit {0}) DbError → Type 0
+Same a b = a ≡ b
+
+lock_held : Same (Ok tt) (Err error.Locked) → ⊥
+lock_held is = cc
+
+same_refusal : (e x : DbError) → Same (Err e) (Err x) → Refused e ≡ Refused x
+same_refusal e x is = (let same : e ≡ x = cc in ap (λ (y : DbError). Refused y) same)
+
+rest_locked : (order : Order) (old new : Facts) (m : Machine) → FreeChangeLaw → MayLock old.files new.files → StandsClosed order old m → IsAtRest order new.files m
+rest_locked order old new m law may s = rest_beside order old.files new.files law (may_lock_only old.files new.files may) m s.rest
+
+locked : (order : Order) (old new : Facts) (m : Machine) → FreeChangeLaw → TakesLock old new (Ok tt) → IsTrue new.faithful → StandsClosed order old m → Rests order new m
+locked order old new m law taken f s = record {
+  failures = omega (arith, s.counts.failures, taken.failures);
+  denials = s.counts.denials ∙ sym (taken.undenied lock_held);
   opened = s.opened;
   broken = s.broken;
   snapshots = s.snapshots;
-  rest = rest_beside order old.files new.files law (may_lock_only old.files new.files may) m s.rest;
+  rest = rest_locked order old new m law (taken.files f) s;
 }
 
-closed_of : (order : Order) (facts : Facts) (m : Machine) → Rests order facts m → StandsClosed order facts (counted facts m)
-closed_of order facts m r = record {
+-- where the lock wasn't taken
+closed_of : (order : Order) (old new : Facts) (m : Machine) → FreeChangeLaw → MayLock old.files new.files → StandsClosed order old m → StandsClosed order new (counted new m)
+closed_of order old new m law may s = record {
   counts = record { failures = refl; denials = refl };
-  opened = r.opened;
-  broken = r.broken;
-  snapshots = r.snapshots;
-  rest = let rest = r.rest in let k = rest.readable in record { meaning = rest.meaning; readable = record { made = k.made; numbers = k.numbers; plain = k.plain; limits = k.limits } };
+  opened = s.opened;
+  broken = s.broken;
+  snapshots = s.snapshots;
+  rest = let rest = rest_locked order old new m law may s in let k = rest.readable in record { meaning = rest.meaning; readable = record { made = k.made; numbers = k.numbers; plain = k.plain; limits = k.limits } };
 }
-
--- the lock was refused
-abbrev pub RefusesLock : DbError → Facts → Facts → Type 0
-RefusesLock error.OutOfMemory old new = Unit {0}
-RefusesLock error.Io old new = old.failures < new.failures
-RefusesLock error.Locked old new = old.denials < new.denials
-RefusesLock _ old new = ⊥
 
 lock_answer : (order : Order) (old new : Facts) (mode : Mode) (e : DbError) (m : Machine) → StandsClosed order old m → RefusesLock e old new → OpenRefused m mode e (counted new m)
 lock_answer order old new mode error.OutOfMemory m s h = (omega arith, λ made. made, refl)
@@ -165,15 +172,19 @@ lock_answer order old new mode error.Io m s h = (omega (arith, s.counts.failures
 lock_answer order old new mode error.Locked m s h = (omega (arith, s.counts.denials, h), refl)
 lock_answer order old new mode _ m s h = absurd h
 
-pub lock_refused : (order : Order) (old new : Facts) (mode : Mode) (e : DbError) → FreeChangeLaw → (IsTrue new.faithful → IsTrue old.faithful) → old.failures ≤ new.failures → old.denials ≤ new.denials → (IsTrue new.faithful → MayLock old.files new.files) → RefusesLock e old new
+pub lock_refused : (order : Order) (old new : Facts) (mode : Mode) (e : DbError) → FreeChangeLaw → TakesLock old new (Err e)
     → Leads old new (StandsClosed order old) (StandsClosed order new) (λ m n. Opens m mode (Refused e) n)
-lock_refused order old new mode e law faithful failures denials may cause = record {
-  faithful = faithful;
+lock_refused order old new mode e law asked = record {
+  faithful = asked.faithful;
   moved = λ f m s.
-      let rise : CountsRise m (counted new m) = record { failures = omega (arith, s.counts.failures, failures); denials = omega (arith, s.counts.denials, denials) } in (
+      let counts : Counted m (Refused e) (counted new m) = record {
+        failures = omega (arith, s.counts.failures, asked.failures);
+        denials = omega (arith, s.counts.denials, asked.denials);
+        undenied = λ other. asked.undenied (λ is. other (same_refusal e error.Locked is)) ∙ sym s.counts.denials;
+      } in (
         counted new m,
-        opens m (counted new m) mode (Refused e) s.opened rise (lock_answer order old new mode e m s cause),
-        closed_of order new m (locked order old new m law failures denials (may f) s),
+        opens m (counted new m) mode (Refused e) s.opened counts (lock_answer order old new mode e m s asked.refused),
+        closed_of order old new m law (asked.files f) s,
       );
 }
 
@@ -199,20 +210,26 @@ answered_open : (m n : Machine) (mode : Mode) (answer : Answer) → m.opened ≡
 answered_open m n mode answer is h =
     subst (λ (o : Option DbError). MatchOption o (OpenAnswered m mode answer n) (λ e. (answer ≡ Refused e) × Becomes m n)) (no_open_cause m is) h.1
 
-pub unlocked : (order : Order) (old mid new last : Facts) (mode : Mode) (e : DbError) → FreeChangeLaw → Counts {T = Bool} old mid (Ok true) → (IsTrue mid.faithful → MayLock old.files mid.files)
-    → Leads mid new (Rests order mid) (StandsClosed order new) (λ m n. Opens m mode (Refused e) n) → {r : Result (Unit {0}) _} → Counts {T = Unit {0}} new last r → Keeps new last
+pub unlocked : (order : Order) (old mid new last : Facts) (mode : Mode) (e : DbError) → FreeChangeLaw → TakesLock old mid (Ok tt)
+    → Leads mid new (Rests order mid) (StandsClosed order new) (λ m n. Opens m mode (Refused e) n) → {r : Result (Unit {0}) _} → Counts {T = Unit {0}} new last r → last.denials ≡ new.denials → Keeps new last
     → Leads old last (StandsClosed order old) (StandsClosed order last) (λ m n. Opens m mode (Refused e) n)
-unlocked order old mid new last mode e law taken may opened counts same = record {
+unlocked order old mid new last mode e law taken opened counts kept same = record {
   faithful = λ f. taken.faithful (opened.faithful (counts.faithful f));
   moved = λ f m s.
       let g = counts.faithful f in
-      let there = opened.moved g m (locked order old mid m law taken.failures taken.denials (may (opened.faithful g)) s) in
+      let there = opened.moved g m (locked order old mid m law taken (opened.faithful g) s) in
       let n = there.0 in
       let after = there.2 in
-      let rise : CountsRise m (counted last n) = record { failures = (let a = there.1.0.failures in omega (arith, a, after.counts.failures, counts.failures)); denials = (let b = there.1.0.denials in omega (arith, b, after.counts.denials, counts.denials)) } in
+      let before : Counted m (Refused e) n = there.1.0 in
+      let still : last.denials ≡ n.denials = kept ∙ sym after.counts.denials in
+      let all : Counted m (Refused e) (counted last n) = record {
+        failures = omega (arith, before.failures, after.counts.failures, counts.failures);
+        denials = omega (arith, before.denials, still);
+        undenied = λ other. still ∙ before.undenied other;
+      } in
       let answered = answered_open m n mode (Refused e) s.opened there.1 in (
         counted last n,
-        opens m (counted last n) mode (Refused e) s.opened rise (refused_more m n mode e last (omega (arith, after.counts.failures, counts.failures)) (omega (arith, after.counts.denials, counts.denials)) answered),
+        opens m (counted last n) mode (Refused e) s.opened all (refused_more m n mode e last (omega (arith, after.counts.failures, counts.failures)) (omega (arith, still)) answered),
         record {
           counts = record { failures = refl; denials = refl };
           opened = after.opened;
@@ -223,9 +240,9 @@ unlocked order old mid new last mode e law taken may opened counts same = record
       );
 }
 
-pub held : (order : Order) (old mid new : Facts) (mode : Mode) (after : Machine → Type 0) (moves : Machine → Machine → Type 0) → FreeChangeLaw → Counts {T = Bool} old mid (Ok true) → (IsTrue mid.faithful → MayLock old.files mid.files)
+pub held : (order : Order) (old mid new : Facts) (mode : Mode) (after : Machine → Type 0) (moves : Machine → Machine → Type 0) → FreeChangeLaw → TakesLock old mid (Ok tt)
     → Leads mid new (Rests order mid) after moves → Leads old new (StandsClosed order old) after moves
-held order old mid new mode after moves law taken may opened = record {
+held order old mid new mode after moves law taken opened = record {
   faithful = λ f. taken.faithful (opened.faithful f);
-  moved = λ f m s. opened.moved f m (locked order old mid m law taken.failures taken.denials (may (opened.faithful f)) s);
+  moved = λ f m s. opened.moved f m (locked order old mid m law taken (opened.faithful f) s);
 }

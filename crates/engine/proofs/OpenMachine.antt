@@ -16,17 +16,18 @@ use Rattle.recover.specs.Laws.{OneDirectoryLaw}
 use Rattle.recover.specs.Reading.{IsBeyondReading}
 use Rattle.engine.specs.declared.command.Mode.{Mode}
 use Rattle.engine.specs.declared.command.Mode.TheVariants.{Existing, New, Any}
+use Rattle.engine.specs.declared.command.Answer.{Answer}
 use Rattle.engine.specs.declared.command.Answer.TheVariants.{Done, Refused}
 use Rattle.engine.specs.declared.finding.Found.{Found}
 use Rattle.engine.specs.declared.state.DbState.{DbState}
 use Rattle.engine.specs.Machine.{Machine, Contents, current, after_batch}
-use Rattle.engine.specs.Step.{CountsRise, open_cause, Opens, OpenAnswered, OpenRefused, Interrupted, Opened, Settles, Allows}
+use Rattle.engine.specs.Step.{Counted, open_cause, Opens, OpenAnswered, OpenRefused, Interrupted, Opened, Settles, Allows}
 use Rattle.engine.specs.Entries.{IsView, AllUpTo}
 use Rattle.engine.specs.Directory.{Means, MeansAccepted, IsReadable, IsAtRest}
 use Rattle.engine.specs.Stands.{IsBroken, IsServing, StandsOpen, StandsClosed}
 use Rattle.engine.specs.Follows.{Leads}
 use Rattle.engine.specs.Opening.{Finds, AllowsFiles, RefusesOpen, Rewrites, Rests}
-use Rattle.engine.proofs.Steps.{without_cause}
+use Rattle.engine.proofs.Steps.{without_cause, denies_none}
 use Rattle.engine.proofs.Reopening.{entries_found}
 use Rattle.engine.proofs.WriteSteps.{after_batches-push}
 
@@ -37,8 +38,8 @@ counted facts m = record m { failures = facts.failures; denials = facts.denials 
 pub no_open_cause : (m : Machine) → m.opened ≡ false → open_cause m ≡ None
 no_open_cause m is = ap (λ (b : Bool). cond b (cond m.broken (Some error.Broken) (Some error.AlreadyOpen)) None) is
 
-pub opens : (m n : Machine) (mode : Mode) (answer : _) → m.opened ≡ false → CountsRise m n → OpenAnswered m mode answer n → Opens m mode answer n
-opens m n mode answer is rise h = without_cause (open_cause m) m n answer (OpenAnswered m mode answer n) (no_open_cause m is) rise h
+pub opens : (m n : Machine) (mode : Mode) (answer : _) → m.opened ≡ false → Counted m answer n → OpenAnswered m mode answer n → Opens m mode answer n
+opens m n mode answer is counts h = without_cause (open_cause m) m n answer (OpenAnswered m mode answer n) (no_open_cause m is) counts h
 
 -- ---- what is known of the directory
 
@@ -101,16 +102,16 @@ closed_counted order old new m same r = record {
   rest = subst (λ (fs : Files). IsAtRest order fs (counted new m)) (sym same) (let rest = r.rest in let k = rest.readable in record { meaning = rest.meaning; readable = record { made = k.made; numbers = k.numbers; plain = k.plain; limits = k.limits } });
 }
 
-rises : (old new : Facts) (order : Order) (m : Machine) → Rests order old m → old.failures ≤ new.failures → old.denials ≤ new.denials → CountsRise m (counted new m)
-rises old new order m r failures denials = record { failures = omega (arith, r.failures, failures); denials = omega (arith, r.denials, denials) }
+counts_more : (old new : Facts) (order : Order) (m : Machine) (answer : Answer) → Rests order old m → old.failures ≤ new.failures → new.denials ≡ old.denials → Counted m answer (counted new m)
+counts_more old new order m answer r failures denials = denies_none m (counted new m) answer (omega (arith, r.failures, failures)) (denials ∙ sym r.denials)
 
-pub not_found : (order : Order) (old new : Facts) (mode : Mode) (e : DbError) → (IsTrue new.faithful → IsTrue old.faithful) → old.failures ≤ new.failures → old.denials ≤ new.denials → (IsTrue new.faithful → new.files ≡ old.files)
+pub not_found : (order : Order) (old new : Facts) (mode : Mode) (e : DbError) → (IsTrue new.faithful → IsTrue old.faithful) → old.failures ≤ new.failures → new.denials ≡ old.denials → (IsTrue new.faithful → new.files ≡ old.files)
     → (IsTrue new.faithful → RefusesOpen order mode e old new) → Leads old new (Rests order old) (StandsClosed order new) (λ m n. Opens m mode (Refused e) n)
 not_found order old new mode e faithful failures denials same h = record {
   faithful = faithful;
   moved = λ f m r. (
     counted new m,
-    opens m (counted new m) mode (Refused e) r.opened (rises old new order m r failures denials) (refused_open order old new mode e m r f (h f)),
+    opens m (counted new m) mode (Refused e) r.opened (counts_more old new order m (Refused e) r failures denials) (refused_open order old new mode e m r f (h f)),
     closed_counted order old new m (same f) r,
   );
 }
@@ -248,14 +249,14 @@ allows Any order files m k h = tt
 still_resting : (order : Order) (old mid : Facts) (m : Machine) → mid.files ≡ old.files → Rests order old m → IsAtRest order mid.files m
 still_resting order old mid m same r = subst (λ (fs : Files). IsAtRest order fs m) (sym same) r.rest
 
-interrupted_open : (order : Order) (old mid new : Facts) (mode : Mode) (found : Found) (e : DbError) (m : Machine) → OneDirectoryLaw → Rests order old m → old.failures ≤ mid.failures → old.denials ≤ mid.denials → mid.files ≡ old.files
+interrupted_open : (order : Order) (old mid new : Facts) (mode : Mode) (found : Found) (e : DbError) (m : Machine) → OneDirectoryLaw → Rests order old m → old.failures ≤ mid.failures → mid.denials ≡ old.denials → mid.files ≡ old.files
     → Finds order mid.files found → IsTrue new.faithful → Rewrites {T = Unit {0}} order mid new found (Err e) → (e ≡ error.OutOfMemory) ⊎ (e ≡ error.Io)
     → (n : Machine) × Opens m mode (Refused e) n × StandsClosed order new n
 interrupted_open order old mid new mode found e m one r failures denials same h f w cause =
     let rest = still_resting order old mid m same r in
     let continued = w.continued f h in
     let n : Machine = record m { made = contains_key new.files (name_of Current); numbers = m.numbers + 2; failures = new.failures; denials = new.denials } in
-    let rise : CountsRise m n = record { failures = omega (arith, r.failures, failures, w.call.failures); denials = omega (arith, r.denials, denials, w.call.denials) } in
+    let counts = denies_none m n (Refused e) (omega (arith, r.failures, failures, w.call.failures)) (w.call.denials ∙ denials ∙ sym r.denials) in
     let interrupted : Interrupted m n = (omega arith, λ made. continued.made (sym rest.readable.made ∙ made), refl) in
     let refused : OpenRefused m mode e n = elim cause [
       | inl memory ↦ subst (λ (x : DbError). OpenRefused m mode x n) (sym memory) interrupted
@@ -263,7 +264,7 @@ interrupted_open order old mid new mode found e m one r failures denials same h 
           (let rose : mid.failures < new.failures = w.call.io (ap (λ (x : DbError). Err x) io) in omega (arith, r.failures, failures, rose), interrupted)
     ] in (
       n,
-      opens m n mode (Refused e) r.opened rise refused,
+      opens m n mode (Refused e) r.opened counts refused,
       record {
         counts = record { failures = refl; denials = refl };
         opened = r.opened;
@@ -276,7 +277,7 @@ interrupted_open order old mid new mode found e m one r failures denials same h 
       },
     )
 
-finished_open : (order : Order) (old mid new : Facts) (mode : Mode) (found : Found) (state : DbState) (m : Machine) → OneDirectoryLaw → Rests order old m → old.failures ≤ mid.failures → old.denials ≤ mid.denials → mid.files ≡ old.files
+finished_open : (order : Order) (old mid new : Facts) (mode : Mode) (found : Found) (state : DbState) (m : Machine) → OneDirectoryLaw → Rests order old m → old.failures ≤ mid.failures → mid.denials ≡ old.denials → mid.files ≡ old.files
     → Finds order mid.files found → AllowsFiles mode mid.files → IsTrue new.faithful → Rewrites {T = Unit {0}} order mid new found (Ok tt)
     → state.table.entries.items ≡ found.entries.items → state.sequence ≡ found.used → state.log.number ≡ found.number + 1 → state.log.end ≡ 0 → string_bytes state.log.name ≡ name_of (Log (found.number + 1)) → state.broken ≡ false → found.used < 2 ^ 56
     → (n : Machine) × Opens m mode Done n × StandsOpen order new state n
@@ -288,10 +289,10 @@ finished_open order old mid new mode found state m one r failures denials same h
     let s = settled.0 in
     let is = settled.1 in
     let n : Machine = record s { made = true; opened = true; numbers = m.numbers + 2; failures = new.failures; denials = new.denials } in
-    let rise : CountsRise m n = record { failures = omega (arith, r.failures, failures, w.call.failures); denials = omega (arith, r.denials, denials, w.call.denials) } in
+    let counts = denies_none m n Done (omega (arith, r.failures, failures, w.call.failures)) (w.call.denials ∙ denials ∙ sym r.denials) in
     let opened : Opened m n = (s, is.settles, omega arith, refl) in (
       n,
-      opens m n mode Done r.opened rise (allows mode order mid.files m rest.readable allowed, opened),
+      opens m n mode Done r.opened counts (allows mode order mid.files m rest.readable allowed, opened),
       record {
         counts = record { failures = refl; denials = refl };
         opened = refl;
@@ -311,7 +312,7 @@ finished_open order old mid new mode found state m one r failures denials same h
     )
 
 -- the writing ended
-pub open_interrupted : (order : Order) (old mid new : Facts) (mode : Mode) (found : Found) (e : DbError) → OneDirectoryLaw → (IsTrue mid.faithful → IsTrue old.faithful) → old.failures ≤ mid.failures → old.denials ≤ mid.denials → (IsTrue mid.faithful → mid.files ≡ old.files)
+pub open_interrupted : (order : Order) (old mid new : Facts) (mode : Mode) (found : Found) (e : DbError) → OneDirectoryLaw → (IsTrue mid.faithful → IsTrue old.faithful) → old.failures ≤ mid.failures → mid.denials ≡ old.denials → (IsTrue mid.faithful → mid.files ≡ old.files)
     → (IsTrue mid.faithful → Finds order old.files found) → Rewrites {T = Unit {0}} order mid new found (Err e) → Leads old new (Rests order old) (StandsClosed order new) (λ m n. Opens m mode (Refused e) n)
 open_interrupted order old mid new mode found e one faithful failures denials same finds w = record {
   faithful = λ f. faithful (w.call.faithful f);
@@ -321,7 +322,7 @@ open_interrupted order old mid new mode found e one faithful failures denials sa
       interrupted_open order old mid new mode found e m one r failures denials (same g) there f w w.call.errors;
 }
 
-pub open_finished : (order : Order) (old mid new : Facts) (mode : Mode) (found : Found) (state : DbState) → OneDirectoryLaw → (IsTrue mid.faithful → IsTrue old.faithful) → old.failures ≤ mid.failures → old.denials ≤ mid.denials → (IsTrue mid.faithful → mid.files ≡ old.files)
+pub open_finished : (order : Order) (old mid new : Facts) (mode : Mode) (found : Found) (state : DbState) → OneDirectoryLaw → (IsTrue mid.faithful → IsTrue old.faithful) → old.failures ≤ mid.failures → mid.denials ≡ old.denials → (IsTrue mid.faithful → mid.files ≡ old.files)
     → (IsTrue mid.faithful → Finds order old.files found) → (IsTrue mid.faithful → AllowsFiles mode old.files) → Rewrites {T = Unit {0}} order mid new found (Ok tt)
     → state.table.entries.items ≡ found.entries.items → state.sequence ≡ found.used → state.log.number ≡ found.number + 1 → state.log.end ≡ 0 → string_bytes state.log.name ≡ name_of (Log (found.number + 1)) → state.broken ≡ false → found.used < 2 ^ 56
     → Leads old new (Rests order old) (StandsOpen order new state) (λ m n. Opens m mode Done n)

@@ -16,7 +16,7 @@ use Rattle.engine.specs.declared.command.Answer.TheVariants.{Done, Value, Refuse
 use Rattle.engine.specs.declared.state.DbState.{DbState}
 use Rattle.engine.specs.declared.session.Session.{Session}
 use Rattle.engine.specs.Machine.{Machine, current, after_batch}
-use Rattle.engine.specs.Step.{Serves, CountsRise, Becomes, not_serving, no_snapshot, get_cause, open_cause, close_cause, Gets, Closes, closed, EndsClosed, Opens}
+use Rattle.engine.specs.Step.{Serves, Counted, Becomes, not_serving, no_snapshot, get_cause, open_cause, close_cause, Gets, Closes, closed, EndsClosed, Opens}
 use Rattle.std.specs.Option.{option_or}
 use Rattle.recover.specs.Directory.{IsAppendable}
 use Rattle.recover.proofs.Adding.{appendable_means}
@@ -30,16 +30,20 @@ use Rattle.engine.specs.Follows.{Leads, Follows, value_answer}
 pub stays : {S K : Type 0} (order : Order) (facts : S → Facts) (session : Session S K) (moves : Machine → Machine → Type 0) → ((m : Machine) → Stands order facts session m → moves m m) → Follows order facts session session moves
 stays order facts session moves h = record { faithful = λ f. f; moved = λ f m stands. (m, h m stands, stands) }
 
-pub same_counts : (m : Machine) → CountsRise m m
-same_counts m = record { failures = omega arith; denials = omega arith }
+-- calls of the store that deny nothing
+pub denies_none : (m n : Machine) (answer : Answer) → m.failures ≤ n.failures → n.denials ≡ m.denials → Counted m answer n
+denies_none m n answer failures denials = record { failures = failures; denials = omega (arith, denials); undenied = λ h. denials }
+
+pub same_counts : (m : Machine) (answer : Answer) → Counted m answer m
+same_counts m answer = denies_none m m answer (omega arith) refl
 
 -- a refusal by its cause
 pub by_cause : (cause : Option DbError) (m : Machine) (e : DbError) (served : Type 0) → cause ≡ Some e → Serves cause m (Refused e) m served
-by_cause cause m e served is = (same_counts m, subst (λ (o : Option DbError). MatchOption o served (λ e'. (Refused e ≡ Refused e') × Becomes m m)) (sym is) (refl, refl))
+by_cause cause m e served is = (same_counts m (Refused e), subst (λ (o : Option DbError). MatchOption o served (λ e'. (Refused e ≡ Refused e') × Becomes m m)) (sym is) (refl, refl))
 
 -- an answer where there is no cause
-pub without_cause : (cause : Option DbError) (m n : Machine) (answer : Answer) (served : Type 0) → cause ≡ None → CountsRise m n → served → Serves cause m answer n served
-without_cause cause m n answer served is rise h = (rise, subst (λ (o : Option DbError). MatchOption o served (λ e'. (answer ≡ Refused e') × Becomes m n)) (sym is) h)
+pub without_cause : (cause : Option DbError) (m n : Machine) (answer : Answer) (served : Type 0) → cause ≡ None → Counted m answer n → served → Serves cause m answer n served
+without_cause cause m n answer served is counts h = (counts, subst (λ (o : Option DbError). MatchOption o served (λ e'. (answer ≡ Refused e') × Becomes m n)) (sym is) h)
 
 -- ---- which causes a state has
 
@@ -65,7 +69,7 @@ got_at : (order : Order) (b : Bool) (facts : Facts) (state : DbState) (m : Machi
     → MatchBool b (IsBroken order facts.files m) (IsServing order facts.files state m) → Gets m key snapshot (Value value) m
 got_at order true facts state m key snapshot value o h rest = absurd (cc)
 got_at order false facts state m key None value o h rest =
-    without_cause (get_cause m None) m m (Value value) _ (ap (λ c. option_or c None) (no_cause m o rest.whole)) (same_counts m) (h (current m) rest.view, refl)
+    without_cause (get_cause m None) m m (Value value) _ (ap (λ c. option_or c None) (no_cause m o rest.whole)) (same_counts m _) (h (current m) rest.view, refl)
 got_at order false facts state m key (Some id) value o h rest = absurd (cc)
 
 pub got : (order : Order) (facts : Facts) (state : DbState) (m : Machine) (key : List ℕ) (snapshot : Option ℕ) (value : Option (List ℕ)) → ReadAnswer state key snapshot (Ok value) → StandsOpen order facts state m → Gets m key snapshot (Value value) m
@@ -79,7 +83,7 @@ refused_at order true facts state m key snapshot e o none h rest =
     by_cause (get_cause m snapshot) m e _ (ap (λ c. option_or c (no_snapshot m snapshot)) (broken_cause m o rest.broken) ∙ ap Some (sym is))
 refused_at order false facts state m key None e o none h rest =
     subst (λ (x : DbError). Gets m key None (Refused x) m) (sym h)
-    (without_cause (get_cause m None) m m (Refused error.OutOfMemory) _ (ap (λ c. option_or c None) (no_cause m o rest.whole)) (same_counts m) refl)
+    (without_cause (get_cause m None) m m (Refused error.OutOfMemory) _ (ap (λ c. option_or c None) (no_cause m o rest.whole)) (same_counts m _) refl)
 refused_at order false facts state m key (Some id) e o none h rest =
     let is : e ≡ error.NoSnapshot = cc in
     by_cause (get_cause m (Some id)) m e _
@@ -110,14 +114,14 @@ at_rest order false files state m rest = record {
   readable = rest.readable;
 }
 
-pub closes : (order : Order) (old new : Facts) (state : DbState) (m : Machine) → old.failures ≤ new.failures → old.denials ≤ new.denials → new.files ≡ old.files → StandsOpen order old state m
+pub closes : (order : Order) (old new : Facts) (state : DbState) (m : Machine) → old.failures ≤ new.failures → new.denials ≡ old.denials → new.files ≡ old.files → StandsOpen order old state m
     → (n : Machine) × Closes m Done n × StandsClosed order new n
 closes order old new state m failures denials files s =
     let n : Machine = record (closed m) { failures = new.failures; denials = new.denials } in
     let rest = at_rest order state.broken old.files state m s.rest in (
       n,
       without_cause (close_cause m) m n Done _ (ap (λ b. cond b None (Some error.NotOpen)) s.opened)
-          (record { failures = omega (arith, s.counts.failures, failures); denials = omega (arith, s.counts.denials, denials) }) refl,
+          (denies_none m n Done (omega (arith, s.counts.failures, failures)) (denials ∙ sym s.counts.denials)) refl,
       record {
         counts = record { failures = refl; denials = refl };
         opened = refl;
@@ -134,11 +138,11 @@ pub closes_none : (order : Order) (facts : Facts) (before after : Option DbState
 closes_none order facts None after test is = record { faithful = λ f. f; moved = λ f m s. (m, closed_already order facts m s, subst (λ (state : Option DbState). StandsOver order facts state m) (sym is) s) }
 closes_none order facts (Some state) after test is = absurd (cc)
 
-pub closes_some : (order : Order) (old new : Facts) (before after : Option DbState) → is_some before ≡ true → after ≡ None → {r : Result (Unit {0}) StoreError} → Counts old new r → Keeps old new → Leads old new (StandsOver order old before) (StandsOver order new after) (λ m n. Closes m Done n)
-closes_some order old new None after test is counts same = absurd (cc)
-closes_some order old new (Some state) after test is counts same = record {
+pub closes_some : (order : Order) (old new : Facts) (before after : Option DbState) → is_some before ≡ true → after ≡ None → {r : Result (Unit {0}) StoreError} → Counts old new r → new.denials ≡ old.denials → Keeps old new → Leads old new (StandsOver order old before) (StandsOver order new after) (λ m n. Closes m Done n)
+closes_some order old new None after test is counts denials same = absurd (cc)
+closes_some order old new (Some state) after test is counts denials same = record {
   faithful = counts.faithful;
-  moved = λ f m s. let end = closes order old new state m counts.failures counts.denials (same f) s in (end.0, end.1, subst (λ (st : Option DbState). StandsOver order new st end.0) (sym is) end.2);
+  moved = λ f m s. let end = closes order old new state m counts.failures denials (same f) s in (end.0, end.1, subst (λ (st : Option DbState). StandsOver order new st end.0) (sym is) end.2);
 }
 
 -- ---- open
@@ -156,7 +160,7 @@ opened_already order facts state m mode e is s = refuses_at order state.broken f
 -- an open for which there was no memory before it did anything
 pub not_begun : (order : Order) (facts : Facts) (m : Machine) (mode : Mode) → StandsClosed order facts m → Opens m mode (Refused error.OutOfMemory) m
 not_begun order facts m mode s =
-    without_cause (open_cause m) m m (Refused error.OutOfMemory) _ (ap (λ x. cond x (cond m.broken (Some error.Broken) (Some error.AlreadyOpen)) None) s.opened) (same_counts m)
+    without_cause (open_cause m) m m (Refused error.OutOfMemory) _ (ap (λ x. cond x (cond m.broken (Some error.Broken) (Some error.AlreadyOpen)) None) s.opened) (same_counts m _)
     (omega arith, λ h. h, refl)
 
 -- ---- the end of a session
@@ -165,9 +169,9 @@ pub ends_none : (order : Order) (facts : Facts) (before : Option DbState) → is
 ends_none order facts None test = record { faithful = λ f. f; moved = λ f m s. (m, inl (s.opened, refl), s) }
 ends_none order facts (Some state) test = absurd (cc)
 
-pub ends_some : (order : Order) (old new : Facts) (before : Option DbState) → is_some before ≡ true → {r : Result (Unit {0}) StoreError} → Counts old new r → Keeps old new → Leads old new (StandsOver order old before) (StandsClosed order new) EndsClosed
-ends_some order old new None test counts same = absurd (cc)
-ends_some order old new (Some state) test counts same = record {
+pub ends_some : (order : Order) (old new : Facts) (before : Option DbState) → is_some before ≡ true → {r : Result (Unit {0}) StoreError} → Counts old new r → new.denials ≡ old.denials → Keeps old new → Leads old new (StandsOver order old before) (StandsClosed order new) EndsClosed
+ends_some order old new None test counts denials same = absurd (cc)
+ends_some order old new (Some state) test counts denials same = record {
   faithful = counts.faithful;
-  moved = λ f m s. let end = closes order old new state m counts.failures counts.denials (same f) s in (end.0, inr end.1, end.2);
+  moved = λ f m s. let end = closes order old new state m counts.failures denials (same f) s in (end.0, inr end.1, end.2);
 }

@@ -22,7 +22,7 @@ use Rattle.engine.specs.Stands.{IsServing, IsBroken, StandsOpen, StandsClosed, S
 use Rattle.engine.specs.declared.log.LogError.TheVariants.{Device}
 use Rattle.engine.specs.Logs.{Logs}
 use Rattle.engine.specs.Follows.{Leads, LeadsOpen}
-use Rattle.engine.proofs.Steps.{same_counts, by_cause, without_cause, broken_cause, no_cause, closed_cause}
+use Rattle.engine.proofs.Steps.{denies_none, same_counts, by_cause, without_cause, broken_cause, no_cause, closed_cause}
 use Rattle.engine.proofs.Views.{view_batch}
 
 -- a call that changes nothing
@@ -87,7 +87,7 @@ write_ok order old new before after (operation ∷ rest) end fault some whole wi
           let directory = logs.ok f before.table.entries.items serving.named serving.directory in (
             n,
             without_cause (write_cause m operations) m n Done (Becomes (accepted m operations) n) (write_free order old before m operations fault whole within s)
-                (record { failures = omega (arith, s.counts.failures, logs.failures); denials = omega (arith, s.counts.denials, logs.denials) }) refl,
+                (denies_none m n Done (omega (arith, s.counts.failures, logs.failures)) (logs.denials ∙ sym s.counts.denials)) refl,
             record {
               counts = record { failures = refl; denials = refl };
               opened = s.opened;
@@ -109,7 +109,7 @@ write_ok order old new before after (operation ∷ rest) end fault some whole wi
 
 pub write_empty : (order : Order) (facts : Facts) (state : DbState) (operations : List Operation) → length operations ≡ 0 → first_refusal [] operations ≡ None → state.broken ≡ false → LeadsOpen order facts facts state state (λ m n. Writes m operations Done n)
 write_empty order facts state [] none fault whole = stays_open order facts state _ (λ m s.
-    without_cause (write_cause m []) m m Done _ (write_free order facts state m [] fault whole (let fits = (serving_of order facts state m whole s).fits in omega (arith, fits)) s) (same_counts m) refl)
+    without_cause (write_cause m []) m m Done _ (write_free order facts state m [] fault whole (let fits = (serving_of order facts state m whole s).fits in omega (arith, fits)) s) (same_counts m _) refl)
 write_empty order facts state (operation ∷ rest) none fault whole = absurd (omega arith)
 
 some_operation : (operations : List Operation) → length operations ≢ 0 → operations ≢ []
@@ -117,7 +117,7 @@ some_operation operations some is = some (ap length is)
 
 -- want of memory leaves the database as it was
 pub write_memory : (order : Order) (old new : Facts) (before after : DbState) (operations : List Operation) → first_refusal [] operations ≡ None → length operations ≢ 0 → before.broken ≡ false → before.sequence + length operations ≤ 72057594037927935
-    → (IsTrue new.faithful → IsTrue old.faithful) → old.failures ≤ new.failures → old.denials ≤ new.denials → (IsTrue new.faithful → new.files ≡ old.files)
+    → (IsTrue new.faithful → IsTrue old.faithful) → old.failures ≤ new.failures → new.denials ≡ old.denials → (IsTrue new.faithful → new.files ≡ old.files)
     → after.table.entries.items ≡ before.table.entries.items → after.sequence ≡ before.sequence → after.log ≡ before.log → after.broken ≡ false
     → LeadsOpen order old new before after (λ m n. Writes m operations (Refused error.OutOfMemory) n)
 write_memory order old new before after operations fault some whole within faithful failures denials files items sequence log still = record {
@@ -127,7 +127,7 @@ write_memory order old new before after operations fault some whole within faith
       let n : Machine = record m { failures = new.failures; denials = new.denials } in (
         n,
         without_cause (write_cause m operations) m n (Refused error.OutOfMemory) _ (write_free order old before m operations fault whole within s)
-            (record { failures = omega (arith, s.counts.failures, failures); denials = omega (arith, s.counts.denials, denials) }) (some_operation operations some, refl),
+            (denies_none m n _ (omega (arith, s.counts.failures, failures)) (denials ∙ sym s.counts.denials)) (some_operation operations some, refl),
         record {
           counts = record { failures = refl; denials = refl };
           opened = s.opened;
@@ -165,7 +165,7 @@ write_io order old new before after operations fault some whole within logs stil
       λ d. record { entries = before.table.entries.items ++ entries_of (before.sequence + 1) operations; spelled = rw (← used) d; view = rw (← used) views.0 } in (
         n,
         without_cause (write_cause m operations) m n (Refused error.Io) _ (write_free order old before m operations fault whole within s)
-            (record { failures = omega (arith, s.counts.failures, logs.failures); denials = omega (arith, s.counts.denials, logs.denials) })
+            (denies_none m n _ (omega (arith, s.counts.failures, logs.failures)) (logs.denials ∙ sym s.counts.denials))
             (some_operation operations some, (let rise : old.failures < new.failures = logs.counted refl in omega (arith, s.counts.failures, rise)), refl),
         record {
           counts = record { failures = refl; denials = refl };

@@ -138,7 +138,7 @@ pub record Rewrites {T : Type 0} (order : Order) (old new : Facts) (found : Foun
 -- The machine is at rest beside a store, which may have failed more often since.
 pub record Rests (order : Order) (facts : Facts) (m : Machine) : Type 0 where
   pub failures : m.failures ≤ facts.failures
-  pub denials : m.denials ≤ facts.denials
+  pub denials : m.denials ≡ facts.denials
   pub opened : m.opened ≡ false
   pub broken : m.broken ≡ false
   pub snapshots : m.snapshots ≡ []

@@ -1,5 +1,5 @@
 -- What holds of every command over whatever store, faithful or not, and whatever bytes it has.
-use Rattle.std.specs.Prelude.{◌≡◌, ◌⊎◌, ◌<◌, ◌≤◌, true, false, Option, Some, None, Result, Err, MatchResult, List, [], ◌∷◌}
+use Rattle.std.specs.Prelude.{◌≡◌, ◌≢◌, ◌⊎◌, ◌<◌, ◌≤◌, true, false, Option, Some, None, Result, Err, MatchResult, List, [], ◌∷◌}
 use Rattle.batch.specs.declared.operation.Operation.{Operation}
 use Rattle.coding.specs.declared.error.DbError.{DbError}
 use Rattle.coding.specs.declared.error.DbError.TheVariants as error
@@ -90,12 +90,13 @@ KeepsState old new (Some before) (Some after) = Keeps old new before after
 
 -- ---- counts
 
--- `Io` is answered only where the store failed meanwhile, `Locked` only where it denied the lock.
+-- `Io` is answered only where the store failed meanwhile, `Locked` exactly where it denied the lock.
 pub record IsCounted (old new : Facts) (answer : Answer) : Type 0 where
   pub failures : old.failures ≤ new.failures
   pub denials : old.denials ≤ new.denials
   pub io : answer ≡ Refused error.Io → old.failures < new.failures
   pub locked : answer ≡ Refused error.Locked → old.denials < new.denials
+  pub undenied : answer ≢ Refused error.Locked → new.denials ≡ old.denials
 
 -- ---- the whole
 
@@ -141,7 +142,7 @@ WritesEmpty operations old new answer = IsEmptyWrite operations old.state old.st
 -- the same of the parts of a database
 pub record DbOutcome {T : Type 0} (may : DbError → Type 0) (old new : Facts) (before after : DbState) (result : Result T DbError) : Type 0 where
   pub failures : old.failures ≤ new.failures
-  pub denials : old.denials ≤ new.denials
+  pub denials : new.denials ≡ old.denials
   pub io : result ≡ Err error.Io → old.failures < new.failures
   pub allowed : MatchResult result (λ x. Unit {0}) may
   pub refused : MatchResult result (λ x. Unit {0}) (λ e. Keeps old new before after)
@@ -152,6 +153,7 @@ pub record OpenOutcome {T : Type 0} (old new : Facts) (result : Result T DbError
   pub denials : old.denials ≤ new.denials
   pub io : result ≡ Err error.Io → old.failures < new.failures
   pub locked : result ≡ Err error.Locked → old.denials < new.denials
+  pub undenied : result ≢ Err error.Locked → new.denials ≡ old.denials
   pub allowed : MatchResult result (λ x. Unit {0}) MayRefuseOpen
 
 -- an open that was refused
@@ -160,6 +162,7 @@ pub record RefusedOpen (old new : Facts) (e : DbError) : Type 0 where
   pub denials : old.denials ≤ new.denials
   pub io : e ≡ error.Io → old.failures < new.failures
   pub locked : e ≡ error.Locked → old.denials < new.denials
+  pub undenied : e ≢ error.Locked → new.denials ≡ old.denials
   pub allowed : MayRefuseOpen e
 
 abbrev pub DbOutcomeOf : {S K T : Type 0} → (DbError → Type 0) → (S → Facts) → Db S K → Db S K → Result T DbError → Type 0

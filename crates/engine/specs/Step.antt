@@ -45,14 +45,16 @@ close_cause m = if m.opened then None else Some error.NotOpen
 abbrev pub Becomes : Machine → Machine → Type 0
 Becomes target new = new ≡ record target { failures = new.failures; denials = new.denials }
 
-pub record CountsRise (old new : Machine) : Type 0 where
+-- The counts don't fall, and only an answer of Locked raises that of denials.
+pub record Counted (old : Machine) (answer : Answer) (new : Machine) : Type 0 where
   pub failures : old.failures ≤ new.failures
   pub denials : old.denials ≤ new.denials
+  pub undenied : answer ≢ Refused error.Locked → new.denials ≡ old.denials
 
 -- A command with a cause is refused with it and changes nothing. Any other is served.
 abbrev pub Serves : Option DbError → Machine → Answer → Machine → Type 0 → Type 0
 Serves cause old answer new served =
-    CountsRise old new × MatchOption cause served (λ error. (answer ≡ Refused error) × Becomes old new)
+    Counted old answer new × MatchOption cause served (λ error. (answer ≡ Refused error) × Becomes old new)
 
 -- ---- write
 

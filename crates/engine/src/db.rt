@@ -54,6 +54,7 @@ impl<S: Store, K: KeyOrder> Db<S, K> {
         ensures ids { IfOk result (λ db. ids_of db ≡ ids) }
         // Over any store:
         ensures refused { IfErr result (λ e. RefusedOpen (S.facts store) (S.facts e.1) e.0) }
+        ensures undenied { IfOk result (λ db. (S.facts (db_store_of db)).denials ≡ (S.facts store).denials) }
     {
         let mut store = store;
         match open_store::<K, S>(alloc, &mut store, mode) {
@@ -100,6 +101,8 @@ impl<S: Store, K: KeyOrder> Db<S, K> {
         ensures step { Leads (S.facts (db_store_of self)) (S.facts result.0) (StandsDb (order_of K.name K.cmp) S.facts self) (StandsClosed (order_of K.name K.cmp) (S.facts result.0))
             (λ m n. Closes m Done n) }
         ensures ids { result.1 ≡ ids_of self }
+        // Over any store:
+        ensures undenied { (S.facts result.0).denials ≡ (S.facts (db_store_of self)).denials }
     {
         let Db {
             mut store,

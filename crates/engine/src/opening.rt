@@ -2,6 +2,7 @@
 
 ghost use Rattle.std.specs.Prelude.{◌≡◌};
 ghost use Rattle.ikey.specs.Orders.{order_of};
+ghost use Rattle.engine.specs.Calls.{TakesLock};
 ghost use Rattle.engine.specs.Step.{Opens};
 ghost use Rattle.engine.specs.Stands.{StandsClosed};
 ghost use Rattle.engine.specs.Follows.{Leads, unit_answer};
@@ -32,13 +33,7 @@ pub fn open_store<K: KeyOrder, S: Store>(
     ensures outcome { OpenOutcome (S.facts store.old) (S.facts store.new) result }
 {
     free_change_law();
-    match store.lock() {
-        Ok(true) => {}
-        Ok(false) => return Err(DbError::Locked),
-        Err(StoreError::Memory) => return Err(DbError::OutOfMemory),
-        Err(StoreError::Missing) => return Err(DbError::Io),
-        Err(StoreError::Device) => return Err(DbError::Io),
-    }
+    take_lock(store)?;
     match open_locked::<K, S>(alloc, store, mode) {
         Ok(state) => Ok(state),
         Err(error) => {
@@ -48,7 +43,19 @@ pub fn open_store<K: KeyOrder, S: Store>(
     }
 }
 
-// The same under the lock.
+fn take_lock<S: Store>(store: &mut S) -> Result<(), DbError>
+    ensures { TakesLock (S.facts store.old) (S.facts store.new) result }
+{
+    match store.lock() {
+        Ok(true) => Ok(()),
+        Ok(false) => Err(DbError::Locked),
+        Err(StoreError::Memory) => Err(DbError::OutOfMemory),
+        Err(StoreError::Missing) => Err(DbError::Io),
+        Err(StoreError::Device) => Err(DbError::Io),
+    }
+}
+
+// Opens it under the lock.
 fn open_locked<K: KeyOrder, S: Store>(
     alloc: Global,
     store: &mut S,

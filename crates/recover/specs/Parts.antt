@@ -25,7 +25,7 @@ use Rattle.recover.specs.Directory.{IsManifest, HasManifest}
 pub record IsUnchanged (old new : Facts) : Type 0 where
   pub faithful : IsTrue new.faithful → IsTrue old.faithful
   pub failures : old.failures ≤ new.failures
-  pub denials : old.denials ≤ new.denials
+  pub denials : new.denials ≡ old.denials
   pub same : IsTrue new.faithful → new.files ≡ old.files
 
 -- ---- refusals

@@ -23,7 +23,7 @@ use Rattle.recover.specs.Directory.{Directory, IsConsistent, HasManifest, used_i
 pub record Reads {T : Type 0} (old new : Facts) (result : Result T DbError) : Type 0 where
   pub faithful : IsTrue new.faithful → IsTrue old.faithful
   pub failures : old.failures ≤ new.failures
-  pub denials : old.denials ≤ new.denials
+  pub denials : new.denials ≡ old.denials
   pub io : result ≡ Err error.Io → old.failures < new.failures
   pub same : IsTrue new.faithful → new.files ≡ old.files
 

@@ -25,6 +25,7 @@ pub fn read_data<K: KeyOrder, S: Store>(
     alloc: Global,
     store: &mut S,
     name: &str,
+    known: u64,
     handle: Handle,
 ) -> Result<Block<Internal<K>>, DbError>
     ensures reads { Reads (S.facts store.old) (S.facts store.new) }
@@ -32,7 +33,7 @@ pub fn read_data<K: KeyOrder, S: Store>(
     ensures refused { IfErr result (λ e. Refuses e (S.facts store.old) (S.facts store.new) name.now
         (λ file. (pairs : List Pair) → HasBlock K.cmp file handle pairs → IsLong handle)) }
 {
-    let bytes = read_stored(alloc, store, name, handle)?;
+    let bytes = read_stored(alloc, store, name, known, handle)?;
     match Block::<Internal<K>>::open(alloc, bytes) {
         Ok(block) => Ok(block),
         Err(e) => Err(table_refusal(e)),
@@ -44,6 +45,7 @@ pub fn read_all<K: KeyOrder, S: Store>(
     alloc: Global,
     store: &mut S,
     name: &str,
+    known: u64,
     places: &[Place],
 ) -> Result<Vec<KeyValue>, DbError>
     ensures reads { Reads (S.facts store.old) (S.facts store.new) }
@@ -54,7 +56,7 @@ pub fn read_all<K: KeyOrder, S: Store>(
 {
     let mut found = Vec::new(alloc);
     for place in places {
-        let block = read_data::<K, S>(alloc, store, name, place.handle)?;
+        let block = read_data::<K, S>(alloc, store, name, known, place.handle)?;
         push_pairs(alloc, &mut found, block)?;
     }
     Ok(found)

@@ -55,6 +55,7 @@ pub fn read_places<K: KeyOrder, S: Store>(
     alloc: Global,
     store: &mut S,
     name: &str,
+    known: u64,
     index: Handle,
 ) -> Result<Vec<Place>, DbError>
     ensures reads { Reads (S.facts store.old) (S.facts store.new) }
@@ -62,7 +63,7 @@ pub fn read_places<K: KeyOrder, S: Store>(
     ensures refused { IfErr result (λ e. Refuses e (S.facts store.old) (S.facts store.new) name.now
         (λ file. (places : List PlaceValue) → HasIndex K.cmp file index places → IsLong index)) }
 {
-    let bytes = read_stored(alloc, store, name, index)?;
+    let bytes = read_stored(alloc, store, name, known, index)?;
     match open_places::<K>(alloc, bytes) {
         Ok(places) => Ok(places),
         Err(e) => Err(table_refusal(e)),

@@ -59,6 +59,7 @@ fn read_metaindex<S: Store>(
     alloc: Global,
     store: &mut S,
     name: &str,
+    known: u64,
     metaindex: Handle,
 ) -> Result<Option<Handle>, DbError>
     ensures reads { Reads (S.facts store.old) (S.facts store.new) }
@@ -66,7 +67,7 @@ fn read_metaindex<S: Store>(
     ensures refused { IfErr result (λ e. Refuses e (S.facts store.old) (S.facts store.new) name.now
         (λ file. (filter : Option HandleValue) → HasMetaindex file metaindex filter → IsLong metaindex)) }
 {
-    let bytes = read_stored(alloc, store, name, metaindex)?;
+    let bytes = read_stored(alloc, store, name, known, metaindex)?;
     match named_filter(alloc, bytes) {
         Ok(filter) => Ok(filter),
         Err(e) => Err(table_refusal(e)),
@@ -78,6 +79,7 @@ fn read_filter_block<S: Store>(
     alloc: Global,
     store: &mut S,
     name: &str,
+    known: u64,
     handle: Handle,
 ) -> Result<FilterBlock, DbError>
     ensures reads { Reads (S.facts store.old) (S.facts store.new) }
@@ -85,7 +87,7 @@ fn read_filter_block<S: Store>(
     ensures refused { IfErr result (λ e. Refuses e (S.facts store.old) (S.facts store.new) name.now
         (λ file. (filter : List ℕ) → IsStored file handle filter × IsFilterBlock filter → IsLong handle)) }
 {
-    let bytes = read_stored(alloc, store, name, handle)?;
+    let bytes = read_stored(alloc, store, name, known, handle)?;
     match FilterBlock::open(bytes) {
         Ok(filter) => Ok(filter),
         Err(e) => Err(table_refusal(e)),
@@ -98,6 +100,7 @@ pub fn read_filter<S: Store>(
     alloc: Global,
     store: &mut S,
     name: &str,
+    known: u64,
     metaindex: Handle,
 ) -> Result<(Option<Handle>, Option<FilterBlock>), DbError>
     ensures reads { Reads (S.facts store.old) (S.facts store.new) }
@@ -107,9 +110,9 @@ pub fn read_filter<S: Store>(
         (λ file. (handle : Option HandleValue) (filter : Option (List ℕ)) → HasMetaindex file metaindex handle × HasFilter file handle filter
         → AnyLong (metaindex ∷ handles_of handle))) }
 {
-    let Some(handle) = read_metaindex(alloc, store, name, metaindex)? else {
+    let Some(handle) = read_metaindex(alloc, store, name, known, metaindex)? else {
         return Ok((None, None));
     };
-    let filter = read_filter_block(alloc, store, name, handle)?;
+    let filter = read_filter_block(alloc, store, name, known, handle)?;
     Ok((Some(handle), Some(filter)))
 }

@@ -70,11 +70,13 @@ pub fn read_part<S: Store>(
 }
 
 /// The block that the file has at a handle: its checksum is compared, and then its type. No memory is taken before
-/// the file is known to have that many bytes. A block of more than 2^30 bytes is Unsupported.
+/// the file is known to have that many bytes: where the block doesn't end within the `known` bytes, which are there as
+/// far as the caller knows, the store is asked. A block of more than 2^30 bytes is Unsupported.
 pub fn read_stored<S: Store>(
     alloc: Global,
     store: &mut S,
     name: &str,
+    known: u64,
     handle: Handle,
 ) -> Result<Vec<u8>, DbError>
     ensures reads { Reads (S.facts store.old) (S.facts store.new) }
@@ -82,11 +84,7 @@ pub fn read_stored<S: Store>(
     ensures refused { IfErr result (λ e. Refuses e (S.facts store.old) (S.facts store.new) name.now
         (λ file. (block : List ℕ) → IsStored file handle block → 2 ^ 30 < handle.size)) }
 {
-    let len = file_length(store, name)?;
-    let count = match stored_length(handle, len) {
-        Ok(count) => count,
-        Err(e) => return Err(table_refusal(e)),
-    };
+    let count = known_length(store, name, known, handle)?;
     let mut bytes = read_part(alloc, store, name, handle.offset, count)?;
     let size = match stored_block(&bytes) {
         Ok(block) => block.len(),
@@ -94,6 +92,28 @@ pub fn read_stored<S: Store>(
     };
     bytes.truncate(size);
     Ok(bytes)
+}
+
+// How many bytes the block at a handle takes in the file, with what stands behind it.
+fn known_length<S: Store>(
+    store: &mut S,
+    name: &str,
+    known: u64,
+    handle: Handle,
+) -> Result<usize, DbError>
+    ensures reads { Reads (S.facts store.old) (S.facts store.new) }
+    ensures count { IfOk result (λ count. count ≡ handle.size + 5) }
+    ensures refused { IfErr result (λ e. Refuses e (S.facts store.old) (S.facts store.new) name.now
+        (λ file. end_of handle ≤ length file → 2 ^ 30 < handle.size)) }
+{
+    if let Ok(count) = stored_length(handle, known) {
+        return Ok(count);
+    }
+    let len = file_length(store, name)?;
+    match stored_length(handle, len) {
+        Ok(count) => Ok(count),
+        Err(e) => Err(table_refusal(e)),
+    }
 }
 
 // How many bytes the block at a handle takes in a file of this length, with what stands behind it.

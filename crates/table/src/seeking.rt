@@ -44,6 +44,7 @@ pub fn seek_from<K: KeyOrder, S: Store>(
     alloc: Global,
     store: &mut S,
     name: &str,
+    known: u64,
     places: &[Place],
     target: &[u8],
 ) -> Result<Option<KeyValue>, DbError>
@@ -55,7 +56,7 @@ pub fn seek_from<K: KeyOrder, S: Store>(
         (λ file. (blocks : List (List Pair)) → AreData K.cmp file places.now blocks → AnyLong (map (λ (place : PlaceValue). place.handle) places.now))) }
 {
     for place in places {
-        let block = read_data::<K, S>(alloc, store, name, place.handle)?;
+        let block = read_data::<K, S>(alloc, store, name, known, place.handle)?;
         if let Some(found) = seek_in::<K>(alloc, block, target)? {
             return Ok(Some(found));
         }

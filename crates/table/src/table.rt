@@ -23,6 +23,8 @@ use store::Store;
 #[derive(Drop)]
 pub struct Table<K: KeyOrder> {
     name: String,
+    // how many bytes stand before the footer, in which all blocks are
+    before: u64,
     places: Vec<Place>,
     filter: Option<FilterBlock>,
     order: PhantomData<K>,
@@ -58,8 +60,8 @@ impl<K: KeyOrder> Table<K> {
             (λ file. (frame : Frame) (is : IsFrame K.cmp file frame) → IsOversized K.cmp file frame is)) }
     {
         let ends = read_ends(alloc, store, name)?;
-        let (named, filter) = read_filter(alloc, store, name, ends.footer.metaindex)?;
-        let places = read_places::<K, S>(alloc, store, name, ends.footer.index)?;
+        let (named, filter) = read_filter(alloc, store, name, ends.before, ends.footer.metaindex)?;
+        let places = read_places::<K, S>(alloc, store, name, ends.before, ends.footer.index)?;
         let mut handles = all_handles(alloc, ends.footer, named, &places)?;
         if !are_separate(ends.before, &mut handles) {
             return Err(DbError::Corrupt(FileKind::Table, Damage::Order));
@@ -67,6 +69,7 @@ impl<K: KeyOrder> Table<K> {
         let name = String::from_str(alloc, name)?;
         Ok(Table {
             name,
+            before: ends.before,
             places,
             filter,
             order: PhantomData,
@@ -95,7 +98,7 @@ impl<K: KeyOrder> Table<K> {
         ensures refused { IfErr result (λ e. Refuses e (S.facts store.old) (S.facts store.new) self.now.name
             (λ file. (pairs : List Pair) → HasBlock K.cmp file handle pairs → IsLong handle)) }
     {
-        read_data::<K, S>(alloc, store, &self.name, handle)
+        read_data::<K, S>(alloc, store, &self.name, self.before, handle)
     }
 
     /// The entries, in order, as the bytes of their internal keys and their values. What bounds, filter and the order
@@ -107,7 +110,7 @@ impl<K: KeyOrder> Table<K> {
         ensures refused { IfErr result (λ e. Refuses e (S.facts store.old) (S.facts store.new) self.now.name
             (λ file. (entries : List InternalEntry) → IsFrame K.cmp file self.now.frame → IsTable K.cmp file entries → AnyLong (handles self.now.frame))) }
     {
-        match read_all::<K, S>(alloc, store, &self.name, &self.places) {
+        match read_all::<K, S>(alloc, store, &self.name, self.before, &self.places) {
             Ok(found) => Ok(found),
             Err(e) => Err(e),
         }
@@ -131,7 +134,7 @@ impl<K: KeyOrder> Table<K> {
     {
         let start = first_place::<K>(&self.places, target);
         let places = &self.places[start..];
-        match seek_from::<K, S>(alloc, store, &self.name, places, target) {
+        match seek_from::<K, S>(alloc, store, &self.name, self.before, places, target) {
             Ok(found) => Ok(found),
             Err(e) => Err(e),
         }

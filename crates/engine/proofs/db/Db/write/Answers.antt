@@ -26,7 +26,7 @@ returns-in-Some-clause-outcome g c =
     let fault = batch_refusal [] c.ops-operations.result.now e (sym c.in-Some.ensures) in
     record {
       failures = omega arith;
-      denials = omega arith;
+      denials = refl;
       io = λ is. absurd (never_io e fault (let same : e ≡ Io = cc in same));
       allowed = may_refuse_write e fault;
       refused = (record { entries = refl; sequence = refl; log = refl }, inl refl);

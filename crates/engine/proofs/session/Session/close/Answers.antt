@@ -9,4 +9,4 @@ returns-then-is_none-clause-step g c =
 
 pub returns-clause-step : goal.returns-clause-step
 returns-clause-step g c =
-    closes_some (order_of g.K.KeyOrder.name g.K.KeyOrder.cmp) (g.S.Store.facts c.args.self.now.store) (g.S.Store.facts c.unlock.new.self) c.args.self.now.state c.take.new.self (ap is_some (sym c.take.ensures.value) ∙ c.if-is_none.ensures) c.take.ensures.after c.unlock.ensures.counts c.unlock.ensures.same
+    closes_some (order_of g.K.KeyOrder.name g.K.KeyOrder.cmp) (g.S.Store.facts c.args.self.now.store) (g.S.Store.facts c.unlock.new.self) c.args.self.now.state c.take.new.self (ap is_some (sym c.take.ensures.value) ∙ c.if-is_none.ensures) c.take.ensures.after c.unlock.ensures.counts c.unlock.ensures.undenied c.unlock.ensures.same

@@ -1,5 +1,5 @@
 use Rattle.ikey.specs.Orders.{order_of}
-use Rattle.std.proofs.Common.{◌≡◌, [], Option, None, Result, arith, sym, subst, rules}
+use Rattle.std.proofs.Common.{◌≡◌, [], Option, None, Result, arith, refl, sym, subst, rules}
 use Rattle.coding.specs.declared.error.DbError.{DbError}
 use Rattle.coding.specs.declared.error.DbError.TheVariants.{Io, Locked}
 use Rattle.engine.specs.declared.state.DbState.{DbState}
@@ -39,7 +39,7 @@ returns-in-Some-clause-outcome g c =
     let e = c.in-Some.error in
     let fault = batch_refusal [] c.args.operations.now e (sym c.in-Some.ensures) in
     record {
-      counted = record { failures = omega arith; denials = omega arith; io = λ is. absurd (never_io e fault (let same : e ≡ Io = cc in same)); locked = λ is. absurd (never_locked e fault (let same : e ≡ Locked = cc in same)) };
+      counted = record { failures = omega arith; denials = omega arith; io = λ is. absurd (never_io e fault (let same : e ≡ Io = cc in same)); locked = λ is. absurd (never_locked e fault (let same : e ≡ Locked = cc in same)); undenied = λ other. refl };
       allowed = may_refuse_write e fault;
       refused = λ f is. keeps_same (g.S.Store.facts c.args.self.now.store) c.args.self.now.state;
     }

@@ -35,7 +35,7 @@ returns-in_err-entries-clause-step g c order =
     let within : c.args.self.now.sequence + length c.args.operations.now ≤ 72057594037927935 = omega (arith, c.in-Some.ensures.1, c.if-last-le-MAX_SEQUENCE.true) in
     let memory : c.from_residual.result ≡ Err OutOfMemory = search rules in
     subst (λ (r : Result _ DbError). LeadsOpen order facts facts c.args.self.now c.args.self.now (λ m n. Writes m c.args.operations.now (unit_answer r) n)) (sym memory)
-    (write_memory order facts facts c.args.self.now c.args.self.now c.args.operations.now c.requires some c.if-self.false within (λ f. f) (omega arith) (omega arith) (λ f. refl) refl refl refl c.if-self.false)
+    (write_memory order facts facts c.args.self.now c.args.self.now c.args.operations.now c.requires some c.if-self.false within (λ f. f) (omega arith) refl (λ f. refl) refl refl refl c.if-self.false)
 
 pub returns-in_err-reserve-clause-step : goal.returns-in_err-reserve-clause-step
 returns-in_err-reserve-clause-step g c order =
@@ -45,7 +45,7 @@ returns-in_err-reserve-clause-step g c order =
     let after : DbState = record c.args.self.now { table = record { entries = c.reserve.new.self } } in
     let memory : c.from_residual-in_err-reserve.result ≡ Err OutOfMemory = search rules in
     subst (λ (r : Result _ DbError). LeadsOpen order facts facts c.args.self.now after (λ m n. Writes m c.args.operations.now (unit_answer r) n)) (sym memory)
-    (write_memory order facts facts c.args.self.now after c.args.operations.now c.requires some c.if-self.false within (λ f. f) (omega arith) (omega arith) (λ f. refl) c.reserve.ensures.items refl refl c.if-self.false)
+    (write_memory order facts facts c.args.self.now after c.args.operations.now c.requires some c.if-self.false within (λ f. f) (omega arith) refl (λ f. refl) c.reserve.ensures.items refl refl c.if-self.false)
 
 pub returns-in-Ok-clause-step : goal.returns-in-Ok-clause-step
 returns-in-Ok-clause-step g c order =
