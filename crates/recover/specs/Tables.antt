@@ -1,5 +1,5 @@
--- The tables of a directory. What the bytes of a table file spell is the matter of another crate.
-use Rattle.std.specs.Prelude.{◌≡◌, ◌⊎◌, ◌<◌, ◌+◌, ◌*◌, ℕ, Option, Some, None, List, [], ◌∷◌, ◌++◌, length}
+-- The tables of a directory.
+use Rattle.std.specs.Prelude.{◌≡◌, ◌⊎◌, ◌<◌, ◌+◌, ◌*◌, ℕ, Option, Some, None, List, [], ◌∷◌, ◌++◌, length, map}
 use Rattle.std.specs.declared.cmp.Ordering.TheVariants.{Less}
 use Rattle.std.specs.FinMap.{get}
 use Rattle.coding.specs.Fixed.{fixed64}
@@ -10,12 +10,13 @@ use Rattle.std.specs.Option.{option_or}
 use Rattle.edits.specs.declared.names.FileName.TheVariants.{Table, OldTable}
 use Rattle.edits.specs.Names.{name_of, IsNumbered}
 use Rattle.ikey.specs.declared.entry.Entry.{Entry}
+use Rattle.ikey.specs.Entries.{InternalEntry, entry_of}
+use Rattle.table.specs.Table.{IsTable}
 use Rattle.recover.specs.Entries.{Among}
 
--- The bytes are a table file of these entries. What a table file is will be said by the crate of tables;
--- until then this is a word that no proof looks into.
+-- the bytes are the table file of these entries
 pub IsTableFile : Order → List ℕ → List Entry → Type 0
-IsTableFile order bytes entries = Unit {0}
+IsTableFile order bytes entries = (kept : List InternalEntry) × IsTable order.cmp bytes kept × (entries ≡ map entry_of kept)
 
 -- The bytes of a table: of the file that ends in `.ldb` or, where there is none, of the one that ends in `.sst`,
 -- as older writers named it.
