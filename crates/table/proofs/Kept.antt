@@ -1,19 +1,21 @@
 -- What holds of a builder at any time.
-use Rattle.std.proofs.Common.{◌≡◌, ◌≤◌, ◌<◌, ◌+◌, ◌^◌, inl, inr, ℕ, Bool, List, [], ◌∷◌, ◌++◌, Some, None, length, refl, sym, ap, ◌∙◌, subst, append-nil, arith}
+use Rattle.std.proofs.Common.{◌≡◌, ◌≤◌, ◌<◌, ◌+◌, ◌^◌, inl, inr, ℕ, Bool, true, false, is_none, List, [], ◌∷◌, ◌++◌, Some, None, length, refl, sym, ap, ◌∙◌, subst, append-nil, arith}
 use Rattle.std.proofs.lemmas.List.{length-append}
 use Rattle.std.specs.Cmp.{IsTotalOrder}
 use Rattle.std.specs.Option.{ForSome}
+use Rattle.std.specs.Prelude.{IfSome, MatchBool}
 use Rattle.std.specs.declared.cmp.Ordering.{Ordering}
 use Rattle.block.specs.Block.{IsBlock, AreAbove}
 use Rattle.block.specs.Built.{written_length}
-use Rattle.block.specs.Written.{Added, last_key}
+use Rattle.block.specs.Written.{Added, last_key, key_behind}
 use Rattle.ikey.specs.Below.{IsBelowInternal, internal_transitive}
 use Rattle.ikey.specs.Entries.{Pair}
-use Rattle.table.specs.Building.{data_length, index_length}
+use Rattle.ikey.specs.Keys.{Key, IsKey}
+use Rattle.table.specs.Building.{Building, MayFollow, last_added, data_length, index_length}
 use Rattle.store.specs.Files.{Facts}
 use Rattle.table.specs.Steps.{IsKept, MayAdd, with_pair, Appended, IsEnded}
 use Rattle.table.specs.Stored.{IsHandle, stored}
-use Rattle.table.proofs.Rising.{last_append, above_parts, above_last, rises_ended, rises_pushed}
+use Rattle.table.proofs.Rising.{last_append, last_there, some_last, above_parts, above_last, rises_ended, rises_pushed}
 
 -- ---- in the words of the builder
 
@@ -120,3 +122,27 @@ block_ended cmp name block_bytes created offset hashes index block new fresh key
       new_is = λ i. record { name = name; block_bytes = block_bytes; created = created; offset = offset + (same i + 5); index = (added.2 i).pairs; block = (none i).pairs; hashes = hashes };
       appended = appended;
     }
+
+-- ---- whether an entry may follow
+
+rises_behind : (below : List ℕ → List ℕ → Type 0) (index block : List Pair) (key : List ℕ) → (block ≡ [] → ⊥) → ForSome (last_key block) (λ (last : List ℕ). below last key) → ForSome (last_key (index ++ block)) (λ (last : List ℕ). below last key)
+rises_behind below index block key some h = λ last e.
+    let at : List ℕ = key_behind [] block in
+    let is : last_key block ≡ Some at = some_last block at (last_there block some) refl in
+    let same : at ≡ last = let t : Some at ≡ Some last = sym (last_append None index block at is) ∙ e in cc in
+    subst (λ (k : List ℕ). below k key) same (h at is)
+
+pub found_key : {X : Type 0} (o : Option X) (P : X → Type 0) → is_none o ≡ false → IfSome o P → (x : X) × P x
+found_key None P e h = let t : true ≡ false = e in cc
+found_key (Some x) P e h = (x, h)
+
+follows_if : (cmp : List ℕ → List ℕ → Ordering) (b : Building) (key : List ℕ) (r : Bool) (Rises : Type 0) → (Rises → ForSome (last_added b) (λ (last : List ℕ). IsBelowInternal cmp last key))
+    → (ForSome (last_added b) (λ (last : List ℕ). IsBelowInternal cmp last key) → Rises) → ((parts : Key) × IsKey key parts) → MatchBool r Rises (Rises → ⊥) → MatchBool r (MayFollow cmp b key) (MayFollow cmp b key → ⊥)
+follows_if cmp b key true Rises to from parts h = record { parts = parts.0; parts_are = parts.1; rises = to h }
+follows_if cmp b key false Rises to from parts h = λ may. h (from may.rises)
+
+pub follows_block : (cmp : List ℕ → List ℕ → Ordering) (b : Building) (key : List ℕ) (r : Bool) → (b.block ≡ [] → ⊥) → ((parts : Key) × IsKey key parts)
+    → MatchBool r (ForSome (last_key b.block) (λ (last : List ℕ). IsBelowInternal cmp last key)) (ForSome (last_key b.block) (λ (last : List ℕ). IsBelowInternal cmp last key) → ⊥)
+    → MatchBool r (MayFollow cmp b key) (MayFollow cmp b key → ⊥)
+follows_block cmp b key r some parts h =
+    follows_if cmp b key r _ (rises_behind (IsBelowInternal cmp) b.index b.block key some) (rises_in_block (IsBelowInternal cmp) b.index b.block key) parts h

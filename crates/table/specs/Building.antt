@@ -1,6 +1,7 @@
 -- A table that is being written (LevelDB's table/table_builder.cc): what the builder keeps, and what stands in the file.
 use Rattle.std.specs.Prelude.{◌≡◌, ◌<◌, ◌≤◌, ◌+◌, ◌^◌, ℕ, Bool, List, [], ◌∷◌, ◌++◌, Option, Some, None, length, slice_index, slice_index_or, MatchBool}
 use Rattle.std.specs.List.{AllByRecursion, flat_map}
+use Rattle.std.specs.Option.{ForSome}
 use Rattle.std.specs.declared.cmp.Ordering.{Ordering}
 use Rattle.block.specs.Block.{AreAbove}
 use Rattle.block.specs.Built.{written_length}
@@ -37,6 +38,12 @@ pub record Building : Type 0 where
 -- the key that was added last, if there is one
 abbrev pub last_added : Building → Option (List ℕ)
 last_added b = last_key (b.index ++ b.block)
+
+-- the key is an internal key above that one
+pub record MayFollow (cmp : List ℕ → List ℕ → Ordering) (b : Building) (key : List ℕ) : Type 0 where
+  pub parts : Key
+  pub parts_are : IsKey key parts
+  pub rises : ForSome (last_added b) (λ (last : List ℕ). IsBelowInternal cmp last key)
 
 -- how many bytes a data block and an index of these pairs take: a data block has a restart every 16 entries, an
 -- index at each

@@ -67,15 +67,12 @@ impl<K: KeyOrder> Model for TableBuilder<K> {
 }
 
 impl<K: KeyOrder> TableBuilder<K> {
-    ghost use Rattle.std.specs.Prelude.{◌≡◌, ◌<◌, ◌^◌, ◌++◌, ◌∷◌, [], ℕ, List, Some, None, IsSome, IsTrue, IfOk, IfErr, OnOk, true};
-    ghost use Rattle.std.specs.Option.{ForSome};
+    ghost use Rattle.std.specs.Prelude.{◌≡◌, ◌<◌, ◌^◌, ◌++◌, ◌∷◌, [], ℕ, List, Some, None, IsSome, IsTrue, IfOk, IfErr, OnOk, MatchBool, true};
     ghost use Rattle.filter.specs.Builder.{GivesUpOnly};
-    ghost use Rattle.ikey.specs.Below.{IsBelowInternal};
     ghost use Rattle.ikey.specs.Entries.{Pair};
-    ghost use Rattle.ikey.specs.Keys.{Key, IsKey};
     ghost use Rattle.block.specs.Written.{last_key};
     ghost use Rattle.store.specs.Files.{Facts};
-    ghost use Rattle.table.specs.Building.{Building, Builds, IsPart, HasPart, last_added, data_size, data_length};
+    ghost use Rattle.table.specs.Building.{Building, Builds, IsPart, HasPart, MayFollow, last_added, data_size, data_length};
     ghost use Rattle.table.specs.Reading.{HasFile};
     ghost use Rattle.table.specs.Steps.{IsPushed, IsEnded};
     ghost use Rattle.table.specs.Writing.{Writes, WriteRefuses, NeedsLongBlock, NeedsLongIndex, NeedsLongEnds, IsTableOf};
@@ -99,12 +96,24 @@ impl<K: KeyOrder> TableBuilder<K> {
         })
     }
 
+    /// Whether the key is an internal key above the last one that was added, so that `add` may be called with it.
+    pub fn accepts(&self, key: &[u8]) -> bool
+        ensures { MatchBool result (MayFollow K.cmp self.now key.now) (MayFollow K.cmp self.now key.now → ⊥) }
+    {
+        if unpack(key).is_none() {
+            return false;
+        }
+        if self.block.is_empty() {
+            return self.index.is_above_last(key);
+        }
+        self.block.is_above_last(key)
+    }
+
     /// Adds an entry, an internal key above the last one and its value, at the end. The first one creates the file,
     /// and one that ends a data block appends it. Unsupported, where a block would have more than 2^30 bytes. After an
     /// `Err` the builder is of no use, and its file is part of a table.
     pub fn add<S: Store>(&mut self, store: &mut S, key: &[u8], value: &[u8]) -> Result<(), DbError>
-        requires key { (parts : Key) × IsKey key.now parts }
-        requires rises { ForSome (last_added self.old) (λ last. IsBelowInternal K.cmp last key.now) }
+        requires { MayFollow K.cmp self.old key.now }
         ensures name { self.new.name ≡ self.old.name }
         ensures last { OnOk result (last_added self.new ≡ Some key.now) }
         ensures writes { Writes (S.facts store.old) (S.facts store.new) self.old.name }
@@ -169,8 +178,7 @@ impl<K: KeyOrder> TableBuilder<K> {
 
     // Adds an entry to the block at hand, and its user key to the filter.
     fn push(&mut self, key: &[u8], value: &[u8]) -> Result<(), DbError>
-        requires key { (parts : Key) × IsKey key.now parts }
-        requires rises { ForSome (last_added self.old) (λ last. IsBelowInternal K.cmp last key.now) }
+        requires { MayFollow K.cmp self.old key.now }
         ensures name { self.new.name ≡ self.old.name }
         ensures pushed { OnOk result (IsPushed self.old self.new (record { key = key.now; value = value.now })) }
         ensures refused { IfErr result (λ e. GivesUpOnly e (2 ^ 30 < data_length (self.old.block ++ record { key = key.now; value = value.now } ∷ []))) }
