@@ -198,6 +198,8 @@ fn blocks_of_any_length_are_walked_and_sought(rt: HostRuntime) -> Result<(), Fai
             for index in 0..count {
                 seek(&rt, &mut cursor, index, count)?;
             }
+            cursor.seek(b"")?;
+            assert_eq!(rt; cursor.stands(), count > 0);
             cursor.seek(b"\xff")?;
             assert!(rt; !cursor.stands());
         }

@@ -1,4 +1,5 @@
 use super::*;
+use coding::ReadError;
 use std::test::*;
 
 const EMPTY: [u8; 0] = [];
@@ -21,17 +22,34 @@ fn filter_of_one_key(rt: HostRuntime) -> Result<(), Fail> {
     );
     assert!(rt; Bloom::may_hold(&filter, b"\x61"));
     assert!(rt; !Bloom::may_hold(&filter, b"\x62"));
-    assert!(rt; !Bloom::may_hold(&EMPTY, b"\x61"));
-    assert!(rt; !Bloom::may_hold(&[6], b"\x61"));
-    assert!(rt; Bloom::may_hold(&[0, 31], b"\x61"));
+    built_in_is_admitted();
+    one_filter();
     Ok(())
 }
 
-// Key `61 00` has the bits 56, 59, 62, 1, 4 and 7, of which neither `61` nor `62` has bit 56.
+#[test]
+fn short_filters_admit_nothing_and_other_kinds_all(rt: HostRuntime) {
+    for key in [b"".as_slice(), b"\x61"] {
+        assert!(rt; !Bloom::may_hold(&EMPTY, key));
+        assert!(rt; !Bloom::may_hold(&[6], key));
+        assert!(rt; !Bloom::may_hold(&[31], key));
+        assert!(rt; !Bloom::may_hold(&[0, 30], key));
+        assert!(rt; Bloom::may_hold(&[0, 31], key));
+        assert!(rt; Bloom::may_hold(&[0, 0xFF], key));
+        assert!(rt; Bloom::may_hold(&[0xFF, 30], key));
+        assert!(rt; Bloom::may_hold(&[0, 0], key));
+    }
+}
+
+// Key `61 00` has the bits 56, 59, 62, 1, 4 and 7, of which neither `61` nor `62` has bit 56, the lowest of
+// the last byte.
 #[test]
 fn other_keys_are_denied(rt: HostRuntime) -> Result<(), Fail> {
     let filter = Bloom::build(rt.alloc(), &[b"\x61".as_slice(), b"\x62".as_slice()])?;
-    assert_eq!(rt; filter.len(), 9);
+    assert_eq!(rt;
+        filter.as_slice(),
+        [0x18, 0x30, 0x60, 0xC0, 0x80, 1, 3, 0, 6].as_slice()
+    );
     assert!(rt; Bloom::may_hold(&filter, b"\x61"));
     assert!(rt; Bloom::may_hold(&filter, b"\x62"));
     assert!(rt; !Bloom::may_hold(&filter, b"\x61\x00"));
@@ -45,6 +63,11 @@ fn block_without_keys(rt: HostRuntime) -> Result<(), Fail> {
     let builder = FilterBuilder::new(rt.alloc());
     let bytes = builder.finish(rt.alloc())?;
     assert_eq!(rt; bytes.as_slice(), [0, 0, 0, 0, 0x0B].as_slice());
+    let block = FilterBlock::open(bytes)?;
+    for offset in [0, 2047, 2048, u64::MAX] {
+        assert!(rt; block.may_hold(offset, b""));
+        assert!(rt; block.may_hold(offset, b"\x61"));
+    }
     Ok(())
 }
 
@@ -63,6 +86,8 @@ fn block_of_one_key(rt: HostRuntime) -> Result<(), Fail> {
     assert!(rt; block.may_hold(0, b"\x61"));
     assert!(rt; !block.may_hold(2047, b"\x62"));
     assert!(rt; block.may_hold(2048, b"\x62"));
+    written_is_read();
+    added_is_admitted();
     Ok(())
 }
 
@@ -82,24 +107,26 @@ fn blocks_with_gaps(rt: HostRuntime) -> Result<(), Fail> {
 }
 
 #[test]
-fn damaged_blocks(rt: HostRuntime) -> Result<(), Fail> {
-    let short = FilterBlock::open(Vec::from_slice(rt.alloc(), &[0x0B])?);
-    assert!(rt; short.is_err());
-    let base = FilterBlock::open(Vec::from_slice(rt.alloc(), &[0, 0, 0, 0, 0x0A])?);
-    assert!(rt; base.is_err());
-    let empty = FilterBlock::open(Vec::from_slice(rt.alloc(), &[0, 0, 0, 0, 0x0B])?)?;
-    assert!(rt; empty.may_hold(0, b"a"));
-    let falls = FilterBlock::open(Vec::from_slice(rt.alloc(), &[1, 0, 0, 0, 0, 0, 0, 0, 0x0B])?);
-    assert!(rt; falls.is_err());
-    // Two bytes of an array whose offsets have four each, and an array that begins behind the block.
-    let remainder = FilterBlock::open(Vec::from_slice(rt.alloc(), &[0, 0, 0, 0, 0, 0, 0x0B])?);
-    assert!(rt; remainder.is_err());
-    let behind = FilterBlock::open(Vec::from_slice(rt.alloc(), &[9, 0, 0, 0, 0x0B])?);
-    assert!(rt; behind.is_err());
-    let last_falls = FilterBlock::open(Vec::from_slice(
-        rt.alloc(),
-        &[5, 0, 0, 0, 0, 0, 0, 0, 0x0B],
-    )?);
-    assert!(rt; last_falls.is_err());
+fn damaged_blocks_are_refused(rt: HostRuntime) -> Result<(), Fail> {
+    for bytes in [
+        b"".as_slice(),
+        b"\x0b",
+        b"\0\0\0\x0b",
+        // another base
+        b"\0\0\0\0\x0a",
+        b"\0\0\0\0\x0c",
+        // an array that begins behind the block, or one byte too late
+        b"\x09\0\0\0\x0b",
+        b"\x01\0\0\0\x0b",
+        // two bytes of an array whose offsets have four each
+        b"\0\0\0\0\0\0\x0b",
+        // an offset behind the array's own, and one behind the next
+        b"\x01\0\0\0\0\0\0\0\x0b",
+        b"\x05\0\0\0\0\0\0\0\x0b",
+        b"\0\x01\0\0\0\0\0\0\0\x01\0\0\0\x0b",
+    ] {
+        let block = FilterBlock::open(Vec::from_slice(rt.alloc(), bytes)?);
+        assert!(rt; matches!(&block, Err(ReadError::Corrupt(_))), "{bytes:?}");
+    }
     Ok(())
 }

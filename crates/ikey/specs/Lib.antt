@@ -1,4 +1,5 @@
 pub mod Below
+pub mod BytewiseKeys
 pub mod Entries
 pub mod Keys
 pub mod KeyViews

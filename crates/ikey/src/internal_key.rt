@@ -28,7 +28,7 @@ pub enum Kind {
 }
 
 /// A user key with the sequence number and the kind of one write to it.
-#[derive(Clone, Copy, Debug)]
+#[derive(Clone, Copy, Debug, PartialEq, Eq)]
 pub struct InternalKey<'a> {
     pub user: &'a [u8],
     pub sequence: u64,

@@ -4,6 +4,7 @@
 mod entry;
 mod entry_order;
 mod internal_key;
+mod internal_key_order;
 mod key_order;
 
 pub use entry::Entry;

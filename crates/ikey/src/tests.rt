@@ -142,3 +142,70 @@ fn entries_have_the_internal_key_of_their_write(rt: HostRuntime) -> Result<(), F
     assert!(rt; put != delete);
     Ok(())
 }
+
+// Keys in their order, the last four with numbers that no eight bytes hold.
+fn rising_keys(alloc: Global) -> Result<Vec<InternalKey<'static>>, AllocError> {
+    let mut keys = Vec::new(alloc);
+    for (user, sequence, kind) in [
+        (b"".as_slice(), 0, Kind::Delete),
+        (b"a", 300, Kind::Delete),
+        (b"a", 7, Kind::Put),
+        (b"a", 7, Kind::Delete),
+        (b"a", 0, Kind::Put),
+        (b"a\0", 900, Kind::Put),
+        (b"ab", 1, Kind::Put),
+        (b"b", SEQUENCE_END - 1, Kind::Put),
+        (b"\xff", u64::MAX, Kind::Put),
+        (b"\xff", u64::MAX, Kind::Delete),
+        (b"\xff", SEQUENCE_END, Kind::Put),
+        (b"\xff\0", u64::MAX, Kind::Put),
+    ] {
+        keys.push(InternalKey {
+            user,
+            sequence,
+            kind,
+        })
+        .map_err(|_| AllocError)?;
+    }
+    Ok(keys)
+}
+
+#[test]
+fn keys_compare_as_they_stand(rt: HostRuntime) -> Result<(), Fail> {
+    let keys = rising_keys(rt.alloc())?;
+    for (i, a) in keys.iter().enumerate() {
+        for (k, b) in keys.iter().enumerate() {
+            assert_eq!(rt; a.cmp(b), i.cmp(&k));
+            assert_eq!(rt; a.partial_cmp(b), Some(i.cmp(&k)));
+            assert_eq!(rt; a < b, i < k);
+            assert_eq!(rt; a == b, i == k);
+        }
+    }
+    Ok(())
+}
+
+#[test]
+fn keys_are_sorted_into_their_order(rt: HostRuntime) -> Result<(), Fail> {
+    let rising = rising_keys(rt.alloc())?;
+    let mut keys = rising_keys(rt.alloc())?;
+    keys.reverse();
+    keys.sort()?;
+    assert_eq!(rt; keys, rising);
+    keys.sort_by_key(|key| key.sequence)?;
+    keys.sort()?;
+    assert_eq!(rt; keys, rising);
+    Ok(())
+}
+
+#[test]
+fn keys_are_ordered_as_their_bytes_are(rt: HostRuntime) -> Result<(), Fail> {
+    let keys = ordered_keys(rt.alloc())?;
+    for a in &keys {
+        let first = unpack(a).ok_or("an internal key")?;
+        for b in &keys {
+            let second = unpack(b).ok_or("an internal key")?;
+            assert_eq!(rt; compare_keys::<Bytewise>(a, b), Some(first.cmp(&second)));
+        }
+    }
+    Ok(())
+}
