@@ -1,8 +1,8 @@
 -- What holds of a builder at any time.
-use Rattle.std.proofs.Common.{◌≡◌, ◌≤◌, ◌<◌, ◌+◌, ◌^◌, inl, inr, ℕ, Bool, true, false, is_none, List, [], ◌∷◌, ◌++◌, Some, None, length, refl, sym, ap, ◌∙◌, subst, append-nil, arith}
+use Rattle.std.proofs.Common.{◌≡◌, ◌≤◌, ◌<◌, ◌+◌, ◌^◌, inl, inr, ℕ, Bool, true, false, List, [], ◌∷◌, ◌++◌, Option, Some, None, length, refl, sym, ap, ◌∙◌, subst, append-nil, arith}
 use Rattle.std.proofs.lemmas.List.{length-append}
 use Rattle.std.specs.Cmp.{IsTotalOrder}
-use Rattle.std.specs.Option.{ForSome}
+use Rattle.std.specs.Option.{ForSome, IsSome}
 use Rattle.std.specs.Prelude.{IfSome, MatchBool}
 use Rattle.std.specs.declared.cmp.Ordering.{Ordering}
 use Rattle.block.specs.Block.{IsBlock, AreAbove}
@@ -132,8 +132,8 @@ rises_behind below index block key some h = λ last e.
     let same : at ≡ last = let t : Some at ≡ Some last = sym (last_append None index block at is) ∙ e in cc in
     subst (λ (k : List ℕ). below k key) same (h at is)
 
-pub found_key : {X : Type 0} (o : Option X) (P : X → Type 0) → is_none o ≡ false → IfSome o P → (x : X) × P x
-found_key None P e h = let t : true ≡ false = e in cc
+pub found_key : {X : Type 0} (o : Option X) (P : X → Type 0) → IsSome o → IfSome o P → (x : X) × P x
+found_key None P e h = let t : false ≡ true = e in cc
 found_key (Some x) P e h = (x, h)
 
 follows_if : (cmp : List ℕ → List ℕ → Ordering) (b : Building) (key : List ℕ) (r : Bool) (Rises : Type 0) → (Rises → ForSome (last_added b) (λ (last : List ℕ). IsBelowInternal cmp last key))

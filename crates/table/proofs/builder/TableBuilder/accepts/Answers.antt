@@ -1,8 +1,5 @@
-use Rattle.std.proofs.Common.{◌≡◌, [], List, ℕ, subst}
-use Rattle.std.specs.Option.{ForSome}
+use Rattle.std.proofs.Common.{subst}
 use Rattle.std.specs.Prelude.{MatchBool}
-use Rattle.block.specs.Written.{last_key}
-use Rattle.ikey.specs.Below.{IsBelowInternal}
 use Rattle.ikey.specs.KeyViews.{key_of}
 use Rattle.table.specs.Building.{Building, MayFollow}
 use Rattle.table.proofs.Kept.{found_key, follows_block}
@@ -13,6 +10,6 @@ returns g c =
     let cmp = g.K.KeyOrder.cmp in
     let key = c.args.key.now in
     let r = c.is_above_last-2.result in
-    let found = found_key c.unpack.result _ ? c.unpack.ensures.found in
+    let found = found_key c.unpack.result _ c.if-is_none.ensures c.unpack.ensures.found in
     subst (λ (v : Building). MatchBool r (MayFollow cmp v key) (MayFollow cmp v key → ⊥)) c.self.view_is
     (follows_block cmp _ key r c.if-is_empty.ensures (key_of found.0, found.1) c.is_above_last-2.ensures)
