@@ -1,7 +1,8 @@
 -- Pairs whose keys rise.
-use Rattle.std.proofs.Common.{◌≡◌, inl, inr, ◌⊎◌, true, false, is_some, List, [], ◌∷◌, ◌++◌, Option, Some, None, ℕ, refl, sym, ap, ◌∙◌, subst, append_assoc, append-nil}
+use Rattle.std.proofs.Common.{◌≡◌, inl, inr, ◌⊎◌, Bool, true, false, is_some, List, [], ◌∷◌, ◌++◌, Option, Some, None, ℕ, refl, sym, ap, ◌∙◌, subst, append_assoc, append-nil}
 use Rattle.std.specs.List.{AllByRecursion}
 use Rattle.std.specs.Option.{ForSome, IsSome}
+use Rattle.std.specs.Prelude.{MatchBool}
 use Rattle.block.specs.Block.{AreAbove}
 use Rattle.block.specs.Written.{last_key_from, last_key, key_behind}
 use Rattle.block.proofs.BuilderLaws.{above_push}
@@ -100,3 +101,16 @@ module _ (below : List ℕ → List ℕ → Type 0) (transitive : (a b c : List 
 
   pub rises_pushed : (xs ys : List Pair) (pair : Pair) → AreAbove below None (xs ++ ys) → ForSome (last_key (xs ++ ys)) (λ (key : List ℕ). below key pair.key) → AreAbove below None (xs ++ (ys ++ pair ∷ []))
   rises_pushed xs ys pair h k = subst (AreAbove below None) (append_assoc xs ys (pair ∷ [])) (above_push below None (xs ++ ys) pair h k)
+
+-- ---- whether there is a last key
+
+not_empty : (xs ys : List Pair) → (ys ≡ [] → ⊥) → xs ++ ys ≡ [] → ⊥
+not_empty [] ys other e = other e
+not_empty (x ∷ xs) ys other e = let t : x ∷ (xs ++ ys) ≡ [] = e in cc
+
+pub last_of_both : (xs ys : List Pair) → (ys ≡ [] → ⊥) → IsSome (last_key (xs ++ ys))
+last_of_both xs ys other = last_there (xs ++ ys) (not_empty xs ys other)
+
+pub last_of_first : (xs ys : List Pair) (r : Bool) → ys ≡ [] → MatchBool r (xs ≡ []) (xs ≡ [] → ⊥) → MatchBool r (last_key (xs ++ ys) ≡ None) (IsSome (last_key (xs ++ ys)))
+last_of_first xs ys true none h = ap last_key (ap (λ (v : List Pair). xs ++ v) none ∙ append-nil xs ∙ h)
+last_of_first xs ys false none h = ap (λ (v : List Pair). is_some (last_key v)) (ap (λ (v : List Pair). xs ++ v) none ∙ append-nil xs) ∙ last_there xs h

@@ -96,6 +96,16 @@ impl<K: KeyOrder> TableBuilder<K> {
         })
     }
 
+    /// Whether no entry was added.
+    pub fn is_empty(&self) -> bool
+        ensures { MatchBool result (last_added self.now ≡ None) (IsSome (last_added self.now)) }
+    {
+        if !self.block.is_empty() {
+            return false;
+        }
+        self.index.is_empty()
+    }
+
     /// Whether the key is an internal key above the last one that was added, so that `add` may be called with it.
     pub fn accepts(&self, key: &[u8]) -> bool
         ensures { MatchBool result (MayFollow K.cmp self.now key.now) (MayFollow K.cmp self.now key.now → ⊥) }
