@@ -11,6 +11,7 @@ pub struct Counters {
 }
 
 impl Counters {
+    /// Nothing has failed yet.
     pub fn new() -> Self
         ensures { result ≡ record { failures = 0; denials = 0 } }
     {

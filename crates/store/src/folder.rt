@@ -48,7 +48,7 @@ pub struct Folder {
 }
 
 impl Folder {
-    // Missing where nothing is at the path, Device where it isn't a folder that can be opened.
+    /// The folder at a path: Missing where nothing is there, Device where it isn't a folder that can be opened.
     pub fn open(rt: &HostRuntime, path: &str) -> Result<Folder, StoreError> {
         if !fs::metadata(rt, path)?.is_dir() {
             return Err(StoreError::Device);
@@ -66,7 +66,7 @@ impl Folder {
         })
     }
 
-    // The names of the plain files, and of links to one.
+    /// The names of the plain files, and of links to one. Device where a name isn't UTF-8.
     pub fn list(&mut self, alloc: Global) -> Result<Vec<String>, StoreError> {
         let mut names = Vec::new(alloc);
         for entry in fs::read_dir(&self.rt, self.path.as_str())? {
@@ -78,10 +78,12 @@ impl Folder {
         Ok(names)
     }
 
+    /// How many bytes a file has. Missing where there is none.
     pub fn len(&mut self, name: &str) -> Result<u64, StoreError> {
         Ok(self.kept_file(name, false)?.metadata()?.len())
     }
 
+    /// The bytes from an offset on, so many of them or up to the end. Missing where there is no such file.
     pub fn read_at(
         &mut self,
         alloc: Global,
@@ -97,6 +99,7 @@ impl Folder {
         Ok(bytes)
     }
 
+    /// Makes an empty file, or empties the one that is there.
     pub fn create(&mut self, name: &str) -> Result<(), StoreError> {
         let path = self.path_of(name)?;
         self.kept.remove(name);
@@ -115,14 +118,14 @@ impl Folder {
         Ok(())
     }
 
-    // Once it writes, a failure is Device, since it may have written some of the bytes.
+    /// Adds bytes at the end. Once it writes, a failure is Device, since it may have written some of them.
     pub fn append(&mut self, name: &str, bytes: &[u8]) -> Result<(), StoreError> {
         let mut file = self.kept_file(name, true)?;
         file.write_all(bytes).map_err(|_| StoreError::Device)
     }
 
-    // Syncs the folder first where its names changed, as LevelDB does before it syncs its MANIFEST
-    // (`SyncDirIfManifest` in util/env_posix.cc): what a file says of others is kept only behind their names.
+    /// Syncs a file, and before it the folder where its names changed, as LevelDB does before it syncs its MANIFEST
+    /// (`SyncDirIfManifest` in util/env_posix.cc): what a file says of others is kept only behind their names.
     pub fn sync(&mut self, name: &str) -> Result<(), StoreError> {
         if self.names_changed {
             self.folder.sync_all()?;
@@ -132,6 +135,7 @@ impl Folder {
         Ok(())
     }
 
+    /// Gives a file another name, in place of a file that has it. Device where it wasn't done, or may not have been.
     pub fn rename(&mut self, from: &str, to: &str) -> Result<(), StoreError> {
         let from_path = self.path_of(from)?;
         let to_path = self.path_of(to)?;
@@ -141,6 +145,7 @@ impl Folder {
         fs::rename(&self.rt, from_path.as_str(), to_path.as_str()).map_err(|_| StoreError::Device)
     }
 
+    /// Takes a file away. Device where it wasn't done, or may not have been.
     pub fn remove(&mut self, name: &str) -> Result<(), StoreError> {
         let path = self.path_of(name)?;
         self.kept.remove(name);
@@ -148,7 +153,7 @@ impl Folder {
         fs::remove_file(&self.rt, path.as_str()).map_err(|_| StoreError::Device)
     }
 
-    // Whether this process now holds the lock, which it didn't before.
+    /// Whether this process now holds the lock, which it didn't before.
     pub fn lock(&mut self) -> Result<bool, StoreError> {
         if self.lock.is_some() {
             return Ok(false);
@@ -165,7 +170,7 @@ impl Folder {
         Ok(true)
     }
 
-    // The system gives a lock back as its file is closed.
+    /// Gives the lock back: the system does so as its file is closed.
     pub fn unlock(&mut self) {
         self.lock = None;
     }
