@@ -345,3 +345,14 @@ pub pushes : (is_restart : Bool) (previous key value rest old new : List ℕ) (s
     → ((entry : List ℕ) × IsEntry shared rest value entry × (new ≡ old ++ entry)) → PushesEntry is_restart previous key value old new
 pushes is_restart previous key value rest old new shared e le r w =
     (rest, w.0, subst (λ (n : ℕ). IsEntry n rest value w.0) e w.1, subst (λ (v : List ℕ). IsKeyBehind previous (cond is_restart 0 (common_prefix_len nat_eq previous key)) v key) (sym r) (key_shared is_restart previous key shared e le), w.2)
+
+-- ---- whether there is an entry
+
+some_pairs : (byte : ℕ) (bytes : List ℕ) → pairs_of (byte ∷ bytes) ≡ [] → ⊥
+unfolding pairs_of pairs_behind
+some_pairs byte bytes e = cc
+
+pub none_if : (out : List ℕ) (r : Bool) → r ≡ eqb (length out) 0 → MatchBool r (pairs_of out ≡ []) (pairs_of out ≡ [] → ⊥)
+none_if [] r e = subst (λ (b : Bool). MatchBool b (pairs_of [] ≡ []) (pairs_of [] ≡ [] → ⊥)) (sym e) no_pairs_yet
+none_if (byte ∷ bytes) r e =
+    subst (λ (b : Bool). MatchBool b (pairs_of (byte ∷ bytes) ≡ []) (pairs_of (byte ∷ bytes) ≡ [] → ⊥)) (sym (e ∙ ne_eqb (suc (length bytes)) 0 (λ h. absurd (omega (arith, h))))) (some_pairs byte bytes)

@@ -104,14 +104,14 @@ impl<O: EntryOrder> BlockBuilder<O> {
     pub fn is_empty(&self) -> bool
         ensures { MatchBool result (self.now.pairs ≡ []) (self.now.pairs ≡ [] → ⊥) }
     {
-        self.count == 0
+        self.out.is_empty()
     }
 
     /// The key of the last entry, and nothing before the first.
     pub fn last_key(&self) -> &[u8]
         ensures { result.now ≡ key_behind [] self.now.pairs }
     {
-        &self.last_key
+        self.last_key.as_slice()
     }
 
     /// How many bytes `finish` would give now.
