@@ -4,7 +4,7 @@
 RT ?= $(firstword $(shell command -v rt 2> /dev/null) $(wildcard /opt/rattle/bin/rt))
 export RT
 
-PROGRAMS := quickstart
+PROGRAMS := quickstart tables
 
 .PHONY: help demo build test interop clean needs-rt
 .SILENT:

@@ -1,20 +1,31 @@
 // LevelDB itself, by its public interface, for the checks of this folder.
 //
-//   leveldb_driver version               the version of LevelDB, as 1.23
-//   leveldb_driver dump FLAGS FOLDER     opens a database and prints its pairs, one line each
-//   leveldb_driver write FLAGS FOLDER    opens or makes a database and applies the lines of standard input
-//   leveldb_driver hold FLAGS FOLDER     opens a database, prints "held", and keeps it open until its input ends
+//   leveldb_driver version                 the version of LevelDB, as 1.23
+//   leveldb_driver dump FLAGS FOLDER       opens a database and prints its pairs, one line each
+//   leveldb_driver get FLAGS FOLDER        opens a database and prints the value of each key of standard input, or "none"
+//   leveldb_driver write FLAGS FOLDER      opens or makes a database and applies the lines of standard input
+//   leveldb_driver compact FLAGS FOLDER    opens a database and compacts all of it (CompactRange)
+//   leveldb_driver repair FLAGS FOLDER     makes a database of the files that lie in a folder (RepairDB)
+//   leveldb_driver hold FLAGS FOLDER       opens a database, prints "held", and keeps it open until its input ends
 //
 // Keys and values are in hexadecimal, "-" for the empty string. The lines of `write` are "put KEY VALUE" and
 // "del KEY"; those between "begin" and "end" are one batch. Status 1 where LevelDB refuses, with its words on
 // standard error, and 2 where the command line or a line of input is wrong.
 //
-// Every database is opened with paranoid_checks and without compression. FLAGS are none or some of
+// Every database is opened with paranoid_checks, read with verify_checksums, and without compression and filter policy
+// where no flag says otherwise. FLAGS are none or some of
 //
 //   --reuse              goes on with the log and the MANIFEST that are there (reuse_logs). Without it LevelDB
 //                        moves what the logs hold into a table
 //   --other-comparator   orders the keys by a comparator of another name
+//   --filter             a Bloom filter of 10 bits a key
+//   --snappy             compression by Snappy
+//   --block-bytes=N      block_size
+//   --restarts=N         block_restart_interval
+//   --file-bytes=N       max_file_size
+//   --backwards          `dump` goes from the last pair to the first
 
+#include <cstdlib>
 #include <iostream>
 #include <memory>
 #include <sstream>
@@ -22,6 +33,7 @@
 
 #include "leveldb/comparator.h"
 #include "leveldb/db.h"
+#include "leveldb/filter_policy.h"
 #include "leveldb/iterator.h"
 #include "leveldb/options.h"
 #include "leveldb/write_batch.h"
@@ -72,18 +84,49 @@ class OtherComparator : public leveldb::Comparator {
 
 struct Database {
   std::string folder;
-  bool reuse = false;
-  bool other_comparator = false;
+  leveldb::Options options;
+  bool backwards = false;
 };
 
-leveldb::Status Open(const Database& database, bool may_create, std::unique_ptr<leveldb::DB>* db) {
+// What a flag says of a database. The comparator and the filter policy are kept to the end of the program.
+bool TakeFlag(const std::string& flag, Database* database) {
   static const OtherComparator other;
-  leveldb::Options options;
+  static const leveldb::FilterPolicy* const bloom = leveldb::NewBloomFilterPolicy(10);
+  const size_t equals = flag.find('=');
+  const std::string name = flag.substr(0, equals);
+  const long number = equals == std::string::npos ? 0 : std::atol(flag.c_str() + equals + 1);
+  leveldb::Options& options = database->options;
+  if (name == "--reuse") {
+    options.reuse_logs = true;
+  } else if (name == "--other-comparator") {
+    options.comparator = &other;
+  } else if (name == "--filter") {
+    options.filter_policy = bloom;
+  } else if (name == "--snappy") {
+    options.compression = leveldb::kSnappyCompression;
+  } else if (name == "--block-bytes" && number > 0) {
+    options.block_size = number;
+  } else if (name == "--restarts" && number > 0) {
+    options.block_restart_interval = number;
+  } else if (name == "--file-bytes" && number > 0) {
+    options.max_file_size = number;
+  } else if (name == "--backwards") {
+    database->backwards = true;
+  } else {
+    return false;
+  }
+  return true;
+}
+
+leveldb::ReadOptions Checked() {
+  leveldb::ReadOptions options;
+  options.verify_checksums = true;
+  return options;
+}
+
+leveldb::Status Open(const Database& database, bool may_create, std::unique_ptr<leveldb::DB>* db) {
+  leveldb::Options options = database.options;
   options.create_if_missing = may_create;
-  options.paranoid_checks = true;
-  options.compression = leveldb::kNoCompression;
-  options.reuse_logs = database.reuse;
-  if (database.other_comparator) options.comparator = &other;
   leveldb::DB* opened = nullptr;
   const leveldb::Status status = leveldb::DB::Open(options, database.folder, &opened);
   db->reset(opened);
@@ -94,13 +137,50 @@ int Dump(const Database& database) {
   std::unique_ptr<leveldb::DB> db;
   leveldb::Status status = Open(database, false, &db);
   if (!status.ok()) return Refuse(status);
-  leveldb::ReadOptions options;
-  options.verify_checksums = true;
-  std::unique_ptr<leveldb::Iterator> pairs(db->NewIterator(options));
-  for (pairs->SeekToFirst(); pairs->Valid(); pairs->Next()) {
+  std::unique_ptr<leveldb::Iterator> pairs(db->NewIterator(Checked()));
+  if (database.backwards) {
+    pairs->SeekToLast();
+  } else {
+    pairs->SeekToFirst();
+  }
+  while (pairs->Valid()) {
     std::cout << ToHex(pairs->key()) << " " << ToHex(pairs->value()) << "\n";
+    if (database.backwards) {
+      pairs->Prev();
+    } else {
+      pairs->Next();
+    }
   }
   return pairs->status().ok() ? 0 : Refuse(pairs->status());
+}
+
+int Get(const Database& database) {
+  std::unique_ptr<leveldb::DB> db;
+  leveldb::Status status = Open(database, false, &db);
+  if (!status.ok()) return Refuse(status);
+  for (std::string line, key, value; std::getline(std::cin, line);) {
+    if (!FromHex(line, &key)) {
+      std::cerr << "no key: " << line << "\n";
+      return kMisused;
+    }
+    status = db->Get(Checked(), key, &value);
+    if (!status.ok() && !status.IsNotFound()) return Refuse(status);
+    std::cout << (status.ok() ? ToHex(value) : "none") << "\n";
+  }
+  return 0;
+}
+
+int Compact(const Database& database) {
+  std::unique_ptr<leveldb::DB> db;
+  const leveldb::Status status = Open(database, false, &db);
+  if (!status.ok()) return Refuse(status);
+  db->CompactRange(nullptr, nullptr);
+  return 0;
+}
+
+int Repair(const Database& database) {
+  const leveldb::Status status = leveldb::RepairDB(database.folder, database.options);
+  return status.ok() ? 0 : Refuse(status);
 }
 
 // Adds the operation that a line spells.
@@ -158,19 +238,25 @@ int main(int argc, char** argv) {
     return 0;
   }
   Database database;
+  database.options.paranoid_checks = true;
+  database.options.compression = leveldb::kNoCompression;
+  bool misused = false;
   for (int i = 2; i < argc; i++) {
     const std::string word = argv[i];
-    if (word == "--reuse") {
-      database.reuse = true;
-    } else if (word == "--other-comparator") {
-      database.other_comparator = true;
-    } else {
+    if (word.compare(0, 2, "--") != 0) {
       database.folder = word;
+    } else if (!TakeFlag(word, &database)) {
+      misused = true;
     }
   }
-  if (verb == "dump" && !database.folder.empty()) return Dump(database);
-  if (verb == "write" && !database.folder.empty()) return Write(database);
-  if (verb == "hold" && !database.folder.empty()) return Hold(database);
-  std::cerr << "usage: leveldb_driver version, or dump, write or hold, then flags and a folder\n";
+  if (!misused && !database.folder.empty()) {
+    if (verb == "dump") return Dump(database);
+    if (verb == "get") return Get(database);
+    if (verb == "write") return Write(database);
+    if (verb == "compact") return Compact(database);
+    if (verb == "repair") return Repair(database);
+    if (verb == "hold") return Hold(database);
+  }
+  std::cerr << "usage: leveldb_driver version, or dump, get, write, compact, repair or hold, then flags and a folder\n";
   return kMisused;
 }
