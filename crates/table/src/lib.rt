@@ -24,4 +24,8 @@ pub use pair::KeyValue;
 pub use table::{Table, one_table};
 
 #[cfg(test)]
+mod builder_tests;
+#[cfg(test)]
+mod test_tables;
+#[cfg(test)]
 mod tests;

@@ -1,6 +1,6 @@
 //! Finding an entry by its key.
 
-ghost use Rattle.std.specs.Prelude.{◌≡◌, ◌≤◌, ◌+◌, ℕ, List, length, map, slice_index_or, IfOk, IfErr};
+ghost use Rattle.std.specs.Prelude.{◌≡◌, ◌<◌, ◌≤◌, ◌+◌, ℕ, List, length, map, slice_index_or, IfOk, IfErr};
 ghost use Rattle.std.specs.List.{flat_map};
 ghost use Rattle.ikey.specs.Below.{IsBelowInternal};
 ghost use Rattle.ikey.specs.Entries.{Pair};
@@ -25,6 +25,7 @@ use store::Store;
 pub fn first_place<K: KeyOrder>(places: &[Place], target: &[u8]) -> usize
     ensures inside { result ≤ length places.now }
     ensures front { (i : ℕ) (d : PlaceValue) → result ≡ i + 1 → IsBelowInternal K.cmp (slice_index_or places.now i d).key target.now }
+    ensures found { (d : PlaceValue) → result < length places.now → IsBelowInternal K.cmp (slice_index_or places.now result d).key target.now → ⊥ }
 {
     let mut low = 0;
     let mut high = places.len();
