@@ -11,7 +11,7 @@ PROGRAMS := quickstart tables
 
 help:
 	echo 'make demo      runs quickstart before any proof: it opens, writes, reads, closes and shows the log (under a minute)'
-	echo 'make test      everything: the checks beside LevelDB itself, then each proof from nothing and each test (most of an hour)'
+	echo 'make test      everything: the checks beside LevelDB itself, then each proof from nothing and each test (an hour and a half)'
 	echo 'make build     proves the programs and leaves them in build/'
 	echo 'make interop   the checks beside LevelDB itself alone'
 	echo 'make clean     takes away all that was built'
@@ -21,7 +21,7 @@ demo: needs-rt
 	cd crates/quickstart && $(RT) try < /dev/null
 
 build: needs-rt
-	echo 'Proving $(PROGRAMS) and all below: some ten minutes from nothing, and seconds where nothing has changed.'
+	echo 'Proving $(PROGRAMS) and all below: up to half an hour from nothing, and seconds where nothing has changed.'
 	mkdir -p build
 	for program in $(PROGRAMS); do \
 	  (cd crates/$$program && $(RT) run < /dev/null > /dev/null) && cp crates/$$program/out/$$program build/ || exit 1; \

@@ -5,7 +5,7 @@ ghost use Rattle.table.specs.Building.{last_added};
 use super::*;
 use crate::test_tables::{NAME, ONE_ENTRY, SEPARATED};
 use coding::{Bytes, DbError};
-use ikey::{Bytewise, EntryOrder, Internal, KeyOrder, Kind, pack, seek_key, unpack};
+use ikey::{Bytewise, KeyOrder, Kind, pack, seek_key};
 use std::alloc::{AllocError, AllocGlobal, Global};
 use std::cmp::Ordering;
 use std::process::Abort;
