@@ -4,3 +4,4 @@ pub mod Entries
 pub mod Keys
 pub mod KeyViews
 pub mod Orders
+pub mod Views
