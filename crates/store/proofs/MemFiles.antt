@@ -6,7 +6,7 @@ use Rattle.std.specs.BTreeMap as tree
 use Rattle.std.specs.Cmp.{eq_by_cmp_equiv, tied_itself}
 use Rattle.std.specs.Cmp.Lexicographic.{slice_cmp, nat_list_cmp_total}
 use Rattle.std.specs.Map.{lookup}
-use Rattle.std.specs.Option.{option_map}
+use Rattle.std.specs.Option.{option_map, option_and_then}
 use Rattle.std.specs.Ordering.{is_eq, is_lt, nat_cmp, eq_by_cmp}
 use Rattle.std.specs.declared.cmp.Ordering.{Ordering}
 use Rattle.std.specs.declared.cmp.Ordering.TheVariants.{Less, Equal, Greater}
@@ -20,23 +20,24 @@ use Rattle.std.specs.FinMap.{get, insert, remove, keys, from_entries, from_sorte
 use Rattle.std.proofs.lemmas.List.Elements.{same_from_all_zip}
 use Rattle.std.specs.Vec.{vec_len}
 use Rattle.std.proofs.lemmas.Map.Text.{btree_map_updates_text, is_eq-slice_cmp}
-use Rattle.store.specs.Files.{Files, Renames, made_if_missing}
-use Rattle.store.specs.MemStore.{files_of}
+use Rattle.store.specs.Files.{Files, Synced, Renames, made_if_missing, with_synced, renamed}
+use Rattle.store.specs.declared.mem_file.MemFile.{MemFile}
+use Rattle.store.specs.MemStore.{files_of, synced_of}
 
 abbrev Tree : Type 0
-Tree = BTreeMap (String Global) (Vec ℕ Global)
+Tree = BTreeMap (String Global) (MemFile)
 
-abbrev bytes_of : Vec ℕ Global → List ℕ
-bytes_of v = v.items
+abbrev bytes_of : MemFile → List ℕ
+bytes_of v = v.bytes
 
-found : (es : List (String Global × Vec ℕ Global)) (q : List ℕ) → find (slice_cmp nat_cmp) q (map (λ e. (string_bytes e.0, e.1.items)) es) ≡ option_map bytes_of (lookup (λ k. is_eq (slice_cmp nat_cmp q (string_bytes k))) es)
+found : (es : List (String Global × MemFile)) (q : List ℕ) → find (slice_cmp nat_cmp) q (map (λ e. (string_bytes e.0, e.1.bytes)) es) ≡ option_map bytes_of (lookup (λ k. is_eq (slice_cmp nat_cmp q (string_bytes k))) es)
 found [] q = refl
 found (e ∷ es) q =
-    elim (is_eq (slice_cmp nat_cmp q (string_bytes e.0))) as (λ b. cond b (Some e.1.items) (find (slice_cmp nat_cmp) q (map (λ e. (string_bytes e.0, e.1.items)) es)) ≡ option_map bytes_of (cond b (Some e.1) (lookup (λ k. is_eq (slice_cmp nat_cmp q (string_bytes k))) es))) [ true ↦ refl | false ↦ found es q ]
+    elim (is_eq (slice_cmp nat_cmp q (string_bytes e.0))) as (λ b. cond b (Some e.1.bytes) (find (slice_cmp nat_cmp) q (map (λ e. (string_bytes e.0, e.1.bytes)) es)) ≡ option_map bytes_of (cond b (Some e.1) (lookup (λ k. is_eq (slice_cmp nat_cmp q (string_bytes k))) es))) [ true ↦ refl | false ↦ found es q ]
 
 -- what the files have at a name
 pub get-files_of : (m : Tree) (q : List ℕ) → get (files_of m.entries) q ≡ option_map bytes_of (get_by_text m q)
-get-files_of m q = get-from_entries nat_list_cmp_total (map (λ e. (string_bytes e.0, e.1.items)) m.entries) q ∙ found m.entries q
+get-files_of m q = get-from_entries nat_list_cmp_total (map (λ e. (string_bytes e.0, e.1.bytes)) m.entries) q ∙ found m.entries q
 
 pub same_files : (m n : Files) → ((q : List ℕ) → get m q ≡ get n q) → m ≡ n
 same_files = same_map nat_list_cmp_total (slice_cmp-IsAntisymmetric nat_cmp-IsAntisymmetric)
@@ -46,24 +47,24 @@ turned : (bs q : List ℕ) → bytes_eq bs q ≡ eq_by_cmp (slice_cmp nat_cmp) q
 turned bs q = sym (is_eq-slice_cmp bs q) ∙ (eq_by_cmp_equiv nat_list_cmp_total).symm bs q
 
 -- after a change of the map at one name
-pub updated : (bs : List ℕ) (m n : Tree) (w : Option (Vec ℕ Global)) → UpdatesBy string_cmp (λ k. slice_cmp nat_cmp bs (string_bytes k)) m n w → (q : List ℕ) → get (files_of n.entries) q ≡ cond (eq_by_cmp (slice_cmp nat_cmp) q bs) (option_map bytes_of w) (get (files_of m.entries) q)
+pub updated : (bs : List ℕ) (m n : Tree) (w : Option (MemFile)) → UpdatesBy string_cmp (λ k. slice_cmp nat_cmp bs (string_bytes k)) m n w → (q : List ℕ) → get (files_of n.entries) q ≡ cond (eq_by_cmp (slice_cmp nat_cmp) q bs) (option_map bytes_of w) (get (files_of m.entries) q)
 updated bs m n w u q =
     get-files_of n q ∙ ap (option_map bytes_of) (btree_map_updates_text bs m n w u q)
     ∙ elim (bytes_eq bs q) as (λ b. option_map bytes_of (cond b w (get_by_text m q)) ≡ cond b (option_map bytes_of w) (option_map bytes_of (get_by_text m q))) [ true ↦ refl | false ↦ refl ]
     ∙ ap (λ b. cond b (option_map bytes_of w) (option_map bytes_of (get_by_text m q))) (turned bs q)
     ∙ ap (cond (eq_by_cmp (slice_cmp nat_cmp) q bs) (option_map bytes_of w)) (sym (get-files_of m q))
 
-pub files-insert : (name file : List ℕ) (k : String Global) (m n : Tree) (v : Vec ℕ Global) → string_bytes k ≡ name → v.items ≡ file → Updates string_cmp m n k (Some v) → files_of n.entries ≡ insert (files_of m.entries) name file
+pub files-insert : (name file : List ℕ) (k : String Global) (m n : Tree) (v : MemFile) → string_bytes k ≡ name → v.bytes ≡ file → Updates string_cmp m n k (Some v) → files_of n.entries ≡ insert (files_of m.entries) name file
 files-insert name file k m n v is_name is_file u =
-    same_files _ _ (λ q. updated (string_bytes k) m n (Some v) u q ∙ sym (get-insert nat_list_cmp_total (files_of m.entries) (string_bytes k) v.items q))
-    ∙ ap (λ x. insert (files_of m.entries) x v.items) is_name ∙ ap (insert (files_of m.entries) name) is_file
+    same_files _ _ (λ q. updated (string_bytes k) m n (Some v) u q ∙ sym (get-insert nat_list_cmp_total (files_of m.entries) (string_bytes k) v.bytes q))
+    ∙ ap (λ x. insert (files_of m.entries) x v.bytes) is_name ∙ ap (insert (files_of m.entries) name) is_file
 
 pub files-remove : (name : List ℕ) (m n : Tree) → UpdatesBy string_cmp (λ k. slice_cmp nat_cmp name (string_bytes k)) m n None → files_of n.entries ≡ remove (files_of m.entries) name
 files-remove name m n u = same_files _ _ (λ q. updated name m n None u q ∙ sym (get-remove nat_list_cmp_total (files_of m.entries) name q))
 
-pub files-write : (name file : List ℕ) (m n : Tree) (v : Vec ℕ Global) → v.items ≡ file → UpdatesBy string_cmp (λ k. slice_cmp nat_cmp name (string_bytes k)) m n (Some v) → files_of n.entries ≡ insert (files_of m.entries) name file
+pub files-write : (name file : List ℕ) (m n : Tree) (v : MemFile) → v.bytes ≡ file → UpdatesBy string_cmp (λ k. slice_cmp nat_cmp name (string_bytes k)) m n (Some v) → files_of n.entries ≡ insert (files_of m.entries) name file
 files-write name file m n v is_file u =
-    same_files _ _ (λ q. updated name m n (Some v) u q ∙ sym (get-insert nat_list_cmp_total (files_of m.entries) name v.items q))
+    same_files _ _ (λ q. updated name m n (Some v) u q ∙ sym (get-insert nat_list_cmp_total (files_of m.entries) name v.bytes q))
     ∙ ap (insert (files_of m.entries) name) is_file
 
 equal_of : (r : Ordering) → is_eq r ≡ true → r ≡ Equal
@@ -82,7 +83,7 @@ insert_same files name file is = same_files _ _ (λ q. get-insert nat_list_cmp_t
     (λ same. sym is ∙ ap (get files) (sym (slice_cmp-IsAntisymmetric nat_cmp-IsAntisymmetric q name (equal_of (slice_cmp nat_cmp q name) same)))))
 
 -- the file that a look-up found
-pub get-found : (m : Tree) (name : List ℕ) (v : Vec ℕ Global) → get_by_text m name ≡ Some v → get (files_of m.entries) name ≡ Some v.items
+pub get-found : (m : Tree) (name : List ℕ) (v : MemFile) → get_by_text m name ≡ Some v → get (files_of m.entries) name ≡ Some v.bytes
 get-found m name v is = get-files_of m name ∙ ap (option_map bytes_of) is
 
 pub get-missed : (m : Tree) (name : List ℕ) → get_by_text m name ≡ None → get (files_of m.entries) name ≡ None
@@ -91,23 +92,23 @@ get-missed m name is = get-files_of m name ∙ ap (option_map bytes_of) is
 both : (a b : Bool) → a ≡ true → b ≡ true → (a && b) ≡ true
 both a b p q = λ i. p i && q i
 
-below : (x : String Global) (es : List (String Global × Vec ℕ Global)) → AllByRecursion (λ y. string_cmp x y ≡ Less) (map (λ e. e.0) es) → below_all (slice_cmp nat_cmp) (string_bytes x) (map (λ e. (string_bytes e.0, e.1.items)) es) ≡ true
+below : (x : String Global) (es : List (String Global × MemFile)) → AllByRecursion (λ y. string_cmp x y ≡ Less) (map (λ e. e.0) es) → below_all (slice_cmp nat_cmp) (string_bytes x) (map (λ e. (string_bytes e.0, e.1.bytes)) es) ≡ true
 below x [] h = refl
 below x (e ∷ es) h = both (is_lt (slice_cmp nat_cmp (string_bytes x) (string_bytes e.0))) _ (ap is_lt h.0) (below x es h.1)
 
-sorted : (es : List (String Global × Vec ℕ Global)) → IsStrictlySortedBy string_cmp (map (λ e. e.0) es) → is_sorted (slice_cmp nat_cmp) (map (λ e. (string_bytes e.0, e.1.items)) es) ≡ true
+sorted : (es : List (String Global × MemFile)) → IsStrictlySortedBy string_cmp (map (λ e. e.0) es) → is_sorted (slice_cmp nat_cmp) (map (λ e. (string_bytes e.0, e.1.bytes)) es) ≡ true
 unfolding IsStrictlySortedBy
 sorted [] h = refl
 sorted (e ∷ es) h = both _ _ (below e.0 es h.0) (sorted es h.1)
 
-named : (es : List (String Global × Vec ℕ Global)) → map (λ (e : List ℕ × List ℕ). e.0) (map (λ e. (string_bytes e.0, e.1.items)) es) ≡ map string_bytes (map (λ e. e.0) es)
+named : (es : List (String Global × MemFile)) → map (λ (e : List ℕ × List ℕ). e.0) (map (λ e. (string_bytes e.0, e.1.bytes)) es) ≡ map string_bytes (map (λ e. e.0) es)
 named [] = refl
 named (e ∷ es) = ap (λ rest. string_bytes e.0 ∷ rest) (named es)
 
 -- the names of the files
 pub keys-files_of : (m : Tree) → IsOrdered string_cmp m → keys (files_of m.entries) ≡ map string_bytes (tree.keys m)
 keys-files_of m ordered =
-    let es = map (λ e. (string_bytes e.0, e.1.items)) m.entries in
+    let es = map (λ e. (string_bytes e.0, e.1.bytes)) m.entries in
     let is : T (is_sorted (slice_cmp nat_cmp) es) = subst T (sym (sorted m.entries ordered)) tt in
     let same : files_of m.entries ≡ from_sorted es = same_files _ _ (λ q. get-from_entries nat_list_cmp_total es q ∙ sym (get-from_sorted (slice_cmp nat_cmp) es q is)) in
     ap keys same ∙ ap (map (λ (e : List ℕ × List ℕ). e.0)) (entries-from_sorted (slice_cmp nat_cmp) es is) ∙ named m.entries
@@ -153,6 +154,10 @@ same_of a b test = same_name a b (is_eq-slice_cmp a b ∙ twice (bytes_eq a b) t
     twice : (x : Bool) → false ≡ not x → x ≡ true
     twice true e = refl
     twice false e = absurd (true≢false (sym e))
+
+pub none_of : {X : Type 0} (o : Option X) → false ≡ is_some o → o ≡ None
+none_of None e = refl
+none_of (Some x) e = absurd (true≢false (sym e))
 
 pub some_of : {X : Type 0} (o : Option X) → false ≡ is_none o → is_some o ≡ true
 some_of None e = absurd (true≢false (sym e))
@@ -221,21 +226,101 @@ moves_other files new from to present apart false there moves =
 pub renames_other : (files new : Files) (from to : List ℕ) → is_some (get files from) ≡ true → (from ≡ to → ⊥) → Moves (made_if_missing files to) new from to → Renames files new from to
 renames_other files new from to present apart moves = moves_other files new from to present apart (is_some (get files to)) refl moves
 
-abbrev contents : (String Global × Vec ℕ Global) → List ℕ × List ℕ
-contents e = (string_bytes e.0, e.1.items)
+abbrev contents : (String Global × MemFile) → List ℕ × List ℕ
+contents e = (string_bytes e.0, e.1.bytes)
 
-same_entries : (es fs : List (String Global × Vec ℕ Global))
-    → AllZip (λ p q. (string_bytes q.0 ≡ string_bytes p.0) × (AllZip (λ (x y : ℕ). y ≡ x) p.1.items q.1.items × (vec_len q.1 ≡ vec_len p.1))) es fs
+same_entries : (es fs : List (String Global × MemFile))
+    → AllZip (λ p q. (string_bytes q.0 ≡ string_bytes p.0) × (q.1 ≡ p.1)) es fs
     → map contents fs ≡ map contents es
 same_entries [] [] h = refl
 same_entries [] (f ∷ fs) h = absurd h
 same_entries (e ∷ es) [] h = absurd h
 same_entries (e ∷ es) (f ∷ fs) h =
-    let items : f.1.items ≡ e.1.items = same_from_all_zip (λ (x y : ℕ). y ≡ x) e.1.items f.1.items h.0.1.0 (λ x y is. is) in
+    let items : f.1.bytes ≡ e.1.bytes = ap (λ (v : MemFile). v.bytes) h.0.1 in
     let bytes : string_bytes f.0 ≡ string_bytes e.0 = h.0.0 in
     let first : contents f ≡ contents e = (cc) in
     ap (λ x. x ∷ map contents fs) first ∙ ap (λ rest. contents e ∷ rest) (same_entries es fs h.1)
 
 -- a copy of a map stands for the same files
-pub files-clone : (m n : Tree) → IsClone (λ s t. string_bytes t ≡ string_bytes s) (λ v w. AllZip (λ (x y : ℕ). y ≡ x) v.items w.items × (vec_len w ≡ vec_len v)) m n → files_of n.entries ≡ files_of m.entries
+pub files-clone : (m n : Tree) → IsClone (λ s t. string_bytes t ≡ string_bytes s) (λ v w. w ≡ v) m n → files_of n.entries ≡ files_of m.entries
 files-clone m n h = ap from_entries (same_entries m.entries n.entries h)
+
+-- ---- a file that was made where it was missing
+
+made_at : (b : Bool) (files : Files) (to : List ℕ) → is_some (get files to) ≡ b → is_some (get (cond b files (insert files to [])) to) ≡ true
+made_at true files to is = is
+made_at false files to is = ap is_some (get-insert_same files to [])
+
+pub made_there : (files : Files) (to : List ℕ) → is_some (get (made_if_missing files to) to) ≡ true
+made_there files to = made_at (is_some (get files to)) files to refl
+
+still_at : (b c : Bool) (files : Files) (from to : List ℕ) → eq_by_cmp (slice_cmp nat_cmp) from to ≡ c → is_some (get files from) ≡ true → is_some (get (cond b files (insert files to [])) from) ≡ true
+still_at true c files from to is there = there
+still_at false true files from to is there = ap is_some (get-insert nat_list_cmp_total files to [] from ∙ ap (λ b. cond b (Some []) (get files from)) is)
+still_at false false files from to is there = ap is_some (get-insert nat_list_cmp_total files to [] from ∙ ap (λ b. cond b (Some []) (get files from)) is) ∙ there
+
+-- so is every file that was there
+pub made_still : (files : Files) (from to : List ℕ) → is_some (get files from) ≡ true → is_some (get (made_if_missing files to) from) ≡ true
+made_still files from to there = still_at (is_some (get files to)) (eq_by_cmp (slice_cmp nat_cmp) from to) files from to refl there
+
+-- ---- what is synced
+
+abbrev kept_of : Option MemFile → Option (List ℕ)
+kept_of file = option_and_then (λ (v : MemFile). v.synced) file
+
+abbrev Changed : List ℕ → Tree → Tree → Option MemFile → Type 0
+Changed name m n w = UpdatesBy string_cmp (λ k. slice_cmp nat_cmp name (string_bytes k)) m n w
+
+-- after a change of the map at one name
+pub synced-change : (name : List ℕ) (m n : Tree) (w : Option MemFile) → Changed name m n w → synced_of n.entries ≡ with_synced (synced_of m.entries) name (kept_of w)
+synced-change name m n w u = λ i q. at q i
+  where
+    at : (q : List ℕ) → synced_of n.entries q ≡ with_synced (synced_of m.entries) name (kept_of w) q
+    at q =
+        ap kept_of (btree_map_updates_text name m n w u q)
+        ∙ elim (bytes_eq name q) as (λ b. kept_of (cond b w (get_by_text m q)) ≡ cond b (kept_of w) (kept_of (get_by_text m q))) [ true ↦ refl | false ↦ refl ]
+        ∙ ap (λ b. cond b (kept_of w) (kept_of (get_by_text m q))) (turned name q)
+
+-- the same of a key that has this name
+pub synced-insert : (name : List ℕ) (k : String Global) (m n : Tree) (v : MemFile) → string_bytes k ≡ name → Updates string_cmp m n k (Some v) → synced_of n.entries ≡ with_synced (synced_of m.entries) name v.synced
+synced-insert name k m n v is u = synced-change (string_bytes k) m n (Some v) u ∙ ap (λ x. with_synced (synced_of m.entries) x v.synced) is
+
+-- what is synced of a file that a look-up found, and of one that is missing
+pub synced-found : (m : Tree) (name : List ℕ) (v : MemFile) → get_by_text m name ≡ Some v → synced_of m.entries name ≡ v.synced
+synced-found m name v is = ap kept_of is
+
+pub synced-missed : (m : Tree) (name : List ℕ) → get_by_text m name ≡ None → synced_of m.entries name ≡ None
+synced-missed m name is = ap kept_of is
+
+-- what was synced is synced
+pub synced_same : (s : Synced) (name : List ℕ) (content : Option (List ℕ)) → s name ≡ content → with_synced s name content ≡ s
+synced_same s name content is = λ i q. kept_at (eq_by_cmp (slice_cmp nat_cmp) q name) content (s q) (λ same. sym is ∙ ap s (sym (same_name q name same))) i
+
+-- a file that has its own name again
+pub synced_itself : (s : Synced) (from to : List ℕ) → from ≡ to → s ≡ renamed s from to
+synced_itself s from to same = λ i q. at q i
+  where
+    back : (q : List ℕ) (b : Bool) → (b ≡ true → q ≡ from) → s q ≡ cond b (s from) (cond b None (s q))
+    back q true h = ap s (h refl)
+    back q false h = refl
+    at : (q : List ℕ) → s q ≡ renamed s from to q
+    at q = back q (eq_by_cmp (slice_cmp nat_cmp) q from) (same_name q from)
+        ∙ ap (λ t. cond (eq_by_cmp (slice_cmp nat_cmp) q t) (s from) (with_synced s from None q)) same
+
+same_look_up : (es fs : List (String Global × MemFile)) → AllZip (λ p q. (string_bytes q.0 ≡ string_bytes p.0) × (q.1 ≡ p.1)) es fs
+    → (q : List ℕ) → synced_of fs q ≡ synced_of es q
+same_look_up [] [] h q = refl
+same_look_up [] (f ∷ fs) h q = absurd h
+same_look_up (e ∷ es) [] h q = absurd h
+same_look_up (e ∷ es) (f ∷ fs) h q =
+    by_test f (is_eq (slice_cmp nat_cmp q (string_bytes f.0))) fs refl
+    ∙ (λ i. cond (is_eq (slice_cmp nat_cmp q (h.0.0 i))) ((h.0.1 i).synced) (same_look_up es fs h.1 q i))
+    ∙ sym (by_test e (is_eq (slice_cmp nat_cmp q (string_bytes e.0))) es refl)
+  where
+    by_test : (e : String Global × MemFile) (b : Bool) (rest : List (String Global × MemFile)) → is_eq (slice_cmp nat_cmp q (string_bytes e.0)) ≡ b
+        → synced_of (e ∷ rest) q ≡ cond (is_eq (slice_cmp nat_cmp q (string_bytes e.0))) (e.1.synced) (synced_of rest q)
+    by_test e b rest is = elim (is_eq (slice_cmp nat_cmp q (string_bytes e.0))) as (λ t. kept_of (cond t (Some e.1) (lookup (λ k. is_eq (slice_cmp nat_cmp q (string_bytes k))) rest)) ≡ cond t (e.1.synced) (synced_of rest q)) [ true ↦ refl | false ↦ refl ]
+
+-- a copy of a map has the same synced
+pub synced-clone : (m n : Tree) → IsClone (λ s t. string_bytes t ≡ string_bytes s) (λ v w. w ≡ v) m n → synced_of n.entries ≡ synced_of m.entries
+synced-clone m n h = λ i q. same_look_up m.entries n.entries h q i

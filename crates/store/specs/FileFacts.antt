@@ -1,5 +1,5 @@
--- What is known of a store over a folder: its counts, and nothing of the files.
-use Rattle.std.specs.Prelude.{false}
+-- What is known of a store over a folder: its counts, whether it holds the lock, and nothing of the files.
+use Rattle.std.specs.Prelude.{Bool, false, None}
 use Rattle.std.specs.FinMap.{empty}
 use Rattle.std.specs.declared.io.ErrorKind.{ErrorKind}
 use Rattle.std.specs.declared.io.ErrorKind.TheVariants.{NotFound, OutOfMemory}
@@ -8,10 +8,12 @@ use Rattle.store.specs.declared.error.StoreError.TheVariants.{Memory, Missing, D
 use Rattle.store.specs.declared.counters.Counters.{Counters}
 use Rattle.store.specs.Files.{Facts}
 
-abbrev pub counted_facts : Counters → Facts
-counted_facts counters = record {
+abbrev pub counted_facts : Bool → Counters → Facts
+counted_facts held counters = record {
   files = empty;
+  synced = λ name. None;
   faithful = false;
+  held = held;
   failures = counters.failures;
   denials = counters.denials;
 }

@@ -1,3 +1,4 @@
+pub mod MemFile
 pub mod Files
 pub mod Calls
 pub mod MemStore

@@ -1,5 +1,5 @@
 // A store over a folder of the system.
-ghost use Rattle.std.specs.Prelude.{◌≡◌, ◌≢◌, ◌<◌, ◌≤◌, IfOk, OnOk, IfErr, true, false};
+ghost use Rattle.std.specs.Prelude.{◌≡◌, ◌≢◌, ◌<◌, ◌≤◌, IfOk, OnOk, IfErr, None, true, false};
 ghost use Rattle.std.specs.FinMap.{empty};
 ghost use Rattle.store.specs.FileFacts.{counted_facts};
 ghost use Rattle.store.specs.Calls.{Counts};
@@ -28,6 +28,7 @@ use std::alloc::Global;
 #[derive(Drop)]
 pub struct FileStore {
     folder: Folder,
+    held: bool,
     counters: Counters,
 }
 
@@ -35,17 +36,18 @@ impl FileStore {
     /// The files of a folder that exists. Missing where nothing is at the path, and Device where something else than
     /// a folder is there, or one that this process may not open.
     pub fn open(rt: &HostRuntime, folder: &str) -> Result<FileStore, StoreError>
-        ensures { IfOk result (λ store. counted_facts store.counters ≡ record { files = empty; faithful = false; failures = 0; denials = 0 }) }
+        ensures { IfOk result (λ store. counted_facts store.held store.counters ≡ record { files = empty; synced = λ name. None; faithful = false; held = false; failures = 0; denials = 0 }) }
     {
         Ok(FileStore {
             folder: Folder::open(rt, folder)?,
+            held: false,
             counters: Counters::new(),
         })
     }
 }
 
 impl Store for FileStore {
-    ghost facts = { λ store. counted_facts store.counters };
+    ghost facts = { λ store. counted_facts store.held store.counters };
 
     fn list(&mut self, alloc: Global) -> Result<Vec<String>, StoreError> {
         match self.folder.list(alloc) {
@@ -111,7 +113,10 @@ impl Store for FileStore {
 
     fn lock(&mut self) -> Result<bool, StoreError> {
         match self.folder.lock() {
-            Ok(true) => Ok(true),
+            Ok(true) => {
+                self.held = true;
+                Ok(true)
+            }
             Ok(false) => self.counters.deny(),
             Err(error) => Err(refused(&mut self.counters, changing(error))),
         }
@@ -119,6 +124,7 @@ impl Store for FileStore {
 
     fn unlock(&mut self) -> Result<(), StoreError> {
         self.folder.unlock();
+        self.held = false;
         Ok(())
     }
 }

@@ -6,6 +6,7 @@ mod error;
 mod fault_store;
 mod file_store;
 mod folder;
+mod mem_file;
 mod memory;
 mod store;
 

@@ -1,11 +1,12 @@
 // A store in memory, which is faithful.
-ghost use Rattle.std.specs.Prelude.{◌≡◌, ◌≢◌, ◌+◌, ◌≤◌, ◌^◌, [], List, ℕ, Some, true, false, take, drop, IfOk, OnOk, OnErr, IfErr, IsSome};
+ghost use Rattle.std.specs.Prelude.{◌≡◌, ◌≢◌, ◌+◌, ◌≤◌, ◌^◌, [], List, ℕ, Some, None, true, false, take, drop, IfOk, OnOk, OnErr, IfErr, IsSome};
 ghost use Rattle.std.specs.FinMap as map;
 ghost use Rattle.std.specs.FinMap.{insert};
-ghost use Rattle.store.specs.Files.{Renames, made_if_missing};
-ghost use Rattle.store.specs.MemStore.{files_of};
+ghost use Rattle.store.specs.Files.{Renames, made_if_missing, with_synced, renamed};
+ghost use Rattle.store.specs.MemStore.{files_of, synced_of};
 
 use crate::counters::Counters;
+use crate::mem_file::MemFile;
 use crate::{Store, StoreError};
 use std::alloc::{AllocError, Global};
 use std::collections::BTreeMap;
@@ -19,7 +20,7 @@ const LOCK: &str = "LOCK";
 #[derive(Drop)]
 pub struct MemStore {
     alloc: Global,
-    files: BTreeMap<String, Vec<u8>>,
+    files: BTreeMap<String, MemFile>,
     locked: bool,
     counters: Counters,
 }
@@ -30,7 +31,7 @@ impl MemStore {
 
     /// An empty directory.
     pub fn new(alloc: Global) -> Self
-        ensures { mem_facts result ≡ record { files = empty; faithful = true; failures = 0; denials = 0 } }
+        ensures { mem_facts result ≡ record { files = empty; synced = λ name. None; faithful = true; held = false; failures = 0; denials = 0 } }
     {
         MemStore {
             alloc,
@@ -40,9 +41,9 @@ impl MemStore {
         }
     }
 
-    /// A directory with a copy of each file, its lock free and its counts 0.
+    /// A directory with a copy of each file, synced as it is here, its lock free and its counts 0.
     pub fn copy(&self) -> Result<MemStore, StoreError>
-        ensures copied { IfOk result (λ copy. mem_facts copy ≡ record { files = (mem_facts self.now).files; faithful = true; failures = 0; denials = 0 }) }
+        ensures copied { IfOk result (λ copy. mem_facts copy ≡ record (mem_facts self.now) { faithful = true; held = false; failures = 0; denials = 0 }) }
         ensures memory { IfErr result (λ error. error ≡ StoreError.Memory) }
     {
         Ok(MemStore {
@@ -81,7 +82,7 @@ impl Store for MemStore {
     fn len(&mut self, name: &str) -> Result<u64, StoreError> {
         match self.files.get(name) {
             None => Err(StoreError::Missing),
-            Some(file) => Ok(file.len() as u64),
+            Some(file) => Ok(file.bytes().len() as u64),
         }
     }
 
@@ -94,13 +95,13 @@ impl Store for MemStore {
     ) -> Result<Vec<u8>, StoreError> {
         match self.files.get(name) {
             None => Err(StoreError::Missing),
-            Some(file) => Ok(part(alloc, file.as_slice(), offset as usize, count)?),
+            Some(file) => Ok(part(alloc, file.bytes(), offset as usize, count)?),
         }
     }
 
     fn create(&mut self, name: &str) -> Result<(), StoreError> {
         match self.files.get_mut(name) {
-            None => Ok(put(&mut self.files, self.alloc, name, Vec::new(self.alloc))?),
+            None => Ok(put(&mut self.files, self.alloc, name, MemFile::new(self.alloc))?),
             Some(file) => {
                 file.clear();
                 Ok(())
@@ -111,15 +112,17 @@ impl Store for MemStore {
     fn append(&mut self, name: &str, bytes: &[u8]) -> Result<(), StoreError> {
         match self.files.get_mut(name) {
             None => self.fail(),
-            Some(file) => Ok(file.extend_from_slice(bytes)?),
+            Some(file) => Ok(file.append(bytes)?),
         }
     }
 
     fn sync(&mut self, name: &str) -> Result<(), StoreError> {
-        if self.files.contains_key(name) {
-            Ok(())
-        } else {
-            self.fail()
+        match self.files.get_mut(name) {
+            None => self.fail(),
+            Some(file) => {
+                file.sync();
+                Ok(())
+            }
         }
     }
 
@@ -158,12 +161,13 @@ impl Store for MemStore {
 
 // Puts a file under a name, in place of the one that has it.
 fn put(
-    files: &mut BTreeMap<String, Vec<u8>>,
+    files: &mut BTreeMap<String, MemFile>,
     alloc: Global,
     name: &str,
-    file: Vec<u8>,
+    file: MemFile,
 ) -> Result<(), AllocError>
-    ensures ok { OnOk result (files_of files.new.entries ≡ insert (files_of files.old.entries) name.now file.items) }
+    ensures ok { OnOk result (files_of files.new.entries ≡ insert (files_of files.old.entries) name.now file.bytes) }
+    ensures synced { OnOk result (synced_of files.new.entries ≡ with_synced (synced_of files.old.entries) name.now file.synced) }
     ensures err { OnErr result (files.new.entries ≡ files.old.entries) }
 {
     let name = String::from_str(alloc, name)?;
@@ -173,23 +177,26 @@ fn put(
 
 // Makes an empty file where there is none.
 fn make_if_missing(
-    files: &mut BTreeMap<String, Vec<u8>>,
+    files: &mut BTreeMap<String, MemFile>,
     alloc: Global,
     name: &str,
 ) -> Result<(), AllocError>
     ensures ok { OnOk result (files_of files.new.entries ≡ made_if_missing (files_of files.old.entries) name.now) }
+    ensures synced { OnOk result (synced_of files.new.entries ≡ synced_of files.old.entries) }
     ensures err { OnErr result (files.new.entries ≡ files.old.entries) }
 {
     if files.contains_key(name) {
         return Ok(());
     }
-    put(files, alloc, name, Vec::new(alloc))
+    put(files, alloc, name, MemFile::new(alloc))
 }
 
 // Takes a file from its name and puts it in the place of another.
-fn move_file(files: &mut BTreeMap<String, Vec<u8>>, from: &str, to: &str)
-    ensures { (bytes : List ℕ) → map.get (files_of files.old.entries) from.now ≡ Some bytes → IsSome (map.get (files_of files.old.entries) to.now)
+fn move_file(files: &mut BTreeMap<String, MemFile>, from: &str, to: &str)
+    ensures moved { (bytes : List ℕ) → map.get (files_of files.old.entries) from.now ≡ Some bytes → IsSome (map.get (files_of files.old.entries) to.now)
         → from.now ≢ to.now → files_of files.new.entries ≡ insert (map.remove (files_of files.old.entries) from.now) to.now bytes }
+    ensures synced { IsSome (map.get (files_of files.old.entries) from.now) → IsSome (map.get (files_of files.old.entries) to.now)
+        → from.now ≢ to.now → synced_of files.new.entries ≡ renamed (synced_of files.old.entries) from.now to.now }
 {
     let Some(file) = files.remove(from) else {
         return;

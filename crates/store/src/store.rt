@@ -1,8 +1,8 @@
 // What a database asks of a directory, and what it may rely on.
-ghost use Rattle.std.specs.Prelude.{◌≡◌, ◌≢◌, ◌⊎◌, ◌<◌, List, ℕ, [], length, take, drop, map, string_bytes, IfOk, OnOk, IsTrue, IsSome, true, false};
+ghost use Rattle.std.specs.Prelude.{◌≡◌, ◌≢◌, ◌⊎◌, ◌<◌, List, ℕ, [], length, take, drop, map, string_bytes, IfOk, OnOk, OnErr, None, IsTrue, IsSome, true, false};
 ghost use Rattle.std.specs.FinMap as map;
-ghost use Rattle.store.specs.Files.{Facts, Lists, Appends, AppendsBeginning, Renames, Removes, Locks, MayLock};
-ghost use Rattle.store.specs.Calls.{Counts, Keeps, Changes};
+ghost use Rattle.store.specs.Files.{Facts, Lists, Appends, AppendsBeginning, Renames, Removes, Locks, MayLock, with_synced, renamed};
+ghost use Rattle.store.specs.Calls.{Counts, Keeps, KeepsSynced, Changes, ChangesSynced};
 
 use crate::StoreError;
 use std::alloc::Global;
@@ -16,23 +16,31 @@ use std::alloc::Global;
 /// Of its errors Memory changes nothing, and Device is counted. Only `len` and `read_at` answer Missing; `sync`,
 /// `remove` and `unlock` never answer Memory. A call that needs a file and changes it, or syncs it, answers Device where
 /// that file is missing.
+///
+/// What is synced is what the device was asked to keep and said that it did: of each name what its file held then, which a
+/// rename carries along. LevelDB relies on one thing more, and so do we: that a rename comes to the device no later than
+/// what is synced behind it.
 pub trait Store {
-    /// The files, whether it was faithful so far, and its counts of failures and of denied locks.
+    /// The files, what of them is synced, whether it was faithful so far, whether it holds the lock, and its counts of
+    /// failures and of denied locks.
     ghost facts: { Self → Facts };
 
     /// The names of all files, each once, in no order.
     fn list(&mut self, alloc: Global) -> Result<Vec<String>, StoreError>
         ensures counts { Counts (facts self.old) (facts self.new) result }
         ensures undenied { (facts self.new).denials ≡ (facts self.old).denials }
+        ensures lock { (facts self.new).held ≡ (facts self.old).held }
         ensures names { IfOk result (λ names. IsTrue (facts self.new).faithful →
             Lists (facts self.old).files (map string_bytes names.items)) }
         ensures same { Keeps (facts self.old) (facts self.new) }
+        ensures synced { KeepsSynced (facts self.old) (facts self.new) }
         ensures missing { result ≢ Err StoreError.Missing };
 
     /// The length of a file in bytes.
     fn len(&mut self, name: &str) -> Result<u64, StoreError>
         ensures counts { Counts (facts self.old) (facts self.new) result }
         ensures undenied { (facts self.new).denials ≡ (facts self.old).denials }
+        ensures lock { (facts self.new).held ≡ (facts self.old).held }
         ensures length { IfOk result (λ len. IsTrue (facts self.new).faithful →
             (bytes : List ℕ) × (map.get (facts self.old).files name.now ≡ Some bytes) × (len ≡ length bytes)) }
         ensures missing { IsTrue (facts self.new).faithful → result ≡ Err StoreError.Missing →
@@ -49,6 +57,7 @@ pub trait Store {
     ) -> Result<Vec<u8>, StoreError>
         ensures counts { Counts (facts self.old) (facts self.new) result }
         ensures undenied { (facts self.new).denials ≡ (facts self.old).denials }
+        ensures lock { (facts self.new).held ≡ (facts self.old).held }
         ensures bytes { IfOk result (λ read. IsTrue (facts self.new).faithful →
             (bytes : List ℕ) × (map.get (facts self.old).files name.now ≡ Some bytes) × (read.items ≡ take count (drop offset bytes))) }
         ensures missing { IsTrue (facts self.new).faithful → result ≡ Err StoreError.Missing →
@@ -59,18 +68,23 @@ pub trait Store {
     fn create(&mut self, name: &str) -> Result<(), StoreError>
         ensures counts { Counts (facts self.old) (facts self.new) result }
         ensures undenied { (facts self.new).denials ≡ (facts self.old).denials }
+        ensures lock { (facts self.new).held ≡ (facts self.old).held }
         ensures files { Changes (facts self.old) (facts self.new) result
             (λ old new. new ≡ map.insert old name.now [])
             (λ old new. (new ≡ old) ⊎ (new ≡ map.insert old name.now [])) }
+        ensures synced { ChangesSynced (facts self.old) (facts self.new) result
+            (λ synced. with_synced synced name.now None) (λ old new. new ≡ map.insert old name.now []) }
         ensures missing { result ≢ Err StoreError.Missing };
 
     /// Adds bytes at the end of a file. A call that fails with Device may have added a beginning of them.
     fn append(&mut self, name: &str, bytes: &[u8]) -> Result<(), StoreError>
         ensures counts { Counts (facts self.old) (facts self.new) result }
         ensures undenied { (facts self.new).denials ≡ (facts self.old).denials }
+        ensures lock { (facts self.new).held ≡ (facts self.old).held }
         ensures files { Changes (facts self.old) (facts self.new) result
             (λ old new. Appends old new name.now bytes.now)
             (λ old new. AppendsBeginning old new name.now bytes.now) }
+        ensures synced { KeepsSynced (facts self.old) (facts self.new) }
         ensures absent { IsTrue (facts self.new).faithful → map.get (facts self.old).files name.now ≡ None → result ≡ Err StoreError.Device }
         ensures missing { result ≢ Err StoreError.Missing };
 
@@ -78,8 +92,11 @@ pub trait Store {
     fn sync(&mut self, name: &str) -> Result<(), StoreError>
         ensures counts { Counts (facts self.old) (facts self.new) result }
         ensures undenied { (facts self.new).denials ≡ (facts self.old).denials }
+        ensures lock { (facts self.new).held ≡ (facts self.old).held }
         ensures present { IsTrue (facts self.new).faithful → OnOk result (IsSome (map.get (facts self.old).files name.now)) }
         ensures same { Keeps (facts self.old) (facts self.new) }
+        ensures synced { IsTrue (facts self.new).faithful → OnOk result ((facts self.new).synced ≡ with_synced (facts self.old).synced name.now (map.get (facts self.old).files name.now)) }
+        ensures unsynced { IsTrue (facts self.new).faithful → OnErr result ((facts self.new).synced ≡ (facts self.old).synced) }
         ensures absent { IsTrue (facts self.new).faithful → map.get (facts self.old).files name.now ≡ None → result ≡ Err StoreError.Device }
         ensures missing { result ≢ Err StoreError.Missing }
         ensures memory { result ≢ Err StoreError.Memory };
@@ -88,9 +105,12 @@ pub trait Store {
     fn rename(&mut self, from: &str, to: &str) -> Result<(), StoreError>
         ensures counts { Counts (facts self.old) (facts self.new) result }
         ensures undenied { (facts self.new).denials ≡ (facts self.old).denials }
+        ensures lock { (facts self.new).held ≡ (facts self.old).held }
         ensures files { Changes (facts self.old) (facts self.new) result
             (λ old new. Renames old new from.now to.now)
             (λ old new. (new ≡ old) ⊎ Renames old new from.now to.now) }
+        ensures synced { ChangesSynced (facts self.old) (facts self.new) result
+            (λ synced. renamed synced from.now to.now) (λ old new. Renames old new from.now to.now) }
         ensures absent { IsTrue (facts self.new).faithful → map.get (facts self.old).files from.now ≡ None → result ≡ Err StoreError.Device }
         ensures missing { result ≢ Err StoreError.Missing };
 
@@ -98,9 +118,12 @@ pub trait Store {
     fn remove(&mut self, name: &str) -> Result<(), StoreError>
         ensures counts { Counts (facts self.old) (facts self.new) result }
         ensures undenied { (facts self.new).denials ≡ (facts self.old).denials }
+        ensures lock { (facts self.new).held ≡ (facts self.old).held }
         ensures files { Changes (facts self.old) (facts self.new) result
             (λ old new. Removes old new name.now)
             (λ old new. (new ≡ old) ⊎ Removes old new name.now) }
+        ensures synced { ChangesSynced (facts self.old) (facts self.new) result
+            (λ synced. with_synced synced name.now None) (λ old new. Removes old new name.now) }
         ensures absent { IsTrue (facts self.new).faithful → map.get (facts self.old).files name.now ≡ None → result ≡ Err StoreError.Device }
         ensures missing { result ≢ Err StoreError.Missing }
         ensures memory { result ≢ Err StoreError.Memory };
@@ -112,7 +135,10 @@ pub trait Store {
         ensures counts { Counts (facts self.old) (facts self.new) result }
         ensures undenied { result ≢ Ok false → (facts self.new).denials ≡ (facts self.old).denials }
         ensures denied { result ≡ Ok false → (facts self.old).denials < (facts self.new).denials }
+        ensures taken { result ≡ Ok true → (facts self.new).held ≡ true }
+        ensures untaken { result ≢ Ok true → (facts self.new).held ≡ (facts self.old).held }
         ensures files { Changes (facts self.old) (facts self.new) result MayLock MayLock }
+        ensures synced { KeepsSynced (facts self.old) (facts self.new) }
         ensures held { IsTrue (facts self.new).faithful → result ≡ Ok true → Locks (facts self.old).files (facts self.new).files }
         ensures missing { result ≢ Err StoreError.Missing };
 
@@ -120,7 +146,9 @@ pub trait Store {
     fn unlock(&mut self) -> Result<(), StoreError>
         ensures counts { Counts (facts self.old) (facts self.new) result }
         ensures undenied { (facts self.new).denials ≡ (facts self.old).denials }
+        ensures free { OnOk result ((facts self.new).held ≡ false) }
         ensures same { Keeps (facts self.old) (facts self.new) }
+        ensures synced { KeepsSynced (facts self.old) (facts self.new) }
         ensures missing { result ≢ Err StoreError.Missing }
         ensures memory { result ≢ Err StoreError.Memory };
 }

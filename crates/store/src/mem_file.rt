@@ -1,0 +1,76 @@
+// A file in memory.
+ghost use Rattle.std.specs.Prelude.{◌≡◌, ◌++◌, Some, None, [], length, OnOk, OnErr, IfOk};
+ghost use Rattle.store.specs.MemFile.{Content, front_of, HasFront};
+
+use std::alloc::{AllocError, Global};
+use std::marker::Model;
+
+/// The bytes of a file, and how many of them were there when it was synced. Bytes are only added, so the front is still
+/// what was synced.
+#[derive(Drop)]
+pub struct MemFile {
+    bytes: Vec<u8>,
+    synced: Option<usize>,
+}
+
+impl Model for MemFile {
+    ghost Value = { Content };
+
+    ghost view = { λ file. record { bytes = file.bytes.items; synced = front_of file.bytes.items file.synced } };
+
+    ghost invariant = { λ file. HasFront file.bytes.items file.synced };
+}
+
+impl MemFile {
+    /// An empty file, never synced.
+    pub fn new(alloc: Global) -> Self
+        ensures { result ≡ record { bytes = []; synced = None } }
+    {
+        MemFile {
+            bytes: Vec::new(alloc),
+            synced: None,
+        }
+    }
+
+    /// Its bytes.
+    pub fn bytes(&self) -> &[u8]
+        ensures { result.now ≡ self.now.bytes }
+    {
+        self.bytes.as_slice()
+    }
+
+    /// Makes it a new file.
+    pub fn clear(&mut self)
+        ensures { self.new ≡ record { bytes = []; synced = None } }
+    {
+        self.synced = None;
+        self.bytes.clear();
+    }
+
+    /// Adds bytes at its end.
+    pub fn append(&mut self, bytes: &[u8]) -> Result<(), AllocError>
+        ensures ok { OnOk result (self.new ≡ record self.old { bytes = self.old.bytes ++ bytes.now }) }
+        ensures err { OnErr result (self.new ≡ self.old) }
+    {
+        self.bytes.extend_from_slice(bytes)?;
+        Ok(())
+    }
+
+    /// Takes what it has now for synced.
+    pub fn sync(&mut self)
+        ensures { self.new ≡ record self.old { synced = Some self.old.bytes } }
+    {
+        self.synced = Some(self.bytes.len());
+    }
+}
+
+impl Clone for MemFile {
+    ghost is_clone = { λ file copy. copy ≡ file };
+
+    fn clone(&self) -> Result<MemFile, AllocError> {
+        Ok(MemFile {
+            bytes: self.bytes.clone()?,
+            synced: self.synced,
+        })
+    }
+}
