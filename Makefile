@@ -6,11 +6,12 @@ export RT
 
 PROGRAMS := quickstart tables
 
-.PHONY: help demo build test bugs interop clean needs-rt
+.PHONY: help demo quick build test bugs interop clean needs-rt
 .SILENT:
 
 help:
 	echo 'make demo      runs quickstart before any proof: it opens, writes, reads, closes and shows the log (under a minute)'
+	echo 'make quick     before any proof: all tests and programs, and the checks beside LevelDB over what is in build/ (minutes)'
 	echo 'make test      everything: the checks beside LevelDB itself, then each proof from nothing and each test (an hour and a half)'
 	echo 'make build     proves the programs and leaves them in build/'
 	echo 'make interop   the checks beside LevelDB itself alone'
@@ -20,6 +21,9 @@ help:
 demo: needs-rt
 	echo 'quickstart by rt try: compiled with checks at run time, and not proved. make build proves it first.'
 	cd crates/quickstart && $(RT) try < /dev/null
+
+quick: needs-rt
+	tools/quick
 
 build: needs-rt
 	echo 'Proving $(PROGRAMS) and all below: up to half an hour from nothing, and seconds where nothing has changed.'
