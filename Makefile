@@ -6,19 +6,24 @@ export RT
 
 PROGRAMS := quickstart tables
 
-.PHONY: help demo build test interop clean needs-rt
+.PHONY: help demo quick build test bugs interop clean needs-rt
 .SILENT:
 
 help:
 	echo 'make demo      runs quickstart before any proof: it opens, writes, reads, closes and shows the log (under a minute)'
+	echo 'make quick     before any proof: all tests and programs, and the checks beside LevelDB over what is in build/ (minutes)'
 	echo 'make test      everything: the checks beside LevelDB itself, then each proof from nothing and each test (an hour and a half)'
 	echo 'make build     proves the programs and leaves them in build/'
 	echo 'make interop   the checks beside LevelDB itself alone'
+	echo 'make bugs      wrong bodies beyond those that the tests try: the prover must refuse each (hours; make bugs CRATE=table for one crate)'
 	echo 'make clean     takes away all that was built'
 
 demo: needs-rt
 	echo 'quickstart by rt try: compiled with checks at run time, and not proved. make build proves it first.'
 	cd crates/quickstart && $(RT) try < /dev/null
+
+quick: needs-rt
+	tools/quick
 
 build: needs-rt
 	echo 'Proving $(PROGRAMS) and all below: up to half an hour from nothing, and seconds where nothing has changed.'
@@ -32,8 +37,12 @@ interop: needs-rt
 	interop/run
 
 test: needs-rt
+	tools/edits
 	interop/run
 	$(RT) ci
+
+bugs: needs-rt
+	tools/bugs $(CRATE)
 
 clean:
 	rm -rf build crates/*/out
