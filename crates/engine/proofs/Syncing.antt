@@ -1,5 +1,5 @@
 -- What the calls by which an open writes leave of what is synced.
-use Rattle.std.proofs.Common.{Bool, true, false, cond, ◌≡◌, ◌≢◌, ◌⊎◌, ℕ, ◌+◌, List, [], ◌∷◌, ◌++◌, Option, Some, None, Result, Ok, Err, IsTrue, OnOk, OnErr, inl, inr, refl, sym, ap, ◌∙◌, arith}
+use Rattle.std.proofs.Common.{Bool, true, false, cond, ◌≡◌, ◌≢◌, ◌⊎◌, ℕ, ◌+◌, List, [], ◌∷◌, ◌++◌, Option, Some, None, Result, Ok, Err, IsTrue, OnOk, OnErr, is_err, inl, inr, refl, sym, ap, ◌∙◌, arith}
 use Rattle.std.specs.Cmp.{tied_itself}
 use Rattle.std.specs.Cmp.Lexicographic.{slice_cmp, nat_list_cmp_total}
 use Rattle.std.specs.Ordering.{is_eq, nat_cmp, eq_by_cmp}
@@ -16,6 +16,7 @@ use Rattle.edits.specs.declared.names.FileName.TheVariants.{Current, Log, Manife
 use Rattle.recover.proofs.NamedFiles.{get_other}
 use Rattle.engine.specs.Calls.{KeepsOthers, Creates, Writes, SetsCurrent, MakesCurrent}
 use Rattle.engine.specs.Durable.{SyncsOnly, LeavesFile, WritesSynced, HasSyncedCurrent, MakesSynced, IsDurable, LeavesDurable}
+use Rattle.engine.specs.Touching.{SyncsLog}
 use Rattle.engine.proofs.Reopening.{files_apart}
 use Rattle.engine.proofs.StoreCalls.{renamed_sets}
 
@@ -235,3 +236,20 @@ module _ (n : ℕ) (num : IsNumbered n) (manifest : List ℕ) (old mid : Facts) 
           ok = λ f. tt;
           err = λ f. inr (still_durable (c.call.faithful f) (log_others (Err e) c f) (synced f));
         }
+
+-- ---- a record behind the log
+
+done_of : {P : Type 0} (r : Result (Unit {0}) StoreError) → is_err r ≡ false → OnOk r P → P
+done_of (Ok x) test h = h
+done_of (Err e) test h = absurd (cc)
+
+pub log_synced : {E : Type 0} (sync : Bool) (old mid new : Facts) (name : List ℕ) (r : Result (Unit {0}) StoreError) → sync ≡ true → is_err r ≡ false → (IsTrue new.faithful → IsTrue mid.faithful) → KeepsSynced old mid
+    → (IsTrue new.faithful → OnOk r (new.synced ≡ with_synced mid.synced name (get mid.files name))) → (IsTrue new.faithful → new.files ≡ mid.files) → new.held ≡ old.held
+    → SyncsLog {T = Unit {0}} {E = E} (sync ≡ true) sync name old new (Ok tt)
+log_synced sync old mid new name r asked went back kept synced same held = record {
+  kept = λ f q. ap (λ (s : Synced). s name) (done_of r went (synced f)) ∙ with_same mid.synced name (get mid.files name) ∙ ap (λ (fs : Files). get fs name) (sym (same f));
+  others = λ f. only_both old.synced mid.synced new.synced name (only_same old.synced mid.synced name (kept (back f))) (only_with mid.synced new.synced name (get mid.files name) (done_of r went (synced f)));
+  unasked = λ f no. (let clash : true ≡ false = sym asked ∙ no in absurd (cc));
+  refused = λ f. tt;
+  held = held;
+}

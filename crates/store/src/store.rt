@@ -147,6 +147,7 @@ pub trait Store {
         ensures counts { Counts (facts self.old) (facts self.new) result }
         ensures undenied { (facts self.new).denials ≡ (facts self.old).denials }
         ensures free { OnOk result ((facts self.new).held ≡ false) }
+        ensures kept { OnErr result ((facts self.new).held ≡ (facts self.old).held) }
         ensures same { Keeps (facts self.old) (facts self.new) }
         ensures synced { KeepsSynced (facts self.old) (facts self.new) }
         ensures missing { result ≢ Err StoreError.Missing }

@@ -1,0 +1,82 @@
+-- What a command does to its store, faithful or not.
+use Rattle.std.specs.Prelude.{◌≡◌, ◌≢◌, ◌⊎◌, ◌<◌, ℕ, Bool, true, false, IsTrue, Option, Some, None, List, [], Result, Ok, Err, OnOk, OnErr, string_bytes}
+use Rattle.batch.specs.declared.operation.Operation.{Operation}
+use Rattle.coding.specs.declared.error.DbError.{DbError}
+use Rattle.store.specs.Files.{Facts}
+use Rattle.engine.specs.declared.command.Op.{Op}
+use Rattle.engine.specs.declared.command.Op.TheVariants.{Open, Write, Close}
+use Rattle.engine.specs.declared.command.Answer.{Answer}
+use Rattle.engine.specs.declared.command.Answer.TheVariants.{Done, Refused}
+use Rattle.engine.specs.declared.state.DbState.{DbState}
+use Rattle.engine.specs.Durable.{SyncsOnly, IsSynced, LeavesDurable}
+
+-- whether it was refused
+abbrev pub unit_result : Answer → Result (Unit {0}) DbError
+unit_result (Refused e) = Err e
+unit_result _ = Ok tt
+
+-- ---- a write
+
+-- What was put behind the file of this name is synced where that was asked for, and nothing else is.
+pub record SyncsLog {T E : Type 0} (asked : Type 0) (sync : Bool) (name : List ℕ) (old new : Facts) (result : Result T E) : Type 0 where
+  pub kept : IsTrue new.faithful → asked → OnOk result (IsSynced new name)
+  pub others : IsTrue new.faithful → SyncsOnly old.synced new.synced name
+  pub unasked : IsTrue new.faithful → sync ≡ false → new.synced ≡ old.synced
+  pub refused : IsTrue new.faithful → OnErr result (new.synced ≡ old.synced)
+  pub held : new.held ≡ old.held
+
+-- a write asks for it where it is to be synced and has operations
+abbrev pub AsksSync : List Operation → Bool → Type 0
+AsksSync operations sync = (sync ≡ true) × (operations ≢ [])
+
+-- the name of the log that an open database writes to
+abbrev pub log_of : Option DbState → List ℕ
+log_of None = []
+log_of (Some state) = string_bytes state.log.name
+
+-- ---- open and close
+
+-- An accepted open holds the lock. A refused one doesn't, unless it was held before or the store failed to give it back.
+pub record Locks {T : Type 0} (old new : Facts) (result : Result T DbError) : Type 0 where
+  pub held : OnOk result (new.held ≡ true)
+  pub freed : OnErr result (new.held ≡ true → (old.held ≡ true) ⊎ (old.failures < new.failures))
+
+-- The lock is given back, unless the store failed to.
+abbrev pub Frees : Facts → Facts → Type 0
+Frees old new = new.held ≡ true → old.failures < new.failures
+
+-- ---- every command
+
+-- Nothing is changed, synced, locked or given back.
+pub record LeavesStore (old new : Facts) : Type 0 where
+  pub files : IsTrue new.faithful → new.files ≡ old.files
+  pub synced : IsTrue new.faithful → new.synced ≡ old.synced
+  pub held : new.held ≡ old.held
+
+-- A close changes no file either, and gives the lock back.
+pub record ClosesStore (old new : Facts) : Type 0 where
+  pub files : IsTrue new.faithful → new.files ≡ old.files
+  pub synced : IsTrue new.faithful → new.synced ≡ old.synced
+  pub freed : Frees old new
+
+-- An open leaves `CURRENT` and its MANIFEST synced whole wherever it changed them.
+pub record OpensStore {T : Type 0} (old new : Facts) (result : Result T DbError) : Type 0 where
+  pub locks : Locks old new result
+  pub durable : LeavesDurable old new result
+
+abbrev pub OpenTouches : Option DbState → Facts → Facts → Answer → Type 0
+OpenTouches None old new answer = OpensStore old new (unit_result answer)
+OpenTouches (Some state) old new answer = LeavesStore old new
+
+abbrev pub CloseTouches : Option DbState → Facts → Facts → Type 0
+CloseTouches None old new = LeavesStore old new
+CloseTouches (Some state) old new = ClosesStore old new
+
+abbrev pub WriteTouches : List Operation → Bool → Option DbState → Facts → Facts → Answer → Type 0
+WriteTouches operations sync state old new answer = SyncsLog (AsksSync operations sync) sync (log_of state) old new (unit_result answer)
+
+abbrev pub Touches : Op → Option DbState → Facts → Facts → Answer → Type 0
+Touches (Open mode) state old new answer = OpenTouches state old new answer
+Touches (Write operations sync) state old new answer = WriteTouches operations.items sync state old new answer
+Touches Close state old new answer = CloseTouches state old new
+Touches _ state old new answer = LeavesStore old new
