@@ -1,5 +1,5 @@
 -- Which inputs of a compaction may be replaced.
-use Rattle.std.proofs.Common.{◌≡◌, ◌⊎◌, inl, inr, List, [], ◌∷◌, ◌++◌, ℕ, ◌+◌, ◌*◌, ◌<◌, ◌≤◌, length, map, sym, ap, ◌∙◌, subst, arith}
+use Rattle.std.proofs.Common.{◌≡◌, ◌⊎◌, inl, inr, List, [], ◌∷◌, ◌++◌, ℕ, ◌+◌, ◌<◌, ◌≤◌, length, map, sym, ap, ◌∙◌, subst, arith}
 use Rattle.std.specs.List.{AllByRecursion}
 use Rattle.std.specs.Cmp.{IsTotalOrder, tied_itself}
 use Rattle.std.specs.declared.cmp.Ordering.TheVariants.{Less, Equal}
@@ -23,7 +23,7 @@ use Rattle.recover.proofs.Flushing.{kept_by}
 
 -- ---- two tables of two levels
 
-not_above : (c : TableContent) (contents : List TableContent) (other : TableContent) → AllByRecursion (IsFollowedBy c.placed) (map (λ (t : TableContent). t.placed) contents) → InTables contents other → c.placed.level ≤ other.placed.level
+pub not_above : (c : TableContent) (contents : List TableContent) (other : TableContent) → AllByRecursion (IsFollowedBy c.placed) (map (λ (t : TableContent). t.placed) contents) → InTables contents other → c.placed.level ≤ other.placed.level
 not_above c [] other h i = absurd i
 not_above c (x ∷ contents) other h (inl e) =
     let here : c.placed.level ≤ x.placed.level = elim h.0.0 [ inl lt ↦ omega (arith, lt) | inr same ↦ omega (arith, same.0) ] in

@@ -224,6 +224,17 @@ abbrev pub UnreadLaw : Type 0
 UnreadLaw = (order : Order) (old new : Files) (d : Directory) (name : List ℕ)
     → IsConsistent order old d → IsUnread old d name → KeepsOthers old new name → IsConsistent order new d
 
+-- ---- which entries there are
+
+-- no two of them have the same key and the same sequence
+abbrev pub AreDistinct : List Entry → Type 0
+AreDistinct [] = Unit {0}
+AreDistinct (entry ∷ entries) = ((other : Entry) → Among entries other → entry.key ≡ other.key → entry.sequence ≢ other.sequence) × AreDistinct entries
+
+-- Nor have two entries of a consistent directory, in whichever files they are.
+abbrev pub DistinctLaw : Type 0
+DistinctLaw = (order : Order) (files : Files) (d : Directory) → IsTotalOrder order.cmp → IsConsistent order files d → AreDistinct (entries_in d)
+
 -- ---- past the limits
 
 -- A MANIFEST that is there, and beyond what is read, names a table past the limit of numbers.

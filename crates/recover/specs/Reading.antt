@@ -1,6 +1,6 @@
 -- What the names of a directory say, what reading its MANIFEST and its logs gives, and why it is refused
 -- (LevelDB's db/db_impl.cc, DBImpl::Recover).
-use Rattle.std.specs.Prelude.{◌≡◌, ◌⊎◌, ◌<◌, ◌≤◌, ◌-◌, ◌^◌, ◌↔◌, ℕ, min, max, true, List, [], ◌∷◌, ◌++◌, map, take, IsTrue, MatchBool, Result, Err, Contains, Some, None}
+use Rattle.std.specs.Prelude.{◌≡◌, ◌⊎◌, ◌<◌, ◌≤◌, ◌-◌, ◌^◌, ◌↔◌, ℕ, min, max, true, List, [], ◌∷◌, ◌++◌, map, take, IsTrue, MatchBool, Result, Ok, Err, Contains, Some, None}
 use Rattle.std.specs.FinMap.{get, contains_key}
 use Rattle.coding.specs.declared.error.DbError.{DbError}
 use Rattle.coding.specs.declared.error.DbError.TheVariants as error
@@ -12,7 +12,6 @@ use Rattle.edits.specs.Edit.{HasPastLimit}
 use Rattle.edits.specs.Layout.{fields_of, NamesOther}
 use Rattle.edits.specs.Names.{name_of, IsFileName, IsNumbered}
 use Rattle.edits.specs.declared.field.Field.{Field}
-use Rattle.edits.specs.declared.layout.Layout.{Layout}
 use Rattle.edits.specs.declared.names.FileName.{FileName}
 use Rattle.edits.specs.declared.names.FileName.TheVariants.{Current, Log, Table, OldTable, Manifest}
 use Rattle.recover.specs.declared.listing.Listing.{Listing}
@@ -31,6 +30,16 @@ pub record Reads {T : Type 0} (old new : Facts) (result : Result T DbError) : Ty
   pub denials : new.denials ≡ old.denials
   pub io : result ≡ Err error.Io → old.failures < new.failures
   pub same : IsTrue new.faithful → new.files ≡ old.files
+
+-- Of the refusals Io alone is counted as a failure of the store,
+abbrev pub IsErrorCounted : DbError → Facts → Facts → Type 0
+IsErrorCounted error.Io old new = old.failures < new.failures
+IsErrorCounted e old new = new.failures ≡ old.failures
+
+-- and so a call raises the count of failures exactly where it answers Io.
+abbrev pub IsCounted : {T : Type 0} → Facts → Facts → Result T DbError → Type 0
+IsCounted old new (Ok value) = new.failures ≡ old.failures
+IsCounted old new (Err e) = IsErrorCounted e old new
 
 -- ---- names
 

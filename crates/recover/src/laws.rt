@@ -1,7 +1,7 @@
 //! What calls of the store do to the meaning of a directory.
 
 ghost use Rattle.recover.specs.Laws.{AppendLaw, FailedAppendLaw, FreeChangeLaw, ReopenLaw, NewLogLaw, EmptyLaw, NumberLaw, AppendableLaw, OneManifestLaw, OneDirectoryLaw};
-ghost use Rattle.recover.specs.Changes.{ExtendLaw, BeginLogLaw, EditLaw, FailedEditLaw, SameManifestLaw, FlushLaw, CompactionLaw, ClosedLaw, UnreadLaw, BeyondLaw, RecoveredLaw};
+ghost use Rattle.recover.specs.Changes.{ExtendLaw, BeginLogLaw, EditLaw, FailedEditLaw, SameManifestLaw, FlushLaw, CompactionLaw, ClosedLaw, UnreadLaw, DistinctLaw, BeyondLaw, RecoveredLaw};
 
 /// A record for the next batch behind the last log adds the batch's entries.
 pub fn append_law()
@@ -96,6 +96,11 @@ pub fn closed_law()
 /// A file that the meaning doesn't read may be written or removed.
 pub fn unread_law()
     ensures { UnreadLaw }
+{}
+
+/// No two entries of a consistent directory share a key and a sequence, so that of each key one is the newest.
+pub fn distinct_law()
+    ensures { DistinctLaw }
 {}
 
 /// A MANIFEST that passes a limit of reading, and is one all the same, passes that of the numbers of tables.

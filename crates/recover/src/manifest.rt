@@ -9,7 +9,7 @@ ghost use Rattle.edits.specs.Names.{name_of, IsNumbered};
 ghost use Rattle.edits.specs.Snapshot.{IsKept};
 ghost use Rattle.edits.specs.declared.field.Field.{Field as FieldValue};
 ghost use Rattle.recover.specs.Directory.{AreEdits};
-ghost use Rattle.recover.specs.Reading.{RefusesDirectory, SpellsBeyond, IsBeyondReading};
+ghost use Rattle.recover.specs.Reading.{IsCounted, RefusesDirectory, SpellsBeyond, IsBeyondReading};
 ghost use Rattle.recover.specs.Parts.{IsUnchanged, RefusesBytes, number_in, highest_in, SpellsManifest, SpellsNone, ArePastLimit, SaysManifest, HasNoManifest};
 
 use crate::files::{read_file, refusal_in};
@@ -38,6 +38,7 @@ pub fn read_manifest<K: KeyOrder, S: Store>(
     store: &mut S,
 ) -> Result<Manifest, DbError>
     ensures store { IsUnchanged (S.facts store.old) (S.facts store.new) }
+    ensures counted { IsCounted (S.facts store.old) (S.facts store.new) result }
     ensures found { IfOk result (λ manifest. IsTrue (S.facts store.new).faithful
         → SaysManifest (order_of K.name K.cmp) (S.facts store.old).files manifest) }
     ensures refused { IfErr result (λ error. RefusesDirectory error (S.facts store.old) (S.facts store.new)
