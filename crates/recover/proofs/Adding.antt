@@ -17,17 +17,19 @@ use Rattle.edits.specs.declared.layout.Layout.{Layout}
 use Rattle.edits.specs.declared.names.FileName.TheVariants.{Current, Log, Table, OldTable, Manifest}
 use Rattle.edits.proofs.FileNames.{one_file}
 use Rattle.ikey.specs.declared.entry.Entry.{Entry}
-use Rattle.recover.specs.Entries.{Among, entry_of, entries_of, greatest, RiseAbove}
+use Rattle.recover.specs.Entries.{entry_of, entries_of, greatest, RiseAbove}
+use Rattle.ikey.specs.Views.{Among}
 use Rattle.recover.specs.Tables.{table_at, TableContent, HasTables, InTables, tabled}
 use Rattle.recover.specs.Logs.{Batch, LogContent, AreBatches, HasLog, HasLogs, IsLive, AreLive, InLogs, NumbersRise, batch_entries, logged}
-use Rattle.recover.specs.Directory.{Directory, IsConsistent, IsAppendable, IsDirectory, entries_in, used_in}
+use Rattle.recover.specs.Directory.{Directory, IsConsistent, EndsAt, IsAppendable, IsDirectory, entries_in, used_in}
 use Rattle.recover.specs.Laws.{AppendLaw, FailedAppendLaw}
+use Rattle.recover.specs.Changes.{IsExtended, ExtendLaw}
 use Rattle.recover.proofs.NamedFiles.{get_other, get_same}
 use Rattle.recover.proofs.Keeping.{keep_tables, keep_logs}
 
 -- ---- entries
 
-among_split : (xs ys : List Entry) (e : Entry) → Among (xs ++ ys) e → Among xs e ⊎ Among ys e
+pub among_split : (xs ys : List Entry) (e : Entry) → Among (xs ++ ys) e → Among xs e ⊎ Among ys e
 among_split [] ys e h = inr h
 among_split (x ∷ xs) ys e (inl h) = inl (inl h)
 among_split (x ∷ xs) ys e (inr h) = elim (among_split xs ys e h) [ inl i ↦ inl (inr i) | inr i ↦ inr i ]
@@ -44,7 +46,7 @@ rise-append low mark [] ys h le top k = lower low mark ys le k
     lower low mark (y ∷ ys) le k = (omega (arith, k.0, le), k.1)
 rise-append low mark (x ∷ xs) ys h le top k = (h.0, rise-append x.sequence mark xs ys h.1 (omega (arith, top)) (omega (arith, top)) k)
 
-above : (low : ℕ) (ys : List Entry) (e : Entry) → RiseAbove low ys → Among ys e → low < e.sequence
+pub above : (low : ℕ) (ys : List Entry) (e : Entry) → RiseAbove low ys → Among ys e → low < e.sequence
 above low [] e k i = absurd i
 above low (y ∷ ys) e k (inl i) = omega (arith, k.0, ap (λ (f : Entry). f.sequence) i)
 above low (y ∷ ys) e k (inr i) = let rest : y.sequence < e.sequence = above y.sequence ys e k.1 i in omega (arith, k.0, rest)
@@ -108,11 +110,11 @@ pub last_in : (xs : List LogContent) (last : LogContent) → InLogs (xs ++ last 
 last_in [] last = inl refl
 last_in (x ∷ xs) last = inr (last_in xs last)
 
-above_low : (low : ℕ) (xs : List LogContent) (last : LogContent) → NumbersRise low (xs ++ last ∷ []) → low < last.number
+pub above_low : (low : ℕ) (xs : List LogContent) (last : LogContent) → NumbersRise low (xs ++ last ∷ []) → low < last.number
 above_low low [] last h = h.0
 above_low low (x ∷ xs) last h = let rest : x.number < last.number = above_low x.number xs last h.1 in omega (arith, h.0, rest)
 
-below_last : (low : ℕ) (xs : List LogContent) (last : LogContent) (n : ℕ) → NumbersRise low (xs ++ last ∷ []) → InLogs xs n → n < last.number
+pub below_last : (low : ℕ) (xs : List LogContent) (last : LogContent) (n : ℕ) → NumbersRise low (xs ++ last ∷ []) → InLogs xs n → n < last.number
 below_last low [] last n h i = absurd i
 below_last low (x ∷ xs) last n h (inl i) = let rest : x.number < last.number = above_low x.number xs last h.1 in omega (arith, i, rest)
 below_last low (x ∷ xs) last n h (inr i) = below_last x.number xs last n h.1 i
@@ -355,3 +357,36 @@ failed_append order files log position entries used n os payload added text a th
           (appendable_means order (insert files (name_of (Log ends.last.number)) new) ends.last.number (length new) (entries_in d ++ entries_of (used_in d + 1) os) (used_in d + length os)
           (append_at order files d ends.before ends.last os payload new a.consistent ends.logs (subst B a.spent spelled) whole)))))
     ]
+
+-- ---- the parts that stay
+
+-- what a record behind the last log leaves, by its number
+ExtendsTo : Order → Files → Directory → List Operation → List ℕ → ℕ → ℕ → Type 0
+ExtendsTo order files d os text log position =
+    (e : Directory) × IsConsistent order (insert files (name_of (Log log)) text) e × EndsAt (insert files (name_of (Log log)) text) e log position
+    × IsExtended d e (entries_of (used_in d + 1) os) × (used_in e ≡ used_in d + length os)
+
+extend_at : (order : Order) (files : Files) (d : Directory) (before : List LogContent) (last : LogContent) (os : List Operation) (payload text : List ℕ) (h : IsConsistent order files d) (parts : d.logs ≡ before ++ last ∷ [])
+    → IsBatch payload (used_in d + 1) os → IsLog text ((last_log order files d before last h parts).spelled.records ++ payload ∷ []) Clean
+    → ExtendsTo order files d os text last.number (length text)
+unfolding put replaced appended_log ExtendsTo
+extend_at order files d before last os payload text h parts spelled log =
+    let next = appended_log last (used_in d + 1, os) in (
+      replaced d before next,
+      appended_directory order files d before last os payload text h parts spelled log,
+      record { before = before; last = next; logs = refl; number = refl; clean = refl; bytes = text; there = get_same files (name_of (Log last.number)) text; length = refl },
+      record { before = before; last = last; next = next; old = parts; new = refl; number = refl; entries = batch_entries-push last.batches (used_in d + 1, os) },
+      sym (more_used d (logged (before ++ next ∷ [])) os (entries-appended d before last os parts)),
+    )
+
+pub extend : ExtendLaw
+unfolding ExtendsTo
+extend order files d log position os payload added text h ends there spelled adds =
+    let len : length text ≡ position = ap length (same_bytes files (name_of (Log log)) text ends.bytes there ends.there) ∙ ends.length in
+    let records = (last_log order files d ends.before ends.last h ends.logs).spelled.records in
+    let total : length (text ++ added) ≡ position + length added = omega (arith, length-append text added, len) in
+    let made = extend_at order files d ends.before ends.last os payload (text ++ added) h ends.logs spelled
+    (adds text records len (last_bytes order files d ends.before ends.last h ends.logs log text ends.number there ends.clean)) in
+    let P : ℕ → Type 0 = λ l. ExtendsTo order files d os (text ++ added) l (length (text ++ added)) in
+    let Q : ℕ → Type 0 = λ n. ExtendsTo order files d os (text ++ added) log n in
+    subst Q total (subst P ends.number made)

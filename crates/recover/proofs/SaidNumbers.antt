@@ -1,7 +1,7 @@
 -- The edits of a MANIFEST, and the numbers that they name.
 use Rattle.std.proofs.Common.{◌≡◌, ℕ, zero, suc, ◌+◌, ◌-◌, ◌<◌, max, inl, inr, List, [], ◌∷◌, ◌++◌, length, take, get_or, map, Some, IsTrue, sym, ap, ◌∙◌, subst, append_assoc, arith}
 use Rattle.std.specs.List.{AllByRecursion}
-use Rattle.std.proofs.lemmas.List.{append-nil, take_more, take_all, map-append, length-append, take-append-le}
+use Rattle.std.proofs.lemmas.List.{append-nil, take_more, take_all, map-append, take-map, length-append, take-append-le}
 use Rattle.coding.specs.declared.error.DbError.{DbError}
 use Rattle.coding.specs.declared.error.FileKind.{FileKind}
 use Rattle.coding.specs.declared.error.ReadError.{ReadError}
@@ -10,7 +10,6 @@ use Rattle.logfile.specs.Log.{IsLog}
 use Rattle.logfile.specs.declared.record.Tail.{Tail}
 use Rattle.logfile.proofs.LogLaws.{same_log}
 use Rattle.edits.specs.Edit.{IsEdit, HasPastLimit, RefusesFor}
-use Rattle.edits.proofs.Fields.{one_edit_again}
 use Rattle.edits.specs.Layout.{fields_of, IsLayout, IsComparator, NamesOther}
 use Rattle.edits.specs.declared.field.Field.{Field}
 use Rattle.edits.specs.declared.field.Field.TheVariants.{Comparator, LogNumber, NextFileNumber, LastSequence, CompactPointer, DeletedFile, NewFile, PreviousLogNumber}
@@ -19,9 +18,10 @@ use Rattle.std.specs.FinMap.{get}
 use Rattle.store.specs.Files.{Files, Facts}
 use Rattle.edits.specs.Names.{name_of, IsNumbered}
 use Rattle.edits.specs.declared.names.FileName.TheVariants.{Current, Manifest}
-use Rattle.recover.specs.Reading.{RefusesDirectory, IsBeyondReading}
+use Rattle.recover.specs.Reading.{RefusesDirectory, SpellsBeyond, IsBeyondReading}
+use Rattle.recover.specs.Changes.{BeyondLaw}
 use Rattle.recover.specs.Directory.{AreEdits, IsManifest, HasManifest}
-use Rattle.recover.specs.Parts.{number_in, highest_in, RefusesBytes, in_file, IsUnchanged, SpellsNone, SpellsPastLimit, HasNoManifest}
+use Rattle.recover.specs.Parts.{number_in, highest_in, RefusesBytes, in_file, IsUnchanged, ArePastLimit, SpellsNone, HasNoManifest}
 use Rattle.recover.proofs.OneMeaning.{same_edits, same_current, same_content}
 use Rattle.recover.proofs.Refused.{refuses_for, refuses_more, refuses_bytes}
 
@@ -67,48 +67,42 @@ edits-more bytes_of xs i x bytes edits edit lt is e h k =
     let P : List (List ℕ) → Type 0 = λ rs. AreEdits rs (edits ++ edit ∷ []) in
     subst P (records-more bytes_of xs i x bytes lt is e) (edits-push (map bytes_of (take i xs)) edits bytes edit h k)
 
-past_left : (xs ys : List Field) → HasPastLimit xs → HasPastLimit (xs ++ ys)
-past_left [] ys h = absurd h
-past_left (x ∷ xs) ys (inl h) = inl h
-past_left (x ∷ xs) ys (inr h) = inr (past_left xs ys h)
-
 past_right : (xs ys : List Field) → HasPastLimit ys → HasPastLimit (xs ++ ys)
 past_right [] ys h = h
 past_right (x ∷ xs) ys h = inr (past_right xs ys h)
 
 -- the edit of one of the records
 edit_at : {X : Type 0} (bytes_of : X → List ℕ) (xs : List X) (i : ℕ) (x : X) (edits : List (List Field)) → i < length xs → AreEdits (map bytes_of xs) edits
-    → (edit : List Field) × IsEdit (bytes_of (get_or xs i x)) edit × (HasPastLimit edit → HasPastLimit (fields_of edits))
+    → (edit : List Field) × IsEdit (bytes_of (get_or xs i x)) edit
 edit_at bytes_of [] i x edits lt h = absurd (omega arith)
 edit_at bytes_of (y ∷ xs) i x [] lt h = absurd h
-edit_at bytes_of (y ∷ xs) zero x (e ∷ edits) lt h = (e, h.0, λ p. past_left e (fields_of edits) p)
-edit_at bytes_of (y ∷ xs) (suc i) x (e ∷ edits) lt h =
-    let there = edit_at bytes_of xs i x edits (omega (arith, lt)) h.1 in
-    (there.0, there.1, λ p. past_right e (fields_of edits) (there.2 p))
+edit_at bytes_of (y ∷ xs) zero x (e ∷ edits) lt h = (e, h.0)
+edit_at bytes_of (y ∷ xs) (suc i) x (e ∷ edits) lt h = edit_at bytes_of xs i x edits (omega (arith, lt)) h.1
+
+past_end : (edits : List (List Field)) (edit : List Field) → HasPastLimit edit → HasPastLimit (fields_of (edits ++ edit ∷ []))
+past_end edits edit h = subst HasPastLimit (sym (fields-push edits edit)) (past_right (fields_of edits) edit h)
 
 -- why one record isn't read is why all aren't
-pub edits_refused : {X : Type 0} (bytes_of : X → List ℕ) (xs : List X) (i : ℕ) (x : X) (bytes : List ℕ) (file : FileKind) (e : ReadError) (result : DbError) → i < length xs → x ≡ get_or xs i x → bytes ≡ bytes_of x
+pub edits_refused : {X : Type 0} (bytes_of : X → List ℕ) (xs : List X) (i : ℕ) (x : X) (bytes : List ℕ) (file : FileKind) (e : ReadError) (result : DbError) (edits : List (List Field)) → AreEdits (map bytes_of (take i xs)) edits
+    → i < length xs → x ≡ get_or xs i x → bytes ≡ bytes_of x
     → result ≡ in_file file e → RefusesFor e ((edit : List Field) → IsEdit bytes edit → ⊥) ((edit : List Field) × IsEdit bytes edit × HasPastLimit edit)
-    → RefusesBytes result ((edits : List (List Field)) → AreEdits (map bytes_of xs) edits → ⊥) ((edits : List (List Field)) → AreEdits (map bytes_of xs) edits → HasPastLimit (fields_of edits))
-edits_refused bytes_of xs i x bytes file e result lt is at named refused =
-    let none : Type 0 = (edits : List (List Field)) → AreEdits (map bytes_of xs) edits → ⊥ in
-    let past : Type 0 = (edits : List (List Field)) → AreEdits (map bytes_of xs) edits → HasPastLimit (fields_of edits) in
-    let P : DbError → Type 0 = λ r. RefusesBytes r none past in
-    let B : List ℕ → List Field → Type 0 = λ b edit. IsEdit b edit in
+    → RefusesBytes result ((others : List (List Field)) → AreEdits (map bytes_of xs) others → ⊥) (ArePastLimit (map bytes_of xs))
+edits_refused bytes_of xs i x bytes file e result edits front lt is at named refused =
+    let none : Type 0 = (others : List (List Field)) → AreEdits (map bytes_of xs) others → ⊥ in
+    let P : DbError → Type 0 = λ r. RefusesBytes r none (ArePastLimit (map bytes_of xs)) in
     let same : bytes_of (get_or xs i x) ≡ bytes = sym (at ∙ ap bytes_of is) in
-    subst P (sym named) (refuses_more (in_file file e) ((edit : List Field) → IsEdit bytes edit → ⊥) ((edit : List Field) × IsEdit bytes edit × HasPastLimit edit) none past
-    (λ no edits h. let there = edit_at bytes_of xs i x edits lt h in let Q : List ℕ → Type 0 = λ b. IsEdit b there.0 in no there.0 (subst Q same there.1))
-    (λ one edits h. let there = edit_at bytes_of xs i x edits lt h in
-    let Q : List ℕ → Type 0 = λ b. IsEdit b there.0 in
-    let R : List Field → Type 0 = λ edit. HasPastLimit edit in
-    there.2 (subst R (one_edit_again bytes one.0 there.0 one.1 (subst Q same there.1)) one.2))
+    subst P (sym named) (refuses_more (in_file file e) ((edit : List Field) → IsEdit bytes edit → ⊥) ((edit : List Field) × IsEdit bytes edit × HasPastLimit edit) none (ArePastLimit (map bytes_of xs))
+    (λ no others h. let there = edit_at bytes_of xs i x others lt h in let Q : List ℕ → Type 0 = λ b. IsEdit b there.0 in no there.0 (subst Q same there.1))
+    (λ one.
+    let R : List (List ℕ) → Type 0 = λ rs. AreEdits rs (edits ++ one.0 ∷ []) in
+    (i + 1, edits ++ one.0 ∷ [], subst R (sym (take-map bytes_of (i + 1) xs)) (edits-more bytes_of xs i x bytes edits one.0 lt is at front one.1), past_end edits one.0 one.2))
     (refuses_for file e ((edit : List Field) → IsEdit bytes edit → ⊥) ((edit : List Field) × IsEdit bytes edit × HasPastLimit edit) refused))
 
 -- ---- the whole MANIFEST
 
-pub no_manifest_log : (order : Order) (bytes : List ℕ) (e : DbError) → RefusesBytes e ((records : List (List ℕ)) (tail : Tail) → IsLog bytes records tail → ⊥) ⊥ → RefusesBytes e (SpellsNone order bytes) (SpellsPastLimit order bytes)
+pub no_manifest_log : (order : Order) (bytes : List ℕ) (e : DbError) → RefusesBytes e ((records : List (List ℕ)) (tail : Tail) → IsLog bytes records tail → ⊥) ⊥ → RefusesBytes e (SpellsNone order bytes) (SpellsBeyond order bytes)
 no_manifest_log order bytes e h =
-    refuses_more e ((records : List (List ℕ)) (tail : Tail) → IsLog bytes records tail → ⊥) ⊥ (SpellsNone order bytes) (SpellsPastLimit order bytes)
+    refuses_more e ((records : List (List ℕ)) (tail : Tail) → IsLog bytes records tail → ⊥) ⊥ (SpellsNone order bytes) (SpellsBeyond order bytes)
     (λ no edits layout m. no m.records m.tail m.log) (λ x. absurd x) h
 
 -- the edits of any MANIFEST of the bytes are those of the records
@@ -117,12 +111,11 @@ their_edits order bytes records tail edits layout log m =
     let P : List (List ℕ) → Type 0 = λ rs. AreEdits rs edits in subst P (same_log bytes m.records records m.tail tail m.log log).0 m.spelled
 
 pub no_manifest_edits : (order : Order) (bytes : List ℕ) (records : List (List ℕ)) (tail : Tail) (e : DbError) → IsLog bytes records tail
-    → RefusesBytes e ((edits : List (List Field)) → AreEdits records edits → ⊥) ((edits : List (List Field)) → AreEdits records edits → HasPastLimit (fields_of edits))
-    → RefusesBytes e (SpellsNone order bytes) (SpellsPastLimit order bytes)
+    → RefusesBytes e ((edits : List (List Field)) → AreEdits records edits → ⊥) (ArePastLimit records) → RefusesBytes e (SpellsNone order bytes) (SpellsBeyond order bytes)
 no_manifest_edits order bytes records tail e log h =
-    refuses_more e ((edits : List (List Field)) → AreEdits records edits → ⊥) ((edits : List (List Field)) → AreEdits records edits → HasPastLimit (fields_of edits)) (SpellsNone order bytes) (SpellsPastLimit order bytes)
+    refuses_more e ((edits : List (List Field)) → AreEdits records edits → ⊥) (ArePastLimit records) (SpellsNone order bytes) (SpellsBeyond order bytes)
     (λ no edits layout m. no edits (their_edits order bytes records tail edits layout log m))
-    (λ past edits layout m. past edits (their_edits order bytes records tail edits layout log m)) h
+    (λ past. record { records = records; tail = tail; log = log; count = past.0; edits = past.1; spelled = past.2; beyond = inr past.3 }) h
 
 other_name : (name : List ℕ) (fields : List Field) → NamesOther name fields → AllByRecursion (IsComparator name) fields → ⊥
 other_name name [] h all = h
@@ -138,15 +131,16 @@ other_name name (field ∷ fields) (inr h) all = other_name name fields h all.1
 
 pub no_manifest_layout : (order : Order) (bytes : List ℕ) (records : List (List ℕ)) (tail : Tail) (edits : List (List Field)) (file : FileKind) (e : ReadError) (result : DbError) → IsLog bytes records tail → AreEdits records edits
     → result ≡ in_file file e → RefusesFor e ((layout : Layout) → IsLayout order.name edits layout → ⊥) (NamesOther order.name (fields_of edits))
-    → RefusesBytes result (SpellsNone order bytes) (SpellsPastLimit order bytes)
+    → RefusesBytes result (SpellsNone order bytes) (SpellsBeyond order bytes)
 no_manifest_layout order bytes records tail edits file e result log are named refused =
-    let P : DbError → Type 0 = λ r. RefusesBytes r (SpellsNone order bytes) (SpellsPastLimit order bytes) in
+    let P : DbError → Type 0 = λ r. RefusesBytes r (SpellsNone order bytes) (SpellsBeyond order bytes) in
     let folded : (others : List (List Field)) (layout : Layout) → IsManifest order bytes others layout → IsLayout order.name edits layout = λ others layout m.
     let Q : List (List Field) → Type 0 = λ es. IsLayout order.name es layout in
     subst Q (same_edits records others edits (their_edits order bytes records tail others layout log m) are) m.folded in
-    subst P (sym named) (refuses_more (in_file file e) ((layout : Layout) → IsLayout order.name edits layout → ⊥) (NamesOther order.name (fields_of edits)) (SpellsNone order bytes) (SpellsPastLimit order bytes)
+    let R : List (List ℕ) → Type 0 = λ rs. AreEdits rs edits in
+    subst P (sym named) (refuses_more (in_file file e) ((layout : Layout) → IsLayout order.name edits layout → ⊥) (NamesOther order.name (fields_of edits)) (SpellsNone order bytes) (SpellsBeyond order bytes)
     (λ no others layout m. no layout (folded others layout m))
-    (λ other others layout m. absurd (other_name order.name (fields_of edits) other (folded others layout m).comparator))
+    (λ other. record { records = records; tail = tail; log = log; count = length records; edits = edits; spelled = subst R (sym (take_all (length records) records (omega arith))) are; beyond = inl other })
     (refuses_for file e ((layout : Layout) → IsLayout order.name edits layout → ⊥) (NamesOther order.name (fields_of edits)) refused))
 
 -- ---- `CURRENT`
@@ -168,12 +162,52 @@ current_bytes order files number bytes numbered current there n edits layout m =
 pub manifest_refused : (order : Order) (a b c : Facts) (e : DbError) (number : ℕ) (current bytes : List ℕ) → IsUnchanged a b → IsUnchanged b c
     → IsNumbered number → current ≡ name_of (Manifest number) ++ 10 ∷ []
     → (IsTrue b.faithful → get a.files (name_of Current) ≡ Some current) → (IsTrue c.faithful → get b.files (name_of (Manifest number)) ≡ Some bytes)
-    → RefusesBytes e (SpellsNone order bytes) (SpellsPastLimit order bytes) → RefusesDirectory e a c (HasNoManifest order a.files) (IsBeyondReading order a.files)
+    → RefusesBytes e (SpellsNone order bytes) (SpellsBeyond order bytes) → RefusesDirectory e a c (HasNoManifest order a.files) (IsBeyondReading order a.files)
 manifest_refused order a b c e number current bytes h g numbered spelled first second refused =
-    let theirs : IsTrue c.faithful → (n : ℕ) (edits : List (List Field)) (layout : Layout) → HasManifest order a.files n edits layout → IsManifest order bytes edits layout = λ t.
-    let t' : IsTrue b.faithful = g.faithful t in
-    current_bytes order a.files number bytes numbered (first t' ∙ ap Some spelled) (ap (λ (fs : Files). get fs (name_of (Manifest number))) (sym (h.same t')) ∙ second t) in
-    refuses_bytes e a c (SpellsNone order bytes) (SpellsPastLimit order bytes) (HasNoManifest order a.files) (IsBeyondReading order a.files)
-    (λ t no n edits layout m. no edits layout (theirs t n edits layout m))
-    (λ t past n edits layout m. inl (past edits layout (theirs t n edits layout m)))
+    let named : IsTrue c.faithful → get a.files (name_of Current) ≡ Some (name_of (Manifest number) ++ 10 ∷ []) = λ t. first (g.faithful t) ∙ ap Some spelled in
+    let there : IsTrue c.faithful → get a.files (name_of (Manifest number)) ≡ Some bytes = λ t. ap (λ (fs : Files). get fs (name_of (Manifest number))) (sym (h.same (g.faithful t))) ∙ second t in
+    refuses_bytes e a c (SpellsNone order bytes) (SpellsBeyond order bytes) (HasNoManifest order a.files) (IsBeyondReading order a.files)
+    (λ t no n edits layout m. no edits layout (current_bytes order a.files number bytes numbered (named t) (there t) n edits layout m))
+    (λ t beyond. record { number = number; numbered = numbered; current = named t; bytes = bytes; there = there t; spelled = beyond })
     refused
+
+-- ---- past the limits
+
+edits_front : (n : ℕ) (records : List (List ℕ)) (edits : List (List Field)) → AreEdits records edits → AreEdits (take n records) (take n edits)
+edits_front zero records edits h = tt
+edits_front (suc n) [] [] h = tt
+edits_front (suc n) (r ∷ records) (e ∷ edits) h = (h.0, edits_front n records edits h.1)
+edits_front (suc n) [] (e ∷ edits) h = absurd h
+edits_front (suc n) (r ∷ records) [] h = absurd h
+
+past_within : (xs ys zs : List Field) → (HasPastLimit ys → HasPastLimit zs) → HasPastLimit (xs ++ ys) → HasPastLimit (xs ++ zs)
+past_within [] ys zs f h = f h
+past_within (x ∷ xs) ys zs f (inl h) = inl h
+past_within (x ∷ xs) ys zs f (inr h) = inr (past_within xs ys zs f h)
+
+past_front : (n : ℕ) (edits : List (List Field)) → HasPastLimit (fields_of (take n edits)) → HasPastLimit (fields_of edits)
+past_front zero edits h = absurd h
+past_front (suc n) [] h = absurd h
+past_front (suc n) (e ∷ edits) h = past_within e (fields_of (take n edits)) (fields_of edits) (past_front n edits) h
+
+other_within : (name : List ℕ) (xs ys zs : List Field) → (NamesOther name ys → NamesOther name zs) → NamesOther name (xs ++ ys) → NamesOther name (xs ++ zs)
+other_within name [] ys zs f h = f h
+other_within name (x ∷ xs) ys zs f (inl h) = inl h
+other_within name (x ∷ xs) ys zs f (inr h) = inr (other_within name xs ys zs f h)
+
+other_front : (name : List ℕ) (n : ℕ) (edits : List (List Field)) → NamesOther name (fields_of (take n edits)) → NamesOther name (fields_of edits)
+other_front name zero edits h = absurd h
+other_front name (suc n) [] h = absurd h
+other_front name (suc n) (e ∷ edits) h = other_within name e (fields_of (take n edits)) (fields_of edits) (other_front name n edits) h
+
+-- a MANIFEST that is there names a table past the limit
+pub beyond_past : BeyondLaw
+beyond_past order files n edits layout b m =
+    let s = b.spelled in
+    let mine : IsManifest order b.bytes edits layout = current_bytes order files b.number b.bytes b.numbered b.current b.there n edits layout m in
+    let are : AreEdits s.records edits = their_edits order b.bytes s.records s.tail edits layout s.log mine in
+    let same : s.edits ≡ take s.count edits = same_edits (take s.count s.records) s.edits (take s.count edits) s.spelled (edits_front s.count s.records edits are) in
+    elim s.beyond [
+      | inl other ↦ absurd (other_name order.name (fields_of edits) (other_front order.name s.count edits (subst (λ (es : List (List Field)). NamesOther order.name (fields_of es)) same other)) mine.folded.comparator)
+      | inr past ↦ past_front s.count edits (subst (λ (es : List (List Field)). HasPastLimit (fields_of es)) same past)
+    ]

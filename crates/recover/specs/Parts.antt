@@ -1,5 +1,5 @@
 -- What the steps of reading a directory hand to one another.
-use Rattle.std.specs.Prelude.{◌≡◌, ◌≤◌, ℕ, max, Bool, ◌&&◌, ◌||◌, ◌==◌, nat_lt, nat_le, List, [], ◌∷◌, ◌++◌, map, IsTrue}
+use Rattle.std.specs.Prelude.{◌≡◌, ◌≤◌, ℕ, max, Bool, ◌&&◌, ◌||◌, ◌==◌, nat_lt, nat_le, List, [], ◌∷◌, ◌++◌, map, take, IsTrue}
 use Rattle.coding.specs.declared.error.DbError.{DbError}
 use Rattle.coding.specs.declared.error.DbError.TheVariants as error
 use Rattle.coding.specs.declared.error.FileKind.{FileKind}
@@ -17,7 +17,8 @@ use Rattle.recover.specs.declared.manifest.Manifest.{Manifest}
 use Rattle.recover.specs.declared.replay.Replay.{Replay}
 use Rattle.recover.specs.Entries.{RiseAbove, greatest}
 use Rattle.recover.specs.Logs.{LogContent, HasLogs, logged}
-use Rattle.recover.specs.Directory.{IsManifest, HasManifest}
+use Rattle.recover.specs.Directory.{AreEdits, IsManifest, HasManifest}
+use Rattle.recover.specs.Report.{log_summary}
 
 -- ---- the store
 
@@ -58,16 +59,16 @@ abbrev pub highest_in : List Field → ℕ
 highest_in [] = 0
 highest_in (field ∷ fields) = max (number_in field) (highest_in fields)
 
+-- so many of the first records are edits, one of which names a table past the limit of numbers
+abbrev pub ArePastLimit : List (List ℕ) → Type 0
+ArePastLimit records = (count : ℕ) × (edits : List (List Field)) × AreEdits (take count records) edits × HasPastLimit (fields_of edits)
+
 -- the bytes are those of a MANIFEST that says this
 abbrev pub SpellsManifest : Order → List ℕ → Manifest → Type 0
 SpellsManifest order bytes manifest = (edits : List (List Field)) × IsManifest order bytes edits manifest.layout × (manifest.highest ≡ highest_in (fields_of edits))
 
 abbrev pub SpellsNone : Order → List ℕ → Type 0
 SpellsNone order bytes = (edits : List (List Field)) (layout : Layout) → IsManifest order bytes edits layout → ⊥
-
--- whatever MANIFEST the bytes spell, it names a table past the limit of numbers
-abbrev pub SpellsPastLimit : Order → List ℕ → Type 0
-SpellsPastLimit order bytes = (edits : List (List Field)) (layout : Layout) → IsManifest order bytes edits layout → HasPastLimit (fields_of edits)
 
 -- `CURRENT` names a MANIFEST that says this
 abbrev pub SaysManifest : Order → Files → Manifest → Type 0
@@ -97,6 +98,7 @@ pub record HasReplayed (files : Files) (numbers : List ℕ) (replay : Replay) : 
   pub logs : HasLogs files contents
   pub numbered : numbers_in contents ≡ numbers
   pub entries : replay.entries.items ≡ logged contents
+  pub summaries : replay.logs.items ≡ map log_summary contents
   pub rise : RiseAbove 0 (logged contents)
   pub last : replay.last ≡ greatest (logged contents)
 

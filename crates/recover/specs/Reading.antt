@@ -1,23 +1,27 @@
 -- What the names of a directory say, what reading its MANIFEST and its logs gives, and why it is refused
 -- (LevelDB's db/db_impl.cc, DBImpl::Recover).
-use Rattle.std.specs.Prelude.{◌≡◌, ◌≢◌, ◌⊎◌, ◌<◌, ◌≤◌, ◌-◌, ◌^◌, ◌↔◌, ℕ, min, true, List, [], ◌∷◌, IsTrue, MatchBool, Result, Err, Contains, None}
+use Rattle.std.specs.Prelude.{◌≡◌, ◌⊎◌, ◌<◌, ◌≤◌, ◌-◌, ◌^◌, ◌↔◌, ℕ, min, max, true, List, [], ◌∷◌, ◌++◌, map, take, IsTrue, MatchBool, Result, Ok, Err, Contains, Some, None}
 use Rattle.std.specs.FinMap.{get, contains_key}
 use Rattle.coding.specs.declared.error.DbError.{DbError}
 use Rattle.coding.specs.declared.error.DbError.TheVariants as error
 use Rattle.store.specs.Files.{Facts, Files}
 use Rattle.ikey.specs.Orders.{Order}
+use Rattle.logfile.specs.Log.{IsLog}
+use Rattle.logfile.specs.declared.record.Tail.{Tail}
 use Rattle.edits.specs.Edit.{HasPastLimit}
-use Rattle.edits.specs.Layout.{fields_of}
+use Rattle.edits.specs.Layout.{fields_of, NamesOther}
 use Rattle.edits.specs.Names.{name_of, IsFileName, IsNumbered}
 use Rattle.edits.specs.declared.field.Field.{Field}
-use Rattle.edits.specs.declared.layout.Layout.{Layout}
 use Rattle.edits.specs.declared.names.FileName.{FileName}
-use Rattle.edits.specs.declared.names.FileName.TheVariants.{Current, Log, Table, OldTable}
+use Rattle.edits.specs.declared.names.FileName.TheVariants.{Current, Log, Table, OldTable, Manifest}
 use Rattle.recover.specs.declared.listing.Listing.{Listing}
 use Rattle.recover.specs.declared.reading.Recovered.{Recovered}
-use Rattle.recover.specs.Logs.{logged}
+use Rattle.recover.specs.Entries.{greatest}
+use Rattle.recover.specs.Logs.{LogContent, HasLiveLogs, logged}
+use Rattle.recover.specs.Ranges.{HaveRanges, HaveTableFiles}
+use Rattle.recover.specs.Report.{log_summary}
 use Rattle.recover.specs.Numbers.{number_of, IsNextNumber}
-use Rattle.recover.specs.Directory.{Directory, IsConsistent, HasManifest, used_in}
+use Rattle.recover.specs.Directory.{Directory, IsConsistent, AreEdits, HasManifest}
 
 -- A call that changes no file: what holds of any store, and that the files stay while it is faithful.
 pub record Reads {T : Type 0} (old new : Facts) (result : Result T DbError) : Type 0 where
@@ -26,6 +30,16 @@ pub record Reads {T : Type 0} (old new : Facts) (result : Result T DbError) : Ty
   pub denials : new.denials ≡ old.denials
   pub io : result ≡ Err error.Io → old.failures < new.failures
   pub same : IsTrue new.faithful → new.files ≡ old.files
+
+-- Of the refusals Io alone is counted as a failure of the store,
+abbrev pub IsErrorCounted : DbError → Facts → Facts → Type 0
+IsErrorCounted error.Io old new = old.failures < new.failures
+IsErrorCounted e old new = new.failures ≡ old.failures
+
+-- and so a call raises the count of failures exactly where it answers Io.
+abbrev pub IsCounted : {T : Type 0} → Facts → Facts → Result T DbError → Type 0
+IsCounted old new (Ok value) = new.failures ≡ old.failures
+IsCounted old new (Err e) = IsErrorCounted e old new
 
 -- ---- names
 
@@ -59,15 +73,20 @@ IsNumberUpTo order files number = (n : ℕ) × IsNextNumber order files n × (nu
 
 -- ---- contents
 
--- The files are a consistent directory without tables, of this layout, with these entries in its logs.
+-- What was read of a directory: its MANIFEST, and its live logs. Of the tables, which aren't read, their files are there
+-- with the sizes of their edits, and the keys of these are in order.
 pub record Recovers (order : Order) (files : Files) (recovered : Recovered) : Type 0 where
-  pub directory : Directory
-  pub consistent : IsConsistent order files directory
-  pub plain : directory.tables ≡ []
-  pub layout : recovered.layout ≡ directory.layout
-  pub entries : recovered.entries.items ≡ logged directory.logs
-  pub used : recovered.used ≡ used_in directory
-  pub number : IsNumberUpTo order files recovered.next_number
+  pub number : ℕ
+  pub edits : List (List Field)
+  pub manifest : HasManifest order files number edits recovered.layout
+  pub ranges : HaveRanges order recovered.layout.tables.items
+  pub tables : HaveTableFiles files recovered.layout.tables.items
+  pub contents : List LogContent
+  pub live : HasLiveLogs files recovered.layout contents
+  pub entries : recovered.entries.items ≡ logged contents
+  pub logs : recovered.logs.items ≡ map log_summary contents
+  pub used : recovered.used ≡ max recovered.layout.last_sequence (greatest (logged contents))
+  pub next_number : IsNumberUpTo order files recovered.next_number
 
 -- Why a directory wasn't read: out of memory, since the store failed, since it isn't consistent, or since it has
 -- what isn't supported.
@@ -81,7 +100,22 @@ RefusesDirectory _ old new damaged unsupported = ⊥
 abbrev pub IsInconsistent : Order → Files → Type 0
 IsInconsistent order files = (d : Directory) → IsConsistent order files d → ⊥
 
--- Whatever MANIFEST is current, it names a table past the limit of numbers, or leaves tables, which aren't read yet.
-abbrev pub IsBeyondReading : Order → Files → Type 0
-IsBeyondReading order files = (number : ℕ) (edits : List (List Field)) (layout : Layout) → HasManifest order files number edits layout
-    → HasPastLimit (fields_of edits) ⊎ (layout.tables.items ≢ [])
+-- The bytes are a log, and so many of its first records are edits that name another order of keys, or a table past the
+-- limit of numbers.
+pub record SpellsBeyond (order : Order) (bytes : List ℕ) : Type 0 where
+  pub records : List (List ℕ)
+  pub tail : Tail
+  pub log : IsLog bytes records tail
+  pub count : ℕ
+  pub edits : List (List Field)
+  pub spelled : AreEdits (take count records) edits
+  pub beyond : NamesOther order.name (fields_of edits) ⊎ HasPastLimit (fields_of edits)
+
+-- `CURRENT` names a MANIFEST of such bytes, which is there.
+pub record IsBeyondReading (order : Order) (files : Files) : Type 0 where
+  pub number : ℕ
+  pub numbered : IsNumbered number
+  pub current : get files (name_of Current) ≡ Some (name_of (Manifest number) ++ 10 ∷ [])
+  pub bytes : List ℕ
+  pub there : get files (name_of (Manifest number)) ≡ Some bytes
+  pub spelled : SpellsBeyond order bytes

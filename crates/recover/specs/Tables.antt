@@ -1,5 +1,5 @@
 -- The tables of a directory.
-use Rattle.std.specs.Prelude.{◌≡◌, ◌⊎◌, ◌<◌, ◌+◌, ◌*◌, ℕ, Option, Some, None, List, [], ◌∷◌, ◌++◌, length, map}
+use Rattle.std.specs.Prelude.{◌≡◌, ◌⊎◌, ◌<◌, ℕ, Option, Some, List, [], ◌∷◌, ◌++◌, length, map}
 use Rattle.std.specs.declared.cmp.Ordering.TheVariants.{Less}
 use Rattle.std.specs.FinMap.{get}
 use Rattle.coding.specs.Fixed.{fixed64}
@@ -10,12 +10,13 @@ use Rattle.std.specs.Option.{option_or}
 use Rattle.edits.specs.declared.names.FileName.TheVariants.{Table, OldTable}
 use Rattle.edits.specs.Names.{name_of, IsNumbered}
 use Rattle.ikey.specs.declared.entry.Entry.{Entry}
-use Rattle.ikey.specs.Entries.{InternalEntry, entry_of}
+use Rattle.ikey.specs.Entries.{InternalEntry, internal_key_of, entry_of}
+use Rattle.ikey.specs.Keys.{tag_of}
 use Rattle.table.specs.Table.{IsTable}
-use Rattle.recover.specs.Entries.{Among}
+use Rattle.ikey.specs.Views.{Among}
 
 -- the bytes are the table file of these entries
-pub IsTableFile : Order → List ℕ → List Entry → Type 0
+abbrev pub IsTableFile : Order → List ℕ → List Entry → Type 0
 IsTableFile order bytes entries = (kept : List InternalEntry) × IsTable order.cmp bytes kept × (entries ≡ map entry_of kept)
 
 -- The bytes of a table: of the file that ends in `.ldb` or, where there is none, of the one that ends in `.sst`,
@@ -28,17 +29,18 @@ pub record TableContent : Type 0 where
   pub placed : PlacedTable
   pub entries : List Entry
 
-abbrev pub kind_of : Option (List ℕ) → ℕ
-kind_of None = 0
-kind_of (Some value) = 1
-
--- the internal key of an entry (LevelDB's db/dbformat.h)
+-- the bytes of the internal key of an entry (LevelDB's db/dbformat.h)
 abbrev pub internal_key : Entry → List ℕ
-internal_key entry = entry.key ++ fixed64 (256 * entry.sequence + kind_of entry.value)
+internal_key entry = entry.key ++ fixed64 (tag_of (internal_key_of entry))
 
 -- the entry comes before the other: its key does, or it is a newer one of the same key
 abbrev pub ComesBefore : Order → Entry → Entry → Type 0
 ComesBefore order a b = (order.cmp a.key b.key ≡ Less) ⊎ ((a.key ≡ b.key) × (b.sequence < a.sequence))
+
+-- each entry comes before all behind it, so that no two share a key and a sequence
+abbrev pub AreSorted : Order → List Entry → Type 0
+AreSorted order [] = Unit {0}
+AreSorted order (entry ∷ entries) = ((other : Entry) → Among entries other → ComesBefore order entry other) × AreSorted order entries
 
 -- The file is there with the size and the keys of its edit.
 pub record HasTable (order : Order) (files : Files) (content : TableContent) : Type 0 where
@@ -47,6 +49,7 @@ pub record HasTable (order : Order) (files : Files) (content : TableContent) : T
   pub there : table_at files content.placed.table.number ≡ Some bytes
   pub size : length bytes ≡ content.placed.table.size
   pub spelled : IsTableFile order bytes content.entries
+  pub sorted : AreSorted order content.entries
   pub smallest : (first : Entry) × Among content.entries first × (internal_key first ≡ content.placed.table.smallest)
       × ((other : Entry) → Among content.entries other → (other ≡ first) ⊎ ComesBefore order first other)
   pub largest : (last : Entry) × Among content.entries last × (internal_key last ≡ content.placed.table.largest)

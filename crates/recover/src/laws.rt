@@ -1,6 +1,7 @@
 //! What calls of the store do to the meaning of a directory.
 
 ghost use Rattle.recover.specs.Laws.{AppendLaw, FailedAppendLaw, FreeChangeLaw, ReopenLaw, NewLogLaw, EmptyLaw, NumberLaw, AppendableLaw, OneManifestLaw, OneDirectoryLaw};
+ghost use Rattle.recover.specs.Changes.{ExtendLaw, BeginLogLaw, EditLaw, FailedEditLaw, SameManifestLaw, FlushLaw, CompactionLaw, ClosedLaw, UnreadLaw, DistinctLaw, BeyondLaw, RecoveredLaw};
 
 /// A record for the next batch behind the last log adds the batch's entries.
 pub fn append_law()
@@ -47,7 +48,67 @@ pub fn one_manifest()
     ensures { OneManifestLaw }
 {}
 
-/// A consistent directory without tables means one thing.
+/// A consistent directory means one thing.
 pub fn one_directory()
     ensures { OneDirectoryLaw }
+{}
+
+/// A record for the next batch behind the last log adds the batch's entries there, and changes no other part.
+pub fn extend_law()
+    ensures { ExtendLaw }
+{}
+
+/// A new log behind the others changes no other part.
+pub fn begin_log_law()
+    ensures { BeginLogLaw }
+{}
+
+/// A record for an edit behind the MANIFEST adds the edit.
+pub fn edit_law()
+    ensures { EditLaw }
+{}
+
+/// A beginning of such a record adds nothing, or all of the edit.
+pub fn failed_edit_law()
+    ensures { FailedEditLaw }
+{}
+
+/// A MANIFEST that says the same means the same.
+pub fn same_manifest_law()
+    ensures { SameManifestLaw }
+{}
+
+/// A table of level 0 in place of what was logged before the current log means the same.
+pub fn flush_law()
+    ensures { FlushLaw }
+{}
+
+/// Outputs in place of inputs leave a consistent directory, with the outputs' entries in place of the inputs'.
+pub fn compaction_law()
+    ensures { CompactionLaw }
+{}
+
+/// Inputs of two levels that share no user key with what stays beside them may be replaced.
+pub fn closed_law()
+    ensures { ClosedLaw }
+{}
+
+/// A file that the meaning doesn't read may be written or removed.
+pub fn unread_law()
+    ensures { UnreadLaw }
+{}
+
+/// No two entries of a consistent directory share a key and a sequence, so that of each key one is the newest.
+pub fn distinct_law()
+    ensures { DistinctLaw }
+{}
+
+/// A MANIFEST that passes a limit of reading, and is one all the same, passes that of the numbers of tables.
+pub fn beyond_law()
+    ensures { BeyondLaw }
+{}
+
+/// What was read of a consistent directory, without its tables, is that of its parts.
+pub fn recovered_law()
+    ensures { RecoveredLaw }
 {}

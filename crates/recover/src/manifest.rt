@@ -4,14 +4,13 @@ ghost use Rattle.std.specs.Prelude.{◌≡◌, ◌<◌, ◌^◌, ◌++◌, ◌�
 ghost use Rattle.ikey.specs.Orders.{order_of};
 ghost use Rattle.logfile.specs.Log.{IsLog};
 ghost use Rattle.logfile.specs.declared.record.Tail.{Tail as TailValue};
-ghost use Rattle.edits.specs.Edit.{HasPastLimit};
 ghost use Rattle.edits.specs.Layout.{fields_of};
 ghost use Rattle.edits.specs.Names.{name_of, IsNumbered};
 ghost use Rattle.edits.specs.Snapshot.{IsKept};
 ghost use Rattle.edits.specs.declared.field.Field.{Field as FieldValue};
 ghost use Rattle.recover.specs.Directory.{AreEdits};
-ghost use Rattle.recover.specs.Reading.{RefusesDirectory, IsBeyondReading};
-ghost use Rattle.recover.specs.Parts.{IsUnchanged, RefusesBytes, number_in, highest_in, SpellsManifest, SpellsNone, SpellsPastLimit, SaysManifest, HasNoManifest};
+ghost use Rattle.recover.specs.Reading.{IsCounted, RefusesDirectory, SpellsBeyond, IsBeyondReading};
+ghost use Rattle.recover.specs.Parts.{IsUnchanged, RefusesBytes, number_in, highest_in, SpellsManifest, SpellsNone, ArePastLimit, SaysManifest, HasNoManifest};
 
 use crate::files::{read_file, refusal_in};
 use coding::{Damage, DbError, FileKind};
@@ -20,7 +19,7 @@ use edits::{
     print_name,
 };
 use ikey::KeyOrder;
-use logfile::read_log;
+use logfile::{Tail, read_log};
 use std::alloc::Global;
 use store::Store;
 
@@ -39,6 +38,7 @@ pub fn read_manifest<K: KeyOrder, S: Store>(
     store: &mut S,
 ) -> Result<Manifest, DbError>
     ensures store { IsUnchanged (S.facts store.old) (S.facts store.new) }
+    ensures counted { IsCounted (S.facts store.old) (S.facts store.new) result }
     ensures found { IfOk result (λ manifest. IsTrue (S.facts store.new).faithful
         → SaysManifest (order_of K.name K.cmp) (S.facts store.old).files manifest) }
     ensures refused { IfErr result (λ error. RefusesDirectory error (S.facts store.old) (S.facts store.new)
@@ -81,7 +81,7 @@ fn manifest_number(bytes: &[u8]) -> Result<u64, DbError>
 fn decode_manifest<K: KeyOrder>(alloc: Global, bytes: &[u8]) -> Result<Manifest, DbError>
     ensures found { IfOk result (λ manifest. SpellsManifest (order_of K.name K.cmp) bytes.now manifest) }
     ensures refused { IfErr result (λ error. RefusesBytes error
-        (SpellsNone (order_of K.name K.cmp) bytes.now) (SpellsPastLimit (order_of K.name K.cmp) bytes.now)) }
+        (SpellsNone (order_of K.name K.cmp) bytes.now) (SpellsBeyond (order_of K.name K.cmp) bytes.now)) }
     ensures kept { IfOk result (λ manifest. IsKept manifest.layout × (manifest.layout.last_sequence < 2 ^ 56)) }
 {
     layouts_are_kept();
@@ -100,8 +100,18 @@ pub fn records_in(alloc: Global, file: FileKind, bytes: &[u8]) -> Result<Vec<Vec
     ensures refused { IfErr result (λ error. RefusesBytes error
         ((records : List (List ℕ)) (tail : TailValue) → IsLog bytes.now records tail → ⊥) ⊥) }
 {
+    let (records, _) = log_in(alloc, file, bytes)?;
+    Ok(records)
+}
+
+/// The same, and how the log ends.
+pub fn log_in(alloc: Global, file: FileKind, bytes: &[u8]) -> Result<(Vec<Vec<u8>>, Tail), DbError>
+    ensures found { IfOk result (λ found. IsLog bytes.now (map (λ r. r.items) found.0.items) found.1) }
+    ensures refused { IfErr result (λ error. RefusesBytes error
+        ((records : List (List ℕ)) (tail : TailValue) → IsLog bytes.now records tail → ⊥) ⊥) }
+{
     match read_log(alloc, bytes) {
-        Ok((records, _)) => Ok(records),
+        Ok(found) => Ok(found),
         Err(error) => Err(refusal_in(file, error)),
     }
 }
@@ -111,7 +121,7 @@ fn edits_in(alloc: Global, records: &[Vec<u8>]) -> Result<Vec<Edit>, DbError>
     ensures found { IfOk result (λ edits. AreEdits (map (λ r. r.items) records.now) edits.items) }
     ensures refused { IfErr result (λ error. RefusesBytes error
         ((edits : List (List FieldValue)) → AreEdits (map (λ r. r.items) records.now) edits → ⊥)
-        ((edits : List (List FieldValue)) → AreEdits (map (λ r. r.items) records.now) edits → HasPastLimit (fields_of edits))) }
+        (ArePastLimit (map (λ r. r.items) records.now))) }
 {
     let mut edits = Vec::new(alloc);
     for record in records {

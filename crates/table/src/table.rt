@@ -2,6 +2,7 @@
 
 ghost use Rattle.table.specs.Table.{OneTable};
 
+use crate::checking::{admits, check_all};
 use crate::data::{read_all, read_data};
 use crate::frame::read_ends;
 use crate::handle::{Handle, Place};
@@ -116,6 +117,36 @@ impl<K: KeyOrder> Table<K> {
         }
     }
 
+    /// The entries as `entries`, with all else that makes the file a table: there is one at least, their keys are internal
+    /// keys, each is within the bounds of its block, and its filter admits it. Corrupt, where that isn't so, and
+    /// Corrupt and Unsupported as `read_block`.
+    pub fn check_entries<S: Store>(
+        &self,
+        alloc: Global,
+        store: &mut S,
+    ) -> Result<Vec<KeyValue>, DbError>
+        ensures reads { Reads (S.facts store.old) (S.facts store.new) }
+        ensures found { IfOk result (λ found. Answers (S.facts store.old) (S.facts store.new) self.now.name
+            (λ file. IsFrame K.cmp file self.now.frame → (entries : List InternalEntry) × IsTable K.cmp file entries × ArePairs (pairs_of found.items) entries)) }
+        ensures refused { IfErr result (λ e. Refuses e (S.facts store.old) (S.facts store.new) self.now.name
+            (λ file. (entries : List InternalEntry) → IsFrame K.cmp file self.now.frame → IsTable K.cmp file entries → AnyLong (handles self.now.frame))) }
+        // Over any store there is an entry.
+        ensures sound { IfOk result (λ found. (0 < length found.items)) }
+    {
+        let found = check_all::<K, S>(
+            alloc,
+            store,
+            &self.name,
+            self.before,
+            &self.places,
+            &self.filter,
+        )?;
+        if found.is_empty() {
+            return Err(DbError::Corrupt(FileKind::Table, Damage::Missing));
+        }
+        Ok(found)
+    }
+
     /// The first entry whose internal key isn't below the target, an internal key, as the bytes of its key and its
     /// value, if there is one. Of the blocks only those are read that can have it. Corrupt and Unsupported as
     /// `read_block`.
@@ -146,10 +177,7 @@ impl<K: KeyOrder> Table<K> {
         ensures { MatchBool result (TableAdmits self.now.frame.filter handle.offset (hash_of key.now))
             (TableDenies self.now.frame.filter handle.offset (hash_of key.now)) }
     {
-        match &self.filter {
-            None => true,
-            Some(filter) => filter.may_hold(handle.offset, key),
-        }
+        admits(&self.filter, handle.offset, key)
     }
 }
 
