@@ -23,13 +23,15 @@ use Rattle.recover.specs.Report.{log_summary}
 use Rattle.recover.specs.Numbers.{number_of, IsNextNumber}
 use Rattle.recover.specs.Directory.{Directory, IsConsistent, AreEdits, HasManifest}
 
--- A call that changes no file: what holds of any store, and that the files stay while it is faithful.
+-- A call that only reads: what holds of any store, and that the files and what of them is synced stay while it is faithful.
 pub record Reads {T : Type 0} (old new : Facts) (result : Result T DbError) : Type 0 where
   pub faithful : IsTrue new.faithful → IsTrue old.faithful
   pub failures : old.failures ≤ new.failures
   pub denials : new.denials ≡ old.denials
+  pub held : new.held ≡ old.held
   pub io : result ≡ Err error.Io → old.failures < new.failures
   pub same : IsTrue new.faithful → new.files ≡ old.files
+  pub synced : IsTrue new.faithful → new.synced ≡ old.synced
 
 -- Of the refusals Io alone is counted as a failure of the store,
 abbrev pub IsErrorCounted : DbError → Facts → Facts → Type 0

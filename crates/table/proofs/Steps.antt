@@ -1,5 +1,5 @@
 -- Calls that read, one after another.
-use Rattle.std.proofs.Common.{◌≡◌, ℕ, List, Some, IsTrue, refl, sym, ◌∙◌, subst, arith}
+use Rattle.std.proofs.Common.{◌≡◌, ℕ, List, Some, Result, IsTrue, refl, sym, ◌∙◌, subst, arith}
 use Rattle.std.specs.FinMap.{get}
 use Rattle.coding.specs.declared.error.DbError.{DbError}
 use Rattle.coding.specs.declared.error.DbError.TheVariants.{OutOfMemory, Io, Corrupt, Unsupported}
@@ -8,6 +8,8 @@ use Rattle.coding.specs.declared.error.ReadError.TheVariants as read_error
 use Rattle.block.specs.Block.{Refuses as RefusesBlock}
 use Rattle.coding.specs.Errors.{RefusesOnly}
 use Rattle.store.specs.Files.{Files, Facts}
+use Rattle.store.specs.Calls.{Counts, Keeps, KeepsSynced}
+use Rattle.store.specs.declared.error.StoreError.{StoreError}
 use Rattle.table.specs.Reading.{Reads, HasFile, Finds, Refuses, table_refusal}
 
 pub same_file : (facts : Facts) (name x y : List ℕ) → HasFile facts name x → HasFile facts name y → x ≡ y
@@ -19,6 +21,8 @@ reads_then a b c h k = record {
   files = λ t. k.files t ∙ h.files (k.faithful t);
   failures = omega (arith, h.failures, k.failures);
   denials = k.denials ∙ h.denials;
+  held = k.held ∙ h.held;
+  synced = λ t. k.synced t ∙ h.synced (k.faithful t);
 }
 
 pub file_back : (a b : Facts) (name file : List ℕ) → Reads a b → IsTrue b.faithful → HasFile b name file → HasFile a name file
@@ -118,4 +122,8 @@ refuses_later (Unsupported what) a b c name P Q f h k none = λ t file there. f 
 refuses_later _ a b c name P Q f h k none = absurd none
 
 pub reads_none : (a : Facts) → Reads a a
-reads_none a = record { faithful = λ t. t; files = λ t. refl; failures = omega arith; denials = refl }
+reads_none a = record { faithful = λ t. t; files = λ t. refl; failures = omega arith; denials = refl; held = refl; synced = λ t. refl }
+
+-- a call of the store that only reads
+pub reads_by : {T : Type 0} (a b : Facts) (result : Result T StoreError) → Counts a b result → b.denials ≡ a.denials → b.held ≡ a.held → Keeps a b → KeepsSynced a b → Reads a b
+reads_by a b result counts undenied lock keeps synced = record { faithful = counts.faithful; files = keeps; failures = counts.failures; denials = undenied; held = lock; synced = synced }

@@ -18,6 +18,8 @@ pub record Reads (old new : Facts) : Type 0 where
   pub files : IsTrue new.faithful → new.files ≡ old.files
   pub failures : old.failures ≤ new.failures
   pub denials : new.denials ≡ old.denials
+  pub held : new.held ≡ old.held
+  pub synced : IsTrue new.faithful → new.synced ≡ old.synced
 
 -- the store has this file under this name
 abbrev pub HasFile : Facts → List ℕ → List ℕ → Type 0

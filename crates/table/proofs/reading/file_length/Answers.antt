@@ -1,0 +1,8 @@
+use Rattle.table.proofs.Steps.{reads_by}
+use Rattle.table.proofs.reading.file_length.Goals as goal
+
+pub returns-in-Ok-clause-reads : goal.returns-in-Ok-clause-reads
+returns-in-Ok-clause-reads g c = reads_by _ _ _ c.len.ensures.counts c.len.ensures.undenied c.len.ensures.lock c.len.ensures.same c.len.ensures.synced
+
+pub returns-in-Err-clause-reads : goal.returns-in-Err-clause-reads
+returns-in-Err-clause-reads g c = reads_by _ _ _ c.len.ensures.counts c.len.ensures.undenied c.len.ensures.lock c.len.ensures.same c.len.ensures.synced
