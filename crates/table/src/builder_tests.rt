@@ -118,14 +118,19 @@ fn user_key(number: u32) -> [u8; 4] {
     [a, b, c, d]
 }
 
+fn value_of(number: u32) -> [u8; 3] {
+    let [_, a, b, c] = number.to_be_bytes();
+    [a, b, c]
+}
+
 // The puts of the odd numbers, with values of three bytes.
 fn odd_numbers(alloc: Global, count: u32) -> Result<Vec<KeyValue>, DbError>
     requires { count ≤ 1000 }
 {
     let mut entries = Vec::new(alloc);
     for index in 0..count {
-        let [_, value @ ..] = user_key(index);
         let user = user_key(2 * index + 1);
+        let value = value_of(index);
         entries.push(entry(alloc, &user, u64::from(index), Kind::Put, &value)?)?;
     }
     Ok(entries)
