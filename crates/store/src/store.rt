@@ -45,7 +45,8 @@ pub trait Store {
             (bytes : List ℕ) × (map.get (facts self.old).files name.now ≡ Some bytes) × (len ≡ length bytes)) }
         ensures missing { IsTrue (facts self.new).faithful → result ≡ Err StoreError.Missing →
             map.get (facts self.old).files name.now ≡ None }
-        ensures same { Keeps (facts self.old) (facts self.new) };
+        ensures same { Keeps (facts self.old) (facts self.new) }
+        ensures synced { KeepsSynced (facts self.old) (facts self.new) };
 
     /// The bytes of a file from `offset` on, `count` of them or up to its end.
     fn read_at(
@@ -62,7 +63,8 @@ pub trait Store {
             (bytes : List ℕ) × (map.get (facts self.old).files name.now ≡ Some bytes) × (read.items ≡ take count (drop offset bytes))) }
         ensures missing { IsTrue (facts self.new).faithful → result ≡ Err StoreError.Missing →
             map.get (facts self.old).files name.now ≡ None }
-        ensures same { Keeps (facts self.old) (facts self.new) };
+        ensures same { Keeps (facts self.old) (facts self.new) }
+        ensures synced { KeepsSynced (facts self.old) (facts self.new) };
 
     /// Makes an empty file, or empties the one that is there. A call that fails with Device may have done so.
     fn create(&mut self, name: &str) -> Result<(), StoreError>
