@@ -13,13 +13,14 @@ use Rattle.recover.specs.declared.listing.Listing.{Listing}
 use Rattle.recover.specs.declared.reading.Recovered.{Recovered}
 use Rattle.recover.specs.declared.report.Summary.{Summary}
 use Rattle.recover.specs.declared.report.TableSummary.{TableSummary}
-use Rattle.recover.specs.Checks.{IsOlder, AreGood, AreTooLong}
+use Rattle.recover.specs.Checks.{Never, IsOlder, AreGood, AreOnly}
 use Rattle.recover.specs.Directory.{Directory, IsConsistent, IsEmpty, used_in}
 use Rattle.ikey.specs.Views.{Among}
 use Rattle.recover.specs.Logs.{LogContent}
 use Rattle.recover.specs.Parts.{IsUnchanged, RefusesBytes}
 use Rattle.recover.specs.Reading.{Reads, IsListing, Recovers, RefusesDirectory, IsInconsistent, IsBeyondReading}
-use Rattle.recover.specs.Report.{IsSummary, IsBeyondChecking, table_summary, log_summary}
+use Rattle.recover.specs.Limits.{PassesLimit}
+use Rattle.recover.specs.Report.{IsSummary, IsLongTable, AnyHasBytes, table_summary, log_summary}
 use Rattle.recover.specs.Tables.{TableContent, HasTables, InTables, AreTables}
 use Rattle.recover.proofs.Memberships.{from_tabled, to_tabled}
 use Rattle.recover.proofs.PairChecks.{newer_from, newer_to}
@@ -128,9 +129,12 @@ directory_good order files recovered d r h =
 
 -- ---- refusals
 
--- neither empty, nor consistent within the limits
+-- neither empty nor consistent, or not within the limits
+abbrev pub IsDamagedAll : Order → Files → Type 0
+IsDamagedAll order files = (IsEmpty files → ⊥) × IsInconsistent order files
+
 abbrev pub IsRefused : Order → Files → Type 0
-IsRefused order files = (IsEmpty files → ⊥) × IsBeyondChecking order files
+IsRefused order files = (IsEmpty files → ⊥) × PassesLimit order files
 
 pub current_there : (files : Files) (listing : Listing) → IsListing files listing → listing.has_current ≡ true → IsEmpty files → ⊥
 current_there files listing l there e = let t : is_some {T = List ℕ} None ≡ true = ap is_some (sym e.current) ∙ sym l.current ∙ there in cc
@@ -138,25 +142,25 @@ current_there files listing l there e = let t : is_some {T = List ℕ} None ≡ 
 pub unchanged_of : {T : Type 0} (a b : Facts) (result : Result T DbError) → Reads a b result → IsUnchanged a b
 unchanged_of a b result h = record { faithful = h.faithful; failures = h.failures; denials = h.denials; held = h.held; same = h.same; synced = h.synced }
 
-pub not_listed : {T : Type 0} (order : Order) (e : DbError) (a b : Facts) (result : Result T DbError) → Reads a b result → result ≡ Err e → (e ≡ OutOfMemory) ⊎ (e ≡ Io) → RefusesDirectory e a b (IsRefused order a.files) (IsRefused order a.files)
-not_listed order e a b result h is (inl memory) = subst (λ (x : DbError). RefusesDirectory x a b (IsRefused order a.files) (IsRefused order a.files)) (sym memory) tt
+pub not_listed : {T : Type 0} (order : Order) (e : DbError) (a b : Facts) (result : Result T DbError) → Reads a b result → result ≡ Err e → (e ≡ OutOfMemory) ⊎ (e ≡ Io) → RefusesDirectory e a b (IsDamagedAll order a.files) (IsRefused order a.files)
+not_listed order e a b result h is (inl memory) = subst (λ (x : DbError). RefusesDirectory x a b (IsDamagedAll order a.files) (IsRefused order a.files)) (sym memory) tt
 not_listed order e a b result h is (inr io) =
-    subst (λ (x : DbError). RefusesDirectory x a b (IsRefused order a.files) (IsRefused order a.files)) (sym io) (h.io (is ∙ ap (λ (x : DbError). Err x) io))
+    subst (λ (x : DbError). RefusesDirectory x a b (IsDamagedAll order a.files) (IsRefused order a.files)) (sym io) (h.io (is ∙ ap (λ (x : DbError). Err x) io))
 
 pub not_none : (order : Order) (e : DbError) (a b : Facts) (listing : Listing) → IsUnchanged a b → (IsTrue b.faithful → IsListing a.files listing) → listing.has_current ≡ false
-    → RefusesBytes e ((o : Order) (files : Files) → IsListing files listing → listing.has_current ≡ false → (IsEmpty files → ⊥) × IsBeyondChecking o files) ⊥ → RefusesDirectory e a b (IsRefused order a.files) (IsRefused order a.files)
+    → RefusesBytes e ((o : Order) (files : Files) → IsListing files listing → listing.has_current ≡ false → (IsEmpty files → ⊥) × IsInconsistent o files) ⊥ → RefusesDirectory e a b (IsDamagedAll order a.files) (IsRefused order a.files)
 not_none order e a b listing h l none r =
-    refuses_bytes e a b ((o : Order) (files : Files) → IsListing files listing → listing.has_current ≡ false → (IsEmpty files → ⊥) × IsBeyondChecking o files) ⊥ (IsRefused order a.files) (IsRefused order a.files)
+    refuses_bytes e a b ((o : Order) (files : Files) → IsListing files listing → listing.has_current ≡ false → (IsEmpty files → ⊥) × IsInconsistent o files) ⊥ (IsDamagedAll order a.files) (IsRefused order a.files)
     (λ t all. all order a.files (l t) none) (λ t z. absurd z) r
 
 pub not_read : (order : Order) (e : DbError) (a b c : Facts) (listing : Listing) → IsUnchanged a b → IsUnchanged b c → (IsTrue b.faithful → IsListing a.files listing) → listing.has_current ≡ true
-    → RefusesDirectory e b c (IsListing b.files listing → IsInconsistent order b.files) (IsBeyondReading order b.files) → RefusesDirectory e a c (IsRefused order a.files) (IsRefused order a.files)
+    → RefusesDirectory e b c (IsListing b.files listing → IsInconsistent order b.files) (IsBeyondReading order b.files) → RefusesDirectory e a c (IsDamagedAll order a.files) (IsRefused order a.files)
 not_read order e a b c listing h k l there r =
-    refuses_later e a b c (IsListing b.files listing → IsInconsistent order b.files) (IsBeyondReading order b.files) (IsRefused order a.files) (IsRefused order a.files) h
+    refuses_later e a b c (IsListing b.files listing → IsInconsistent order b.files) (IsBeyondReading order b.files) (IsDamagedAll order a.files) (IsRefused order a.files) h
     (λ t none.
     let t' = k.faithful t in
     let here = subst (λ (fs : Files). IsListing fs listing → IsInconsistent order fs) (h.same t') none in
-    (current_there a.files listing (l t') there, λ d g. absurd (here (l t') d g)))
+    (current_there a.files listing (l t') there, λ d g. here (l t') d g))
     (λ t beyond.
     let t' = k.faithful t in
     let here = subst (λ (fs : Files). IsBeyondReading order fs) (h.same t') beyond in
@@ -165,19 +169,21 @@ not_read order e a b c listing h k l there r =
 
 pub not_whole : (order : Order) (e : DbError) (a b c : Facts) (listing : Listing) (recovered : Recovered) → IsUnchanged a b → IsUnchanged b c → (IsTrue b.faithful → IsListing a.files listing) → listing.has_current ≡ true
     → (IsTrue b.faithful → Recovers order a.files recovered)
-    → RefusesDirectory e b c (AreTooLong order b.files recovered.entries.items recovered.layout.last_sequence recovered.layout.tables.items) (AreTooLong order b.files recovered.entries.items recovered.layout.last_sequence recovered.layout.tables.items)
-    → RefusesDirectory e a c (IsRefused order a.files) (IsRefused order a.files)
+    → RefusesDirectory e b c (AreOnly Never order b.files recovered.entries.items recovered.layout.last_sequence recovered.layout.tables.items)
+    (AreOnly (IsLongTable order) order b.files recovered.entries.items recovered.layout.last_sequence recovered.layout.tables.items)
+    → RefusesDirectory e a c (IsDamagedAll order a.files) (IsRefused order a.files)
 not_whole order e a b c listing recovered h k l there found r =
-    let U : Files → Type 0 = λ fs. AreTooLong order fs recovered.entries.items recovered.layout.last_sequence recovered.layout.tables.items in
-    let each : IsTrue c.faithful → U b.files → IsRefused order a.files = λ t long.
+    let U : (List ℕ → Type 0) → Files → Type 0 = λ so fs. AreOnly so order fs recovered.entries.items recovered.layout.last_sequence recovered.layout.tables.items in
+    let each : (so : List ℕ → Type 0) → IsTrue c.faithful → U so b.files → (d : Directory) → IsConsistent order a.files d → AnyHasBytes so a.files d.tables = λ so t only d g.
     let t' = k.faithful t in
-    let here = subst U (h.same t') long in
-    (current_there a.files listing (l t') there, λ d g. inr (here d.tables (directory_good order a.files recovered d (found t') g))) in
-    refuses_later e a b c (U b.files) (U b.files) (IsRefused order a.files) (IsRefused order a.files) h each each r
+    subst (U so) (h.same t') only d.tables (directory_good order a.files recovered d (found t') g) in
+    refuses_later e a b c (U Never b.files) (U (IsLongTable order) b.files) (IsDamagedAll order a.files) (IsRefused order a.files) h
+    (λ t only. (current_there a.files listing (l (k.faithful t)) there, λ d g. (each Never t only d g).2.2))
+    (λ t only. (current_there a.files listing (l (k.faithful t)) there, λ d g. inr (each (IsLongTable order) t only d g))) r
 
 pub none_result : (order : Order) (a b : Facts) (listing : Listing) (result : Result Report DbError) → IsUnchanged a b → (IsTrue b.faithful → IsListing a.files listing) → listing.has_current ≡ false
-    → IfErr result (λ e. RefusesBytes e ((o : Order) (files : Files) → IsListing files listing → listing.has_current ≡ false → (IsEmpty files → ⊥) × IsBeyondChecking o files) ⊥)
-    → IfErr result (λ e. RefusesDirectory e a b (IsRefused order a.files) (IsRefused order a.files))
+    → IfErr result (λ e. RefusesBytes e ((o : Order) (files : Files) → IsListing files listing → listing.has_current ≡ false → (IsEmpty files → ⊥) × IsInconsistent o files) ⊥)
+    → IfErr result (λ e. RefusesDirectory e a b (IsDamagedAll order a.files) (IsRefused order a.files))
 none_result order a b listing (Ok report) h l none r = tt
 none_result order a b listing (Err e) h l none r = not_none order e a b listing h l none r
 

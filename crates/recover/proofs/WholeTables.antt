@@ -19,13 +19,14 @@ use Rattle.edits.specs.Names.{IsNumbered}
 use Rattle.edits.specs.declared.field.PlacedTable.{PlacedTable}
 use Rattle.ikey.specs.Views.{Among}
 use Rattle.recover.specs.Tables.{table_at, HasTable, internal_key, ComesBefore, AreSorted}
-use Rattle.recover.specs.Checks.{content_of, first_key, IsSpanned, IsTooLong}
+use Rattle.recover.specs.Checks.{content_of, first_key, IsSpanned, Never, IsOnly}
 use Rattle.recover.specs.Parts.{IsUnchanged, RefusesBytes}
+use Rattle.recover.specs.Report.{IsLongTable}
 use Rattle.recover.specs.Ranges.{HasTableFile, IsTableName}
 use Rattle.recover.specs.Reading.{RefusesDirectory}
 use Rattle.recover.proofs.EntryOrder.{before_trans}
 use Rattle.recover.proofs.OneMeaning.{same_spelled}
-use Rattle.recover.proofs.ReadTables.{IsLongFile}
+use Rattle.recover.proofs.ReadTables.{IsFileOnly}
 use Rattle.recover.proofs.Refused.{refuses_later}
 
 -- what was read of a table's file
@@ -152,15 +153,15 @@ spanned_of order o files placed pairs entries others r h =
 -- ---- refusals
 
 -- the file isn't there
-pub unnamed : (order : Order) (e : DbError) (a b : Facts) (placed : PlacedTable) → RefusesDirectory e a b (HasTableFile a.files placed → ⊥) ⊥ → RefusesDirectory e a b (IsTooLong order a.files placed) (IsTooLong order a.files placed)
+pub unnamed : (order : Order) (e : DbError) (a b : Facts) (placed : PlacedTable) → RefusesDirectory e a b (HasTableFile a.files placed → ⊥) ⊥ → RefusesDirectory e a b (IsOnly Never order a.files placed) (IsOnly (IsLongTable order) order a.files placed)
 unnamed order OutOfMemory a b placed r = tt
 unnamed order Io a b placed r = r
 unnamed order (Corrupt kind what) a b placed r = λ t entries h. absurd (r t (h.numbered, (h.bytes, h.there, h.size)))
 unnamed order (Unsupported what) a b placed r = λ t. absurd (r t)
 unnamed order _ a b placed r = absurd r
 
-too_long : (order : Order) (a b c : Facts) (placed : PlacedTable) (name : List ℕ) → IsUnchanged a b → IsUnchanged b c → (IsTrue b.faithful → IsTableName a.files placed name) → IsTrue c.faithful → IsLongFile order b.files name → IsTooLong order a.files placed
-too_long order a b c placed name h k named t long entries table =
+only_so : (is : List ℕ → Type 0) (order : Order) (a b c : Facts) (placed : PlacedTable) (name : List ℕ) → IsUnchanged a b → IsUnchanged b c → (IsTrue b.faithful → IsTableName a.files placed name) → IsTrue c.faithful → IsFileOnly is order b.files name → IsOnly is order a.files placed
+only_so is order a b c placed name h k named t long entries table =
     let t' = k.faithful t in
     let n = named t' in
     let both : Some table.bytes ≡ Some n.1.0 = sym table.there ∙ n.1.2 in
@@ -170,11 +171,11 @@ too_long order a b c placed name h k named t long entries table =
 
 -- its blocks aren't read
 pub unread_pairs : (order : Order) (e : DbError) (a b c : Facts) (placed : PlacedTable) (name text : List ℕ) → IsUnchanged a b → IsUnchanged b c → text ≡ name → (IsTrue b.faithful → IsTableName a.files placed name)
-    → RefusesDirectory e b c (IsLongFile order b.files text) (IsLongFile order b.files text) → RefusesDirectory e a c (IsTooLong order a.files placed) (IsTooLong order a.files placed)
+    → RefusesDirectory e b c (IsFileOnly Never order b.files text) (IsFileOnly (IsLongTable order) order b.files text) → RefusesDirectory e a c (IsOnly Never order a.files placed) (IsOnly (IsLongTable order) order a.files placed)
 unread_pairs order e a b c placed name text h k same named r =
-    let P : List ℕ → Type 0 = λ n. RefusesDirectory e b c (IsLongFile order b.files n) (IsLongFile order b.files n) in
-    refuses_later e a b c (IsLongFile order b.files name) (IsLongFile order b.files name) (IsTooLong order a.files placed) (IsTooLong order a.files placed) h
-    (λ t long. too_long order a b c placed name h k named t long) (λ t long. too_long order a b c placed name h k named t long) (subst P same r)
+    let P : List ℕ → Type 0 = λ n. RefusesDirectory e b c (IsFileOnly Never order b.files n) (IsFileOnly (IsLongTable order) order b.files n) in
+    refuses_later e a b c (IsFileOnly Never order b.files name) (IsFileOnly (IsLongTable order) order b.files name) (IsOnly Never order a.files placed) (IsOnly (IsLongTable order) order a.files placed) h
+    (λ t none. only_so Never order a b c placed name h k named t none) (λ t long. only_so (IsLongTable order) order a b c placed name h k named t long) (subst P same r)
 
 -- what the pairs that were read are
 pub was_read : (order : Order) (a b c : Facts) (placed : PlacedTable) (name text : List ℕ) (pairs : List Pair) (entries : List Entry) → IsUnchanged a b → IsUnchanged b c → text ≡ name → (IsTrue b.faithful → IsTableName a.files placed name)
@@ -190,7 +191,7 @@ was_read order a b c placed name text pairs entries h k same named found all t =
 -- no pairs of its file are entries
 pub no_pairs : (order : Order) (e : DbError) (a b c : Facts) (placed : PlacedTable) (name text : List ℕ) (pairs : List Pair) → IsUnchanged a b → IsUnchanged b c → text ≡ name → (IsTrue b.faithful → IsTableName a.files placed name)
     → (IsTrue c.faithful → (bytes : List ℕ) → get b.files text ≡ Some bytes → (kept : List InternalEntry) × IsTable order.cmp bytes kept × ArePairs pairs kept)
-    → RefusesBytes e ((kept : List InternalEntry) → ArePairs pairs kept → ⊥) ⊥ → RefusesDirectory e a c (IsTooLong order a.files placed) (IsTooLong order a.files placed)
+    → RefusesBytes e ((kept : List InternalEntry) → ArePairs pairs kept → ⊥) ⊥ → RefusesDirectory e a c (IsOnly Never order a.files placed) (IsOnly (IsLongTable order) order a.files placed)
 no_pairs order OutOfMemory a b c placed name text pairs h k same named found r = tt
 no_pairs order (Corrupt kind what) a b c placed name text pairs h k same named found r = λ t.
     let t' = k.faithful t in

@@ -10,7 +10,7 @@ use Rattle.edits.specs.declared.field.TableFile.{TableFile}
 use Rattle.ikey.specs.Entries.{Pair}
 use Rattle.ikey.specs.Views.{Among}
 use Rattle.recover.specs.Tables.{TableContent, HasTable, InTables, ComesBefore, AreTwoTables}
-use Rattle.recover.specs.Report.{HasLongBlock, AnyHasLongBlock}
+use Rattle.recover.specs.Report.{HasBytes, AnyHasBytes}
 
 -- ---- entries
 
@@ -45,9 +45,13 @@ IsSpanned table pairs = (first_key pairs ≡ Some table.smallest) × (last_key p
 abbrev pub content_of : PlacedTable → List Entry → TableContent
 content_of placed entries = record { placed = placed; entries = entries }
 
--- whatever entries it has, one of its blocks is too long to be read
-abbrev pub IsTooLong : Order → Files → PlacedTable → Type 0
-IsTooLong order files placed = (entries : List Entry) → HasTable order files (content_of placed entries) → HasLongBlock order files (content_of placed entries)
+-- so is it of no bytes
+abbrev pub Never : List ℕ → Type 0
+Never bytes = ⊥
+
+-- whatever entries it has, its file has bytes of which this is so
+abbrev pub IsOnly : (List ℕ → Type 0) → Order → Files → PlacedTable → Type 0
+IsOnly is order files placed = (entries : List Entry) → HasTable order files (content_of placed entries) → HasBytes is files (content_of placed entries)
 
 -- the table's entries are older than those logged of their keys, and their sequences are recorded
 pub record IsOlder (logged : List Entry) (recorded : ℕ) (content : TableContent) : Type 0 where
@@ -70,6 +74,6 @@ AreGood order files logged recorded (placed ∷ tables) (content ∷ contents) =
     × ((other : TableContent) → InTables contents other → AreTwoTables order content other) × AreGood order files logged recorded tables contents
 AreGood order files logged recorded tables contents = ⊥
 
--- whatever contents they have, one of their blocks is too long to be read
-abbrev pub AreTooLong : Order → Files → List Entry → ℕ → List PlacedTable → Type 0
-AreTooLong order files logged recorded tables = (contents : List TableContent) → AreGood order files logged recorded tables contents → AnyHasLongBlock order files contents
+-- whatever contents they have, one of their files has such bytes
+abbrev pub AreOnly : (List ℕ → Type 0) → Order → Files → List Entry → ℕ → List PlacedTable → Type 0
+AreOnly is order files logged recorded tables = (contents : List TableContent) → AreGood order files logged recorded tables contents → AnyHasBytes is files contents

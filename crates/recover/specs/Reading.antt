@@ -43,6 +43,15 @@ abbrev pub IsCounted : {T : Type 0} → Facts → Facts → Result T DbError →
 IsCounted old new (Ok value) = new.failures ≡ old.failures
 IsCounted old new (Err e) = IsErrorCounted e old new
 
+-- Out of memory comes, as an Ok, only of a call in which the store didn't fail.
+abbrev pub IsErrorStill : DbError → Facts → Facts → Type 0
+IsErrorStill error.OutOfMemory old new = new.failures ≡ old.failures
+IsErrorStill e old new = Unit {0}
+
+abbrev pub IsStill : {T : Type 0} → Facts → Facts → Result T DbError → Type 0
+IsStill old new (Ok value) = new.failures ≡ old.failures
+IsStill old new (Err e) = IsErrorStill e old new
+
 -- ---- names
 
 -- they rise, the first above this one
