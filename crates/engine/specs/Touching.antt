@@ -15,6 +15,10 @@ abbrev pub unit_result : Answer → Result (Unit {0}) DbError
 unit_result (Refused e) = Err e
 unit_result _ = Ok tt
 
+-- an open that was accepted
+abbrev pub done : Result (Unit {0}) DbError
+done = Ok tt
+
 -- ---- a write
 
 -- What was put behind the file of this name is synced where that was asked for, and nothing else is.

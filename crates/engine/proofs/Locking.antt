@@ -1,0 +1,97 @@
+-- What an open does to the lock, and what of its writing is synced, from the call that takes the lock on.
+use Rattle.std.proofs.Common.{true, false, ◌≡◌, ◌≢◌, ◌⊎◌, ◌<◌, ◌≤◌, ap, sym, ◌∙◌, Result, Ok, Err, IsTrue, OnOk, OnErr, inl, inr, refl, arith}
+use Rattle.std.specs.FinMap.{get}
+use Rattle.coding.specs.declared.error.DbError.{DbError}
+use Rattle.store.specs.Files.{Facts, Files, Synced, MayLock}
+use Rattle.store.specs.Calls.{Counts}
+use Rattle.store.specs.declared.error.StoreError.{StoreError}
+use Rattle.store.specs.declared.error.StoreError.TheVariants as store_error
+use Rattle.edits.specs.Names.{name_of}
+use Rattle.edits.specs.declared.names.FileName.TheVariants.{Current}
+use Rattle.engine.specs.Calls.{TakesLock}
+use Rattle.engine.specs.Durable.{LeavesFile, IsDurable, LeavesDurable}
+use Rattle.engine.specs.Touching.{Locks, OpensStore, Frees}
+use Rattle.engine.proofs.OpenLock.{OnlyLock, may_lock_only}
+
+-- ---- what is synced
+
+left_by : (old new : Facts) → new.files ≡ old.files → new.synced ≡ old.synced → LeavesFile old new (name_of Current)
+left_by old new files synced = (ap (λ (fs : Files). get fs (name_of Current)) files, ap (λ (s : Synced). s (name_of Current)) synced)
+
+-- nothing was written
+pub unwritten_durable : {T : Type 0} (old new : Facts) (e : DbError) → (IsTrue new.faithful → new.files ≡ old.files) → (IsTrue new.faithful → new.synced ≡ old.synced) → LeavesDurable {T = T} old new (Err e)
+unwritten_durable old new e files synced = record { ok = λ f. tt; err = λ f. inl (left_by old new (files f) (synced f)) }
+
+-- what was only read before, or the lock that was taken, leaves `CURRENT`
+pub behind_durable : {T U : Type 0} (old mid new : Facts) (e : DbError) → (IsTrue new.faithful → IsTrue mid.faithful) → (IsTrue mid.faithful → LeavesFile old mid (name_of Current)) → LeavesDurable {T = T} mid new (Err e) → LeavesDurable {T = U} old new (Err e)
+behind_durable old mid new e back left d = record {
+  ok = λ f. tt;
+  err = λ f. elim (d.err f) [
+    | inl still ↦ (let first = left (back f) in inl (still.0 ∙ first.0, still.1 ∙ first.1))
+    | inr made ↦ inr made
+  ];
+}
+
+pub behind_read : {T U : Type 0} (old mid new : Facts) (e : DbError) → (IsTrue new.faithful → IsTrue mid.faithful) → (IsTrue mid.faithful → mid.files ≡ old.files) → (IsTrue mid.faithful → mid.synced ≡ old.synced)
+    → LeavesDurable {T = T} mid new (Err e) → LeavesDurable {T = U} old new (Err e)
+behind_read {T} {U} old mid new e back files synced d = behind_durable {T = T} {U = U} old mid new e back (λ f. left_by old mid (files f) (synced f)) d
+
+pub done_durable : {T U : Type 0} (old mid new : Facts) (x : T) (y : U) → LeavesDurable {T = T} mid new (Ok x) → LeavesDurable {T = U} old new (Ok y)
+done_durable old mid new x y d = record { ok = d.ok; err = λ f. tt }
+
+-- ---- the lock
+
+left_by_lock : {r : Result (Unit {0}) DbError} (old mid : Facts) → TakesLock old mid r → IsTrue mid.faithful → LeavesFile old mid (name_of Current)
+unfolding OnlyLock
+left_by_lock old mid taken f = (may_lock_only old.files mid.files (taken.files f) Current tt (λ e. cc), ap (λ (s : Synced). s (name_of Current)) (taken.synced f))
+
+-- the lock wasn't taken
+pub unlocked_open : {T : Type 0} (old new : Facts) (e : DbError) → TakesLock old new (Err e) → OpensStore {T = T} old new (Err e)
+unlocked_open old new e taken = record {
+  locks = record { held = tt; freed = λ h. inl (sym taken.unheld ∙ h) };
+  durable = record { ok = λ f. tt; err = λ f. inl (left_by_lock {r = Err e} old new taken f) };
+}
+
+-- it was, and the open was done
+pub locked_open : {T : Type 0} (old mid new : Facts) (x : T) → TakesLock old mid (Ok tt) → new.held ≡ mid.held → LeavesDurable {T = T} mid new (Ok x) → OpensStore {T = T} old new (Ok x)
+locked_open {T} old mid new x taken same d = record {
+  locks = record { held = same ∙ taken.held; freed = tt };
+  durable = done_durable {T = T} {U = T} old mid new x x d;
+}
+
+freed_by : (r : Result (Unit {0}) StoreError) (old new : Facts) → Counts old new r → OnOk r (new.held ≡ false) → r ≢ Err store_error.Missing → r ≢ Err store_error.Memory → new.held ≡ true → old.failures < new.failures
+freed_by (Ok x) old new counts free missing memory held = (let clash : true ≡ false = sym held ∙ free in absurd (cc))
+freed_by (Err store_error.Missing) old new counts free missing memory held = absurd (missing refl)
+freed_by (Err store_error.Memory) old new counts free missing memory held = absurd (memory refl)
+freed_by (Err store_error.Device) old new counts free missing memory held = counts.device refl
+
+pub frees : (r : Result (Unit {0}) StoreError) (old new : Facts) → Counts old new r → OnOk r (new.held ≡ false) → r ≢ Err store_error.Missing → r ≢ Err store_error.Memory → Frees old new
+frees r old new counts free missing memory held = freed_by r old new counts free missing memory held
+
+-- it was, and given back
+pub given_back : {T : Type 0} (old mid new last : Facts) (e : DbError) (r : Result (Unit {0}) StoreError) → TakesLock old mid (Ok tt) → mid.failures ≤ new.failures → (IsTrue new.faithful → IsTrue mid.faithful) → LeavesDurable {T = T} mid new (Err e)
+    → Counts new last r → (IsTrue last.faithful → last.files ≡ new.files) → (IsTrue last.faithful → last.synced ≡ new.synced) → OnOk r (last.held ≡ false) → r ≢ Err store_error.Missing → r ≢ Err store_error.Memory
+    → OpensStore {T = T} old last (Err e)
+given_back {T} old mid new last e r taken rise back d counts files synced free missing memory =
+    let whole = behind_durable {T = T} {U = T} old mid new e back (λ f. left_by_lock {r = Ok tt} old mid taken f) d in
+    record {
+      locks = record { held = tt; freed = λ h. inr (let fails : new.failures < last.failures = freed_by r new last counts free missing memory h in omega (arith, taken.failures, rise, fails)) };
+      durable = record {
+        ok = λ f. tt;
+        err = λ f.
+            let g = counts.faithful f in
+            elim (whole.err g) [
+              | inl still ↦ (let after = left_by new last (files f) (synced f) in inl (after.0 ∙ still.0, after.1 ∙ still.1))
+              | inr made ↦ (
+                    let fs : (name : _) → get last.files name ≡ get new.files name = λ name. ap (λ (x : Files). get x name) (files f) in
+                    let ss : (name : _) → last.synced name ≡ new.synced name = λ name. ap (λ (s : Synced). s name) (synced f) in
+                    inr (made.0, made.1, (fs _ ∙ made.2.0, ss _ ∙ made.2.1), fs _ ∙ made.3, ss _ ∙ made.4))
+            ];
+      };
+    }
+
+-- where no memory was found no failure was counted, unless the lock wasn't given back
+pub stood_still : (r : Result (Unit {0}) StoreError) (old mid new last : Facts) → TakesLock old mid (Ok tt) → mid.failures ≡ old.failures → new.failures ≡ mid.failures → new.held ≡ mid.held → Counts new last r → OnErr r (last.held ≡ new.held)
+    → (last.failures ≡ old.failures) ⊎ (last.held ≡ true)
+stood_still (Ok x) old mid new last taken first stood same counts kept = inl (counts.unfailed (λ k. cc) ∙ stood ∙ first)
+stood_still (Err e) old mid new last taken first stood same counts kept = inr (kept ∙ same ∙ taken.held)

@@ -1,0 +1,85 @@
+-- What an open's answer tells of the directory.
+use Rattle.std.proofs.Common.{Bool, true, false, cond, ◌≡◌, ◌≢◌, ◌⊎◌, List, [], is_some, Result, Ok, Err, IsTrue, inl, inr, refl, sym, ap, subst, ◌∙◌}
+use Rattle.std.specs.FinMap.{get, contains_key}
+use Rattle.coding.specs.declared.error.DbError.{DbError}
+use Rattle.coding.specs.declared.error.DbError.TheVariants as error
+use Rattle.store.specs.Files.{Facts, Files, MayLock}
+use Rattle.ikey.specs.Orders.{Order}
+use Rattle.edits.specs.Names.{name_of, IsNumbered}
+use Rattle.edits.specs.declared.names.FileName.TheVariants.{Current, Manifest}
+use Rattle.engine.specs.declared.command.Mode.{Mode}
+use Rattle.engine.specs.declared.finding.Found.{Found}
+use Rattle.engine.specs.declared.state.DbState.{DbState}
+use Rattle.recover.specs.Laws.{FreeChangeLaw}
+use Rattle.engine.specs.Calls.{RefusesLock}
+use Rattle.engine.specs.Opening.{Finds, RefusesOpen, IsBeyondOpening}
+use Rattle.engine.specs.Telling.{IsOpenable, RefusalTells, Tells}
+use Rattle.engine.proofs.OpenLock.{OnlyLock, may_lock_only, only_back, empty_beside, consistent_beside}
+
+-- what was found can be opened
+pub found_openable : (order : Order) (files : Files) (found : Found) → Finds order files found → IsOpenable order files
+found_openable order files found h = elim h.what [
+  | inl none ↦ inl none.0
+  | inr there ↦ inr (there.directory, there.consistent, there.plain)
+]
+
+-- what isn't found tells
+pub refusal_tells : (order : Order) (mode : Mode) (old new : Facts) (e : DbError) → IsTrue new.faithful → RefusesOpen order mode e old new → RefusalTells order old.files e
+refusal_tells order mode old new (error.Corrupt file what) f h = h f
+refusal_tells order mode old new (error.Unsupported what) f h = (h f).1
+refusal_tells order mode old new error.NoDatabase f h = (h f).1
+refusal_tells order mode old new error.Exists f h = (h f).1
+refusal_tells order mode old new error.OutOfMemory f h = tt
+refusal_tells order mode old new error.Io f h = tt
+refusal_tells order mode old new error.NumbersSpent f h = tt
+refusal_tells order mode old new _ f h = absurd h
+
+-- a store that refuses to be written tells nothing
+pub store_tells : (order : Order) (files : Files) (e : DbError) → (e ≡ error.OutOfMemory) ⊎ (e ≡ error.Io) → RefusalTells order files e
+store_tells order files e (inl is) = subst (λ (x : DbError). RefusalTells order files x) (sym is) tt
+store_tells order files e (inr is) = subst (λ (x : DbError). RefusalTells order files x) (sym is) tt
+
+-- nor does a lock that isn't held
+pub lock_tells : (order : Order) (old new : Facts) (e : DbError) → RefusesLock e old new → RefusalTells order old.files e
+lock_tells order old new error.OutOfMemory h = tt
+lock_tells order old new error.Io h = tt
+lock_tells order old new error.Locked h = tt
+lock_tells order old new _ h = absurd h
+
+-- a MANIFEST that isn't read says the same where another file was made
+beyond_back : (order : Order) (old new : Files) → OnlyLock old new → IsBeyondOpening order new → IsBeyondOpening order old
+unfolding OnlyLock
+beyond_back order old new only (inl b) = inl (record {
+  number = b.number;
+  numbered = b.numbered;
+  current = sym (only Current tt (λ e. cc)) ∙ b.current;
+  bytes = b.bytes;
+  there = sym (only (Manifest b.number) b.numbered (λ e. cc)) ∙ b.there;
+  spelled = b.spelled;
+})
+beyond_back order old new only (inr b) =
+    let has = b.3 in
+    inr (b.0, b.1, b.2, record {
+      numbered = has.numbered;
+      current = sym (only Current tt (λ e. cc)) ∙ has.current;
+      bytes = has.bytes;
+      there = sym (only (Manifest b.0) has.numbered (λ e. cc)) ∙ has.there;
+      spelled = has.spelled;
+    }, b.4)
+
+-- the file of the lock says nothing
+pub tells_beside : (order : Order) (old new : Files) → FreeChangeLaw → MayLock old new → (r : Result DbState DbError) → Tells order new r → Tells order old r
+unfolding OnlyLock
+tells_beside order old new law may (Ok state) h =
+    let back = only_back old new (may_lock_only old new may) in
+    elim h [
+      | inl none ↦ inl (empty_beside order new old law back none)
+      | inr there ↦ inr (there.0, consistent_beside order new old law back there.0 there.1, there.2)
+    ]
+tells_beside order old new law may (Err (error.Corrupt file what)) h =
+    let on = may_lock_only old new may in
+    (λ none. h.0 (empty_beside order old new law on none), λ d there. h.1 d (consistent_beside order old new law on d there))
+tells_beside order old new law may (Err (error.Unsupported what)) h = beyond_back order old new (may_lock_only old new may) h
+tells_beside order old new law may (Err error.NoDatabase) h = empty_beside order new old law (only_back old new (may_lock_only old new may)) h
+tells_beside order old new law may (Err error.Exists) h = ap is_some (sym (may_lock_only old new may Current tt (λ e. cc))) ∙ h
+tells_beside order old new law may (Err _) h = tt

@@ -1,0 +1,114 @@
+-- All that is said of a command in a session, and of a list of commands.
+use Rattle.std.specs.Prelude.{◌≡◌, ℕ, Bool, string_bytes, Option, Some, None, List, [], ◌∷◌, Result, Ok, Err}
+use Rattle.std.specs.Option.{option_or}
+use Rattle.batch.specs.Batch.{first_refusal}
+use Rattle.batch.specs.declared.operation.Operation.{Operation}
+use Rattle.coding.specs.declared.error.DbError.{DbError}
+use Rattle.store.specs.Files.{Facts}
+use Rattle.ikey.specs.Orders.{Order}
+use Rattle.ikey.specs.Views.{IsValueAt}
+use Rattle.engine.specs.declared.command.Op.{Op}
+use Rattle.engine.specs.declared.command.Op.TheVariants.{Get, Close}
+use Rattle.engine.specs.declared.command.Answer.{Answer}
+use Rattle.engine.specs.declared.command.Answer.TheVariants.{Value}
+use Rattle.engine.specs.declared.ids.Ids.{Ids}
+use Rattle.engine.specs.declared.state.DbState.{DbState}
+use Rattle.engine.specs.declared.session.Session.{Session}
+use Rattle.engine.specs.declared.db.Db.{Db}
+use Rattle.engine.specs.Reads.{sequence_at}
+use Rattle.engine.specs.Step.{Step}
+use Rattle.engine.specs.Follows.{Follows}
+use Rattle.engine.specs.Outcomes.{OutcomeOf, IsAnswerTo, Succeeds}
+use Rattle.engine.specs.Causes.{IsCaused, IsCausedIn, where_open, opened_already, write_refusal, cause_of}
+use Rattle.engine.specs.Touching.{SyncsLog, LeavesStore, CloseTouches, Touches}
+use Rattle.engine.specs.Telling.{CommandTells, OpenTells}
+
+-- ---- of one command
+
+-- A value that a get answers is what the newest entry of the key put, as far as the read sees.
+abbrev pub IsRead : List ℕ → Option ℕ → Option DbState → Answer → Type 0
+IsRead key snapshot None (Value value) = ⊥
+IsRead key snapshot (Some state) (Value value) = (sequence : ℕ) × (sequence_at state snapshot ≡ Some sequence) × IsValueAt state.table.entries.items sequence key value
+IsRead key snapshot state _ = Unit {0}
+
+abbrev pub Shows : Op → Option DbState → Answer → Type 0
+Shows (Get key snapshot) state answer = IsRead key snapshot state answer
+Shows _ state answer = Unit {0}
+
+-- No database is open behind a close.
+abbrev pub Shuts : Op → Option DbState → Type 0
+Shuts Close state = state ≡ None
+Shuts _ state = Unit {0}
+
+-- why a write is refused
+abbrev pub write_causes : List Operation → Option DbState → Ids → Option DbError
+write_causes operations state ids = option_or (first_refusal [] operations) (where_open (λ s. write_refusal s operations) state)
+
+-- ---- of two sessions
+
+abbrev pub CausedBy : {S K : Type 0} → (Option DbState → Ids → Option DbError) → Session S K → Session S K → Answer → Type 0
+CausedBy cause old new answer = IsCaused (cause old.state old.ids) old.store new.store answer
+
+abbrev pub TouchedBy : {S K : Type 0} → (Option DbState → Facts → Facts → Answer → Type 0) → (S → Facts) → Session S K → Session S K → Answer → Type 0
+TouchedBy touches facts old new answer = touches old.state (facts old.store) (facts new.store) answer
+
+abbrev pub Left : Option DbState → Facts → Facts → Answer → Type 0
+Left state old new answer = LeavesStore old new
+
+abbrev pub ToldBy : {S K : Type 0} → Op → Order → (S → Facts) → Session S K → Session S K → Answer → Type 0
+ToldBy op order facts old new answer = CommandTells op order old.state (facts old.store) (facts new.store) answer
+
+abbrev pub OpenTold : {S K : Type 0} → Order → (S → Facts) → Session S K → Session S K → Answer → Type 0
+OpenTold order facts old new answer = OpenTells order old.state (facts old.store) (facts new.store) answer
+
+abbrev pub ReadBy : {S K : Type 0} → List ℕ → Option ℕ → Session S K → Answer → Type 0
+ReadBy key snapshot old answer = IsRead key snapshot old.state answer
+
+abbrev pub ShownBy : {S K : Type 0} → Op → Session S K → Answer → Type 0
+ShownBy op old answer = Shows op old.state answer
+
+abbrev pub IsShut : {S K : Type 0} → Session S K → Type 0
+IsShut session = session.state ≡ None
+
+-- what parting with the store does to it
+abbrev pub Parted : {S K : Type 0} → Session S K → Facts → Facts → Type 0
+Parted session old new = CloseTouches session.state old new
+
+abbrev pub ShutBy : {S K : Type 0} → Op → Session S K → Type 0
+ShutBy op new = Shuts op new.state
+
+pub record Applied {S K : Type 0} (order : Order) (facts : S → Facts) (op : Op) (old new : Session S K) (answer : Answer) : Type 0 where
+  pub step : Follows order facts old new (λ m n. Step order m op answer n)
+  pub outcome : OutcomeOf (IsAnswerTo op) facts old new answer
+  pub succeeds : Succeeds op old new answer
+  pub caused : CausedBy (cause_of op) old new answer
+  pub touches : TouchedBy (Touches op) facts old new answer
+  pub tells : ToldBy op order facts old new answer
+  pub shown : ShownBy op old answer
+  pub shut : ShutBy op new
+
+-- ---- of a list of commands
+
+-- Each is applied to what the one before has left.
+abbrev pub AllApplied : {S K : Type 0} → Order → (S → Facts) → List Op → List Answer → Session S K → Session S K → Type 0
+AllApplied order facts [] [] old new = new ≡ old
+AllApplied {S} {K} order facts (op ∷ ops) (answer ∷ answers) old new = (mid : Session S K) × Applied order facts op old mid answer × AllApplied order facts ops answers mid new
+AllApplied order facts [] (answer ∷ answers) old new = ⊥
+AllApplied order facts (op ∷ ops) [] old new = ⊥
+
+-- ---- of an open database
+
+-- why a write to it is refused
+abbrev pub DbCaused : {S K T : Type 0} → (DbState → Ids → Option DbError) → Db S K → Db S K → Result T DbError → Type 0
+DbCaused cause old new result = IsCausedIn (cause old.state old.ids) old.store new.store result
+
+abbrev pub DbSyncs : {S K T : Type 0} → Type 0 → Bool → (S → Facts) → Db S K → Db S K → Result T DbError → Type 0
+DbSyncs asked sync facts old new result = SyncsLog asked sync (string_bytes old.state.log.name) (facts old.store) (facts new.store) result
+
+abbrev pub DbLeaves : {S K : Type 0} → (S → Facts) → Db S K → Db S K → Type 0
+DbLeaves facts old new = LeavesStore (facts old.store) (facts new.store)
+
+-- A value that it answers is what the newest entry of the key put, as far as the read sees.
+abbrev pub DbRead : {S K : Type 0} → List ℕ → Option ℕ → Db S K → Result (Option (List ℕ)) DbError → Type 0
+DbRead key snapshot db (Ok value) = IsRead key snapshot (Some db.state) (Value value)
+DbRead key snapshot db (Err e) = Unit {0}
