@@ -13,6 +13,7 @@ use Rattle.engine.specs.declared.state.DbState.{DbState}
 use Rattle.recover.specs.Laws.{FreeChangeLaw}
 use Rattle.engine.specs.Calls.{RefusesLock}
 use Rattle.engine.specs.Opening.{Finds, RefusesOpen, IsBeyondOpening}
+use Rattle.engine.specs.Causes.{IsMet}
 use Rattle.engine.specs.Telling.{IsOpenable, RefusalTells, Tells}
 use Rattle.engine.proofs.OpenLock.{OnlyLock, may_lock_only, only_back, empty_beside, consistent_beside}
 
@@ -83,3 +84,25 @@ tells_beside order old new law may (Err (error.Unsupported what)) h = beyond_bac
 tells_beside order old new law may (Err error.NoDatabase) h = empty_beside order new old law (only_back old new (may_lock_only old new may)) h
 tells_beside order old new law may (Err error.Exists) h = ap is_some (sym (may_lock_only old new may Current tt (λ e. cc))) ∙ h
 tells_beside order old new law may (Err _) h = tt
+
+-- ---- and it is none that the arguments or what is open would show
+
+pub refusal_met : (order : Order) (mode : Mode) (old new : Facts) (e : DbError) → RefusesOpen order mode e old new → IsMet e
+refusal_met order mode old new (error.Corrupt file what) h = tt
+refusal_met order mode old new (error.Unsupported what) h = tt
+refusal_met order mode old new error.NoDatabase h = tt
+refusal_met order mode old new error.Exists h = tt
+refusal_met order mode old new error.OutOfMemory h = tt
+refusal_met order mode old new error.Io h = tt
+refusal_met order mode old new error.NumbersSpent h = tt
+refusal_met order mode old new _ h = absurd h
+
+pub store_met : (e : DbError) → (e ≡ error.OutOfMemory) ⊎ (e ≡ error.Io) → IsMet e
+store_met e (inl is) = subst IsMet (sym is) tt
+store_met e (inr is) = subst IsMet (sym is) tt
+
+pub lock_met : (old new : Facts) (e : DbError) → RefusesLock e old new → IsMet e
+lock_met old new error.OutOfMemory h = tt
+lock_met old new error.Io h = tt
+lock_met old new error.Locked h = tt
+lock_met old new _ h = absurd h

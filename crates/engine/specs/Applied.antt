@@ -1,5 +1,5 @@
 -- All that is said of a command in a session, and of a list of commands.
-use Rattle.std.specs.Prelude.{◌≡◌, ℕ, Bool, string_bytes, Option, Some, None, List, [], ◌∷◌, Result, Ok, Err}
+use Rattle.std.specs.Prelude.{◌≡◌, ℕ, Bool, false, string_bytes, Option, Some, None, List, [], ◌∷◌, Result, Ok, Err}
 use Rattle.std.specs.Option.{option_or}
 use Rattle.batch.specs.Batch.{first_refusal}
 use Rattle.batch.specs.declared.operation.Operation.{Operation}
@@ -104,6 +104,10 @@ DbCaused cause old new result = IsCausedIn (cause old.state old.ids) old.store n
 
 abbrev pub DbSyncs : {S K T : Type 0} → Type 0 → Bool → (S → Facts) → Db S K → Db S K → Result T DbError → Type 0
 DbSyncs asked sync facts old new result = SyncsLog asked sync (string_bytes old.state.log.name) (facts old.store) (facts new.store) result
+
+-- A write of no operations to one that isn't broken, which makes no call of the store.
+abbrev pub DbWritesEmpty : {S K : Type 0} → List Operation → Db S K → Db S K → Result (Unit {0}) DbError → Type 0
+DbWritesEmpty operations old new result = operations ≡ [] → old.state.broken ≡ false → (result ≡ Ok tt) × (new.store ≡ old.store)
 
 abbrev pub DbLeaves : {S K : Type 0} → (S → Facts) → Db S K → Db S K → Type 0
 DbLeaves facts old new = LeavesStore (facts old.store) (facts new.store)
