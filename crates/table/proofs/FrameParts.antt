@@ -174,7 +174,7 @@ unsupported_index file before metaindex index named filter ends found u =
     record { before = before; metaindex = metaindex; index = index; footer = ends; which = inr (named, filter, found.0, found.1, u) }
 
 -- what was read of the frame is supported, and so is the index, or it is no frame's
-frame_supported : (file : List ℕ) (before : ℕ) (metaindex index : Handle) → HasFooter file before metaindex index → (IsFilterUnsupported file metaindex → ⊥) → (IsUnsupported file index → ⊥) → IsFrameUnsupported file → ⊥
+pub frame_supported : (file : List ℕ) (before : ℕ) (metaindex index : Handle) → HasFooter file before metaindex index → (IsFilterUnsupported file metaindex → ⊥) → (IsUnsupported file index → ⊥) → IsFrameUnsupported file → ⊥
 frame_supported file before metaindex index ends filter place u =
     let same = one_footer file before u.before metaindex index u.metaindex u.index ends u.footer in
     elim u.which [

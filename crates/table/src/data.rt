@@ -1,6 +1,6 @@
 //! Data blocks, read from a store (LevelDB's `doc/table_format.md`, "data block").
 
-ghost use Rattle.std.specs.Prelude.{◌≡◌, ◌<◌, ◌^◌, ◌++◌, ℕ, List, length, map, IfOk, IfErr, OnOk};
+ghost use Rattle.std.specs.Prelude.{◌≡◌, ◌<◌, ◌≤◌, ◌^◌, ◌++◌, ℕ, List, length, map, IfOk, IfErr, OnOk};
 ghost use Rattle.std.specs.List.{flat_map};
 ghost use Rattle.block.specs.Block.{IsBlock, Refuses as RefusesBlock};
 ghost use Rattle.ikey.specs.Below.{IsBelowInternal};
@@ -30,6 +30,7 @@ pub fn read_data<K: KeyOrder, S: Store>(
 ) -> Result<Block<Internal<K>>, DbError>
     ensures reads { Reads (S.facts store.old) (S.facts store.new) }
     ensures found { IfOk result (λ block. Finds (S.facts store.old) (S.facts store.new) name.now (λ file. HasBlock K.cmp file handle block.pairs)) }
+    ensures short { OnOk result (handle.size ≤ 2 ^ 30) }
     ensures stood { OnOk result ((S.facts store.new).failures ≡ (S.facts store.old).failures) }
     ensures refused { IfErr result (λ e. Refuses e (S.facts store.old) (S.facts store.new) name.now
         (λ file. IsDamaged K.cmp file handle) (λ file. IsUnsupported file handle)) }

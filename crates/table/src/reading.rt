@@ -86,6 +86,7 @@ pub fn read_stored<S: Store>(
     ensures reads { Reads (S.facts store.old) (S.facts store.new) }
     ensures found { IfOk result (λ block. Finds (S.facts store.old) (S.facts store.new) name.now (λ file. IsStored file handle block.items)) }
     ensures short { IfOk result (λ block. length block.items ≤ 2 ^ 30) }
+    ensures size { OnOk result (handle.size ≤ 2 ^ 30) }
     ensures stood { OnOk result ((S.facts store.new).failures ≡ (S.facts store.old).failures) }
     ensures refused { IfErr result (λ e. Refuses e (S.facts store.old) (S.facts store.new) name.now
         (λ file. ((block : List ℕ) → IsStored file handle block → ⊥) × (IsUnsupported file handle → ⊥)) (λ file. IsUnsupported file handle)) }

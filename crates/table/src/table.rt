@@ -41,7 +41,7 @@ impl<K: KeyOrder> Model for Table<K> {
 }
 
 impl<K: KeyOrder> Table<K> {
-    ghost use Rattle.std.specs.Prelude.{◌≡◌, ◌<◌, ◌+◌, ◌⊎◌, ℕ, List, Option, Some, None, IfOk, IfErr, OnOk, MatchBool, length};
+    ghost use Rattle.std.specs.Prelude.{◌≡◌, ◌<◌, ◌≤◌, ◌+◌, ◌^◌, ◌⊎◌, ℕ, List, Option, Some, None, IfOk, IfErr, OnOk, MatchBool, length};
     ghost use Rattle.filter.specs.Hash.{hash_of};
     ghost use Rattle.table.specs.Frame.{Frame, IsFrame, IsOversized, TableAdmits, TableDenies, AnyLong, handles};
     ghost use Rattle.table.specs.Reading.{Reads, Finds, Answers, Refuses};
@@ -59,6 +59,7 @@ impl<K: KeyOrder> Table<K> {
         ensures name { IfOk result (λ table. table.name ≡ name.now) }
         ensures found { IfOk result (λ table. Finds (S.facts store.old) (S.facts store.new) name.now (λ file. IsFrame K.cmp file table.frame)) }
         ensures before { IfOk result (λ table. Finds (S.facts store.old) (S.facts store.new) name.now (λ file. table.before + 48 ≡ length file)) }
+        ensures supported { OnOk result (Answers (S.facts store.old) (S.facts store.new) name.now (λ file. IsFrameUnsupported file → ⊥)) }
         ensures stood { OnOk result ((S.facts store.new).failures ≡ (S.facts store.old).failures) }
         ensures told { IfErr result (λ e. Refuses e (S.facts store.old) (S.facts store.new) name.now (IsFrameDamaged K.cmp) IsFrameUnsupported) }
         // A frame is refused only where one of its blocks is too long.
@@ -101,6 +102,7 @@ impl<K: KeyOrder> Table<K> {
     ) -> Result<Block<Internal<K>>, DbError>
         ensures reads { Reads (S.facts store.old) (S.facts store.new) }
         ensures found { IfOk result (λ block. Finds (S.facts store.old) (S.facts store.new) self.now.name (λ file. HasBlock K.cmp file handle block.pairs)) }
+        ensures short { OnOk result (handle.size ≤ 2 ^ 30) }
         ensures stood { OnOk result ((S.facts store.new).failures ≡ (S.facts store.old).failures) }
         ensures refused { IfErr result (λ e. Refuses e (S.facts store.old) (S.facts store.new) self.now.name
             (λ file. IsDamaged K.cmp file handle) (λ file. IsUnsupported file handle)) }

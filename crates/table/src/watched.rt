@@ -83,7 +83,7 @@ fn with_metaindex(alloc: Global, size: u64) -> Result<Vec<u8>, AllocError> {
     bytes.push(0)?;
     put_varint64(&mut bytes, size)?;
     bytes.extend_from_slice(&[101, 22])?;
-    while bytes.len() < 168 {
+    for _ in bytes.len()..168 {
         bytes.push(0)?;
     }
     bytes.extend_from_slice(&ONE_ENTRY[168..])?;

@@ -6,7 +6,7 @@ use Rattle.table.specs.Refusals.{IsUnsupported, IsFilterUnsupported, IsFrameUnsu
 use Rattle.table.specs.Stored.{AreSeparate}
 use Rattle.table.specs.declared.handle.Handle.{Handle}
 use Rattle.table.specs.declared.handle.Place.{Place}
-use Rattle.table.proofs.FrameParts.{EndsHere, FilterHere, IndexHere, NoFilter, NoIndex, no_ends, no_filter, unsupported_filter, unsupported_index, no_places, not_separate, framed, frame_refused}
+use Rattle.table.proofs.FrameParts.{EndsHere, FilterHere, IndexHere, NoFilter, NoIndex, no_ends, no_filter, unsupported_filter, unsupported_index, no_places, not_separate, framed, frame_supported, frame_refused}
 use Rattle.table.proofs.Steps.{refuses_more, refuses_after, reads_then, finds_first, finds_second, finds_both, finds_more, finds_three, known}
 use Rattle.table.proofs.table.Table.open.Goals as goal
 
@@ -94,6 +94,21 @@ returns-clause-found g c =
     (λ file h. framed g.K.KeyOrder.cmp file e.before e.footer.metaindex e.footer.index c.in_ok-named.named c.in_ok-named.filter places h.0 h.1 h.2
     (subst (AreSeparate e.before) (c.deref_mut.ensures.value ∙ c.in_ok-handles.ensures
     ∙ ap (λ (t : List Place). e.footer.metaindex ∷ e.footer.index ∷ (handles_of c.in_ok-named.named ++ map (λ (place : Place). place.handle) t)) c.deref.ensures.value) c.if-not-are_separate.ensures))
+    (finds_three a b d z c.args.name.now (λ (file : List ℕ). HasFooter file e.before e.footer.metaindex e.footer.index) (FilterHere e.footer.metaindex c.in_ok-named.named c.in_ok-named.filter)
+    (IndexHere g.K.KeyOrder.cmp e.footer.index places)
+    c.in_ok-ends.ensures.reads c.in_ok-named.ensures.reads c.in_ok-places.ensures.reads c.in_ok-ends.ensures.found c.in_ok-named.ensures.found c.in_ok-places.ensures.found)
+
+pub returns-clause-supported : goal.returns-clause-supported
+returns-clause-supported g c =
+    let e = c.in_ok-ends.ends in
+    let places : List Place = c.in_ok-places.places.items in
+    let a : Facts = g.S.Store.facts c.args.store.now in
+    let b : Facts = g.S.Store.facts c.read_ends.new.store in
+    let d : Facts = g.S.Store.facts c.read_filter.new.store in
+    let z : Facts = g.S.Store.facts c.read_places.new.store in
+    known a z c.args.name.now
+    (λ (file : List ℕ). HasFooter file e.before e.footer.metaindex e.footer.index × FilterHere e.footer.metaindex c.in_ok-named.named c.in_ok-named.filter file × IndexHere g.K.KeyOrder.cmp e.footer.index places file)
+    (λ (file : List ℕ). IsFrameUnsupported file → ⊥) (λ file h. frame_supported file e.before e.footer.metaindex e.footer.index h.0 h.1.2 h.2.1)
     (finds_three a b d z c.args.name.now (λ (file : List ℕ). HasFooter file e.before e.footer.metaindex e.footer.index) (FilterHere e.footer.metaindex c.in_ok-named.named c.in_ok-named.filter)
     (IndexHere g.K.KeyOrder.cmp e.footer.index places)
     c.in_ok-ends.ensures.reads c.in_ok-named.ensures.reads c.in_ok-places.ensures.reads c.in_ok-ends.ensures.found c.in_ok-named.ensures.found c.in_ok-places.ensures.found)
