@@ -2,7 +2,7 @@ use Rattle.std.proofs.Common.{◌≡◌}
 use Rattle.std.specs.Ordering.{nat_cmp}
 use Rattle.std.specs.Cmp.Lexicographic.{slice_cmp}
 use Rattle.ikey.proofs.Words.{AreBytes}
-use Rattle.ikey.proofs.byte_order.compare_bytes.Given as goal
+use Rattle.ikey.proofs.byte_order.compare_rest.Given as goal
 
 -- what is left compares as all does
 abbrev pub invariant-loop : goal.invariant-loop
