@@ -5,3 +5,4 @@ pub mod Keys
 pub mod KeyViews
 pub mod Orders
 pub mod Views
+pub mod Words

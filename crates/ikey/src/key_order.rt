@@ -8,6 +8,7 @@ ghost use Rattle.std.specs.Cmp.{IsTotalOrder};
 ghost use Rattle.std.specs.Cmp.Lexicographic.{slice_cmp, nat_list_cmp_total};
 ghost use Rattle.std.specs.FinMap.{IsAntisymmetric, slice_cmp-IsAntisymmetric, nat_cmp-IsAntisymmetric};
 
+use crate::byte_order::compare_bytes;
 use std::cmp::Ordering;
 
 /// A total order of byte strings, with the name under which a database records it.
@@ -46,7 +47,7 @@ impl KeyOrder for Bytewise {
     }
 
     fn compare(a: &[u8], b: &[u8]) -> Ordering {
-        a.cmp(b)
+        compare_bytes(a, b)
     }
 
     ghost total = { nat_list_cmp_total };

@@ -1,6 +1,7 @@
 //! Entries and their internal keys: a user key, the sequence number of a write and its kind; and the orders of keys.
 #![tactic(auto)]
 
+mod byte_order;
 mod entry;
 mod entry_order;
 mod internal_key;

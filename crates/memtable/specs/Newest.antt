@@ -1,0 +1,20 @@
+-- What a search for a user key finds (LevelDB's doc/index.md, "Snapshots").
+use Rattle.std.specs.Prelude.{◌≡◌, ℕ, Option, Some, None, List}
+use Rattle.std.specs.Borrow.{Bor}
+use Rattle.ikey.specs.declared.entry.Entry.{Entry}
+use Rattle.ikey.specs.Views.{Among, IsNewest, IsUnseen}
+use Rattle.memtable.specs.Slots.{value_seen}
+
+-- an entry has this user key and sequence
+abbrev pub HasEntry : List Entry → List ℕ → ℕ → Type 0
+HasEntry entries key sequence = (entry : Entry) × Among entries entry × (entry.key ≡ key) × (entry.sequence ≡ sequence)
+
+-- no entry has this user key and sequence
+abbrev pub IsNew : List Entry → List ℕ → ℕ → Type 0
+IsNew entries key sequence = (entry : Entry) → Among entries entry → entry.key ≡ key → entry.sequence ≡ sequence → ⊥
+
+-- what a search for a user key has found: nothing where none of its entries is seen, and else what the newest one put
+abbrev pub IsLookUp : List Entry → ℕ → List ℕ → Option (Option (Bor (List ℕ))) → Type 0
+IsLookUp entries sequence key None = IsUnseen entries sequence key
+IsLookUp entries sequence key (Some value) =
+    (entry : Entry) × IsNewest entries sequence entry × (entry.key ≡ key) × (value_seen value ≡ entry.value)
