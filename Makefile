@@ -6,16 +6,17 @@ export RT
 
 PROGRAMS := quickstart tables
 
-.PHONY: help demo quick build test bugs interop clean needs-rt
+.PHONY: help demo quick build test bugs costs interop clean needs-rt
 .SILENT:
 
 help:
 	echo 'make demo      runs quickstart before any proof: it opens, writes, reads, closes and shows the log (under a minute)'
-	echo 'make quick     before any proof: all tests and programs, and the checks beside LevelDB over what is in build/ (minutes)'
-	echo 'make test      everything: the checks beside LevelDB itself, then each proof from nothing and each test (an hour and a half)'
+	echo 'make quick     what needs no proof: each test and program, and the checks beside LevelDB over what is in build/ (minutes)'
+	echo 'make test      everything: each proof from nothing, each edit and test, and the checks beside LevelDB itself (an hour)'
 	echo 'make build     proves the programs and leaves them in build/'
 	echo 'make interop   the checks beside LevelDB itself alone'
-	echo 'make bugs      wrong bodies beyond those that the tests try: the prover must refuse each (hours; make bugs CRATE=table for one crate)'
+	echo 'make bugs      the edits of bugs/, each of which the prover must refuse (hours; make bugs CRATE=table for one crate)'
+	echo 'make costs     what the gate pays for each crate (hours; make costs CRATE=table for one crate)'
 	echo 'make clean     takes away all that was built'
 
 demo: needs-rt
@@ -37,12 +38,13 @@ interop: needs-rt
 	interop/run
 
 test: needs-rt
-	tools/edits
-	interop/run
-	$(RT) ci
+	tools/gate
 
 bugs: needs-rt
 	tools/bugs $(CRATE)
+
+costs: needs-rt
+	tools/costs $(CRATE)
 
 clean:
 	rm -rf build crates/*/out

@@ -1,186 +1,220 @@
 use super::*;
 use coding::{Bytes, Damage, DbError, ReadError};
+use std::alloc::Global;
 use std::test::*;
+
+// What a batch has: keys, each with its value, or with none where it is deleted.
+type Given = (&'static [u8], Option<&'static [u8]>);
+
+const SEQUENCE_END: u64 = 1 << 56;
 
 // Put `a` = `1` at sequence 1.
 const ONE_PUT: [u8; 17] = [1, 0, 0, 0, 0, 0, 0, 0, 1, 0, 0, 0, 1, 1, 0x61, 1, 0x31];
 
-// Put `a` = `1`, delete `a`, put the empty key with the value `2`, the first of them at sequence 300.
-const THREE: [u8; 24] = [
-    0x2C, 1, 0, 0, 0, 0, 0, 0, 3, 0, 0, 0, 1, 1, 0x61, 1, 0x31, 0, 1, 0x61, 1, 0, 1, 0x32,
+// Sequences, operations and their bytes. The last sequence is 2^56 - 1: a batch of one operation may have it.
+const ENCODED: [(u64, &[Given], &[u8]); 5] = [
+    (1, &[(b"a", Some(b"1"))], &ONE_PUT),
+    (
+        300,
+        &[(b"a", Some(b"1")), (b"a", None), (b"", Some(b"2"))],
+        b"\x2c\x01\0\0\0\0\0\0\x03\0\0\0\x01\x01a\x011\0\x01a\x01\0\x012",
+    ),
+    (0, &[], &[0; 12]),
+    (
+        SEQUENCE_END - 1,
+        &[],
+        b"\xff\xff\xff\xff\xff\xff\xff\0\0\0\0\0",
+    ),
+    (
+        SEQUENCE_END - 1,
+        &[(b"a", Some(b"1"))],
+        b"\xff\xff\xff\xff\xff\xff\xff\0\x01\0\0\0\x01\x01a\x011",
+    ),
 ];
 
-fn is_put(operation: &Operation, key: &[u8], value: &[u8]) -> bool {
-    matches!(operation, Operation::Put(k, v) if k.as_slice() == key && v.as_slice() == value)
+fn push(batch: &mut Batch, key: &[u8], value: Option<&[u8]>) -> Result<(), DbError> {
+    match value {
+        Some(value) => batch.put(key, value),
+        None => batch.delete(key),
+    }
 }
 
-fn is_delete(operation: &Operation, key: &[u8]) -> bool {
-    matches!(operation, Operation::Delete(k) if k.as_slice() == key)
-}
-
-#[test]
-fn one_put_is_encoded_and_decoded(rt: HostRuntime) -> Result<(), Fail> {
-    let mut batch = Batch::new(rt.alloc());
-    batch.put(b"a", b"1")?;
-    assert_eq!(rt; batch.encode(rt.alloc(), 1)?.as_slice(), ONE_PUT.as_slice());
-    let (sequence, decoded) = Batch::decode(rt.alloc(), &ONE_PUT).ok().ok_or("a batch")?;
-    assert_eq!(rt; sequence, 1);
-    assert!(rt; matches!(decoded.ops(), [one] if is_put(one, b"a", b"1")));
-    assert!(rt; decoded.ops() == batch.ops());
-    Ok(())
-}
-
-#[test]
-fn operations_keep_their_order(rt: HostRuntime) -> Result<(), Fail> {
-    let mut batch = Batch::new(rt.alloc());
-    batch.put(b"a", b"1")?;
-    batch.delete(b"a")?;
-    batch.put(b"", b"2")?;
-    assert_eq!(rt; batch.encode(rt.alloc(), 300)?.as_slice(), THREE.as_slice());
-    let (sequence, decoded) = Batch::decode(rt.alloc(), &THREE).ok().ok_or("a batch")?;
-    assert_eq!(rt; sequence, 300);
-    let operations = decoded.into_operations();
-    assert!(rt;
-        matches!(
-            operations.as_slice(),
-            [one, two, three] if is_put(one, b"a", b"1") && is_delete(two, b"a") && is_put(three, b"", b"2")
-        )
-    );
-    assert!(rt; operations.as_slice() == batch.ops());
-    assert!(rt; batch.ops() != decoded_one(&rt)?.ops());
-    Ok(())
-}
-
-fn decoded_one(rt: &HostRuntime) -> Result<Batch, Fail> {
-    let (_, batch) = Batch::decode(rt.alloc(), &ONE_PUT).ok().ok_or("a batch")?;
+fn batch_of(alloc: Global, given: &[Given]) -> Result<Batch, DbError> {
+    let mut batch = Batch::new(alloc);
+    for (key, value) in given {
+        push(&mut batch, key, *value)?;
+    }
     Ok(batch)
 }
 
+fn is_given(operation: &Operation, given: &Given) -> bool {
+    match operation {
+        Operation::Put(key, value) => key.as_slice() == given.0
+            && given.1 == Some(value.as_slice()),
+        Operation::Delete(key) => key.as_slice() == given.0 && given.1.is_none(),
+    }
+}
+
+// Whether operations in no batch are encoded so, in a vector whose room was taken once.
+fn is_encoded_loose(alloc: Global, sequence: u64, operations: &[Operation], bytes: &[u8]) -> bool {
+    if refusal(operations).is_some()
+        || sequence >= SEQUENCE_END
+        || operations.len() as u64 > SEQUENCE_END - sequence
+    {
+        return false;
+    }
+    matches!(encode_operations(alloc, sequence, operations), Ok(out) if out.as_slice() == bytes && out.capacity() == out.len())
+}
+
+// Whether the batch is encoded so, in a vector whose room was taken once.
+fn is_encoded(alloc: Global, sequence: u64, batch: &Batch, bytes: &[u8]) -> bool {
+    if sequence >= SEQUENCE_END || batch.ops().len() as u64 > SEQUENCE_END - sequence {
+        return false;
+    }
+    matches!(batch.encode(alloc, sequence), Ok(out) if out.as_slice() == bytes && out.capacity() == out.len())
+}
+
+// Whether the bytes are read as these operations.
+fn is_decoded(alloc: Global, sequence: u64, given: &[Given], batch: &Batch, bytes: &[u8]) -> bool {
+    let Ok((first, decoded)) = Batch::decode(alloc, bytes) else {
+        return false;
+    };
+    let is_same = decoded.ops() == batch.ops();
+    let operations = decoded.into_operations();
+    first == sequence
+        && is_same
+        && operations.len() == given.len()
+        && operations
+            .iter()
+            .zip(given)
+            .all(|(operation, given)| is_given(operation, given))
+        && is_encoded_loose(alloc, sequence, &operations, bytes)
+}
+
 #[test]
-fn loose_operations_are_encoded_as_a_batch_of_them(rt: HostRuntime) -> Result<(), Fail> {
+fn batches_are_encoded_and_decoded(rt: HostRuntime) -> Result<(), Fail> {
     let alloc = rt.alloc();
-    let mut operations = Vec::new(alloc);
-    operations.push(Operation::Put(
-        Bytes::copied_from(alloc, b"a")?,
-        Bytes::copied_from(alloc, b"1")?,
-    ))?;
-    assert!(rt; refusal(&operations).is_none());
-    assert_eq!(rt;
-        encode_operations(alloc, 1, &operations)?.as_slice(),
-        ONE_PUT.as_slice()
-    );
-    let none: Vec<Operation> = Vec::new(alloc);
-    assert!(rt; refusal(&none).is_none());
-    assert_eq!(rt;
-        encode_operations(alloc, 0, &none)?.as_slice(),
-        [0; 12].as_slice()
-    );
-    Ok(())
-}
-
-// A vector that grew while it was written would have room to spare.
-#[test]
-fn the_room_for_the_bytes_is_taken_once(rt: HostRuntime) -> Result<(), Fail> {
-    let mut batch = Batch::new(rt.alloc());
-    batch.put(b"a", &vec![in rt.alloc(); 7u8; 16_384]?)?;
-    batch.put(b"b", &vec![in rt.alloc(); 7u8; 127]?)?;
-    batch.delete(b"a")?;
-    let bytes = batch.encode(rt.alloc(), 1)?;
-    assert_eq!(rt;
-        bytes.len(),
-        12 + (1 + 2 + 3 + 16_384) + (1 + 2 + 1 + 127) + (1 + 2)
-    );
-    assert_eq!(rt; bytes.capacity(), bytes.len());
-    let operations = batch.into_operations();
-    assert!(rt; refusal(&operations).is_none());
-    let bytes = encode_operations(rt.alloc(), 1, &operations)?;
-    assert_eq!(rt; bytes.capacity(), bytes.len());
-    Ok(())
-}
-
-// A length of 300 is the two bytes AC 02.
-#[test]
-fn a_long_value_has_a_length_of_two_bytes(rt: HostRuntime) -> Result<(), Fail> {
-    let mut batch = Batch::new(rt.alloc());
-    batch.put(b"a", &vec![in rt.alloc(); 7u8; 300]?)?;
-    let bytes = batch.encode(rt.alloc(), 1)?;
-    assert_eq!(rt; bytes.len(), 12 + 1 + 2 + 2 + 300);
-    assert!(rt; bytes.starts_with(&[1, 0, 0, 0, 0, 0, 0, 0, 1, 0, 0, 0, 1, 1, 0x61, 0xAC, 2, 7]));
-    Ok(())
-}
-
-#[test]
-fn damaged_batches_are_corrupt(rt: HostRuntime) -> Result<(), Fail> {
-    for end in 0..17 {
-        let refused = Batch::decode(rt.alloc(), &ONE_PUT[..end]);
+    for (sequence, given, bytes) in ENCODED {
+        let batch = batch_of(alloc, given)?;
+        assert!(rt; is_encoded(alloc, sequence, &batch, bytes), "{bytes:?}");
         assert!(rt;
-            matches!(refused, Err(ReadError::Corrupt(Damage::Length))),
+            is_decoded(alloc, sequence, given, &batch, bytes),
+            "{bytes:?}"
+        );
+    }
+    Ok(())
+}
+
+#[test]
+fn other_operations_differ(rt: HostRuntime) -> Result<(), Fail> {
+    let one = batch_of(rt.alloc(), &[(b"a", Some(b"1"))])?;
+    let other = batch_of(rt.alloc(), &[(b"a", None)])?;
+    assert!(rt; one.ops() != other.ops());
+    Ok(())
+}
+
+// The beginning of a batch whose first value has 300 bytes: their number is the two bytes AC 02.
+const LONG_FRONT: [u8; 18] = [1, 0, 0, 0, 0, 0, 0, 0, 1, 0, 0, 0, 1, 1, 0x61, 0xAC, 2, 7];
+
+// Whether the encoding has this length and takes no room to spare, and how it begins.
+fn has_length(alloc: Global, batch: &Batch, length: usize, front: &[u8]) -> bool {
+    if batch.ops().len() > 4 {
+        return false;
+    }
+    matches!(batch.encode(alloc, 1), Ok(out) if out.len() == length && out.capacity() == length && out.starts_with(front))
+}
+
+#[test]
+fn long_values_have_long_lengths(rt: HostRuntime) -> Result<(), Fail> {
+    let alloc = rt.alloc();
+    let value = vec![in alloc; 7u8; 16_384]?;
+    let mut batch = Batch::new(alloc);
+    batch.put(b"a", &value[..300])?;
+    assert!(rt; has_length(alloc, &batch, 12 + 1 + 2 + 2 + 300, &LONG_FRONT));
+    batch.put(b"a", &value)?;
+    batch.put(b"b", &value[..127])?;
+    batch.delete(b"a")?;
+    assert!(rt;
+        has_length(
+            alloc,
+            &batch,
+            317 + (1 + 2 + 3 + 16_384) + (1 + 2 + 1 + 127) + (1 + 2),
+            &[]
+        )
+    );
+    Ok(())
+}
+
+// Where a byte of that put stands, what it becomes, and the damage that it makes: a sequence of 2^56, a count of
+// none, of two and of 2^24 + 1, a kind that isn't known, a delete, and lengths past the end.
+const CHANGES: [(usize, u8, Damage); 9] = [
+    (7, 1, Damage::Number),
+    (8, 0, Damage::Length),
+    (8, 2, Damage::Length),
+    (11, 1, Damage::Length),
+    (12, 2, Damage::Kind),
+    (12, 0, Damage::Length),
+    (13, 4, Damage::Length),
+    (15, 2, Damage::Length),
+    (15, 0x81, Damage::Length),
+];
+
+// More operations than there are bytes, and one of three past the last sequence.
+const DAMAGED: [(&[u8], Damage); 2] = [
+    (b"\0\0\0\0\0\0\0\0\xff\xff\xff\xff", Damage::Length),
+    (
+        b"\xfe\xff\xff\xff\xff\xff\xff\0\x03\0\0\0\x01\x01a\x011\0\x01a\x01\0\x012",
+        Damage::Number,
+    ),
+];
+
+fn is_refused(alloc: Global, bytes: &[u8], damage: Damage) -> bool {
+    matches!(Batch::decode(alloc, bytes), Err(ReadError::Corrupt(what)) if what == damage)
+}
+
+fn changed(index: usize, byte: u8) -> [u8; 17] {
+    let mut bytes = ONE_PUT;
+    if let Some(changed) = bytes.get_mut(index) {
+        *changed = byte;
+    }
+    bytes
+}
+
+#[test]
+fn damaged_batches_are_corrupt(rt: HostRuntime) {
+    for end in 0..17 {
+        assert!(rt;
+            is_refused(rt.alloc(), &ONE_PUT[..end], Damage::Length),
             "cut at {end}"
         );
     }
-    // Where the byte stands, what it becomes, and the damage that it makes: a sequence of 2^56, a count of
-    // none, of two and of 2^24 + 1, a kind that isn't known, a delete, and lengths past the end.
-    for (index, byte, damage) in [
-        (7, 1, Damage::Number),
-        (8, 0, Damage::Length),
-        (8, 2, Damage::Length),
-        (11, 1, Damage::Length),
-        (12, 2, Damage::Kind),
-        (12, 0, Damage::Length),
-        (13, 4, Damage::Length),
-        (15, 2, Damage::Length),
-        (15, 0x81, Damage::Length),
-    ] {
-        let mut bytes = Vec::from_slice(rt.alloc(), &ONE_PUT)?;
-        if let Some(changed) = bytes.get_mut(index) {
-            *changed = byte;
-        }
-        let refused = Batch::decode(rt.alloc(), &bytes);
+    for (index, byte, damage) in CHANGES {
         assert!(rt;
-            matches!(refused, Err(ReadError::Corrupt(what)) if what == damage),
+            is_refused(rt.alloc(), &changed(index, byte), damage),
             "{byte} at {index}"
         );
     }
-    let too_many = [0, 0, 0, 0, 0, 0, 0, 0, 0xFF, 0xFF, 0xFF, 0xFF];
-    let refused = Batch::decode(rt.alloc(), &too_many);
-    assert!(rt; matches!(refused, Err(ReadError::Corrupt(Damage::Length))));
-    Ok(())
+    for (bytes, damage) in DAMAGED {
+        assert!(rt; is_refused(rt.alloc(), bytes, damage), "{damage:?}");
+    }
 }
 
-// The last sequence is 2^56 - 1: a batch of one operation may have it, and none behind it.
-#[test]
-fn sequences_end_below_two_to_the_fifty_six(rt: HostRuntime) -> Result<(), Fail> {
-    let last = (1 << 56) - 1;
-    let mut batch = Batch::new(rt.alloc());
-    batch.put(b"a", b"1")?;
-    let bytes = batch.encode(rt.alloc(), last)?;
-    assert!(rt; matches!(Batch::decode(rt.alloc(), &bytes), Ok((sequence, _)) if sequence == last));
-    let mut beyond = Vec::from_slice(rt.alloc(), &THREE)?;
-    for (byte, value) in beyond
-        .iter_mut()
-        .zip([0xFE, 0xFF, 0xFF, 0xFF, 0xFF, 0xFF, 0xFF, 0])
-    {
-        *byte = value;
-    }
-    let refused = Batch::decode(rt.alloc(), &beyond);
-    assert!(rt; matches!(refused, Err(ReadError::Corrupt(Damage::Number))));
-    let empty = [0xFF, 0xFF, 0xFF, 0xFF, 0xFF, 0xFF, 0xFF, 0, 0, 0, 0, 0];
-    assert!(rt; matches!(Batch::decode(rt.alloc(), &empty), Ok((sequence, _)) if sequence == last));
-    Ok(())
+fn refuses(batch: &mut Batch, key: &[u8], value: Option<&[u8]>, error: DbError) -> bool {
+    push(batch, key, value) == Err(error)
 }
 
 #[test]
 fn long_keys_and_values_are_refused(rt: HostRuntime) -> Result<(), Fail> {
-    let mut batch = Batch::new(rt.alloc());
-    let longest = vec![in rt.alloc(); 7u8; 65_535]?;
-    batch.delete(&longest)?;
-    batch.put(&longest, b"")?;
-    let key = vec![in rt.alloc(); 7u8; 65_536]?;
-    assert_eq!(rt; batch.delete(&key), Err(DbError::KeyTooLong));
-    assert_eq!(rt; batch.put(&key, b""), Err(DbError::KeyTooLong));
-    let value = vec![in rt.alloc(); 0u8; 268_435_457]?;
-    assert_eq!(rt; batch.put(b"a", &value), Err(DbError::ValueTooLong));
-    assert_eq!(rt; batch.put(&key, &value), Err(DbError::KeyTooLong));
+    let alloc = rt.alloc();
+    let key = vec![in alloc; 7u8; 65_536]?;
+    let value = vec![in alloc; 0u8; 268_435_457]?;
+    let mut batch = Batch::new(alloc);
+    batch.delete(&key[1..])?;
+    batch.put(&key[1..], b"")?;
+    assert!(rt; refuses(&mut batch, &key, None, DbError::KeyTooLong));
+    assert!(rt; refuses(&mut batch, &key, Some(b""), DbError::KeyTooLong));
+    assert!(rt; refuses(&mut batch, b"a", Some(&value), DbError::ValueTooLong));
+    assert!(rt; refuses(&mut batch, &key, Some(&value), DbError::KeyTooLong));
     assert_eq!(rt; batch.ops().len(), 2);
     Ok(())
 }
@@ -191,11 +225,11 @@ fn a_batch_has_at_most_1_048_576_operations(rt: HostRuntime) -> Result<(), Fail>
     for _ in 0..1_048_576 {
         batch.delete(b"")?;
     }
-    assert_eq!(rt; batch.delete(b""), Err(DbError::BatchTooLarge));
-    assert_eq!(rt; batch.put(b"", b""), Err(DbError::BatchTooLarge));
+    assert!(rt; refuses(&mut batch, b"", None, DbError::BatchTooLarge));
+    assert!(rt; refuses(&mut batch, b"", Some(b""), DbError::BatchTooLarge));
     assert!(rt; refusal(batch.ops()).is_none());
     let mut operations = batch.into_operations();
-    operations.push(Operation::Delete(Bytes::copied_from(rt.alloc(), b"")?))?;
+    operations.push(Operation::Delete(Bytes::from_vec(Vec::new(rt.alloc()))))?;
     assert_eq!(rt; refusal(&operations), Some(DbError::BatchTooLarge));
     operations.truncate(1);
     operations.push(Operation::Delete(Bytes::from_vec(vec![in rt.alloc(); 7u8; 65_536]?)))?;

@@ -1,29 +1,41 @@
-ghost use Rattle.std.specs.Prelude.{◌<◌, ◌≤◌};
+ghost use Rattle.std.specs.Prelude.{◌<◌};
 
 use super::*;
 use coding::ReadError;
-use ikey::{Bytewise, EntryOrder, Internal, Kind, Plain, pack};
-use std::alloc::Global;
-use std::process::Abort;
+use ikey::{Bytewise, EntryOrder, Internal, Plain};
+use std::alloc::{AllocError, Global};
 use std::rc::Rc;
 use std::test::*;
+
+type Pair = (&'static [u8], &'static [u8]);
+
+// A move of a cursor.
+enum Move {
+    First,
+    Last,
+    Next,
+    Prev,
+    Seek(&'static [u8]),
+}
+
+// Moves, and the pair that the cursor stands on after each.
+type Moves = &'static [(Move, Option<Pair>)];
 
 // The block of the pairs `abc` = `1` and `abd` = `2`.
 const TWO: [u8; 20] = [
     0, 3, 1, 0x61, 0x62, 0x63, 0x31, 2, 1, 1, 0x64, 0x32, 0, 0, 0, 0, 1, 0, 0, 0,
 ];
 
-fn add<O: EntryOrder>(
-    rt: &impl Abort,
-    builder: &mut BlockBuilder<O>,
-    key: &[u8],
-    value: &[u8],
-) -> Result<(), Fail> {
-    assert!(rt; builder.is_above_last(key));
-    let size = builder.size();
-    assert!(rt; size < 1 << 30 && key.len() < 1 << 29 && value.len() < 1 << 29);
-    builder.add(key, value)?;
-    Ok(())
+// Adds a pair where it may be added.
+fn add<O: EntryOrder>(builder: &mut BlockBuilder<O>, key: &[u8], value: &[u8]) -> bool {
+    if !builder.is_above_last(key)
+        || builder.size() >= 1 << 30
+        || key.len() >= 1 << 29
+        || value.len() >= 1 << 29
+    {
+        return false;
+    }
+    builder.add(key, value).is_ok()
 }
 
 fn opened<O: EntryOrder>(alloc: Global, bytes: &[u8]) -> Result<BlockCursor<O>, Fail> {
@@ -33,242 +45,282 @@ fn opened<O: EntryOrder>(alloc: Global, bytes: &[u8]) -> Result<BlockCursor<O>, 
     Ok(BlockCursor::new(alloc, Rc::new(alloc, block)?))
 }
 
-// Asserts that the cursor stands on this pair.
-fn stands_on<O: EntryOrder>(rt: &impl Abort, cursor: &BlockCursor<O>, key: &[u8], value: &[u8]) {
-    assert!(rt; cursor.stands());
-    assert_eq!(rt; cursor.key(), key);
-    assert_eq!(rt; cursor.value(), value);
+fn is_corrupt<O: EntryOrder>(alloc: Global, bytes: &[u8]) -> bool {
+    let Ok(bytes) = Vec::from_slice(alloc, bytes) else {
+        return false;
+    };
+    matches!(&Block::<O>::open(alloc, bytes), Err(ReadError::Corrupt(_)))
 }
 
-fn next<O: EntryOrder>(rt: &impl Abort, cursor: &mut BlockCursor<O>) -> Result<(), Fail> {
-    assert!(rt; cursor.stands());
-    cursor.next()?;
-    Ok(())
+// Makes a move; a step only where the cursor stands.
+fn make<O: EntryOrder>(cursor: &mut BlockCursor<O>, step: &Move) -> Result<(), AllocError> {
+    match step {
+        Move::First => cursor.first(),
+        Move::Last => cursor.last(),
+        Move::Seek(target) => cursor.seek(target),
+        Move::Next => next(cursor),
+        Move::Prev => prev(cursor),
+    }
 }
 
-fn prev<O: EntryOrder>(rt: &impl Abort, cursor: &mut BlockCursor<O>) -> Result<(), Fail> {
-    assert!(rt; cursor.stands());
-    cursor.prev()?;
-    Ok(())
+fn next<O: EntryOrder>(cursor: &mut BlockCursor<O>) -> Result<(), AllocError> {
+    if !cursor.stands() {
+        return Ok(());
+    }
+    cursor.next()
 }
+
+fn prev<O: EntryOrder>(cursor: &mut BlockCursor<O>) -> Result<(), AllocError> {
+    if !cursor.stands() {
+        return Ok(());
+    }
+    cursor.prev()
+}
+
+fn is_on<O: EntryOrder>(cursor: &BlockCursor<O>, key: &[u8], value: &[u8]) -> bool {
+    cursor.stands() && cursor.key() == key && cursor.value() == value
+}
+
+fn moves<O: EntryOrder>(cursor: &mut BlockCursor<O>, steps: Moves) -> bool {
+    for (step, wanted) in steps {
+        let made = make(cursor, step);
+        let is_there = match wanted {
+            Some((key, value)) => is_on(cursor, key, value),
+            None => !cursor.stands(),
+        };
+        if made.is_err() || !is_there {
+            return false;
+        }
+    }
+    true
+}
+
+const TWO_MOVES: Moves = &[
+    (Move::First, Some((b"abc", b"1"))),
+    (Move::Next, Some((b"abd", b"2"))),
+    (Move::Prev, Some((b"abc", b"1"))),
+    (Move::Prev, None),
+    (Move::Last, Some((b"abd", b"2"))),
+    (Move::Next, None),
+];
 
 #[test]
 fn two_entries_share_their_front(rt: HostRuntime) -> Result<(), Fail> {
     let mut builder = BlockBuilder::<Plain>::new(rt.alloc(), 16);
     assert_eq!(rt; builder.size(), 8);
-    add(&rt, &mut builder, b"abc", b"1")?;
-    assert!(rt; !builder.is_above_last(b"abc"));
-    assert!(rt; !builder.is_above_last(b"abb"));
-    add(&rt, &mut builder, b"abd", b"2")?;
+    assert!(rt; add(&mut builder, b"abc", b"1"));
+    assert!(rt; !builder.is_above_last(b"abc") && !builder.is_above_last(b"abb"));
+    assert!(rt; add(&mut builder, b"abd", b"2"));
     assert_eq!(rt; builder.size(), 20);
     assert_eq!(rt; builder.finish()?.as_slice(), TWO.as_slice());
     one_block::<Plain>();
     let mut cursor = opened::<Plain>(rt.alloc(), &TWO)?;
     assert!(rt; !cursor.stands());
-    cursor.first()?;
-    stands_on(&rt, &cursor, b"abc", b"1");
-    next(&rt, &mut cursor)?;
-    stands_on(&rt, &cursor, b"abd", b"2");
-    prev(&rt, &mut cursor)?;
-    stands_on(&rt, &cursor, b"abc", b"1");
-    prev(&rt, &mut cursor)?;
-    assert!(rt; !cursor.stands());
-    cursor.last()?;
-    stands_on(&rt, &cursor, b"abd", b"2");
-    next(&rt, &mut cursor)?;
-    assert!(rt; !cursor.stands());
+    assert!(rt; moves(&mut cursor, TWO_MOVES));
     Ok(())
 }
+
+// The block of the keys 0 to 16 without values.
+const SEVENTEEN: &[u8] =
+    b"\0\x01\0\x00\0\x01\0\x01\0\x01\0\x02\0\x01\0\x03\0\x01\0\x04\0\x01\0\x05\0\x01\0\x06\0\x01\0\x07\0\x01\0\x08\0\x01\0\x09\0\x01\0\x0a\0\x01\0\x0b\0\x01\0\x0c\0\x01\0\x0d\0\x01\0\x0e\0\x01\0\x0f\0\x01\0\x10\0\0\0\0\x40\0\0\0\x02\0\0\0";
+
+const SEVENTEEN_MOVES: Moves = &[
+    (Move::Seek(b"\x0f"), Some((b"\x0f", b""))),
+    (Move::Seek(b"\x0f\0"), Some((b"\x10", b""))),
+    (Move::Seek(b"\x10"), Some((b"\x10", b""))),
+    (Move::Seek(b"\x11"), None),
+];
 
 #[test]
 fn seventeen_entries_have_two_restarts(rt: HostRuntime) -> Result<(), Fail> {
     let mut builder = BlockBuilder::<Plain>::new(rt.alloc(), 16);
     for key in 0..17u8 {
-        add(&rt, &mut builder, &[key], b"")?;
+        assert!(rt; add(&mut builder, &[key], b""));
     }
-    let bytes = builder.finish()?;
-    assert_eq!(rt; bytes.len(), 80);
-    for (entry, key) in bytes.chunks(4).zip(0..17u8) {
-        assert_eq!(rt; entry, [0, 1, 0, key].as_slice());
-    }
-    assert_eq!(rt;
-        &bytes[68..],
-        [0, 0, 0, 0, 0x40, 0, 0, 0, 2, 0, 0, 0].as_slice()
-    );
-    let mut cursor = opened::<Plain>(rt.alloc(), &bytes)?;
-    for (target, key) in [
-        (b"\x0f".as_slice(), 0x0f),
-        (b"\x0f\0", 0x10),
-        (b"\x10", 0x10),
-    ] {
-        cursor.seek(target)?;
-        stands_on(&rt, &cursor, &[key], b"");
-    }
-    cursor.seek(b"\x11")?;
-    assert!(rt; !cursor.stands());
+    assert_eq!(rt; builder.finish()?.as_slice(), SEVENTEEN);
+    let mut cursor = opened::<Plain>(rt.alloc(), SEVENTEEN)?;
+    assert!(rt; moves(&mut cursor, SEVENTEEN_MOVES));
     Ok(())
 }
 
-// The key of this number, of the same length for each.
+// Entries by their numbers: the keys are odd, so that there are keys between.
 fn key_of(number: u32) -> [u8; 4] {
-    let [a, b, c, d] = number.to_be_bytes();
-    [a, b, c, d]
+    number.to_be_bytes()
 }
 
-fn value_of(number: u32) -> [u8; 3] {
-    let [_, a, b, c] = number.to_be_bytes();
-    [a, b, c]
+fn is_at(cursor: &BlockCursor<Plain>, index: u16) -> bool {
+    is_on(
+        cursor,
+        &key_of(2 * u32::from(index) + 1),
+        &index.to_be_bytes(),
+    )
 }
 
-// A cursor over entries that have the odd numbers as their keys.
-fn odd_numbers(
-    rt: &impl Abort,
-    alloc: Global,
-    count: u32,
-    interval: usize,
-) -> Result<BlockCursor<Plain>, Fail>
-    requires count { count ≤ 1000 }
-    requires interval { 0 < interval }
+// A cursor over so many entries.
+fn odd_numbers(alloc: Global, count: u16, interval: usize) -> Result<BlockCursor<Plain>, Fail>
+    requires { 0 < interval }
 {
     let mut builder = BlockBuilder::<Plain>::new(alloc, interval);
     for index in 0..count {
-        add(rt, &mut builder, &key_of(2 * index + 1), &value_of(index))?;
+        if !add(
+            &mut builder,
+            &key_of(2 * u32::from(index) + 1),
+            &index.to_be_bytes(),
+        ) {
+            return Err(Fail::from("an entry isn't added"));
+        }
     }
     let size = builder.size();
     let bytes = builder.finish()?;
-    assert_eq!(rt; bytes.len(), size);
+    if bytes.len() != size {
+        return Err(Fail::from("the size is another"));
+    }
     opened::<Plain>(alloc, &bytes)
 }
 
-// Walks up and down over the entries.
-fn walk(rt: &impl Abort, cursor: &mut BlockCursor<Plain>, count: u32) -> Result<(), Fail>
-    requires { count ≤ 1000 }
-{
+fn walks_up(cursor: &mut BlockCursor<Plain>, count: u16) -> Result<bool, AllocError> {
     cursor.first()?;
     for index in 0..count {
-        stands_on(rt, cursor, &key_of(2 * index + 1), &value_of(index));
-        next(rt, cursor)?;
+        if !is_at(cursor, index) {
+            return Ok(false);
+        }
+        next(cursor)?;
     }
-    assert!(rt; !cursor.stands());
+    Ok(!cursor.stands())
+}
+
+fn walks_down(cursor: &mut BlockCursor<Plain>, count: u16) -> Result<bool, AllocError> {
     cursor.last()?;
     for index in (0..count).rev() {
-        stands_on(rt, cursor, &key_of(2 * index + 1), &value_of(index));
-        prev(rt, cursor)?;
+        if !is_at(cursor, index) {
+            return Ok(false);
+        }
+        prev(cursor)?;
     }
-    assert!(rt; !cursor.stands());
-    Ok(())
+    Ok(!cursor.stands())
+}
+
+// Whether a seek of that number leads to the entry of this index, or to none where there are fewer.
+fn seeks(
+    cursor: &mut BlockCursor<Plain>,
+    number: u32,
+    index: u16,
+    count: u16,
+) -> Result<bool, AllocError> {
+    cursor.seek(&key_of(number))?;
+    if index < count {
+        return Ok(is_at(cursor, index));
+    }
+    Ok(!cursor.stands())
 }
 
 // Seeks below, at and above the key of this entry, and goes on from there both ways.
-fn seek(
-    rt: &impl Abort,
-    cursor: &mut BlockCursor<Plain>,
-    index: u32,
-    count: u32,
-) -> Result<(), Fail>
-    requires index { index < count }
-    requires count { count ≤ 1000 }
-{
-    for (target, found) in [
-        (2 * index, index),
-        (2 * index + 1, index),
-        (2 * index + 2, index + 1),
-    ] {
-        cursor.seek(&key_of(target))?;
-        assert_eq!(rt; cursor.stands(), found < count);
-        if found < count {
-            stands_on(rt, cursor, &key_of(2 * found + 1), &value_of(found));
-        }
-    }
-    cursor.seek(&key_of(2 * index))?;
-    prev(rt, cursor)?;
-    assert_eq!(rt; cursor.stands(), index > 0);
-    cursor.seek(&key_of(2 * index))?;
-    next(rt, cursor)?;
-    assert_eq!(rt; cursor.stands(), index + 1 < count);
-    Ok(())
+fn goes_on(cursor: &mut BlockCursor<Plain>, index: u16, count: u16) -> Result<bool, AllocError> {
+    let number = 2 * u32::from(index);
+    let is_found = seeks(cursor, number + 1, index, count)?
+        && seeks(cursor, number + 2, index.saturating_add(1), count)?;
+    let is_below = seeks(cursor, number, index, count)?;
+    prev(cursor)?;
+    let is_before = cursor.stands() == (index > 0);
+    cursor.seek(&key_of(number))?;
+    next(cursor)?;
+    Ok(is_found && is_below && is_before && cursor.stands() == (index.saturating_add(1) < count))
 }
+
+// How many entries, and how many to a restart.
+const SIZES: [(u16, usize); 8] = [
+    (0, 1),
+    (1, 1),
+    (2, 1),
+    (1000, 1),
+    (0, 16),
+    (1, 16),
+    (2, 16),
+    (1000, 16),
+];
 
 #[test]
 fn blocks_of_any_length_are_walked_and_sought(rt: HostRuntime) -> Result<(), Fail> {
-    for count in [0, 1, 2, 1000] {
-        for interval in [1, 16] {
-            let mut cursor = odd_numbers(&rt, rt.alloc(), count, interval)?;
-            walk(&rt, &mut cursor, count)?;
-            for index in 0..count {
-                seek(&rt, &mut cursor, index, count)?;
-            }
-            cursor.seek(b"")?;
-            assert_eq!(rt; cursor.stands(), count > 0);
-            cursor.seek(b"\xff")?;
-            assert!(rt; !cursor.stands());
+    for (count, interval) in SIZES {
+        let mut cursor = odd_numbers(rt.alloc(), count, interval)?;
+        assert!(rt;
+            walks_up(&mut cursor, count)? && walks_down(&mut cursor, count)?,
+            "{count} by {interval}"
+        );
+        for index in 0..count {
+            assert!(rt; goes_on(&mut cursor, index, count)?, "{index} of {count}");
         }
+        assert!(rt;
+            seeks(&mut cursor, 0, 0, count)? && seeks(&mut cursor, u32::MAX, count, count)?,
+            "{count} by {interval}"
+        );
     }
     Ok(())
 }
 
+const DAMAGED: [&[u8]; 13] = [
+    b"\0\0\0",
+    b"\0\0\0\0\0\0\0\0",
+    b"\xff\xff\xff\xff",
+    b"\x01\x01\0a\0\0\0\0\x01\0\0\0",
+    b"\0\x05\0a\0\0\0\0\x01\0\0\0",
+    b"\0\x01\0a\x01\0\0\0\x01\0\0\0",
+    b"\0\x01\0b\0\x01\0a\0\0\0\0\x01\0\0\0",
+    // the same key twice
+    b"\0\x01\0a\0\x01\0a\0\0\0\0\x01\0\0\0",
+    // a length in more bytes than it needs
+    b"\x80\0\x01\0a\0\0\0\0\x01\0\0\0",
+    // a length of more than 32 bits
+    b"\x80\x80\x80\x80\x10\x01\0a\0\0\0\0\x01\0\0\0",
+    // a restart at the end of the entries, and one that stands twice
+    b"\0\x01\0a\0\0\0\0\x04\0\0\0\x02\0\0\0",
+    b"\0\x01\0a\0\0\0\0\0\0\0\0\x02\0\0\0",
+    // without entries, another restart than the one at 0
+    b"\x01\0\0\0\x01\0\0\0",
+];
+
+const TO_NONE: Moves = &[(Move::First, None)];
+
 #[test]
 fn malformed_blocks_are_refused(rt: HostRuntime) -> Result<(), Fail> {
-    for bytes in [
-        b"\0\0\0".as_slice(),
-        b"\0\0\0\0\0\0\0\0",
-        b"\xff\xff\xff\xff",
-        b"\x01\x01\0a\0\0\0\0\x01\0\0\0",
-        b"\0\x05\0a\0\0\0\0\x01\0\0\0",
-        b"\0\x01\0a\x01\0\0\0\x01\0\0\0",
-        b"\0\x01\0b\0\x01\0a\0\0\0\0\x01\0\0\0",
-        // the same key twice
-        b"\0\x01\0a\0\x01\0a\0\0\0\0\x01\0\0\0",
-        // a length in more bytes than it needs
-        b"\x80\0\x01\0a\0\0\0\0\x01\0\0\0",
-        // a length of more than 32 bits
-        b"\x80\x80\x80\x80\x10\x01\0a\0\0\0\0\x01\0\0\0",
-        // a restart at the end of the entries, and one that stands twice
-        b"\0\x01\0a\0\0\0\0\x04\0\0\0\x02\0\0\0",
-        b"\0\x01\0a\0\0\0\0\0\0\0\0\x02\0\0\0",
-        // without entries, another restart than the one at 0
-        b"\x01\0\0\0\x01\0\0\0",
-    ] {
-        let block = Block::<Plain>::open(rt.alloc(), Vec::from_slice(rt.alloc(), bytes)?);
-        assert!(rt; matches!(&block, Err(ReadError::Corrupt(_))), "{bytes:?}");
+    for bytes in DAMAGED {
+        assert!(rt; is_corrupt::<Plain>(rt.alloc(), bytes), "{bytes:?}");
     }
     for end in 0..20 {
-        let block = Block::<Plain>::open(rt.alloc(), Vec::from_slice(rt.alloc(), &TWO[..end])?);
         assert!(rt;
-            matches!(&block, Err(ReadError::Corrupt(_))),
+            is_corrupt::<Plain>(rt.alloc(), &TWO[..end]),
             "cut to {end}"
         );
     }
     let mut empty = opened::<Plain>(rt.alloc(), b"\0\0\0\0\x01\0\0\0")?;
-    empty.first()?;
-    assert!(rt; !empty.stands());
+    assert!(rt; moves(&mut empty, TO_NONE));
     Ok(())
 }
+
+// The keys of a delete of `a` at sequence 2 and of a put at 1.
+const NEWER: &[u8] = b"a\0\x02\0\0\0\0\0\0";
+
+const OLDER: &[u8] = b"a\x01\x01\0\0\0\0\0\0";
+
+const OLDER_ALONE: &[u8] = b"\0\x09\x01a\x01\x01\0\0\0\0\0\01\0\0\0\0\x01\0\0\0";
+
+const TO_OLDER: Moves = &[(Move::Seek(OLDER), Some((OLDER, b"1")))];
+
+const TO_A: Moves = &[(Move::First, Some((b"a", b"")))];
 
 #[test]
 fn internal_keys_are_ordered_by_what_they_mean(rt: HostRuntime) -> Result<(), Fail> {
     let alloc = rt.alloc();
-    let newer = pack(alloc, b"a", 2, Kind::Delete)?;
-    let older = pack(alloc, b"a", 1, Kind::Put)?;
     let mut builder = BlockBuilder::<Internal<Bytewise>>::new(alloc, 16);
-    add(&rt, &mut builder, &older, b"1")?;
-    assert!(rt; !builder.is_above_last(&newer));
-    let bytes = builder.finish()?;
-    assert_eq!(rt;
-        bytes.as_slice(),
-        b"\0\x09\x01a\x01\x01\0\0\0\0\0\01\0\0\0\0\x01\0\0\0".as_slice()
-    );
-    let mut builder = BlockBuilder::<Internal<Bytewise>>::new(alloc, 16);
-    add(&rt, &mut builder, &newer, b"")?;
-    add(&rt, &mut builder, &older, b"1")?;
-    let mut cursor = opened::<Internal<Bytewise>>(alloc, &builder.finish()?)?;
-    cursor.seek(&pack(alloc, b"a", 1, Kind::Put)?)?;
-    stands_on(&rt, &cursor, &older, b"1");
+    assert!(rt; add(&mut builder, OLDER, b"1") && !builder.is_above_last(NEWER));
+    assert_eq!(rt; builder.finish()?.as_slice(), OLDER_ALONE);
+    let mut both = BlockBuilder::<Internal<Bytewise>>::new(alloc, 16);
+    assert!(rt; add(&mut both, NEWER, b"") && add(&mut both, OLDER, b"1"));
+    let mut cursor = opened::<Internal<Bytewise>>(alloc, &both.finish()?)?;
+    assert!(rt; moves(&mut cursor, TO_OLDER));
     // Bytes that are no internal key stand alone.
     let mut alone = opened::<Internal<Bytewise>>(alloc, b"\0\x01\0a\0\0\0\0\x01\0\0\0")?;
-    alone.first()?;
-    stands_on(&rt, &alone, b"a", b"");
-    let two = Block::<Internal<Bytewise>>::open(alloc, Vec::from_slice(alloc, &TWO)?);
-    assert!(rt; matches!(&two, Err(ReadError::Corrupt(_))));
+    assert!(rt; moves(&mut alone, TO_A));
+    assert!(rt; is_corrupt::<Internal<Bytewise>>(alloc, &TWO));
     Ok(())
 }

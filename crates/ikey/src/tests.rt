@@ -4,170 +4,176 @@ use std::alloc::{AllocError, Global};
 use std::cmp::Ordering;
 use std::test::*;
 
+// Keys and their bytes.
+const PACKED: [(&[u8], u64, Kind, &[u8]); 3] = [
+    (b"a", 1, Kind::Put, b"a\x01\x01\0\0\0\0\0\0"),
+    (
+        b"b",
+        SEQUENCE_END - 1,
+        Kind::Put,
+        b"b\x01\xff\xff\xff\xff\xff\xff\xff",
+    ),
+    (b"", 0x0102, Kind::Delete, b"\0\x02\x01\0\0\0\0\0"),
+];
+
+const NO_KEYS: [&[u8]; 4] = [
+    b"",
+    b"\x01\0\0\0\0\0\0",
+    b"\x02\0\0\0\0\0\0\0",
+    b"a\xff\0\0\0\0\0\0\0",
+];
+
+// Whether the key has these bytes, both ways.
+fn is_packed(alloc: Global, key: InternalKey<'_>, bytes: &[u8]) -> bool {
+    key.sequence < SEQUENCE_END
+        && unpack(bytes) == Some(key)
+        && matches!(pack(alloc, key.user, key.sequence, key.kind), Ok(packed) if packed.as_slice() == bytes)
+}
+
 #[test]
-fn internal_keys_have_the_bytes_of_the_format(rt: HostRuntime) -> Result<(), Fail> {
-    for (user, sequence, kind, bytes) in [
-        (
-            b"a".as_slice(),
-            1,
-            Kind::Put,
-            b"a\x01\x01\0\0\0\0\0\0".as_slice(),
-        ),
-        (
-            b"b",
-            SEQUENCE_END - 1,
-            Kind::Put,
-            b"b\x01\xff\xff\xff\xff\xff\xff\xff",
-        ),
-        (b"", 0x0102, Kind::Delete, b"\0\x02\x01\0\0\0\0\0"),
-    ] {
-        assert_eq!(rt; pack(rt.alloc(), user, sequence, kind)?.as_slice(), bytes);
-        let key = unpack(bytes).ok_or("an internal key")?;
-        assert_eq!(rt; key.user, user);
-        assert_eq!(rt; key.sequence, sequence);
-        assert_eq!(rt; key.kind, kind);
+fn internal_keys_have_the_bytes_of_the_format(rt: HostRuntime) {
+    for (user, sequence, kind, bytes) in PACKED {
+        let key = InternalKey {
+            user,
+            sequence,
+            kind,
+        };
+        assert!(rt; is_packed(rt.alloc(), key, bytes), "{key:?}");
     }
-    for bytes in [
-        b"".as_slice(),
-        b"\x01\0\0\0\0\0\0",
-        b"\x02\0\0\0\0\0\0\0",
-        b"a\xff\0\0\0\0\0\0\0",
-    ] {
-        assert!(rt; unpack(bytes).is_none());
+    for bytes in NO_KEYS {
+        assert!(rt; unpack(bytes).is_none(), "{bytes:?}");
     }
     one_key();
-    Ok(())
 }
 
 // The bytes of internal keys in their order: the user keys up, the newer write first.
-fn ordered_keys(alloc: Global) -> Result<Vec<Vec<u8>>, AllocError> {
-    let mut keys = Vec::new(alloc);
-    for (user, sequence, kind) in [
-        (b"".as_slice(), 0, Kind::Delete),
-        (b"a", 300, Kind::Delete),
-        (b"a", 7, Kind::Put),
-        (b"a", 7, Kind::Delete),
-        (b"a", 0, Kind::Put),
-        (b"a\0", 900, Kind::Put),
-        (b"ab", 1, Kind::Put),
-        (b"b", 8, Kind::Put),
-        (b"\xff", 2, Kind::Put),
-    ] {
-        keys.push(pack(alloc, user, sequence, kind)?)
-            .map_err(|_| AllocError)?;
-    }
-    Ok(keys)
+const ORDERED: [&[u8]; 9] = [
+    b"\0\0\0\0\0\0\0\0",
+    b"a\0\x2c\x01\0\0\0\0\0",
+    b"a\x01\x07\0\0\0\0\0\0",
+    b"a\0\x07\0\0\0\0\0\0",
+    b"a\x01\0\0\0\0\0\0\0",
+    b"a\0\x01\x84\x03\0\0\0\0\0",
+    b"ab\x01\x01\0\0\0\0\0\0",
+    b"b\x01\x08\0\0\0\0\0\0",
+    b"\xff\x01\x02\0\0\0\0\0\0",
+];
+
+// Whether bytes are ordered so, and so are the keys that they are.
+fn are_so(a: &[u8], b: &[u8], order: Ordering) -> bool {
+    compare_keys::<Bytewise>(a, b) == Some(order)
+        && Internal::<Bytewise>::is_below(a, b) == (order == Ordering::Less)
+        && matches!((unpack(a), unpack(b)), (Some(a), Some(b)) if a.cmp(&b) == order)
+}
+
+// Whether bytes that are no internal key are neither below nor above these.
+fn is_apart(a: &[u8], short: &[u8]) -> bool {
+    compare_keys::<Bytewise>(a, short).is_none()
+        && !Internal::<Bytewise>::is_below(a, short)
+        && !Internal::<Bytewise>::is_below(short, a)
 }
 
 #[test]
-fn user_keys_rise_and_sequences_fall(rt: HostRuntime) -> Result<(), Fail> {
-    let keys = ordered_keys(rt.alloc())?;
-    for (i, a) in keys.iter().enumerate() {
-        for (k, b) in keys.iter().enumerate() {
-            assert_eq!(rt; compare_keys::<Bytewise>(a, b), Some(i.cmp(&k)));
-            assert_eq!(rt; Internal::<Bytewise>::is_below(a, b), i < k);
+fn user_keys_rise_and_sequences_fall(rt: HostRuntime) {
+    for (i, a) in ORDERED.iter().enumerate() {
+        for (k, b) in ORDERED.iter().enumerate() {
+            assert!(rt; are_so(a, b, i.cmp(&k)), "{i} and {k}");
         }
-        assert_eq!(rt; compare_keys::<Bytewise>(a, b"short"), None);
-        assert!(rt; !Internal::<Bytewise>::is_below(a, b"short"));
-        assert!(rt; !Internal::<Bytewise>::is_below(b"short", a));
+        assert!(rt; is_apart(a, b"short"), "{i}");
     }
-    Ok(())
 }
 
+const RISING: [&[u8]; 8] = [
+    b"",
+    b"\0",
+    b"\0\0",
+    b"\x01",
+    b"\x7f\xff",
+    b"\x80",
+    b"\xff",
+    b"\xff\0",
+];
+
 #[test]
-fn bytes_are_ordered_by_the_first_that_differs(rt: HostRuntime) -> Result<(), Fail> {
+fn bytes_are_ordered_by_the_first_that_differs(rt: HostRuntime) {
     assert_eq!(rt; Bytewise::name(), "leveldb.BytewiseComparator");
-    let rising = [
-        b"".as_slice(),
-        b"\0",
-        b"\0\0",
-        b"\x01",
-        b"\x7f\xff",
-        b"\x80",
-        b"\xff",
-        b"\xff\0",
-    ];
-    for (i, a) in rising.iter().enumerate() {
-        for (k, b) in rising.iter().enumerate() {
-            assert_eq!(rt; Bytewise::compare(a, b), i.cmp(&k));
-            assert_eq!(rt; Plain::is_below(a, b), i < k);
+    for (i, a) in RISING.iter().enumerate() {
+        for (k, b) in RISING.iter().enumerate() {
+            assert!(rt;
+                Bytewise::compare(a, b) == i.cmp(&k) && Plain::is_below(a, b) == (i < k),
+                "{i} and {k}"
+            );
         }
     }
-    Ok(())
 }
 
+// Keys, and how the first key of `a` at sequence 7 stands to each.
+const SEEK_KEY: &[u8] = b"a\x01\x07\0\0\0\0\0\0";
+
+const SOUGHT: [(&[u8], Ordering); 4] = [
+    (b"a\0\x08\0\0\0\0\0\0", Ordering::Greater),
+    (b"a\x01\x07\0\0\0\0\0\0", Ordering::Equal),
+    (b"a\0\x07\0\0\0\0\0\0", Ordering::Less),
+    (b"a\x01\x06\0\0\0\0\0\0", Ordering::Less),
+];
+
 #[test]
-fn a_seek_key_stands_in_front_of_what_is_visible(rt: HostRuntime) -> Result<(), Fail> {
-    let alloc = rt.alloc();
-    let seek = seek_key(alloc, b"a", 7)?;
-    assert_eq!(rt; seek.as_slice(), b"a\x01\x07\0\0\0\0\0\0".as_slice());
-    for (user, sequence, kind, order) in [
-        (b"a".as_slice(), 8, Kind::Delete, Ordering::Greater),
-        (b"a", 7, Kind::Put, Ordering::Equal),
-        (b"a", 7, Kind::Delete, Ordering::Less),
-        (b"a", 6, Kind::Put, Ordering::Less),
-    ] {
-        assert_eq!(rt;
-            compare_keys::<Bytewise>(&seek, &pack(alloc, user, sequence, kind)?),
-            Some(order)
-        );
+fn a_seek_key_stands_in_front_of_what_is_visible(rt: HostRuntime) {
+    assert!(rt; matches!(seek_key(rt.alloc(), b"a", 7), Ok(key) if key.as_slice() == SEEK_KEY));
+    for (key, order) in SOUGHT {
+        assert_eq!(rt; compare_keys::<Bytewise>(SEEK_KEY, key), Some(order));
     }
-    Ok(())
+}
+
+// The entry of `a` at sequence 1.
+fn entry_of(alloc: Global, value: Option<Bytes>) -> Result<Entry, AllocError> {
+    let key = Bytes::copied_from(alloc, b"a")?;
+    Ok(Entry {
+        key,
+        sequence: 1,
+        value,
+    })
+}
+
+fn has_key(alloc: Global, entry: &Entry, kind: Kind, bytes: &[u8]) -> bool {
+    entry.sequence < SEQUENCE_END
+        && entry.kind() == kind
+        && matches!(entry.internal_key(alloc), Ok(key) if key.as_slice() == bytes)
 }
 
 #[test]
 fn entries_have_the_internal_key_of_their_write(rt: HostRuntime) -> Result<(), Fail> {
     let alloc = rt.alloc();
-    let put = Entry {
-        key: Bytes::copied_from(alloc, b"a")?,
-        sequence: 1,
-        value: Some(Bytes::copied_from(alloc, b"")?),
-    };
-    let delete = Entry {
-        key: Bytes::copied_from(alloc, b"a")?,
-        sequence: 1,
-        value: None,
-    };
-    assert_eq!(rt; put.kind(), Kind::Put);
-    assert_eq!(rt; delete.kind(), Kind::Delete);
-    assert_eq!(rt;
-        put.internal_key(alloc)?.as_slice(),
-        b"a\x01\x01\0\0\0\0\0\0".as_slice()
-    );
-    assert_eq!(rt;
-        delete.internal_key(alloc)?.as_slice(),
-        b"a\0\x01\0\0\0\0\0\0".as_slice()
-    );
-    assert!(rt; put == put);
-    assert!(rt; put != delete);
+    let put = entry_of(alloc, Some(Bytes::from_vec(Vec::new(alloc))))?;
+    let delete = entry_of(alloc, None)?;
+    assert!(rt; has_key(alloc, &put, Kind::Put, b"a\x01\x01\0\0\0\0\0\0"));
+    assert!(rt; has_key(alloc, &delete, Kind::Delete, b"a\0\x01\0\0\0\0\0\0"));
+    assert!(rt; put == put && put != delete);
     Ok(())
 }
 
 // Keys in their order, the last four with numbers that no eight bytes hold.
-fn rising_keys(alloc: Global) -> Result<Vec<InternalKey<'static>>, AllocError> {
-    let mut keys = Vec::new(alloc);
-    for (user, sequence, kind) in [
-        (b"".as_slice(), 0, Kind::Delete),
-        (b"a", 300, Kind::Delete),
-        (b"a", 7, Kind::Put),
-        (b"a", 7, Kind::Delete),
-        (b"a", 0, Kind::Put),
-        (b"a\0", 900, Kind::Put),
-        (b"ab", 1, Kind::Put),
-        (b"b", SEQUENCE_END - 1, Kind::Put),
-        (b"\xff", u64::MAX, Kind::Put),
-        (b"\xff", u64::MAX, Kind::Delete),
-        (b"\xff", SEQUENCE_END, Kind::Put),
-        (b"\xff\0", u64::MAX, Kind::Put),
-    ] {
-        keys.push(InternalKey {
-            user,
-            sequence,
-            kind,
-        })
-        .map_err(|_| AllocError)?;
-    }
-    Ok(keys)
+#[rattlefmt::skip]
+const RISING_KEYS: [InternalKey<'static>; 12] = [
+    InternalKey { user: b"", sequence: 0, kind: Kind::Delete },
+    InternalKey { user: b"a", sequence: 300, kind: Kind::Delete },
+    InternalKey { user: b"a", sequence: 7, kind: Kind::Put },
+    InternalKey { user: b"a", sequence: 7, kind: Kind::Delete },
+    InternalKey { user: b"a", sequence: 0, kind: Kind::Put },
+    InternalKey { user: b"a\0", sequence: 900, kind: Kind::Put },
+    InternalKey { user: b"ab", sequence: 1, kind: Kind::Put },
+    InternalKey { user: b"b", sequence: SEQUENCE_END - 1, kind: Kind::Put },
+    InternalKey { user: b"\xff", sequence: u64::MAX, kind: Kind::Put },
+    InternalKey { user: b"\xff", sequence: u64::MAX, kind: Kind::Delete },
+    InternalKey { user: b"\xff", sequence: SEQUENCE_END, kind: Kind::Put },
+    InternalKey { user: b"\xff\0", sequence: u64::MAX, kind: Kind::Put },
+];
+
+fn compare_so(a: &InternalKey<'_>, b: &InternalKey<'_>, order: Ordering) -> bool {
+    a.cmp(b) == order
+        && a.partial_cmp(b) == Some(order)
+        && (a < b) == (order == Ordering::Less)
+        && (a == b) == (order == Ordering::Equal)
 }
 
 // Keys that rise, of which many differ only behind a first, a second or a third word of eight bytes.
@@ -194,41 +200,19 @@ fn long_user_keys_compare_by_the_first_byte_that_differs(rt: HostRuntime) -> Res
 }
 
 #[test]
-fn keys_compare_as_they_stand(rt: HostRuntime) -> Result<(), Fail> {
-    let keys = rising_keys(rt.alloc())?;
-    for (i, a) in keys.iter().enumerate() {
-        for (k, b) in keys.iter().enumerate() {
-            assert_eq!(rt; a.cmp(b), i.cmp(&k));
-            assert_eq!(rt; a.partial_cmp(b), Some(i.cmp(&k)));
-            assert_eq!(rt; a < b, i < k);
-            assert_eq!(rt; a == b, i == k);
+fn keys_compare_as_they_stand(rt: HostRuntime) {
+    for (i, a) in RISING_KEYS.iter().enumerate() {
+        for (k, b) in RISING_KEYS.iter().enumerate() {
+            assert!(rt; compare_so(a, b, i.cmp(&k)), "{i} and {k}");
         }
     }
-    Ok(())
 }
 
 #[test]
 fn keys_are_sorted_into_their_order(rt: HostRuntime) -> Result<(), Fail> {
-    let rising = rising_keys(rt.alloc())?;
-    let mut keys = rising_keys(rt.alloc())?;
+    let mut keys = Vec::from_slice(rt.alloc(), &RISING_KEYS)?;
     keys.reverse();
     keys.sort()?;
-    assert_eq!(rt; keys, rising);
-    keys.sort_by_key(|key| key.sequence)?;
-    keys.sort()?;
-    assert_eq!(rt; keys, rising);
-    Ok(())
-}
-
-#[test]
-fn keys_are_ordered_as_their_bytes_are(rt: HostRuntime) -> Result<(), Fail> {
-    let keys = ordered_keys(rt.alloc())?;
-    for a in &keys {
-        let first = unpack(a).ok_or("an internal key")?;
-        for b in &keys {
-            let second = unpack(b).ok_or("an internal key")?;
-            assert_eq!(rt; compare_keys::<Bytewise>(a, b), Some(first.cmp(&second)));
-        }
-    }
+    assert!(rt; keys.as_slice() == RISING_KEYS.as_slice());
     Ok(())
 }
