@@ -19,6 +19,7 @@ pub use layout::{LEVELS, Layout};
 pub use names::{FileName, one_name, parse_name, print_name};
 pub use reading::decode_edit;
 pub use snapshot::{layouts_are_kept, snapshot_edit};
+pub use tables::copy_of;
 pub use version_edit::{Edit, one_edit};
 pub use writing::encode_edit;
 

@@ -166,7 +166,7 @@ fn comes_before(a: &PlacedTable, b: &PlacedTable) -> bool
     a.level < b.level || (a.level == b.level && a.table.number < b.table.number)
 }
 
-/// A table like this one.
+/// A table's description like this one, in memory of its own.
 pub fn copy_of(alloc: Global, placed: &PlacedTable) -> Result<PlacedTable, AllocError>
     ensures { IfOk result (λ copy. copy ≡ placed.now) }
 {

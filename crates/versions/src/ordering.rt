@@ -1,0 +1,123 @@
+//! The order of a version's tables.
+
+ghost use Rattle.std.specs.Prelude.{◌≡◌, ◌<◌, ◌≤◌, length, IfErr, OnOk, MatchBool, HoldsAt, [], ◌++◌};
+ghost use Rattle.std.specs.List.{AllWithin};
+ghost use Rattle.coding.specs.Errors.{RefusesOnly};
+ghost use Rattle.edits.specs.Layout.{is_used};
+ghost use Rattle.versions.specs.Levels.{IsRange, IsBefore, AreInOrder, AreApart, Lists};
+ghost use Rattle.versions.specs.Steps.{Fits, IsPut};
+
+use coding::{Damage, ReadError};
+use edits::{LEVELS, PlacedTable, copy_of};
+use ikey::{EntryOrder, Internal, KeyOrder};
+use std::alloc::Global;
+
+// Whether the table comes before the other.
+fn comes_before<K: KeyOrder>(a: &PlacedTable, b: &PlacedTable) -> bool
+    ensures { MatchBool result (IsBefore K.cmp a.now b.now) (IsBefore K.cmp a.now b.now → ⊥) }
+{
+    if a.level != b.level {
+        return a.level < b.level;
+    }
+    if a.level == 0 {
+        return a.table.number < b.table.number;
+    }
+    Internal::<K>::is_below(a.table.largest.as_slice(), b.table.smallest.as_slice())
+}
+
+// Whether the table's smallest key isn't above its largest.
+fn has_range<K: KeyOrder>(placed: &PlacedTable) -> bool
+    ensures { MatchBool result (IsRange K.cmp placed.now) (IsRange K.cmp placed.now → ⊥) }
+{
+    let smallest = placed.table.smallest.as_slice();
+    let largest = placed.table.largest.as_slice();
+    if smallest == largest {
+        return true;
+    }
+    Internal::<K>::is_below(smallest, largest)
+}
+
+// Whether a table has this number.
+fn is_number_used(tables: &[PlacedTable], number: u64) -> bool
+    ensures { result ≡ is_used number tables.now }
+{
+    for placed in tables {
+        if placed.table.number == number {
+            return true;
+        }
+    }
+    false
+}
+
+// The index of the first table that doesn't come before the new one.
+fn place_for<K: KeyOrder>(tables: &[PlacedTable], new: &PlacedTable) -> usize
+    requires { AreInOrder K.cmp tables.now }
+    ensures within { result ≤ length tables.now }
+    ensures front { AllWithin (λ placed. IsBefore K.cmp placed new.now) tables.now 0 result }
+    ensures back { result < length tables.now → HoldsAt (λ placed. IsBefore K.cmp placed new.now → ⊥) tables.now result }
+{
+    let mut low = 0;
+    let mut high = tables.len();
+    while low < high {
+        let middle = low + (high - low) / 2;
+        if comes_before::<K>(&tables[middle], new) {
+            low = middle + 1;
+        } else {
+            high = middle;
+        }
+    }
+    low
+}
+
+// Whether the new table comes before that at the place, if there is one.
+fn ends_before<K: KeyOrder>(tables: &[PlacedTable], place: usize, new: &PlacedTable) -> bool
+    ensures { MatchBool result (place < length tables.now → HoldsAt (λ placed. IsBefore K.cmp new.now placed) tables.now place)
+        ((place < length tables.now) × HoldsAt (λ placed. IsBefore K.cmp new.now placed → ⊥) tables.now place) }
+{
+    match tables.get(place) {
+        Some(placed) => comes_before::<K>(new, placed),
+        None => true,
+    }
+}
+
+/// Puts a table in its place. Corrupt: there is no such level, its keys are no range, its number is that of another one, or it overlaps
+/// one in a level below 0.
+pub fn put_table<K: KeyOrder>(
+    tables: &mut Vec<PlacedTable>,
+    new: PlacedTable,
+) -> Result<(), ReadError>
+    requires { AreInOrder K.cmp tables.old.items }
+    ensures done { OnOk result (IsPut K.cmp tables.old.items new tables.new.items) }
+    ensures refused { IfErr result (λ e. RefusesOnly e (Fits K.cmp tables.old.items new → ⊥)) }
+{
+    if new.level >= LEVELS || !has_range::<K>(&new) {
+        return Err(ReadError::Corrupt(Damage::Number));
+    }
+    if is_number_used(tables, new.table.number) {
+        return Err(ReadError::Corrupt(Damage::Order));
+    }
+    let place = place_for::<K>(tables, &new);
+    if !ends_before::<K>(tables, place, &new) {
+        return Err(ReadError::Corrupt(Damage::Order));
+    }
+    tables.insert(place, new)?;
+    Ok(())
+}
+
+/// Puts copies of these tables into a vector without any. Corrupt, as in `put_table`.
+pub fn put_tables<K: KeyOrder>(
+    alloc: Global,
+    tables: &mut Vec<PlacedTable>,
+    listed: &[PlacedTable],
+) -> Result<(), ReadError>
+    requires { tables.old.items ≡ [] }
+    ensures order { OnOk result (AreInOrder K.cmp tables.new.items) }
+    ensures all { OnOk result (Lists listed.now tables.new.items) }
+    ensures apart { OnOk result (AreApart K.cmp listed.now) }
+    ensures refused { IfErr result (λ e. RefusesOnly e (AreApart K.cmp listed.now → ⊥)) }
+{
+    for placed in listed {
+        put_table::<K>(tables, copy_of(alloc, placed)?)?;
+    }
+    Ok(())
+}
