@@ -1,0 +1,11 @@
+pub mod MergeLaws
+pub mod Merging
+pub mod Motions
+pub mod Moves
+pub mod Places
+pub mod Searches
+pub mod Sharing
+pub mod Single
+pub mod Standing
+pub mod Views
+pub mod Walks

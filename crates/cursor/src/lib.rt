@@ -1,0 +1,24 @@
+//! Cursors: a sorted list of entries and a place in it (LevelDB's include/leveldb/iterator.h), over lists in memory,
+//! several of them merged, and the pairs that are visible at a sequence.
+#![tactic(auto)]
+
+mod child;
+mod children;
+mod copying;
+mod cursor;
+mod laws;
+mod list_cursor;
+mod merge;
+mod scanning;
+mod standing;
+mod visible;
+mod walking;
+
+pub use cursor::Cursor;
+pub use laws::{each_list_has_a_view, lists_have_a_union, views_agree};
+pub use list_cursor::ListCursor;
+pub use merge::{Merge, merge_begins};
+pub use visible::Visible;
+
+#[cfg(test)]
+mod tests;

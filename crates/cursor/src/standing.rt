@@ -1,0 +1,128 @@
+//! Where the cursor beneath a walk stands, and how it comes beside the walk's pair.
+
+ghost use Rattle.std.specs.Prelude.{◌≡◌, ◌<◌, ◌^◌, ℕ, Bool, List, Option, Some, false, IsTrue, IfErr, OnOk, slice_get};
+ghost use Rattle.std.specs.Option.{option_copied};
+ghost use Rattle.ikey.specs.Entries.{InternalEntry};
+ghost use Rattle.cursor.specs.Places.{Cmp, Listed, within, index_before, is_less};
+ghost use Rattle.cursor.specs.Moves.{Refuses, ListsNone};
+ghost use Rattle.cursor.specs.Merging.{listed, ahead, behind};
+ghost use Rattle.cursor.specs.Views.{IsVisible, is_user_below};
+ghost use Rattle.cursor.specs.Searches.{Wanders, IsBetween, FromOn};
+ghost use Rattle.cursor.specs.Standing.{StandsAt, bound_if};
+
+use crate::cursor::Cursor;
+use coding::DbError;
+use ikey::{KeyOrder, seek_key};
+use std::alloc::Global;
+
+/// Where the cursor beneath stands, as seen from the pair that the walk stands on.
+#[derive(Clone, Copy, Debug, PartialEq, Eq)]
+pub enum Position {
+    /// On the pair's entry.
+    Here,
+    /// On the last entry of a lower user key, or nowhere where there is none. The value is kept.
+    Behind,
+    /// Anywhere: a move was refused.
+    Astray,
+}
+
+/// Has the cursor stand behind all entries of lower user keys, and in front of those that are older than the pair's or of
+/// higher user keys.
+pub fn stand_ahead<K: KeyOrder, S, C: Cursor<K, S>>(
+    cursor: &mut C,
+    alloc: Global,
+    source: &mut S,
+    position: Position,
+    user: &[u8],
+    sequence: u64,
+) -> Result<(), DbError>
+    requires { sequence < 2 ^ 56 }
+    ensures stands { IsTrue (C.facts source.new).faithful → OnOk result ((entries : List InternalEntry) (entry : InternalEntry) (value : List ℕ) → IsVisible entries sequence entry → user.now ≡ entry.key.user
+        → StandsAt K.cmp C.lists position cursor.old source.old entries entry value
+        → (index : ℕ) × C.lists cursor.new source.new (listed entries (within entries index)) × IsBetween K.cmp entries index user.now) }
+    ensures wanders { Wanders C.facts C.lists C.keeps C.limited cursor.old cursor.new source.old source.new }
+    ensures refused { IfErr result (λ e. Refuses e (C.facts source.old) (C.facts source.new) (ListsNone C.lists cursor.old source.old) (C.limited cursor.old)) }
+{
+    match position {
+        Position::Here => Ok(()),
+        Position::Behind => {
+            step_on(cursor, alloc, source)?;
+            Ok(())
+        }
+        Position::Astray => {
+            find_again(cursor, alloc, source, user, sequence)?;
+            Ok(())
+        }
+    }
+}
+
+/// Has the cursor stand on the pair's entry, or on the last one of a lower user key.
+pub fn stand_behind<K: KeyOrder, S, C: Cursor<K, S>>(
+    cursor: &mut C,
+    alloc: Global,
+    source: &mut S,
+    position: Position,
+    user: &[u8],
+    sequence: u64,
+) -> Result<(), DbError>
+    requires { sequence < 2 ^ 56 }
+    ensures stands { IsTrue (C.facts source.new).faithful → OnOk result ((entries : List InternalEntry) (entry : InternalEntry) (value : List ℕ) → IsVisible entries sequence entry → user.now ≡ entry.key.user
+        → StandsAt K.cmp C.lists position cursor.old source.old entries entry value
+        → (index : ℕ) × C.lists cursor.new source.new (listed entries (index_before index)) × FromOn entries index (λ other. is_less (K.cmp other.key.user user.now) ≡ false)) }
+    ensures wanders { Wanders C.facts C.lists C.keeps C.limited cursor.old cursor.new source.old source.new }
+    ensures refused { IfErr result (λ e. Refuses e (C.facts source.old) (C.facts source.new) (ListsNone C.lists cursor.old source.old) (C.limited cursor.old)) }
+{
+    match position {
+        Position::Here => Ok(()),
+        Position::Behind => Ok(()),
+        Position::Astray => {
+            find_again(cursor, alloc, source, user, sequence)?;
+            Ok(())
+        }
+    }
+}
+
+// From the last entry in front of a place to the first that isn't.
+fn step_on<K: KeyOrder, S, C: Cursor<K, S>>(
+    cursor: &mut C,
+    alloc: Global,
+    source: &mut S,
+) -> Result<(), DbError>
+    ensures steps { IsTrue (C.facts source.new).faithful → OnOk result ((entries : List InternalEntry) (test : InternalEntry → Bool) → C.lists cursor.old source.old (listed entries (behind test entries))
+        → C.lists cursor.new source.new (listed entries (ahead test entries))) }
+    ensures wanders { Wanders C.facts C.lists C.keeps C.limited cursor.old cursor.new source.old source.new }
+    ensures refused { IfErr result (λ e. Refuses e (C.facts source.old) (C.facts source.new) (ListsNone C.lists cursor.old source.old) (C.limited cursor.old)) }
+{
+    if cursor.stands() {
+        cursor.next(alloc, source)?;
+        return Ok(());
+    }
+    cursor.first(alloc, source)?;
+    Ok(())
+}
+
+// Has the cursor stand on the visible entry of the user key.
+fn find_again<K: KeyOrder, S, C: Cursor<K, S>>(
+    cursor: &mut C,
+    alloc: Global,
+    source: &mut S,
+    user: &[u8],
+    sequence: u64,
+) -> Result<(), DbError>
+    requires { sequence < 2 ^ 56 }
+    ensures finds { IsTrue (C.facts source.new).faithful → OnOk result ((entries : List InternalEntry) (entry : InternalEntry) (index : ℕ) (place : Option ℕ) → IsVisible entries sequence entry → user.now ≡ entry.key.user
+        → slice_get entries index ≡ Some entry → C.lists cursor.old source.old (listed entries place) → C.lists cursor.new source.new (listed entries (Some index))) }
+    ensures wanders { Wanders C.facts C.lists C.keeps C.limited cursor.old cursor.new source.old source.new }
+    ensures refused { IfErr result (λ e. Refuses e (C.facts source.old) (C.facts source.new) (ListsNone C.lists cursor.old source.old) (C.limited cursor.old)) }
+{
+    let key = seek_key(alloc, user, sequence)?;
+    cursor.seek(alloc, source, &key)?;
+    Ok(())
+}
+
+/// What a search back is bound by.
+pub fn bound_of(past: bool, key: &[u8]) -> Option<&[u8]>
+    ensures { option_copied result ≡ bound_if past key.now }
+{
+    if past { Some(key) } else { None }
+}
