@@ -176,29 +176,6 @@ fn compare_so(a: &InternalKey<'_>, b: &InternalKey<'_>, order: Ordering) -> bool
         && (a == b) == (order == Ordering::Equal)
 }
 
-// Keys that rise, of which many differ only behind a first, a second or a third word of eight bytes.
-const RISING: [&[u8]; 9] = [
-    b"",
-    b"aaaaaaa",
-    b"aaaaaaaa",
-    b"aaaaaaaa\0",
-    b"aaaaaaaabbbbbbbb",
-    b"aaaaaaaabbbbbbbbcccccccc",
-    b"aaaaaaaabbbbbbbbccccccccdddddddde",
-    b"aaaaaaaabbbbbbbbccccccccdddddddee",
-    b"aaaaaaaac",
-];
-
-#[test]
-fn long_user_keys_compare_by_the_first_byte_that_differs(rt: HostRuntime) -> Result<(), Fail> {
-    for (i, a) in RISING.iter().enumerate() {
-        for (j, b) in RISING.iter().enumerate() {
-            assert_eq!(rt; Bytewise::compare(*a, *b), i.cmp(&j));
-        }
-    }
-    Ok(())
-}
-
 #[test]
 fn keys_compare_as_they_stand(rt: HostRuntime) {
     for (i, a) in RISING_KEYS.iter().enumerate() {

@@ -1,5 +1,5 @@
 -- What a search for a user key has found.
-use Rattle.std.proofs.Common.{◌≡◌, ◌+◌, ◌-◌, ◌<◌, ◌≤◌, ◌⊎◌, inl, inr, ⊎_elim, ℕ, zero, suc, Bool, true, false, Option, Some, None, List, [], ◌∷◌, ◌++◌, length, refl, sym, ap, subst, ◌∙◌, arith}
+use Rattle.std.proofs.Common.{◌≡◌, ◌-◌, ◌<◌, ◌≤◌, inl, inr, ℕ, zero, suc, Bool, true, false, Some, None, List, [], ◌∷◌, ◌++◌, refl, sym, ap, subst, ◌∙◌, arith}
 use Rattle.std.specs.List.{AllByRecursion, slice_get}
 use Rattle.std.specs.declared.cmp.Ordering.{Ordering}
 use Rattle.std.specs.Prelude.{not, ◌==◌, MatchBool}
@@ -13,7 +13,7 @@ use Rattle.memtable.specs.Contents.{entry_at}
 use Rattle.memtable.specs.Order.{is_before, Placed, ordered, Rises}
 use Rattle.ikey.specs.Views.{Among, IsNewest, IsUnseen}
 use Rattle.memtable.specs.Newest.{HasEntry, IsNew}
-use Rattle.memtable.specs.Places.{IsSought, IsPlace}
+use Rattle.memtable.specs.Places.{IsPlace}
 use Rattle.memtable.proofs.Befores.{newer-from, seen-from, before-keys}
 use Rattle.memtable.proofs.Orders.{all-map, all-append, all-back, among-all, ordered-all, all-numbered, HasNumber}
 

@@ -1,5 +1,5 @@
 -- The inserts in internal order.
-use Rattle.std.proofs.Common.{◌≡◌, ◌+◌, ◌-◌, ◌*◌, ◌<◌, ◌≤◌, ℕ, zero, suc, Bool, true, false, cond, Option, Some, None, List, [], ◌∷◌, ◌++◌, length, map, ◌⊎◌, ⊎_elim, inl, inr, refl, sym, ap, subst, ◌∙◌, arith, append_assoc, length-append}
+use Rattle.std.proofs.Common.{◌≡◌, ◌+◌, ◌-◌, ◌<◌, ◌≤◌, ℕ, zero, suc, Bool, true, false, cond, Some, List, [], ◌∷◌, ◌++◌, length, ◌⊎◌, ⊎_elim, inl, inr, refl, sym, ap, subst, ◌∙◌, arith, append_assoc, length-append}
 use Rattle.std.proofs.lemmas.Bool.{cases_Bool, cond_both, false_from_ne_true}
 use Rattle.std.specs.List.{AllByRecursion, slice_get}
 use Rattle.std.specs.declared.cmp.Ordering.{Ordering}
@@ -9,7 +9,6 @@ use Rattle.ikey.specs.declared.entry.Entry.{Entry}
 use Rattle.memtable.specs.Contents.{entry_at}
 use Rattle.memtable.specs.Order.{is_before, Placed, put_in, put_all, ordered, Rises}
 use Rattle.ikey.specs.Views.{Among}
-use Rattle.memtable.specs.Newest.{IsNew}
 use Rattle.memtable.proofs.Befores.{before-trans, before-flip}
 
 -- ---- lists of which each element has a property

@@ -1,6 +1,5 @@
-use Rattle.std.proofs.Common.{◌≡◌, ◌∙◌, ◌+◌, ◌-◌, ◌<◌, ℕ, Bool, List, length, map, get_or, nat_lt, sym, ap, arith, None}
+use Rattle.std.proofs.Common.{◌≡◌, ◌∙◌, ◌-◌, ◌<◌, ℕ, List, length, get_or, nat_lt, sym, ap, arith, None}
 use Rattle.memtable.specs.Contents.{Contents}
-use Rattle.memtable.specs.Slots.{entry_in}
 use Rattle.memtable.specs.Order.{is_node_before}
 use Rattle.memtable.specs.declared.arena.Slot.{Slot}
 use Rattle.memtable.specs.declared.arena.KeySpan.{KeySpan}
