@@ -6,7 +6,7 @@ export RT
 
 PROGRAMS := quickstart tables
 
-.PHONY: help demo build test interop clean needs-rt
+.PHONY: help demo build test bugs interop clean needs-rt
 .SILENT:
 
 help:
@@ -14,6 +14,7 @@ help:
 	echo 'make test      everything: the checks beside LevelDB itself, then each proof from nothing and each test (an hour and a half)'
 	echo 'make build     proves the programs and leaves them in build/'
 	echo 'make interop   the checks beside LevelDB itself alone'
+	echo 'make bugs      wrong bodies beyond those that the tests try: the prover must refuse each (hours; make bugs CRATE=table for one crate)'
 	echo 'make clean     takes away all that was built'
 
 demo: needs-rt
@@ -32,8 +33,12 @@ interop: needs-rt
 	interop/run
 
 test: needs-rt
+	tools/edits
 	interop/run
 	$(RT) ci
+
+bugs: needs-rt
+	tools/bugs $(CRATE)
 
 clean:
 	rm -rf build crates/*/out

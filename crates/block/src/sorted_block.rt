@@ -51,6 +51,7 @@ impl<O: EntryOrder> Block<O> {
     pub fn open(alloc: Global, bytes: Vec<u8>) -> Result<Self, ReadError>
         // The bytes are the encoding of what is read.
         ensures found { IfOk result (λ block. IsBlock O.below bytes.items block.pairs) }
+        ensures short { IfOk result (λ _. length bytes.items ≤ 2 ^ 30) }
         // Bytes that are refused are no block, or pass the limit.
         ensures refused { IfErr result (λ e. Refuses e ((pairs : List Pair) → IsBlock O.below bytes.items pairs → ⊥) (2 ^ 30 < length bytes.items)) }
     {

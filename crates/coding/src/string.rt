@@ -1,20 +1,25 @@
 //! Length-prefixed strings: the length as a number of varying width, and as many bytes (LevelDB's
 //! `util/coding.h`, `PutLengthPrefixedSlice` and `GetLengthPrefixedSlice`).
 
-ghost use Rattle.std.specs.Prelude.{◌≡◌, ◌<◌, ◌^◌, ◌++◌, ℕ, List, length, take, IfNone, IfSome, OnOk};
+ghost use Rattle.std.specs.Prelude.{◌≡◌, ◌<◌, ◌^◌, ◌++◌, ℕ, List, length, take, IfNone, IfSome, OnOk, OnErr};
 ghost use Rattle.coding.specs.Varint.{IsString};
 
 use crate::varint::{get_varint32, put_varint32};
 use std::alloc::AllocError;
 
-/// Appends a length-prefixed string. Refused only where there is no memory for it; its length may
-/// then stand at the end, so the caller gives `out` up or cuts it back.
+/// Appends a length-prefixed string. Refused only where there is no memory for it.
 pub fn put_string(out: &mut Vec<u8>, text: &[u8]) -> Result<(), AllocError>
     requires { length text.now < 2 ^ 32 }
-    ensures { OnOk result ((bytes : List ℕ) × IsString bytes text.now × (out.new.items ≡ out.old.items ++ bytes)) }
+    ensures ok { OnOk result ((bytes : List ℕ) × IsString bytes text.now × (out.new.items ≡ out.old.items ++ bytes)) }
+    ensures err { OnErr result (out.new.items ≡ out.old.items) }
 {
+    let start = out.len();
     put_varint32(out, text.len() as u32)?;
-    out.extend_from_slice(text)
+    let put = out.extend_from_slice(text);
+    if put.is_err() {
+        out.truncate(start);
+    }
+    put
 }
 
 /// Reads the length-prefixed string at the front: its bytes without the length, and what stands

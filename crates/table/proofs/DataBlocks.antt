@@ -7,16 +7,18 @@ use Rattle.block.proofs.BlockLaws.{same_block}
 use Rattle.block.specs.Block.{IsBlock}
 use Rattle.ikey.specs.Below.{IsBelowInternal, same_key}
 use Rattle.ikey.specs.Entries.{InternalEntry, Pair}
+use Rattle.coding.specs.declared.error.DbError.{DbError}
 use Rattle.store.specs.Files.{Facts}
 use Rattle.table.specs.declared.handle.Handle.{Handle}
 use Rattle.table.specs.declared.handle.Place.{Place}
-use Rattle.table.specs.Frame.{Frame, IsFrame, IsLong, AnyLong, handles}
-use Rattle.table.specs.Reading.{Reads, Finds, Answers}
+use Rattle.table.specs.Frame.{Frame, IsFrame, AnyLong, handles}
+use Rattle.table.specs.Reading.{Reads, Finds, Answers, Refuses}
+use Rattle.table.specs.Refusals.{IsDamaged, IsUnsupported, IsOfOne, IsOfOneFrom}
 use Rattle.table.specs.Stored.{IsStored}
 use Rattle.table.specs.Table.{HasBlock, AreData, IsTable, ArePairs}
 use Rattle.table.proofs.FrameParts.{one_frame}
-use Rattle.table.proofs.Steps.{reads_then, file_on, same_file}
-use Rattle.table.proofs.StoredBlocks.{one_stored}
+use Rattle.table.proofs.Steps.{reads_then, file_on, same_file, refuses_more}
+use Rattle.table.proofs.StoredBlocks.{one_stored, only_long}
 
 abbrev pub joined : List (List Pair) → List Pair
 joined blocks = flat_map (λ (pairs : List Pair). pairs) blocks
@@ -70,33 +72,51 @@ pub read_whole : (cmp : List ℕ → List ℕ → Ordering) (file : List ℕ) (p
 read_whole cmp file places n found p h blocks data_is =
     h.found_is ∙ ap joined (same_data cmp file places h.blocks blocks (subst (λ (t : List Place). AreData cmp file t h.blocks) (take_all n places p) h.data_is) data_is)
 
--- one of the blocks is too long
-pub long_at : (cmp : List ℕ → List ℕ → Ordering) (file : List ℕ) (places : List Place) (n : ℕ) (d : Place) → n < length places
-    → ((pairs : List Pair) → HasBlock cmp file (get_or places n d).handle pairs → IsLong (get_or places n d).handle)
-    → (blocks : List (List Pair)) → AreData cmp file places blocks → AnyLong (map (λ (place : Place). place.handle) places)
-long_at cmp file [] n d p none blocks h = absurd (omega arith)
-long_at cmp file (place ∷ places) n d p none [] h = absurd h
-long_at cmp file (place ∷ places) zero d p none (x ∷ blocks) h = inl (none x h.0)
-long_at cmp file (place ∷ places) (suc n) d p none (x ∷ blocks) h = inr (long_at cmp file places n d (omega arith) none blocks h.1)
+-- ---- what is so of one of the blocks
+
+pub is_of_one : (is : Handle → Type 0) (places : List Place) (n : ℕ) (d : Place) → n < length places → is (get_or places n d).handle → IsOfOne is places
+is_of_one is [] n d p h = absurd (omega (arith, p))
+is_of_one is (place ∷ places) zero d p h = inl h
+is_of_one is (place ∷ places) (suc n) d p h = inr (is_of_one is places n d (omega (arith, p)) h)
+
+pub none_damaged : (cmp : List ℕ → List ℕ → Ordering) (file : List ℕ) (places : List Place) (blocks : List (List Pair)) → AreData cmp file places blocks → IsOfOne (IsDamaged cmp file) places → ⊥
+none_damaged cmp file [] blocks h one = one
+none_damaged cmp file (place ∷ places) [] h one = h
+none_damaged cmp file (place ∷ places) (pairs ∷ blocks) h (inl here) = here.0 pairs h.0
+none_damaged cmp file (place ∷ places) (pairs ∷ blocks) h (inr there) = none_damaged cmp file places blocks h.1 there
+
+pub one_long : (cmp : List ℕ → List ℕ → Ordering) (file : List ℕ) (places : List Place) (blocks : List (List Pair)) → AreData cmp file places blocks → IsOfOne (IsUnsupported file) places
+    → AnyLong (map (λ (place : Place). place.handle) places)
+one_long cmp file [] blocks h one = one
+one_long cmp file (place ∷ places) [] h one = absurd h
+one_long cmp file (place ∷ places) (pairs ∷ blocks) h (inl here) = inl (only_long file place.handle h.0.0 h.0.1 here)
+one_long cmp file (place ∷ places) (pairs ∷ blocks) h (inr there) = inr (one_long cmp file places blocks h.1 there)
+
+pub one_behind : (is : Handle → Type 0) (n : ℕ) (places : List Place) → IsOfOne is (drop n places) → IsOfOne is places
+one_behind is zero places h = h
+one_behind is (suc n) [] h = absurd h
+one_behind is (suc n) (place ∷ places) h = inr (one_behind is n places h)
 
 -- a block that isn't one
 pub no_data : (cmp : List ℕ → List ℕ → Ordering) (file bytes : List ℕ) (handle : Handle) → ((pairs : List Pair) → IsBlock (IsBelowInternal cmp) bytes pairs → ⊥) → IsStored file handle bytes
-    → (pairs : List Pair) → HasBlock cmp file handle pairs → IsLong handle
+    → (pairs : List Pair) → HasBlock cmp file handle pairs → ⊥
 no_data cmp file bytes handle none stored pairs h =
-    absurd (none pairs (subst (λ (t : List ℕ). IsBlock (IsBelowInternal cmp) t pairs) (one_stored file handle h.0 bytes h.1 stored) h.2))
+    none pairs (subst (λ (t : List ℕ). IsBlock (IsBelowInternal cmp) t pairs) (one_stored file handle h.0 bytes h.1 stored) h.2)
 
 -- ---- over a store
 
 -- the invariant of the loop over the places
 pub record AreReadSoFar (cmp : List ℕ → List ℕ → Ordering) (old now : Facts) (name : List ℕ) (places : List Place) (n : ℕ) (found : List Pair) : Type 0 where
   pub reads : Reads old now
+  pub stood : now.failures ≡ old.failures
   pub answers : Answers old now name (λ (file : List ℕ). AreRead cmp file places n found)
 
 pub so_far_more : (cmp : List ℕ → List ℕ → Ordering) (old now new : Facts) (name : List ℕ) (places : List Place) (n : ℕ) (d : Place) (found more pairs : List Pair) → n < length places
-    → AreReadSoFar cmp old now name places n found → Reads now new → Finds now new name (λ (file : List ℕ). HasBlock cmp file (get_or places n d).handle pairs) → more ≡ found ++ pairs
+    → AreReadSoFar cmp old now name places n found → Reads now new → new.failures ≡ now.failures → Finds now new name (λ (file : List ℕ). HasBlock cmp file (get_or places n d).handle pairs) → more ≡ found ++ pairs
     → AreReadSoFar cmp old new name places (n + 1) more
-so_far_more cmp old now new name places n d found more pairs p h reads block e = record {
+so_far_more cmp old now new name places n d found more pairs p h reads still block e = record {
   reads = reads_then old now new h.reads reads;
+  stood = still ∙ h.stood;
   answers = λ t file there.
       read_more cmp file places n d found more pairs p (h.answers (reads.faithful t) file there)
       (let b = block t in subst (λ (x : List ℕ). HasBlock cmp x (get_or places n d).handle pairs) (same_file now name b.0 file b.1 (file_on old now name file h.reads (reads.faithful t) there)) b.2) e;
@@ -111,11 +131,32 @@ entries_read cmp file frame found all entries is table =
     let data_is = subst (λ (f : Frame). AreData cmp file f.places table.2.blocks) same table.2.data_is in
     subst (λ (t : List Pair). ArePairs t entries) (sym (all table.2.blocks data_is)) table.2.entries_are
 
-pub no_entries : (cmp : List ℕ → List ℕ → Ordering) (file : List ℕ) (frame : Frame) → ((blocks : List (List Pair)) → AreData cmp file frame.places blocks → AnyLong (handles frame))
-    → (entries : List InternalEntry) → IsFrame cmp file frame → IsTable cmp file entries → AnyLong (handles frame)
-no_entries cmp file frame none entries is table =
+abbrev pub NoTable : (List ℕ → List ℕ → Ordering) → Frame → Type 0 → List ℕ → Type 0
+NoTable cmp frame then file = (entries : List InternalEntry) → IsFrame cmp file frame → IsTable cmp file entries → then
+
+-- where one of its blocks is damaged there is no table, and of a table with one that isn't supported it is too long
+pub no_entries : (cmp : List ℕ → List ℕ → Ordering) (file : List ℕ) (frame : Frame) → IsOfOne (IsDamaged cmp file) frame.places → NoTable cmp frame ⊥ file
+no_entries cmp file frame one entries is table =
     let same = one_frame cmp file table.0 frame table.1 is in
-    none table.2.blocks (subst (λ (f : Frame). AreData cmp file f.places table.2.blocks) same table.2.data_is)
+    none_damaged cmp file frame.places table.2.blocks (subst (λ (f : Frame). AreData cmp file f.places table.2.blocks) same table.2.data_is) one
+
+pub long_entries : (cmp : List ℕ → List ℕ → Ordering) (file : List ℕ) (frame : Frame) → IsOfOne (IsUnsupported file) frame.places → NoTable cmp frame (AnyLong (handles frame)) file
+long_entries cmp file frame one entries is table =
+    let same = one_frame cmp file table.0 frame table.1 is in
+    one_long cmp file frame.places table.2.blocks (subst (λ (f : Frame). AreData cmp file f.places table.2.blocks) same table.2.data_is) one
+
+pub entries_refused : (cmp : List ℕ → List ℕ → Ordering) (e : DbError) (a b : Facts) (name : List ℕ) (frame : Frame)
+    → Refuses e a b name (λ (file : List ℕ). IsOfOne (IsDamaged cmp file) frame.places) (λ (file : List ℕ). IsOfOne (IsUnsupported file) frame.places)
+    → Refuses e a b name (NoTable cmp frame ⊥) (NoTable cmp frame (AnyLong (handles frame)))
+entries_refused cmp e a b name frame h =
+    refuses_more e a b name _ (NoTable cmp frame ⊥) _ (NoTable cmp frame (AnyLong (handles frame))) (λ file one. no_entries cmp file frame one) (λ file one. long_entries cmp file frame one) h
+
+pub seek_refused : (cmp : List ℕ → List ℕ → Ordering) (target : List ℕ) (e : DbError) (a b : Facts) (name : List ℕ) (frame : Frame)
+    → Refuses e a b name (λ (file : List ℕ). IsOfOneFrom cmp target (IsDamaged cmp file) frame.places) (λ (file : List ℕ). IsOfOneFrom cmp target (IsUnsupported file) frame.places)
+    → Refuses e a b name (NoTable cmp frame ⊥) (NoTable cmp frame (AnyLong (handles frame)))
+seek_refused cmp target e a b name frame h =
+    refuses_more e a b name _ (NoTable cmp frame ⊥) _ (NoTable cmp frame (AnyLong (handles frame)))
+    (λ file one. no_entries cmp file frame (one_behind (IsDamaged cmp file) one.0 frame.places one.2)) (λ file one. long_entries cmp file frame (one_behind (IsUnsupported file) one.0 frame.places one.2)) h
 
 -- ---- no file is two tables
 
@@ -136,8 +177,3 @@ same_table cmp file a b h k =
     let frames = one_frame cmp file k.0 h.0 k.1 h.1 in
     let blocks = same_data cmp file h.0.places k.2.blocks h.2.blocks (subst (λ (f : Frame). AreData cmp file f.places k.2.blocks) frames k.2.data_is) h.2.data_is in
     one_key_each (joined h.2.blocks) a b h.2.entries_are (subst (λ (t : List (List Pair)). ArePairs (joined t) b) blocks k.2.entries_are)
-
-pub long_behind : (n : ℕ) (places : List Place) → AnyLong (map (λ (place : Place). place.handle) (drop n places)) → AnyLong (map (λ (place : Place). place.handle) places)
-long_behind zero places h = h
-long_behind (suc n) [] h = absurd h
-long_behind (suc n) (place ∷ places) h = inr (long_behind n places h)

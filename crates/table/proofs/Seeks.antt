@@ -94,13 +94,15 @@ split_data cmp file (place ∷ places) (suc n) d (x ∷ blocks) p h =
 -- what was read of the first n places is below the target
 pub record AreSoughtSoFar (cmp : List ℕ → List ℕ → Ordering) (target : List ℕ) (old now : Facts) (name : List ℕ) (places : List Place) (n : ℕ) : Type 0 where
   pub reads : Reads old now
+  pub stood : now.failures ≡ old.failures
   pub answers : Answers old now name (λ (file : List ℕ). (found : List Pair) × AreRead cmp file places n found × AllBelow (IsBelowInternal cmp) target found)
 
 pub sought_more : (cmp : List ℕ → List ℕ → Ordering) (target : List ℕ) (old now new : Facts) (name : List ℕ) (places : List Place) (n : ℕ) (d : Place) (pairs : List Pair) → n < length places
-    → AreSoughtSoFar cmp target old now name places n → Reads now new → Finds now new name (λ (file : List ℕ). HasBlock cmp file (get_or places n d).handle pairs)
+    → AreSoughtSoFar cmp target old now name places n → Reads now new → new.failures ≡ now.failures → Finds now new name (λ (file : List ℕ). HasBlock cmp file (get_or places n d).handle pairs)
     → AllBelow (IsBelowInternal cmp) target pairs → AreSoughtSoFar cmp target old new name places (n + 1)
-sought_more cmp target old now new name places n d pairs p h reads block all = record {
+sought_more cmp target old now new name places n d pairs p h reads still block all = record {
   reads = reads_then old now new h.reads reads;
+  stood = still ∙ h.stood;
   answers = λ t file there.
       let b = block t in
       let s = same_file now name b.0 file b.1 (file_on old now name file h.reads (reads.faithful t) there) in
@@ -238,14 +240,3 @@ module _ (cmp : List ℕ → List ℕ → Ordering) (total : IsTotalOrder cmp) (
       (subst (λ (t : List (List Pair)). IsFirstOf (IsBelowInternal cmp) target (joined t) (found_pair found)) (sym parts.2)
       (subst (λ (t : List Pair). IsFirstOf (IsBelowInternal cmp) target t (found_pair found)) (sym (joined_append parts.0 parts.1))
       (first_behind (IsBelowInternal cmp) target (joined parts.0) (joined parts.1) (found_pair found) parts.4 (first parts.1 parts.3))))
-
-  -- a refusal
-  pub none_sought : (file : List ℕ) (n : ℕ) (frame : Frame) (Q : Type 0) → n ≤ length frame.places → ((i : ℕ) (d : Place) → n ≡ i + 1 → IsBelowInternal cmp (get_or frame.places i d).key target)
-      → ((blocks : List (List Pair)) → AreData cmp file (drop n frame.places) blocks → Q)
-      → (entries : List InternalEntry) → IsFrame cmp file frame → IsTable cmp file entries → Q
-  none_sought file n frame Q p front none entries is table =
-      let same = one_frame cmp file table.0 frame table.1 is in
-      let data_is = subst (λ (f : Frame). AreData cmp file f.places table.2.blocks) same table.2.data_is in
-      let bounds = subst (λ (f : Frame). AreBounds cmp f.places table.2.blocks) same table.2.bounds in
-      let parts = blocks_below file n frame.places table.2.blocks data_is bounds (front_keys file frame n is p front) in
-      none parts.1 parts.3

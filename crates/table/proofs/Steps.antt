@@ -46,12 +46,13 @@ pub known : (a c : Facts) (name : List ℕ) (P R : List ℕ → Type 0) → ((fi
 known a c name P R f h t file there =
     let g = h t in f file (subst P (same_file a name g.0 file g.1 there) g.2)
 
-pub refuses_more : (e : DbError) (a b : Facts) (name : List ℕ) (P Q : List ℕ → Type 0) → ((file : List ℕ) → P file → Q file) → Refuses e a b name P → Refuses e a b name Q
-refuses_more OutOfMemory a b name P Q f h = tt
-refuses_more Io a b name P Q f h = h
-refuses_more (Corrupt file what) a b name P Q f h = λ t file there. f file (h t file there)
-refuses_more (Unsupported what) a b name P Q f h = λ t file there. f file (h t file there)
-refuses_more _ a b name P Q f h = absurd h
+pub refuses_more : (e : DbError) (a b : Facts) (name : List ℕ) (D E U V : List ℕ → Type 0) → ((file : List ℕ) → D file → E file) → ((file : List ℕ) → U file → V file)
+    → Refuses e a b name D U → Refuses e a b name E V
+refuses_more OutOfMemory a b name D E U V f g h = h
+refuses_more Io a b name D E U V f g h = h
+refuses_more (Corrupt file what) a b name D E U V f g h = λ t file there. f file (h t file there)
+refuses_more (Unsupported what) a b name D E U V f g h = λ t file there. g file (h t file there)
+refuses_more _ a b name D E U V f g h = absurd h
 
 -- what is so of the file that is there, by a call after what was found
 known_later : (a b c : Facts) (name : List ℕ) (P Q R : List ℕ → Type 0) → ((file : List ℕ) → P file → Q file → R file) → Reads a b → Reads b c → Finds a b name P
@@ -61,33 +62,27 @@ known_later a b c name P Q R f h k found none t file there =
     f file (subst P (same_file a name g.0 file g.1 there) g.2) (none t file (file_on a b name file h (k.faithful t) there))
 
 -- a refusal after what was found
-pub refuses_after : (e : DbError) (a b c : Facts) (name : List ℕ) (P Q R : List ℕ → Type 0) → ((file : List ℕ) → P file → Q file → R file)
-    → Reads a b → Reads b c → Finds a b name P → Refuses e b c name Q → Refuses e a c name R
-refuses_after OutOfMemory a b c name P Q R f h k found none = tt
-refuses_after Io a b c name P Q R f h k found none = omega (arith, h.failures, none)
-refuses_after (Corrupt kind what) a b c name P Q R f h k found none = known_later a b c name P Q R f h k found none
-refuses_after (Unsupported what) a b c name P Q R f h k found none = known_later a b c name P Q R f h k found none
-refuses_after _ a b c name P Q R f h k found none = absurd none
+pub refuses_after : (e : DbError) (a b c : Facts) (name : List ℕ) (P D E U V : List ℕ → Type 0) → ((file : List ℕ) → P file → D file → E file) → ((file : List ℕ) → P file → U file → V file)
+    → b.failures ≡ a.failures → Reads a b → Reads b c → Finds a b name P → Refuses e b c name D U → Refuses e a c name E V
+refuses_after OutOfMemory a b c name P D E U V f g s h k found none = none ∙ s
+refuses_after Io a b c name P D E U V f g s h k found none = omega (arith, h.failures, none)
+refuses_after (Corrupt kind what) a b c name P D E U V f g s h k found none = known_later a b c name P D E f h k found none
+refuses_after (Unsupported what) a b c name P D E U V f g s h k found none = known_later a b c name P U V g h k found none
+refuses_after _ a b c name P D E U V f g s h k found none = absurd none
 
--- a refusal of bytes that were read
-pub refuses_bytes : (e : ReadError) (a c : Facts) (name : List ℕ) (P R : List ℕ → Type 0) → ((file : List ℕ) → P file → R file) → Finds a c name P → Refuses (table_refusal e) a c name R
-refuses_bytes read_error.Memory a c name P R f found = tt
-refuses_bytes (read_error.Corrupt what) a c name P R f found = known a c name P R f found
-refuses_bytes (read_error.Unsupported what) a c name P R f found = known a c name P R f found
-
--- a refusal of bytes that were read, which are damaged or too long
-pub refuses_block : (e : ReadError) (a c : Facts) (name : List ℕ) (P R : List ℕ → Type 0) (damaged large : Type 0) → ((file : List ℕ) → P file → damaged → R file) → ((file : List ℕ) → P file → large → R file)
-    → Finds a c name P → RefusesBlock e damaged large → Refuses (table_refusal e) a c name R
-refuses_block read_error.Memory a c name P R damaged large f g found h = tt
-refuses_block (read_error.Corrupt what) a c name P R damaged large f g found h = known a c name P R (λ file p. f file p h) found
-refuses_block (read_error.Unsupported what) a c name P R damaged large f g found h = known a c name P R (λ file p. g file p h) found
+-- a refusal of bytes that were read, which are damaged
+pub refuses_block : (e : ReadError) (a c : Facts) (name : List ℕ) (P E V : List ℕ → Type 0) (damaged large : Type 0) → ((file : List ℕ) → P file → damaged → E file) → ((file : List ℕ) → P file → large → V file)
+    → c.failures ≡ a.failures → Finds a c name P → RefusesBlock e damaged large → Refuses (table_refusal e) a c name E V
+refuses_block read_error.Memory a c name P E V damaged large f g s found h = s
+refuses_block (read_error.Corrupt what) a c name P E V damaged large f g s found h = known a c name P E (λ file p. f file p h) found
+refuses_block (read_error.Unsupported what) a c name P E V damaged large f g s found h = known a c name P V (λ file p. g file p h) found
 
 -- the same of bytes that are damaged
-pub refuses_damaged : (e : ReadError) (a c : Facts) (name : List ℕ) (P R : List ℕ → Type 0) (damaged : Type 0) → ((file : List ℕ) → P file → damaged → R file)
-    → Finds a c name P → RefusesOnly e damaged → Refuses (table_refusal e) a c name R
-refuses_damaged read_error.Memory a c name P R damaged f found h = tt
-refuses_damaged (read_error.Corrupt what) a c name P R damaged f found h = known a c name P R (λ file p. f file p h) found
-refuses_damaged (read_error.Unsupported what) a c name P R damaged f found h = absurd h
+pub refuses_damaged : (e : ReadError) (a c : Facts) (name : List ℕ) (P E V : List ℕ → Type 0) (damaged : Type 0) → ((file : List ℕ) → P file → damaged → E file)
+    → c.failures ≡ a.failures → Finds a c name P → RefusesOnly e damaged → Refuses (table_refusal e) a c name E V
+refuses_damaged read_error.Memory a c name P E V damaged f s found h = s
+refuses_damaged (read_error.Corrupt what) a c name P E V damaged f s found h = known a c name P E (λ file p. f file p h) found
+refuses_damaged (read_error.Unsupported what) a c name P E V damaged f s found h = absurd h
 
 pub block_refuses : (e : ReadError) (damaged ruined large : Type 0) → (damaged → ruined) → RefusesBlock e damaged large → RefusesBlock e ruined large
 block_refuses read_error.Memory damaged ruined large f h = tt
@@ -110,12 +105,13 @@ finds_three a b d e name P Q R h k l p q r =
     (finds_both a e name P Q (λ (file : List ℕ). P file × Q file) (λ file x y. (x, y)) first second) third
 
 -- a refusal by the last of two calls
-pub refuses_later : (e : DbError) (a b c : Facts) (name : List ℕ) (P Q : List ℕ → Type 0) → ((file : List ℕ) → P file → Q file) → Reads a b → Reads b c → Refuses e b c name P → Refuses e a c name Q
-refuses_later OutOfMemory a b c name P Q f h k none = tt
-refuses_later Io a b c name P Q f h k none = omega (arith, h.failures, none)
-refuses_later (Corrupt kind what) a b c name P Q f h k none = λ t file there. f file (none t file (file_on a b name file h (k.faithful t) there))
-refuses_later (Unsupported what) a b c name P Q f h k none = λ t file there. f file (none t file (file_on a b name file h (k.faithful t) there))
-refuses_later _ a b c name P Q f h k none = absurd none
+pub refuses_later : (e : DbError) (a b c : Facts) (name : List ℕ) (D E U V : List ℕ → Type 0) → ((file : List ℕ) → D file → E file) → ((file : List ℕ) → U file → V file)
+    → b.failures ≡ a.failures → Reads a b → Reads b c → Refuses e b c name D U → Refuses e a c name E V
+refuses_later OutOfMemory a b c name D E U V f g s h k none = none ∙ s
+refuses_later Io a b c name D E U V f g s h k none = omega (arith, h.failures, none)
+refuses_later (Corrupt kind what) a b c name D E U V f g s h k none = λ t file there. f file (none t file (file_on a b name file h (k.faithful t) there))
+refuses_later (Unsupported what) a b c name D E U V f g s h k none = λ t file there. g file (none t file (file_on a b name file h (k.faithful t) there))
+refuses_later _ a b c name D E U V f g s h k none = absurd none
 
 pub reads_none : (a : Facts) → Reads a a
 reads_none a = record { faithful = λ t. t; files = λ t. refl; failures = omega arith; denials = refl }

@@ -112,9 +112,10 @@ AnyLong (handle ∷ handles) = IsLong handle ⊎ AnyLong handles
 abbrev pub IsOversized : (cmp : List ℕ → List ℕ → Ordering) (file : List ℕ) (frame : Frame) → IsFrame cmp file frame → Type 0
 IsOversized cmp file frame is = AnyLong (is.metaindex ∷ is.index ∷ handles_of is.filter_handle)
 
--- a table that is open: the name of its file, and what was read of it
+-- a table that is open: the name of its file, how many bytes stand before the footer, and what was read of it
 pub record Opened : Type 0 where
   pub name : List ℕ
+  pub before : ℕ
   pub frame : Frame
 
 -- ---- the filter's answers

@@ -31,14 +31,14 @@ Finds old new name is = IsTrue new.faithful → (file : List ℕ) × HasFile old
 abbrev pub Answers : Facts → Facts → List ℕ → (List ℕ → Type 0) → Type 0
 Answers old new name is = IsTrue new.faithful → (file : List ℕ) → HasFile old name file → is file
 
--- Why a file isn't read: out of memory, since the store failed, or, of a faithful store, since the file isn't
--- there or this is so of its bytes.
-abbrev pub Refuses : DbError → Facts → Facts → List ℕ → (List ℕ → Type 0) → Type 0
-Refuses OutOfMemory old new name is = Unit {0}
-Refuses Io old new name is = old.failures < new.failures
-Refuses (Corrupt file what) old new name is = IsTrue new.faithful → (file : List ℕ) → HasFile old name file → is file
-Refuses (Unsupported what) old new name is = IsTrue new.faithful → (file : List ℕ) → HasFile old name file → is file
-Refuses e old new name is = ⊥
+-- Why a file isn't read. Out of memory, while no call of the store failed, or since one failed; Corrupt, where of a
+-- faithful store the file isn't there or is damaged; Unsupported, where it isn't there or isn't supported.
+abbrev pub Refuses : DbError → Facts → Facts → List ℕ → (List ℕ → Type 0) → (List ℕ → Type 0) → Type 0
+Refuses OutOfMemory old new name damaged unsupported = new.failures ≡ old.failures
+Refuses Io old new name damaged unsupported = old.failures < new.failures
+Refuses (Corrupt file what) old new name damaged unsupported = Answers old new name damaged
+Refuses (Unsupported what) old new name damaged unsupported = Answers old new name unsupported
+Refuses e old new name damaged unsupported = ⊥
 
 -- the refusal that stands for one of the store
 abbrev pub refusal_of : StoreError → DbError

@@ -15,9 +15,13 @@ IsNumber bytes n = IsVarint bytes n × (n < 2 ^ 64)
 abbrev pub IsHandle : List ℕ → Handle → Type 0
 IsHandle bytes handle = Pair IsNumber IsNumber bytes (handle.offset, handle.size)
 
--- behind a block stand its type, 0, and the stored checksum of block and type
+-- behind a block stand its type, and the stored checksum of block and type
+abbrev pub trailer_of_type : ℕ → List ℕ → List ℕ
+trailer_of_type kind block = kind ∷ fixed32 (masked (checksum (block ++ kind ∷ [])))
+
+-- the type of a block that isn't compressed is 0
 abbrev pub trailer_of : List ℕ → List ℕ
-trailer_of block = 0 ∷ fixed32 (masked (checksum (block ++ 0 ∷ [])))
+trailer_of block = trailer_of_type 0 block
 
 -- a block as a file has it
 abbrev pub stored : List ℕ → List ℕ

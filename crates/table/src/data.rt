@@ -5,8 +5,8 @@ ghost use Rattle.std.specs.List.{flat_map};
 ghost use Rattle.block.specs.Block.{IsBlock, Refuses as RefusesBlock};
 ghost use Rattle.ikey.specs.Below.{IsBelowInternal};
 ghost use Rattle.ikey.specs.Entries.{Pair};
-ghost use Rattle.table.specs.Frame.{Frame, IsFrame, IsLong, AnyLong};
 ghost use Rattle.table.specs.Reading.{Reads, Finds, Answers, Refuses};
+ghost use Rattle.table.specs.Refusals.{IsDamaged, IsUnsupported, IsOfOne};
 ghost use Rattle.table.specs.Table.{HasBlock, AreData, IsTable, ArePairs};
 ghost use Rattle.table.specs.Views.{pairs_of};
 ghost use Rattle.table.specs.declared.handle.Place.{Place as PlaceValue};
@@ -30,8 +30,9 @@ pub fn read_data<K: KeyOrder, S: Store>(
 ) -> Result<Block<Internal<K>>, DbError>
     ensures reads { Reads (S.facts store.old) (S.facts store.new) }
     ensures found { IfOk result (λ block. Finds (S.facts store.old) (S.facts store.new) name.now (λ file. HasBlock K.cmp file handle block.pairs)) }
+    ensures stood { OnOk result ((S.facts store.new).failures ≡ (S.facts store.old).failures) }
     ensures refused { IfErr result (λ e. Refuses e (S.facts store.old) (S.facts store.new) name.now
-        (λ file. (pairs : List Pair) → HasBlock K.cmp file handle pairs → IsLong handle)) }
+        (λ file. IsDamaged K.cmp file handle) (λ file. IsUnsupported file handle)) }
 {
     let bytes = read_stored(alloc, store, name, known, handle)?;
     match Block::<Internal<K>>::open(alloc, bytes) {
@@ -51,8 +52,9 @@ pub fn read_all<K: KeyOrder, S: Store>(
     ensures reads { Reads (S.facts store.old) (S.facts store.new) }
     ensures found { IfOk result (λ found. Answers (S.facts store.old) (S.facts store.new) name.now
         (λ file. (blocks : List (List Pair)) → AreData K.cmp file places.now blocks → pairs_of found.items ≡ flat_map (λ (pairs : List Pair). pairs) blocks)) }
+    ensures stood { OnOk result ((S.facts store.new).failures ≡ (S.facts store.old).failures) }
     ensures refused { IfErr result (λ e. Refuses e (S.facts store.old) (S.facts store.new) name.now
-        (λ file. (blocks : List (List Pair)) → AreData K.cmp file places.now blocks → AnyLong (map (λ (place : PlaceValue). place.handle) places.now))) }
+        (λ file. IsOfOne (IsDamaged K.cmp file) places.now) (λ file. IsOfOne (IsUnsupported file) places.now)) }
 {
     let mut found = Vec::new(alloc);
     for place in places {

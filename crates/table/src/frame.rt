@@ -1,6 +1,6 @@
 //! The end of a table file, read from a store.
 
-ghost use Rattle.std.specs.Prelude.{◌≡◌, ℕ, List, IfOk, IfErr};
+ghost use Rattle.std.specs.Prelude.{◌≡◌, ◌+◌, ℕ, List, length, IfOk, IfErr, OnOk};
 ghost use Rattle.table.specs.Frame.{HasFooter};
 ghost use Rattle.table.specs.Reading.{Reads, Finds, Refuses};
 ghost use Rattle.table.specs.declared.handle.Handle.{Handle as HandleValue};
@@ -23,8 +23,10 @@ pub struct Ends {
 pub fn read_ends<S: Store>(alloc: Global, store: &mut S, name: &str) -> Result<Ends, DbError>
     ensures reads { Reads (S.facts store.old) (S.facts store.new) }
     ensures found { IfOk result (λ ends. Finds (S.facts store.old) (S.facts store.new) name.now (λ file. HasFooter file ends.before ends.footer.metaindex ends.footer.index)) }
+    ensures before { IfOk result (λ ends. Finds (S.facts store.old) (S.facts store.new) name.now (λ file. ends.before + 48 ≡ length file)) }
+    ensures stood { OnOk result ((S.facts store.new).failures ≡ (S.facts store.old).failures) }
     ensures refused { IfErr result (λ e. Refuses e (S.facts store.old) (S.facts store.new) name.now
-        (λ file. (before : ℕ) (metaindex index : HandleValue) → HasFooter file before metaindex index → ⊥)) }
+        (λ file. (before : ℕ) (metaindex index : HandleValue) → HasFooter file before metaindex index → ⊥) (λ file. ⊥)) }
 {
     let len = file_length(store, name)?;
     if len < FOOTER_LENGTH as u64 {

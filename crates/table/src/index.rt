@@ -1,12 +1,13 @@
 //! The index, which bounds and finds the data blocks (LevelDB's `doc/table_format.md`, "index block").
 
-ghost use Rattle.std.specs.Prelude.{◌≡◌, ◌<◌, ◌^◌, ℕ, List, length, IfOk, IfErr};
+ghost use Rattle.std.specs.Prelude.{◌≡◌, ◌<◌, ◌^◌, ℕ, List, length, IfOk, IfErr, OnOk};
 ghost use Rattle.coding.specs.Errors.{RefusesOnly};
 ghost use Rattle.block.specs.Block.{IsBlock, Refuses as RefusesBlock};
 ghost use Rattle.ikey.specs.Below.{IsBelowInternal};
 ghost use Rattle.ikey.specs.Entries.{Pair};
-ghost use Rattle.table.specs.Frame.{ArePlaces, HasIndex, IsLong};
+ghost use Rattle.table.specs.Frame.{ArePlaces, HasIndex};
 ghost use Rattle.table.specs.Reading.{Reads, Finds, Refuses};
+ghost use Rattle.table.specs.Refusals.{IsUnsupported};
 ghost use Rattle.table.specs.declared.handle.Place.{Place as PlaceValue};
 
 use crate::handle::{Handle, Place, whole_handle};
@@ -59,9 +60,10 @@ pub fn read_places<K: KeyOrder, S: Store>(
     index: Handle,
 ) -> Result<Vec<Place>, DbError>
     ensures reads { Reads (S.facts store.old) (S.facts store.new) }
-    ensures found { IfOk result (λ places. Finds (S.facts store.old) (S.facts store.new) name.now (λ file. HasIndex K.cmp file index places.items)) }
+    ensures found { IfOk result (λ places. Finds (S.facts store.old) (S.facts store.new) name.now (λ file. HasIndex K.cmp file index places.items × (IsUnsupported file index → ⊥))) }
+    ensures stood { OnOk result ((S.facts store.new).failures ≡ (S.facts store.old).failures) }
     ensures refused { IfErr result (λ e. Refuses e (S.facts store.old) (S.facts store.new) name.now
-        (λ file. (places : List PlaceValue) → HasIndex K.cmp file index places → IsLong index)) }
+        (λ file. ((places : List PlaceValue) → HasIndex K.cmp file index places → ⊥) × (IsUnsupported file index → ⊥)) (λ file. IsUnsupported file index)) }
 {
     let bytes = read_stored(alloc, store, name, known, index)?;
     match open_places::<K>(alloc, bytes) {

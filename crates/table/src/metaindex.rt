@@ -1,13 +1,14 @@
 //! The metaindex, which names the filter block (LevelDB's `doc/table_format.md`, "metaindex").
 
-ghost use Rattle.std.specs.Prelude.{◌≡◌, ◌<◌, ◌^◌, ◌⊎◌, ◌∷◌, ℕ, List, Option, length, IfOk, IfErr};
+ghost use Rattle.std.specs.Prelude.{◌≡◌, ◌<◌, ◌^◌, ℕ, List, Option, length, IfOk, IfErr, OnOk};
 ghost use Rattle.coding.specs.Errors.{RefusesOnly};
 ghost use Rattle.block.specs.Block.{IsBlock, Refuses as RefusesBlock};
 ghost use Rattle.filter.specs.Blocks.{IsFilterBlock};
 ghost use Rattle.ikey.specs.Below.{IsBelowPlain};
 ghost use Rattle.ikey.specs.Entries.{Pair};
-ghost use Rattle.table.specs.Frame.{NamesFilter, HasMetaindex, HasFilter, IsLong, AnyLong, handles_of};
+ghost use Rattle.table.specs.Frame.{NamesFilter, HasMetaindex, HasFilter};
 ghost use Rattle.table.specs.Reading.{Reads, Finds, Refuses};
+ghost use Rattle.table.specs.Refusals.{IsUnsupported, IsFilterUnsupported};
 ghost use Rattle.table.specs.Stored.{IsStored};
 ghost use Rattle.table.specs.Views.{pairs_of};
 ghost use Rattle.table.specs.declared.handle.Handle.{Handle as HandleValue};
@@ -63,9 +64,11 @@ fn read_metaindex<S: Store>(
     metaindex: Handle,
 ) -> Result<Option<Handle>, DbError>
     ensures reads { Reads (S.facts store.old) (S.facts store.new) }
-    ensures found { IfOk result (λ filter. Finds (S.facts store.old) (S.facts store.new) name.now (λ file. HasMetaindex file metaindex filter)) }
+    ensures found { IfOk result (λ filter. Finds (S.facts store.old) (S.facts store.new) name.now (λ file. HasMetaindex file metaindex filter × (IsUnsupported file metaindex → ⊥))) }
+    ensures stood { OnOk result ((S.facts store.new).failures ≡ (S.facts store.old).failures) }
     ensures refused { IfErr result (λ e. Refuses e (S.facts store.old) (S.facts store.new) name.now
-        (λ file. (filter : Option HandleValue) → HasMetaindex file metaindex filter → IsLong metaindex)) }
+        (λ file. ((filter : Option HandleValue) → HasMetaindex file metaindex filter → ⊥) × (IsUnsupported file metaindex → ⊥))
+        (λ file. IsUnsupported file metaindex)) }
 {
     let bytes = read_stored(alloc, store, name, known, metaindex)?;
     match named_filter(alloc, bytes) {
@@ -83,9 +86,11 @@ fn read_filter_block<S: Store>(
     handle: Handle,
 ) -> Result<FilterBlock, DbError>
     ensures reads { Reads (S.facts store.old) (S.facts store.new) }
-    ensures found { IfOk result (λ filter. Finds (S.facts store.old) (S.facts store.new) name.now (λ file. IsStored file handle filter × IsFilterBlock filter)) }
+    ensures found { IfOk result (λ filter. Finds (S.facts store.old) (S.facts store.new) name.now (λ file. IsStored file handle filter × IsFilterBlock filter × (IsUnsupported file handle → ⊥))) }
+    ensures stood { OnOk result ((S.facts store.new).failures ≡ (S.facts store.old).failures) }
     ensures refused { IfErr result (λ e. Refuses e (S.facts store.old) (S.facts store.new) name.now
-        (λ file. (filter : List ℕ) → IsStored file handle filter × IsFilterBlock filter → IsLong handle)) }
+        (λ file. ((filter : List ℕ) → IsStored file handle filter × IsFilterBlock filter → ⊥) × (IsUnsupported file handle → ⊥))
+        (λ file. IsUnsupported file handle)) }
 {
     let bytes = read_stored(alloc, store, name, known, handle)?;
     match FilterBlock::open(bytes) {
@@ -105,10 +110,11 @@ pub fn read_filter<S: Store>(
 ) -> Result<(Option<Handle>, Option<FilterBlock>), DbError>
     ensures reads { Reads (S.facts store.old) (S.facts store.new) }
     ensures found { IfOk result (λ found. Finds (S.facts store.old) (S.facts store.new) name.now
-        (λ file. HasMetaindex file metaindex found.0 × HasFilter file found.0 found.1)) }
+        (λ file. HasMetaindex file metaindex found.0 × HasFilter file found.0 found.1 × (IsFilterUnsupported file metaindex → ⊥))) }
+    ensures stood { OnOk result ((S.facts store.new).failures ≡ (S.facts store.old).failures) }
     ensures refused { IfErr result (λ e. Refuses e (S.facts store.old) (S.facts store.new) name.now
-        (λ file. (handle : Option HandleValue) (filter : Option (List ℕ)) → HasMetaindex file metaindex handle × HasFilter file handle filter
-        → AnyLong (metaindex ∷ handles_of handle))) }
+        (λ file. ((handle : Option HandleValue) (filter : Option (List ℕ)) → HasMetaindex file metaindex handle × HasFilter file handle filter → ⊥)
+        × (IsFilterUnsupported file metaindex → ⊥)) (λ file. IsFilterUnsupported file metaindex)) }
 {
     let Some(handle) = read_metaindex(alloc, store, name, known, metaindex)? else {
         return Ok((None, None));

@@ -1,6 +1,8 @@
 //! Reading parts of a table file from a store.
 
-ghost use Rattle.std.specs.Prelude.{◌≡◌, ◌<◌, ◌≤◌, ◌+◌, ◌^◌, ℕ, List, length, take, drop, IfOk, IfErr, MatchBool, IsTrue};
+ghost use Rattle.std.specs.Prelude.{◌≡◌, ◌<◌, ◌≤◌, ◌+◌, ◌^◌, ℕ, List, length, take, drop, IfOk, IfErr, OnOk, MatchBool, IsTrue};
+ghost use Rattle.block.specs.Block.{Refuses as RefusesBlock};
+ghost use Rattle.table.specs.Refusals.{IsUnsupported};
 ghost use Rattle.table.specs.Reading.{Reads, Finds, Refuses, refusal_of, table_refusal};
 ghost use Rattle.table.specs.Stored.{IsStored, end_of};
 
@@ -37,7 +39,8 @@ pub fn table_refusal(e: ReadError) -> DbError
 pub fn file_length<S: Store>(store: &mut S, name: &str) -> Result<u64, DbError>
     ensures reads { Reads (S.facts store.old) (S.facts store.new) }
     ensures found { IfOk result (λ len. Finds (S.facts store.old) (S.facts store.new) name.now (λ file. len ≡ length file)) }
-    ensures refused { IfErr result (λ e. Refuses e (S.facts store.old) (S.facts store.new) name.now (λ file. ⊥)) }
+    ensures stood { OnOk result ((S.facts store.new).failures ≡ (S.facts store.old).failures) }
+    ensures refused { IfErr result (λ e. Refuses e (S.facts store.old) (S.facts store.new) name.now (λ file. ⊥) (λ file. ⊥)) }
 {
     match store.len(name) {
         Ok(len) => Ok(len),
@@ -56,7 +59,8 @@ pub fn read_part<S: Store>(
     ensures reads { Reads (S.facts store.old) (S.facts store.new) }
     ensures length { IfOk result (λ bytes. length bytes.items ≡ count) }
     ensures found { IfOk result (λ bytes. Finds (S.facts store.old) (S.facts store.new) name.now (λ file. bytes.items ≡ take count (drop offset file))) }
-    ensures refused { IfErr result (λ e. Refuses e (S.facts store.old) (S.facts store.new) name.now (λ file. length file < offset + count)) }
+    ensures stood { OnOk result ((S.facts store.new).failures ≡ (S.facts store.old).failures) }
+    ensures refused { IfErr result (λ e. Refuses e (S.facts store.old) (S.facts store.new) name.now (λ file. length file < offset + count) (λ file. ⊥)) }
 {
     match store.read_at(alloc, name, offset, count) {
         Ok(bytes) => {
@@ -81,8 +85,10 @@ pub fn read_stored<S: Store>(
 ) -> Result<Vec<u8>, DbError>
     ensures reads { Reads (S.facts store.old) (S.facts store.new) }
     ensures found { IfOk result (λ block. Finds (S.facts store.old) (S.facts store.new) name.now (λ file. IsStored file handle block.items)) }
+    ensures short { IfOk result (λ block. length block.items ≤ 2 ^ 30) }
+    ensures stood { OnOk result ((S.facts store.new).failures ≡ (S.facts store.old).failures) }
     ensures refused { IfErr result (λ e. Refuses e (S.facts store.old) (S.facts store.new) name.now
-        (λ file. (block : List ℕ) → IsStored file handle block → 2 ^ 30 < handle.size)) }
+        (λ file. ((block : List ℕ) → IsStored file handle block → ⊥) × (IsUnsupported file handle → ⊥)) (λ file. IsUnsupported file handle)) }
 {
     let count = known_length(store, name, known, handle)?;
     let mut bytes = read_part(alloc, store, name, handle.offset, count)?;
@@ -103,8 +109,10 @@ fn known_length<S: Store>(
 ) -> Result<usize, DbError>
     ensures reads { Reads (S.facts store.old) (S.facts store.new) }
     ensures count { IfOk result (λ count. count ≡ handle.size + 5) }
+    ensures short { OnOk result (handle.size ≤ 2 ^ 30) }
+    ensures stood { OnOk result ((S.facts store.new).failures ≡ (S.facts store.old).failures) }
     ensures refused { IfErr result (λ e. Refuses e (S.facts store.old) (S.facts store.new) name.now
-        (λ file. end_of handle ≤ length file → 2 ^ 30 < handle.size)) }
+        (λ file. length file < end_of handle) (λ file. (end_of handle ≤ length file) × (2 ^ 30 < handle.size))) }
 {
     if let Ok(count) = stored_length(handle, known) {
         return Ok(count);
@@ -119,8 +127,9 @@ fn known_length<S: Store>(
 // How many bytes the block at a handle takes in a file of this length, with what stands behind it.
 fn stored_length(handle: Handle, len: u64) -> Result<usize, ReadError>
     ensures count { IfOk result (λ count. count ≡ handle.size + 5) }
-    ensures inside { IfOk result (λ _. end_of handle ≤ len) }
-    ensures refused { IfErr result (λ _. end_of handle ≤ len → 2 ^ 30 < handle.size) }
+    ensures inside { OnOk result (end_of handle ≤ len) }
+    ensures short { OnOk result (handle.size ≤ 2 ^ 30) }
+    ensures refused { IfErr result (λ e. RefusesBlock e (len < end_of handle) ((end_of handle ≤ len) × (2 ^ 30 < handle.size))) }
 {
     let room = len.saturating_sub(handle.offset);
     let trailer = TRAILER_LENGTH as u64;

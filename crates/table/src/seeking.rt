@@ -1,11 +1,11 @@
 //! Finding an entry by its key.
 
-ghost use Rattle.std.specs.Prelude.{◌≡◌, ◌<◌, ◌≤◌, ◌+◌, ℕ, List, length, map, slice_index_or, IfOk, IfErr};
+ghost use Rattle.std.specs.Prelude.{◌≡◌, ◌<◌, ◌≤◌, ◌+◌, ℕ, List, length, slice_index_or, IfOk, IfErr, OnOk};
 ghost use Rattle.std.specs.List.{flat_map};
 ghost use Rattle.ikey.specs.Below.{IsBelowInternal};
 ghost use Rattle.ikey.specs.Entries.{Pair};
-ghost use Rattle.table.specs.Frame.{IsLong, AnyLong};
 ghost use Rattle.table.specs.Reading.{Reads, Finds, Answers, Refuses};
+ghost use Rattle.table.specs.Refusals.{IsDamaged, IsUnsupported, IsOfOne};
 ghost use Rattle.table.specs.Seeking.{IsFirstOf, found_pair};
 ghost use Rattle.table.specs.Table.{HasBlock, AreData};
 ghost use Rattle.table.specs.declared.handle.Place.{Place as PlaceValue};
@@ -53,8 +53,9 @@ pub fn seek_from<K: KeyOrder, S: Store>(
     ensures found { IfOk result (λ found. Answers (S.facts store.old) (S.facts store.new) name.now
         (λ file. (blocks : List (List Pair)) → AreData K.cmp file places.now blocks
         → IsFirstOf (IsBelowInternal K.cmp) target.now (flat_map (λ (pairs : List Pair). pairs) blocks) (found_pair found))) }
+    ensures stood { OnOk result ((S.facts store.new).failures ≡ (S.facts store.old).failures) }
     ensures refused { IfErr result (λ e. Refuses e (S.facts store.old) (S.facts store.new) name.now
-        (λ file. (blocks : List (List Pair)) → AreData K.cmp file places.now blocks → AnyLong (map (λ (place : PlaceValue). place.handle) places.now))) }
+        (λ file. IsOfOne (IsDamaged K.cmp file) places.now) (λ file. IsOfOne (IsUnsupported file) places.now)) }
 {
     for place in places {
         let block = read_data::<K, S>(alloc, store, name, known, place.handle)?;

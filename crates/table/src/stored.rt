@@ -1,7 +1,8 @@
 //! Blocks as a file has them, with a type and a checksum behind each (LevelDB's `doc/table_format.md`).
 
-ghost use Rattle.std.specs.Prelude.{◌≡◌, ◌++◌, ℕ, List, length, IfOk, IfErr, OnOk};
-ghost use Rattle.table.specs.Stored.{trailer_of, stored};
+ghost use Rattle.std.specs.Prelude.{◌≡◌, ◌≢◌, ◌++◌, ℕ, List, length, IfOk, IfErr, OnOk};
+ghost use Rattle.block.specs.Block.{Refuses};
+ghost use Rattle.table.specs.Stored.{trailer_of, trailer_of_type, stored};
 
 use coding::{Damage, Feature, ReadError, crc32c, get_fixed32, mask, put_fixed32};
 use std::alloc::AllocError;
@@ -16,7 +17,8 @@ const UNCOMPRESSED: u8 = 0;
 /// type, so that a type is only believed where the bytes are undamaged.
 pub fn stored_block(bytes: &[u8]) -> Result<&[u8], ReadError>
     ensures found { IfOk result (λ block. bytes.now ≡ block.now ++ trailer_of block.now) }
-    ensures refused { IfErr result (λ _. (block : List ℕ) → bytes.now ≡ block ++ trailer_of block → ⊥) }
+    ensures refused { IfErr result (λ e. Refuses e ((kind : ℕ) (block : List ℕ) → bytes.now ≡ block ++ trailer_of_type kind block → ⊥)
+        ((kind : ℕ) × (block : List ℕ) × (kind ≢ 0) × (bytes.now ≡ block ++ trailer_of_type kind block))) }
 {
     if bytes.len() < TRAILER_LENGTH {
         return Err(ReadError::Corrupt(Damage::Length));

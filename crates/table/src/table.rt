@@ -2,6 +2,7 @@
 
 ghost use Rattle.table.specs.Table.{OneTable};
 
+use crate::checking::{admits, check_all};
 use crate::data::{read_all, read_data};
 use crate::frame::read_ends;
 use crate::handle::{Handle, Place};
@@ -36,14 +37,15 @@ impl<K: KeyOrder> Model for Table<K> {
 
     ghost Value = { Opened };
 
-    ghost view = { λ t. record { name = string_bytes t.name; frame = record { places = t.places.items; filter = t.filter } } };
+    ghost view = { λ t. record { name = string_bytes t.name; before = t.before; frame = record { places = t.places.items; filter = t.filter } } };
 }
 
 impl<K: KeyOrder> Table<K> {
-    ghost use Rattle.std.specs.Prelude.{◌≡◌, ◌<◌, ◌^◌, ℕ, List, Option, Some, None, IfOk, IfErr, MatchBool, length};
+    ghost use Rattle.std.specs.Prelude.{◌≡◌, ◌<◌, ◌+◌, ◌⊎◌, ℕ, List, Option, Some, None, IfOk, IfErr, OnOk, MatchBool, length};
     ghost use Rattle.filter.specs.Hash.{hash_of};
-    ghost use Rattle.table.specs.Frame.{Frame, IsFrame, IsOversized, TableAdmits, TableDenies, IsLong, AnyLong, handles};
+    ghost use Rattle.table.specs.Frame.{Frame, IsFrame, IsOversized, TableAdmits, TableDenies, AnyLong, handles};
     ghost use Rattle.table.specs.Reading.{Reads, Finds, Answers, Refuses};
+    ghost use Rattle.table.specs.Refusals.{IsDamaged, IsUnsupported, IsOfOne, IsOfOneFrom, IsWrong, AreEmpty, IsFrameDamaged, IsFrameUnsupported};
     ghost use Rattle.ikey.specs.Entries.{InternalEntry, Pair};
     ghost use Rattle.table.specs.Table.{HasBlock, IsTable, ArePairs};
     ghost use Rattle.ikey.specs.Keys.{Key, IsKey};
@@ -56,8 +58,12 @@ impl<K: KeyOrder> Table<K> {
         ensures reads { Reads (S.facts store.old) (S.facts store.new) }
         ensures name { IfOk result (λ table. table.name ≡ name.now) }
         ensures found { IfOk result (λ table. Finds (S.facts store.old) (S.facts store.new) name.now (λ file. IsFrame K.cmp file table.frame)) }
+        ensures before { IfOk result (λ table. Finds (S.facts store.old) (S.facts store.new) name.now (λ file. table.before + 48 ≡ length file)) }
+        ensures stood { OnOk result ((S.facts store.new).failures ≡ (S.facts store.old).failures) }
+        ensures told { IfErr result (λ e. Refuses e (S.facts store.old) (S.facts store.new) name.now (IsFrameDamaged K.cmp) IsFrameUnsupported) }
+        // A frame is refused only where one of its blocks is too long.
         ensures refused { IfErr result (λ e. Refuses e (S.facts store.old) (S.facts store.new) name.now
-            (λ file. (frame : Frame) (is : IsFrame K.cmp file frame) → IsOversized K.cmp file frame is)) }
+            (λ file. (frame : Frame) → IsFrame K.cmp file frame → ⊥) (λ file. (frame : Frame) (is : IsFrame K.cmp file frame) → IsOversized K.cmp file frame is)) }
     {
         let ends = read_ends(alloc, store, name)?;
         let (named, filter) = read_filter(alloc, store, name, ends.before, ends.footer.metaindex)?;
@@ -95,8 +101,9 @@ impl<K: KeyOrder> Table<K> {
     ) -> Result<Block<Internal<K>>, DbError>
         ensures reads { Reads (S.facts store.old) (S.facts store.new) }
         ensures found { IfOk result (λ block. Finds (S.facts store.old) (S.facts store.new) self.now.name (λ file. HasBlock K.cmp file handle block.pairs)) }
+        ensures stood { OnOk result ((S.facts store.new).failures ≡ (S.facts store.old).failures) }
         ensures refused { IfErr result (λ e. Refuses e (S.facts store.old) (S.facts store.new) self.now.name
-            (λ file. (pairs : List Pair) → HasBlock K.cmp file handle pairs → IsLong handle)) }
+            (λ file. IsDamaged K.cmp file handle) (λ file. IsUnsupported file handle)) }
     {
         read_data::<K, S>(alloc, store, &self.name, self.before, handle)
     }
@@ -107,13 +114,54 @@ impl<K: KeyOrder> Table<K> {
         ensures reads { Reads (S.facts store.old) (S.facts store.new) }
         ensures found { IfOk result (λ found. Answers (S.facts store.old) (S.facts store.new) self.now.name
             (λ file. (entries : List InternalEntry) → IsFrame K.cmp file self.now.frame → IsTable K.cmp file entries → ArePairs (pairs_of found.items) entries)) }
+        ensures stood { OnOk result ((S.facts store.new).failures ≡ (S.facts store.old).failures) }
+        ensures told { IfErr result (λ e. Refuses e (S.facts store.old) (S.facts store.new) self.now.name
+            (λ file. IsOfOne (IsDamaged K.cmp file) self.now.frame.places) (λ file. IsOfOne (IsUnsupported file) self.now.frame.places)) }
+        // A table is refused only where one of its blocks is too long.
         ensures refused { IfErr result (λ e. Refuses e (S.facts store.old) (S.facts store.new) self.now.name
+            (λ file. (entries : List InternalEntry) → IsFrame K.cmp file self.now.frame → IsTable K.cmp file entries → ⊥)
             (λ file. (entries : List InternalEntry) → IsFrame K.cmp file self.now.frame → IsTable K.cmp file entries → AnyLong (handles self.now.frame))) }
     {
         match read_all::<K, S>(alloc, store, &self.name, self.before, &self.places) {
             Ok(found) => Ok(found),
             Err(e) => Err(e),
         }
+    }
+
+    /// The entries as `entries`, with all else that makes the file a table: there is one at least, their keys are internal
+    /// keys, each is within the bounds of its block, and its filter admits it. Corrupt, where that isn't so, and
+    /// Corrupt and Unsupported as `read_block`.
+    pub fn check_entries<S: Store>(
+        &self,
+        alloc: Global,
+        store: &mut S,
+    ) -> Result<Vec<KeyValue>, DbError>
+        ensures reads { Reads (S.facts store.old) (S.facts store.new) }
+        ensures found { IfOk result (λ found. Answers (S.facts store.old) (S.facts store.new) self.now.name
+            (λ file. IsFrame K.cmp file self.now.frame → (entries : List InternalEntry) × IsTable K.cmp file entries × ArePairs (pairs_of found.items) entries)) }
+        ensures stood { OnOk result ((S.facts store.new).failures ≡ (S.facts store.old).failures) }
+        ensures told { IfErr result (λ e. Refuses e (S.facts store.old) (S.facts store.new) self.now.name
+            (λ file. IsWrong K.cmp file self.now.frame.filter None self.now.frame.places ⊎ AreEmpty K.cmp file self.now.frame.places)
+            (λ file. IsOfOne (IsUnsupported file) self.now.frame.places)) }
+        // A table is refused only where one of its blocks is too long.
+        ensures refused { IfErr result (λ e. Refuses e (S.facts store.old) (S.facts store.new) self.now.name
+            (λ file. (entries : List InternalEntry) → IsFrame K.cmp file self.now.frame → IsTable K.cmp file entries → ⊥)
+            (λ file. (entries : List InternalEntry) → IsFrame K.cmp file self.now.frame → IsTable K.cmp file entries → AnyLong (handles self.now.frame))) }
+        // Over any store there is an entry.
+        ensures sound { IfOk result (λ found. (0 < length found.items)) }
+    {
+        let found = check_all::<K, S>(
+            alloc,
+            store,
+            &self.name,
+            self.before,
+            &self.places,
+            &self.filter,
+        )?;
+        if found.is_empty() {
+            return Err(DbError::Corrupt(FileKind::Table, Damage::Missing));
+        }
+        Ok(found)
     }
 
     /// The first entry whose internal key isn't below the target, an internal key, as the bytes of its key and its
@@ -129,7 +177,13 @@ impl<K: KeyOrder> Table<K> {
         ensures found { IfOk result (λ found. Answers (S.facts store.old) (S.facts store.new) self.now.name
             (λ file. (entries : List InternalEntry) (key : Key) → IsFrame K.cmp file self.now.frame → IsTable K.cmp file entries → IsKey target.now key
             → (at : Option InternalEntry) × IsFirstFrom K.cmp key entries at × ArePairs (pairs_found found) (entry_list at))) }
+        ensures stood { OnOk result ((S.facts store.new).failures ≡ (S.facts store.old).failures) }
+        ensures told { IfErr result (λ e. Refuses e (S.facts store.old) (S.facts store.new) self.now.name
+            (λ file. IsOfOneFrom K.cmp target.now (IsDamaged K.cmp file) self.now.frame.places)
+            (λ file. IsOfOneFrom K.cmp target.now (IsUnsupported file) self.now.frame.places)) }
+        // A table is refused only where one of its blocks is too long.
         ensures refused { IfErr result (λ e. Refuses e (S.facts store.old) (S.facts store.new) self.now.name
+            (λ file. (entries : List InternalEntry) → IsFrame K.cmp file self.now.frame → IsTable K.cmp file entries → ⊥)
             (λ file. (entries : List InternalEntry) → IsFrame K.cmp file self.now.frame → IsTable K.cmp file entries → AnyLong (handles self.now.frame))) }
     {
         let start = first_place::<K>(&self.places, target);
@@ -146,10 +200,7 @@ impl<K: KeyOrder> Table<K> {
         ensures { MatchBool result (TableAdmits self.now.frame.filter handle.offset (hash_of key.now))
             (TableDenies self.now.frame.filter handle.offset (hash_of key.now)) }
     {
-        match &self.filter {
-            None => true,
-            Some(filter) => filter.may_hold(handle.offset, key),
-        }
+        admits(&self.filter, handle.offset, key)
     }
 }
 

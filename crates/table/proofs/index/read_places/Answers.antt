@@ -1,19 +1,40 @@
-use Rattle.std.proofs.Common.{◌<◌, ◌^◌, ℕ, List, length}
+use Rattle.std.proofs.Common.{◌<◌, ◌≤◌, ◌^◌, ℕ, List, length, arith}
+use Rattle.std.proofs.lemmas.Result.{err_from_is_err_and}
 use Rattle.block.specs.Block.{IsBlock}
 use Rattle.ikey.specs.Below.{IsBelowInternal}
 use Rattle.ikey.specs.Entries.{Pair}
-use Rattle.table.specs.Frame.{ArePlaces, HasIndex, IsLong}
+use Rattle.table.specs.Frame.{ArePlaces}
+use Rattle.table.specs.Refusals.{IsUnsupported}
 use Rattle.table.specs.Stored.{IsStored}
 use Rattle.table.specs.declared.handle.Place.{Place}
-use Rattle.table.proofs.FrameParts.{no_index, too_long}
-use Rattle.table.proofs.Steps.{refuses_block}
+use Rattle.table.proofs.FrameParts.{NoIndex, IndexHere, no_index}
+use Rattle.table.proofs.Steps.{refuses_block, refuses_more, finds_more}
+use Rattle.table.proofs.StoredBlocks.{supported}
 use Rattle.table.proofs.index.read_places.Goals as goal
+
+pub returns-in_err-bytes-clause-refused : goal.returns-in_err-bytes-clause-refused
+returns-in_err-bytes-clause-refused g c =
+    let p = err_from_is_err_and c.from_residual.result c.from_residual.ensures.1 in
+    let index = c.args.index in
+    rw (p.1, p.2)
+    (refuses_more _ _ _ c.args.name.now (λ (file : List ℕ). ((block : List ℕ) → IsStored file index block → ⊥) × (IsUnsupported file index → ⊥)) (NoIndex g.K.KeyOrder.cmp index)
+    (λ (file : List ℕ). IsUnsupported file index) (λ (file : List ℕ). IsUnsupported file index) (λ file none. (λ places h. none.0 h.0 h.2, none.1)) (λ file u. u) c.in_err-bytes.ensures.refused)
+
+pub returns-in-Ok-clause-found : goal.returns-in-Ok-clause-found
+returns-in-Ok-clause-found g c =
+    let bytes : List ℕ = c.in_ok-bytes.bytes.items in
+    let index = c.args.index in
+    let h = c.in-Ok.ensures.found in
+    finds_more (g.S.Store.facts c.args.store.now) (g.S.Store.facts c.read_stored.new.store) c.args.name.now (λ (file : List ℕ). IsStored file index bytes) (IndexHere g.K.KeyOrder.cmp index c.in-Ok.places.items)
+    (λ file stored. ((bytes, h.0, stored, h.1, h.2), supported file bytes index stored c.in_ok-bytes.ensures.short)) c.in_ok-bytes.ensures.found
 
 pub returns-in-Err-clause-refused : goal.returns-in-Err-clause-refused
 returns-in-Err-clause-refused g c =
     let bytes : List ℕ = c.in_ok-bytes.bytes.items in
+    let short : length bytes ≤ 2 ^ 30 = c.in_ok-bytes.ensures.short in
+    let index = c.args.index in
     rw c.table_refusal.ensures
-    (refuses_block c.in-Err.e _ _ c.args.name.now (λ (file : List ℕ). IsStored file c.args.index bytes) (λ (file : List ℕ). (places : List Place) → HasIndex g.K.KeyOrder.cmp file c.args.index places → IsLong c.args.index)
+    (refuses_block c.in-Err.e _ _ c.args.name.now (λ (file : List ℕ). IsStored file index bytes) (NoIndex g.K.KeyOrder.cmp index) (λ (file : List ℕ). IsUnsupported file index)
     ((pairs : List Pair) (places : List Place) → IsBlock (IsBelowInternal g.K.KeyOrder.cmp) bytes pairs → ArePlaces pairs places → ⊥) (2 ^ 30 < length bytes)
-    (λ file stored none. no_index g.K.KeyOrder.cmp file bytes c.args.index none stored) (λ file stored long places h. too_long file bytes c.args.index stored long)
-    c.in_ok-bytes.ensures.found c.in-Err.ensures.refused)
+    (λ file stored none. (no_index g.K.KeyOrder.cmp file bytes index none stored, supported file bytes index stored short)) (λ file stored long. absurd (omega (arith, short, long)))
+    c.in_ok-bytes.ensures.stood c.in_ok-bytes.ensures.found c.in-Err.ensures.refused)
