@@ -12,14 +12,14 @@ use Rattle.ikey.specs.Entries.{InternalEntry, Pair}
 use Rattle.ikey.specs.Keys.{Key, IsKey}
 use Rattle.table.specs.declared.handle.Handle.{Handle}
 use Rattle.table.specs.declared.handle.Place.{Place}
-use Rattle.table.specs.Building.{Building, AreInLine, AreEnded, IsPart}
+use Rattle.table.specs.Building.{Building, AddsHashes, AddsAllHashes, AreInLine, AreEnded, IsPart}
 use Rattle.table.specs.Frame.{Frame, IsFrame, AnyLong, filter_name}
 use Rattle.table.specs.Stored.{DoNotOverlap, AreApart, AreSeparate, stored, end_of}
 use Rattle.table.specs.Table.{ArePairs, AreBounds}
 use Rattle.table.specs.Writing.{AreEnds, IsTableOf}
 use Rattle.table.proofs.DataBlocks.{joined}
 use Rattle.table.proofs.Growing.{stored_here, data_on, length-stored}
-use Rattle.table.proofs.Hashed.{AddedLaw, all_admitted}
+use Rattle.table.proofs.Hashed.{AddedLaw, all_admitted, all_hashed}
 use Rattle.table.proofs.Rising.{above_parts, all_above, all_to_last, last_append}
 
 -- what `filter` says of its blocks
@@ -185,6 +185,12 @@ module _ (cmp : List ℕ → List ℕ → Ordering) (order : IsTotalOrder cmp) (
   joined_rises : AreAbove (IsBelowInternal cmp) None (joined h.blocks)
   joined_rises = subst (AreAbove (IsBelowInternal cmp) None) (sym all_joined) h.rises
 
+  -- no hash is of the block at hand, which has no pair
+  every_hash : AddsAllHashes [] h.places h.blocks b.hashes
+  every_hash =
+      let none : b.hashes ≡ h.ended_hashes = subst (λ (v : List Pair). AddsHashes h.ended_hashes b.offset v b.hashes) no_block h.block_hashed in
+      subst (λ (g : List (List ℕ)). AddsAllHashes [] h.places h.blocks g) (sym none) h.hashed
+
   pub finished : is_some (last_key pairs) ≡ true → IsTableOf cmp (file ++ tail) pairs
   finished some =
       let entries = entries_of pairs h.keys in
@@ -200,8 +206,13 @@ module _ (cmp : List ℕ → List ℕ → Ordering) (order : IsTotalOrder cmp) (
           entries_are = subst (λ (v : List Pair). ArePairs v entries.0) (sym all_joined) entries.1;
           some = some_entries pairs entries.0 entries.1 some;
           rises = joined_rises;
-          admitted = all_admitted added b.hashes filter h.places h.blocks filters h.hashed;
+          admitted = all_admitted added b.hashes filter h.places h.blocks filters (all_hashed [] b.hashes h.places h.blocks every_hash);
         };
+        hashes = b.hashes;
+        hashed = every_hash;
+        filter = filter;
+        filter_is = refl;
+        filter_written = filter_is;
         ends_short = λ long.
             elim long [
               | inl one ↦ absurd (omega (arith, one, ends.metaindex_short))

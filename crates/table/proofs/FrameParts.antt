@@ -1,5 +1,5 @@
 -- The parts of a frame are what was read.
-use Rattle.std.proofs.Common.{◌≡◌, ◌<◌, ◌^◌, ℕ, List, [], ◌∷◌, ◌++◌, Option, Some, None, length, map, refl, sym, ap, ◌∙◌, subst, arith, inl, inr}
+use Rattle.std.proofs.Common.{◌≡◌, ℕ, List, [], ◌∷◌, ◌++◌, Option, Some, None, map, refl, sym, ap, ◌∙◌, subst, inl, inr}
 use Rattle.std.specs.declared.cmp.Ordering.{Ordering}
 use Rattle.block.proofs.BlockLaws.{same_block}
 use Rattle.block.specs.Block.{IsBlock}
@@ -9,7 +9,7 @@ use Rattle.ikey.specs.Entries.{Pair}
 use Rattle.table.specs.declared.handle.Handle.{Handle}
 use Rattle.table.specs.declared.handle.Place.{Place}
 use Rattle.table.specs.Stored.{IsStored, AreSeparate}
-use Rattle.table.specs.Frame.{HasFooter, HasMetaindex, HasFilter, HasIndex, NamesFilter, ArePlaces, IsLong, AnyLong, handles_of, Frame, IsFrame, IsOversized}
+use Rattle.table.specs.Frame.{HasFooter, HasMetaindex, HasFilter, HasIndex, NamesFilter, ArePlaces, AnyLong, handles_of, Frame, IsFrame, IsOversized}
 use Rattle.table.proofs.Footers.{one_footer}
 use Rattle.table.proofs.Handles.{one_handle}
 use Rattle.table.proofs.Metaindexes.{one_named}

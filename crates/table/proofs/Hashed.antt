@@ -6,11 +6,12 @@ use Rattle.std.proofs.Math.Seq.{get_or-append_seam}
 use Rattle.filter.specs.Blocks.{filter_index, BlockAdmits}
 use Rattle.filter.specs.Builder.{with_empty, with_hash, HasFilters}
 use Rattle.filter.specs.Hash.{hash_of}
+use Rattle.std.specs.List.{AllByRecursion}
 use Rattle.ikey.specs.Below.{same_key}
 use Rattle.ikey.specs.Entries.{Pair}
 use Rattle.ikey.specs.Keys.{Key, IsKey}
 use Rattle.table.specs.declared.handle.Place.{Place}
-use Rattle.table.specs.Building.{IsHashed, AreHashed, AreAllHashed}
+use Rattle.table.specs.Building.{AddsHashes, AddsAllHashes}
 use Rattle.table.specs.Table.{AdmitsAll, AreAdmitted}
 
 none_at : (n i : ℕ) → get_or {A = List ℕ} (replicate n []) i [] ≡ []
@@ -42,7 +43,20 @@ among_more group h new a = (a.0, omega (arith, a.1, length-append group (new ∷
 among_new : (group : List ℕ) (h : ℕ) → Among (group ++ h ∷ []) h
 among_new group h = (length group, omega (arith, length-append group (h ∷ [])), sym (get_or-append_seam group h [] 0))
 
-pub hashed_more : (groups : List (List ℕ)) (i new offset h : ℕ) → IsHashed groups offset h → IsHashed (with_hash groups i new) offset h
+-- the hash is among those of the filter that covers this offset
+abbrev IsHashed : List (List ℕ) → ℕ → ℕ → Type 0
+IsHashed hashes offset h = Among (get_or hashes (filter_index offset) []) h
+
+-- and so is that of each of these pairs' user keys
+abbrev AreHashed : List (List ℕ) → ℕ → List Pair → Type 0
+AreHashed hashes offset pairs = AllByRecursion (λ (pair : Pair). (key : Key) → IsKey pair.key key → IsHashed hashes offset (hash_of key.user)) pairs
+
+abbrev AreAllHashed : List (List ℕ) → List Place → List (List Pair) → Type 0
+AreAllHashed hashes [] blocks = Unit {0}
+AreAllHashed hashes (place ∷ places) [] = Unit {0}
+AreAllHashed hashes (place ∷ places) (pairs ∷ others) = AreHashed hashes place.handle.offset pairs × AreAllHashed hashes places others
+
+hashed_more : (groups : List (List ℕ)) (i new offset h : ℕ) → IsHashed groups offset h → IsHashed (with_hash groups i new) offset h
 hashed_more groups i new offset h a =
     elim (cases_eq (filter_index offset) i) [
       | inl same ↦ subst (λ (j : ℕ). Among (get_or (with_hash groups i new) j []) h) (sym same)
@@ -50,35 +64,54 @@ hashed_more groups i new offset h a =
       | inr other ↦ subst (λ (g : List ℕ). Among g h) (sym (with_at_other groups i (filter_index offset) new other)) a
     ]
 
-pub hashed_new : (groups : List (List ℕ)) (offset h : ℕ) → IsHashed (with_hash groups (filter_index offset) h) offset h
+hashed_new : (groups : List (List ℕ)) (offset h : ℕ) → IsHashed (with_hash groups (filter_index offset) h) offset h
 hashed_new groups offset h = subst (λ (g : List ℕ). Among g h) (sym (with_at_same groups (filter_index offset) h)) (among_new (get_or groups (filter_index offset) []) h)
 
-pub are_hashed_more : (groups : List (List ℕ)) (i new offset : ℕ) (pairs : List Pair) → AreHashed groups offset pairs → AreHashed (with_hash groups i new) offset pairs
-are_hashed_more groups i new offset [] h = tt
-are_hashed_more groups i new offset (pair ∷ pairs) h = (λ key is. hashed_more groups i new offset (hash_of key.user) (h.0 key is), are_hashed_more groups i new offset pairs h.1)
+-- what was hashed stays so
+adds_keep : (old new : List (List ℕ)) (at offset h : ℕ) (pairs : List Pair) → AddsHashes old at pairs new → IsHashed old offset h → IsHashed new offset h
+adds_keep old new at offset h [] e a = subst (λ (g : List (List ℕ)). IsHashed g offset h) (sym e) a
+adds_keep old new at offset h (pair ∷ pairs) e a =
+    adds_keep (with_hash old (filter_index at) (hash_of e.0.user)) new at offset h pairs e.2 (hashed_more old (filter_index at) (hash_of e.0.user) offset h a)
 
-pub all_hashed_more : (groups : List (List ℕ)) (i new : ℕ) (places : List Place) (blocks : List (List Pair)) → AreAllHashed groups places blocks → AreAllHashed (with_hash groups i new) places blocks
-all_hashed_more groups i new [] blocks h = tt
-all_hashed_more groups i new (place ∷ places) [] h = tt
-all_hashed_more groups i new (place ∷ places) (pairs ∷ blocks) h = (are_hashed_more groups i new place.handle.offset pairs h.0, all_hashed_more groups i new places blocks h.1)
+all_keep : (old new : List (List ℕ)) (offset h : ℕ) (places : List Place) (blocks : List (List Pair)) → AddsAllHashes old places blocks new → IsHashed old offset h → IsHashed new offset h
+all_keep old new offset h [] [] e a = subst (λ (g : List (List ℕ)). IsHashed g offset h) (sym e) a
+all_keep old new offset h [] (pairs ∷ blocks) e a = absurd e
+all_keep old new offset h (place ∷ places) [] e a = absurd e
+all_keep old new offset h (place ∷ places) (pairs ∷ blocks) e a = all_keep e.0 new offset h places blocks e.2 (adds_keep old e.0 place.handle.offset offset h pairs e.1 a)
 
-are_hashed_push : (groups : List (List ℕ)) (offset : ℕ) (pairs : List Pair) (pair : Pair) → AreHashed groups offset pairs → ((key : Key) → IsKey pair.key key → IsHashed groups offset (hash_of key.user)) → AreHashed groups offset (pairs ++ pair ∷ [])
-are_hashed_push groups offset [] pair h k = (k, tt)
-are_hashed_push groups offset (other ∷ pairs) pair h k = (h.0, are_hashed_push groups offset pairs pair h.1 k)
+-- what was added is hashed
+adds_hash : (old new : List (List ℕ)) (offset : ℕ) (pairs : List Pair) → AddsHashes old offset pairs new → AreHashed new offset pairs
+adds_hash old new offset [] e = tt
+adds_hash old new offset (pair ∷ pairs) e =
+    let more = with_hash old (filter_index offset) (hash_of e.0.user) in
+    let here : IsHashed new offset (hash_of e.0.user) = adds_keep more new offset offset (hash_of e.0.user) pairs e.2 (hashed_new old offset (hash_of e.0.user)) in
+    ((λ key is. subst (λ (k : Key). IsHashed new offset (hash_of k.user)) (same_key pair.key e.0 key e.1 is) here), adds_hash more new offset pairs e.2)
+
+stay_hashed : (old new : List (List ℕ)) (offset : ℕ) (pairs : List Pair) → ((h : ℕ) → IsHashed old offset h → IsHashed new offset h) → AreHashed old offset pairs → AreHashed new offset pairs
+stay_hashed old new offset [] f a = tt
+stay_hashed old new offset (pair ∷ pairs) f a = ((λ key is. f (hash_of key.user) (a.0 key is)), stay_hashed old new offset pairs f a.1)
+
+pub all_hashed : (old new : List (List ℕ)) (places : List Place) (blocks : List (List Pair)) → AddsAllHashes old places blocks new → AreAllHashed new places blocks
+all_hashed old new [] blocks e = tt
+all_hashed old new (place ∷ places) [] e = tt
+all_hashed old new (place ∷ places) (pairs ∷ blocks) e =
+    let offset = place.handle.offset in
+    (stay_hashed e.0 new offset pairs (λ h a. all_keep e.0 new offset h places blocks e.2 a) (adds_hash old e.0 offset pairs e.1), all_hashed e.0 new places blocks e.2)
 
 -- a pair whose user key goes into the filter
-pub hashed_push : (groups : List (List ℕ)) (offset : ℕ) (pairs : List Pair) (pair : Pair) (key : Key) → IsKey pair.key key → AreHashed groups offset pairs
-    → AreHashed (with_hash groups (filter_index offset) (hash_of key.user)) offset (pairs ++ pair ∷ [])
-hashed_push groups offset pairs pair key is h =
-    are_hashed_push (with_hash groups (filter_index offset) (hash_of key.user)) offset pairs pair (are_hashed_more groups (filter_index offset) (hash_of key.user) offset pairs h)
-    (λ other is_other. subst (λ (k : Key). IsHashed (with_hash groups (filter_index offset) (hash_of key.user)) offset (hash_of k.user)) (same_key pair.key key other is is_other) (hashed_new groups offset (hash_of key.user)))
+pub adds_push : (old new : List (List ℕ)) (offset : ℕ) (pairs : List Pair) (pair : Pair) (key : Key) → IsKey pair.key key → AddsHashes old offset pairs new
+    → AddsHashes old offset (pairs ++ pair ∷ []) (with_hash new (filter_index offset) (hash_of key.user))
+adds_push old new offset [] pair key is e = (key, is, ap (λ (g : List (List ℕ)). with_hash g (filter_index offset) (hash_of key.user)) e)
+adds_push old new offset (other ∷ pairs) pair key is e =
+    (e.0, e.1, adds_push (with_hash old (filter_index offset) (hash_of e.0.user)) new offset pairs pair key is e.2)
 
-pub all_hashed_push : (groups : List (List ℕ)) (places : List Place) (blocks : List (List Pair)) (place : Place) (pairs : List Pair) → AreAllHashed groups places blocks → AreHashed groups place.handle.offset pairs → length places ≡ length blocks
-    → AreAllHashed groups (places ++ place ∷ []) (blocks ++ pairs ∷ [])
-all_hashed_push groups [] [] place pairs h k e = (k, tt)
-all_hashed_push groups [] (other ∷ blocks) place pairs h k e = absurd (omega (arith, e))
-all_hashed_push groups (other ∷ places) [] place pairs h k e = absurd (omega (arith, e))
-all_hashed_push groups (other ∷ places) (others ∷ blocks) place pairs h k e = (h.0, all_hashed_push groups places blocks place pairs h.1 k (omega (arith, e)))
+-- a block that is ended
+pub all_pushed : (old hashes new : List (List ℕ)) (places : List Place) (blocks : List (List Pair)) (place : Place) (pairs : List Pair) → AddsAllHashes old places blocks hashes
+    → AddsHashes hashes place.handle.offset pairs new → AddsAllHashes old (places ++ place ∷ []) (blocks ++ pairs ∷ []) new
+all_pushed old hashes new [] [] place pairs e f = (new, subst (λ (g : List (List ℕ)). AddsHashes g place.handle.offset pairs new) e f, refl)
+all_pushed old hashes new [] (other ∷ blocks) place pairs e f = absurd e
+all_pushed old hashes new (other ∷ places) [] place pairs e f = absurd e
+all_pushed old hashes new (other ∷ places) (others ∷ blocks) place pairs e f = (e.0, e.1, all_pushed e.0 hashes new places blocks place pairs e.2 f)
 
 -- ---- what the filter block admits
 

@@ -20,7 +20,7 @@ use Rattle.table.specs.Steps.{IsPushed, IsEnded}
 use Rattle.table.specs.Stored.{stored, end_of}
 use Rattle.table.proofs.DataBlocks.{joined, joined_more}
 use Rattle.table.proofs.Growing.{stored_here, data_on, data_push, length-stored}
-use Rattle.table.proofs.Hashed.{all_hashed_more, hashed_push, all_hashed_push}
+use Rattle.table.proofs.Hashed.{adds_push, all_pushed}
 use Rattle.table.proofs.Indexes.{places_more}
 use Rattle.table.proofs.Rising.{last_push, last_append}
 
@@ -39,12 +39,6 @@ ended_push [] (other ∷ blocks) place pairs h e = absurd h
 ended_push (other ∷ places) [] place pairs h e = absurd h
 ended_push (other ∷ places) (others ∷ blocks) place pairs h e = (h.0, ended_push places blocks place pairs h.1 e)
 
-as_many : (places : List Place) (blocks : List (List Pair)) → AreEnded places blocks → length places ≡ length blocks
-as_many [] [] h = refl
-as_many [] (other ∷ blocks) h = absurd h
-as_many (place ∷ places) [] h = absurd h
-as_many (place ∷ places) (pairs ∷ blocks) h = omega (arith, as_many places blocks h.1)
-
 -- ---- before the first pair
 
 pub begun : (cmp : List ℕ → List ℕ → Ordering) (name : List ℕ) (block_bytes : ℕ) (created : Bool)
@@ -57,8 +51,9 @@ begun cmp name block_bytes created = record {
   line = refl;
   long = refl;
   ended = tt;
-  hashed = tt;
-  block_hashed = tt;
+  ended_hashes = [];
+  hashed = refl;
+  block_hashed = refl;
   all = refl;
   rises = tt;
   keys = tt;
@@ -78,6 +73,7 @@ created_part cmp b created file pairs h = record {
   line = h.line;
   long = h.long;
   ended = h.ended;
+  ended_hashes = h.ended_hashes;
   hashed = h.hashed;
   block_hashed = h.block_hashed;
   all = h.all;
@@ -101,8 +97,9 @@ pushed_part cmp b file pairs pair key rises is short h = record {
   line = h.line;
   long = h.long;
   ended = h.ended;
-  hashed = all_hashed_more b.hashes (filter_index b.offset) (hash_of key.user) h.places h.blocks h.hashed;
-  block_hashed = hashed_push b.hashes b.offset b.block pair key is h.block_hashed;
+  ended_hashes = h.ended_hashes;
+  hashed = h.hashed;
+  block_hashed = adds_push h.ended_hashes b.hashes b.offset b.block pair key is h.block_hashed;
   all = ap (λ (v : List Pair). v ++ pair ∷ []) h.all ∙ append_assoc (joined h.blocks) b.block (pair ∷ []);
   rises = above_push (IsBelowInternal cmp) None pairs pair h.rises (subst (λ (o : Option (List ℕ)). ForSome o (λ (last : List ℕ). IsBelowInternal cmp last pair.key)) (sym h.last) rises);
   keys = all_push (λ (p : Pair). (k : Key) × IsKey p.key k) pairs pair h.keys (key, is);
@@ -134,8 +131,9 @@ ended_part cmp old new before after file pairs e h =
       line = line_push 0 h.places place old.offset h.line refl short;
       long = omega (arith, h.long, length-append file (stored e.bytes), length-stored e.bytes);
       ended = ended_push h.places h.blocks place old.block h.ended e.key_is;
-      hashed = all_hashed_push old.hashes h.places h.blocks place old.block h.hashed h.block_hashed (as_many h.places h.blocks h.ended);
-      block_hashed = tt;
+      ended_hashes = old.hashes;
+      hashed = all_pushed [] h.ended_hashes old.hashes h.places h.blocks place old.block h.hashed h.block_hashed;
+      block_hashed = refl;
       all = h.all ∙ sym (append-nil (joined (h.blocks ++ old.block ∷ [])) ∙ joined_more h.blocks old.block);
       rises = h.rises;
       keys = h.keys;

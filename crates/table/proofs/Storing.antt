@@ -1,5 +1,5 @@
 -- What the calls that write a table do to the files of a store.
-use Rattle.std.proofs.Common.{Bool, true, false, cond, ◌≡◌, ◌≢◌, ◌⊎◌, ◌≤◌, ℕ, List, [], ◌++◌, take, Option, Some, Result, Ok, Err, IsTrue, inl, inr, refl, sym, ap, ◌∙◌, arith}
+use Rattle.std.proofs.Common.{Bool, true, false, cond, ◌≡◌, ◌≢◌, ◌⊎◌, ℕ, List, [], ◌++◌, take, Option, Some, Result, Ok, Err, IsTrue, inl, inr, refl, sym, ap, ◌∙◌, arith}
 use Rattle.std.specs.Cmp.{tied_itself}
 use Rattle.std.specs.Cmp.Lexicographic.{slice_cmp, nat_list_cmp_total}
 use Rattle.std.specs.Ordering.{is_eq, nat_cmp, eq_by_cmp}
@@ -109,22 +109,22 @@ writes_then a b c name h k = record {
 }
 
 pub refuses_more : (e : DbError) (old new : Facts) (P Q : Type 0) → (P → Q) → WriteRefuses e old new P → WriteRefuses e old new Q
-refuses_more OutOfMemory old new P Q f h = tt
+refuses_more OutOfMemory old new P Q f h = h
 refuses_more Io old new P Q f h = h
 refuses_more (Unsupported what) old new P Q f h = f h
 refuses_more _ old new P Q f h = absurd h
 
-pub refuses_later : (e : DbError) (a b c : Facts) (P Q : Type 0) → (P → Q) → a.failures ≤ b.failures → WriteRefuses e b c P → WriteRefuses e a c Q
-refuses_later OutOfMemory a b c P Q f le h = tt
-refuses_later Io a b c P Q f le h = omega (arith, le, h)
-refuses_later (Unsupported what) a b c P Q f le h = f h
-refuses_later _ a b c P Q f le h = absurd h
+pub refuses_later : (e : DbError) (a b c : Facts) (P Q : Type 0) → (P → Q) → b.failures ≡ a.failures → WriteRefuses e b c P → WriteRefuses e a c Q
+refuses_later OutOfMemory a b c P Q f same h = h ∙ same
+refuses_later Io a b c P Q f same h = omega (arith, same, h)
+refuses_later (Unsupported what) a b c P Q f same h = f h
+refuses_later _ a b c P Q f same h = absurd h
 
 -- a refusal before the store is called
-pub gives_up : (e : DbError) (old new : Facts) (P Q : Type 0) → (P → Q) → GivesUpOnly e P → WriteRefuses e old new Q
-gives_up OutOfMemory old new P Q f h = tt
-gives_up (Unsupported what) old new P Q f h = f h
-gives_up _ old new P Q f h = absurd h
+pub gives_up : (e : DbError) (old new : Facts) (P Q : Type 0) → (P → Q) → new.failures ≡ old.failures → GivesUpOnly e P → WriteRefuses e old new Q
+gives_up OutOfMemory old new P Q f same h = same
+gives_up (Unsupported what) old new P Q f same h = f h
+gives_up _ old new P Q f same h = absurd h
 
 pub only_gives_up : (e : DbError) (P Q : Type 0) → (P → Q) → GivesUpOnly e P → GivesUpOnly e Q
 only_gives_up OutOfMemory P Q f h = tt

@@ -1,5 +1,6 @@
 -- What is left of a table that was finished.
-use Rattle.std.proofs.Common.{◌≡◌, ◌≤◌, ◌^◌, ℕ, List, [], ◌++◌, is_some, IsTrue, length, ap, ◌∙◌, subst, arith}
+use Rattle.std.proofs.Common.{◌≡◌, ◌≤◌, ◌+◌, ◌^◌, ℕ, List, [], ◌++◌, is_some, IsTrue, length, ap, ◌∙◌, subst, arith}
+use Rattle.std.proofs.lemmas.List.{length-append}
 use Rattle.std.specs.Cmp.{IsTotalOrder}
 use Rattle.std.specs.Option.{IsSome}
 use Rattle.std.specs.declared.cmp.Ordering.{Ordering}
@@ -34,12 +35,13 @@ writes_on a b d name other same first second = writes_then a b d name first (sub
 pub written : (cmp : List ℕ → List ℕ → Ordering) → IsTotalOrder cmp → AddedLaw → WrittenLaw → (old new : Building) (a b d : Facts) (name filter index out tail : List ℕ)
     → LeavesWhole cmp old new a b → new.block ≡ [] → IsSome (last_added old) → IsWritten new.hashes filter → length filter ≤ 2 ^ 30 → IsBlock (IsBelowInternal cmp) index new.index → length index ≡ index_length new.index
     → AreEnds new.offset filter index tail → out ≡ tail → name ≡ old.name → (IsTrue d.faithful → IsTrue b.faithful) → Appended b d name out
-    → (pairs : List Pair) → IsTrue d.faithful → Builds cmp old a pairs → (file : List ℕ) × HasFile d old.name file × IsTableOf cmp file pairs
+    → (pairs : List Pair) → IsTrue d.faithful → Builds cmp old a pairs → (file : List ℕ) × HasFile d old.name file × (new.offset + length out ≡ length file) × IsTableOf cmp file pairs
 written cmp order added read old new a b d name filter index out tail leaves no_block some filter_is short index_is long ends same named faithful appended pairs t h =
     let whole = leaves pairs (faithful t) some h in
     let part = whole.2 in
     let put : Appended b d old.name tail = subst (λ (n : List ℕ). Appended b d n tail) named (subst (λ (x : List ℕ). Appended b d name x) same appended) in (
       whole.0 ++ tail,
       put t whole.0 whole.1,
+      omega (arith, length-append whole.0 tail, part.long, ap length same),
       finished cmp order added read new whole.0 filter index tail pairs part ends no_block filter_is short index_is (omega (arith, long, part.index_short)) (ap is_some h.2.last ∙ some),
     )

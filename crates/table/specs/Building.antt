@@ -1,5 +1,5 @@
 -- A table that is being written (LevelDB's table/table_builder.cc): what the builder keeps, and what stands in the file.
-use Rattle.std.specs.Prelude.{◌≡◌, ◌<◌, ◌≤◌, ◌+◌, ◌^◌, ℕ, Bool, List, [], ◌∷◌, ◌++◌, Option, Some, None, length, slice_index, slice_index_or, MatchBool}
+use Rattle.std.specs.Prelude.{◌≡◌, ◌<◌, ◌≤◌, ◌+◌, ◌^◌, ◌⊎◌, ℕ, Bool, List, [], ◌∷◌, ◌++◌, Option, Some, None, length, MatchBool}
 use Rattle.std.specs.List.{AllByRecursion, flat_map}
 use Rattle.std.specs.Option.{ForSome}
 use Rattle.std.specs.declared.cmp.Ordering.{Ordering}
@@ -7,6 +7,7 @@ use Rattle.block.specs.Block.{AreAbove}
 use Rattle.block.specs.Built.{written_length}
 use Rattle.block.specs.Written.{last_key}
 use Rattle.filter.specs.Blocks.{filter_index}
+use Rattle.filter.specs.Builder.{with_hash}
 use Rattle.filter.specs.Hash.{hash_of}
 use Rattle.ikey.specs.Below.{IsBelowInternal}
 use Rattle.ikey.specs.Entries.{Pair}
@@ -61,6 +62,12 @@ length_at_hand (pair ∷ pairs) = data_length (pair ∷ pairs)
 abbrev pub data_size : Building → ℕ
 data_size b = b.offset + length_at_hand b.block
 
+-- With the pair added the block at hand is ended where it has block_bytes bytes or more, and else it goes on.
+abbrev pub EndsBlock : Building → Building → Pair → Type 0
+EndsBlock old new pair =
+    ((data_length (old.block ++ pair ∷ []) < old.block_bytes) × (new.block ≡ old.block ++ pair ∷ []) × (new.index ≡ old.index))
+    ⊎ ((old.block_bytes ≤ data_length (old.block ++ pair ∷ [])) × (new.block ≡ []))
+
 -- ---- what stands in the file
 
 -- The blocks stand one behind another from this offset to that end, and none is too long to be read.
@@ -74,19 +81,18 @@ AreEnded [] [] = Unit {0}
 AreEnded (place ∷ places) (pairs ∷ others) = (last_key pairs ≡ Some place.key) × AreEnded places others
 AreEnded places blocks = ⊥
 
--- the hash is among those of the filter that covers this offset
-abbrev pub IsHashed : List (List ℕ) → ℕ → ℕ → Type 0
-IsHashed hashes offset h =
-    (k : ℕ) × (k < length (slice_index_or hashes (filter_index offset) [])) × (h ≡ slice_index (slice_index_or hashes (filter_index offset) []) k)
+-- With the user keys of these pairs added, which stand in the block at this offset, the hashes of the filters are the
+-- new ones: one for each pair, in order.
+abbrev pub AddsHashes : List (List ℕ) → ℕ → List Pair → List (List ℕ) → Type 0
+AddsHashes old offset [] new = new ≡ old
+AddsHashes old offset (pair ∷ pairs) new = (key : Key) × IsKey pair.key key × AddsHashes (with_hash old (filter_index offset) (hash_of key.user)) offset pairs new
 
--- and so is that of each of these pairs' user keys
-abbrev pub AreHashed : List (List ℕ) → ℕ → List Pair → Type 0
-AreHashed hashes offset pairs = AllByRecursion (λ (pair : Pair). (key : Key) → IsKey pair.key key → IsHashed hashes offset (hash_of key.user)) pairs
-
-abbrev pub AreAllHashed : List (List ℕ) → List Place → List (List Pair) → Type 0
-AreAllHashed hashes [] blocks = Unit {0}
-AreAllHashed hashes (place ∷ places) [] = Unit {0}
-AreAllHashed hashes (place ∷ places) (pairs ∷ others) = AreHashed hashes place.handle.offset pairs × AreAllHashed hashes places others
+-- the same of the pairs of the blocks at these places
+abbrev pub AddsAllHashes : List (List ℕ) → List Place → List (List Pair) → List (List ℕ) → Type 0
+AddsAllHashes old [] [] new = new ≡ old
+AddsAllHashes old (place ∷ places) (pairs ∷ blocks) new =
+    (hashes : List (List ℕ)) × AddsHashes old place.handle.offset pairs hashes × AddsAllHashes hashes places blocks new
+AddsAllHashes old places blocks new = ⊥
 
 -- The file is the data blocks of the pairs that were added, but for those of the block at hand.
 pub record IsPart (cmp : List ℕ → List ℕ → Ordering) (b : Building) (file : List ℕ) (pairs : List Pair) : Type 0 where
@@ -97,8 +103,9 @@ pub record IsPart (cmp : List ℕ → List ℕ → Ordering) (b : Building) (fil
   pub line : AreInLine 0 places b.offset
   pub long : length file ≡ b.offset
   pub ended : AreEnded places blocks
-  pub hashed : AreAllHashed b.hashes places blocks
-  pub block_hashed : AreHashed b.hashes b.offset b.block
+  pub ended_hashes : List (List ℕ)
+  pub hashed : AddsAllHashes [] places blocks ended_hashes
+  pub block_hashed : AddsHashes ended_hashes b.offset b.block b.hashes
   pub all : pairs ≡ flat_map (λ (block : List Pair). block) blocks ++ b.block
   pub rises : AreAbove (IsBelowInternal cmp) None pairs
   pub keys : AllByRecursion (λ (pair : Pair). (key : Key) × IsKey pair.key key) pairs

@@ -10,7 +10,7 @@ use Rattle.filter.specs.Builder.{IsWritten}
 use Rattle.ikey.specs.Below.{IsBelowPlain}
 use Rattle.ikey.specs.Entries.{InternalEntry, Pair}
 use Rattle.store.specs.Files.{Files, Facts}
-use Rattle.table.specs.Building.{Building, data_length, index_length}
+use Rattle.table.specs.Building.{Building, AddsAllHashes, data_length, index_length}
 use Rattle.table.specs.Frame.{Frame, IsFrame, IsFooter, IsOversized, AnyLong, filter_name, handles}
 use Rattle.table.specs.Stored.{IsHandle, stored}
 use Rattle.table.specs.Table.{IsFilled, ArePairs}
@@ -31,10 +31,10 @@ pub record Writes (old new : Facts) (name : List ℕ) : Type 0 where
 
 -- ---- refusals
 
--- Why a table isn't written on: out of memory, since the store failed, or since a block of it would be longer than
+-- Why a table isn't written on: out of memory, while no call of the store failed, since one failed, or since a block of it would be longer than
 -- those that are read, which is so only where this fact holds.
 abbrev pub WriteRefuses : DbError → Facts → Facts → Type 0 → Type 0
-WriteRefuses OutOfMemory old new too_long = Unit {0}
+WriteRefuses OutOfMemory old new too_long = new.failures ≡ old.failures
 WriteRefuses Io old new too_long = old.failures < new.failures
 WriteRefuses (Unsupported what) old new too_long = too_long
 WriteRefuses e old new too_long = ⊥
@@ -68,12 +68,18 @@ pub record AreEnds (offset : ℕ) (filter index bytes : List ℕ) : Type 0 where
       (record { offset = offset + (length filter + 5) + (length metaindex + 5); size = length index })
   pub parts : bytes ≡ stored filter ++ (stored metaindex ++ (stored index ++ footer))
 
--- The file is the table of these pairs, and none of its blocks is too long to be read.
+-- The file is the table of these pairs, with the filter of their user keys, a key once for each of its pairs. None of
+-- its blocks is too long to be read.
 pub record IsTableOf (cmp : List ℕ → List ℕ → Ordering) (file : List ℕ) (pairs : List Pair) : Type 0 where
   pub entries : List InternalEntry
   pub pairs_are : ArePairs pairs entries
   pub frame : Frame
   pub frame_is : IsFrame cmp file frame
   pub filled : IsFilled cmp file frame entries
+  pub hashes : List (List ℕ)
+  pub hashed : AddsAllHashes [] frame.places filled.blocks hashes
+  pub filter : List ℕ
+  pub filter_is : frame.filter ≡ Some filter
+  pub filter_written : IsWritten hashes filter
   pub ends_short : IsOversized cmp file frame frame_is → ⊥
   pub data_short : AnyLong (handles frame) → ⊥

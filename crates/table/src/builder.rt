@@ -67,12 +67,12 @@ impl<K: KeyOrder> Model for TableBuilder<K> {
 }
 
 impl<K: KeyOrder> TableBuilder<K> {
-    ghost use Rattle.std.specs.Prelude.{◌≡◌, ◌<◌, ◌^◌, ◌++◌, ◌∷◌, [], ℕ, List, Some, None, IsSome, IsTrue, IfOk, IfErr, OnOk, MatchBool, true};
+    ghost use Rattle.std.specs.Prelude.{◌≡◌, ◌<◌, ◌≤◌, ◌^◌, ◌++◌, ◌∷◌, [], ℕ, List, Some, None, IsSome, IsTrue, IfOk, IfErr, OnOk, MatchBool, true, length};
     ghost use Rattle.filter.specs.Builder.{GivesUpOnly};
     ghost use Rattle.ikey.specs.Entries.{Pair};
     ghost use Rattle.block.specs.Written.{last_key};
     ghost use Rattle.store.specs.Files.{Facts};
-    ghost use Rattle.table.specs.Building.{Building, Builds, IsPart, HasPart, MayFollow, last_added, data_size, data_length};
+    ghost use Rattle.table.specs.Building.{Building, Builds, IsPart, HasPart, MayFollow, last_added, data_size, data_length, EndsBlock};
     ghost use Rattle.table.specs.Reading.{HasFile};
     ghost use Rattle.table.specs.Steps.{IsPushed, IsEnded};
     ghost use Rattle.table.specs.Writing.{Writes, WriteRefuses, NeedsLongBlock, NeedsLongIndex, NeedsLongEnds, IsTableOf};
@@ -81,6 +81,7 @@ impl<K: KeyOrder> TableBuilder<K> {
     /// `block_bytes` bytes (LevelDB's include/leveldb/options.h, block_size).
     pub fn new(alloc: Global, name: &str, block_bytes: usize) -> Result<Self, AllocError>
         ensures name { IfOk result (λ b. b.name ≡ name.now) }
+        ensures block_bytes { IfOk result (λ b. b.block_bytes ≡ block_bytes) }
         ensures last { IfOk result (λ b. last_added b ≡ None) }
         ensures none { IfOk result (λ b. (facts : Facts) → Builds K.cmp b facts []) }
     {
@@ -126,15 +127,18 @@ impl<K: KeyOrder> TableBuilder<K> {
         requires { MayFollow K.cmp self.old key.now }
         ensures name { self.new.name ≡ self.old.name }
         ensures last { OnOk result (last_added self.new ≡ Some key.now) }
+        ensures block_bytes { OnOk result (self.new.block_bytes ≡ self.old.block_bytes) }
+        ensures ended { OnOk result (EndsBlock self.old self.new (record { key = key.now; value = value.now })) }
         ensures writes { Writes (S.facts store.old) (S.facts store.new) self.old.name }
         ensures added { OnOk result ((pairs : List Pair) → IsTrue (S.facts store.new).faithful → Builds K.cmp self.old (S.facts store.old) pairs
             → Builds K.cmp self.new (S.facts store.new) (pairs ++ record { key = key.now; value = value.now } ∷ [])) }
+        ensures stood { OnOk result ((S.facts store.new).failures ≡ (S.facts store.old).failures) }
         ensures refused { IfErr result (λ e. WriteRefuses e (S.facts store.old) (S.facts store.new)
             (NeedsLongBlock self.old (record { key = key.now; value = value.now }))) }
     {
         self.create_file(store)?;
         self.push(key, value)?;
-        if self.block.size() >= self.block_bytes {
+        if self.is_full() {
             self.end_block(store)?;
         }
         Ok(())
@@ -152,12 +156,14 @@ impl<K: KeyOrder> TableBuilder<K> {
     }
 
     /// Ends the table, which has an entry: what wasn't appended yet is, and with it the file is the table of the
-    /// entries that were added. It isn't synced. Unsupported, where a block would have more than 2^30 bytes.
-    pub fn finish<S: Store>(self, alloc: Global, store: &mut S) -> Result<(), DbError>
+    /// entries that were added. It isn't synced. The answer is how many bytes the file has. Unsupported, where a block
+    /// would have more than 2^30 bytes.
+    pub fn finish<S: Store>(self, alloc: Global, store: &mut S) -> Result<u64, DbError>
         requires some { IsSome (last_added self) }
         ensures writes { Writes (S.facts store.old) (S.facts store.new) self.name }
-        ensures written { OnOk result ((pairs : List Pair) → IsTrue (S.facts store.new).faithful → Builds K.cmp self (S.facts store.old) pairs
-            → (file : List ℕ) × HasFile (S.facts store.new) self.name file × IsTableOf K.cmp file pairs) }
+        ensures written { IfOk result (λ len. (pairs : List Pair) → IsTrue (S.facts store.new).faithful → Builds K.cmp self (S.facts store.old) pairs
+            → (file : List ℕ) × HasFile (S.facts store.new) self.name file × (len ≡ length file) × IsTableOf K.cmp file pairs) }
+        ensures stood { OnOk result ((S.facts store.new).failures ≡ (S.facts store.old).failures) }
         ensures refused { IfErr result (λ e. WriteRefuses e (S.facts store.old) (S.facts store.new) (NeedsLongEnds self)) }
     {
         let mut builder = self;
@@ -168,7 +174,15 @@ impl<K: KeyOrder> TableBuilder<K> {
         let index = builder.index.finish()?;
         let mut ends = Vec::new(alloc);
         put_ends(alloc, &mut ends, builder.offset, &filter, &index)?;
-        append(store, &builder.name, &ends)
+        append(store, &builder.name, &ends)?;
+        Ok(builder.offset + ends.len() as u64)
+    }
+
+    // Whether the block at hand is to be ended, which has an entry.
+    fn is_full(&self) -> bool
+        ensures { MatchBool result (self.now.block_bytes ≤ data_length self.now.block) (data_length self.now.block < self.now.block_bytes) }
+    {
+        self.block.size() >= self.block_bytes
     }
 
     // Creates the file, where that wasn't done.
@@ -177,6 +191,7 @@ impl<K: KeyOrder> TableBuilder<K> {
         ensures writes { Writes (S.facts store.old) (S.facts store.new) self.old.name }
         ensures created { OnOk result (IsTrue (S.facts store.new).faithful → (file : List ℕ) → HasPart self.old (S.facts store.old) file
             → (self.new.created ≡ true) × HasFile (S.facts store.new) self.old.name file) }
+        ensures stood { OnOk result ((S.facts store.new).failures ≡ (S.facts store.old).failures) }
         ensures refused { IfErr result (λ e. WriteRefuses e (S.facts store.old) (S.facts store.new) ⊥) }
     {
         if !self.created {
@@ -209,6 +224,7 @@ impl<K: KeyOrder> TableBuilder<K> {
         ensures writes { Writes (S.facts store.old) (S.facts store.new) self.old.name }
         ensures whole { OnOk result ((pairs : List Pair) → IsTrue (S.facts store.new).faithful → IsSome (last_added self.old) → Builds K.cmp self.old (S.facts store.old) pairs
             → (file : List ℕ) × HasFile (S.facts store.new) self.old.name file × IsPart K.cmp self.new file pairs) }
+        ensures stood { OnOk result ((S.facts store.new).failures ≡ (S.facts store.old).failures) }
         ensures refused { IfErr result (λ e. WriteRefuses e (S.facts store.old) (S.facts store.new) (NeedsLongIndex self.old self.old.block)) }
     {
         if self.block.is_empty() {
@@ -224,6 +240,7 @@ impl<K: KeyOrder> TableBuilder<K> {
         ensures name { self.new.name ≡ self.old.name }
         ensures writes { Writes (S.facts store.old) (S.facts store.new) self.old.name }
         ensures ended { OnOk result (IsEnded K.cmp self.old self.new (S.facts store.old) (S.facts store.new)) }
+        ensures stood { OnOk result ((S.facts store.new).failures ≡ (S.facts store.old).failures) }
         ensures refused { IfErr result (λ e. WriteRefuses e (S.facts store.old) (S.facts store.new) (NeedsLongIndex self.old self.old.block)) }
     {
         let block = mem::replace(

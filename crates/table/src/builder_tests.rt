@@ -1,167 +1,118 @@
 // What a builder writes, and what `Table` reads of it.
-ghost use Rattle.std.specs.Prelude.{◌<◌, ◌≤◌, ◌^◌, IsSome, OnOk};
-ghost use Rattle.table.specs.Building.{last_added};
+ghost use Rattle.std.specs.Prelude.{◌<◌, ◌≤◌, ◌^◌};
 
 use super::*;
-use crate::test_tables::{NAME, ONE_ENTRY, SEPARATED};
-use coding::{Bytes, DbError};
-use ikey::{Bytewise, KeyOrder, Kind, pack, seek_key};
-use std::alloc::{AllocError, AllocGlobal, Global};
+use crate::test_entries::{Seek, add, entry, reads_as, seek_of, write};
+use crate::test_tables::{NAME, ONE_ENTRY, SEPARATED, store_with};
+use coding::DbError;
+use ikey::{Bytewise, KeyOrder, Kind};
+use std::alloc::Global;
 use std::cmp::Ordering;
-use std::process::Abort;
 use std::test::*;
-use store::{Fault, FaultStore, FileStore, MemStore, Store};
+use store::{Fault, FaultStore, FileStore, MemStore, Store, StoreError};
 
 const OTHER: &str = "000004.log";
 
-// ---- writing
-
-fn entry(
-    alloc: Global,
-    user: &[u8],
-    sequence: u64,
-    kind: Kind,
-    value: &[u8],
-) -> Result<KeyValue, AllocError>
-    requires { sequence < 2 ^ 56 }
-{
-    Ok(KeyValue {
-        key: Bytes::from_vec(pack(alloc, user, sequence, kind)?),
-        value: Bytes::copied_from(alloc, value)?,
-    })
-}
-
-// Adds an entry whose key is above the last one.
-fn add<K: KeyOrder, S: Store>(
-    rt: &impl Abort,
-    builder: &mut TableBuilder<K>,
-    store: &mut S,
-    entry: &KeyValue,
-) -> Result<(), DbError>
-    ensures { OnOk result (IsSome (last_added builder.new)) }
-{
-    assert!(rt; builder.accepts(entry.key.as_slice()));
-    builder.add(store, entry.key.as_slice(), entry.value.as_slice())?;
-    Ok(())
-}
-
-// Writes the table of entries, of which there is at least one.
-fn write<K: KeyOrder, S: Store>(
-    rt: &(impl Abort + AllocGlobal),
-    store: &mut S,
-    block_bytes: usize,
-    entries: &[KeyValue],
-) -> Result<(), DbError> {
-    let mut builder = TableBuilder::<K>::new(rt.alloc(), NAME, block_bytes)?;
-    for entry in entries {
-        add::<K, S>(rt, &mut builder, store, entry)?;
-    }
-    assert!(rt; !builder.is_empty());
-    builder.finish(rt.alloc(), store)?;
-    Ok(())
-}
-
-// ---- reading
-
-fn is_same(a: &KeyValue, b: &KeyValue) -> bool {
-    a.key.as_slice() == b.key.as_slice() && a.value.as_slice() == b.value.as_slice()
-}
-
-fn are_same(a: &[KeyValue], b: &[KeyValue]) -> bool {
-    a.len() == b.len() && a.iter().zip(b).all(|(a, b)| is_same(a, b))
-}
-
-// Whether a seek finds this entry, or none.
-fn finds<K: KeyOrder>(
-    alloc: Global,
-    table: &Table<K>,
-    store: &mut MemStore,
-    target: &[u8],
-    wanted: Option<&KeyValue>,
-) -> Result<bool, DbError> {
-    let found = table.seek(alloc, store, target)?;
-    match (&found, wanted) {
-        (None, None) => Ok(true),
-        (Some(found), Some(wanted)) => Ok(is_same(found, wanted)),
-        _ => Ok(false),
-    }
-}
-
 // ---- one entry
+
+fn one(alloc: Global) -> Result<KeyValue, DbError> {
+    entry(alloc, b"a", 1, Kind::Put, b"1")
+}
+
+// Whether the file of this name has these bytes.
+fn has_file(alloc: Global, store: &mut MemStore, name: &str, bytes: &[u8]) -> bool {
+    match store.read_at(alloc, name, 0, 1000) {
+        Ok(found) => found.as_slice() == bytes,
+        Err(_) => false,
+    }
+}
+
+// The file is created by the first entry, and has no bytes before a block is ended.
+fn is_created(alloc: Global, store: &mut MemStore) -> Result<bool, Fail> {
+    let mut builder = TableBuilder::<Bytewise>::new(alloc, NAME, 4096)?;
+    let none = store.len(NAME).is_err() && builder.size() == 0;
+    add::<Bytewise, MemStore>(&mut builder, store, &one(alloc)?)?;
+    Ok(none && store.len(NAME)? == 0 && builder.size() == 21)
+}
+
+// Whether one entry is written over what was there, and nothing else.
+fn is_written(alloc: Global, store: &mut MemStore) -> Result<bool, DbError> {
+    let length = write::<Bytewise, MemStore>(alloc, store, 4096, &[one(alloc)?])?;
+    Ok(length == 176 && has_file(alloc, store, NAME, &ONE_ENTRY))
+}
 
 #[test]
 fn one_entry_is_written(rt: HostRuntime) -> Result<(), Fail> {
-    let alloc = rt.alloc();
-    let mut store = MemStore::new(alloc);
-    let mut builder = TableBuilder::<Bytewise>::new(alloc, NAME, 4096)?;
-    assert!(rt; store.list(alloc)?.is_empty());
-    assert_eq!(rt; builder.size(), 0);
-    builder.add(&mut store, &pack(alloc, b"a", 1, Kind::Put)?, b"1")?;
-    assert_eq!(rt; store.len(NAME)?, 0);
-    assert_eq!(rt; builder.size(), 21);
-    builder.finish(alloc, &mut store)?;
-    assert_eq!(rt;
-        store.read_at(alloc, NAME, 0, 1000)?.as_slice(),
-        ONE_ENTRY.as_slice()
-    );
+    let mut store = MemStore::new(rt.alloc());
+    assert!(rt; is_created(rt.alloc(), &mut store)?);
+    assert!(rt; is_written(rt.alloc(), &mut store)?);
     Ok(())
 }
 
 #[test]
 fn the_old_file_is_emptied_and_others_stay(rt: HostRuntime) -> Result<(), Fail> {
-    let alloc = rt.alloc();
-    let mut store = MemStore::new(alloc);
+    let mut store = store_with(rt.alloc(), &SEPARATED)?;
     store.create(OTHER)?;
     store.append(OTHER, b"log")?;
-    store.create(NAME)?;
-    store.append(NAME, &SEPARATED)?;
-    let one = [entry(alloc, b"a", 1, Kind::Put, b"1")?];
-    write::<Bytewise, MemStore>(&rt, &mut store, 4096, &one)?;
-    assert_eq!(rt;
-        store.read_at(alloc, NAME, 0, 1000)?.as_slice(),
-        ONE_ENTRY.as_slice()
-    );
-    assert_eq!(rt;
-        store.read_at(alloc, OTHER, 0, 1000)?.as_slice(),
-        b"log".as_slice()
-    );
-    assert_eq!(rt; store.list(alloc)?.len(), 2);
+    assert!(rt; is_written(rt.alloc(), &mut store)?);
+    assert!(rt; has_file(rt.alloc(), &mut store, OTHER, b"log"));
+    assert_eq!(rt; store.list(rt.alloc())?.len(), 2);
     Ok(())
 }
 
 // ---- sizes
 
 // The first entry of a block has 13 bytes here, and so has each other one; behind them stand 8. An ended block has
-// five more.
+// five more. So large are three entries, one after another, where blocks are ended by so many bytes.
+const SIZES: [(usize, [u64; 3]); 6] = [
+    (1, [26, 52, 78]),
+    (21, [26, 52, 78]),
+    (22, [21, 39, 60]),
+    (34, [21, 39, 60]),
+    (35, [21, 34, 52]),
+    (4096, [21, 34, 47]),
+];
+
+fn grows(
+    alloc: Global,
+    block_bytes: usize,
+    entries: &[KeyValue],
+    sizes: &[u64],
+) -> Result<bool, DbError> {
+    let mut store = MemStore::new(alloc);
+    let mut builder = TableBuilder::<Bytewise>::new(alloc, NAME, block_bytes)?;
+    for (entry, size) in entries.iter().zip(sizes) {
+        add::<Bytewise, MemStore>(&mut builder, &mut store, entry)?;
+        if builder.size() != *size {
+            return Ok(false);
+        }
+    }
+    Ok(true)
+}
+
+fn three(alloc: Global) -> Result<[KeyValue; 3], DbError> {
+    Ok([
+        entry(alloc, b"a", 1, Kind::Put, b"1")?,
+        entry(alloc, b"b", 2, Kind::Put, b"2")?,
+        entry(alloc, b"c", 3, Kind::Put, b"3")?,
+    ])
+}
+
 #[test]
 fn the_size_is_that_of_the_blocks(rt: HostRuntime) -> Result<(), Fail> {
-    let alloc = rt.alloc();
-    let a = entry(alloc, b"a", 1, Kind::Put, b"1")?;
-    let b = entry(alloc, b"b", 2, Kind::Put, b"2")?;
-    let c = entry(alloc, b"c", 3, Kind::Put, b"3")?;
-    for (block_bytes, sizes) in [
-        (1, [26, 52, 78]),
-        (21, [26, 52, 78]),
-        (22, [21, 39, 60]),
-        (34, [21, 39, 60]),
-        (35, [21, 34, 52]),
-        (4096, [21, 34, 47]),
-    ] {
-        let mut store = MemStore::new(alloc);
-        let mut builder = TableBuilder::<Bytewise>::new(alloc, NAME, block_bytes)?;
-        add::<Bytewise, MemStore>(&rt, &mut builder, &mut store, &a)?;
-        assert_eq!(rt; builder.size(), sizes[0], "{block_bytes}");
-        add::<Bytewise, MemStore>(&rt, &mut builder, &mut store, &b)?;
-        assert_eq!(rt; builder.size(), sizes[1], "{block_bytes}");
-        add::<Bytewise, MemStore>(&rt, &mut builder, &mut store, &c)?;
-        assert_eq!(rt; builder.size(), sizes[2], "{block_bytes}");
-        builder.finish(alloc, &mut store)?;
+    let entries = three(rt.alloc())?;
+    for (block_bytes, sizes) in SIZES {
+        assert!(rt;
+            grows(rt.alloc(), block_bytes, &entries, &sizes)?,
+            "{block_bytes}"
+        );
     }
     Ok(())
 }
 
 // ---- many entries
 
+// The user key of a number.
 fn user_key(number: u32) -> [u8; 4] {
     let [a, b, c, d] = number.to_be_bytes();
     [a, b, c, d]
@@ -172,120 +123,117 @@ fn value_of(number: u32) -> [u8; 3] {
     [a, b, c]
 }
 
-// The put of an odd number, with a value of three bytes.
-fn odd_number(alloc: Global, index: u32) -> Result<KeyValue, AllocError>
-    requires { index < 1000 }
-{
-    let user = user_key(2 * index + 1);
-    let value = value_of(index);
-    entry(alloc, &user, u64::from(index), Kind::Put, &value)
-}
-
-fn odd_numbers(alloc: Global, count: u32) -> Result<Vec<KeyValue>, AllocError>
+// The puts of the odd numbers, with values of three bytes.
+fn odd_numbers(alloc: Global, count: u32) -> Result<Vec<KeyValue>, DbError>
     requires { count ≤ 1000 }
 {
     let mut entries = Vec::new(alloc);
     for index in 0..count {
-        entries.push(odd_number(alloc, index)?)?;
+        let user = user_key(2 * index + 1);
+        let value = value_of(index);
+        entries.push(entry(alloc, &user, u64::from(index), Kind::Put, &value)?)?;
     }
     Ok(entries)
 }
 
-// Seeks below, at and above each key.
-fn assert_seeks(
-    rt: &(impl Abort + AllocGlobal),
-    table: &Table<Bytewise>,
-    store: &mut MemStore,
-    entries: &[KeyValue],
-    count: u32,
-) -> Result<(), Fail>
+// Seeks below, at and above each of them.
+fn odd_seeks(alloc: Global, count: u32) -> Result<Vec<Seek>, DbError>
     requires { count ≤ 1000 }
 {
-    let alloc = rt.alloc();
+    let mut seeks = Vec::new(alloc);
     for index in 0..count {
-        let this = entries.get(index as usize);
-        let next = entries.get(index as usize + 1);
-        let below = seek_key(alloc, &user_key(2 * index), 0)?;
-        assert!(rt; finds(alloc, table, store, &below, this)?, "below {index}");
-        let at = seek_key(alloc, &user_key(2 * index + 1), u64::from(index))?;
-        assert!(rt; finds(alloc, table, store, &at, this)?, "at {index}");
-        let above = seek_key(alloc, &user_key(2 * index + 2), 0)?;
-        assert!(rt; finds(alloc, table, store, &above, next)?, "above {index}");
+        let place = index as usize;
+        seeks.push(seek_of(alloc, &user_key(2 * index), 0, place)?)?;
+        seeks.push(seek_of(alloc, &user_key(2 * index + 1), u64::from(index), place)?)?;
+        seeks.push(seek_of(alloc, &user_key(2 * index + 2), 0, place + 1)?)?;
     }
-    Ok(())
+    Ok(seeks)
 }
 
 // None of the keys is this number or above. The keys that are asked for differ from them in more than the last byte:
 // in a filter of 64 bits two keys of four bytes that differ in that one alone have the same bits.
 const ELSEWHERE: u32 = 1 << 24;
 
-// Asks the filter for each key in its block, and for as many keys that aren't there: nine of ten are to be denied.
-fn assert_admits(
-    rt: &impl Abort,
-    table: &Table<Bytewise>,
-    handles: &[Handle],
-    in_block: u32,
-    count: u32,
-) -> Result<(), Fail>
+// How many of the odd numbers the filter admits in their blocks, and how many other keys it denies there.
+fn answers(table: &Table<Bytewise>, handles: &[Handle], in_block: u32, count: u32) -> (u32, u32)
     requires in_block { 0 < in_block }
     requires count { count ≤ 1000 }
 {
-    let mut denied = 0u64;
+    let (mut admitted, mut denied) = (0u32, 0u32);
     for index in 0..count {
-        let handle = *handles.get((index / in_block) as usize).ok_or("a block")?;
-        assert!(rt; table.admits(handle, &user_key(2 * index + 1)), "{index}");
-        if !table.admits(handle, &user_key(ELSEWHERE + index)) {
+        let Some(handle) = handles.get((index / in_block) as usize) else {
+            return (0, 0);
+        };
+        if table.admits(*handle, &user_key(2 * index + 1)) {
+            admitted = admitted.saturating_add(1);
+        }
+        if !table.admits(*handle, &user_key(ELSEWHERE + index)) {
             denied = denied.saturating_add(1);
         }
     }
-    assert!(rt;
-        denied.saturating_mul(10) >= u64::from(count) * 9,
-        "{denied}"
-    );
-    Ok(())
+    (admitted, denied)
 }
 
-// Writes a table of the odd numbers and reads all of it.
-fn assert_table(
-    rt: &(impl Abort + AllocGlobal),
+// Whether the index has so many blocks, and the filter admits each key in its block and denies nine of ten others.
+fn is_filtered(
+    alloc: Global,
+    store: &mut MemStore,
+    in_block: u32,
+    count: u32,
+    blocks: usize,
+) -> Result<bool, DbError>
+    requires in_block { 0 < in_block }
+    requires count { count ≤ 1000 }
+{
+    let table = Table::<Bytewise>::open(alloc, store, NAME)?;
+    let handles = table.index(alloc)?;
+    let (admitted, denied) = answers(&table, &handles, in_block, count);
+    let enough = denied.saturating_mul(10) >= count.saturating_mul(9);
+    Ok(handles.len() == blocks && admitted == count && enough)
+}
+
+// Whether a table of the odd numbers is written and read.
+fn is_table(
+    alloc: Global,
     block_bytes: usize,
     in_block: u32,
     count: u32,
     blocks: usize,
-) -> Result<(), Fail> {
-    assert!(rt; 0 < in_block && count <= 1000);
-    let alloc = rt.alloc();
+) -> Result<bool, DbError>
+    requires in_block { 0 < in_block }
+    requires count { count ≤ 1000 }
+{
     let entries = odd_numbers(alloc, count)?;
+    let seeks = odd_seeks(alloc, count)?;
     let mut store = MemStore::new(alloc);
-    write::<Bytewise, MemStore>(rt, &mut store, block_bytes, &entries)?;
-    let table = Table::<Bytewise>::open(alloc, &mut store, NAME)?;
-    let handles = table.index(alloc)?;
-    assert_eq!(rt; handles.len(), blocks);
-    assert!(rt; are_same(&table.entries(alloc, &mut store)?, &entries));
-    assert_seeks(rt, &table, &mut store, &entries, count)?;
-    assert_admits(rt, &table, &handles, in_block, count)?;
-    Ok(())
+    write::<Bytewise, MemStore>(alloc, &mut store, block_bytes, &entries)?;
+    let read = reads_as::<Bytewise, MemStore>(alloc, &mut store, &entries, &seeks)?;
+    Ok(read && is_filtered(alloc, &mut store, in_block, count, blocks)?)
 }
 
 // The first of 16 entries has 18 bytes, each other one 15 or 16, a restart 4, and what counts the restarts 4: so 6
 // entries are the first with 100 bytes, and 265 with 4096.
+const TABLES: [(usize, u32, u32, usize); 12] = [
+    (1, 1, 1, 1),
+    (1, 1, 2, 2),
+    (1, 1, 17, 17),
+    (1, 1, 1000, 1000),
+    (100, 6, 1, 1),
+    (100, 6, 2, 1),
+    (100, 6, 17, 3),
+    (100, 6, 1000, 167),
+    (4096, 265, 1, 1),
+    (4096, 265, 2, 1),
+    (4096, 265, 17, 1),
+    (4096, 265, 1000, 4),
+];
+
 #[test]
 fn what_was_written_is_read(rt: HostRuntime) -> Result<(), Fail> {
-    for (block_bytes, in_block, count, blocks) in [
-        (1, 1, 1, 1),
-        (1, 1, 2, 2),
-        (1, 1, 17, 17),
-        (1, 1, 1000, 1000),
-        (100, 6, 1, 1),
-        (100, 6, 2, 1),
-        (100, 6, 17, 3),
-        (100, 6, 1000, 167),
-        (4096, 265, 1, 1),
-        (4096, 265, 2, 1),
-        (4096, 265, 17, 1),
-        (4096, 265, 1000, 4),
-    ] {
-        assert_table(&rt, block_bytes, in_block, count, blocks)?;
+    for (block_bytes, in_block, count, blocks) in TABLES {
+        assert!(rt; 0 < in_block && count <= 1000);
+        let is = is_table(rt.alloc(), block_bytes, in_block, count, blocks)?;
+        assert!(rt; is, "{count} entries, {in_block} a block");
     }
     Ok(())
 }
@@ -304,16 +252,6 @@ const VERSIONS: [(&[u8], u64, Kind, usize); 8] = [
     (b"\xff", 2, Kind::Put, 2),
 ];
 
-fn versions(rt: &(impl Abort + AllocGlobal)) -> Result<Vec<KeyValue>, AllocError> {
-    let mut entries = Vec::new(rt.alloc());
-    for (user, sequence, kind, length) in VERSIONS {
-        assert!(rt; sequence < 1 << 56);
-        let value = vec![in rt.alloc(); b'v'; length]?;
-        entries.push(entry(rt.alloc(), user, sequence, kind, &value)?)?;
-    }
-    Ok(entries)
-}
-
 // The newest version up to a sequence number, by its place in the list.
 const SEEKS: [(&[u8], u64, usize); 11] = [
     (b"", 10, 0),
@@ -329,32 +267,44 @@ const SEEKS: [(&[u8], u64, usize); 11] = [
     (b"\xff", 1, 8),
 ];
 
-fn assert_versions(
-    rt: &(impl Abort + AllocGlobal),
-    store: &mut MemStore,
-    entries: &[KeyValue],
-) -> Result<(), Fail> {
-    let alloc = rt.alloc();
-    let table = Table::<Bytewise>::open(alloc, store, NAME)?;
-    assert!(rt; are_same(&table.entries(alloc, store)?, entries));
-    for (user, sequence, place) in SEEKS {
-        assert!(rt; sequence < 1 << 56);
-        let target = seek_key(alloc, user, sequence)?;
-        assert!(rt;
-            finds(alloc, &table, store, &target, entries.get(place))?,
-            "{user:?}, {sequence}"
-        );
+fn versions(alloc: Global) -> Result<Vec<KeyValue>, DbError> {
+    let mut entries = Vec::new(alloc);
+    for (user, sequence, kind, length) in VERSIONS {
+        let value = vec![in alloc; b'v'; length]?;
+        entries.push(entry(alloc, user, sequence, kind, &value)?)?;
     }
-    Ok(())
+    Ok(entries)
+}
+
+fn version_seeks(alloc: Global) -> Result<Vec<Seek>, DbError> {
+    let mut seeks = Vec::new(alloc);
+    for (user, sequence, place) in SEEKS {
+        seeks.push(seek_of(alloc, user, sequence, place)?)?;
+    }
+    Ok(seeks)
+}
+
+// Whether entries are read again, with blocks ended by so many bytes.
+fn comes_back<K: KeyOrder>(
+    alloc: Global,
+    block_bytes: usize,
+    entries: &[KeyValue],
+    seeks: &[Seek],
+) -> Result<bool, DbError> {
+    let mut store = MemStore::new(alloc);
+    write::<K, MemStore>(alloc, &mut store, block_bytes, entries)?;
+    reads_as::<K, MemStore>(alloc, &mut store, entries, seeks)
 }
 
 #[test]
 fn the_newest_version_is_found_first(rt: HostRuntime) -> Result<(), Fail> {
-    let entries = versions(&rt)?;
+    let entries = versions(rt.alloc())?;
+    let seeks = version_seeks(rt.alloc())?;
     for block_bytes in [1, 30, 4096] {
-        let mut store = MemStore::new(rt.alloc());
-        write::<Bytewise, MemStore>(&rt, &mut store, block_bytes, &entries)?;
-        assert_versions(&rt, &mut store, &entries)?;
+        assert!(rt;
+            comes_back::<Bytewise>(rt.alloc(), block_bytes, &entries, &seeks)?,
+            "{block_bytes}"
+        );
     }
     Ok(())
 }
@@ -391,49 +341,63 @@ impl KeyOrder for Falling {
     ghost name_fits = { lit< tt };
 }
 
-#[test]
-fn a_table_is_in_the_order_of_its_keys(rt: HostRuntime) -> Result<(), Fail> {
-    let alloc = rt.alloc();
-    let entries = [
+fn falling_entries(alloc: Global) -> Result<[KeyValue; 4], DbError> {
+    Ok([
         entry(alloc, b"c", 1, Kind::Put, b"1")?,
         entry(alloc, b"b", 3, Kind::Put, b"2")?,
         entry(alloc, b"b", 2, Kind::Delete, b"")?,
         entry(alloc, b"", 4, Kind::Put, b"3")?,
-    ];
-    let mut store = MemStore::new(alloc);
-    write::<Falling, MemStore>(&rt, &mut store, 1, &entries)?;
-    let table = Table::<Falling>::open(alloc, &mut store, NAME)?;
-    assert!(rt; are_same(&table.entries(alloc, &mut store)?, &entries));
-    let target = seek_key(alloc, b"bb", 9)?;
-    assert!(rt; finds(alloc, &table, &mut store, &target, entries.get(1))?);
-    let other = Table::<Bytewise>::open(alloc, &mut store, NAME);
-    assert!(rt; matches!(other, Err(DbError::Corrupt(_, _))));
+    ])
+}
+
+#[test]
+fn a_table_is_in_the_order_of_its_keys(rt: HostRuntime) -> Result<(), Fail> {
+    let entries = falling_entries(rt.alloc())?;
+    let seeks = [seek_of(rt.alloc(), b"bb", 9, 1)?];
+    assert!(rt; comes_back::<Falling>(rt.alloc(), 1, &entries, &seeks)?);
+    Ok(())
+}
+
+#[test]
+fn a_table_of_another_order_is_corrupt(rt: HostRuntime) -> Result<(), Fail> {
+    let entries = falling_entries(rt.alloc())?;
+    let mut store = MemStore::new(rt.alloc());
+    write::<Falling, MemStore>(rt.alloc(), &mut store, 1, &entries)?;
+    assert!(rt; is_no_table(rt.alloc(), &mut store));
     Ok(())
 }
 
 // ---- failures
 
-// The store behind a table of three entries, a block each, where the call of this number writes so many bytes and
-// fails. The first call creates the file, the next three append blocks of 31 bytes, and the fifth appends the rest.
-fn after_failure(
-    rt: &(impl Abort + AllocGlobal),
-    call: u64,
-    count: usize,
-) -> Result<MemStore, Fail> {
-    let alloc = rt.alloc();
-    let mut files = MemStore::new(alloc);
-    files.create(OTHER)?;
-    files.append(OTHER, b"log")?;
+// How many bytes the table of three odd numbers has: each block 31, and the rest behind them.
+const BLOCK: u64 = 31;
+
+// What is left of a table of three odd numbers, a block each, where the call of this number writes so many bytes and
+// fails. The first call creates the file, the next three append a block each, and the fifth appends the rest.
+fn after_failure(alloc: Global, call: u64, count: usize) -> Result<MemStore, DbError> {
     let mut faults = Vec::new(alloc);
     faults.push((call, Fault::Part(count)))?;
-    let mut store = FaultStore::new(files, faults);
+    let mut store = FaultStore::new(beside_another(alloc)?, faults);
     let entries = odd_numbers(alloc, 3)?;
-    let refused = write::<Bytewise, FaultStore>(rt, &mut store, 1, &entries);
-    assert_eq!(rt; refused.err(), Some(DbError::Io), "{call}, {count}");
-    let mut files = store.into_inner();
-    let log = files.read_at(alloc, OTHER, 0, 1000)?;
-    assert_eq!(rt; log.as_slice(), b"log".as_slice(), "{call}, {count}");
-    Ok(files)
+    match write::<Bytewise, FaultStore>(alloc, &mut store, 1, &entries) {
+        Err(DbError::Io) => Ok(store.into_inner()),
+        _ => Err(DbError::BadLine),
+    }
+}
+
+// A store with another file.
+fn beside_another(alloc: Global) -> Result<MemStore, DbError> {
+    match with_another(alloc) {
+        Ok(store) => Ok(store),
+        Err(_) => Err(DbError::OutOfMemory),
+    }
+}
+
+fn with_another(alloc: Global) -> Result<MemStore, StoreError> {
+    let mut store = MemStore::new(alloc);
+    store.create(OTHER)?;
+    store.append(OTHER, b"log")?;
+    Ok(store)
 }
 
 fn is_no_table(alloc: Global, store: &mut MemStore) -> bool {
@@ -443,42 +407,33 @@ fn is_no_table(alloc: Global, store: &mut MemStore) -> bool {
     )
 }
 
-// Asserts that the file has what was written of a block, behind so many bytes, and is no table.
-fn assert_no_table(rt: &(impl Abort + AllocGlobal), call: u64, before: u64) -> Result<(), Fail> {
-    for count in [0, 1, 26, 30, 31] {
-        let mut store = after_failure(rt, call, count)?;
-        assert_eq!(rt; store.len(NAME)?, before.saturating_add(count as u64));
-        assert!(rt; is_no_table(rt.alloc(), &mut store), "{call}, {count}");
-    }
-    Ok(())
+// Whether the file then has so many bytes and is no table, and the other file is as before.
+fn leaves_no_table(alloc: Global, call: u64, count: usize, length: u64) -> Result<bool, DbError> {
+    let mut store = after_failure(alloc, call, count)?;
+    let long = matches!(store.len(NAME), Ok(found) if found == length);
+    let other = has_file(alloc, &mut store, OTHER, b"log");
+    Ok(long && other && is_no_table(alloc, &mut store))
 }
 
 #[test]
 fn a_failed_block_leaves_no_table(rt: HostRuntime) -> Result<(), Fail> {
-    for (call, before) in [(2, 0), (3, 31), (4, 62)] {
-        assert_no_table(&rt, call, before)?;
+    for (call, before) in [(2, 0), (3, BLOCK), (4, 2 * BLOCK)] {
+        for count in [0, 1, 26, 30, 31] {
+            let left = leaves_no_table(rt.alloc(), call, count, before + count as u64)?;
+            assert!(rt; left, "{call}, {count}");
+        }
     }
     Ok(())
 }
 
-// How many bytes the table of three entries has behind its blocks.
-fn length_of_the_ends(rt: &(impl Abort + AllocGlobal)) -> Result<usize, Fail> {
-    let alloc = rt.alloc();
-    let mut store = MemStore::new(alloc);
-    write::<Bytewise, MemStore>(rt, &mut store, 1, &odd_numbers(alloc, 3)?)?;
-    Ok(
-        usize::try_from(store.len(NAME)?.saturating_sub(3 * 31))
-            .ok()
-            .ok_or("a length")?,
-    )
-}
-
 #[test]
 fn failed_ends_leave_no_table(rt: HostRuntime) -> Result<(), Fail> {
-    let length = length_of_the_ends(&rt)?;
-    for count in 0..length {
-        let mut store = after_failure(&rt, 5, count)?;
-        assert!(rt; is_no_table(rt.alloc(), &mut store), "{count}");
+    let mut store = MemStore::new(rt.alloc());
+    let entries = odd_numbers(rt.alloc(), 3)?;
+    let length = write::<Bytewise, MemStore>(rt.alloc(), &mut store, 1, &entries)?;
+    for count in 0..length.saturating_sub(3 * BLOCK) {
+        let left = leaves_no_table(rt.alloc(), 5, count as usize, 3 * BLOCK + count)?;
+        assert!(rt; left, "{count}");
     }
     Ok(())
 }
@@ -486,26 +441,21 @@ fn failed_ends_leave_no_table(rt: HostRuntime) -> Result<(), Fail> {
 // The store did all of it and failed then, or the table is written once more: it is there.
 #[test]
 fn a_table_is_whole_where_all_of_it_was_written(rt: HostRuntime) -> Result<(), Fail> {
-    let alloc = rt.alloc();
-    let entries = odd_numbers(alloc, 3)?;
-    let mut store = after_failure(&rt, 5, usize::MAX)?;
-    let table = Table::<Bytewise>::open(alloc, &mut store, NAME)?;
-    assert!(rt; are_same(&table.entries(alloc, &mut store)?, &entries));
-    let mut store = after_failure(&rt, 3, 7)?;
-    write::<Bytewise, MemStore>(&rt, &mut store, 1, &entries)?;
-    let table = Table::<Bytewise>::open(alloc, &mut store, NAME)?;
-    assert!(rt; are_same(&table.entries(alloc, &mut store)?, &entries));
+    let entries = odd_numbers(rt.alloc(), 3)?;
+    let mut store = after_failure(rt.alloc(), 5, usize::MAX)?;
+    assert!(rt; reads_as::<Bytewise, MemStore>(rt.alloc(), &mut store, &entries, &[])?);
+    let mut store = after_failure(rt.alloc(), 3, 7)?;
+    write::<Bytewise, MemStore>(rt.alloc(), &mut store, 1, &entries)?;
+    assert!(rt; reads_as::<Bytewise, MemStore>(rt.alloc(), &mut store, &entries, &[])?);
     Ok(())
 }
 
 // A store over a folder makes no file within another folder.
 #[test]
 fn a_file_that_is_not_created_is_a_failure(rt: HostRuntime) -> Result<(), Fail> {
-    let alloc = rt.alloc();
     let mut store = FileStore::open(&rt, ".")?;
-    let mut builder = TableBuilder::<Bytewise>::new(alloc, "none/000005.ldb", 1)?;
-    let key = pack(alloc, b"a", 1, Kind::Put)?;
-    let refused = builder.add(&mut store, &key, b"1");
+    let mut builder = TableBuilder::<Bytewise>::new(rt.alloc(), "none/000005.ldb", 1)?;
+    let refused = add::<Bytewise, FileStore>(&mut builder, &mut store, &one(rt.alloc())?);
     assert_eq!(rt; refused.err(), Some(DbError::Io));
     Ok(())
 }

@@ -1,7 +1,6 @@
 // Tables that the tests read.
 use std::alloc::Global;
-use std::test::Fail;
-use store::{MemStore, Store};
+use store::{MemStore, Store, StoreError};
 
 /// The name of their file.
 pub const NAME: &str = "000005.ldb";
@@ -55,7 +54,7 @@ pub const NO_FILTER: [u8; 158] = [
 ];
 
 /// A store with a file of these bytes.
-pub fn store_with(alloc: Global, bytes: &[u8]) -> Result<MemStore, Fail> {
+pub fn store_with(alloc: Global, bytes: &[u8]) -> Result<MemStore, StoreError> {
     let mut store = MemStore::new(alloc);
     store.create(NAME)?;
     store.append(NAME, bytes)?;

@@ -13,6 +13,7 @@ use store::Store;
 pub fn create<S: Store>(store: &mut S, name: &str) -> Result<(), DbError>
     ensures writes { Writes (S.facts store.old) (S.facts store.new) name.now }
     ensures created { OnOk result (IsTrue (S.facts store.new).faithful → HasFile (S.facts store.new) name.now []) }
+    ensures stood { OnOk result ((S.facts store.new).failures ≡ (S.facts store.old).failures) }
     ensures refused { IfErr result (λ e. WriteRefuses e (S.facts store.old) (S.facts store.new) ⊥) }
 {
     match store.create(name) {
@@ -25,6 +26,7 @@ pub fn create<S: Store>(store: &mut S, name: &str) -> Result<(), DbError>
 pub fn append<S: Store>(store: &mut S, name: &str, bytes: &[u8]) -> Result<(), DbError>
     ensures writes { Writes (S.facts store.old) (S.facts store.new) name.now }
     ensures appended { OnOk result (Appended (S.facts store.old) (S.facts store.new) name.now bytes.now) }
+    ensures stood { OnOk result ((S.facts store.new).failures ≡ (S.facts store.old).failures) }
     ensures refused { IfErr result (λ e. WriteRefuses e (S.facts store.old) (S.facts store.new) ⊥) }
 {
     match store.append(name, bytes) {

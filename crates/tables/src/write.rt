@@ -26,7 +26,8 @@ pub fn write_table<S: Store, R: BufRead + Drop>(
     if builder.is_empty() {
         bail!("there is no line: a table has an entry");
     }
-    builder.finish(alloc, store).map_err(refused)
+    builder.finish(alloc, store).map_err(refused)?;
+    Ok(())
 }
 
 // Adds the entry that a line spells, where it is above the one that was added last, if there is one.

@@ -34,13 +34,13 @@ returns-in_ok-end_block-clause-added g c = λ pairs t h.
     let held = holds_pushed cmp a b c.args.self.now c.create_file.new.self c.push.new.self pairs pair c.in_ok-create_file.ensures.kept (c.in_ok-create_file.ensures.created first) c.requires.rises c.in_ok-push.ensures.pushed h in
     builds cmp c.end_block.new.self d _ (holds_ended cmp b d c.push.new.self c.end_block.new.self _ t c.in_ok-end_block.ensures.ended held)
 
-pub returns-else-size-self-clause-last : goal.returns-else-size-self-clause-last
-returns-else-size-self-clause-last g c =
+pub returns-else-is_full-clause-last : goal.returns-else-is_full-clause-last
+returns-else-is_full-clause-last g c =
     let pair : Pair = record { key = c.args.key.now; value = c.args.value.now } in
     last_pushed c.create_file.new.self c.push.new.self pair c.in_ok-push.ensures.pushed
 
-pub returns-else-size-self-clause-added : goal.returns-else-size-self-clause-added
-returns-else-size-self-clause-added g c = λ pairs t h.
+pub returns-else-is_full-clause-added : goal.returns-else-is_full-clause-added
+returns-else-is_full-clause-added g c = λ pairs t h.
     let cmp = g.K.KeyOrder.cmp in
     let pair : Pair = record { key = c.args.key.now; value = c.args.value.now } in
     let a = g.S.Store.facts c.args.store.now in

@@ -1,4 +1,4 @@
-use Rattle.std.proofs.Common.{◌≡◌, ◌+◌, [], List, ℕ, Some, length, sym, ap, ◌∙◌, subst}
+use Rattle.std.proofs.Common.{◌≡◌, ◌+◌, [], List, ℕ, Some, length, refl, sym, ap, ◌∙◌, subst}
 use Rattle.std.proofs.lemmas.Result.{err_from_is_err_and}
 use Rattle.std.specs.Option.{IsSome}
 use Rattle.std.specs.Prelude.{string_bytes}
@@ -78,7 +78,7 @@ returns-in_err-push_place-clause-refused g c =
     rw (p.1, p.2)
     (gives_up c.in_err-push_place.field-0.0 _ _ _ (NeedsLongIndex c.args.self.now c.args.self.now.block)
     (λ h. subst (λ (v : Building). NeedsLongIndex v v.block) c.self.view_is (long_index b.offset b.index b.block key c.size.result c.self.invariant.index_interval c.self.invariant.block_interval long last h))
-    c.in_err-push_place.ensures.refused)
+    refl c.in_err-push_place.ensures.refused)
 
 pub returns-clause-ended : goal.returns-clause-ended
 returns-clause-ended g c =
