@@ -16,3 +16,4 @@ pub mod Layouts
 pub mod Listed
 pub mod Widths
 pub mod Searched
+pub mod Reached

@@ -1,12 +1,13 @@
 -- Which table of a level is searched for a key (LevelDB's db/version_set.cc, FindFile).
-use Rattle.std.specs.Prelude.{◌⊎◌, ◌<◌, ◌≤◌, ◌+◌, ◌-◌, ℕ, IsTrue, List, length, HoldsAt}
+use Rattle.std.specs.Prelude.{◌≡◌, ◌⊎◌, ◌<◌, ◌≤◌, ◌+◌, ◌-◌, ℕ, IsTrue, List, length, HoldsAt, Contains}
 use Rattle.std.specs.List.{AllWithin}
 use Rattle.std.specs.declared.cmp.Ordering.{Ordering}
-use Rattle.std.specs.Prelude.{◌≡◌}
+use Rattle.std.specs.Cmp.{IsTotalOrder}
 use Rattle.ikey.specs.Below.{IsBelowInternal}
 use Rattle.edits.specs.declared.field.PlacedTable.{PlacedTable}
-use Rattle.versions.specs.Levels.{tables_at}
-use Rattle.versions.specs.Ranges.{covers, user_of}
+use Rattle.ikey.specs.Keys.{Key, IsKey}
+use Rattle.versions.specs.Levels.{AreInOrder, tables_at}
+use Rattle.versions.specs.Ranges.{covers, is_up_to, last_user, user_of}
 
 -- all keys of the table are below this one
 abbrev pub EndsBelow : (List ℕ → List ℕ → Ordering) → List ℕ → PlacedTable → Type 0
@@ -38,3 +39,15 @@ pub record IsSearchedNext (cmp : List ℕ → List ℕ → Ordering) (key : List
   pub within : place < search_length tables
   pub here : IsSearchedAt cmp key tables place placed
   pub first : (other : ℕ) (passed : PlacedTable) → from ≤ other → other < place → IsSearchedAt cmp key tables other passed → ⊥
+
+-- the table ends with the user key of the key, and not below the key; and all of it comes before the other table
+abbrev pub EndsAt : (List ℕ → List ℕ → Ordering) → List ℕ → PlacedTable → PlacedTable → Type 0
+EndsAt cmp key placed other =
+    IsBelowInternal cmp placed.table.largest other.table.smallest × (EndsBelow cmp key placed → ⊥) × IsTrue (is_up_to cmp (last_user placed) (user_of key))
+
+-- Each table that covers the user key and doesn't end below the key is searched, or in its stead one of its level that
+-- comes before it and ends with the user key: that one has the first entry from the key on.
+abbrev pub SearchesReach : Type 0
+SearchesReach = (cmp : List ℕ → List ℕ → Ordering) → IsTotalOrder cmp → (key : List ℕ) (k : Key) (tables : List PlacedTable) → IsKey key k → AreInOrder cmp tables
+    → (placed : PlacedTable) → Contains tables placed → IsTrue (covers cmp placed (user_of key)) → (EndsBelow cmp key placed → ⊥)
+    → (place : ℕ) × (searched : PlacedTable) × IsSearchedAt cmp key tables place searched × ((searched ≡ placed) ⊎ EndsAt cmp key searched placed)

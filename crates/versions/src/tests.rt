@@ -205,6 +205,7 @@ fn tables_are_searched_from_the_newest_down(rt: HostRuntime) -> Result<(), Fail>
         assert_eq!(rt; found, place);
     }
     assert!(rt; version.next_searched(key.as_slice(), 9).is_none());
+    searches_reach();
     Ok(())
 }
 
