@@ -1,0 +1,167 @@
+//! Blocks that were read, up to a number of them.
+
+ghost use Rattle.cache.specs.Holding.{BlocksLast};
+
+use crate::read_block::ReadBlock;
+use crate::slot::{SharedBlock, Slot};
+use block::Block;
+use coding::DbError;
+use ikey::{Internal, KeyOrder};
+use lru::LruCache;
+use std::alloc::{AllocError, Global};
+use std::marker::Model;
+use std::num::NonZeroUsize;
+use std::rc::Rc;
+use store::Store;
+use table::{Handle, Table};
+
+/// Blocks that were read, up to a number of them, by the number of their table and their place in it (LevelDB's
+/// util/cache.cc). Where there are too many, the least recently used goes. Contracts see the blocks that are kept, the
+/// most recently used first, and how many there may be.
+#[derive(Drop)]
+pub struct BlockCache<K: KeyOrder> {
+    blocks: LruCache<Slot, SharedBlock<K>>,
+}
+
+impl<K: KeyOrder> Model for BlockCache<K> {
+    ghost use Rattle.std.specs.Prelude.{map};
+    ghost use Rattle.cache.specs.Blocks.{BlockCache as Kept, kept_block};
+
+    ghost Value = { Kept };
+
+    ghost view = { λ c. record { blocks = map (λ e. kept_block e.0.file e.0.offset e.1.size e.1.block.value.pairs) c.blocks.entries; capacity = c.blocks.cap } };
+}
+
+impl<K: KeyOrder> BlockCache<K> {
+    ghost use Rattle.std.specs.Prelude.{◌≡◌, ◌==◌, ◌≤◌, ◌⊎◌, ℕ, List, Option, [], length, IsTrue, Contains, IfOk, IfErr, OnOk, IsSome, MatchOption};
+    ghost use Rattle.std.specs.NonZero.{non_zero_usize_get};
+    ghost use Rattle.ikey.specs.Entries.{Pair};
+    ghost use Rattle.table.specs.Refusals.{IsDamaged, IsUnsupported};
+    ghost use Rattle.table.specs.Reading.{Reads, Refuses};
+    ghost use Rattle.cache.specs.Holding.{HoldsBlocks, IsContent, IsBlockOf};
+    ghost use Rattle.cache.specs.Blocks.{KeptBlock, answer_of, answer_if, kept_at, Hits, IsAnswered, IsOf};
+
+    /// A cache that keeps at most so many blocks, and none yet.
+    pub fn new(alloc: Global, capacity: NonZeroUsize) -> Result<Self, AllocError>
+        ensures empty { IfOk result (λ cache. cache.blocks ≡ []) }
+        ensures capacity { IfOk result (λ cache. cache.capacity ≡ non_zero_usize_get capacity) }
+    {
+        let blocks = LruCache::sparse(alloc, capacity)?;
+        Ok(BlockCache { blocks })
+    }
+
+    /// How many blocks are kept.
+    pub fn len(&self) -> usize
+        ensures length { result ≡ length self.now.blocks }
+        ensures fits { result ≤ self.now.capacity }
+    {
+        self.blocks.len()
+    }
+
+    /// Whether no block is kept.
+    pub fn is_empty(&self) -> bool
+        ensures { result ≡ (length self.now.blocks == 0) }
+    {
+        self.len() == 0
+    }
+
+    /// The block at a handle of the table of this number: the one that is kept or, where none is, what the reader
+    /// answers, which is kept from then on where it is a block and there is memory to keep it. OutOfMemory, for a kept
+    /// block, where it has as many owners as can be counted.
+    pub fn fetch<Source, R: ReadBlock<K, Source>>(
+        &mut self,
+        alloc: Global,
+        source: &mut Source,
+        reader: &R,
+        file: u64,
+        handle: Handle,
+    ) -> Result<Rc<Block<Internal<K>>>, DbError>
+        // A kept block is answered, and the source isn't asked. Else the answer is the reader's.
+        ensures answer { MatchOption (kept_at self.old.blocks file handle)
+            (R.reads reader.now source.old source.new handle (answer_of result))
+            (λ pairs. Hits pairs (answer_of result) × (source.new ≡ source.old)) }
+        // What is kept was kept before, or is what was answered. So a refusal isn't kept.
+        ensures kept { (kept : KeptBlock) → Contains self.new.blocks kept → Contains self.old.blocks kept ⊎ IsAnswered kept file handle (answer_of result) }
+        ensures capacity { self.new.capacity ≡ self.old.capacity }
+    {
+        if let Some(block) = self.find(file, handle)? {
+            return Ok(block);
+        }
+        let block = reader.read(alloc, source, handle)?;
+        self.keep(file, handle, &block);
+        Ok(block)
+    }
+
+    /// The data block at a handle of this open table, which has this number: by `fetch`. Corrupt and Unsupported as
+    /// `Table::read_block`.
+    pub fn read_block<S: Store>(
+        &mut self,
+        alloc: Global,
+        store: &mut S,
+        table: &Table<K>,
+        file: u64,
+        handle: Handle,
+    ) -> Result<Rc<Block<Internal<K>>>, DbError>
+        ensures reads { Reads (S.facts store.old) (S.facts store.new) }
+        // Where each kept block is that of its table, so is the one that is answered, and so are those kept afterwards.
+        ensures found { (content : ℕ → Option (List ℕ)) → HoldsBlocks K.cmp content self.old.blocks → IsContent content file (S.facts store.old) table.now.name
+            → IsTrue (S.facts store.new).faithful → IfOk (answer_of result) (λ pairs. IsBlockOf K.cmp content file handle pairs) }
+        ensures holds { (content : ℕ → Option (List ℕ)) → HoldsBlocks K.cmp content self.old.blocks → IsContent content file (S.facts store.old) table.now.name
+            → IsTrue (S.facts store.new).faithful → HoldsBlocks K.cmp content self.new.blocks }
+        ensures stood { OnOk result ((S.facts store.new).failures ≡ (S.facts store.old).failures) }
+        ensures refused { IfErr (answer_of result) (λ e. Refuses e (S.facts store.old) (S.facts store.new) table.now.name
+            (λ bytes. IsDamaged K.cmp bytes handle) (λ bytes. IsUnsupported bytes handle)) }
+        ensures capacity { self.new.capacity ≡ self.old.capacity }
+    {
+        self.fetch(alloc, store, table, file, handle)
+    }
+
+    // The block that is kept.
+    fn find(
+        &mut self,
+        file: u64,
+        handle: Handle,
+    ) -> Result<Option<Rc<Block<Internal<K>>>>, AllocError>
+        ensures found { IfOk result (λ found. kept_at self.old.blocks file handle ≡ answer_if found) }
+        ensures refused { IfErr result (λ _. IsSome (kept_at self.old.blocks file handle)) }
+        ensures kept { (kept : KeptBlock) → Contains self.new.blocks kept → Contains self.old.blocks kept }
+        ensures capacity { self.new.capacity ≡ self.old.capacity }
+    {
+        let slot = Slot {
+            file,
+            offset: handle.offset,
+        };
+        let Some(shared) = self.blocks.get(&slot) else {
+            return Ok(None);
+        };
+        if shared.size != handle.size {
+            return Ok(None);
+        }
+        let block = shared.block.clone()?;
+        Ok(Some(block))
+    }
+
+    // Keeps the block, where there is memory for it.
+    fn keep(&mut self, file: u64, handle: Handle, block: &Rc<Block<Internal<K>>>)
+        ensures kept { (kept : KeptBlock) → Contains self.new.blocks kept → Contains self.old.blocks kept ⊎ IsOf kept file handle block.now.value.pairs }
+        ensures capacity { self.new.capacity ≡ self.old.capacity }
+    {
+        let slot = Slot {
+            file,
+            offset: handle.offset,
+        };
+        let Ok(block) = block.clone() else {
+            return;
+        };
+        let shared = SharedBlock {
+            size: handle.size,
+            block,
+        };
+        let _ = self.blocks.put(slot, shared);
+    }
+}
+
+/// What is kept stays right while tables come into use under new numbers and go out of use.
+pub fn blocks_last()
+    ensures { BlocksLast }
+{}

@@ -1,0 +1,161 @@
+//! Tables that stay open, up to a number of them.
+
+ghost use Rattle.cache.specs.Holding.{TablesLast};
+
+use crate::opening::open_table;
+use coding::DbError;
+use ikey::KeyOrder;
+use lru::LruCache;
+use std::alloc::{AllocError, Global};
+use std::marker::Model;
+use std::num::NonZeroUsize;
+use std::rc::Rc;
+use store::Store;
+use table::Table;
+
+/// Tables that stay open, up to a number of them, by their number (LevelDB's db/table_cache.cc). Where there are too
+/// many, the least recently used goes. Contracts see the tables that are kept, the most recently used first, and how
+/// many there may be.
+#[derive(Drop)]
+pub struct TableCache<K: KeyOrder> {
+    tables: LruCache<u64, Rc<Table<K>>>,
+}
+
+impl<K: KeyOrder> Model for TableCache<K> {
+    ghost use Rattle.std.specs.Prelude.{map};
+    ghost use Rattle.cache.specs.Tables.{TableCache as Kept, kept_table};
+
+    ghost Value = { Kept };
+
+    ghost view = { λ c. record { tables = map (λ e. kept_table e.0 e.1.value) c.tables.entries; capacity = c.tables.cap } };
+}
+
+impl<K: KeyOrder> TableCache<K> {
+    ghost use Rattle.std.specs.Prelude.{◌≡◌, ◌==◌, ◌<◌, ◌≤◌, ◌⊎◌, ℕ, List, Option, None, [], IsTrue, length, Contains, IfOk, IfErr, OnOk, IsSome, MatchOption};
+    ghost use Rattle.std.specs.NonZero.{non_zero_usize_get};
+    ghost use Rattle.cache.specs.Tables.{KeptTable, OpensTable, table_answer_of, table_if, kept_table_at, HitsTable, IsKeptOf, IsAnsweredTable, RefusesTable};
+    ghost use Rattle.cache.specs.Holding.{HoldsTables, HasTable, IsOpenOf};
+    ghost use Rattle.table.specs.Frame.{Frame, IsFrame, IsOversized};
+    ghost use Rattle.table.specs.Reading.{Reads};
+    ghost use Rattle.table.specs.Refusals.{IsFrameDamaged, IsFrameUnsupported};
+
+    /// A cache that keeps at most so many tables, and none yet.
+    pub fn new(alloc: Global, capacity: NonZeroUsize) -> Result<Self, AllocError>
+        ensures empty { IfOk result (λ cache. cache.tables ≡ []) }
+        ensures capacity { IfOk result (λ cache. cache.capacity ≡ non_zero_usize_get capacity) }
+    {
+        let tables = LruCache::sparse(alloc, capacity)?;
+        Ok(TableCache { tables })
+    }
+
+    /// How many tables are kept.
+    pub fn len(&self) -> usize
+        ensures length { result ≡ length self.now.tables }
+        ensures fits { result ≤ self.now.capacity }
+    {
+        self.tables.len()
+    }
+
+    /// Whether no table is kept.
+    pub fn is_empty(&self) -> bool
+        ensures { result ≡ (length self.now.tables == 0) }
+    {
+        self.len() == 0
+    }
+
+    /// The open table of this number: the one that is kept or, where none is, one that is opened, and kept from then on
+    /// where there is memory to keep it. Its file is the one that ends in `.ldb` or, where there is none, the one that
+    /// ends in `.sst`; where neither is there it is Corrupt. Corrupt and Unsupported else as `Table::open`.
+    pub fn get_table<S: Store>(
+        &mut self,
+        alloc: Global,
+        store: &mut S,
+        number: u64,
+    ) -> Result<Rc<Table<K>>, DbError>
+        requires { 0 < number }
+        // A kept table is answered, and the store isn't asked. Else the answer is that of opening the table's file.
+        ensures answer { MatchOption (kept_table_at self.old.tables number)
+            (OpensTable K.cmp (S.facts store.old) (S.facts store.new) number (table_answer_of result))
+            (λ table. HitsTable table (table_answer_of result) × (store.new ≡ store.old)) }
+        // What is kept was kept before, or is what was answered. So a refusal isn't kept.
+        ensures kept { (kept : KeptTable) → Contains self.new.tables kept → Contains self.old.tables kept ⊎ IsAnsweredTable kept number (table_answer_of result) }
+        ensures reads { Reads (S.facts store.old) (S.facts store.new) }
+        // Where each kept table is that of its number, so is the one that is answered, and so are those kept afterwards.
+        ensures found { (content : ℕ → Option (List ℕ)) → HoldsTables K.cmp content (S.facts store.old) self.old.tables → HasTable content number (S.facts store.old)
+            → IsTrue (S.facts store.new).faithful → IfOk (table_answer_of result) (λ table. IsOpenOf K.cmp content (S.facts store.new) number table) }
+        ensures holds { (content : ℕ → Option (List ℕ)) → HoldsTables K.cmp content (S.facts store.old) self.old.tables → HasTable content number (S.facts store.old)
+            → IsTrue (S.facts store.new).faithful → HoldsTables K.cmp content (S.facts store.new) self.new.tables }
+        ensures stood { OnOk result ((S.facts store.new).failures ≡ (S.facts store.old).failures) }
+        ensures told { IfErr (table_answer_of result) (λ e. RefusesTable e (S.facts store.old) (S.facts store.new) number (IsFrameDamaged K.cmp) IsFrameUnsupported) }
+        // A frame is refused only where one of its blocks is too long.
+        ensures refused { IfErr (table_answer_of result) (λ e. RefusesTable e (S.facts store.old) (S.facts store.new) number
+            (λ file. (frame : Frame) → IsFrame K.cmp file frame → ⊥) (λ file. (frame : Frame) (is : IsFrame K.cmp file frame) → IsOversized K.cmp file frame is)) }
+        ensures capacity { self.new.capacity ≡ self.old.capacity }
+    {
+        self.fetch(alloc, store, number)
+    }
+
+    /// Closes the table of this number, where it is kept: its file is to be removed (LevelDB's `TableCache::Evict`).
+    pub fn evict(&mut self, number: u64)
+        ensures gone { kept_table_at self.new.tables number ≡ None }
+        ensures kept { (kept : KeptTable) → Contains self.new.tables kept → Contains self.old.tables kept }
+        ensures capacity { self.new.capacity ≡ self.old.capacity }
+    {
+        // No number is kept twice: that is what the contract of `len` says.
+        let _count = self.tables.len();
+        let _table = self.tables.pop(&number);
+    }
+
+    // The table that is kept or, where none is, one that is opened, and kept where there is memory to keep it.
+    fn fetch<S: Store>(
+        &mut self,
+        alloc: Global,
+        store: &mut S,
+        number: u64,
+    ) -> Result<Rc<Table<K>>, DbError>
+        requires { 0 < number }
+        ensures answer { MatchOption (kept_table_at self.old.tables number)
+            (OpensTable K.cmp (S.facts store.old) (S.facts store.new) number (table_answer_of result))
+            (λ table. HitsTable table (table_answer_of result) × (store.new ≡ store.old)) }
+        ensures kept { (kept : KeptTable) → Contains self.new.tables kept → Contains self.old.tables kept ⊎ IsAnsweredTable kept number (table_answer_of result) }
+        ensures capacity { self.new.capacity ≡ self.old.capacity }
+    {
+        if let Some(table) = self.find(number)? {
+            return Ok(table);
+        }
+        let table = open_table::<K, S>(alloc, store, number)?;
+        self.keep(number, &table);
+        Ok(table)
+    }
+
+    // The table that is kept.
+    fn find(&mut self, number: u64) -> Result<Option<Rc<Table<K>>>, AllocError>
+        ensures found { IfOk result (λ found. kept_table_at self.old.tables number ≡ table_if found) }
+        ensures refused { IfErr result (λ _. IsSome (kept_table_at self.old.tables number)) }
+        ensures kept { (kept : KeptTable) → Contains self.new.tables kept → Contains self.old.tables kept }
+        ensures capacity { self.new.capacity ≡ self.old.capacity }
+    {
+        let Some(kept) = self.tables.get(&number) else {
+            return Ok(None);
+        };
+        let table = kept.clone()?;
+        Ok(Some(table))
+    }
+
+    // Keeps the table, where there is memory for it.
+    fn keep(&mut self, number: u64, table: &Rc<Table<K>>)
+        ensures kept { (kept : KeptTable) → Contains self.new.tables kept → Contains self.old.tables kept ⊎ IsKeptOf kept number table.now.value }
+        ensures capacity { self.new.capacity ≡ self.old.capacity }
+    {
+        let Ok(table) = table.clone() else {
+            return;
+        };
+        let _ = self.tables.put(number, table);
+    }
+}
+
+/// What is kept stays right while tables come into use under new numbers and go out of use, and the files of those in
+/// use stay.
+pub fn tables_last()
+    ensures { TablesLast }
+{}
