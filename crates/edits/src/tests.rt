@@ -1,6 +1,5 @@
 ghost use Rattle.std.specs.Prelude.{◌<◌, ◌^◌, All, IfOk};
 ghost use Rattle.edits.specs.Edit.{IsProper, IsInOrder};
-ghost use Rattle.edits.specs.Snapshot.{IsKept};
 ghost use Rattle.edits.specs.declared.field.Field.TheVariants.{NewFile};
 
 use super::*;
@@ -10,7 +9,7 @@ use std::test::*;
 
 const COMPARATOR: &[u8] = b"leveldb.BytewiseComparator";
 
-// The first edit of an empty database: log 2, next file 3, no sequence number used.
+// The first edit of an empty database, of 34 bytes.
 const FIRST: &[u8] = b"\x01\x1aleveldb.BytewiseComparator\x02\x02\x03\x03\x04\0";
 
 // The edit of a flush: log 3, next file 5, last sequence 1, and the table 4 of 176 bytes at level 0, whose keys are both
@@ -23,6 +22,26 @@ const KEY: &[u8] = b"a\x01\x01\0\0\0\0\0\0";
 // One field of each tag, in our writer's order.
 const EVERY_TAG: &[u8] =
     b"\x01\x01c\x02\x03\x03\x05\x04\x01\x05\x01\x01k\x06\x02\xac\x02\x07\0\x04\xb0\x01\x01a\x01b\x09\x02";
+
+// The first edit of an empty database: log 2, next file 3, no sequence number used.
+fn first_edit(alloc: Global) -> Result<Edit, AllocError>
+    ensures proper { IfOk result (λ edit. All IsProper edit) }
+    ensures order { IfOk result (λ edit. IsInOrder edit) }
+{
+    let mut edit = Edit::new(alloc);
+    edit.push(Field::Comparator(Bytes::copied_from(alloc, COMPARATOR)?))?;
+    edit.push(Field::LogNumber(2))?;
+    edit.push(Field::NextFileNumber(3))?;
+    edit.push(Field::LastSequence(0))?;
+    Ok(edit)
+}
+
+#[test]
+fn the_first_edit_is_written(rt: HostRuntime) -> Result<(), Fail> {
+    let edit = first_edit(rt.alloc())?;
+    assert_eq!(rt; encode_edit(rt.alloc(), &edit)?.as_slice(), FIRST);
+    Ok(())
+}
 
 fn new_file(alloc: Global) -> Result<PlacedTable, AllocError>
     ensures { IfOk result (λ placed. IsProper (NewFile placed)) }
@@ -66,10 +85,8 @@ fn every_tag_is_written(rt: HostRuntime) -> Result<(), Fail> {
     Ok(())
 }
 
-// The layout that the edit of these bytes leaves.
-fn layout_of(alloc: Global, bytes: &[u8]) -> Result<Layout, Fail>
-    ensures { IfOk result (λ layout. IsKept layout) }
-{
+// The bytes of the edit that leaves alone what these bytes leave.
+fn snapshot_of(alloc: Global, bytes: &[u8], previous_log_number: u64) -> Result<Vec<u8>, Fail> {
     let Ok(edit) = decode_edit(alloc, bytes) else {
         return Err(Fail::from("the bytes are no edit"));
     };
@@ -78,47 +95,31 @@ fn layout_of(alloc: Global, bytes: &[u8]) -> Result<Layout, Fail>
         return Err(Fail::from("the edit leaves no layout"));
     };
     layouts_are_kept();
-    Ok(layout)
+    let snapshot = snapshot_edit(alloc, COMPARATOR, 7, previous_log_number, 9, 5, &layout)?;
+    Ok(encode_edit(alloc, &snapshot)?)
 }
 
-// An edit, the log number, the previous log's, the next file's and the last sequence of the edit that leaves alone what
-// it leaves, and that edit.
-type Snapshot = (&'static [u8], u64, u64, u64, u64, &'static [u8]);
-
-const SNAPSHOTS: [Snapshot; 3] = [
-    (FIRST, 2, 0, 3, 0, FIRST),
+// Edits, the number of the previous log, and the edit that leaves alone what they leave.
+const SNAPSHOTS: [(&[u8], u64, &[u8]); 2] = [
     (
         FLUSH,
-        7,
         0,
-        9,
-        5,
         b"\x01\x1aleveldb.BytewiseComparator\x02\x07\x03\x09\x04\x05\x07\0\x04\xb0\x01\x09a\x01\x01\0\0\0\0\0\0\x09a\x01\x01\0\0\0\0\0\0",
     ),
     (
         b"\x02\x03\x05\x02\x01p\x03\x05\x05\0\x01q\x07\x01\x06\x01\x01a\x01b\x07\0\x08\x01\x01a\x01b\x04\x01",
-        7,
         6,
-        9,
-        5,
         b"\x01\x1aleveldb.BytewiseComparator\x02\x07\x03\x09\x04\x05\x05\0\x01q\x05\x02\x01p\x07\0\x08\x01\x01a\x01b\x07\x01\x06\x01\x01a\x01b\x09\x06",
     ),
 ];
 
-fn is_snapshot(alloc: Global, case: Snapshot) -> Result<bool, Fail> {
-    let (bytes, log, previous, next, last, wanted) = case;
-    let layout = layout_of(alloc, bytes)?;
-    if last >= 1 << 56 {
-        return Ok(false);
-    }
-    let edit = snapshot_edit(alloc, COMPARATOR, log, previous, next, last, &layout)?;
-    Ok(encode_edit(alloc, &edit)?.as_slice() == wanted)
-}
-
 #[test]
 fn snapshot_repeats_the_layout(rt: HostRuntime) -> Result<(), Fail> {
-    for case in SNAPSHOTS {
-        assert!(rt; is_snapshot(rt.alloc(), case)?, "{case:?}");
+    for (bytes, previous, wanted) in SNAPSHOTS {
+        assert_eq!(rt;
+            snapshot_of(rt.alloc(), bytes, previous)?.as_slice(),
+            wanted
+        );
     }
     Ok(())
 }
@@ -135,7 +136,10 @@ fn is_flushed(placed: &PlacedTable) -> bool {
 fn flush_edit_is_read_and_cut_ones_are_corrupt(rt: HostRuntime) -> Result<(), Fail> {
     let alloc = rt.alloc();
     assert!(rt; matches!(decode_edit(alloc, FLUSH), Ok(edit) if edit.fields().len() == 4));
-    let layout = layout_of(alloc, FLUSH)?;
+    let edits = [decode_edit(alloc, FLUSH).ok().ok_or("an edit")?];
+    let layout = fold_edits(alloc, COMPARATOR, &edits)
+        .ok()
+        .ok_or("a layout")?;
     assert!(rt; layout.log_number == 3 && layout.previous_log_number == 0);
     assert!(rt;
         layout.next_file_number == 5
