@@ -83,9 +83,9 @@ given_back {T} old mid new last e r taken rise back d counts files synced free m
             elim (whole.err g) [
               | inl still ↦ (let after = left_by new last (files f) (synced f) in inl (after.0 ∙ still.0, after.1 ∙ still.1))
               | inr made ↦ (
-                    let fs : (name : _) → get last.files name ≡ get new.files name = λ name. ap (λ (x : Files). get x name) (files f) in
-                    let ss : (name : _) → last.synced name ≡ new.synced name = λ name. ap (λ (s : Synced). s name) (synced f) in
-                    inr (made.0, made.1, (fs _ ∙ made.2.0, ss _ ∙ made.2.1), fs _ ∙ made.3, ss _ ∙ made.4))
+                  let fs : (name : _) → get last.files name ≡ get new.files name = λ name. ap (λ (x : Files). get x name) (files f) in
+                  let ss : (name : _) → last.synced name ≡ new.synced name = λ name. ap (λ (s : Synced). s name) (synced f) in
+                  inr (made.0, made.1, (fs _ ∙ made.2.0, ss _ ∙ made.2.1), fs _ ∙ made.3, ss _ ∙ made.4))
             ];
       };
     }

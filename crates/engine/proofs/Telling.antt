@@ -60,13 +60,19 @@ beyond_back order old new only (inl b) = inl (record {
 })
 beyond_back order old new only (inr b) =
     let has = b.3 in
-    inr (b.0, b.1, b.2, record {
-      numbered = has.numbered;
-      current = sym (only Current tt (λ e. cc)) ∙ has.current;
-      bytes = has.bytes;
-      there = sym (only (Manifest b.0) has.numbered (λ e. cc)) ∙ has.there;
-      spelled = has.spelled;
-    }, b.4)
+    inr (
+      b.0,
+      b.1,
+      b.2,
+      record {
+        numbered = has.numbered;
+        current = sym (only Current tt (λ e. cc)) ∙ has.current;
+        bytes = has.bytes;
+        there = sym (only (Manifest b.0) has.numbered (λ e. cc)) ∙ has.there;
+        spelled = has.spelled;
+      },
+      b.4,
+    )
 
 -- the file of the lock says nothing
 pub tells_beside : (order : Order) (old new : Files) → FreeChangeLaw → MayLock old new → (r : Result DbState DbError) → Tells order new r → Tells order old r

@@ -303,6 +303,7 @@ synced_itself s from to same = λ i q. at q i
     back : (q : List ℕ) (b : Bool) → (b ≡ true → q ≡ from) → s q ≡ cond b (s from) (cond b None (s q))
     back q true h = ap s (h refl)
     back q false h = refl
+
     at : (q : List ℕ) → s q ≡ renamed s from to q
     at q = back q (eq_by_cmp (slice_cmp nat_cmp) q from) (same_name q from)
         ∙ ap (λ t. cond (eq_by_cmp (slice_cmp nat_cmp) q t) (s from) (with_synced s from None q)) same

@@ -13,5 +13,5 @@ returns-in-Some-clause-files c =
 pub returns-in-Some-clause-synced : goal.returns-in-Some-clause-synced
 returns-in-Some-clause-synced c =
     changed_synced _ _ _ _ _ (
-      synced-change c.args.name.now c.args.self.now.files (c.get_mut.follows.lender c.clear.new.self) (Some c.clear.new.self) ((c.get_mut.follows.holds c.clear.new.self).3 (search rules))
-      ∙ ap (λ (v : MemFile). with_synced (synced_of c.args.self.now.files.entries) c.args.name.now v.synced) c.clear.ensures)
+    synced-change c.args.name.now c.args.self.now.files (c.get_mut.follows.lender c.clear.new.self) (Some c.clear.new.self) ((c.get_mut.follows.holds c.clear.new.self).3 (search rules))
+    ∙ ap (λ (v : MemFile). with_synced (synced_of c.args.self.now.files.entries) c.args.name.now v.synced) c.clear.ensures)
