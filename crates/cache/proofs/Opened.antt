@@ -29,6 +29,8 @@ reads_both old mid new first second =
       files = λ t. second.files t ∙ first.files (second.faithful t);
       failures = omega (arith, a, b);
       denials = second.denials ∙ first.denials;
+      held = second.held ∙ first.held;
+      synced = λ t. second.synced t ∙ first.synced (second.faithful t);
     }
 
 pub not_opened : (cmp : List ℕ → List ℕ → Ordering) (e : DbError) (old mid new : Facts) (number : ℕ) (name : List ℕ) → Reads old mid → mid.failures ≡ old.failures → Reads mid new → FindsName old mid number name

@@ -20,7 +20,7 @@ use Rattle.cursor.proofs.Backwards.{looks_back, ends_back, front_back}
 
 pub stays_still : {C S : Type 0} (facts : S → Facts) (keeps : C → S → S → Type 0) (limited : C → Type 0) → ((cursor : C) (source : S) → keeps cursor source source) → (cursor : C) (source : S) → Stays facts keeps limited cursor cursor source source
 stays_still facts keeps limited still cursor source = record {
-  reads = record { faithful = λ t. t; files = λ t. refl; failures = omega arith; denials = refl };
+  reads = record { faithful = λ t. t; files = λ t. refl; failures = omega arith; denials = refl; held = refl; synced = λ f. refl };
   others = λ f other. still other source;
   same = λ s t k. k;
   limit = λ l. l;
