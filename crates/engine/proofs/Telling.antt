@@ -75,7 +75,7 @@ beyond_back order old new only (inr b) =
     )
 
 -- the file of the lock says nothing
-pub tells_beside : (order : Order) (old new : Files) → FreeChangeLaw → MayLock old new → (r : Result DbState DbError) → Tells order new r → Tells order old r
+pub tells_beside : {K : Type 0} → (order : Order) (old new : Files) → FreeChangeLaw → MayLock old new → (r : Result (DbState K) DbError) → Tells order new r → Tells order old r
 unfolding OnlyLock
 tells_beside order old new law may (Ok state) h =
     let back = only_back old new (may_lock_only old new may) in

@@ -26,33 +26,33 @@ use Rattle.engine.specs.Telling.{CommandTells, OpenTells}
 -- ---- of one command
 
 -- A value that a get answers is what the newest entry of the key put, as far as the read sees.
-abbrev pub IsRead : List ℕ → Option ℕ → Option DbState → Answer → Type 0
+abbrev pub IsRead : {K : Type 0} → List ℕ → Option ℕ → Option (DbState K) → Answer → Type 0
 IsRead key snapshot None (Value value) = ⊥
 IsRead key snapshot (Some state) (Value value) = (sequence : ℕ) × (sequence_at state snapshot ≡ Some sequence) × IsValueAt state.table.entries.items sequence key value
 IsRead key snapshot state _ = Unit {0}
 
-abbrev pub Shows : Op → Option DbState → Answer → Type 0
+abbrev pub Shows : {K : Type 0} → Op → Option (DbState K) → Answer → Type 0
 Shows (Get key snapshot) state answer = IsRead key snapshot state answer
 Shows _ state answer = Unit {0}
 
 -- No database is open behind a close.
-abbrev pub Shuts : Op → Option DbState → Type 0
+abbrev pub Shuts : {K : Type 0} → Op → Option (DbState K) → Type 0
 Shuts Close state = state ≡ None
 Shuts _ state = Unit {0}
 
 -- why a write is refused
-abbrev pub write_causes : List Operation → Option DbState → Ids → Option DbError
+abbrev pub write_causes : {K : Type 0} → List Operation → Option (DbState K) → Ids → Option DbError
 write_causes operations state ids = option_or (first_refusal [] operations) (where_open (λ s. write_refusal s operations) state)
 
 -- ---- of two sessions
 
-abbrev pub CausedBy : {S K : Type 0} → (Option DbState → Ids → Option DbError) → Session S K → Session S K → Answer → Type 0
+abbrev pub CausedBy : {S K : Type 0} → (Option (DbState K) → Ids → Option DbError) → Session S K → Session S K → Answer → Type 0
 CausedBy cause old new answer = IsCaused (cause old.state old.ids) old.store new.store answer
 
-abbrev pub TouchedBy : {S K : Type 0} → (Option DbState → Facts → Facts → Answer → Type 0) → (S → Facts) → Session S K → Session S K → Answer → Type 0
+abbrev pub TouchedBy : {S K : Type 0} → (Option (DbState K) → Facts → Facts → Answer → Type 0) → (S → Facts) → Session S K → Session S K → Answer → Type 0
 TouchedBy touches facts old new answer = touches old.state (facts old.store) (facts new.store) answer
 
-abbrev pub Left : Option DbState → Facts → Facts → Answer → Type 0
+abbrev pub Left : {K : Type 0} → Option (DbState K) → Facts → Facts → Answer → Type 0
 Left state old new answer = LeavesStore old new
 
 abbrev pub ToldBy : {S K : Type 0} → Op → Order → (S → Facts) → Session S K → Session S K → Answer → Type 0
@@ -99,7 +99,7 @@ AllApplied order facts (op ∷ ops) [] old new = ⊥
 -- ---- of an open database
 
 -- why a write to it is refused
-abbrev pub DbCaused : {S K T : Type 0} → (DbState → Ids → Option DbError) → Db S K → Db S K → Result T DbError → Type 0
+abbrev pub DbCaused : {S K T : Type 0} → (DbState K → Ids → Option DbError) → Db S K → Db S K → Result T DbError → Type 0
 DbCaused cause old new result = IsCausedIn (cause old.state old.ids) old.store new.store result
 
 abbrev pub DbSyncs : {S K T : Type 0} → Type 0 → Bool → (S → Facts) → Db S K → Db S K → Result T DbError → Type 0

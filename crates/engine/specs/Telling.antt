@@ -33,10 +33,10 @@ Tells order files (Ok x) = IsOpenable order files
 Tells order files (Err e) = RefusalTells order files e
 
 -- What the answer to a command tells of a faithful store's files, before the command.
-abbrev pub OpenTells : Order → Option DbState → Facts → Facts → Answer → Type 0
+abbrev pub OpenTells : {K : Type 0} → Order → Option (DbState K) → Facts → Facts → Answer → Type 0
 OpenTells order None old new answer = IsTrue new.faithful → Tells order old.files (unit_result answer)
 OpenTells order (Some state) old new answer = Unit {0}
 
-abbrev pub CommandTells : Op → Order → Option DbState → Facts → Facts → Answer → Type 0
+abbrev pub CommandTells : {K : Type 0} → Op → Order → Option (DbState K) → Facts → Facts → Answer → Type 0
 CommandTells (Open mode) order state old new answer = OpenTells order state old new answer
 CommandTells _ order state old new answer = Unit {0}

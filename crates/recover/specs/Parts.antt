@@ -94,6 +94,10 @@ pub record Replays (old new : Replay) (more : List Entry) : Type 0 where
   pub rise : RiseAbove old.last more
   pub last : new.last ≡ max old.last (greatest more)
 
+-- the sequences of its entries rise, and the last one is the greatest
+abbrev pub IsRising : Replay → Type 0
+IsRising replay = RiseAbove 0 replay.entries.items × (replay.last ≡ greatest replay.entries.items)
+
 -- the files hold logs of these numbers, of which the replay has the entries
 pub record HasReplayed (files : Files) (numbers : List ℕ) (replay : Replay) : Type 0 where
   pub contents : List LogContent
