@@ -1,5 +1,5 @@
 -- What a walk over the visible pairs stands for.
-use Rattle.std.specs.Prelude.{◌≡◌, ℕ, Bool, true, false, List, Option, Some, None, Result, Ok, Err, slice_get}
+use Rattle.std.specs.Prelude.{◌≡◌, ℕ, Bool, true, false, List, Option, Some, None, Result, Ok, Err, slice_get, if◌then◌else◌}
 use Rattle.coding.specs.declared.error.DbError.{DbError}
 use Rattle.ikey.specs.Entries.{InternalEntry, Pair}
 use Rattle.cursor.specs.declared.visible.Visible.{Visible}
@@ -58,3 +58,7 @@ pub record HasStayed {K C : Type 0} {g : _} (old new : Visible K C g) : Type 0 w
   pub stands : new.stands ≡ old.stands
   pub position : new.position ≡ Astray
   pub key : new.here.key.items ≡ old.here.key.items
+
+-- the user key on which the walk stood before its last move, which succeeded
+abbrev pub key_before : {K C : Type 0} {g : _} → Visible K C g → List ℕ
+key_before walk = if walk.stands then walk.spare.key.items else walk.here.key.items

@@ -38,7 +38,7 @@ impl<K: KeyOrder, C> Visible<K, C> {
     ghost use Rattle.cursor.specs.Views.{Walked, IsViewList, passed, walk_first, walk_last, walk_to, walk_next, walk_prev};
     ghost use Rattle.cursor.specs.Searches.{Wanders, SearchesOn, HasPassedNone, PassesLower, below_bound};
     ghost use Rattle.cursor.specs.Standing.{bound_if};
-    ghost use Rattle.cursor.specs.Walks.{IsWalk, IsPlacedWalk, HasStayed, value_at_hand, walk_after, walked};
+    ghost use Rattle.cursor.specs.Walks.{IsWalk, IsPlacedWalk, HasStayed, key_before, value_at_hand, walk_after, walked};
 
     /// A walk over what is visible at the sequence, below `SEQUENCE_END`. It stands nowhere, and takes no memory.
     pub fn new(alloc: Global, cursor: C, sequence: u64) -> Self
@@ -78,6 +78,9 @@ impl<K: KeyOrder, C> Visible<K, C> {
         ensures at_hand { OnOk result (self.new.stands ≡ true → value_at_hand C.stands self.new ≡ true) }
         ensures stays { Stays C.facts C.keeps C.limited self.old.cursor self.new.cursor source.old source.new }
         ensures refused { IfErr result (λ e. Refuses e (C.facts source.old) (C.facts source.new) ((at : Walked) → IsWalk K.cmp C.lists self.old source.old at → ⊥) (C.limited self.old.cursor)) }
+        ensures sequence { self.new.sequence ≡ self.old.sequence }
+        ensures stayed { OnErr result ((self.new.stands ≡ self.old.stands) × (self.new.here.key.items ≡ self.old.here.key.items)) }
+        ensures left { OnOk result (key_before self.new ≡ self.old.here.key.items) }
     {
         self.position = Position::Astray;
         self.cursor.first(alloc, source)?;
@@ -93,6 +96,9 @@ impl<K: KeyOrder, C> Visible<K, C> {
         ensures at_hand { OnOk result (self.new.stands ≡ true → value_at_hand C.stands self.new ≡ true) }
         ensures stays { Stays C.facts C.keeps C.limited self.old.cursor self.new.cursor source.old source.new }
         ensures refused { IfErr result (λ e. Refuses e (C.facts source.old) (C.facts source.new) ((at : Walked) → IsWalk K.cmp C.lists self.old source.old at → ⊥) (C.limited self.old.cursor)) }
+        ensures sequence { self.new.sequence ≡ self.old.sequence }
+        ensures stayed { OnErr result ((self.new.stands ≡ self.old.stands) × (self.new.here.key.items ≡ self.old.here.key.items)) }
+        ensures left { OnOk result (key_before self.new ≡ self.old.here.key.items) }
     {
         self.position = Position::Astray;
         self.cursor.last(alloc, source)?;
@@ -108,6 +114,9 @@ impl<K: KeyOrder, C> Visible<K, C> {
         ensures at_hand { OnOk result (self.new.stands ≡ true → value_at_hand C.stands self.new ≡ true) }
         ensures stays { Stays C.facts C.keeps C.limited self.old.cursor self.new.cursor source.old source.new }
         ensures refused { IfErr result (λ e. Refuses e (C.facts source.old) (C.facts source.new) ((at : Walked) → IsWalk K.cmp C.lists self.old source.old at → ⊥) (C.limited self.old.cursor)) }
+        ensures sequence { self.new.sequence ≡ self.old.sequence }
+        ensures stayed { OnErr result ((self.new.stands ≡ self.old.stands) × (self.new.here.key.items ≡ self.old.here.key.items)) }
+        ensures left { OnOk result (key_before self.new ≡ self.old.here.key.items) }
     {
         let key = seek_key(alloc, target, self.sequence)?;
         self.position = Position::Astray;
@@ -125,6 +134,9 @@ impl<K: KeyOrder, C> Visible<K, C> {
         ensures at_hand { OnOk result (self.new.stands ≡ true → value_at_hand C.stands self.new ≡ true) }
         ensures stays { Stays C.facts C.keeps C.limited self.old.cursor self.new.cursor source.old source.new }
         ensures refused { IfErr result (λ e. Refuses e (C.facts source.old) (C.facts source.new) ((at : Walked) → IsWalk K.cmp C.lists self.old source.old at → ⊥) (C.limited self.old.cursor)) }
+        ensures sequence { self.new.sequence ≡ self.old.sequence }
+        ensures stayed { OnErr result ((self.new.stands ≡ self.old.stands) × (self.new.here.key.items ≡ self.old.here.key.items)) }
+        ensures left { OnOk result (key_before self.new ≡ self.old.here.key.items) }
     {
         let position = self.position;
         self.position = Position::Astray;
@@ -149,6 +161,9 @@ impl<K: KeyOrder, C> Visible<K, C> {
         ensures at_hand { OnOk result (self.new.stands ≡ true → value_at_hand C.stands self.new ≡ true) }
         ensures stays { Stays C.facts C.keeps C.limited self.old.cursor self.new.cursor source.old source.new }
         ensures refused { IfErr result (λ e. Refuses e (C.facts source.old) (C.facts source.new) ((at : Walked) → IsWalk K.cmp C.lists self.old source.old at → ⊥) (C.limited self.old.cursor)) }
+        ensures sequence { self.new.sequence ≡ self.old.sequence }
+        ensures stayed { OnErr result ((self.new.stands ≡ self.old.stands) × (self.new.here.key.items ≡ self.old.here.key.items)) }
+        ensures left { OnOk result (key_before self.new ≡ self.old.here.key.items) }
     {
         let position = self.position;
         self.position = Position::Astray;
@@ -162,6 +177,22 @@ impl<K: KeyOrder, C> Visible<K, C> {
         )?;
         self.go_back(alloc, source, true)?;
         Ok(())
+    }
+
+    /// Takes back the last move, where it succeeded: the walk stands again on the pair on which it stood before, or
+    /// nowhere, where it stood on none. It takes no memory; the value can be asked for again after the next move.
+    pub fn take_back(&mut self, stood: bool)
+        ensures cursor { self.new.cursor ≡ self.old.cursor }
+        ensures sequence { self.new.sequence ≡ self.old.sequence }
+        ensures stands { self.new.stands ≡ stood }
+        ensures position { self.new.position ≡ Position.Astray }
+        ensures key { self.new.here.key.items ≡ key_before self.old }
+    {
+        if self.stands {
+            mem::swap(&mut self.here.key, &mut self.spare.key);
+        }
+        self.stands = stood;
+        self.position = Position::Astray;
     }
 
     /// Whether the walk stands on a pair.
@@ -204,6 +235,7 @@ impl<K: KeyOrder, C> Visible<K, C> {
         ensures at_hand { OnOk result (self.new.stands ≡ true → value_at_hand C.stands self.new ≡ true) }
         ensures sequence { self.new.sequence ≡ self.old.sequence }
         ensures stayed { OnErr result (HasStayed self.old self.new) }
+        ensures left { OnOk result (key_before self.new ≡ self.old.here.key.items) }
         ensures wanders { Wanders C.facts C.lists C.keeps C.limited self.old.cursor self.new.cursor source.old source.new }
         ensures refused { IfErr result (λ e. Refuses e (C.facts source.old) (C.facts source.new) (ListsNone C.lists self.old.cursor source.old) (C.limited self.old.cursor)) }
     {
@@ -236,6 +268,7 @@ impl<K: KeyOrder, C> Visible<K, C> {
         ensures at_hand { OnOk result (self.new.stands ≡ true → value_at_hand C.stands self.new ≡ true) }
         ensures sequence { self.new.sequence ≡ self.old.sequence }
         ensures stayed { OnErr result (HasStayed self.old self.new) }
+        ensures left { OnOk result (key_before self.new ≡ self.old.here.key.items) }
         ensures wanders { Wanders C.facts C.lists C.keeps C.limited self.old.cursor self.new.cursor source.old source.new }
         ensures refused { IfErr result (λ e. Refuses e (C.facts source.old) (C.facts source.new) (ListsNone C.lists self.old.cursor source.old) (C.limited self.old.cursor)) }
     {
