@@ -28,7 +28,7 @@ use Rattle.engine.specs.Telling.{CommandTells, OpenTells}
 -- A value that a get answers is what the newest entry of the key put, as far as the read sees.
 abbrev pub IsRead : {K : Type 0} → List ℕ → Option ℕ → Option (DbState K) → Answer → Type 0
 IsRead key snapshot None (Value value) = ⊥
-IsRead key snapshot (Some state) (Value value) = (sequence : ℕ) × (sequence_at state snapshot ≡ Some sequence) × IsValueAt state.table.entries.items sequence key value
+IsRead key snapshot (Some state) (Value value) = (sequence : ℕ) × (sequence_at state snapshot ≡ Some sequence) × IsValueAt state.table.contents.inserts sequence key value
 IsRead key snapshot state _ = Unit {0}
 
 abbrev pub Shows : {K : Type 0} → Op → Option (DbState K) → Answer → Type 0

@@ -13,10 +13,10 @@ use Rattle.engine.specs.declared.command.Answer.{Answer}
 use Rattle.engine.specs.declared.command.Answer.TheVariants.{Refused}
 use Rattle.engine.specs.declared.ids.Ids.{Ids}
 use Rattle.engine.specs.declared.state.DbState.{DbState}
-use Rattle.engine.specs.Live.{kept_at, walk_of}
+use Rattle.engine.specs.Live.{kept_at}
 use Rattle.engine.specs.Reads.{sequence_at}
 use Rattle.engine.specs.Views.{spent}
-use Rattle.engine.specs.Walks.{Motion, ToFirst, ToLast, ToKey, ToNext, ToPrev, no_place}
+use Rattle.engine.specs.Walks.{Motion, ToFirst, ToLast, ToKey, ToNext, ToPrev, lacks_place}
 
 -- ---- in an open database
 
@@ -25,13 +25,13 @@ broken_in state = if state.broken then Some error.Broken else None
 
 abbrev pub full_in : {K : Type 0} → DbState K → List Operation → Option DbError
 full_in state [] = None
-full_in state (operation ∷ operations) = if nat_lt (2 ^ 56 - 1) (state.sequence + length (operation ∷ operations)) then Some error.SequenceFull else None
+full_in state (operation ∷ operations) = if nat_lt (2 ^ 56 - 1) (state.table.last + length (operation ∷ operations)) then Some error.SequenceFull else None
 
 abbrev pub unseen_in : {K : Type 0} → DbState K → Option ℕ → Option DbError
 unseen_in state snapshot = if is_some (sequence_at state snapshot) then None else Some error.NoSnapshot
 
 abbrev pub placeless_in : {K : Type 0} → DbState K → ℕ → Motion → Option DbError
-placeless_in state id motion = if is_some (kept_at state.iterators id) then option_and_then (λ iterator. no_place (walk_of iterator) motion) (kept_at state.iterators id) else Some error.NoIterator
+placeless_in state id motion = if is_some (kept_at state.iterators id) then option_and_then (λ iterator. lacks_place iterator.stands motion) (kept_at state.iterators id) else Some error.NoIterator
 
 abbrev pub write_refusal : {K : Type 0} → DbState K → List Operation → Option DbError
 write_refusal state operations = option_or (broken_in state) (full_in state operations)

@@ -1,0 +1,5 @@
+mod Arriving
+mod Seeking
+mod Seen
+mod Views
+mod Walking

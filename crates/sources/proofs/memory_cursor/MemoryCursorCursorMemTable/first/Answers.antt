@@ -1,0 +1,6 @@
+use Rattle.std.proofs.Common.{[], refl}
+use Rattle.memtable.specs.Order.{ordered}
+use Rattle.sources.proofs.memory_cursor.MemoryCursorCursorMemTable.first.Goals as goal
+
+pub returns-clause-moves : goal.returns-clause-moves
+returns-clause-moves g c = λ f at h. c.stand_from.ensures.moves [] (ordered g.K.KeyOrder.cmp c.args.source.now.inserts) at refl c.first-node.ensures.first h
