@@ -1,5 +1,5 @@
 -- Entries in several sources that are searched one after the other.
-use Rattle.std.proofs.Common.{◌≡◌, ◌⊎◌, inl, inr, ◌<◌, ℕ, Option, None, List, [], ◌∷◌, ◌++◌, refl, sym, ap, ◌∙◌, subst, append_assoc, arith}
+use Rattle.std.proofs.Common.{◌≡◌, ◌⊎◌, inl, inr, ◌<◌, ◌≤◌, ℕ, Option, Some, None, List, [], ◌∷◌, ◌++◌, refl, sym, ap, ◌∙◌, subst, arith}
 use Rattle.std.proofs.lemmas.Bool.{cases_lt}
 use Rattle.std.specs.List.{AllByRecursion}
 use Rattle.std.specs.Cmp.{IsTotalOrder, tied_itself}
@@ -8,7 +8,7 @@ use Rattle.std.specs.declared.cmp.Ordering.TheVariants.{Less, Equal}
 use Rattle.ikey.specs.declared.entry.Entry.{Entry}
 use Rattle.ikey.specs.Orders.{Order}
 use Rattle.ikey.specs.Views.{Among, IsNewest, IsUnseen, IsValueAt}
-use Rattle.ikey.specs.Sources.{IsNewerThan, joined, AreSearched, AreSearchedByTwo, SameEntries, FrontLaw, BehindLaw, FoundLaw, MissedLaw, ByTwoLaw, GrownLaw, ReplacedLaw, SameViewLaw, ComesBefore, AreSorted, ComesBeforeSought, SoughtLaw, AllBeforeLaw, ComesAllBefore, RowLaw, RowSoughtLaw}
+use Rattle.ikey.specs.Sources.{IsNewerThan, joined, AreSearched, AreSearchedByTwo, SameEntries, FrontLaw, BehindLaw, FoundLaw, MissedLaw, ByTwoLaw, GrownLaw, ReplacedLaw, SameViewLaw, ComesBefore, AreSorted, ComesBeforeSought, SoughtLaw, AllBeforeLaw, ComesAllBefore, AreInRow, RowLaw, RowAnswerLaw}
 
 -- ---- members
 
@@ -222,21 +222,58 @@ all_joined : (P : Entry → Type 0) (lists : List (List Entry)) → AllByRecursi
 all_joined P [] h = tt
 all_joined P (xs ∷ lists) h = all_both P xs (joined lists) h.0 (all_joined P lists h.1)
 
--- the entry among all of them
-around : (before : List (List Entry)) (front : List Entry) (entry : Entry) (back : List Entry) (behind : List (List Entry))
-    → joined (before ++ (front ++ entry ∷ back) ∷ behind) ≡ (joined before ++ front) ++ entry ∷ (back ++ joined behind)
-around [] front entry back behind = append_assoc front (entry ∷ back) (joined behind)
-around (xs ∷ before) front entry back behind =
-    ap (λ (es : List Entry). xs ++ es) (around before front entry back behind)
-    ∙ sym (append_assoc xs (joined before ++ front) (entry ∷ (back ++ joined behind)))
-    ∙ ap (λ (es : List Entry). es ++ entry ∷ (back ++ joined behind)) (sym (append_assoc xs (joined before) front))
+-- of what lies behind a list in a row
+behind_row : (order : Order) (before : List (List Entry)) (entries : List Entry) (behind : List (List Entry)) → AreInRow order (before ++ entries ∷ behind) → ComesAllBefore order entries (joined behind)
+behind_row order [] entries behind h = before_joined order entries behind h.1
+behind_row order (xs ∷ before) entries behind h = behind_row order before entries behind h.2
 
-pub row_sought : RowSoughtLaw
-row_sought order before front entry back behind sequence key total row passed ahead not =
-    let whole = around before front entry back behind in
-    let sorted = subst (λ (es : List Entry). AreSorted order es) whole (in_row order (before ++ (front ++ entry ∷ back) ∷ behind) row) in
-    let both = sought order (joined before ++ front) entry (back ++ joined behind) sequence key total sorted
-    (all_both (ComesBeforeSought order sequence key) (joined before) front (all_joined (ComesBeforeSought order sequence key) before passed) ahead) not in (
-      λ same. subst (λ (es : List Entry). IsNewest es sequence entry) (sym whole) (both.0 same),
-      λ other. subst (λ (es : List Entry). IsUnseen es sequence key) (sym whole) (both.1 other),
+-- an entry of them all stands in front, in the list, or behind it
+among_row : (before : List (List Entry)) (entries : List Entry) (behind : List (List Entry)) (e : Entry) → Among (joined (before ++ entries ∷ behind)) e → Among (joined before) e ⊎ (Among entries e ⊎ Among (joined behind) e)
+among_row [] entries behind e i = inr (among_split entries (joined behind) e i)
+among_row (xs ∷ before) entries behind e i = elim (among_split xs (joined (before ++ entries ∷ behind)) e i) [
+  | inl j ↦ inl (among_front xs (joined before) e j)
+  | inr j ↦ elim (among_row before entries behind e j) [
+    | inl k ↦ inl (among_back xs (joined before) e k)
+    | inr k ↦ inr k
+  ]
+]
+
+in_row_of : (before : List (List Entry)) (entries : List Entry) (behind : List (List Entry)) (e : Entry) → Among entries e → Among (joined (before ++ entries ∷ behind)) e
+in_row_of [] entries behind e i = among_front entries (joined behind) e i
+in_row_of (xs ∷ before) entries behind e i = among_back xs (joined (before ++ entries ∷ behind)) e (in_row_of before entries behind e i)
+
+-- an entry of the key that comes behind one that doesn't come before what is sought: that one is of the key too, and seen
+last_seen : (order : Order) (last other : Entry) (sequence : ℕ) (key : List ℕ) → (ComesBeforeSought order sequence key last → ⊥) → ComesBefore order last other → other.key ≡ key → (last.key ≡ key) × (last.sequence ≤ sequence)
+last_seen order last other sequence key not (inl less) same = absurd (not (inl (subst (λ (k : List ℕ). order.cmp last.key k ≡ Less) same less)))
+last_seen order last other sequence key not (inr h) same =
+    let here : last.key ≡ key = h.0 ∙ same in
+    (here, elim (cases_lt sequence last.sequence) [ inl lt ↦ absurd (not (inr (here, lt))) | inr le ↦ le ])
+
+pub row_answer : RowAnswerLaw
+row_answer order before entries behind last sequence key None total row passed has not unseen = λ other i is.
+    elim (among_row before entries behind other i) [
+      | inl j ↦ before_unseen order sequence key other total (all_of (ComesBeforeSought order sequence key) (joined before) other (all_joined (ComesBeforeSought order sequence key) before passed) j) is
+      | inr (inl j) ↦ unseen other j is
+      | inr (inr j) ↦
+          let seen = last_seen order last other sequence key not (behind_row order before entries behind row last other has j) is in
+          let above : sequence < last.sequence = unseen last has seen.0 in
+          absurd (omega (arith, above, seen.1))
+    ]
+row_answer order before entries behind last sequence key (Some value) total row passed has not h =
+    let entry = h.0 in
+    let newest = h.1 in (
+      entry,
+      record {
+        member = in_row_of before entries behind entry newest.member;
+        seen = newest.seen;
+        greatest = λ other i is below. elim (among_row before entries behind other i) [
+          | inl j ↦
+              let above = before_unseen order sequence key other total (all_of (ComesBeforeSought order sequence key) (joined before) other (all_joined (ComesBeforeSought order sequence key) before passed) j) (is ∙ h.2) in
+              absurd (omega (arith, above, below))
+          | inr (inl j) ↦ newest.greatest other j is below
+          | inr (inr j) ↦ let older = older_behind order entry other total (behind_row order before entries behind row entry other newest.member j) is in omega (arith, older)
+        ];
+      },
+      h.2,
+      h.3,
     )

@@ -124,11 +124,9 @@ AreInRow order (entries ∷ lists) = AreSorted order entries × AllByRecursion (
 abbrev pub RowLaw : Type 0
 RowLaw = (order : Order) (lists : List (List Entry)) → AreInRow order lists → AreSorted order (joined lists)
 
--- A search in the one list that may have what is sought, since all in front come before it, is a search in all of them.
-abbrev pub RowSoughtLaw : Type 0
-RowSoughtLaw = (order : Order) (before : List (List Entry)) (front : List Entry) (entry : Entry) (back : List Entry) (behind : List (List Entry)) (sequence : ℕ) (key : List ℕ)
-    → IsTotalOrder order.cmp → AreInRow order (before ++ (front ++ entry ∷ back) ∷ behind)
-    → AllByRecursion (AllByRecursion (ComesBeforeSought order sequence key)) before → AllByRecursion (ComesBeforeSought order sequence key) front
-    → (ComesBeforeSought order sequence key entry → ⊥)
-    → (entry.key ≡ key → IsNewest (joined (before ++ (front ++ entry ∷ back) ∷ behind)) sequence entry)
-    × (entry.key ≢ key → IsUnseen (joined (before ++ (front ++ entry ∷ back) ∷ behind)) sequence key)
+-- Where all lists in front come before what is sought, and an entry of this one doesn't, a search in this one is a search in all.
+abbrev pub RowAnswerLaw : Type 0
+RowAnswerLaw = (order : Order) (before : List (List Entry)) (entries : List Entry) (behind : List (List Entry)) (last : Entry) (sequence : ℕ) (key : List ℕ) (answer : Option (Option (List ℕ)))
+    → IsTotalOrder order.cmp → AreInRow order (before ++ entries ∷ behind) → AllByRecursion (AllByRecursion (ComesBeforeSought order sequence key)) before
+    → Among entries last → (ComesBeforeSought order sequence key last → ⊥)
+    → IsAnswer entries sequence key answer → IsAnswer (joined (before ++ entries ∷ behind)) sequence key answer

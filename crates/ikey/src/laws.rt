@@ -1,6 +1,6 @@
 //! Entries in several sources that are searched one after the other.
 
-ghost use Rattle.ikey.specs.Sources.{FrontLaw, BehindLaw, FoundLaw, MissedLaw, ByTwoLaw, GrownLaw, ReplacedLaw, SameViewLaw, SoughtLaw, AllBeforeLaw, RowLaw, RowSoughtLaw};
+ghost use Rattle.ikey.specs.Sources.{FrontLaw, BehindLaw, FoundLaw, MissedLaw, ByTwoLaw, GrownLaw, ReplacedLaw, SameViewLaw, SoughtLaw, AllBeforeLaw, RowLaw, RowAnswerLaw};
 
 /// The newest entry of a source that is newer than what lies behind is that of both.
 pub fn newest_in_front()
@@ -57,7 +57,7 @@ pub fn sorted_in_row()
     ensures { RowLaw }
 {}
 
-/// A search in the one of them that may have the key is a search in all.
-pub fn sought_in_row()
-    ensures { RowSoughtLaw }
+/// A search in the first of them that doesn't end before what is sought is a search in all.
+pub fn answered_in_row()
+    ensures { RowAnswerLaw }
 {}

@@ -16,8 +16,8 @@ pub use internal_key::{
 };
 pub use key_order::{Bytewise, KeyOrder};
 pub use laws::{
-    all_come_before, first_found, newest_in_front, none_found, same_view, searched_by_two,
-    searched_when_grown, searched_when_replaced, sorted_in_row, sought_in_order, sought_in_row,
+    all_come_before, answered_in_row, first_found, newest_in_front, none_found, same_view,
+    searched_by_two, searched_when_grown, searched_when_replaced, sorted_in_row, sought_in_order,
     unseen_in_front,
 };
 

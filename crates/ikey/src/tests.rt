@@ -207,5 +207,5 @@ fn laws_are_called() {
     sought_in_order();
     all_come_before();
     sorted_in_row();
-    sought_in_row();
+    answered_in_row();
 }

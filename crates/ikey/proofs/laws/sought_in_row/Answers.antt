@@ -1,5 +1,0 @@
-use Rattle.ikey.proofs.SearchedSources as sources
-use Rattle.ikey.proofs.laws.sought_in_row.Goals as goal
-
-pub returns : goal.returns
-returns c = sources.row_sought
