@@ -6,3 +6,4 @@ pub mod KeyViews
 pub mod Orders
 pub mod Views
 pub mod Words
+pub mod Sources

@@ -7,6 +7,7 @@ mod entry_order;
 mod internal_key;
 mod internal_key_order;
 mod key_order;
+mod laws;
 
 pub use entry::Entry;
 pub use entry_order::{EntryOrder, Internal, Plain};
@@ -14,6 +15,11 @@ pub use internal_key::{
     InternalKey, Kind, SEQUENCE_END, compare_keys, one_key, pack, seek_key, unpack,
 };
 pub use key_order::{Bytewise, KeyOrder};
+pub use laws::{
+    all_come_before, answered_in_row, first_found, newest_in_front, none_found, same_view,
+    searched_by_two, searched_when_grown, searched_when_replaced, sorted_in_row, sought_in_order,
+    unseen_in_front,
+};
 
 #[cfg(test)]
 mod tests;

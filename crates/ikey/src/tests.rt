@@ -193,3 +193,19 @@ fn keys_are_sorted_into_their_order(rt: HostRuntime) -> Result<(), Fail> {
     assert!(rt; keys.as_slice() == RISING_KEYS.as_slice());
     Ok(())
 }
+
+#[test]
+fn laws_are_called() {
+    newest_in_front();
+    unseen_in_front();
+    first_found();
+    none_found();
+    searched_by_two();
+    searched_when_grown();
+    searched_when_replaced();
+    same_view();
+    sought_in_order();
+    all_come_before();
+    sorted_in_row();
+    answered_in_row();
+}

@@ -7,6 +7,7 @@ mod files;
 mod laws;
 mod listing;
 mod manifest;
+mod origins;
 mod ranges;
 mod reading;
 mod replay;
@@ -22,11 +23,14 @@ pub use laws::{
     reopen_law, same_manifest_law, unread_law,
 };
 pub use listing::{Listing, first_number, list_directory};
+pub use origins::{Origin, file_entries};
 pub use reading::{Recovered, read_directory};
 pub use report::{LogSummary, Report, Summary, TableSummary};
 pub use tables::{FoundTable, find_table};
 
 #[cfg(test)]
 mod check_tests;
+#[cfg(test)]
+mod origin_tests;
 #[cfg(test)]
 mod tests;

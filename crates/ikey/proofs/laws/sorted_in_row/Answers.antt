@@ -1,0 +1,5 @@
+use Rattle.ikey.proofs.SearchedSources as sources
+use Rattle.ikey.proofs.laws.sorted_in_row.Goals as goal
+
+pub returns : goal.returns
+returns c = sources.in_row
