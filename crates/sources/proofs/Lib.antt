@@ -1,0 +1,3 @@
+pub mod Carrying
+pub mod Placing
+pub mod Stopping
