@@ -11,7 +11,7 @@ use Rattle.table.specs.Reading.{Reads}
 reads_itself : (facts : Facts) → Reads facts facts
 reads_itself facts = record { faithful = λ t. t; files = λ t. refl; failures = omega arith; denials = refl; held = refl; synced = λ t. refl }
 
-reads_both : (old mid new : Facts) → Reads old mid → Reads mid new → Reads old new
+pub reads_both : (old mid new : Facts) → Reads old mid → Reads mid new → Reads old new
 reads_both old mid new first second =
     let a = first.failures in
     let b = second.failures in

@@ -1,3 +1,4 @@
 pub mod Carrying
 pub mod Placing
 pub mod Stopping
+pub mod Sounding

@@ -24,6 +24,7 @@ impl<K: KeyOrder, S: Store> Tables<K, S> {
     ghost use Rattle.cache.specs.Blocks.{answer_of};
     ghost use Rattle.cache.specs.Tables.{RefusesTable, table_answer_of};
     ghost use Rattle.sources.specs.Tables.{Carries, HasTable, IsBlockDamaged, IsBlockUnsupported, IsOpen, SaysOf, seen};
+    ghost use Rattle.table.specs.Reading.{HasFile};
     ghost use Rattle.table.specs.Refusals.{IsFrameDamaged, IsFrameUnsupported};
     ghost use Rattle.table.specs.Table.{HasBlock};
 
@@ -32,7 +33,7 @@ impl<K: KeyOrder, S: Store> Tables<K, S> {
         requires { 0 < number }
         ensures carries { Carries K.cmp (seen (S.facts self.old.store) self.old.tables self.old.blocks) (seen (S.facts self.new.store) self.new.tables self.new.blocks) }
         ensures found { IfOk (table_answer_of result) (λ table. SaysOf K.cmp (seen (S.facts self.old.store) self.old.tables self.old.blocks) (seen (S.facts self.new.store) self.new.tables self.new.blocks)
-            number (λ file. IsOpen K.cmp file table.frame)) }
+            number (λ file. HasFile (S.facts self.new.store) table.name file × IsOpen K.cmp file table.frame)) }
         ensures stood { OnOk result ((S.facts self.new.store).failures ≡ (S.facts self.old.store).failures) }
         ensures refused { IfErr (table_answer_of result) (λ e. RefusesTable e (S.facts self.old.store) (S.facts self.new.store) number (IsFrameDamaged K.cmp) IsFrameUnsupported) }
     {
