@@ -2,3 +2,4 @@ pub mod Carrying
 pub mod Placing
 pub mod Stopping
 pub mod Sounding
+pub mod Fetching

@@ -52,7 +52,8 @@ unfolding pairs_before
 item_in [] i pairs j pair e f = absurd (let bad : None ≡ Some pairs = e in cc)
 item_in (x ∷ groups) zero pairs j pair e f =
     let s : x ≡ pairs = let t : Some x ≡ Some pairs = e in cc in
-    in_front x (joined groups) j pair (ap (λ (l : List Pair). slice_get l j) s ∙ f)
+    let start : 0 + j ≡ j = omega arith in
+    ap (slice_get (x ++ joined groups)) start ∙ in_front x (joined groups) j pair (ap (λ (l : List Pair). slice_get l j) s ∙ f)
 item_in (x ∷ groups) (suc i) pairs j pair e f =
     behind x (joined groups) (pairs_before groups i + j) (length x + pairs_before groups i + j) (omega arith) ∙ item_in groups i pairs j pair e f
 
