@@ -3,3 +3,4 @@ pub mod Placing
 pub mod Stopping
 pub mod Sounding
 pub mod Fetching
+pub mod Searching

@@ -106,13 +106,15 @@ module _ (passed : List ℕ → Type 0) where
       }
 
   -- none of the blocks has one that does
-  pub stops_nowhere : (groups : List (List Pair)) (start : ℕ) → HasPassed groups start (length groups) → StopsAt passed (joined groups) (pairs_before groups start) (length (joined groups))
-  stops_nowhere groups start h =
+  pub stops_nowhere : (groups : List (List Pair)) (start index : ℕ) → HasPassed groups start index → start ≤ length groups → length groups ≤ index
+      → StopsAt passed (joined groups) (pairs_before groups start) (length (joined groups))
+  stops_nowhere groups start index h fits end =
       let all = before_all groups in
-      let up = before_up groups start (length groups) h.up in
+      let up = before_up groups start (length groups) fits in
+      let over = before_up groups (length groups) index end in
       record {
         inside = omega arith;
         reached = omega (arith, up, all);
-        front = λ k pair from less at. h.all k pair from (omega (arith, less, all)) at;
+        front = λ k pair from less at. h.all k pair from (omega (arith, less, all, over)) at;
         stop = λ pair at. let w = slice_get_within (joined groups) (length (joined groups)) pair at in absurd (omega (arith, w));
       }

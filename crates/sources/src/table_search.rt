@@ -98,10 +98,15 @@ fn enter<K: KeyOrder>(
 {
     let mut cursor = BlockCursor::new(alloc, block);
     match aim {
-        Aim::First => cursor.first()?,
-        Aim::From(target) => cursor.seek(target)?,
+        Aim::First => {
+            cursor.first()?;
+            Ok(cursor)
+        }
+        Aim::From(target) => {
+            cursor.seek(target)?;
+            Ok(cursor)
+        }
     }
-    Ok(cursor)
 }
 
 // The data block of this index.
