@@ -106,3 +106,67 @@ refused_at cmp (Corrupt kind what) old now new number frame start index limited 
     h t groups (still_data cmp old now number frame groups first (second.reads.faithful t) has) (less groups has fits)
 refused_at cmp (Unsupported what) old now new number frame start index limited first second less h = h
 refused_at cmp e old now new number frame start index limited first second less h = absurd h
+
+-- ---- back
+
+last_if : (pairs : List Pair) (place : Option ℕ) → place ≡ last_of pairs → is_some place ≡ true → (inside : ℕ) × (place ≡ Some inside) × (length pairs ≡ suc inside)
+last_if [] place is stands = absurd (let none : is_some place ≡ false = ap is_some is in let bad : true ≡ false = sym stands ∙ none in cc)
+last_if (x ∷ pairs) place is stands = (length pairs, is, refl)
+
+none_if : (pairs : List Pair) (place : Option ℕ) → place ≡ last_of pairs → is_some place ≡ false → length pairs ≡ 0
+none_if [] place is nowhere = refl
+none_if (x ∷ pairs) place is nowhere = absurd (let some : is_some place ≡ true = ap is_some is in let bad : false ≡ true = sym nowhere ∙ some in cc)
+
+pub before_of : (m n : ℕ) → m ≡ suc n → index_before m ≡ Some n
+before_of m n e = ap index_before e
+
+module _ (cmp : Cmp) (old now : Seen) (number : ℕ) (frame : Frame) (end step : ℕ) where
+  -- the blocks that were read have no pair
+  pub record IsSearchingBack : Type 0 where
+    pub carries : Carries cmp old now
+    pub same : IsTrue now.facts.faithful → (groups : List (List Pair)) → HasData cmp old number frame groups → pairs_before groups (end - step) ≡ pairs_before groups end
+
+pub back_begins : (cmp : Cmp) (old : Seen) (number : ℕ) (frame : Frame) (end : ℕ) → IsSearchingBack cmp old old number frame end 0
+back_begins cmp old number frame end = record { carries = carries_itself cmp old; same = λ t groups has. let e : end - 0 ≡ end = omega arith in ap (pairs_before groups) e }
+
+module _ (cmp : Cmp) (old now new : Seen) (number : ℕ) (frame : Frame) (end step index : ℕ) (less : step < end) (its_index : index ≡ end - step - 1) (s : IsSearchingBack cmp old now number frame end step)
+    (carries : Carries cmp now new) (pairs : List Pair) (found : IsTrue new.facts.faithful → (groups : List (List Pair)) → HasData cmp now number frame groups → slice_get groups index ≡ Some pairs)
+    (cursor : Placed) (its : cursor.pairs ≡ pairs) (last : cursor.place ≡ last_of pairs) where
+
+  ends_here : IsTrue new.facts.faithful → (groups : List (List Pair)) → HasData cmp old number frame groups → (slice_get groups index ≡ Some pairs) × (pairs_before groups end ≡ pairs_before groups index + length pairs)
+  ends_here t groups has =
+      let m = carries.reads.faithful t in
+      let there = found t groups (still_data cmp old now number frame groups s.carries m has) in
+      let e : suc index ≡ end - step = omega (arith, its_index, less) in
+      (there, sym (s.same m groups has) ∙ ap (pairs_before groups) (sym e) ∙ before_more groups index pairs there)
+
+  pub back_on : is_some cursor.place ≡ false → IsSearchingBack cmp old new number frame end (step + 1)
+  back_on nowhere = record {
+    carries = carries_both cmp old now new s.carries carries;
+    same = λ t groups has.
+        let h = ends_here t groups has in
+        let none = none_if pairs cursor.place last nowhere in
+        let e : end - (step + 1) ≡ index = omega (arith, its_index) in
+        let sums = h.1 in
+        ap (pairs_before groups) e ∙ (let sum : pairs_before groups index ≡ pairs_before groups end = omega (arith, sums, none) in sum);
+  }
+
+  pub back_found : is_some cursor.place ≡ true → IsTrue new.facts.faithful → (groups : List (List Pair)) → HasData cmp old number frame groups → IsInBlock groups index cursor (index_before (pairs_before groups end))
+  back_found stands t groups has =
+      let h = ends_here t groups has in
+      let l = last_if pairs cursor.place last stands in
+      let sums = h.1 in
+      let long = l.2 in
+      record {
+        inside = l.0;
+        block_is = h.0 ∙ ap Some (sym its);
+        stands = l.1;
+        less = subst (λ (ps : List Pair). l.0 < length ps) (sym its) (omega (arith, long));
+        place_is = before_of (pairs_before groups end) (pairs_before groups index + l.0) (omega (arith, sums, long));
+      }
+
+pub back_none : (cmp : Cmp) (old now : Seen) (number : ℕ) (frame : Frame) (end step : ℕ) → IsSearchingBack cmp old now number frame end step → end ≤ step
+    → IsTrue now.facts.faithful → (groups : List (List Pair)) → HasData cmp old number frame groups → index_before (pairs_before groups end) ≡ None
+back_none cmp old now number frame end step s over t groups has =
+    let e : end - step ≡ 0 = omega (arith, over) in
+    ap index_before (sym (s.same t groups has) ∙ ap (pairs_before groups) e ∙ before_zero groups)
