@@ -4,3 +4,4 @@ pub mod Stopping
 pub mod Sounding
 pub mod Fetching
 pub mod Searching
+pub mod Stepping

@@ -78,16 +78,16 @@ pub record StopsAt (passed : List ℕ → Type 0) (pairs : List Pair) (from inde
 -- ---- steps within a block
 
 -- It has gone on to the pair behind; or it stays, and the pair behind is the first from this block on.
-abbrev pub StepsOn : List (List Pair) → Option (InBlock Placed) → Option (InBlock Placed) → Option ℕ → Option ℕ → Type 0
-StepsOn groups old new place None = IsPlacedIn groups new (option_and_then (index_behind (joined groups)) place)
-StepsOn groups old new place (Some start) =
-    (new ≡ old) × (start ≤ length groups) × (within (joined groups) (pairs_before groups start) ≡ option_and_then (index_behind (joined groups)) place)
+abbrev pub StepsOn : List (List Pair) → Option (InBlock Placed) → Option ℕ → Option ℕ → Type 0
+StepsOn groups new place None = IsPlacedIn groups new (option_and_then (index_behind (joined groups)) place)
+StepsOn groups new place (Some start) =
+    IsPlacedIn groups new place × (start ≤ length groups) × (within (joined groups) (pairs_before groups start) ≡ option_and_then (index_behind (joined groups)) place)
 
 -- It has gone back to the pair in front; or it stays, and the pair in front is the last of the blocks in front of this one.
-abbrev pub StepsBack : List (List Pair) → Option (InBlock Placed) → Option (InBlock Placed) → Option ℕ → Option ℕ → Type 0
-StepsBack groups old new place None = IsPlacedIn groups new (option_and_then index_before place)
-StepsBack groups old new place (Some end) =
-    (new ≡ old) × (end ≤ length groups) × (index_before (pairs_before groups end) ≡ option_and_then index_before place)
+abbrev pub StepsBack : List (List Pair) → Option (InBlock Placed) → Option ℕ → Option ℕ → Type 0
+StepsBack groups new place None = IsPlacedIn groups new (option_and_then index_before place)
+StepsBack groups new place (Some end) =
+    IsPlacedIn groups new place × (end ≤ length groups) × (index_before (pairs_before groups end) ≡ option_and_then index_before place)
 
 -- ---- refusals
 

@@ -1,6 +1,6 @@
 //! A cursor over a table file (LevelDB's table/two_level_iterator.cc).
 
-ghost use Rattle.std.specs.Prelude.{◌≡◌, ◌<◌, ℕ, List, Option, IsTrue, IfOk, OnErr};
+ghost use Rattle.std.specs.Prelude.{◌<◌, ℕ, List, Option, IsTrue, IfOk, OnErr};
 ghost use Rattle.ikey.specs.Entries.{Pair};
 ghost use Rattle.sources.specs.TablePlaces.{IsPlacedIn, StepsBack, StepsOn, block_stands};
 
@@ -158,8 +158,8 @@ fn step_on<K: KeyOrder>(
     here: &mut Option<InBlock<BlockCursor<Internal<K>>>>,
 ) -> Result<Option<usize>, AllocError>
     requires { IsTrue (block_stands here.old) }
-    ensures ok { IfOk result (λ next. (groups : List (List Pair)) (place : Option ℕ) → IsPlacedIn groups here.old place → StepsOn groups here.old here.new place next) }
-    ensures err { OnErr result (here.new ≡ here.old) }
+    ensures ok { IfOk result (λ next. (groups : List (List Pair)) (place : Option ℕ) → IsPlacedIn groups here.old place → StepsOn groups here.new place next) }
+    ensures err { OnErr result ((groups : List (List Pair)) (place : Option ℕ) → IsPlacedIn groups here.old place → IsPlacedIn groups here.new place) }
 {
     let Some(here) = here else {
         unreachable!();
@@ -176,8 +176,8 @@ fn step_back<K: KeyOrder>(
     here: &mut Option<InBlock<BlockCursor<Internal<K>>>>,
 ) -> Result<Option<usize>, AllocError>
     requires { IsTrue (block_stands here.old) }
-    ensures ok { IfOk result (λ end. (groups : List (List Pair)) (place : Option ℕ) → IsPlacedIn groups here.old place → StepsBack groups here.old here.new place end) }
-    ensures err { OnErr result (here.new ≡ here.old) }
+    ensures ok { IfOk result (λ end. (groups : List (List Pair)) (place : Option ℕ) → IsPlacedIn groups here.old place → StepsBack groups here.new place end) }
+    ensures err { OnErr result ((groups : List (List Pair)) (place : Option ℕ) → IsPlacedIn groups here.old place → IsPlacedIn groups here.new place) }
 {
     let Some(here) = here else {
         unreachable!();
