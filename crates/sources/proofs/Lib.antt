@@ -5,3 +5,5 @@ pub mod Sounding
 pub mod Fetching
 pub mod Searching
 pub mod Stepping
+pub mod Entering
+pub mod Opening

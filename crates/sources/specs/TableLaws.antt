@@ -15,13 +15,19 @@ placed_in groups (Some here) place h = ap is_some h.stands ∙ sym (ap is_some h
 
 pub lists_kept : (cmp : Cmp) (number : ℕ) (frame : Frame) (here : Option (InBlock Placed)) (old new : Seen) (at : Listed)
     → KeepsTable cmp number old new → ListsTable cmp old number frame here at → ListsTable cmp new number frame here at
-lists_kept cmp number frame here old new at keeps lists = record lists {
+lists_kept cmp number frame here old new at keeps lists = record {
+  groups = lists.groups;
   has = record {
     file = lists.has.file;
     table = record { sound = keeps.sound lists.has.table.sound; file_is = keeps.same ∙ lists.has.table.file_is };
     open_is = lists.has.open_is;
     data_is = lists.has.data_is;
   };
+  bounds = lists.bounds;
+  entries_are = lists.entries_are;
+  rises = lists.rises;
+  inside = lists.inside;
+  place = lists.place;
 }
 
 pub table_still : (cmp : Cmp) (number : ℕ) (source : Seen) → KeepsTable cmp number source source

@@ -1,11 +1,10 @@
-use Rattle.std.proofs.Common.{rules, ◌<◌, ℕ, List, Option, IsTrue, IfOk, OnErr, ◌≡◌, ◌+◌, ◌-◌, ◌*◌, ◌≤◌, length, ◌/◌, ◌%◌, Bool, true, false, nat_eq, nat_lt, [], ◌∷◌, ◌++◌, slice_index_or, slice_set, bit_and, bit_or, Fits, w8, w32, w64, Bor, MutBor}
-use Rattle.ikey.specs.Entries.{Pair}
-use Rattle.sources.specs.TablePlaces.{IsPlacedIn, StepsBack, StepsOn, block_stands, KeepsTable, ListsTable}
-use Rattle.sources.specs.TableLaws.{lists_kept, placed_in, table_onward, table_still}
+use Rattle.std.proofs.Common.{◌∙◌}
 use Rattle.sources.specs.Tables.{seen}
-use Rattle.table.specs.Frame.{AnyLong, handles}
+use Rattle.sources.proofs.Entering.{standing_pair}
 use Rattle.sources.proofs.table_cursor.TableCursorCursorTables.value.Goals as goal
 
--- src/table_cursor.rt:136:5
 pub returns : goal.returns
-returns g c = ?
+returns g c = λ at index entry lists place_is entry_is.
+    let p = standing_pair g.K.KeyOrder.cmp (seen (g.S.Store.facts c.args.source.now.store) c.args.source.now.tables c.args.source.now.blocks) c.args.self.now.number c.args.self.now.table.value.frame c.args.self.now.here
+    c.in-Some.here at index entry c.in-Some.is lists place_is entry_is in
+    c.value.ensures p.inside p.pair p.stands p.pair_is ∙ p.is.value
