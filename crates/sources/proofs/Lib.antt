@@ -7,3 +7,4 @@ pub mod Searching
 pub mod Stepping
 pub mod Entering
 pub mod Opening
+pub mod Arrivals
