@@ -8,3 +8,4 @@ pub mod Stepping
 pub mod Entering
 pub mod Opening
 pub mod Arrivals
+pub mod Seeking

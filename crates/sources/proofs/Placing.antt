@@ -16,7 +16,7 @@ some_at [] n h = absurd (omega (arith, h))
 some_at (x ∷ xs) zero h = (x, refl)
 some_at (x ∷ xs) (suc n) h = some_at xs n (omega (arith, h))
 
-in_front : {A : Type 0} (xs ys : List A) (n : ℕ) (x : A) → slice_get xs n ≡ Some x → slice_get (xs ++ ys) n ≡ Some x
+pub in_front : {A : Type 0} (xs ys : List A) (n : ℕ) (x : A) → slice_get xs n ≡ Some x → slice_get (xs ++ ys) n ≡ Some x
 in_front [] ys n x e = absurd (let bad : None ≡ Some x = e in cc)
 in_front (y ∷ xs) ys zero x e = e
 in_front (y ∷ xs) ys (suc n) x e = in_front xs ys n x e

@@ -1,11 +1,13 @@
-use Rattle.std.proofs.Common.{rules, ◌<◌, ℕ, List, Option, IsTrue, IfOk, OnErr, ◌≡◌, ◌+◌, ◌-◌, ◌*◌, ◌≤◌, length, ◌/◌, ◌%◌, Bool, true, false, nat_eq, nat_lt, [], ◌∷◌, ◌++◌, slice_index_or, slice_set, bit_and, bit_or, Fits, w8, w32, w64, Bor, MutBor}
-use Rattle.ikey.specs.Entries.{Pair}
-use Rattle.sources.specs.TablePlaces.{IsPlacedIn, StepsBack, StepsOn, block_stands, KeepsTable, ListsTable}
-use Rattle.sources.specs.TableLaws.{lists_kept, placed_in, table_onward, table_still}
+use Rattle.std.proofs.Common.{arith, sym, subst}
 use Rattle.sources.specs.Tables.{seen}
-use Rattle.table.specs.Frame.{AnyLong, handles}
+use Rattle.sources.proofs.Arrivals.{prev_moved}
 use Rattle.sources.proofs.table_cursor.TableCursorCursorTables.prev.Goals as goal
 
--- src/table_cursor.rt:113:5
 pub returns-clause-moves : goal.returns-clause-moves
-returns-clause-moves g c = ?
+returns-clause-moves g c = λ t at lists.
+    let found = rw c.deref.ensures at c.in_ok-self.ensures.found in
+    let steps = rw c.in-Some.is at c.in_ok-end.ensures.ok in
+    let step = steps lists.groups at.place lists.place in
+    prev_moved g.K.KeyOrder.cmp (seen (g.S.Store.facts c.args.source.now.store) c.args.source.now.tables c.args.source.now.blocks)
+    (seen (g.S.Store.facts c.search_back.new.source.store) c.search_back.new.source.tables c.search_back.new.source.blocks) c.args.self.now.number c.args.self.now.table.value.frame c.args.self.now.here c.in_ok-self.field-0 at
+    c.in_ok-self.ensures.carries t lists c.in-Some.end step.2 (found t lists.groups lists.has step.1)
