@@ -156,6 +156,32 @@ impl<O: EntryOrder> BlockCursor<O> {
         Ok(())
     }
 
+    /// Whether an entry stands behind the one that the cursor stands on.
+    pub fn has_next(&self) -> bool
+        requires { IsSome self.now.place }
+        ensures { result ≡ is_some (option_and_then (index_behind self.now.pairs) self.now.place) }
+    {
+        let block: &Block<O> = &self.block;
+        let (body, _) = block.parts();
+        let next = self.here.next;
+        if next == body.len() {
+            return false;
+        }
+        true
+    }
+
+    /// Whether an entry stands in front of it.
+    pub fn has_prev(&self) -> bool
+        requires { IsSome self.now.place }
+        ensures { result ≡ is_some (option_and_then index_before self.now.place) }
+    {
+        let start = self.here.start;
+        if start == 0 {
+            return false;
+        }
+        true
+    }
+
     /// Whether the cursor stands on an entry.
     pub fn stands(&self) -> bool
         ensures { result ≡ is_some self.now.place }

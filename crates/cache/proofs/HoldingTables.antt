@@ -29,7 +29,7 @@ Contains-kept_table_at (k ∷ ks) number table h = (elim (number == k.number) as
 -- a call that only reads leaves a table open
 pub still_open : (cmp : List ℕ → List ℕ → Ordering) (content : ℕ → Option (List ℕ)) (old new : Facts) (number : ℕ) (table : Opened) → Reads old new → IsTrue new.faithful
     → IsOpenOf cmp content old number table → IsOpenOf cmp content new number table
-still_open cmp content old new number table reads t open_of file e = let p = open_of file e in (ap (λ files. get files table.name) (reads.files t) ∙ p.0, p.1)
+still_open cmp content old new number table reads t open_of file e = let p = open_of file e in (ap (λ files. get files table.name) (reads.files t) ∙ p.0, p.1, p.2)
 
 opened_if : (cmp : List ℕ → List ℕ → Ordering) (content : ℕ → Option (List ℕ)) (new : Facts) (number : ℕ) (answer : Result Opened DbError)
     → ((table : Opened) → answer ≡ Ok table → IsOpenOf cmp content new number table) → IfOk answer (λ table. IsOpenOf cmp content new number table)
@@ -76,7 +76,7 @@ module _ (cmp : List ℕ → List ℕ → Ordering) (number : ℕ) (old new : Fa
         let at = found t in
         let both : Some at.0 ≡ Some file = sym at.1 ∙ has file there in
         let its : at.0 ≡ file = cc in
-        (ap (λ files. get files table.name) (h.reads.files t) ∙ at.2 ∙ both, subst (λ f. IsFrame cmp f table.frame) its at.3)
+        (ap (λ files. get files table.name) (h.reads.files t) ∙ at.2 ∙ both, subst (λ f. IsFrame cmp f table.frame) its at.3, subst (λ f. IsFrameUnsupported f → ⊥) its at.4)
     fetched (Some kept) e h holds has t table ok = elim h.0 [
       | inl hit ↦ let both : Ok kept ≡ Ok table = sym hit ∙ ok in let its : kept ≡ table = cc in
           still_open cmp content old new number table (reads_fetched (Some kept) h) t

@@ -1,12 +1,12 @@
 -- Opening a table by its number, from opening the file of a name.
-use Rattle.std.proofs.Common.{◌≡◌, ℕ, List, Err, ap, sym, ◌∙◌, arith}
+use Rattle.std.proofs.Common.{◌≡◌, ℕ, List, Some, Ok, Err, IsTrue, ap, sym, subst, ◌∙◌, arith}
 use Rattle.std.specs.declared.cmp.Ordering.{Ordering}
 use Rattle.std.specs.FinMap.{get}
 use Rattle.coding.specs.declared.error.DbError.{DbError}
 use Rattle.coding.specs.declared.error.DbError.TheVariants.{OutOfMemory, Io, Corrupt, Unsupported}
 use Rattle.store.specs.Files.{Facts}
-use Rattle.table.specs.Frame.{Frame, IsFrame, IsOversized}
-use Rattle.table.specs.Reading.{Reads, Refuses}
+use Rattle.table.specs.Frame.{Frame, Opened, IsFrame, IsOversized}
+use Rattle.table.specs.Reading.{Reads, Finds, Answers, Refuses}
 use Rattle.table.specs.Refusals.{IsFrameDamaged, IsFrameUnsupported}
 use Rattle.cache.specs.Tables.{FindsName, OpensTable, RefusesTable}
 
@@ -42,4 +42,18 @@ not_opened cmp e old mid new number name first stood second finds told refused =
   stood = tt;
   told = refuses_table e old mid new number name (IsFrameDamaged cmp) IsFrameUnsupported first stood second finds told;
   refused = refuses_table e old mid new number name _ _ first stood second finds refused;
+}
+
+pub opened : (cmp : List ℕ → List ℕ → Ordering) (old mid new : Facts) (number : ℕ) (name : List ℕ) (table : Opened) → Reads old mid → mid.failures ≡ old.failures → Reads mid new → new.failures ≡ mid.failures
+    → FindsName old mid number name → table.name ≡ name → Finds mid new name (λ file. IsFrame cmp file table.frame) → Answers mid new name (λ file. IsFrameUnsupported file → ⊥) → OpensTable cmp old new number (Ok table)
+opened cmp old mid new number name table first stood second still finds named found supported = record {
+  reads = reads_both old mid new first second;
+  found = λ t.
+      let m = second.faithful t in
+      let f = found t in
+      let there : get old.files name ≡ Some f.0 = ap (λ files. get files name) (sym (first.files m)) ∙ f.1 in
+      (f.0, finds m ∙ there, ap (get old.files) named ∙ there, f.2, supported t f.0 f.1);
+  stood = still ∙ stood;
+  told = tt;
+  refused = tt;
 }

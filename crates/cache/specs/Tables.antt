@@ -81,10 +81,11 @@ StopsReading e old new = ((e ≡ OutOfMemory) × (new.failures ≡ old.failures)
 abbrev pub FindsName : Facts → Facts → ℕ → List ℕ → Type 0
 FindsName old new number name = IsTrue new.faithful → table_at old.files number ≡ get old.files name
 
--- the table of this number was opened: it has this file, of this name, and what was read is its frame
+-- the table of this number was opened: it has this file, of this name, what was read is its frame, and nothing of that
+-- wasn't supported
 abbrev pub OpensFile : (List ℕ → List ℕ → Ordering) → Files → ℕ → Opened → Type 0
 OpensFile cmp files number table =
-    (file : List ℕ) × (table_at files number ≡ Some file) × (get files table.name ≡ Some file) × IsFrame cmp file table.frame
+    (file : List ℕ) × (table_at files number ≡ Some file) × (get files table.name ≡ Some file) × IsFrame cmp file table.frame × (IsFrameUnsupported file → ⊥)
 
 -- of a faithful store, this is so of the bytes of the table of this number, where it has a file
 abbrev pub TableAnswers : Facts → Facts → ℕ → (List ℕ → Type 0) → Type 0

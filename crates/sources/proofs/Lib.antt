@@ -3,3 +3,14 @@ mod Seeking
 mod Seen
 mod Views
 mod Walking
+pub mod Carrying
+pub mod Placing
+pub mod Stopping
+pub mod Sounding
+pub mod Fetching
+pub mod Searching
+pub mod Stepping
+pub mod Entering
+pub mod Opening
+pub mod Arrivals
+pub mod TableSeeking

@@ -1,2 +1,5 @@
 pub mod Memory
 pub mod MemoryLists
+pub mod TableLaws
+pub mod TablePlaces
+pub mod Tables

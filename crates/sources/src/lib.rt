@@ -1,11 +1,19 @@
-//! What a read goes over: cursors over memory tables.
+//! What a read goes over: memory tables, and a store's tables with what is kept of them in memory, each under a cursor.
 #![tactic(auto)]
 
+mod in_block;
 mod memory_cursor;
 mod memory_laws;
+mod table_cursor;
+mod table_search;
+mod tables;
 
 pub use memory_cursor::MemoryCursor;
 pub use memory_laws::{kept_for_all_is_same, later_inserts_are_kept, seen_entries_have_the_view};
+pub use table_cursor::TableCursor;
+pub use tables::{Tables, empty_is_sound};
 
+#[cfg(test)]
+mod table_tests;
 #[cfg(test)]
 mod tests;

@@ -45,7 +45,7 @@ impl<K: KeyOrder> Table<K> {
     ghost use Rattle.filter.specs.Hash.{hash_of};
     ghost use Rattle.table.specs.Frame.{Frame, IsFrame, IsOversized, TableAdmits, TableDenies, AnyLong, handles};
     ghost use Rattle.table.specs.Reading.{Reads, Finds, Answers, Refuses};
-    ghost use Rattle.table.specs.Refusals.{IsDamaged, IsUnsupported, IsOfOne, IsOfOneFrom, IsWrong, AreEmpty, IsFrameDamaged, IsFrameUnsupported};
+    ghost use Rattle.table.specs.Refusals.{IsDamaged, IsUnsupported, IsOfOne, IsOfOneFrom, IsFirstPlace, IsWrong, AreEmpty, IsFrameDamaged, IsFrameUnsupported};
     ghost use Rattle.ikey.specs.Entries.{InternalEntry, Pair};
     ghost use Rattle.table.specs.Table.{HasBlock, IsTable, ArePairs};
     ghost use Rattle.ikey.specs.Keys.{Key, IsKey};
@@ -90,6 +90,21 @@ impl<K: KeyOrder> Table<K> {
         let mut found = Vec::new(alloc);
         push_places(&mut found, &self.places)?;
         Ok(found)
+    }
+
+    /// The data blocks, in order: of each a key that bounds it, and where it is.
+    pub fn places(&self) -> &[Place]
+        ensures { result.now ≡ self.now.frame.places }
+    {
+        &self.places
+    }
+
+    /// The index of the first data block that can have an entry whose internal key isn't below the target, or their
+    /// number.
+    pub fn first_place(&self, target: &[u8]) -> usize
+        ensures { IsFirstPlace K.cmp target.now self.now.frame.places result }
+    {
+        first_place::<K>(&self.places, target)
     }
 
     /// The data block at a handle. Corrupt, where there is none; Unsupported, where it has a type other than 0 or more

@@ -1,0 +1,50 @@
+-- Calls that only read tables, one after another.
+use Rattle.std.proofs.Common.{◌≡◌, ◌<◌, ◌≤◌, ℕ, List, IsTrue, refl, sym, ap, ◌∙◌, subst, arith}
+use Rattle.cache.specs.Tables.{table_at}
+use Rattle.cursor.specs.Places.{Cmp}
+use Rattle.ikey.specs.Entries.{Pair}
+use Rattle.sources.specs.Tables.{Seen, IsSound, Carries, HasTable, HasData}
+use Rattle.store.specs.Files.{Facts}
+use Rattle.table.specs.Frame.{Frame}
+use Rattle.table.specs.Reading.{Reads}
+
+reads_itself : (facts : Facts) → Reads facts facts
+reads_itself facts = record { faithful = λ t. t; files = λ t. refl; failures = omega arith; denials = refl; held = refl; synced = λ t. refl }
+
+pub reads_both : (old mid new : Facts) → Reads old mid → Reads mid new → Reads old new
+reads_both old mid new first second =
+    let a = first.failures in
+    let b = second.failures in
+    record {
+      faithful = λ t. first.faithful (second.faithful t);
+      files = λ t. second.files t ∙ first.files (second.faithful t);
+      failures = omega (arith, a, b);
+      denials = second.denials ∙ first.denials;
+      held = second.held ∙ first.held;
+      synced = λ t. second.synced t ∙ first.synced (second.faithful t);
+    }
+
+pub carries_itself : (cmp : Cmp) (source : Seen) → Carries cmp source source
+carries_itself cmp source = record { reads = reads_itself source.facts; sound = λ t h. h }
+
+pub carries_both : (cmp : Cmp) (old mid new : Seen) → Carries cmp old mid → Carries cmp mid new → Carries cmp old new
+carries_both cmp old mid new first second = record {
+  reads = reads_both old.facts mid.facts new.facts first.reads second.reads;
+  sound = λ t h. second.sound t (first.sound (second.reads.faithful t) h);
+}
+
+-- a source has the same tables afterwards
+pub same_table_at : (cmp : Cmp) (old new : Seen) (number : ℕ) → Carries cmp old new → IsTrue new.facts.faithful → table_at new.facts.files number ≡ table_at old.facts.files number
+same_table_at cmp old new number carries t = ap (λ files. table_at files number) (carries.reads.files t)
+
+pub still_has : (cmp : Cmp) (old new : Seen) (number : ℕ) (file : List ℕ) → Carries cmp old new → IsTrue new.facts.faithful → HasTable cmp old number file → HasTable cmp new number file
+still_has cmp old new number file carries t h = record { sound = carries.sound t h.sound; file_is = same_table_at cmp old new number carries t ∙ h.file_is }
+
+pub still_data : (cmp : Cmp) (old new : Seen) (number : ℕ) (frame : Frame) (groups : List (List Pair)) → Carries cmp old new → IsTrue new.facts.faithful → HasData cmp old number frame groups
+    → HasData cmp new number frame groups
+still_data cmp old new number frame groups carries t h = record {
+  file = h.file;
+  table = still_has cmp old new number h.file carries t h.table;
+  open_is = h.open_is;
+  data_is = h.data_is;
+}

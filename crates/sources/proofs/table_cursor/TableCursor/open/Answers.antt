@@ -1,0 +1,9 @@
+use Rattle.sources.specs.Tables.{seen}
+use Rattle.sources.proofs.Opening.{begins}
+use Rattle.sources.proofs.table_cursor.TableCursor.open.Goals as goal
+
+pub returns-clause-lists : goal.returns-clause-lists
+returns-clause-lists g c = λ t file has entries table.
+    begins g.K.KeyOrder.cmp g.met.K.KeyOrder.total (seen (g.S.Store.facts c.args.source.now.store) c.args.source.now.tables c.args.source.now.blocks)
+    (seen (g.S.Store.facts c.get_table.new.self.store) c.get_table.new.self.tables c.get_table.new.self.blocks) c.args.number c.in_ok-table.table.value.frame file entries c.get_table.ensures.carries t has
+    (c.in_ok-table.ensures.found t file has).1 table

@@ -1,0 +1,20 @@
+use Rattle.std.proofs.Common.{ap}
+use Rattle.cache.specs.Tables.{table_at}
+use Rattle.sources.specs.Tables.{seen}
+use Rattle.sources.proofs.Sounding.{sound_opened, says_open}
+use Rattle.sources.proofs.tables.Tables.get_table.Goals as goal
+
+pub returns-clause-carries : goal.returns-clause-carries
+returns-clause-carries g c =
+    let old = seen (g.S.Store.facts c.args.self.now.store) c.args.self.now.tables c.args.self.now.blocks in
+    record {
+      reads = c.get_table.ensures.reads;
+      sound = λ t h. sound_opened g.K.KeyOrder.cmp old (g.S.Store.facts c.get_table.new.store) c.get_table.new.self.tables c.get_table.ensures.reads t
+          (c.get_table.ensures.holds (table_at old.facts.files) h.tables (λ file there. there) t) h;
+    }
+
+pub returns-clause-found : goal.returns-clause-found
+returns-clause-found g c =
+    let old = seen (g.S.Store.facts c.args.self.now.store) c.args.self.now.tables c.args.self.now.blocks in
+    let new = seen (g.S.Store.facts c.get_table.new.store) c.get_table.new.self c.args.self.now.blocks in
+    says_open g.K.KeyOrder.cmp old new c.args.number _ (λ sound t. c.get_table.ensures.found (table_at old.facts.files) sound.tables (λ file there. there) t)

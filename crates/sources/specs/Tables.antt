@@ -1,0 +1,66 @@
+-- A store whose tables are read through caches.
+use Rattle.std.specs.Prelude.{◌≡◌, ◌⊎◌, ℕ, List, Option, Some, [], IsTrue}
+use Rattle.cache.specs.Blocks.{BlockCache, KeptBlock}
+use Rattle.cache.specs.Holding.{HoldsBlocks, HoldsTables}
+use Rattle.cache.specs.Tables.{TableCache, KeptTable, table_at}
+use Rattle.cursor.specs.Places.{Cmp}
+use Rattle.ikey.specs.Entries.{Pair}
+use Rattle.store.specs.Files.{Facts}
+use Rattle.table.specs.Frame.{Frame, IsFrame}
+use Rattle.table.specs.Reading.{Reads}
+use Rattle.table.specs.Refusals.{IsDamaged, IsUnsupported, IsFrameDamaged, IsFrameUnsupported}
+use Rattle.table.specs.Table.{AreData}
+use Rattle.table.specs.declared.handle.Handle.{Handle}
+
+-- what is known of the store, and what is kept of its tables
+pub record Seen : Type 0 where
+  pub facts : Facts
+  pub tables : List KeptTable
+  pub blocks : List KeptBlock
+
+abbrev pub seen : Facts → TableCache → BlockCache → Seen
+seen facts tables blocks = record { facts = facts; tables = tables.tables; blocks = blocks.blocks }
+
+-- Each kept table and block is what a read of the store's file gives, of those numbers of which it has a table.
+pub record IsSound (cmp : Cmp) (source : Seen) : Type 0 where
+  pub tables : HoldsTables cmp (table_at source.facts.files) source.facts source.tables
+  pub blocks : HoldsBlocks cmp (table_at source.facts.files) source.blocks
+
+-- A call that reads tables only reads the store, and leaves what is kept right.
+pub record Carries (cmp : Cmp) (old new : Seen) : Type 0 where
+  pub reads : Reads old.facts new.facts
+  pub sound : IsTrue new.facts.faithful → IsSound cmp old → IsSound cmp new
+
+-- the store has this file as the table of this number, and what is kept is right
+pub record HasTable (cmp : Cmp) (source : Seen) (number : ℕ) (file : List ℕ) : Type 0 where
+  pub sound : IsSound cmp source
+  pub file_is : table_at source.facts.files number ≡ Some file
+
+-- of a faithful store, this is so of the table of this number, where there is one
+abbrev pub SaysOf : Cmp → Seen → Seen → ℕ → (List ℕ → Type 0) → Type 0
+SaysOf cmp old new number is = IsTrue new.facts.faithful → (file : List ℕ) → HasTable cmp old number file → is file
+
+-- what is open of the file is its frame, of which nothing wasn't supported
+abbrev pub IsOpen : Cmp → List ℕ → Frame → Type 0
+IsOpen cmp file frame = IsFrame cmp file frame × (IsFrameUnsupported file → ⊥)
+
+-- frame or block are damaged
+abbrev pub IsBlockDamaged : Cmp → Handle → List ℕ → Type 0
+IsBlockDamaged cmp handle file = IsFrameDamaged cmp file ⊎ IsDamaged cmp file handle
+
+-- one of them isn't supported
+abbrev pub IsBlockUnsupported : Handle → List ℕ → Type 0
+IsBlockUnsupported handle file = IsFrameUnsupported file ⊎ IsUnsupported file handle
+
+-- The store has, as the table of this number, a file of this frame with the data blocks of these pairs.
+pub record HasData (cmp : Cmp) (source : Seen) (number : ℕ) (frame : Frame) (groups : List (List Pair)) : Type 0 where
+  pub file : List ℕ
+  pub table : HasTable cmp source number file
+  pub open_is : IsOpen cmp file frame
+  pub data_is : AreData cmp file frame.places groups
+
+-- ---- laws
+
+-- of nothing that is kept, all is right
+abbrev pub EmptyIsSound : Type 0
+EmptyIsSound = (cmp : Cmp) (facts : Facts) → IsSound cmp (record { facts = facts; tables = []; blocks = [] })

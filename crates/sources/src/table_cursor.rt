@@ -1,0 +1,190 @@
+//! A cursor over a table file (LevelDB's table/two_level_iterator.cc).
+
+ghost use Rattle.std.specs.Prelude.{◌<◌, ℕ, List, Option, IsTrue, IfOk, OnErr};
+ghost use Rattle.ikey.specs.Entries.{Pair};
+ghost use Rattle.sources.specs.TablePlaces.{IsPlacedIn, StepsBack, StepsOn, block_stands};
+
+use crate::in_block::InBlock;
+use crate::table_search::{Aim, search_back, search_on};
+use crate::tables::Tables;
+use block::BlockCursor;
+use coding::DbError;
+use cursor::Cursor;
+use ikey::{Internal, KeyOrder};
+use std::alloc::{AllocError, Global};
+use std::rc::Rc;
+use store::Store;
+use table::Table;
+
+/// A cursor over the table of a number. It holds the table open for its index, and has one data block at a time, which it
+/// shares with the cache. A move beyond the block reads the next one beside it, and changes nothing where that is refused.
+#[derive(Drop)]
+pub struct TableCursor<K: KeyOrder> {
+    number: u64,
+    ghost positive: { 0 < number },
+    table: Rc<Table<K>>,
+    here: Option<InBlock<BlockCursor<Internal<K>>>>,
+}
+
+impl<K: KeyOrder> TableCursor<K> {
+    ghost use Rattle.std.specs.Prelude.{◌≡◌, ◌<◌, List, ℕ, None, Some, IsTrue, IfOk, IfErr, OnOk};
+    ghost use Rattle.cache.specs.Tables.{RefusesTable, table_at};
+    ghost use Rattle.cursor.specs.Merging.{listed};
+    ghost use Rattle.ikey.specs.Entries.{InternalEntry};
+    ghost use Rattle.sources.specs.TablePlaces.{ListsTable};
+    ghost use Rattle.sources.specs.Tables.{Carries, HasTable, SaysOf, seen};
+    ghost use Rattle.table.specs.Refusals.{IsFrameDamaged, IsFrameUnsupported};
+    ghost use Rattle.table.specs.Table.{IsTable};
+
+    /// A cursor over the table of this number, which is opened. It stands nowhere. Corrupt and Unsupported as
+    /// `Table::open`.
+    pub fn open<S: Store>(
+        alloc: Global,
+        source: &mut Tables<K, S>,
+        number: u64,
+    ) -> Result<Self, DbError>
+        requires { 0 < number }
+        ensures number { IfOk result (λ cursor. cursor.number ≡ number) }
+        ensures nowhere { IfOk result (λ cursor. cursor.here ≡ None) }
+        ensures carries { Carries K.cmp (seen (S.facts source.old.store) source.old.tables source.old.blocks) (seen (S.facts source.new.store) source.new.tables source.new.blocks) }
+        ensures lists { IfOk result (λ cursor. SaysOf K.cmp (seen (S.facts source.old.store) source.old.tables source.old.blocks) (seen (S.facts source.new.store) source.new.tables source.new.blocks) number
+            (λ file. (entries : List InternalEntry) → IsTable K.cmp file entries
+            → ListsTable K.cmp (seen (S.facts source.new.store) source.new.tables source.new.blocks) number cursor.table.value.frame None (listed entries None))) }
+        ensures stood { OnOk result ((S.facts source.new.store).failures ≡ (S.facts source.old.store).failures) }
+        ensures refused { IfErr result (λ e. RefusesTable e (S.facts source.old.store) (S.facts source.new.store) number (IsFrameDamaged K.cmp) IsFrameUnsupported) }
+    {
+        let table = source.get_table(alloc, number)?;
+        Ok(TableCursor {
+            number,
+            table,
+            here: None,
+        })
+    }
+}
+
+impl<K: KeyOrder, S: Store> Cursor<K, Tables<K, S>> for TableCursor<K> {
+    ghost use Rattle.sources.specs.TableLaws.{lists_kept, placed_in, table_onward, table_still};
+    ghost use Rattle.sources.specs.TablePlaces.{KeepsTable, ListsTable};
+    ghost use Rattle.sources.specs.Tables.{seen};
+    ghost use Rattle.table.specs.Frame.{AnyLong, handles};
+
+    ghost facts = { λ source. S.facts source.store };
+
+    ghost lists = { λ cursor source at. ListsTable K.cmp (seen (S.facts source.store) source.tables source.blocks) cursor.number cursor.table.value.frame cursor.here at };
+
+    ghost keeps = { λ cursor old new. KeepsTable K.cmp cursor.number (seen (S.facts old.store) old.tables old.blocks) (seen (S.facts new.store) new.tables new.blocks) };
+
+    ghost stands = { λ cursor. block_stands cursor.here };
+
+    ghost limited = { λ cursor. AnyLong (handles cursor.table.value.frame) };
+
+    fn first(&mut self, alloc: Global, source: &mut Tables<K, S>) -> Result<(), DbError> {
+        self.here = search_on(alloc, source, self.number, &self.table, 0, Aim::First)?;
+        Ok(())
+    }
+
+    fn last(&mut self, alloc: Global, source: &mut Tables<K, S>) -> Result<(), DbError> {
+        let end = self.table.places().len();
+        self.here = search_back(alloc, source, self.number, &self.table, end)?;
+        Ok(())
+    }
+
+    fn seek(
+        &mut self,
+        alloc: Global,
+        source: &mut Tables<K, S>,
+        target: &[u8],
+    ) -> Result<(), DbError> {
+        let start = self.table.first_place(target);
+        let aim = Aim::From(target);
+        self.here = search_on(alloc, source, self.number, &self.table, start, aim)?;
+        Ok(())
+    }
+
+    fn next(&mut self, alloc: Global, source: &mut Tables<K, S>) -> Result<(), DbError> {
+        let start = match step_on(&mut self.here)? {
+            Some(start) => start,
+            None => return Ok(()),
+        };
+        self.here = search_on(alloc, source, self.number, &self.table, start, Aim::First)?;
+        Ok(())
+    }
+
+    fn prev(&mut self, alloc: Global, source: &mut Tables<K, S>) -> Result<(), DbError> {
+        let end = match step_back(&mut self.here)? {
+            Some(end) => end,
+            None => return Ok(()),
+        };
+        self.here = search_back(alloc, source, self.number, &self.table, end)?;
+        Ok(())
+    }
+
+    fn stands(&self) -> bool {
+        match &self.here {
+            Some(here) => here.cursor.stands(),
+            None => false,
+        }
+    }
+
+    fn key<'a>(&'a self, source: &'a Tables<K, S>) -> &'a [u8] {
+        match &self.here {
+            Some(here) => here.cursor.key(),
+            None => unreachable!(),
+        }
+    }
+
+    fn value<'a>(&'a self, source: &'a Tables<K, S>) -> &'a [u8] {
+        match &self.here {
+            Some(here) => here.cursor.value(),
+            None => unreachable!(),
+        }
+    }
+
+    ghost rises = { λ cursor source at h. h.rises };
+
+    ghost placed = { λ cursor source at h. placed_in h.groups cursor.here at.place h.place };
+
+    ghost inside = { λ cursor source at index h e. h.inside index e };
+
+    ghost kept = { λ cursor old new at k h. lists_kept K.cmp cursor.number cursor.table.value.frame cursor.here _ _ at k h };
+
+    ghost still = { λ cursor source. table_still K.cmp cursor.number _ };
+
+    ghost onward = { λ cursor first second third k l. table_onward K.cmp cursor.number _ _ _ k l };
+}
+
+// One step on within the block. On its last pair nothing moves, and the answer is the index of the block behind.
+fn step_on<K: KeyOrder>(
+    here: &mut Option<InBlock<BlockCursor<Internal<K>>>>,
+) -> Result<Option<usize>, AllocError>
+    requires { IsTrue (block_stands here.old) }
+    ensures ok { IfOk result (λ next. (groups : List (List Pair)) (place : Option ℕ) → IsPlacedIn groups here.old place → StepsOn groups here.new place next) }
+    ensures err { OnErr result ((groups : List (List Pair)) (place : Option ℕ) → IsPlacedIn groups here.old place → IsPlacedIn groups here.new place) }
+{
+    let Some(here) = here else {
+        unreachable!();
+    };
+    if here.cursor.has_next() {
+        here.cursor.next()?;
+        return Ok(None);
+    }
+    Ok(Some(here.index + 1))
+}
+
+// One step back within the block. On its first pair nothing moves, and the answer is the index of the block.
+fn step_back<K: KeyOrder>(
+    here: &mut Option<InBlock<BlockCursor<Internal<K>>>>,
+) -> Result<Option<usize>, AllocError>
+    requires { IsTrue (block_stands here.old) }
+    ensures ok { IfOk result (λ end. (groups : List (List Pair)) (place : Option ℕ) → IsPlacedIn groups here.old place → StepsBack groups here.new place end) }
+    ensures err { OnErr result ((groups : List (List Pair)) (place : Option ℕ) → IsPlacedIn groups here.old place → IsPlacedIn groups here.new place) }
+{
+    let Some(here) = here else {
+        unreachable!();
+    };
+    if here.cursor.has_prev() {
+        here.cursor.prev()?;
+        return Ok(None);
+    }
+    Ok(Some(here.index))
+}

@@ -1,0 +1,69 @@
+//! A store whose tables are read through caches (LevelDB's db/table_cache.cc).
+
+ghost use Rattle.sources.specs.Tables.{EmptyIsSound};
+
+use block::Block;
+use cache::{BlockCache, TableCache};
+use coding::DbError;
+use ikey::{Internal, KeyOrder};
+use std::alloc::Global;
+use std::rc::Rc;
+use store::Store;
+use table::{Handle, Table};
+
+/// A store, with the tables that stay open and the blocks that were read.
+#[derive(Drop)]
+pub struct Tables<K: KeyOrder, S> {
+    pub store: S,
+    pub tables: TableCache<K>,
+    pub blocks: BlockCache<K>,
+}
+
+impl<K: KeyOrder, S: Store> Tables<K, S> {
+    ghost use Rattle.std.specs.Prelude.{◌≡◌, ◌<◌, IsTrue, IfOk, IfErr, OnOk};
+    ghost use Rattle.cache.specs.Blocks.{answer_of};
+    ghost use Rattle.cache.specs.Tables.{RefusesTable, table_answer_of};
+    ghost use Rattle.sources.specs.Tables.{Carries, HasTable, IsBlockDamaged, IsBlockUnsupported, IsOpen, SaysOf, seen};
+    ghost use Rattle.table.specs.Reading.{HasFile};
+    ghost use Rattle.table.specs.Refusals.{IsFrameDamaged, IsFrameUnsupported};
+    ghost use Rattle.table.specs.Table.{HasBlock};
+
+    /// The open table of this number, as `TableCache::get_table`.
+    pub fn get_table(&mut self, alloc: Global, number: u64) -> Result<Rc<Table<K>>, DbError>
+        requires { 0 < number }
+        ensures carries { Carries K.cmp (seen (S.facts self.old.store) self.old.tables self.old.blocks) (seen (S.facts self.new.store) self.new.tables self.new.blocks) }
+        ensures found { IfOk (table_answer_of result) (λ table. SaysOf K.cmp (seen (S.facts self.old.store) self.old.tables self.old.blocks) (seen (S.facts self.new.store) self.new.tables self.new.blocks)
+            number (λ file. HasFile (S.facts self.new.store) table.name file × IsOpen K.cmp file table.frame)) }
+        ensures stood { OnOk result ((S.facts self.new.store).failures ≡ (S.facts self.old.store).failures) }
+        ensures refused { IfErr (table_answer_of result) (λ e. RefusesTable e (S.facts self.old.store) (S.facts self.new.store) number (IsFrameDamaged K.cmp) IsFrameUnsupported) }
+    {
+        self.tables.get_table(alloc, &mut self.store, number)
+    }
+
+    /// The data block at a handle of the table of this number, as `get_table` and `BlockCache::read_block`.
+    pub fn read_block(
+        &mut self,
+        alloc: Global,
+        number: u64,
+        handle: Handle,
+    ) -> Result<Rc<Block<Internal<K>>>, DbError>
+        requires { 0 < number }
+        ensures carries { Carries K.cmp (seen (S.facts self.old.store) self.old.tables self.old.blocks) (seen (S.facts self.new.store) self.new.tables self.new.blocks) }
+        ensures found { IfOk (answer_of result) (λ pairs. SaysOf K.cmp (seen (S.facts self.old.store) self.old.tables self.old.blocks) (seen (S.facts self.new.store) self.new.tables self.new.blocks)
+            number (λ file. HasBlock K.cmp file handle pairs)) }
+        ensures stood { OnOk result ((S.facts self.new.store).failures ≡ (S.facts self.old.store).failures) }
+        // What it says of a table that the store has, it says where what is kept is right.
+        ensures refused { IfErr (answer_of result) (λ e. RefusesTable e (S.facts self.old.store) (S.facts self.new.store) number
+            (λ file. HasTable K.cmp (seen (S.facts self.old.store) self.old.tables self.old.blocks) number file → IsBlockDamaged K.cmp handle file)
+            (λ file. HasTable K.cmp (seen (S.facts self.old.store) self.old.tables self.old.blocks) number file → IsBlockUnsupported handle file)) }
+    {
+        let table = self.get_table(alloc, number)?;
+        self.blocks
+            .read_block(alloc, &mut self.store, &table, number, handle)
+    }
+}
+
+/// Where nothing is kept, all that is kept is right.
+pub fn empty_is_sound()
+    ensures { EmptyIsSound }
+{}
