@@ -14,6 +14,3 @@ pub use internal_key::{
     InternalKey, Kind, SEQUENCE_END, compare_keys, one_key, pack, seek_key, unpack,
 };
 pub use key_order::{Bytewise, KeyOrder};
-
-#[cfg(test)]
-mod tests;

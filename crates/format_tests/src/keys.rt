@@ -1,5 +1,8 @@
-use super::*;
 use coding::Bytes;
+use ikey::{
+    Bytewise, Entry, EntryOrder, Internal, InternalKey, KeyOrder, Kind, Plain, SEQUENCE_END,
+    compare_keys, one_key, pack, seek_key, unpack,
+};
 use std::alloc::{AllocError, Global};
 use std::cmp::Ordering;
 use std::test::*;

@@ -1,4 +1,4 @@
-use super::*;
+use batch::{Batch, Operation, encode_operations, refusal};
 use coding::{Bytes, Damage, DbError, ReadError};
 use std::alloc::Global;
 use std::test::*;
@@ -203,36 +203,59 @@ fn refuses(batch: &mut Batch, key: &[u8], value: Option<&[u8]>, error: DbError) 
     push(batch, key, value) == Err(error)
 }
 
+// Keys and values as long as may be are taken, and longer ones refused, the key first.
+fn are_long_ones_refused(batch: &mut Batch, key: &[u8], value: &[u8]) -> bool {
+    refuses(batch, key, None, DbError::KeyTooLong)
+        && refuses(batch, key, Some(b""), DbError::KeyTooLong)
+        && refuses(batch, b"a", Some(value), DbError::ValueTooLong)
+        && refuses(batch, key, Some(value), DbError::KeyTooLong)
+        && batch.ops().len() == 2
+}
+
 #[test]
 fn long_keys_and_values_are_refused(rt: HostRuntime) -> Result<(), Fail> {
-    let alloc = rt.alloc();
-    let key = vec![in alloc; 7u8; 65_536]?;
-    let value = vec![in alloc; 0u8; 268_435_457]?;
-    let mut batch = Batch::new(alloc);
+    let key = vec![in rt.alloc(); 7u8; 65_536]?;
+    let value = vec![in rt.alloc(); 0u8; 268_435_457]?;
+    let mut batch = Batch::new(rt.alloc());
     batch.delete(&key[1..])?;
     batch.put(&key[1..], b"")?;
-    assert!(rt; refuses(&mut batch, &key, None, DbError::KeyTooLong));
-    assert!(rt; refuses(&mut batch, &key, Some(b""), DbError::KeyTooLong));
-    assert!(rt; refuses(&mut batch, b"a", Some(&value), DbError::ValueTooLong));
-    assert!(rt; refuses(&mut batch, &key, Some(&value), DbError::KeyTooLong));
-    assert_eq!(rt; batch.ops().len(), 2);
+    assert!(rt; are_long_ones_refused(&mut batch, &key, &value));
     Ok(())
+}
+
+// A batch of as many deletes as may be.
+fn full_batch(alloc: Global) -> Result<Batch, DbError> {
+    let mut batch = Batch::new(alloc);
+    for _ in 0..1_048_576 {
+        batch.delete(b"")?;
+    }
+    Ok(batch)
+}
+
+fn is_full(batch: &mut Batch) -> bool {
+    refuses(batch, b"", None, DbError::BatchTooLarge)
+        && refuses(batch, b"", Some(b""), DbError::BatchTooLarge)
+        && refusal(batch.ops()).is_none()
+}
+
+// Whether the operations are refused with one more, and a long key is refused behind one of them.
+fn are_refused(
+    alloc: Global,
+    operations: &mut Vec<Operation>,
+    key: Vec<u8>,
+) -> Result<bool, DbError> {
+    operations.push(Operation::Delete(Bytes::from_vec(Vec::new(alloc))))?;
+    let are_many = refusal(operations) == Some(DbError::BatchTooLarge);
+    operations.truncate(1);
+    operations.push(Operation::Delete(Bytes::from_vec(key)))?;
+    Ok(are_many && refusal(operations) == Some(DbError::KeyTooLong))
 }
 
 #[test]
 fn a_batch_has_at_most_1_048_576_operations(rt: HostRuntime) -> Result<(), Fail> {
-    let mut batch = Batch::new(rt.alloc());
-    for _ in 0..1_048_576 {
-        batch.delete(b"")?;
-    }
-    assert!(rt; refuses(&mut batch, b"", None, DbError::BatchTooLarge));
-    assert!(rt; refuses(&mut batch, b"", Some(b""), DbError::BatchTooLarge));
-    assert!(rt; refusal(batch.ops()).is_none());
-    let mut operations = batch.into_operations();
-    operations.push(Operation::Delete(Bytes::from_vec(Vec::new(rt.alloc()))))?;
-    assert_eq!(rt; refusal(&operations), Some(DbError::BatchTooLarge));
-    operations.truncate(1);
-    operations.push(Operation::Delete(Bytes::from_vec(vec![in rt.alloc(); 7u8; 65_536]?)))?;
-    assert_eq!(rt; refusal(&operations), Some(DbError::KeyTooLong));
+    let mut batch = full_batch(rt.alloc())?;
+    assert!(rt; is_full(&mut batch));
+    let key = vec![in rt.alloc(); 7u8; 65_536]?;
+    assert!(rt; are_refused(rt.alloc(), &mut batch.into_operations(), key)?);
     Ok(())
 }

@@ -1,5 +1,5 @@
-use super::*;
 use coding::{Damage, ReadError, crc32c, mask, put_fixed32};
+use logfile::{LogWriter, Tail, read_log};
 use std::alloc::{AllocError, Global};
 use std::test::*;
 

@@ -1,5 +1,5 @@
 use Rattle.std.proofs.Common.{[], ◌∷◌}
-use Rattle.edits.proofs.tests.snapshot_of.Goals as goal
+use Rattle.format_tests.proofs.version_edits.snapshot_of.Goals as goal
 
 pub snapshot_edit-requires-clause-kept : goal.snapshot_edit-requires-clause-kept
 snapshot_edit-requires-clause-kept c =

@@ -1,4 +1,8 @@
-use super::*;
+use coding::{
+    Bytes, Damage, DbError, Feature, FileKind, ReadError, crc32c, get_fixed32, get_fixed64,
+    get_string, get_varint32, get_varint64, mask, one_varint, put_fixed32, put_fixed64, put_string,
+    put_varint32, put_varint64, unmask,
+};
 use std::alloc::{AllocError, AllocFailed, Global};
 use std::test::*;
 
@@ -50,12 +54,17 @@ const STORED: [(&[u8], &[u8], u32, &[u8]); 5] = [
     ),
 ];
 
+fn is_stored(crc: u32, stored: &[u8]) -> bool {
+    matches!(get_fixed32(stored), Some(word) if word == mask(crc) && unmask(word) == crc)
+}
+
 #[test]
 fn checksum_is_stored_masked_low_byte_first(rt: HostRuntime) {
     for (front, back, crc, stored) in STORED {
-        assert_eq!(rt; crc32c(front, back), crc);
-        assert_eq!(rt; get_fixed32(stored), Some(mask(crc)));
-        assert_eq!(rt; get_fixed32(stored).map(unmask), Some(crc));
+        assert!(rt;
+            crc32c(front, back) == crc && is_stored(crc, stored),
+            "{stored:?}"
+        );
     }
 }
 
@@ -296,16 +305,34 @@ fn has_bytes(string: &Bytes, bytes: &[u8]) -> bool {
         && string.is_empty() == bytes.is_empty()
 }
 
+fn is_copied(alloc: Global, bytes: &[u8]) -> bool {
+    matches!(Bytes::copied_from(alloc, bytes), Ok(copied) if has_bytes(&copied, bytes))
+}
+
+// Whether the string of a vector of these bytes gives them back.
+fn is_given_back(alloc: Global, bytes: &[u8]) -> Result<bool, AllocError> {
+    let taken = Bytes::from_vec(Vec::from_slice(alloc, bytes)?);
+    Ok(taken.into_vec().as_slice() == bytes)
+}
+
+// Whether a copy of the first and the string of a vector of the second are equal.
+fn are_equal(alloc: Global, first: &[u8], second: &[u8]) -> Result<bool, AllocError> {
+    let copied = Bytes::copied_from(alloc, first)?;
+    let taken = Bytes::from_vec(Vec::from_slice(alloc, second)?);
+    Ok(copied == taken)
+}
+
+const BYTE_STRINGS: [&[u8]; 3] = [b"key", b"key\0", b""];
+
 #[test]
 fn byte_strings_are_their_bytes(rt: HostRuntime) -> Result<(), Fail> {
-    let key = Bytes::copied_from(rt.alloc(), b"key")?;
-    let longer = Bytes::copied_from(rt.alloc(), b"key\0")?;
-    let same = Bytes::from_vec(Vec::from_slice(rt.alloc(), b"key")?);
-    let nothing = Bytes::copied_from(rt.alloc(), b"")?;
-    assert!(rt;
-        has_bytes(&key, b"key") && has_bytes(&longer, b"key\0") && has_bytes(&nothing, b"")
-    );
-    assert!(rt; key == same && key != longer && key != nothing);
-    assert_eq!(rt; longer.into_vec().as_slice(), b"key\0".as_slice());
+    for bytes in BYTE_STRINGS {
+        assert!(rt; is_copied(rt.alloc(), bytes), "{bytes:?}");
+        assert!(rt; is_given_back(rt.alloc(), bytes)?, "{bytes:?}");
+        assert_eq!(rt;
+            are_equal(rt.alloc(), b"key", bytes)?,
+            bytes == b"key".as_slice()
+        );
+    }
     Ok(())
 }

@@ -1,5 +1,8 @@
-use super::*;
 use coding::{DbError, ReadError};
+use filter::{
+    Bloom, FilterBlock, FilterBuilder, added_is_admitted, built_in_is_admitted, hash, one_filter,
+    written_is_read,
+};
 use std::alloc::Global;
 use std::test::*;
 

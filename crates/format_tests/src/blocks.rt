@@ -1,6 +1,6 @@
 ghost use Rattle.std.specs.Prelude.{◌<◌};
 
-use super::*;
+use block::{Block, BlockBuilder, BlockCursor, one_block};
 use coding::ReadError;
 use ikey::{Bytewise, EntryOrder, Internal, Plain};
 use std::alloc::{AllocError, Global};
@@ -104,19 +104,25 @@ const TWO_MOVES: Moves = &[
     (Move::Next, None),
 ];
 
+fn builds_two(alloc: Global) -> Result<bool, AllocError> {
+    let mut builder = BlockBuilder::<Plain>::new(alloc, 16);
+    let empty = builder.size();
+    let is_first = add(&mut builder, b"abc", b"1");
+    let rises = !builder.is_above_last(b"abc") && !builder.is_above_last(b"abb");
+    let is_second = add(&mut builder, b"abd", b"2");
+    let size = builder.size();
+    let bytes = builder.finish()?;
+    let is_added = is_first && rises && is_second;
+    Ok(is_added && empty == 8 && size == 20 && bytes.as_slice() == TWO.as_slice())
+}
+
 #[test]
 fn two_entries_share_their_front(rt: HostRuntime) -> Result<(), Fail> {
-    let mut builder = BlockBuilder::<Plain>::new(rt.alloc(), 16);
-    assert_eq!(rt; builder.size(), 8);
-    assert!(rt; add(&mut builder, b"abc", b"1"));
-    assert!(rt; !builder.is_above_last(b"abc") && !builder.is_above_last(b"abb"));
-    assert!(rt; add(&mut builder, b"abd", b"2"));
-    assert_eq!(rt; builder.size(), 20);
-    assert_eq!(rt; builder.finish()?.as_slice(), TWO.as_slice());
-    one_block::<Plain>();
+    assert!(rt; builds_two(rt.alloc())?);
     let mut cursor = opened::<Plain>(rt.alloc(), &TWO)?;
     assert!(rt; !cursor.stands());
     assert!(rt; moves(&mut cursor, TWO_MOVES));
+    one_block::<Plain>();
     Ok(())
 }
 
@@ -304,23 +310,42 @@ const OLDER: &[u8] = b"a\x01\x01\0\0\0\0\0\0";
 
 const OLDER_ALONE: &[u8] = b"\0\x09\x01a\x01\x01\0\0\0\0\0\01\0\0\0\0\x01\0\0\0";
 
-const TO_OLDER: Moves = &[(Move::Seek(OLDER), Some((OLDER, b"1")))];
+const BOTH: Moves = &[
+    (Move::First, Some((NEWER, b""))),
+    (Move::Seek(OLDER), Some((OLDER, b"1"))),
+];
 
 const TO_A: Moves = &[(Move::First, Some((b"a", b"")))];
+
+// The block of the older key alone, which has no place for the newer one any more.
+fn older_alone(alloc: Global) -> Result<bool, AllocError> {
+    let mut builder = BlockBuilder::<Internal<Bytewise>>::new(alloc, 16);
+    let is_added = add(&mut builder, OLDER, b"1");
+    let is_above = builder.is_above_last(NEWER);
+    let bytes = builder.finish()?;
+    Ok(is_added && !is_above && bytes.as_slice() == OLDER_ALONE)
+}
+
+fn both(alloc: Global) -> Result<Vec<u8>, AllocError> {
+    let mut builder = BlockBuilder::<Internal<Bytewise>>::new(alloc, 16);
+    add(&mut builder, NEWER, b"");
+    add(&mut builder, OLDER, b"1");
+    builder.finish()
+}
+
+// Whether moves of a cursor over the block of these bytes lead where they say.
+fn leads(alloc: Global, bytes: &[u8], steps: Moves) -> Result<bool, Fail> {
+    let mut cursor = opened::<Internal<Bytewise>>(alloc, bytes)?;
+    Ok(moves(&mut cursor, steps))
+}
 
 #[test]
 fn internal_keys_are_ordered_by_what_they_mean(rt: HostRuntime) -> Result<(), Fail> {
     let alloc = rt.alloc();
-    let mut builder = BlockBuilder::<Internal<Bytewise>>::new(alloc, 16);
-    assert!(rt; add(&mut builder, OLDER, b"1") && !builder.is_above_last(NEWER));
-    assert_eq!(rt; builder.finish()?.as_slice(), OLDER_ALONE);
-    let mut both = BlockBuilder::<Internal<Bytewise>>::new(alloc, 16);
-    assert!(rt; add(&mut both, NEWER, b"") && add(&mut both, OLDER, b"1"));
-    let mut cursor = opened::<Internal<Bytewise>>(alloc, &both.finish()?)?;
-    assert!(rt; moves(&mut cursor, TO_OLDER));
+    assert!(rt; older_alone(alloc)?);
+    assert!(rt; leads(alloc, &both(alloc)?, BOTH)?);
     // Bytes that are no internal key stand alone.
-    let mut alone = opened::<Internal<Bytewise>>(alloc, b"\0\x01\0a\0\0\0\0\x01\0\0\0")?;
-    assert!(rt; moves(&mut alone, TO_A));
+    assert!(rt; leads(alloc, b"\0\x01\0a\0\0\0\0\x01\0\0\0", TO_A)?);
     assert!(rt; is_corrupt::<Internal<Bytewise>>(alloc, &TWO));
     Ok(())
 }
