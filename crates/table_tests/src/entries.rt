@@ -1,10 +1,10 @@
 // Entries as the tests write and seek them, and whether a table has them.
-use crate::test_tables::NAME;
-use crate::{KeyValue, Table, TableBuilder};
+use crate::files::NAME;
 use coding::{Bytes, DbError};
 use ikey::{KeyOrder, Kind, SEQUENCE_END, pack};
 use std::alloc::Global;
 use store::Store;
+use table::{KeyValue, Table, TableBuilder};
 
 /// A target, and how many entries stand before the one that is found.
 #[derive(Drop)]

@@ -1,13 +1,13 @@
 // No memory is taken for bytes that aren't there.
 ghost use Rattle.store.specs.MemFacts.{mem_facts};
 
-use super::*;
-use crate::test_tables::{NAME, ONE_ENTRY, store_with};
+use crate::files::{NAME, ONE_ENTRY, store_with};
 use coding::{DbError, put_varint64};
 use ikey::Bytewise;
 use std::alloc::{AllocError, Global};
 use std::test::*;
 use store::{MemStore, Store, StoreError};
+use table::{Handle, Table};
 
 // A store that notes the most bytes that were asked for at once.
 #[derive(Drop)]

@@ -1,15 +1,15 @@
 // What a builder writes, and what `Table` reads of it.
 ghost use Rattle.std.specs.Prelude.{◌<◌, ◌≤◌, ◌^◌};
 
-use super::*;
-use crate::test_entries::{Seek, add, entry, reads_as, seek_of, write};
-use crate::test_tables::{NAME, ONE_ENTRY, SEPARATED, store_with};
+use crate::entries::{Seek, add, entry, reads_as, seek_of, write};
+use crate::files::{NAME, ONE_ENTRY, SEPARATED, store_with};
 use coding::DbError;
 use ikey::{Bytewise, KeyOrder, Kind};
 use std::alloc::Global;
 use std::cmp::Ordering;
 use std::test::*;
 use store::{Fault, FaultStore, FileStore, MemStore, Store, StoreError};
+use table::{Handle, KeyValue, Table, TableBuilder};
 
 const OTHER: &str = "000004.log";
 
@@ -27,12 +27,36 @@ fn has_file(alloc: Global, store: &mut MemStore, name: &str, bytes: &[u8]) -> bo
     }
 }
 
-// The file is created by the first entry, and has no bytes before a block is ended.
-fn is_created(alloc: Global, store: &mut MemStore) -> Result<bool, Fail> {
-    let mut builder = TableBuilder::<Bytewise>::new(alloc, NAME, 4096)?;
-    let none = store.len(NAME).is_err() && builder.size() == 0;
-    add::<Bytewise, MemStore>(&mut builder, store, &one(alloc)?)?;
-    Ok(none && store.len(NAME)? == 0 && builder.size() == 21)
+fn has_length(store: &mut MemStore, length: u64) -> bool {
+    matches!(store.len(NAME), Ok(found) if found == length)
+}
+
+// Whether a builder makes no file before its first entry.
+fn is_not_created(alloc: Global, store: &mut MemStore) -> bool {
+    let is_empty = match TableBuilder::<Bytewise>::new(alloc, NAME, 4096) {
+        Ok(builder) => builder.size() == 0,
+        Err(_) => false,
+    };
+    is_empty && store.len(NAME).is_err()
+}
+
+// A builder of that name with one entry in it.
+fn with_one<S: Store>(
+    alloc: Global,
+    store: &mut S,
+    name: &str,
+    block_bytes: usize,
+) -> Result<TableBuilder<Bytewise>, DbError> {
+    let entry = one(alloc)?;
+    let mut builder = TableBuilder::new(alloc, name, block_bytes)?;
+    add::<Bytewise, S>(&mut builder, store, &entry)?;
+    Ok(builder)
+}
+
+// Whether the file is created by the first entry, and has no bytes before a block is ended.
+fn is_created(alloc: Global, store: &mut MemStore) -> bool {
+    matches!(with_one(alloc, store, NAME, 4096), Ok(builder) if builder.size() == 21)
+        && has_length(store, 0)
 }
 
 // Whether one entry is written over what was there, and nothing else.
@@ -44,7 +68,8 @@ fn is_written(alloc: Global, store: &mut MemStore) -> Result<bool, DbError> {
 #[test]
 fn one_entry_is_written(rt: HostRuntime) -> Result<(), Fail> {
     let mut store = MemStore::new(rt.alloc());
-    assert!(rt; is_created(rt.alloc(), &mut store)?);
+    assert!(rt; is_not_created(rt.alloc(), &mut store));
+    assert!(rt; is_created(rt.alloc(), &mut store));
     assert!(rt; is_written(rt.alloc(), &mut store)?);
     Ok(())
 }
@@ -154,24 +179,32 @@ fn odd_seeks(alloc: Global, count: u32) -> Result<Vec<Seek>, DbError>
 // in a filter of 64 bits two keys of four bytes that differ in that one alone have the same bits.
 const ELSEWHERE: u32 = 1 << 24;
 
-// How many of the odd numbers the filter admits in their blocks, and how many other keys it denies there.
-fn answers(table: &Table<Bytewise>, handles: &[Handle], in_block: u32, count: u32) -> (u32, u32)
-    requires in_block { 0 < in_block }
-    requires count { count ≤ 1000 }
-{
-    let (mut admitted, mut denied) = (0u32, 0u32);
-    for index in 0..count {
-        let Some(handle) = handles.get((index / in_block) as usize) else {
-            return (0, 0);
-        };
-        if table.admits(*handle, &user_key(2 * index + 1)) {
-            admitted = admitted.saturating_add(1);
-        }
-        if !table.admits(*handle, &user_key(ELSEWHERE + index)) {
-            denied = denied.saturating_add(1);
-        }
+// Whether the filter admits the key of a number in the block of the entry with this index.
+fn admits(table: &Table<Bytewise>, handles: &[Handle], block: u32, number: u32) -> bool {
+    match handles.get(block as usize) {
+        Some(handle) => table.admits(*handle, &user_key(number)),
+        None => false,
     }
-    (admitted, denied)
+}
+
+// Of how many entries the filter admits a key in their block: the first number, and so many more for each entry.
+fn admitted(
+    table: &Table<Bytewise>,
+    handles: &[Handle],
+    in_block: u32,
+    count: u32,
+    numbers: (u32, u32),
+) -> u32
+    requires { 0 < in_block }
+{
+    let (mut number, step) = numbers;
+    let mut admitted = 0u32;
+    for index in 0..count {
+        let is_admitted = admits(table, handles, index / in_block, number);
+        admitted = admitted.saturating_add(u32::from(is_admitted));
+        number = number.saturating_add(step);
+    }
+    admitted
 }
 
 // Whether the index has so many blocks, and the filter admits each key in its block and denies nine of ten others.
@@ -182,14 +215,13 @@ fn is_filtered(
     count: u32,
     blocks: usize,
 ) -> Result<bool, DbError>
-    requires in_block { 0 < in_block }
-    requires count { count ≤ 1000 }
+    requires { 0 < in_block }
 {
     let table = Table::<Bytewise>::open(alloc, store, NAME)?;
     let handles = table.index(alloc)?;
-    let (admitted, denied) = answers(&table, &handles, in_block, count);
-    let enough = denied.saturating_mul(10) >= count.saturating_mul(9);
-    Ok(handles.len() == blocks && admitted == count && enough)
+    let own = admitted(&table, &handles, in_block, count, (1, 2));
+    let others = admitted(&table, &handles, in_block, count, (ELSEWHERE, 1));
+    Ok(handles.len() == blocks && own == count && others.saturating_mul(10) <= count)
 }
 
 // Whether a table of the odd numbers is written and read.
@@ -372,14 +404,29 @@ fn a_table_of_another_order_is_corrupt(rt: HostRuntime) -> Result<(), Fail> {
 // How many bytes the table of three odd numbers has: each block 31, and the rest behind them.
 const BLOCK: u64 = 31;
 
+// Writes the table of three odd numbers, a block each.
+fn write_three<S: Store>(alloc: Global, store: &mut S) -> Result<u64, DbError> {
+    let entries = odd_numbers(alloc, 3)?;
+    write::<Bytewise, S>(alloc, store, 1, &entries)
+}
+
+fn has_three(alloc: Global, store: &mut MemStore) -> Result<bool, DbError> {
+    let entries = odd_numbers(alloc, 3)?;
+    reads_as::<Bytewise, MemStore>(alloc, store, &entries, &[])
+}
+
+// A store with another file, whose call of this number writes so many bytes and fails.
+fn failing(alloc: Global, call: u64, count: usize) -> Result<FaultStore, DbError> {
+    let inner = beside_another(alloc)?;
+    let faults = Vec::from_array(alloc, [(call, Fault::Part(count))])?;
+    Ok(FaultStore::new(inner, faults))
+}
+
 // What is left of a table of three odd numbers, a block each, where the call of this number writes so many bytes and
 // fails. The first call creates the file, the next three append a block each, and the fifth appends the rest.
 fn after_failure(alloc: Global, call: u64, count: usize) -> Result<MemStore, DbError> {
-    let mut faults = Vec::new(alloc);
-    faults.push((call, Fault::Part(count)))?;
-    let mut store = FaultStore::new(beside_another(alloc)?, faults);
-    let entries = odd_numbers(alloc, 3)?;
-    match write::<Bytewise, FaultStore>(alloc, &mut store, 1, &entries) {
+    let mut store = failing(alloc, call, count)?;
+    match write_three(alloc, &mut store) {
         Err(DbError::Io) => Ok(store.into_inner()),
         _ => Err(DbError::BadLine),
     }
@@ -410,27 +457,37 @@ fn is_no_table(alloc: Global, store: &mut MemStore) -> bool {
 // Whether the file then has so many bytes and is no table, and the other file is as before.
 fn leaves_no_table(alloc: Global, call: u64, count: usize, length: u64) -> Result<bool, DbError> {
     let mut store = after_failure(alloc, call, count)?;
-    let long = matches!(store.len(NAME), Ok(found) if found == length);
-    let other = has_file(alloc, &mut store, OTHER, b"log");
-    Ok(long && other && is_no_table(alloc, &mut store))
+    let is_long = has_length(&mut store, length);
+    let is_kept = has_file(alloc, &mut store, OTHER, b"log");
+    Ok(is_long && is_kept && is_no_table(alloc, &mut store))
 }
+
+// The calls that append blocks, and how many bytes the file has before.
+const BLOCKS: [(u64, u64); 3] = [(2, 0), (3, BLOCK), (4, 2 * BLOCK)];
+
+const PARTS: [u8; 5] = [0, 1, 26, 30, 31];
 
 #[test]
 fn a_failed_block_leaves_no_table(rt: HostRuntime) -> Result<(), Fail> {
-    for (call, before) in [(2, 0), (3, BLOCK), (4, 2 * BLOCK)] {
-        for count in [0, 1, 26, 30, 31] {
-            let left = leaves_no_table(rt.alloc(), call, count, before + count as u64)?;
+    for (call, before) in BLOCKS {
+        for count in PARTS {
+            let length = before.saturating_add(u64::from(count));
+            let left = leaves_no_table(rt.alloc(), call, usize::from(count), length)?;
             assert!(rt; left, "{call}, {count}");
         }
     }
     Ok(())
 }
 
+// The length of the table, where nothing fails.
+fn length_of_three(alloc: Global) -> Result<u64, DbError> {
+    let mut store = MemStore::new(alloc);
+    write_three(alloc, &mut store)
+}
+
 #[test]
 fn failed_ends_leave_no_table(rt: HostRuntime) -> Result<(), Fail> {
-    let mut store = MemStore::new(rt.alloc());
-    let entries = odd_numbers(rt.alloc(), 3)?;
-    let length = write::<Bytewise, MemStore>(rt.alloc(), &mut store, 1, &entries)?;
+    let length = length_of_three(rt.alloc())?;
     for count in 0..length.saturating_sub(3 * BLOCK) {
         let left = leaves_no_table(rt.alloc(), 5, count as usize, 3 * BLOCK + count)?;
         assert!(rt; left, "{count}");
@@ -438,24 +495,33 @@ fn failed_ends_leave_no_table(rt: HostRuntime) -> Result<(), Fail> {
     Ok(())
 }
 
+fn is_whole_once_all_was_written(alloc: Global) -> Result<bool, DbError> {
+    let mut store = after_failure(alloc, 5, usize::MAX)?;
+    has_three(alloc, &mut store)
+}
+
+fn is_whole_once_written_again(alloc: Global) -> Result<bool, DbError> {
+    let mut store = after_failure(alloc, 3, 7)?;
+    write_three(alloc, &mut store)?;
+    has_three(alloc, &mut store)
+}
+
 // The store did all of it and failed then, or the table is written once more: it is there.
 #[test]
 fn a_table_is_whole_where_all_of_it_was_written(rt: HostRuntime) -> Result<(), Fail> {
-    let entries = odd_numbers(rt.alloc(), 3)?;
-    let mut store = after_failure(rt.alloc(), 5, usize::MAX)?;
-    assert!(rt; reads_as::<Bytewise, MemStore>(rt.alloc(), &mut store, &entries, &[])?);
-    let mut store = after_failure(rt.alloc(), 3, 7)?;
-    write::<Bytewise, MemStore>(rt.alloc(), &mut store, 1, &entries)?;
-    assert!(rt; reads_as::<Bytewise, MemStore>(rt.alloc(), &mut store, &entries, &[])?);
+    assert!(rt; is_whole_once_all_was_written(rt.alloc())?);
+    assert!(rt; is_whole_once_written_again(rt.alloc())?);
     Ok(())
+}
+
+fn is_refused(alloc: Global, store: &mut FileStore, name: &str) -> bool {
+    matches!(with_one(alloc, store, name, 1), Err(DbError::Io))
 }
 
 // A store over a folder makes no file within another folder.
 #[test]
 fn a_file_that_is_not_created_is_a_failure(rt: HostRuntime) -> Result<(), Fail> {
     let mut store = FileStore::open(&rt, ".")?;
-    let mut builder = TableBuilder::<Bytewise>::new(rt.alloc(), "none/000005.ldb", 1)?;
-    let refused = add::<Bytewise, FileStore>(&mut builder, &mut store, &one(rt.alloc())?);
-    assert_eq!(rt; refused.err(), Some(DbError::Io));
+    assert!(rt; is_refused(rt.alloc(), &mut store, "none/000005.ldb"));
     Ok(())
 }

@@ -1,8 +1,11 @@
 ghost use Rattle.std.specs.Prelude.{◌≡◌, true, OnOk};
 ghost use Rattle.cursor.specs.Walks.{value_at_hand};
 
-use super::*;
 use coding::{Bytes, DbError};
+use cursor::{
+    Cursor, ListCursor, Merge, Visible, each_list_has_a_view, lists_have_a_union, merge_begins,
+    views_agree,
+};
 use ikey::{Bytewise, Kind, pack};
 use std::alloc::{AllocError, Global};
 use std::test::*;
@@ -136,19 +139,38 @@ fn a_merge_walks_as_the_union(rt: HostRuntime) -> Result<(), Fail> {
     Ok(())
 }
 
+// The last child's list: internal keys, each with the child.
+const LISTED: [(Turn, Option<(&[u8], &[u8])>); 3] = [
+    (
+        Turn::Seek(b"b", 9),
+        Some((b"ba\x01\x08\0\0\0\0\0\0", b"\x02")),
+    ),
+    (Turn::Prev, Some((b"a\x01\x01\0\0\0\0\0\0", b"\x02"))),
+    (Turn::Prev, None),
+];
+
+fn is_at<C: Cursor<Bytewise, MemStore>>(
+    cursor: &C,
+    store: &MemStore,
+    wanted: Option<(&[u8], &[u8])>,
+) -> bool {
+    match (at_hand(cursor, store), wanted) {
+        (Some((key, value)), Some((wanted_key, wanted_value))) => key == wanted_key
+            && value == wanted_value,
+        (None, None) => true,
+        (Some(_), None) => false,
+        (None, Some(_)) => false,
+    }
+}
+
 #[test]
 fn a_list_is_walked_both_ways(rt: HostRuntime) -> Result<(), Fail> {
-    let alloc = rt.alloc();
-    let mut store = MemStore::new(alloc);
-    let mut list = list_of(alloc, Some(2))?;
-    step(&mut list, alloc, &mut store, Turn::Seek(b"b", 9))?;
-    let found = Some((b"ba\x01\x08\0\0\0\0\0\0".as_slice(), b"\x02".as_slice()));
-    assert_eq!(rt; at_hand(&list, &store), found);
-    step(&mut list, alloc, &mut store, Turn::Prev)?;
-    let found = Some((b"a\x01\x01\0\0\0\0\0\0".as_slice(), b"\x02".as_slice()));
-    assert_eq!(rt; at_hand(&list, &store), found);
-    step(&mut list, alloc, &mut store, Turn::Prev)?;
-    assert_eq!(rt; at_hand(&list, &store), None);
+    let mut store = MemStore::new(rt.alloc());
+    let mut list = list_of(rt.alloc(), Some(2))?;
+    for (turn, wanted) in LISTED {
+        step(&mut list, rt.alloc(), &mut store, turn)?;
+        assert!(rt; is_at(&list, &store, wanted), "{wanted:?}");
+    }
     Ok(())
 }
 
@@ -179,6 +201,23 @@ fn walk<C: Cursor<Bytewise, MemStore>>(
     }
 }
 
+// Whether that is the pair at hand.
+fn shows<C: Cursor<Bytewise, MemStore>>(
+    visible: &Visible<Bytewise, C>,
+    store: &MemStore,
+    shown: Option<(&[u8], u8)>,
+) -> bool
+    requires { visible.now.stands ≡ true → value_at_hand C.stands visible.now ≡ true }
+{
+    if !visible.stands() {
+        return shown.is_none();
+    }
+    let Some((key, value)) = shown else {
+        return false;
+    };
+    visible.key() == key && matches!(visible.value(store), [only] if *only == value)
+}
+
 #[test]
 fn a_walk_shows_what_is_visible(rt: HostRuntime) -> Result<(), Fail> {
     let alloc = rt.alloc();
@@ -191,14 +230,7 @@ fn a_walk_shows_what_is_visible(rt: HostRuntime) -> Result<(), Fail> {
     views_agree::<Bytewise>();
     for (turn, shown) in SHOWN {
         walk(&mut visible, alloc, &mut store, turn)?;
-        match shown {
-            None => assert!(rt; !visible.stands()),
-            Some((key, value)) => {
-                assert!(rt; visible.stands());
-                assert_eq!(rt; visible.key(), key);
-                assert_eq!(rt; visible.value(&store), [value].as_slice());
-            }
-        }
+        assert!(rt; shows(&visible, &store, shown), "{shown:?}");
     }
     Ok(())
 }

@@ -1,8 +1,8 @@
 // What stores in memory do, by the calls of a database.
-use crate::{Fault, FaultStore, MemStore, Store, StoreError};
 use std::alloc::{AllocGlobal, Global};
 use std::process::Abort;
 use std::test::Fail;
+use store::{Fault, FaultStore, MemStore, Store, StoreError};
 
 // A call of a store, or a look at its files that answers whether they are so.
 #[derive(Clone, Copy, Debug)]
@@ -174,21 +174,31 @@ fn no_fault_changes_no_call(rt: HostRuntime) -> Result<(), Fail> {
     Ok(())
 }
 
+const BEFORE_A_COPY: &[(Step<'static>, Result<bool, StoreError>)] = &[
+    (Step::Create("a"), Ok(true)),
+    (Step::Append("a", b"first"), Ok(true)),
+    (Step::Lock, Ok(true)),
+];
+
+const OF_THE_COPY: &[(Step<'static>, Result<bool, StoreError>)] = &[
+    (Step::Names("LOCK;a;"), Ok(true)),
+    (Step::Lock, Ok(true)),
+    (Step::Append("a", b"+"), Ok(true)),
+    (Step::Holds("a", b"first+"), Ok(true)),
+];
+
+const BEHIND_A_COPY: &[(Step<'static>, Result<bool, StoreError>)] = &[(
+    Step::Holds("a", b"first"),
+    Ok(true),
+)];
+
 #[test]
 fn a_copy_has_the_files_alone(rt: HostRuntime) -> Result<(), Fail> {
     let mut store = MemStore::new(rt.alloc());
-    store.create("a")?;
-    store.append("a", b"first")?;
-    assert_eq!(rt; store.lock(), Ok(true));
+    assert_steps(&rt, &mut store, BEFORE_A_COPY);
     let mut copy = store.copy()?;
-    let steps = [
-        (Step::Names("LOCK;a;"), Ok(true)),
-        (Step::Lock, Ok(true)),
-        (Step::Append("a", b"+"), Ok(true)),
-        (Step::Holds("a", b"first+"), Ok(true)),
-    ];
-    assert_steps(&rt, &mut copy, steps.as_slice());
-    assert_steps(&rt, &mut store, &[(Step::Holds("a", b"first"), Ok(true))]);
+    assert_steps(&rt, &mut copy, OF_THE_COPY);
+    assert_steps(&rt, &mut store, BEHIND_A_COPY);
     Ok(())
 }
 

@@ -1,9 +1,11 @@
 // What a store over a folder of the system does.
-use crate::tests::{CALLS, Step, assert_missing, assert_reads, assert_steps};
-use crate::{FileStore, Store, StoreError};
+use crate::stores::{CALLS, Step, assert_missing, assert_reads, assert_steps, perform};
+use std::alloc::AllocGlobal;
 use std::os::unix::fs::PermissionsExt;
+use std::process::Abort;
 use std::test::Fail;
 use std::{env, fs, process};
+use store::{FileStore, Store, StoreError};
 
 // An empty folder, of a name that no other run of the tests uses.
 fn fresh_folder(rt: &HostRuntime, test: &str) -> Result<String, Fail> {
@@ -71,20 +73,25 @@ fn names_are_any_text_that_a_file_can_have(rt: HostRuntime) -> Result<(), Fail> 
     Ok(())
 }
 
+const WRITTEN: &[(Step<'static>, Result<bool, StoreError>)] = &[
+    (Step::Create("000003.log"), Ok(true)),
+    (Step::Append("000003.log", b"first"), Ok(true)),
+];
+
+const GONE_ON: &[(Step<'static>, Result<bool, StoreError>)] = &[
+    (Step::Holds("000003.log", b"first"), Ok(true)),
+    (Step::Append("000003.log", b", second"), Ok(true)),
+    (Step::Rename("000003.log", "000004.log"), Ok(true)),
+    (Step::Append("000004.log", b", third"), Ok(true)),
+];
+
 #[test]
 fn another_store_reads_the_files_and_goes_on(rt: HostRuntime) -> Result<(), Fail> {
     let folder = fresh_folder(&rt, "another")?;
     let mut store = FileStore::open(&rt, folder.as_str())?;
-    store.create("000003.log")?;
-    store.append("000003.log", b"first")?;
+    assert_steps(&rt, &mut store, WRITTEN);
     let mut other = FileStore::open(&rt, folder.as_str())?;
-    let steps = [
-        (Step::Holds("000003.log", b"first"), Ok(true)),
-        (Step::Append("000003.log", b", second"), Ok(true)),
-        (Step::Rename("000003.log", "000004.log"), Ok(true)),
-        (Step::Append("000004.log", b", third"), Ok(true)),
-    ];
-    assert_steps(&rt, &mut other, steps.as_slice());
+    assert_steps(&rt, &mut other, GONE_ON);
     let path = within(&rt, folder.as_str(), "000004.log")?;
     let text = fs::read_to_string(&rt, path.as_str())?;
     assert_eq!(rt; text.as_str(), "first, second, third");
@@ -138,31 +145,45 @@ fn only_a_folder_is_opened(rt: HostRuntime) -> Result<(), Fail> {
     Ok(())
 }
 
+// Steps of a store, or of another one over its folder.
+const LOCKED: &[(bool, Step<'static>, Result<bool, StoreError>)] = &[
+    (false, Step::Lock, Ok(true)),
+    (true, Step::Lock, Ok(false)),
+    // a read of LOCK doesn't free it
+    (true, Step::Holds("LOCK", b""), Ok(true)),
+    (true, Step::Lock, Ok(false)),
+    (false, Step::Unlock, Ok(true)),
+    (true, Step::Lock, Ok(true)),
+    (false, Step::Lock, Ok(false)),
+];
+
+// A store that is gone holds no lock.
+const ALONE: &[(Step<'static>, Result<bool, StoreError>)] = &[
+    (Step::Lock, Ok(true)),
+    (Step::Unlock, Ok(true)),
+    (Step::Remove("LOCK"), Ok(true)),
+];
+
+fn assert_locked(rt: &(impl Abort + AllocGlobal), store: &mut FileStore, other: &mut FileStore) {
+    for (is_other, step, wanted) in LOCKED {
+        let turn = if *is_other { &mut *other } else { &mut *store };
+        let answered = perform(rt.alloc(), turn, *step);
+        assert_eq!(rt; answered, *wanted, "{step:?}");
+    }
+}
+
 #[test]
 fn the_lock_is_denied_to_another_store(rt: HostRuntime) -> Result<(), Fail> {
     let folder = fresh_folder(&rt, "lock")?;
     let mut store = FileStore::open(&rt, folder.as_str())?;
     let mut other = FileStore::open(&rt, folder.as_str())?;
-    assert_eq!(rt; store.lock(), Ok(true));
-    assert_eq!(rt; other.lock(), Ok(false));
-    assert_eq!(rt; other.len("LOCK"), Ok(0));
-    assert_eq!(rt; other.lock(), Ok(false), "a read of LOCK doesn't free it");
-    store.unlock()?;
-    assert_eq!(rt; other.lock(), Ok(true), "granted after unlock");
-    assert_eq!(rt; store.lock(), Ok(false));
+    assert_locked(&rt, &mut store, &mut other);
     drop(other);
-    assert_eq!(rt;
-        store.lock(),
-        Ok(true),
-        "a store that is gone holds no lock"
-    );
-    store.unlock()?;
-
+    assert_steps(&rt, &mut store, ALONE);
     // A folder has the lock's name.
-    store.remove("LOCK")?;
     let in_the_way = within(&rt, folder.as_str(), "LOCK")?;
     fs::create_dir(&rt, in_the_way.as_str())?;
-    assert_eq!(rt; store.lock(), Err(StoreError::Device));
+    assert_steps(&rt, &mut store, &[(Step::Lock, Err(StoreError::Device))]);
     fs::remove_dir_all(&rt, folder.as_str())?;
     Ok(())
 }

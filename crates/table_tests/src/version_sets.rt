@@ -1,11 +1,14 @@
 ghost use Rattle.std.specs.Prelude.{◌≡◌, length, IfOk};
 
-use super::*;
 use coding::Bytes;
 use edits::{Edit, Field, FileName, Layout, PlacedTable, TableFile};
 use ikey::{Bytewise, Kind, pack};
 use std::alloc::{AllocError, Global};
 use std::test::*;
+use versions::{
+    JobPlan, LiveNumbers, Version, Versions, covers, one_more_edit, one_user_key, searches_reach,
+    user_of,
+};
 
 mod plans;
 

@@ -1,15 +1,12 @@
 // Tables that others have written.
-use super::*;
-use crate::footer::{put_footer, read_footer};
-use crate::handle::{put_handle, whole_handle};
-use crate::stored::{put_stored, put_trailer, stored_block};
-use crate::test_entries::{Seek, entry, reads_as, seek_of};
-use crate::test_tables::{NAME, NO_FILTER, ONE_ENTRY, SEPARATED, store_with};
-use coding::{DbError, ReadError, crc32c, mask, put_fixed32};
+use crate::entries::{Seek, entry, reads_as, seek_of, write};
+use crate::files::{NAME, NO_FILTER, ONE_ENTRY, SEPARATED, store_with};
+use coding::DbError;
 use ikey::{Bytewise, Kind};
 use std::alloc::{AllocError, Global};
 use std::test::*;
 use store::{MemStore, Store};
+use table::{Handle, KeyValue, Table};
 
 const HIGHEST: u64 = (1 << 56) - 1;
 
@@ -176,58 +173,103 @@ fn changed_bytes_give_no_wrong_entry(rt: HostRuntime) -> Result<(), Fail> {
 
 // ---- parts
 
+// The zeros behind the footer's handles are compared. What a footer is made of is shown where this table is written.
 #[test]
 fn footers_are_written_as_they_are_read(rt: HostRuntime) -> Result<(), Fail> {
-    let mut out = Vec::new(rt.alloc());
-    let footer = read_footer(&ONE_ENTRY[128..]).ok().ok_or("a footer")?;
-    put_footer(&mut out, footer)?;
-    assert_eq!(rt; out.as_slice(), &ONE_ENTRY[128..]);
     let mut padded = ONE_ENTRY;
     padded[140] = 1;
-    assert!(rt; read_footer(&padded[128..]).is_err());
+    assert!(rt; !is_corrupt(rt.alloc(), &ONE_ENTRY) && is_corrupt(rt.alloc(), &padded));
     Ok(())
 }
 
-#[test]
-fn blocks_are_stored_with_type_and_checksum(rt: HostRuntime) -> Result<(), Fail> {
-    let mut out = Vec::new(rt.alloc());
-    put_stored(&mut out, &ONE_ENTRY[..21])?;
-    assert_eq!(rt; out.as_slice(), &ONE_ENTRY[..26]);
-    assert!(rt; stored_block(&out).is_ok());
-    let mut block = Vec::from_slice(rt.alloc(), &ONE_ENTRY[..21])?;
-    put_trailer(&mut block)?;
-    assert_eq!(rt; block.as_slice(), out.as_slice());
-    Ok(())
-}
+// The table of one entry, whose data block is of type 1: with the checksum of type 0, and with its own.
+const OF_TYPE_ONE: [([u8; 5], bool); 2] = [
+    ([1, 0x82, 0x7E, 0xF9, 0x3A], false),
+    ([1, 0x55, 0x62, 0xF4, 0x40], true),
+];
 
-// An empty block of type 1, whose checksum is right, or with another byte in its place.
-fn of_type_one(alloc: Global, change: u32) -> Result<Vec<u8>, AllocError> {
-    let block = [0, 0, 0, 0, 1, 0, 0, 0, 1];
-    let mut stored = Vec::from_slice(alloc, &block)?;
-    put_fixed32(&mut stored, mask(crc32c(&block, &[])) ^ change)?;
-    Ok(stored)
+// Whether the data block of the table with these bytes behind it is refused: as not supported, or as damaged.
+fn is_refused(alloc: Global, behind: &[u8; 5], is_unsupported: bool) -> Result<bool, DbError> {
+    let mut bytes = Vec::from_slice(alloc, &ONE_ENTRY[..21])?;
+    bytes.extend_from_slice(behind)?;
+    bytes.extend_from_slice(&ONE_ENTRY[26..])?;
+    let (table, mut store) = opened(alloc, &bytes)?;
+    Ok(match table.read_block(alloc, &mut store, FIRST) {
+        Ok(_) => false,
+        Err(DbError::Unsupported(_)) => is_unsupported,
+        Err(DbError::Corrupt(_, _)) => !is_unsupported,
+        Err(_) => false,
+    })
 }
 
 #[test]
 fn checksums_are_compared_before_types(rt: HostRuntime) -> Result<(), Fail> {
-    let right = of_type_one(rt.alloc(), 0)?;
-    assert!(rt; matches!(stored_block(&right), Err(ReadError::Unsupported(_))));
-    let wrong = of_type_one(rt.alloc(), 1)?;
-    assert!(rt; matches!(stored_block(&wrong), Err(ReadError::Corrupt(_))));
+    for (behind, is_unsupported) in OF_TYPE_ONE {
+        assert!(rt;
+            is_refused(rt.alloc(), &behind, is_unsupported)?,
+            "{behind:?}"
+        );
+    }
     Ok(())
+}
+
+// The index of the table of one entry, with its place and its length as the footer begins: its handle is that of the
+// block, is cut, or has a byte behind it.
+const INDEXES: [(&[u8], bool); 3] = [
+    (
+        b"\0\x09\x02a\x01\x01\0\0\0\0\0\0\0\x15\0\0\0\0\x01\0\0\0\0\x36\x49\x25\xbf\x31\x2f\x65\x16",
+        true,
+    ),
+    (
+        b"\0\x09\x02a\x01\x01\0\0\0\0\0\0\xac\x02\0\0\0\0\x01\0\0\0\0\x50\xea\x8f\x9b\x31\x2f\x65\x16",
+        false,
+    ),
+    (
+        b"\0\x09\x03a\x01\x01\0\0\0\0\0\0\0\x15\x03\0\0\0\0\x01\0\0\0\0\x54\x2f\xa3\x0d\x31\x2f\x65\x17",
+        false,
+    ),
+];
+
+// The table of one entry with this index.
+fn with_index(alloc: Global, index: &[u8]) -> Result<Vec<u8>, AllocError> {
+    let mut bytes = Vec::from_slice(alloc, &ONE_ENTRY[..101])?;
+    bytes.extend_from_slice(index)?;
+    bytes.extend_from_slice(&ONE_ENTRY[132..])?;
+    Ok(bytes)
+}
+
+// Two blocks of one entry each, the first of which has 295 bytes.
+const BLOCKS: [Handle; 2] = [
+    Handle {
+        offset: 0,
+        size: 295,
+    },
+    Handle {
+        offset: 300,
+        size: 21,
+    },
+];
+
+// Whether the index of a table of those blocks says of the second one that it is 21 bytes at 300.
+fn has_the_second_handle(alloc: Global) -> Result<bool, DbError> {
+    let entries = [
+        entry(alloc, b"a", 1, Kind::Put, &[7; 274])?,
+        entry(alloc, b"b", 2, Kind::Put, b"2")?,
+    ];
+    let mut store = MemStore::new(alloc);
+    write::<Bytewise, MemStore>(alloc, &mut store, 1, &entries)?;
+    let table = Table::<Bytewise>::open(alloc, &mut store, NAME)?;
+    let is_read = table.index(alloc)?.as_slice() == BLOCKS.as_slice();
+    let written = store.read_at(alloc, NAME, 429, 3);
+    Ok(is_read && matches!(written, Ok(bytes) if bytes.as_slice() == b"\xac\x02\x15".as_slice()))
 }
 
 #[test]
 fn handles_are_two_numbers(rt: HostRuntime) -> Result<(), Fail> {
-    let handle = Handle {
-        offset: 300,
-        size: 5,
-    };
-    let mut out = Vec::new(rt.alloc());
-    put_handle(&mut out, handle)?;
-    assert_eq!(rt; out.as_slice(), [0xAC, 0x02, 0x05].as_slice());
-    assert_eq!(rt; whole_handle(&out), Some(handle));
-    assert_eq!(rt; whole_handle(&[0xAC, 0x02]), None);
-    assert_eq!(rt; whole_handle(&[1, 2, 3]), None);
+    assert!(rt; has_the_second_handle(rt.alloc())?);
+    for (index, is_one) in INDEXES {
+        let bytes = with_index(rt.alloc(), index)?;
+        assert!(rt; is_corrupt(rt.alloc(), &bytes) != is_one, "{index:?}");
+    }
     Ok(())
 }
