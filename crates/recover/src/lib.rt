@@ -25,8 +25,3 @@ pub use listing::{Listing, first_number, list_directory};
 pub use reading::{Recovered, read_directory};
 pub use report::{LogSummary, Report, Summary, TableSummary};
 pub use tables::{FoundTable, find_table};
-
-#[cfg(test)]
-mod check_tests;
-#[cfg(test)]
-mod tests;

@@ -1,0 +1,9 @@
+//! Tests of directories: what is read of them and checked in them, and what sessions answer and leave there.
+#![tactic(auto)]
+
+#[cfg(test)]
+mod checks;
+#[cfg(test)]
+mod readings;
+#[cfg(test)]
+mod sessions;
