@@ -11,6 +11,3 @@ pub use limits::{refusal, refusal_with_one_more};
 pub use operation::Operation;
 pub use write_batch::{Batch, one_batch};
 pub use writing::{encode_operations, encoding_length};
-
-#[cfg(test)]
-mod tests;

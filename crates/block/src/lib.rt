@@ -12,6 +12,3 @@ mod trailer;
 pub use block_builder::BlockBuilder;
 pub use block_cursor::BlockCursor;
 pub use sorted_block::{Block, MAX_BLOCK_LENGTH, one_block};
-
-#[cfg(test)]
-mod tests;

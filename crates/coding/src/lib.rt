@@ -18,6 +18,3 @@ pub use error::{Damage, DbError, Feature, FileKind, ReadError};
 pub use fixed::{get_fixed32, get_fixed64, put_fixed32, put_fixed64};
 pub use string::{get_string, put_string};
 pub use varint::{get_varint32, get_varint64, one_varint, put_varint32, put_varint64};
-
-#[cfg(test)]
-mod tests;

@@ -19,6 +19,3 @@ pub use laws::{each_list_has_a_view, lists_have_a_union, views_agree};
 pub use list_cursor::ListCursor;
 pub use merge::{Merge, merge_begins};
 pub use visible::Visible;
-
-#[cfg(test)]
-mod tests;

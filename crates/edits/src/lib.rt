@@ -22,6 +22,3 @@ pub use snapshot::{layouts_are_kept, snapshot_edit};
 pub use tables::copy_of;
 pub use version_edit::{Edit, one_edit};
 pub use writing::encode_edit;
-
-#[cfg(test)]
-mod tests;

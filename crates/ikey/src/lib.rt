@@ -20,6 +20,3 @@ pub use laws::{
     searched_by_two, searched_when_grown, searched_when_replaced, sorted_in_row, sought_in_order,
     unseen_in_front,
 };
-
-#[cfg(test)]
-mod tests;

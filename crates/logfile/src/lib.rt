@@ -15,6 +15,3 @@ pub use appending::{appended, beginnings, failed_append, one_writing, written_le
 pub use reading::{faults_are_real, one_kind_of_fault, one_reading, read_log};
 pub use record::Tail;
 pub use writing::LogWriter;
-
-#[cfg(test)]
-mod tests;

@@ -27,10 +27,3 @@ pub use origins::{Origin, file_entries};
 pub use reading::{Recovered, read_directory};
 pub use report::{LogSummary, Report, Summary, TableSummary};
 pub use tables::{FoundTable, find_table};
-
-#[cfg(test)]
-mod check_tests;
-#[cfg(test)]
-mod origin_tests;
-#[cfg(test)]
-mod tests;

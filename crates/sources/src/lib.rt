@@ -12,8 +12,3 @@ pub use memory_cursor::MemoryCursor;
 pub use memory_laws::{kept_for_all_is_same, later_inserts_are_kept, seen_entries_have_the_view};
 pub use table_cursor::TableCursor;
 pub use tables::{Tables, empty_is_sound};
-
-#[cfg(test)]
-mod table_tests;
-#[cfg(test)]
-mod tests;

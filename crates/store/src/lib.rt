@@ -15,8 +15,3 @@ pub use fault_store::{Fault, FaultStore};
 pub use file_store::FileStore;
 pub use memory::MemStore;
 pub use store::Store;
-
-#[cfg(test)]
-mod file_tests;
-#[cfg(test)]
-mod tests;

@@ -26,6 +26,3 @@ pub use plan::JobPlan;
 pub use searching::covers;
 pub use user_key::{one_user_key, user_of};
 pub use version::Version;
-
-#[cfg(test)]
-mod tests;

@@ -1,0 +1,11 @@
+//! Tests of directories: what is read of them and checked in them, and what sessions answer and leave there.
+#![tactic(auto)]
+
+#[cfg(test)]
+mod checks;
+#[cfg(test)]
+mod origins;
+#[cfg(test)]
+mod readings;
+#[cfg(test)]
+mod sessions;

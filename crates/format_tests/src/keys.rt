@@ -1,0 +1,214 @@
+use coding::Bytes;
+use ikey::{
+    Bytewise, Entry, EntryOrder, Internal, InternalKey, KeyOrder, Kind, Plain, SEQUENCE_END,
+    compare_keys, one_key, pack, seek_key, unpack,
+};
+use std::alloc::{AllocError, Global};
+use std::cmp::Ordering;
+use std::test::*;
+
+// Keys and their bytes.
+const PACKED: [(&[u8], u64, Kind, &[u8]); 3] = [
+    (b"a", 1, Kind::Put, b"a\x01\x01\0\0\0\0\0\0"),
+    (
+        b"b",
+        SEQUENCE_END - 1,
+        Kind::Put,
+        b"b\x01\xff\xff\xff\xff\xff\xff\xff",
+    ),
+    (b"", 0x0102, Kind::Delete, b"\0\x02\x01\0\0\0\0\0"),
+];
+
+const NO_KEYS: [&[u8]; 4] = [
+    b"",
+    b"\x01\0\0\0\0\0\0",
+    b"\x02\0\0\0\0\0\0\0",
+    b"a\xff\0\0\0\0\0\0\0",
+];
+
+// Whether the key has these bytes, both ways.
+fn is_packed(alloc: Global, key: InternalKey<'_>, bytes: &[u8]) -> bool {
+    key.sequence < SEQUENCE_END
+        && unpack(bytes) == Some(key)
+        && matches!(pack(alloc, key.user, key.sequence, key.kind), Ok(packed) if packed.as_slice() == bytes)
+}
+
+#[test]
+fn internal_keys_have_the_bytes_of_the_format(rt: HostRuntime) {
+    for (user, sequence, kind, bytes) in PACKED {
+        let key = InternalKey {
+            user,
+            sequence,
+            kind,
+        };
+        assert!(rt; is_packed(rt.alloc(), key, bytes), "{key:?}");
+    }
+    for bytes in NO_KEYS {
+        assert!(rt; unpack(bytes).is_none(), "{bytes:?}");
+    }
+    one_key();
+}
+
+// The bytes of internal keys in their order: the user keys up, the newer write first.
+const ORDERED: [&[u8]; 9] = [
+    b"\0\0\0\0\0\0\0\0",
+    b"a\0\x2c\x01\0\0\0\0\0",
+    b"a\x01\x07\0\0\0\0\0\0",
+    b"a\0\x07\0\0\0\0\0\0",
+    b"a\x01\0\0\0\0\0\0\0",
+    b"a\0\x01\x84\x03\0\0\0\0\0",
+    b"ab\x01\x01\0\0\0\0\0\0",
+    b"b\x01\x08\0\0\0\0\0\0",
+    b"\xff\x01\x02\0\0\0\0\0\0",
+];
+
+// Whether bytes are ordered so, and so are the keys that they are.
+fn are_so(a: &[u8], b: &[u8], order: Ordering) -> bool {
+    compare_keys::<Bytewise>(a, b) == Some(order)
+        && Internal::<Bytewise>::is_below(a, b) == (order == Ordering::Less)
+        && matches!((unpack(a), unpack(b)), (Some(a), Some(b)) if a.cmp(&b) == order)
+}
+
+// Whether bytes that are no internal key are neither below nor above these.
+fn is_apart(a: &[u8], short: &[u8]) -> bool {
+    compare_keys::<Bytewise>(a, short).is_none()
+        && !Internal::<Bytewise>::is_below(a, short)
+        && !Internal::<Bytewise>::is_below(short, a)
+}
+
+#[test]
+fn user_keys_rise_and_sequences_fall(rt: HostRuntime) {
+    for (i, a) in ORDERED.iter().enumerate() {
+        for (k, b) in ORDERED.iter().enumerate() {
+            assert!(rt; are_so(a, b, i.cmp(&k)), "{i} and {k}");
+        }
+        assert!(rt; is_apart(a, b"short"), "{i}");
+    }
+}
+
+const RISING: [&[u8]; 8] = [
+    b"",
+    b"\0",
+    b"\0\0",
+    b"\x01",
+    b"\x7f\xff",
+    b"\x80",
+    b"\xff",
+    b"\xff\0",
+];
+
+#[test]
+fn bytes_are_ordered_by_the_first_that_differs(rt: HostRuntime) {
+    assert_eq!(rt; Bytewise::name(), "leveldb.BytewiseComparator");
+    for (i, a) in RISING.iter().enumerate() {
+        for (k, b) in RISING.iter().enumerate() {
+            assert!(rt;
+                Bytewise::compare(a, b) == i.cmp(&k) && Plain::is_below(a, b) == (i < k),
+                "{i} and {k}"
+            );
+        }
+    }
+}
+
+// Keys, and how the first key of `a` at sequence 7 stands to each.
+const SEEK_KEY: &[u8] = b"a\x01\x07\0\0\0\0\0\0";
+
+const SOUGHT: [(&[u8], Ordering); 4] = [
+    (b"a\0\x08\0\0\0\0\0\0", Ordering::Greater),
+    (b"a\x01\x07\0\0\0\0\0\0", Ordering::Equal),
+    (b"a\0\x07\0\0\0\0\0\0", Ordering::Less),
+    (b"a\x01\x06\0\0\0\0\0\0", Ordering::Less),
+];
+
+#[test]
+fn a_seek_key_stands_in_front_of_what_is_visible(rt: HostRuntime) {
+    assert!(rt; matches!(seek_key(rt.alloc(), b"a", 7), Ok(key) if key.as_slice() == SEEK_KEY));
+    for (key, order) in SOUGHT {
+        assert_eq!(rt; compare_keys::<Bytewise>(SEEK_KEY, key), Some(order));
+    }
+}
+
+// The entry of `a` at sequence 1.
+fn entry_of(alloc: Global, value: Option<Bytes>) -> Result<Entry, AllocError> {
+    let key = Bytes::copied_from(alloc, b"a")?;
+    Ok(Entry {
+        key,
+        sequence: 1,
+        value,
+    })
+}
+
+fn has_key(alloc: Global, entry: &Entry, kind: Kind, bytes: &[u8]) -> bool {
+    entry.sequence < SEQUENCE_END
+        && entry.kind() == kind
+        && matches!(entry.internal_key(alloc), Ok(key) if key.as_slice() == bytes)
+}
+
+#[test]
+fn entries_have_the_internal_key_of_their_write(rt: HostRuntime) -> Result<(), Fail> {
+    let alloc = rt.alloc();
+    let put = entry_of(alloc, Some(Bytes::from_vec(Vec::new(alloc))))?;
+    let delete = entry_of(alloc, None)?;
+    assert!(rt; has_key(alloc, &put, Kind::Put, b"a\x01\x01\0\0\0\0\0\0"));
+    assert!(rt; has_key(alloc, &delete, Kind::Delete, b"a\0\x01\0\0\0\0\0\0"));
+    assert!(rt; put == put && put != delete);
+    Ok(())
+}
+
+// Keys in their order, the last four with numbers that no eight bytes hold.
+#[rattlefmt::skip]
+const RISING_KEYS: [InternalKey<'static>; 12] = [
+    InternalKey { user: b"", sequence: 0, kind: Kind::Delete },
+    InternalKey { user: b"a", sequence: 300, kind: Kind::Delete },
+    InternalKey { user: b"a", sequence: 7, kind: Kind::Put },
+    InternalKey { user: b"a", sequence: 7, kind: Kind::Delete },
+    InternalKey { user: b"a", sequence: 0, kind: Kind::Put },
+    InternalKey { user: b"a\0", sequence: 900, kind: Kind::Put },
+    InternalKey { user: b"ab", sequence: 1, kind: Kind::Put },
+    InternalKey { user: b"b", sequence: SEQUENCE_END - 1, kind: Kind::Put },
+    InternalKey { user: b"\xff", sequence: u64::MAX, kind: Kind::Put },
+    InternalKey { user: b"\xff", sequence: u64::MAX, kind: Kind::Delete },
+    InternalKey { user: b"\xff", sequence: SEQUENCE_END, kind: Kind::Put },
+    InternalKey { user: b"\xff\0", sequence: u64::MAX, kind: Kind::Put },
+];
+
+fn compare_so(a: &InternalKey<'_>, b: &InternalKey<'_>, order: Ordering) -> bool {
+    a.cmp(b) == order
+        && a.partial_cmp(b) == Some(order)
+        && (a < b) == (order == Ordering::Less)
+        && (a == b) == (order == Ordering::Equal)
+}
+
+#[test]
+fn keys_compare_as_they_stand(rt: HostRuntime) {
+    for (i, a) in RISING_KEYS.iter().enumerate() {
+        for (k, b) in RISING_KEYS.iter().enumerate() {
+            assert!(rt; compare_so(a, b, i.cmp(&k)), "{i} and {k}");
+        }
+    }
+}
+
+#[test]
+fn keys_are_sorted_into_their_order(rt: HostRuntime) -> Result<(), Fail> {
+    let mut keys = Vec::from_slice(rt.alloc(), &RISING_KEYS)?;
+    keys.reverse();
+    keys.sort()?;
+    assert!(rt; keys.as_slice() == RISING_KEYS.as_slice());
+    Ok(())
+}
+
+#[test]
+fn laws_are_called() {
+    newest_in_front();
+    unseen_in_front();
+    first_found();
+    none_found();
+    searched_by_two();
+    searched_when_grown();
+    searched_when_replaced();
+    same_view();
+    sought_in_order();
+    all_come_before();
+    sorted_in_row();
+    answered_in_row();
+}

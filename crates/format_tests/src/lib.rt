@@ -1,0 +1,17 @@
+//! Tests of the formats: the values, bytes and refusals that LevelDB's own documents and sources have.
+#![tactic(auto)]
+
+#[cfg(test)]
+mod batches;
+#[cfg(test)]
+mod blocks;
+#[cfg(test)]
+mod filters;
+#[cfg(test)]
+mod keys;
+#[cfg(test)]
+mod logs;
+#[cfg(test)]
+mod numbers;
+#[cfg(test)]
+mod version_edits;

@@ -1,0 +1,29 @@
+//! Tests of stores, tables, memory tables, cursors, versions and caches.
+#![tactic(auto)]
+
+#[cfg(test)]
+mod building;
+#[cfg(test)]
+mod caches;
+#[cfg(test)]
+mod cursors;
+#[cfg(test)]
+mod entries;
+#[cfg(test)]
+mod files;
+#[cfg(test)]
+mod folders;
+#[cfg(test)]
+mod memory_cursors;
+#[cfg(test)]
+mod memory_tables;
+#[cfg(test)]
+mod reading;
+#[cfg(test)]
+mod sizes;
+#[cfg(test)]
+mod stores;
+#[cfg(test)]
+mod table_cursors;
+#[cfg(test)]
+mod version_sets;

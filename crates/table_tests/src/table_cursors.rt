@@ -1,0 +1,188 @@
+//! Cursors over table files.
+
+use cache::{BlockCache, TableCache};
+use coding::{Bytes, DbError};
+use cursor::{Cursor, ListCursor};
+use ikey::{Bytewise, Kind, pack};
+use sources::{TableCursor, Tables, empty_is_sound};
+use std::alloc::{AllocError, Global};
+use std::num::NonZeroUsize;
+use std::test::*;
+use store::{MemStore, Store};
+use table::{KeyValue, TableBuilder};
+
+const NAME: &str = "000005.ldb";
+
+// Entries in the order of internal keys: a user key, a sequence number, a kind, and the byte of its value.
+#[rattlefmt::skip]
+const ENTRIES: [(&[u8], u32, Kind, u8); 8] = [
+    (b"a", 9, Kind::Put, 1),
+    (b"a", 4, Kind::Delete, 0),
+    (b"c", 3, Kind::Put, 2),
+    (b"c", 2, Kind::Put, 3),
+    (b"ca", 8, Kind::Put, 4),
+    (b"e", 7, Kind::Put, 5),
+    (b"e", 6, Kind::Delete, 0),
+    (b"g", 5, Kind::Put, 6),
+];
+
+#[derive(Clone, Copy)]
+enum Turn {
+    First,
+    Last,
+    Seek(&'static [u8], u32),
+    Next,
+    Prev,
+}
+
+// Both ways from end to end, and seeks on, between and behind the keys.
+#[rattlefmt::skip]
+const TURNS: [Turn; 42] = [
+    Turn::First, Turn::Next, Turn::Next, Turn::Next, Turn::Next, Turn::Next, Turn::Next, Turn::Next, Turn::Next,
+    Turn::Last, Turn::Prev, Turn::Prev, Turn::Prev, Turn::Prev, Turn::Prev, Turn::Prev, Turn::Prev, Turn::Prev,
+    Turn::Seek(b"a", 9), Turn::Seek(b"a", 5), Turn::Prev, Turn::Next, Turn::Seek(b"b", 1), Turn::Prev, Turn::Next,
+    Turn::Seek(b"c", 1), Turn::Seek(b"d", 1), Turn::Prev, Turn::Seek(b"e", 7), Turn::Next, Turn::Prev, Turn::Prev,
+    Turn::Seek(b"", 1), Turn::Prev, Turn::Seek(b"f", 1), Turn::Next, Turn::Seek(b"g", 4), Turn::Last, Turn::Next,
+    Turn::First, Turn::Prev, Turn::First,
+];
+
+fn pairs(alloc: Global) -> Result<Vec<KeyValue>, AllocError> {
+    let mut pairs = Vec::new(alloc);
+    for (user, sequence, kind, value) in ENTRIES {
+        let key = pack(alloc, user, u64::from(sequence), kind)?;
+        let pair = KeyValue {
+            key: Bytes::from_vec(key),
+            value: Bytes::copied_from(alloc, &[value])?,
+        };
+        pairs.push(pair).map_err(|_| AllocError)?;
+    }
+    Ok(pairs)
+}
+
+// A store with the table 5, whose blocks have this length.
+fn table_of(
+    alloc: Global,
+    block_bytes: usize,
+    blocks: usize,
+) -> Result<Tables<Bytewise, MemStore>, Fail> {
+    let mut store = MemStore::new(alloc);
+    let mut builder = TableBuilder::<Bytewise>::new(alloc, NAME, block_bytes)?;
+    for pair in pairs(alloc)? {
+        if !builder.accepts(pair.key.as_slice()) {
+            return Err("no key".into());
+        }
+        builder.add(&mut store, pair.key.as_slice(), pair.value.as_slice())?;
+    }
+    if !builder.is_empty() {
+        builder.finish(alloc, &mut store)?;
+    }
+    Ok(Tables {
+        store,
+        tables: TableCache::new(alloc, NonZeroUsize::new(1).ok_or("a capacity")?)?,
+        blocks: BlockCache::new(alloc, NonZeroUsize::new(blocks).ok_or("a capacity")?)?,
+    })
+}
+
+fn step<S, C: Cursor<Bytewise, S>>(
+    cursor: &mut C,
+    alloc: Global,
+    source: &mut S,
+    turn: Turn,
+) -> Result<(), DbError> {
+    match turn {
+        Turn::First => cursor.first(alloc, source),
+        Turn::Last => cursor.last(alloc, source),
+        Turn::Seek(user, sequence) => {
+            let target = pack(alloc, user, u64::from(sequence), Kind::Put)?;
+            cursor.seek(alloc, source, &target)
+        }
+        Turn::Next => {
+            if !cursor.stands() {
+                return Ok(());
+            }
+            cursor.next(alloc, source)
+        }
+        Turn::Prev => {
+            if !cursor.stands() {
+                return Ok(());
+            }
+            cursor.prev(alloc, source)
+        }
+    }
+}
+
+// The key and the value at a cursor's place.
+fn at_hand<'a, S, C: Cursor<Bytewise, S>>(
+    cursor: &'a C,
+    source: &'a S,
+) -> Option<(&'a [u8], &'a [u8])> {
+    if !cursor.stands() {
+        return None;
+    }
+    Some((cursor.key(source), cursor.value(source)))
+}
+
+// Whether a cursor over the table walks as one over the list.
+fn walks_as_the_list(alloc: Global, block_bytes: usize, blocks: usize) -> Result<bool, Fail> {
+    let mut source = table_of(alloc, block_bytes, blocks)?;
+    let mut cursor = TableCursor::open(alloc, &mut source, 5)?;
+    let mut plain = ListCursor::new(pairs(alloc)?);
+    let mut none = MemStore::new(alloc);
+    for turn in &TURNS {
+        step(&mut plain, alloc, &mut none, *turn)?;
+        step(&mut cursor, alloc, &mut source, *turn)?;
+        if at_hand(&cursor, &source) != at_hand(&plain, &none) {
+            return Ok(false);
+        }
+    }
+    Ok(true)
+}
+
+#[test]
+fn a_table_is_walked_as_its_list(rt: HostRuntime) -> Result<(), Fail> {
+    let alloc = rt.alloc();
+    assert!(rt; walks_as_the_list(alloc, 1, 1)?);
+    assert!(rt; walks_as_the_list(alloc, 1, 8)?);
+    assert!(rt; walks_as_the_list(alloc, 40, 2)?);
+    assert!(rt; walks_as_the_list(alloc, 4096, 1)?);
+    Ok(())
+}
+
+// Writes the table's file again with one byte changed.
+fn change(alloc: Global, store: &mut MemStore, at: usize) -> Result<(), Fail> {
+    let mut bytes = store.read_at(alloc, NAME, 0, 4096)?;
+    if let Some(byte) = bytes.get_mut(at) {
+        *byte = !*byte;
+    }
+    store.create(NAME)?;
+    store.append(NAME, &bytes)?;
+    Ok(())
+}
+
+#[test]
+fn a_damaged_block_is_refused_and_the_place_stays(rt: HostRuntime) -> Result<(), Fail> {
+    let alloc = rt.alloc();
+    let mut source = table_of(alloc, 1, 1)?;
+    let mut cursor = TableCursor::open(alloc, &mut source, 5)?;
+    cursor.first(alloc, &mut source)?;
+    // The first block has 21 bytes and its trailer 5.
+    change(alloc, &mut source.store, 30)?;
+    let refused = step(&mut cursor, alloc, &mut source, Turn::Next);
+    assert!(rt; matches!(refused, Err(DbError::Corrupt(_, _))));
+    let first = pack(alloc, b"a", 9, Kind::Put)?;
+    assert_eq!(rt; at_hand(&cursor, &source), Some((first.as_slice(), [1].as_slice())));
+    change(alloc, &mut source.store, 30)?;
+    step(&mut cursor, alloc, &mut source, Turn::Next)?;
+    let second = pack(alloc, b"a", 4, Kind::Delete)?;
+    assert_eq!(rt; at_hand(&cursor, &source), Some((second.as_slice(), [0].as_slice())));
+    Ok(())
+}
+
+#[test]
+fn a_missing_table_is_corrupt(rt: HostRuntime) -> Result<(), Fail> {
+    let alloc = rt.alloc();
+    let mut source = table_of(alloc, 1, 1)?;
+    let refused = TableCursor::open(alloc, &mut source, 6);
+    assert!(rt; matches!(refused, Err(DbError::Corrupt(_, _))));
+    Ok(())
+}
