@@ -4,7 +4,9 @@ use coding::{Bytes, DbError};
 use cursor::{Cursor, ListCursor, Visible};
 use ikey::{Bytewise, Kind, pack};
 use memtable::MemTable;
-use sources::{MemoryCursor, kept_for_all_is_same, later_inserts_are_kept, seen_entries_have_the_view};
+use sources::{
+    MemoryCursor, kept_for_all_is_same, later_inserts_are_kept, seen_entries_have_the_view,
+};
 use std::alloc::{AllocError, Global};
 use std::test::*;
 use store::MemStore;
