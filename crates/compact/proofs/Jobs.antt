@@ -53,7 +53,6 @@ module _ {C H S : Type 0} (cmp : Cmp) (deep : List ℕ → Bool) (facts : S → 
     (lists : C → H → Listed → Type 0) (keeps : C → H → H → Type 0) (limited : C → Type 0)
     (are : (h : H) → facts_of h ≡ facts (store_of h)) (replaced : (h : H) (s : S) → store_of (with_store h s) ≡ s)
     (kept : (cursor : C) (old new : H) (at : Listed) → keeps cursor old new → lists cursor old at → lists cursor new at) where
-
   -- after the outputs were written, the cursor moves on
   pub moves-on : (cursor moved : C) (source : H) (held store : S) (after : H) (mine : ℕ → Type 0) (came : List InternalEntry) (entry : InternalEntry) (rest : List InternalEntry)
       → held ≡ store_of source → WritesTables (facts held) (facts store) mine → ReadsApart facts store_of with_store keeps cursor mine
@@ -97,7 +96,6 @@ module _ {C H S : Type 0} (cmp : Cmp) (deep : List ℕ → Bool) (facts : S → 
 
 module _ {K C H S : Type 0} (cmp : Cmp) (deep : List ℕ → Bool) (facts : S → Facts) (store_of : H → S) (with_store : H → S → H)
     (lists : C → H → Listed → Type 0) (keeps : C → H → H → Type 0) (job : Job K C) (source : H) (next : ℕ) where
-
   pub job-more : (came back rest : List InternalEntry) → back ≡ rest
       → IsBetween cmp deep facts store_of with_store lists keeps job source next came back → IsBetween cmp deep facts store_of with_store lists keeps job source next came rest
   job-more came back rest e h = subst (λ (l : List InternalEntry). IsBetween cmp deep facts store_of with_store lists keeps job source next came l) e h

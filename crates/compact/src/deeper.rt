@@ -17,6 +17,7 @@ pub trait DeeperFiles {
 }
 
 /// The tables of a version below a level, which is that to which a compaction of the version writes.
+#[derive(Drop)]
 pub struct FilesBelow<'a, K: KeyOrder> {
     /// The version.
     pub version: &'a Version<K>,

@@ -74,7 +74,7 @@ impl<K: KeyOrder, C: Drop> Job<K, C> {
         ensures snapshots { IfOk result (λ job. job.selection.snapshots ≡ snapshots.now) }
         ensures written { IfOk result (λ job. job.outputs ≡ record { closed = []; at_hand = None }) }
         ensures reads { Reads (S.facts (H.store_of source.old)) (S.facts (H.store_of source.new)) }
-        ensures refused { IfErr result (λ e. RefusesEntry e (S.facts (H.store_of source.old)) (S.facts (H.store_of source.new)) 
+        ensures refused { IfErr result (λ e. RefusesEntry e (S.facts (H.store_of source.old)) (S.facts (H.store_of source.new))
             (IsTrue (S.facts (H.store_of source.new)).faithful → ListsNone C.lists cursor source.old) (IsTrue (S.facts (H.store_of source.new)).faithful → C.limited cursor) ⊥) }
         ensures started { IfOk result (λ job. (deep : List ℕ → Bool) (next : ℕ) (at : Listed) → IsTrue (S.facts (H.store_of source.new)).faithful
             → C.lists cursor source.old at → ReadsApart S.facts H.store_of H.with_store C.keeps cursor (λ number. next ≤ number)

@@ -20,3 +20,5 @@ pub use numbers::FileNumbers;
 pub use selection::{Choice, Selection};
 pub use source::HasStore;
 
+#[cfg(test)]
+mod tests;
