@@ -620,6 +620,9 @@ fn covers_below(alloc: Global, levels: &[u32], user: &[u8]) -> Result<bool, DbEr
     for _ in 0..7 {
         compact_pointers.push(None)?;
     }
+    if compact_pointers.len() != 7 {
+        return Ok(false);
+    }
     let version = Version::<Bytewise>::new(
         alloc,
         &Layout {
