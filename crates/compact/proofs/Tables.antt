@@ -1,16 +1,19 @@
 -- Tables that are written.
 use Rattle.std.proofs.Common.{◌<◌, ◌≡◌, ◌⊎◌, ◌≤◌, ℕ, Option, Some, None, IsSome, List, [], ◌∷◌, ◌++◌, inl, inr, refl, sym, ap, subst, ◌∙◌, arith}
 use Rattle.std.specs.FinMap.{get}
+use Rattle.std.specs.List.{flat_map}
 use Rattle.std.specs.declared.cmp.Ordering.{Ordering}
 use Rattle.coding.specs.declared.error.DbError.{DbError}
 use Rattle.coding.specs.declared.error.DbError.TheVariants.{OutOfMemory, Io, Corrupt, Unsupported, NumbersSpent}
 use Rattle.block.specs.Written.{last_key, last_key_from}
+use Rattle.edits.specs.declared.field.TableFile.{TableFile}
 use Rattle.ikey.specs.Entries.{Pair}
+use Rattle.ikey.specs.Keys.{Key, IsKey}
 use Rattle.store.specs.Files.{Facts}
-use Rattle.table.specs.Building.{Building, Builds, last_added}
+use Rattle.table.specs.Building.{Building, Builds, MayFollow, last_added}
 use Rattle.table.specs.Reading.{Reads, HasFile}
 use Rattle.table.specs.Writing.{Writes, WriteRefuses}
-use Rattle.compact.specs.Outputs.{first_key, Filling, IsFilling, RefusesEntry}
+use Rattle.compact.specs.Outputs.{first_key, Filling, IsFilling, HasWritten, MayBeAdded, RefusesEntry}
 
 -- ---- keys at the ends
 
@@ -85,3 +88,25 @@ refuses-syncing e a b d falls too_long spent le (is, less) = subst (λ (x : DbEr
 pub has-after : (b d : Facts) (built name file : List ℕ) → built ≡ name → d.files ≡ b.files → HasFile b built file → HasFile d name file
 has-after b d built name file is same h =
     ap (λ files. get files name) same ∙ subst (λ (n : List ℕ). get b.files n ≡ Some file) is h
+
+-- ---- what may be added
+
+last-behind : (previous : Option (List ℕ)) (front rest : List Pair) → (rest ≡ [] → ⊥) → last_key_from previous (front ++ rest) ≡ last_key rest
+last-behind previous [] [] some = absurd (some refl)
+last-behind previous [] (pair ∷ rest) some = refl
+last-behind previous (pair ∷ front) rest some = last-behind (Some pair.key) front rest some
+
+pub may-follow : (cmp : List ℕ → List ℕ → Ordering) (cs : List TableFile) (t : Filling) (facts : Facts) (next : ℕ) (pairs : List Pair) (key : List ℕ)
+    → HasWritten cmp (record { closed = cs; at_hand = Some t }) facts next pairs → MayBeAdded cmp pairs key → MayFollow cmp t.building key
+may-follow cmp cs t facts next pairs key h may = record {
+  parts = may.0;
+  parts_are = may.1;
+  rises = λ last is. may.2 last (ap last_key h.all ∙ last-behind None (flat_map (λ (table : List Pair). table) h.tables) h.rest h.rest_is.1 ∙ h.rest_is.0.builds.2.last ∙ is);
+}
+
+pub may-begin : (cmp : List ℕ → List ℕ → Ordering) (b : Building) (facts : Facts) (key : List ℕ) (parts : Key) → Builds cmp b facts [] → IsKey key parts → MayFollow cmp b key
+may-begin cmp b facts key parts builds is = record {
+  parts = parts;
+  parts_are = is;
+  rises = λ last e. (let t : None ≡ Some last = builds.2.last ∙ e in absurd cc);
+}
