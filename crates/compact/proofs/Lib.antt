@@ -7,3 +7,4 @@ pub mod Writing
 pub mod Passing
 pub mod Covering
 pub mod Jobs
+pub mod Rising
