@@ -19,6 +19,7 @@ use Rattle.compact.specs.Merging.{IsMerging, IsUpTo, HasPassed, ReadsApart, IsJo
 use Rattle.compact.specs.Outputs.{Written, HasWritten, IsMine, IsNumberAtHand, RefusesEntry, WritesTables}
 use Rattle.compact.proofs.Merges.{merge-step, merging-none}
 use Rattle.compact.proofs.Passing.{passed-more}
+use Rattle.compact.proofs.Writing.{refuses-as}
 
 pub writes-more : (a b : Facts) (first mine : ℕ → Type 0) → ((n : ℕ) → first n → mine n) → WritesTables a b first → WritesTables a b mine
 writes-more a b first mine within_mine w = record {
@@ -46,6 +47,11 @@ refuses-moving (Corrupt file what) a b old new damaged limited spent p q h = λ 
 refuses-moving (Unsupported what) a b old new damaged limited spent p q h = λ t. h (subst (λ (f : Facts). IsTrue f.faithful) (sym q) t)
 refuses-moving _ a b old new damaged limited spent p q h = absurd h
 
+pub refuses-same : (e : DbError) (held old mid new : Facts) (falls other spent : Type 0) → held ≡ old → mid ≡ new → (falls → other) → RefusesEntry e held mid falls (Unit {0}) spent → RefusesEntry e old new other (Unit {0}) spent
+refuses-same e held old mid new falls other spent p q f h =
+    refuses-as e old old new falls (Unit {0}) spent other (Unit {0}) spent (omega arith) f (λ u. u) (λ u. u)
+    (subst (λ (x : Facts). RefusesEntry e x new falls (Unit {0}) spent) p (subst (λ (x : Facts). RefusesEntry e held x falls (Unit {0}) spent) q h))
+
 abbrev pub moved_on : Result (Unit {0}) DbError
 moved_on = Ok tt
 
@@ -53,6 +59,16 @@ module _ {C H S : Type 0} (cmp : Cmp) (deep : List ℕ → Bool) (facts : S → 
     (lists : C → H → Listed → Type 0) (keeps : C → H → H → Type 0) (limited : C → Type 0)
     (are : (h : H) → facts_of h ≡ facts (store_of h)) (replaced : (h : H) (s : S) → store_of (with_store h s) ≡ s)
     (kept : (cursor : C) (old new : H) (at : Listed) → keeps cursor old new → lists cursor old at → lists cursor new at) where
+  -- after the outputs were written, the cursor lists what it listed
+  pub still-lists : (cursor moved : C) (source : H) (held store : S) (after : H) (mine : ℕ → Type 0) (at : Listed)
+      → held ≡ store_of source → WritesTables (facts held) (facts store) mine → ReadsApart facts store_of with_store keeps cursor mine
+      → Stays facts_of keeps limited cursor moved (with_store source store) after
+      → IsTrue (facts (store_of after)).faithful → lists cursor source at → lists cursor (with_store source store) at
+  still-lists cursor moved source held store after mine at is writes apart stays t h =
+      let t_after : IsTrue (facts_of after).faithful = subst (λ (f : Facts). IsTrue f.faithful) (sym (are after)) t in
+      let t_store : IsTrue (facts store).faithful = subst (λ (f : Facts). IsTrue f.faithful) (are (with_store source store) ∙ ap facts (replaced source store)) (stays.reads.faithful t_after) in
+      kept cursor source (with_store source store) at (apart source store t_store (subst (λ (s : S). WritesTables (facts s) (facts store) mine) is writes)) h
+
   -- after the outputs were written, the cursor moves on
   pub moves-on : (cursor moved : C) (source : H) (held store : S) (after : H) (mine : ℕ → Type 0) (came : List InternalEntry) (entry : InternalEntry) (rest : List InternalEntry)
       → held ≡ store_of source → WritesTables (facts held) (facts store) mine → ReadsApart facts store_of with_store keeps cursor mine
@@ -108,13 +124,13 @@ module _ {K C H S : Type 0} (cmp : Cmp) (deep : List ℕ → Bool) (facts : S �
 
 pub starts : {C H S : Type 0} (cmp : Cmp) (deep : List ℕ → Bool) (facts : S → Facts) (store_of : H → S) (with_store : H → S → H) (facts_of : H → Facts) (lists : C → H → Listed → Type 0) (keeps : C → H → H → Type 0) (limited : C → Type 0)
     → ((h : H) → facts_of h ≡ facts (store_of h)) → (last : List ℕ) (cursor moved : C) (c : Choosing) (w : Written) (source after : H) (next : ℕ) (at : Listed)
-    → w ≡ record { closed = []; at_hand = None }
+    → w ≡ record { closed = []; at_hand = None } → last ≡ []
     → Chooses cmp deep c [] [] → HasWritten cmp w (facts (store_of after)) next []
     → Moves facts_of lists cursor moved source after moved_on to_first → Stays facts_of keeps limited cursor moved source after
     → IsTrue (facts (store_of after)).faithful → lists cursor source at → ReadsApart facts store_of with_store keeps cursor (λ number. next ≤ number)
     → IsJob cmp deep facts store_of with_store lists keeps last moved c w after next [] at.entries
-starts cmp deep facts store_of with_store facts_of lists keeps limited are last cursor moved c w source after next at none chooses written moves stays t h apart = record {
-  merging = merging-none cmp deep last c w (facts (store_of after)) next chooses written;
+starts cmp deep facts store_of with_store facts_of lists keeps limited are last cursor moved c w source after next at none empty chooses written moves stays t h apart = record {
+  merging = merging-none cmp deep last c w (facts (store_of after)) next empty chooses written;
   left = moves (subst (λ (f : Facts). IsTrue f.faithful) (sym (are after)) t) at h;
   apart = apart-on facts store_of with_store keeps cursor moved (λ number. next ≤ number) (IsMine w next) (λ n is. mine-next w next n none is) stays.same apart;
 }

@@ -8,3 +8,4 @@ pub mod Passing
 pub mod Covering
 pub mod Jobs
 pub mod Rising
+pub mod Refusing

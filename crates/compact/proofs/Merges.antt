@@ -124,6 +124,10 @@ up-to : (cmp : List ℕ → List ℕ → Ordering) (x : Entry) (k : Key) (value 
 up-to cmp x k value (inl less) = inl less
 up-to cmp x k value (inr (same, lt)) = inr (same, omega (arith, lt))
 
+among-last : (came : List InternalEntry) (entry : InternalEntry) → Among (came ++ entry ∷ []) entry
+among-last [] entry = inl refl
+among-last (first ∷ came) entry = inr (among-last came entry)
+
 pub merge-step : (cmp : List ℕ → List ℕ → Ordering) (deep : List ℕ → Bool) (a b d : Facts) (last over : List ℕ) (c e : Choosing) (w u : Written) (next more : ℕ) (came : List InternalEntry) (entry : InternalEntry) (choice : Choice)
     → IsKey over entry.key → d.files ≡ b.files
     → ((last_key : Key) (x : Entry) → IsKey last last_key → IsUpTo cmp x last_key → Precedes cmp x (entry_of entry))
@@ -144,6 +148,7 @@ merge-step cmp deep a b d last over c e w u next more came entry choice over_is 
       has_written = written-same cmp u b d more new.0 files new.2;
       chooses = subst (λ (xs : List Entry). Chooses cmp deep e xs (map entry_of (h.kept ++ new.1))) all
           (subst (Chooses cmp deep e (map entry_of came ++ entry_of entry ∷ [])) out (chosen (map entry_of came) (map entry_of h.kept) behind h.chooses));
+      last_is = inr (entry, among-last came entry, over_is);
       bound = λ x m. (
         entry.key,
         over_is,
@@ -157,13 +162,14 @@ merge-step cmp deep a b d last over c e w u next more came entry choice over_is 
 -- ---- before the first entry, and behind the last
 
 pub merging-none : (cmp : List ℕ → List ℕ → Ordering) (deep : List ℕ → Bool) (last : List ℕ) (c : Choosing) (w : Written) (facts : Facts) (next : ℕ)
-    → Chooses cmp deep c [] [] → HasWritten cmp w facts next [] → IsMerging cmp deep last c w facts next []
-merging-none cmp deep last c w facts next chooses written = record {
+    → last ≡ [] → Chooses cmp deep c [] [] → HasWritten cmp w facts next [] → IsMerging cmp deep last c w facts next []
+merging-none cmp deep last c w facts next empty chooses written = record {
   written = [];
   kept = [];
   written_are = tt;
   has_written = written;
   chooses = chooses;
+  last_is = inl (refl, empty);
   bound = λ x m. absurd m;
 }
 
@@ -175,5 +181,6 @@ merging-closed cmp deep last c w u a b next came closes h = record {
   written_are = h.written_are;
   has_written = closes h.written h.has_written;
   chooses = h.chooses;
+  last_is = h.last_is;
   bound = h.bound;
 }

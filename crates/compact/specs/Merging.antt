@@ -30,14 +30,20 @@ IsUpTo cmp entry key = (cmp entry.key key.user ≡ Less) ⊎ ((entry.key ≡ key
 abbrev pub kept_delete : List ℕ → ℕ → InternalEntry
 kept_delete user sequence = record { key = record { user = user; sequence = sequence; kind = Delete }; value = [] }
 
--- These entries of the inputs came, and of them those were written that are needed. None comes behind this key.
+-- These entries of the inputs came, and of them those were written that are needed. The last has this key, and none comes
+-- behind it.
 pub record IsMerging (cmp : Cmp) (deep : List ℕ → Bool) (last : List ℕ) (c : Choosing) (w : Written) (facts : Facts) (next : ℕ) (came : List InternalEntry) : Type 0 where
   pub written : List Pair
   pub kept : List InternalEntry
   pub written_are : ArePairs written kept
   pub has_written : HasWritten cmp w facts next written
   pub chooses : Chooses cmp deep c (map entry_of came) (map entry_of kept)
+  pub last_is : ((came ≡ []) × (last ≡ [])) ⊎ ((entry : InternalEntry) × Among came entry × IsKey last entry.key)
   pub bound : (entry : Entry) → Among (map entry_of came) entry → (key : Key) × IsKey last key × IsUpTo cmp entry key
+
+-- each entry of a user key has a sequence of its own
+abbrev pub HaveOwnSequences : List InternalEntry → Type 0
+HaveOwnSequences entries = (entry other : InternalEntry) → Among entries entry → Among entries other → entry.key.user ≡ other.key.user → entry.key.sequence ≡ other.key.sequence → entry.key.kind ≡ other.key.kind
 
 -- ---- what is left
 

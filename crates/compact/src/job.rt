@@ -1,6 +1,7 @@
 //! Compactions in slices (LevelDB's db/db_impl.cc, DoCompactionWork).
 
-ghost use Rattle.std.specs.Prelude.{◌≡◌, true};
+ghost use Rattle.std.specs.Prelude.{◌≡◌, ◌<◌, ◌⊎◌, true, false};
+ghost use Rattle.std.specs.declared.cmp.Ordering.TheVariants.{Less};
 ghost use Rattle.std.specs.List.Sorted.{IsNonDecreasing};
 ghost use Rattle.ikey.specs.Keys.{Key, IsKey};
 ghost use Rattle.ikey.specs.declared.entry.Entry.{Entry};
@@ -51,7 +52,7 @@ impl<K: KeyOrder, C: Drop> Job<K, C> {
     ghost use Rattle.cursor.specs.Moves.{ListsNone};
     ghost use Rattle.cursor.specs.Places.{Listed};
     ghost use Rattle.ikey.specs.Entries.{InternalEntry};
-    ghost use Rattle.compact.specs.Merging.{IsBetween, IsMerging, IsSlice, IsFinished, KeepsMine, ReadsApart};
+    ghost use Rattle.compact.specs.Merging.{IsBetween, IsMerging, IsSlice, IsFinished, KeepsMine, ReadsApart, HaveOwnSequences};
     ghost use Rattle.compact.specs.Outputs.{IsMine, IsNumberAtHand, WritesTables, RefusesEntry};
     ghost use Rattle.table.specs.Reading.{Reads};
 
@@ -94,7 +95,8 @@ impl<K: KeyOrder, C: Drop> Job<K, C> {
     }
 
     /// Merges so many entries, or one for 0, or all that are left where those are fewer. `deeper` is to be the same in
-    /// each slice. After an `Err` the job is to be given up: the files that it wrote are no part of the database, and its
+    /// each slice. Corrupt where two entries of a user key have one sequence number, or where the inputs aren't what the
+    /// cursor was made for. After an `Err` the job is to be given up: the files that it wrote are no part of the database, and its
     /// inputs are as they were.
     pub fn slice<S: Store, H: HasStore<S>, D: DeeperFiles>(
         &mut self,
@@ -112,7 +114,10 @@ impl<K: KeyOrder, C: Drop> Job<K, C> {
         ensures snapshots { self.new.selection.snapshots ≡ self.old.selection.snapshots }
         ensures mine { OnOk result (KeepsMine self.old.outputs numbers.old.next self.new.outputs numbers.new.next) }
         ensures writes { WritesTables (S.facts (H.store_of source.old)) (S.facts (H.store_of source.new)) (IsMine self.old.outputs numbers.old.next) }
-        ensures refused { IfErr result (λ e. RefusesEntry e (S.facts (H.store_of source.old)) (S.facts (H.store_of source.new)) (Unit {0}) (Unit {0}) (2 ^ 62 ≤ numbers.new.next)) }
+        ensures refused { IfErr result (λ e. RefusesEntry e (S.facts (H.store_of source.old)) (S.facts (H.store_of source.new))
+            (IsTrue (S.facts (H.store_of source.new)).faithful → (came : List InternalEntry) (rest : List InternalEntry)
+            → IsBetween K.cmp (D.covers deeper.now) S.facts H.store_of H.with_store C.lists C.keeps self.old source.old numbers.old.next came rest → HaveOwnSequences (came ++ rest) → ⊥)
+            (Unit {0}) (2 ^ 62 ≤ numbers.new.next)) }
         ensures sliced { IfOk result (λ progress. (came : List InternalEntry) (rest : List InternalEntry) → IsTrue (S.facts (H.store_of source.new)).faithful
             → IsBetween K.cmp (D.covers deeper.now) S.facts H.store_of H.with_store C.lists C.keeps self.old source.old numbers.old.next came rest
             → (front : List InternalEntry) × (back : List InternalEntry) × (rest ≡ front ++ back) × IsSlice budget progress front back
@@ -145,7 +150,7 @@ impl<K: KeyOrder, C: Drop> Job<K, C> {
         ensures finished { IfOk result (λ edit. (deep : List ℕ → Bool) (came : List InternalEntry) → IsTrue (S.facts store.new).faithful
             → IsMerging K.cmp deep self.last.items self.selection self.outputs (S.facts store.old) numbers.now.next came
             → IsFinished K.cmp deep self.plan self.last.items self.selection (S.facts store.new) numbers.now.next last_sequence came edit) }
-        ensures refused { IfErr result (λ e. RefusesEntry e (S.facts store.old) (S.facts store.new) (Unit {0}) (Unit {0}) ⊥) }
+        ensures refused { IfErr result (λ e. RefusesEntry e (S.facts store.old) (S.facts store.new) ⊥ (Unit {0}) ⊥) }
     {
         let Job { plan, outputs, .. } = self;
         let mut outputs = outputs;
@@ -182,7 +187,10 @@ impl<K: KeyOrder, C: Drop> Job<K, C> {
         ensures snapshots { self.new.selection.snapshots ≡ self.old.selection.snapshots }
         ensures mine { OnOk result (KeepsMine self.old.outputs numbers.old.next self.new.outputs numbers.new.next) }
         ensures writes { WritesTables (S.facts (H.store_of source.old)) (S.facts (H.store_of source.new)) (IsMine self.old.outputs numbers.old.next) }
-        ensures refused { IfErr result (λ e. RefusesEntry e (S.facts (H.store_of source.old)) (S.facts (H.store_of source.new)) (Unit {0}) (Unit {0}) (2 ^ 62 ≤ numbers.new.next)) }
+        ensures refused { IfErr result (λ e. RefusesEntry e (S.facts (H.store_of source.old)) (S.facts (H.store_of source.new))
+            (IsTrue (S.facts (H.store_of source.new)).faithful → (came : List InternalEntry) (entry : InternalEntry) (rest : List InternalEntry)
+            → IsBetween K.cmp (D.covers deeper.now) S.facts H.store_of H.with_store C.lists C.keeps self.old source.old numbers.old.next came (entry ∷ rest) → HaveOwnSequences (came ++ entry ∷ rest) → ⊥)
+            (Unit {0}) (2 ^ 62 ≤ numbers.new.next)) }
         ensures merged { OnOk result ((came : List InternalEntry) (entry : InternalEntry) (rest : List InternalEntry) → IsTrue (S.facts (H.store_of source.new)).faithful
             → IsBetween K.cmp (D.covers deeper.now) S.facts H.store_of H.with_store C.lists C.keeps self.old source.old numbers.old.next came (entry ∷ rest)
             → IsBetween K.cmp (D.covers deeper.now) S.facts H.store_of H.with_store C.lists C.keeps self.new source.new numbers.new.next (came ++ entry ∷ []) rest) }
@@ -218,8 +226,10 @@ impl<K: KeyOrder, C: Drop> Job<K, C> {
 // Whether the key stands behind the last one: its user key is above, or the same and its sequence number below. No two
 // entries of a directory share both.
 fn comes_behind<K: KeyOrder>(last: &[u8], next: &[u8]) -> bool
-    ensures { result ≡ true → (last_key next_key : Key) (entry behind : Entry) → IsKey last.now last_key → IsKey next.now next_key
+    ensures behind { result ≡ true → (last_key next_key : Key) (entry behind : Entry) → IsKey last.now last_key → IsKey next.now next_key
         → IsUpTo K.cmp entry last_key → behind.key ≡ next_key.user → behind.sequence ≡ next_key.sequence → Precedes K.cmp entry behind }
+    ensures refused { result ≡ false → (next_key : Key) → IsKey next.now next_key → (last_key : Key) × IsKey last.now last_key
+        × ((K.cmp last_key.user next_key.user ≡ Less) ⊎ ((last_key.user ≡ next_key.user) × (next_key.sequence < last_key.sequence)) → ⊥) }
 {
     let Some(last) = unpack(last) else {
         return true;
