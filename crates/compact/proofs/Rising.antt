@@ -49,10 +49,14 @@ last-among previous (pair ∷ pairs) (first ∷ kept) last h e = elim (last-amon
     some-same a b e = cc
 
 pub may-add : (cmp : Cmp) (pairs : List Pair) (kept : List InternalEntry) (entry : InternalEntry) (bytes : List ℕ) → ArePairs pairs kept → IsKey bytes entry.key → Rises cmp (kept ++ entry ∷ []) → MayBeAdded cmp pairs bytes
-may-add cmp pairs kept entry bytes are is rises = (entry.key, is, λ last e. elim (last-among None pairs kept last are e) [
-  | inl none ↦ (let t : None ≡ Some last = none in cc)
-  | inr found ↦ (found.0.key, entry.key, found.2, is, rises-at cmp kept [] entry rises found.0 found.1)
-])
+may-add cmp pairs kept entry bytes are is rises = (
+  entry.key,
+  is,
+  λ last e. elim (last-among None pairs kept last are e) [
+    | inl none ↦ (let t : None ≡ Some last = none in cc)
+    | inr found ↦ (found.0.key, entry.key, found.2, is, rises-at cmp kept [] entry rises found.0 found.1)
+  ],
+)
 
 pub rises-delete : (cmp : Cmp) (user : List ℕ) (sequences : List ℕ) (i : ℕ) (kept : List InternalEntry) → i < length sequences
     → Rises cmp (kept ++ map (kept_delete user) sequences) → Rises cmp ((kept ++ map (kept_delete user) (take i sequences)) ++ kept_delete user (get_or sequences i 0) ∷ [])

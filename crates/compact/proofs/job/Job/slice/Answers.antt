@@ -1,15 +1,16 @@
-use Rattle.std.proofs.Common.{◌≡◌, ◌++◌, ◌∷◌, [], Bool, is_some, List, length, refl, sym, ap, subst, ◌∙◌, arith}
+use Rattle.std.proofs.Common.{IsTrue, ◌≤◌, ◌^◌, ◌≡◌, ◌++◌, ◌∷◌, [], Bool, is_some, List, length, refl, sym, ap, subst, ◌∙◌, arith}
 use Rattle.std.proofs.lemmas.List.{append_assoc, append-nil}
 use Rattle.cursor.specs.Merging.{listed}
 use Rattle.cursor.specs.Places.{Listed, within}
 use Rattle.store.specs.Files.{Facts}
 use Rattle.ikey.specs.Entries.{InternalEntry}
-use Rattle.compact.specs.Merging.{IsBetween}
+use Rattle.std.proofs.lemmas.Result.{err_from_is_err_and}
+use Rattle.compact.specs.Merging.{IsBetween, HaveOwnSequences}
 use Rattle.compact.specs.Outputs.{IsMine}
 use Rattle.compact.proofs.Jobs.{job-more, job-all}
 use Rattle.compact.proofs.Merges.{writes-on}
 use Rattle.compact.proofs.Passing.{some-left, none-left, not-ended, front-more, longer, not-true, not-false}
-use Rattle.compact.proofs.Writing.{writes-nothing}
+use Rattle.compact.proofs.Writing.{refuses-as, writes-nothing}
 use Rattle.compact.proofs.job.Job.slice.Goals as goal
 
 pub loop-merged-preserved : goal.loop-merged-preserved
@@ -95,3 +96,27 @@ returns-clause-sliced g c = λ came rest t h.
       },
       at.4,
     )
+
+pub returns-in_err-merge_one-clause-refused : goal.returns-in_err-merge_one-clause-refused
+returns-in_err-merge_one-clause-refused g c =
+    let a : Facts = g.S.Store.facts (g.H.HasStore.store_of c.args.source.now) in
+    let b : Facts = g.S.Store.facts (g.H.HasStore.store_of c.loop-merged.source) in
+    let d : Facts = g.S.Store.facts (g.H.HasStore.store_of c.merge_one.new.source) in
+    let inv = c.loop-merged.invariant in
+    let spent = 2 ^ 62 ≤ c.merge_one.new.numbers.next in
+    let p = err_from_is_err_and c.from_residual.result c.from_residual.ensures.1 in
+    rw (p.1, p.2) (refuses-as c.in_err-merge_one.field-0.0 a b d
+    (IsTrue d.faithful → (came : List InternalEntry) (entry : InternalEntry) (rest : List InternalEntry)
+    → IsBetween g.K.KeyOrder.cmp (g.D.DeeperFiles.covers c.args.deeper.now) g.S.Store.facts g.H.HasStore.store_of g.H.HasStore.with_store g.C.Cursor.lists g.C.Cursor.keeps c.loop-merged.self c.loop-merged.source c.loop-merged.numbers.next came (entry ∷ rest) → HaveOwnSequences (came ++ entry ∷ rest) → ⊥) (Unit {0}) spent
+    (IsTrue d.faithful → (came : List InternalEntry) (rest : List InternalEntry)
+    → IsBetween g.K.KeyOrder.cmp (g.D.DeeperFiles.covers c.args.deeper.now) g.S.Store.facts g.H.HasStore.store_of g.H.HasStore.with_store g.C.Cursor.lists g.C.Cursor.keeps c.args.self.now c.args.source.now c.args.numbers.now.next came rest → HaveOwnSequences (came ++ rest) → ⊥) (Unit {0}) spent
+    inv.4.failures
+    (λ none t came rest h own.
+    let at = inv.2 came rest (c.in_err-merge_one.ensures.writes.faithful t) h in
+    let all = (came ++ at.0) ++ at.1 in
+    let found = some-left (came ++ at.0) at.1
+    (sym (g.met.C.Cursor.placed c.loop-merged.self.cursor c.loop-merged.source (listed all (within all (length (came ++ at.0)))) at.4.left) ∙ sym c.stands.ensures ∙ c.if-not-stands.false) in
+    none t (came ++ at.0) found.0 found.1
+    (job-more g.K.KeyOrder.cmp (g.D.DeeperFiles.covers c.args.deeper.now) g.S.Store.facts g.H.HasStore.store_of g.H.HasStore.with_store g.C.Cursor.lists g.C.Cursor.keeps c.loop-merged.self c.loop-merged.source c.loop-merged.numbers.next (came ++ at.0) at.1 (found.0 ∷ found.1) found.2 at.4)
+    (subst HaveOwnSequences (ap (λ (l : List InternalEntry). came ++ l) (at.2 ∙ ap (λ (l : List InternalEntry). at.0 ++ l) found.2) ∙ sym (append_assoc came at.0 (found.0 ∷ found.1))) own))
+    (λ u. u) (λ u. u) c.in_err-merge_one.ensures.refused)
