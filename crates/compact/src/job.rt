@@ -48,12 +48,12 @@ pub struct Job<K: KeyOrder, C> {
 }
 
 impl<K: KeyOrder, C: Drop> Job<K, C> {
-    ghost use Rattle.std.specs.Prelude.{◌≡◌, ◌≤◌, ◌^◌, ◌∷◌, ◌++◌, [], ℕ, Bool, List, None, IsTrue, IfOk, IfErr, OnOk};
+    ghost use Rattle.std.specs.Prelude.{◌≡◌, ◌≤◌, ◌^◌, ◌∷◌, ◌++◌, [], ℕ, Bool, List, None, IsTrue, IfOk, IfErr, OnOk, MatchBool};
     ghost use Rattle.cursor.specs.Moves.{ListsNone};
     ghost use Rattle.cursor.specs.Places.{Listed};
     ghost use Rattle.ikey.specs.Entries.{InternalEntry};
     ghost use Rattle.compact.specs.Merging.{IsBetween, IsMerging, IsSlice, IsFinished, KeepsMine, ReadsApart, HaveOwnSequences};
-    ghost use Rattle.compact.specs.Outputs.{IsMine, IsNumberAtHand, WritesTables, RefusesEntry};
+    ghost use Rattle.compact.specs.Outputs.{IsMine, IsNumberAtHand, IsOwn, WritesTables, RefusesEntry};
     ghost use Rattle.table.specs.Reading.{Reads};
 
     /// A job that has merged nothing. Its cursor lists the entries of the plan's inputs, and `snapshots` are the sequence
@@ -166,7 +166,9 @@ impl<K: KeyOrder, C: Drop> Job<K, C> {
     }
 
     /// Whether the table of this number is one that the job writes.
-    pub fn writes(&self, number: u64) -> bool {
+    pub fn writes(&self, number: u64) -> bool
+        ensures { MatchBool result (IsOwn self.now.outputs number) (IsOwn self.now.outputs number → ⊥) }
+    {
         self.outputs.has(number)
     }
 

@@ -21,4 +21,6 @@ pub use selection::{Choice, Selection};
 pub use source::HasStore;
 
 #[cfg(test)]
+mod selection_tests;
+#[cfg(test)]
 mod tests;
