@@ -1,6 +1,5 @@
 -- One entry more is merged, and a job goes on.
-use Rattle.std.proofs.Common.{◌≡◌, ◌<◌, ◌≤◌, ℕ, Bool, true, Option, Some, None, Result, Ok, List, [], ◌∷◌, ◌++◌, IsTrue, map, length, inl, inr, refl, sym, ap, subst, ◌∙◌, arith}
-use Rattle.std.specs.declared.cmp.Ordering.{Ordering}
+use Rattle.std.proofs.Common.{◌≡◌, ◌<◌, ◌≤◌, ℕ, Bool, None, Result, Ok, List, [], ◌∷◌, ◌++◌, IsTrue, map, length, inl, inr, sym, ap, subst, ◌∙◌, arith}
 use Rattle.coding.specs.declared.error.DbError.{DbError}
 use Rattle.coding.specs.declared.error.DbError.TheVariants.{OutOfMemory, Io, Corrupt, Unsupported}
 use Rattle.cursor.specs.Merging.{listed}

@@ -1,13 +1,13 @@
 -- Entries whose internal keys rise, and what is left out of them.
-use Rattle.std.proofs.Common.{◌≡◌, ◌⊎◌, ◌<◌, ◌+◌, ℕ, Option, Some, None, List, [], ◌∷◌, ◌++◌, map, length, take, drop, get_or, inl, inr, refl, sym, ap, subst, ◌∙◌, arith}
+use Rattle.std.proofs.Common.{◌≡◌, ◌⊎◌, ◌<◌, ◌+◌, ℕ, Option, Some, None, List, [], ◌∷◌, ◌++◌, map, length, take, drop, get_or, inl, inr, refl, sym, ap, subst, ◌∙◌}
 use Rattle.std.specs.List.{AllByRecursion}
 use Rattle.std.proofs.lemmas.List.{append_assoc, map-append, take_more, take-append-drop}
 use Rattle.std.specs.declared.cmp.Ordering.TheVariants.{Less}
-use Rattle.block.specs.Written.{last_key, last_key_from}
+use Rattle.block.specs.Written.{last_key_from}
 use Rattle.cursor.specs.Places.{Cmp, Rises}
 use Rattle.ikey.specs.declared.entry.Entry.{Entry}
 use Rattle.ikey.specs.Entries.{InternalEntry, Pair, entry_of, internal_key_of}
-use Rattle.ikey.specs.Keys.{Key, IsKey, key_cmp}
+use Rattle.ikey.specs.Keys.{IsKey, key_cmp}
 use Rattle.ikey.specs.Views.{Among}
 use Rattle.table.specs.Table.{ArePairs}
 use Rattle.compact.specs.Lists.{IsPartWith}

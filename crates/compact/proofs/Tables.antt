@@ -4,14 +4,14 @@ use Rattle.std.specs.FinMap.{get}
 use Rattle.std.specs.List.{flat_map}
 use Rattle.std.specs.declared.cmp.Ordering.{Ordering}
 use Rattle.coding.specs.declared.error.DbError.{DbError}
-use Rattle.coding.specs.declared.error.DbError.TheVariants.{OutOfMemory, Io, Corrupt, Unsupported, NumbersSpent}
+use Rattle.coding.specs.declared.error.DbError.TheVariants.{OutOfMemory, Io, Unsupported}
 use Rattle.block.specs.Written.{last_key, last_key_from}
 use Rattle.edits.specs.declared.field.TableFile.{TableFile}
 use Rattle.ikey.specs.Entries.{Pair}
 use Rattle.ikey.specs.Keys.{Key, IsKey}
 use Rattle.store.specs.Files.{Facts}
 use Rattle.table.specs.Building.{Building, Builds, MayFollow, last_added}
-use Rattle.table.specs.Reading.{Reads, HasFile}
+use Rattle.table.specs.Reading.{HasFile}
 use Rattle.table.specs.Writing.{Writes, WriteRefuses}
 use Rattle.compact.specs.Outputs.{first_key, Filling, IsFilling, HasWritten, MayBeAdded, RefusesEntry}
 

@@ -6,7 +6,6 @@ use Rattle.versions.specs.declared.plan.JobPlan.{JobPlan}
 use Rattle.compact.specs.JobEdits.{IsEditOf}
 use Rattle.compact.specs.declared.job.Job.{Job}
 use Rattle.compact.specs.declared.job.Progress.{Progress}
-use Rattle.std.specs.declared.cmp.Ordering.{Ordering}
 use Rattle.std.specs.declared.cmp.Ordering.TheVariants.{Less}
 use Rattle.cursor.specs.Merging.{listed}
 use Rattle.cursor.specs.Places.{Cmp, Listed, within}

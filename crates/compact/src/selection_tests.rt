@@ -154,4 +154,3 @@ fn what_must_be_kept_is_chosen_and_nothing_else(rt: HostRuntime) -> Result<(), F
     }
     Ok(())
 }
-

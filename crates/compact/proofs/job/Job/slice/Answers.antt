@@ -1,7 +1,7 @@
-use Rattle.std.proofs.Common.{IsTrue, ◌≤◌, ◌^◌, ◌≡◌, ◌++◌, ◌∷◌, [], Bool, is_some, List, length, refl, sym, ap, subst, ◌∙◌, arith}
+use Rattle.std.proofs.Common.{IsTrue, ◌≤◌, ◌^◌, ◌≡◌, ◌++◌, ◌∷◌, [], is_some, List, length, refl, sym, ap, subst, ◌∙◌, arith}
 use Rattle.std.proofs.lemmas.List.{append_assoc, append-nil}
 use Rattle.cursor.specs.Merging.{listed}
-use Rattle.cursor.specs.Places.{Listed, within}
+use Rattle.cursor.specs.Places.{within}
 use Rattle.store.specs.Files.{Facts}
 use Rattle.ikey.specs.Entries.{InternalEntry}
 use Rattle.std.proofs.lemmas.Result.{err_from_is_err_and}

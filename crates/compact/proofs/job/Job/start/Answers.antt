@@ -1,7 +1,5 @@
-use Rattle.std.proofs.Common.{IsTrue}
 use Rattle.std.proofs.lemmas.Result.{err_from_is_err_and}
 use Rattle.cursor.specs.Moves.{ListsNone}
-use Rattle.store.specs.Files.{Facts}
 use Rattle.compact.proofs.Jobs.{starts, refuses-moving}
 use Rattle.compact.proofs.job.Job.start.Goals as goal
 

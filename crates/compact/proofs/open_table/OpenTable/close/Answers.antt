@@ -1,7 +1,6 @@
-use Rattle.std.proofs.Common.{List, ℕ, Some, ◌≡◌, [], IsTrue, sym, subst, ap, ◌∙◌}
+use Rattle.std.proofs.Common.{List, ℕ, Some, ◌≡◌, [], sym, subst, ap, ◌∙◌}
 use Rattle.std.proofs.lemmas.Result.{err_from_is_err_and}
 use Rattle.store.specs.Files.{Facts}
-use Rattle.ikey.specs.Entries.{Pair}
 use Rattle.table.specs.Building.{Builds}
 use Rattle.table.specs.Writing.{NeedsLongEnds}
 use Rattle.compact.specs.Outputs.{Filling, RefusesEntry}
