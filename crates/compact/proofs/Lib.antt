@@ -1,0 +1,11 @@
+pub mod Choices
+pub mod Keeping
+pub mod Merges
+pub mod Parts
+pub mod Tables
+pub mod Writing
+pub mod Passing
+pub mod Covering
+pub mod Jobs
+pub mod Rising
+pub mod Refusing

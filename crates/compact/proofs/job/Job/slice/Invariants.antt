@@ -1,0 +1,19 @@
+use Rattle.std.proofs.Common.{◌≡◌, ◌≤◌, ◌++◌, List, IsTrue, length}
+use Rattle.ikey.specs.Entries.{InternalEntry}
+use Rattle.compact.specs.Merging.{IsBetween, KeepsMine}
+use Rattle.compact.specs.Outputs.{IsMine, WritesTables}
+use Rattle.compact.proofs.job.Job.slice.Given as goal
+
+abbrev pub invariant-loop-merged : goal.invariant-loop-merged
+invariant-loop-merged g l =
+    (l.initial.numbers.next ≤ l.numbers.next)
+    × (l.self.selection.snapshots ≡ l.initial.self.selection.snapshots)
+    × ((came : List InternalEntry) (rest : List InternalEntry) → IsTrue (g.S.Store.facts (g.H.HasStore.store_of l.source)).faithful
+    → IsBetween g.K.KeyOrder.cmp (g.D.DeeperFiles.covers l.deeper) g.S.Store.facts g.H.HasStore.store_of g.H.HasStore.with_store g.C.Cursor.lists g.C.Cursor.keeps
+    l.initial.self l.initial.source l.initial.numbers.next came rest
+    → (front : List InternalEntry) × (back : List InternalEntry) × (rest ≡ front ++ back) × (length front ≡ l.merged)
+    × IsBetween g.K.KeyOrder.cmp (g.D.DeeperFiles.covers l.deeper) g.S.Store.facts g.H.HasStore.store_of g.H.HasStore.with_store g.C.Cursor.lists g.C.Cursor.keeps
+    l.self l.source l.numbers.next (came ++ front) back)
+    × KeepsMine l.initial.self.outputs l.initial.numbers.next l.self.outputs l.numbers.next
+    × WritesTables (g.S.Store.facts (g.H.HasStore.store_of l.initial.source)) (g.S.Store.facts (g.H.HasStore.store_of l.source)) (IsMine l.initial.self.outputs l.initial.numbers.next)
+    × (l.self.plan ≡ l.initial.self.plan)

@@ -1,0 +1,9 @@
+pub mod Choosing
+pub mod Deeper
+pub mod JobEdits
+pub mod Laws
+pub mod Lists
+pub mod Merging
+pub mod Needed
+pub mod Outputs
+pub mod Steps

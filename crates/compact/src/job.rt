@@ -1,0 +1,247 @@
+//! Compactions in slices (LevelDB's db/db_impl.cc, DoCompactionWork).
+
+ghost use Rattle.std.specs.Prelude.{◌≡◌, ◌<◌, ◌⊎◌, true, false};
+ghost use Rattle.std.specs.declared.cmp.Ordering.TheVariants.{Less};
+ghost use Rattle.std.specs.List.Sorted.{IsNonDecreasing};
+ghost use Rattle.ikey.specs.Keys.{Key, IsKey};
+ghost use Rattle.ikey.specs.declared.entry.Entry.{Entry};
+ghost use Rattle.compact.specs.Choosing.{Precedes};
+ghost use Rattle.compact.specs.Merging.{IsUpTo};
+
+use crate::chosen::{set_bytes, write_chosen};
+use crate::deeper::DeeperFiles;
+use crate::job_edit::edit_of;
+use crate::numbers::FileNumbers;
+use crate::outputs::Outputs;
+use crate::selection::Selection;
+use crate::source::HasStore;
+use coding::{Damage, DbError, FileKind};
+use cursor::Cursor;
+use edits::Edit;
+use ikey::{KeyOrder, unpack};
+use std::alloc::Global;
+use std::cmp::Ordering;
+use store::Store;
+use versions::JobPlan;
+
+/// What a slice of a job has done.
+#[derive(Clone, Copy, Debug, PartialEq, Eq)]
+pub struct Progress {
+    /// How many entries of the inputs it has merged.
+    pub merged: u32,
+    /// Whether these were the last ones, so that the job can be finished.
+    pub ended: bool,
+}
+
+/// A compaction: it merges its inputs, and writes what must be kept of them into new tables. Its cursor is one over all
+/// of its inputs, as `Merge`; with the order K, it reads from the source that each call is lent.
+#[derive(Drop)]
+pub struct Job<K: KeyOrder, C> {
+    plan: JobPlan,
+    cursor: C,
+    // the internal key that was merged last, or nothing before the first one
+    last: Vec<u8>,
+    // its value
+    value: Vec<u8>,
+    selection: Selection,
+    outputs: Outputs<K>,
+}
+
+impl<K: KeyOrder, C: Drop> Job<K, C> {
+    ghost use Rattle.std.specs.Prelude.{◌≡◌, ◌≤◌, ◌^◌, ◌∷◌, ◌++◌, [], ℕ, Bool, List, None, IsTrue, IfOk, IfErr, OnOk, MatchBool};
+    ghost use Rattle.cursor.specs.Moves.{ListsNone};
+    ghost use Rattle.cursor.specs.Places.{Listed};
+    ghost use Rattle.ikey.specs.Entries.{InternalEntry};
+    ghost use Rattle.compact.specs.Merging.{IsBetween, IsMerging, IsSlice, IsFinished, KeepsMine, ReadsApart, HaveOwnSequences};
+    ghost use Rattle.compact.specs.Outputs.{IsMine, IsNumberAtHand, IsOwn, WritesTables, RefusesEntry};
+    ghost use Rattle.table.specs.Reading.{Reads};
+
+    /// A job that has merged nothing. Its cursor lists the entries of the plan's inputs, and `snapshots` are the sequence
+    /// numbers whose views are to be kept, rising: those of the live snapshots and the last one used.
+    pub fn start<S: Store, H: HasStore<S>>(
+        alloc: Global,
+        source: &mut H,
+        plan: JobPlan,
+        snapshots: &[u64],
+        cursor: C,
+        block_bytes: usize,
+        file_bytes: u64,
+    ) -> Result<Self, DbError>
+    where
+        C: Cursor<K, H>,
+        requires rising { IsNonDecreasing snapshots.now }
+        requires facts { (held : H) → C.facts held ≡ S.facts (H.store_of held) }
+        ensures plan { IfOk result (λ job. job.plan ≡ plan) }
+        ensures snapshots { IfOk result (λ job. job.selection.snapshots ≡ snapshots.now) }
+        ensures written { IfOk result (λ job. job.outputs ≡ record { closed = []; at_hand = None }) }
+        ensures reads { Reads (S.facts (H.store_of source.old)) (S.facts (H.store_of source.new)) }
+        ensures refused { IfErr result (λ e. RefusesEntry e (S.facts (H.store_of source.old)) (S.facts (H.store_of source.new))
+            (IsTrue (S.facts (H.store_of source.new)).faithful → ListsNone C.lists cursor source.old) (IsTrue (S.facts (H.store_of source.new)).faithful → C.limited cursor) ⊥) }
+        ensures started { IfOk result (λ job. (deep : List ℕ → Bool) (next : ℕ) (at : Listed) → IsTrue (S.facts (H.store_of source.new)).faithful
+            → C.lists cursor source.old at → ReadsApart S.facts H.store_of H.with_store C.keeps cursor (λ number. next ≤ number)
+            → IsBetween K.cmp deep S.facts H.store_of H.with_store C.lists C.keeps job source.new next [] at.entries) }
+    {
+        let mut cursor = cursor;
+        let selection = Selection::new(alloc, snapshots)?;
+        cursor.first(alloc, source)?;
+        Ok(Job {
+            plan,
+            cursor,
+            last: Vec::new(alloc),
+            value: Vec::new(alloc),
+            selection,
+            outputs: Outputs::new(alloc, block_bytes, file_bytes),
+        })
+    }
+
+    /// Merges so many entries, or one for 0, or all that are left where those are fewer. `deeper` is to be the same in
+    /// each slice. Corrupt where two entries of a user key have one sequence number, or where the inputs aren't what the
+    /// cursor was made for. After an `Err` the job is to be given up: the files that it wrote are no part of the database, and its
+    /// inputs are as they were.
+    pub fn slice<S: Store, H: HasStore<S>, D: DeeperFiles>(
+        &mut self,
+        alloc: Global,
+        source: &mut H,
+        numbers: &mut FileNumbers,
+        deeper: &D,
+        budget: u32,
+    ) -> Result<Progress, DbError>
+    where
+        C: Cursor<K, H>,
+        requires facts { (held : H) → C.facts held ≡ S.facts (H.store_of held) }
+        ensures numbers { numbers.old.next ≤ numbers.new.next }
+        ensures plan { self.new.plan ≡ self.old.plan }
+        ensures snapshots { self.new.selection.snapshots ≡ self.old.selection.snapshots }
+        ensures mine { OnOk result (KeepsMine self.old.outputs numbers.old.next self.new.outputs numbers.new.next) }
+        ensures writes { WritesTables (S.facts (H.store_of source.old)) (S.facts (H.store_of source.new)) (IsMine self.old.outputs numbers.old.next) }
+        ensures refused { IfErr result (λ e. RefusesEntry e (S.facts (H.store_of source.old)) (S.facts (H.store_of source.new))
+            (IsTrue (S.facts (H.store_of source.new)).faithful → (came : List InternalEntry) (rest : List InternalEntry)
+            → IsBetween K.cmp (D.covers deeper.now) S.facts H.store_of H.with_store C.lists C.keeps self.old source.old numbers.old.next came rest → HaveOwnSequences (came ++ rest) → ⊥)
+            (Unit {0}) (2 ^ 62 ≤ numbers.new.next)) }
+        ensures sliced { IfOk result (λ progress. (came : List InternalEntry) (rest : List InternalEntry) → IsTrue (S.facts (H.store_of source.new)).faithful
+            → IsBetween K.cmp (D.covers deeper.now) S.facts H.store_of H.with_store C.lists C.keeps self.old source.old numbers.old.next came rest
+            → (front : List InternalEntry) × (back : List InternalEntry) × (rest ≡ front ++ back) × IsSlice budget progress front back
+            × IsBetween K.cmp (D.covers deeper.now) S.facts H.store_of H.with_store C.lists C.keeps self.new source.new numbers.new.next (came ++ front) back) }
+    {
+        for merged in 0..budget.max(1) {
+            if !self.cursor.stands() {
+                return Ok(Progress {
+                    merged,
+                    ended: true,
+                });
+            }
+            self.merge_one(alloc, source, numbers, deeper)?;
+        }
+        Ok(Progress {
+            merged: budget.max(1),
+            ended: !self.cursor.stands(),
+        })
+    }
+
+    /// Ends a job whose inputs have ended, with the edit that puts its outputs in the place of its inputs.
+    pub fn finish<S: Store>(
+        self,
+        alloc: Global,
+        store: &mut S,
+        numbers: &FileNumbers,
+        last_sequence: u64,
+    ) -> Result<Edit, DbError>
+        ensures writes { WritesTables (S.facts store.old) (S.facts store.new) (IsNumberAtHand self.outputs) }
+        ensures finished { IfOk result (λ edit. (deep : List ℕ → Bool) (came : List InternalEntry) → IsTrue (S.facts store.new).faithful
+            → IsMerging K.cmp deep self.last.items self.selection self.outputs (S.facts store.old) numbers.now.next came
+            → IsFinished K.cmp deep self.plan self.last.items self.selection (S.facts store.new) numbers.now.next last_sequence came edit) }
+        ensures refused { IfErr result (λ e. RefusesEntry e (S.facts store.old) (S.facts store.new) ⊥ (Unit {0}) ⊥) }
+    {
+        let Job { plan, outputs, .. } = self;
+        let mut outputs = outputs;
+        outputs.close(alloc, store)?;
+        let edit = edit_of(
+            alloc,
+            plan,
+            outputs.into_closed(),
+            numbers.next,
+            last_sequence,
+        )?;
+        Ok(edit)
+    }
+
+    /// Whether the table of this number is one that the job writes.
+    pub fn writes(&self, number: u64) -> bool
+        ensures { MatchBool result (IsOwn self.now.outputs number) (IsOwn self.now.outputs number → ⊥) }
+    {
+        self.outputs.has(number)
+    }
+
+    // Merges the entry on which the cursor stands.
+    fn merge_one<S: Store, H: HasStore<S>, D: DeeperFiles>(
+        &mut self,
+        alloc: Global,
+        source: &mut H,
+        numbers: &mut FileNumbers,
+        deeper: &D,
+    ) -> Result<(), DbError>
+    where
+        C: Cursor<K, H>,
+        requires facts { (held : H) → C.facts held ≡ S.facts (H.store_of held) }
+        requires stands { IsTrue (C.stands self.old.cursor) }
+        ensures numbers { numbers.old.next ≤ numbers.new.next }
+        ensures plan { self.new.plan ≡ self.old.plan }
+        ensures snapshots { self.new.selection.snapshots ≡ self.old.selection.snapshots }
+        ensures mine { OnOk result (KeepsMine self.old.outputs numbers.old.next self.new.outputs numbers.new.next) }
+        ensures writes { WritesTables (S.facts (H.store_of source.old)) (S.facts (H.store_of source.new)) (IsMine self.old.outputs numbers.old.next) }
+        ensures refused { IfErr result (λ e. RefusesEntry e (S.facts (H.store_of source.old)) (S.facts (H.store_of source.new))
+            (IsTrue (S.facts (H.store_of source.new)).faithful → (came : List InternalEntry) (entry : InternalEntry) (rest : List InternalEntry)
+            → IsBetween K.cmp (D.covers deeper.now) S.facts H.store_of H.with_store C.lists C.keeps self.old source.old numbers.old.next came (entry ∷ rest) → HaveOwnSequences (came ++ entry ∷ rest) → ⊥)
+            (Unit {0}) (2 ^ 62 ≤ numbers.new.next)) }
+        ensures merged { OnOk result ((came : List InternalEntry) (entry : InternalEntry) (rest : List InternalEntry) → IsTrue (S.facts (H.store_of source.new)).faithful
+            → IsBetween K.cmp (D.covers deeper.now) S.facts H.store_of H.with_store C.lists C.keeps self.old source.old numbers.old.next came (entry ∷ rest)
+            → IsBetween K.cmp (D.covers deeper.now) S.facts H.store_of H.with_store C.lists C.keeps self.new source.new numbers.new.next (came ++ entry ∷ []) rest) }
+    {
+        let bytes = self.cursor.key(source);
+        if !comes_behind::<K>(self.last.as_slice(), bytes) {
+            return Err(DbError::Corrupt(FileKind::Table, Damage::Order));
+        }
+        set_bytes(&mut self.last, bytes)?;
+        set_bytes(&mut self.value, self.cursor.value(source))?;
+        let Some(key) = unpack(self.last.as_slice()) else {
+            return Err(DbError::Corrupt(FileKind::Table, Damage::Kind));
+        };
+        let choice = self
+            .selection
+            .take::<K, D>(key.user, key.sequence, key.kind, deeper)?;
+        write_chosen(
+            alloc,
+            source.store_mut(),
+            numbers,
+            &mut self.outputs,
+            choice,
+            self.selection.released(),
+            key.user,
+            self.last.as_slice(),
+            self.value.as_slice(),
+        )?;
+        self.cursor.next(alloc, source)?;
+        Ok(())
+    }
+}
+
+// Whether the key stands behind the last one: its user key is above, or the same and its sequence number below. No two
+// entries of a directory share both.
+fn comes_behind<K: KeyOrder>(last: &[u8], next: &[u8]) -> bool
+    ensures behind { result ≡ true → (last_key next_key : Key) (entry behind : Entry) → IsKey last.now last_key → IsKey next.now next_key
+        → IsUpTo K.cmp entry last_key → behind.key ≡ next_key.user → behind.sequence ≡ next_key.sequence → Precedes K.cmp entry behind }
+    ensures refused { result ≡ false → (next_key : Key) → IsKey next.now next_key → (last_key : Key) × IsKey last.now last_key
+        × ((K.cmp last_key.user next_key.user ≡ Less) ⊎ ((last_key.user ≡ next_key.user) × (next_key.sequence < last_key.sequence)) → ⊥) }
+{
+    let Some(last) = unpack(last) else {
+        return true;
+    };
+    let Some(next) = unpack(next) else {
+        return false;
+    };
+    match K::compare(last.user, next.user) {
+        Ordering::Less => true,
+        Ordering::Equal => next.sequence < last.sequence,
+        Ordering::Greater => false,
+    }
+}

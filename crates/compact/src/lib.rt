@@ -1,0 +1,26 @@
+//! Compaction: which entries of some tables have to be kept, and jobs that write them into new tables
+//! (LevelDB's doc/impl.md, "Compactions").
+#![tactic(auto)]
+
+mod chosen;
+mod deeper;
+mod job;
+mod job_edit;
+mod laws;
+mod numbers;
+mod open_table;
+mod outputs;
+mod selection;
+mod source;
+
+pub use deeper::{DeeperFiles, FilesBelow};
+pub use job::{Job, Progress};
+pub use laws::{needed_is_needed, one_choice, pairs_are_left, views_are_kept, views_are_of_sets};
+pub use numbers::FileNumbers;
+pub use selection::{Choice, Selection};
+pub use source::HasStore;
+
+#[cfg(test)]
+mod selection_tests;
+#[cfg(test)]
+mod tests;

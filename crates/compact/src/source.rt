@@ -1,0 +1,21 @@
+//! What a job is lent: its inputs are read from it, and it has the store to which the outputs are written.
+
+ghost use Rattle.std.specs.Prelude.{◌≡◌};
+
+/// A source of cursors that has a store: a store beside which caches are kept, which whoever writes new files needn't
+/// know.
+pub trait HasStore<S> {
+    ghost use Rattle.std.specs.Borrow.{sem, Lends};
+
+    ghost store_of: { Self → S };
+
+    /// The source with another store, and all else as it is.
+    ghost with_store: { Self → S → Self };
+
+    /// Its store.
+    fn store_mut(&mut self) -> &mut S
+        ensures* lends { sem 𝓛 (Lends Self.row S.row self.entry result (with_store self.entry.now)) }
+        ensures value { result.now ≡ store_of self.old };
+
+    ghost replaced: { (source : Self) (store : S) → store_of (with_store source store) ≡ store };
+}
