@@ -1,0 +1,5 @@
+pub mod Sought
+pub mod Levels
+pub mod Walking
+pub mod Memory
+pub mod Versions
