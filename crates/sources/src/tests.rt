@@ -168,11 +168,17 @@ fn a_damaged_block_is_refused_and_the_place_stays(rt: HostRuntime) -> Result<(),
     let refused = step(&mut cursor, alloc, &mut source, Turn::Next);
     assert!(rt; matches!(refused, Err(DbError::Corrupt(_, _))));
     let first = pack(alloc, b"a", 9, Kind::Put)?;
-    assert_eq!(rt; at_hand(&cursor, &source), Some((first.as_slice(), [1].as_slice())));
+    assert_eq!(rt;
+        at_hand(&cursor, &source),
+        Some((first.as_slice(), [1].as_slice()))
+    );
     change(alloc, &mut source.store, 30)?;
     step(&mut cursor, alloc, &mut source, Turn::Next)?;
     let second = pack(alloc, b"a", 4, Kind::Delete)?;
-    assert_eq!(rt; at_hand(&cursor, &source), Some((second.as_slice(), [0].as_slice())));
+    assert_eq!(rt;
+        at_hand(&cursor, &source),
+        Some((second.as_slice(), [0].as_slice()))
+    );
     Ok(())
 }
 
