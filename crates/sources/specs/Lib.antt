@@ -1,3 +1,4 @@
 pub mod TableLaws
 pub mod TablePlaces
 pub mod Tables
+pub mod Values
