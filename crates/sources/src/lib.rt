@@ -2,13 +2,13 @@
 #![tactic(auto)]
 
 mod in_block;
+mod newest;
 mod table_cursor;
 mod table_search;
-mod table_value;
 mod tables;
 
+pub use newest::table_value;
 pub use table_cursor::TableCursor;
-pub use table_value::table_value;
 pub use tables::{Tables, empty_is_sound};
 
 #[cfg(test)]
