@@ -9,3 +9,5 @@ pub mod Entering
 pub mod Opening
 pub mod Arrivals
 pub mod Seeking
+pub mod LookingUp
+pub mod Denying

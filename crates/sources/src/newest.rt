@@ -1,7 +1,7 @@
 //! The newest entry of a user key in a table (LevelDB's table/table.cc, Table::InternalGet).
 
 ghost use Rattle.std.specs.Prelude.{◌≡◌, ◌<◌, ◌^◌, ⊤, ℕ, List, Some, IsSome, IfOk, IfErr, MatchBool, slice_get};
-ghost use Rattle.cache.specs.Tables.{RefusesTable};
+ghost use Rattle.cursor.specs.Moves.{Refuses};
 ghost use Rattle.ikey.specs.Entries.{InternalEntry, Pair, IsPair};
 ghost use Rattle.sources.specs.Tables.{Carries, HasTable, SaysOf, seen};
 ghost use Rattle.sources.specs.Values.{DeniesKey, HasValue, IsNoTable, IsPastLimit, SaysOfEntry};
@@ -31,10 +31,9 @@ pub fn table_value<K: KeyOrder, S: Store>(
     ensures carries { Carries K.cmp (seen (S.facts source.old.store) source.old.tables source.old.blocks) (seen (S.facts source.new.store) source.new.tables source.new.blocks) }
     ensures found { IfOk result (λ value. SaysOf K.cmp (seen (S.facts source.old.store) source.old.tables source.old.blocks) (seen (S.facts source.new.store) source.new.tables source.new.blocks)
         number (λ file. HasValue K.cmp file key.now sequence value)) }
-    // What it says of a table that the store has, it says where what is kept is right.
-    ensures refused { IfErr result (λ e. RefusesTable e (S.facts source.old.store) (S.facts source.new.store) number
-        (λ file. HasTable K.cmp (seen (S.facts source.old.store) source.old.tables source.old.blocks) number file → IsNoTable K.cmp file)
-        (λ file. HasTable K.cmp (seen (S.facts source.old.store) source.old.tables source.old.blocks) number file → IsPastLimit K.cmp file)) }
+    ensures refused { IfErr result (λ e. Refuses e (S.facts source.old.store) (S.facts source.new.store)
+        ((file : List ℕ) → HasTable K.cmp (seen (S.facts source.old.store) source.old.tables source.old.blocks) number file → IsNoTable K.cmp file)
+        ((file : List ℕ) → HasTable K.cmp (seen (S.facts source.old.store) source.old.tables source.old.blocks) number file → IsPastLimit K.cmp file)) }
 {
     let table = source.get_table(alloc, number)?;
     let target = seek_key(alloc, key, sequence)?;
