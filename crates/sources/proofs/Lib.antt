@@ -11,3 +11,5 @@ pub mod Arrivals
 pub mod Seeking
 pub mod LookingUp
 pub mod Denying
+pub mod Valuing
+pub mod Declining
