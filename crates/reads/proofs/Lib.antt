@@ -3,3 +3,4 @@ pub mod Levels
 pub mod Walking
 pub mod Memory
 pub mod Versions
+pub mod Getting

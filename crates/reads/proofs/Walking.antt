@@ -1,5 +1,5 @@
 -- A search that goes from place to place.
-use Rattle.std.proofs.Common.{◌≡◌, inl, inr, ◌+◌, ◌<◌, ◌≤◌, ℕ, zero, suc, Option, Some, None, List, [], ◌∷◌, get_or, sym, subst, arith}
+use Rattle.std.proofs.Common.{◌≡◌, inl, inr, ◌+◌, ◌<◌, ◌≤◌, ℕ, zero, suc, Option, Some, None, List, [], ◌∷◌, ◌++◌, get_or, sym, subst, arith}
 use Rattle.std.proofs.lemmas.Bool.{cases_lt}
 use Rattle.ikey.specs.declared.entry.Entry.{Entry}
 use Rattle.ikey.specs.Orders.{Order}
@@ -22,13 +22,23 @@ unseen_all (xs ∷ lists) sequence user h entry i same = elim (sources.among_spl
   | inr j ↦ unseen_all lists sequence user (λ n. h (suc n)) entry j same
 ]
 
+behind_newest : (front back : List Entry) (sequence : ℕ) (entry : Entry) → IsUnseen front sequence entry.key → IsNewest back sequence entry → IsNewest (front ++ back) sequence entry
+behind_newest front back sequence entry unseen h = record {
+  member = sources.among_back front back entry h.member;
+  seen = h.seen;
+  greatest = λ other i key below. elim (sources.among_split front back other i) [
+    | inl j ↦ let above : sequence < other.sequence = unseen other j key in absurd (omega (arith, above, below))
+    | inr j ↦ h.greatest other j key below
+  ];
+}
+
 answer_at : (lists : List (List Entry)) (place sequence : ℕ) (user : List ℕ) (value : Option (List ℕ)) → AreSearched lists → ((i : ℕ) → i < place → IsUnseen (get_or lists i []) sequence user)
     → IsAnswer (get_or lists place []) sequence user (Some value) → IsAnswer (joined lists) sequence user (Some value)
 answer_at [] place sequence user value searched before h = absurd (h.1.member)
 answer_at (xs ∷ lists) zero sequence user value searched before h = (h.0, sources.in_front xs (joined lists) sequence h.0 searched.0 h.1, h.2, h.3)
 answer_at (xs ∷ lists) (suc place) sequence user value searched before h =
     let rest = answer_at lists place sequence user value searched.1 (λ i lt. before (suc i) (omega (arith, lt))) h in
-    (rest.0, sources.behind_newest xs (joined lists) sequence rest.0 (subst (λ (k : List ℕ). IsUnseen xs sequence k) (sym rest.2) (before 0 (omega arith))) rest.1, rest.2, rest.3)
+    (rest.0, behind_newest xs (joined lists) sequence rest.0 (subst (λ (k : List ℕ). IsUnseen xs sequence k) (sym rest.2) (before 0 (omega arith))) rest.1, rest.2, rest.3)
 
 -- ---- the laws
 
