@@ -1,0 +1,4 @@
+pub mod Sought
+pub mod Levels
+pub mod Walking
+pub mod Memory
