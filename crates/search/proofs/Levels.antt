@@ -1,16 +1,14 @@
 -- What a search by places finds in the sources of a version.
-use Rattle.std.proofs.Common.{◌≡◌, ◌⊎◌, inl, inr, ◌==◌, ◌+◌, ◌-◌, ◌<◌, ◌≤◌, ℕ, zero, suc, Bool, true, false, cond, Option, Some, None, List, [], ◌∷◌, ◌++◌, length, map, filter, reverse, get_or, IsTrue, refl, sym, ap, ◌∙◌, subst, arith}
+use Rattle.std.proofs.Common.{◌≡◌, ◌⊎◌, inl, inr, ◌==◌, ◌+◌, ◌-◌, ◌<◌, ◌≤◌, ℕ, zero, suc, Bool, true, false, cond, Option, None, List, [], ◌∷◌, ◌++◌, length, map, reverse, get_or, refl, sym, ap, ◌∙◌, subst, arith}
 use Rattle.std.proofs.lemmas.Bool.{cases_lt, and_from}
 use Rattle.std.proofs.lemmas.List.{get_or_append_left, get_or-append-add, get_or-reverse, length-reverse, length-map, length-append, map-append}
 use Rattle.std.specs.List.{AllByRecursion, AllWithin}
-use Rattle.std.specs.Cmp.{IsTotalOrder, tied_itself}
+use Rattle.std.specs.Cmp.{IsTotalOrder}
 use Rattle.std.specs.FinMap.{IsAntisymmetric}
 use Rattle.std.specs.Ordering.{is_le}
-use Rattle.std.specs.declared.cmp.Ordering.{Ordering}
-use Rattle.std.specs.declared.cmp.Ordering.TheVariants.{Less, Equal}
 use Rattle.ikey.specs.declared.entry.Entry.{Entry}
 use Rattle.ikey.specs.Entries.{internal_key_of}
-use Rattle.ikey.specs.Keys.{Key, IsKey, IsFirstKey}
+use Rattle.ikey.specs.Keys.{IsKey, IsFirstKey}
 use Rattle.ikey.specs.Orders.{Order}
 use Rattle.ikey.specs.Sources.{joined, IsAnswer, AreInRow, ComesBefore, ComesBeforeSought}
 use Rattle.ikey.specs.Views.{Among, IsUnseen}
@@ -25,14 +23,12 @@ use Rattle.versions.specs.Levels.{tables_at}
 use Rattle.versions.specs.Ranges.{covers, is_up_to, user_of, first_user, last_user}
 use Rattle.versions.specs.Searches.{EndsBelow, IsFound, IsSearchedAt}
 use Rattle.versions.proofs.Keys.{user_of_key, up_refl, true_or_false}
-use Rattle.search.specs.Laws.{AnsweredLaw, PassedLaw}
+use Rattle.search.specs.Laws.{SearchedLaw, AnsweredLaw, PassedLaw}
 use Rattle.search.specs.Places.{contents_at, lists_of, table_sources, HasVersion}
+use Rattle.search.proofs.Orders.{placed_of, not_itself}
 use Rattle.search.proofs.Sought.{all_before, last_not, ends_or_not}
 
 -- ---- tables and their contents, side by side
-
-abbrev placed_of : List TableContent → List PlacedTable
-placed_of contents = map (λ (content : TableContent). content.placed) contents
 
 placed_at : (level : ℕ) (contents : List TableContent) → placed_of (contents_at level contents) ≡ tables_at level (placed_of contents)
 placed_at level [] = refl
@@ -147,11 +143,6 @@ not_covered : (order : Order) (files : Files) (content : TableContent) (user key
     → IsUnseen content.entries sequence user
 not_covered order files content user key sequence o is h no' e i same = let t : false ≡ true = sym no' ∙ covered order files content user key e o is h i same in cc
 
-not_itself : (order : Order) (a b : List ℕ) → IsTotalOrder order.cmp → a ≡ b → order.cmp a b ≡ Less → ⊥
-not_itself order a b o same less =
-    let t : Equal ≡ Less = sym (tied_itself o b) ∙ subst (λ (k : List ℕ). order.cmp k b ≡ Less) same less in
-    cc
-
 -- ---- one level below 0
 
 module _ (order : Order) (files : Files) (o : IsTotalOrder order.cmp) (exact : IsAntisymmetric order.cmp) (user : List ℕ) (sequence : ℕ) (key : List ℕ) (first : IsFirstKey user sequence key) where
@@ -193,6 +184,23 @@ module _ (order : Order) (files : Files) (o : IsTotalOrder order.cmp) (exact : I
       ]
 
 -- ---- the laws
+
+searched_in : (order : Order) (files : Files) (level i : ℕ) (tables : List PlacedTable) (contents : List TableContent) (placed : PlacedTable) → HasVersion order files tables contents → i < length (tables_at level tables)
+    → ((d : PlacedTable) → get_or (tables_at level tables) i d ≡ placed) → (entries : List Entry) × HasTable order files (content_of placed entries)
+searched_in order files level i tables contents placed v lt at =
+    let own = contents_at level contents in
+    let same : placed_of own ≡ tables_at level tables = placed_at level contents ∙ ap (λ (ps : List PlacedTable). tables_at level ps) v.placed in
+    let one = split_at (λ (t : PlacedTable). Unit {0}) own i (omega (arith, lt, ap length same)) (λ k d low high. tt) in
+    let c = one.1 in
+    let here : c.placed ≡ placed = sym (one.4 placed) ∙ ap (λ (ps : List PlacedTable). get_or ps i placed) same ∙ at placed in
+    let mine = (has_front order files one.0 c one.2 (subst (λ (ts : List TableContent). HasTables order files ts) one.3 (has_at order files level contents v.are))).1 in
+    let content : c ≡ content_of placed c.entries = (λ j. record { placed = here j; entries = c.entries }) in
+    (c.entries, subst (λ (t : TableContent). HasTable order files t) content mine)
+
+pub searched_table : SearchedLaw
+searched_table order files tables contents key place placed v (inl h, cover) =
+    searched_in order files 0 (length (tables_at 0 tables) - 1 - place) tables contents placed v (omega (arith, h.0)) h.1
+searched_table order files tables contents key place placed v (inr h, cover) = searched_in order files (h.0 + 1) h.3.0 tables contents placed v h.3.1 h.3.2
 
 pub answered : AnsweredLaw
 answered order files tables contents user sequence key place placed entries answer o exact v first (inl h, cover) has is =

@@ -1,13 +1,11 @@
 -- What logs hold is newer than what tables hold.
-use Rattle.std.proofs.Common.{◌≡◌, inl, inr, max, ◌<◌, ◌≤◌, ℕ, List, [], ◌∷◌, ◌++◌, sym, ap, ◌∙◌, subst, arith}
+use Rattle.std.proofs.Common.{◌≡◌, inl, inr, max, List, [], ◌∷◌, ◌++◌, sym, ap, ◌∙◌, subst, arith}
 use Rattle.std.proofs.lemmas.List.{append-nil}
 use Rattle.ikey.specs.declared.entry.Entry.{Entry}
-use Rattle.ikey.specs.Orders.{Order}
-use Rattle.ikey.specs.Sources.{IsNewerThan, joined, AreSearched, SameEntries}
+use Rattle.ikey.specs.Sources.{IsNewerThan, joined}
 use Rattle.ikey.specs.Views.{Among}
 use Rattle.ikey.proofs.SearchedSources as sources
-use Rattle.store.specs.Files.{Files}
-use Rattle.recover.specs.Directory.{Directory, IsConsistent, entries_in}
+use Rattle.recover.specs.Directory.{Directory}
 use Rattle.recover.specs.Entries.{RiseAbove, greatest}
 use Rattle.recover.specs.Logs.{LogContent, batch_entries, logged}
 use Rattle.recover.specs.Tables.{tabled}

@@ -1,7 +1,6 @@
 -- Which entries of a table come before what is sought.
-use Rattle.std.proofs.Common.{◌≡◌, ◌≢◌, ◌⊎◌, inl, inr, ◌+◌, ◌*◌, ◌^◌, ◌<◌, ◌≤◌, ℕ, Bool, true, false, List, [], ◌∷◌, refl, sym, ap, ◌∙◌, subst, arith}
+use Rattle.std.proofs.Common.{◌≡◌, ◌≢◌, ◌⊎◌, inl, inr, ◌+◌, ◌*◌, ◌^◌, ◌<◌, ◌≤◌, ℕ, List, refl, sym, ap, ◌∙◌, subst, arith}
 use Rattle.std.proofs.lemmas.Bool.{cases_lt}
-use Rattle.std.specs.List.{AllByRecursion}
 use Rattle.std.specs.Cmp.{IsTotalOrder, tied_itself, nat_cmp_is}
 use Rattle.std.specs.FinMap.{IsAntisymmetric}
 use Rattle.std.specs.Ordering.{nat_cmp, ordering_then}
@@ -11,7 +10,7 @@ use Rattle.ikey.specs.declared.entry.Entry.{Entry}
 use Rattle.ikey.specs.declared.internal_key.Kind.{Kind}
 use Rattle.ikey.specs.declared.internal_key.Kind.TheVariants.{Delete, Put}
 use Rattle.ikey.specs.Entries.{internal_key_of, kind_of}
-use Rattle.ikey.specs.Keys.{Key, IsKey, IsFirstKey, key_cmp, tag, tag_of, kind_number}
+use Rattle.ikey.specs.Keys.{Key, IsKey, IsFirstKey, key_cmp, tag_of, kind_number}
 use Rattle.ikey.specs.Below.{IsBelowInternal, same_key}
 use Rattle.ikey.specs.Orders.{Order}
 use Rattle.ikey.specs.Sources.{ComesBefore, ComesBeforeSought}
@@ -41,11 +40,11 @@ not_greater m n h = elim (cases_lt n m) [
   | inr le ↦ le
 ]
 
-kind_at_most : (k : Kind) → kind_number k ≤ 1
+pub kind_at_most : (k : Kind) → kind_number k ≤ 1
 kind_at_most Delete = omega arith
 kind_at_most Put = omega arith
 
-less_parts : (o : Ordering) (m n : ℕ) → ordering_then o (nat_cmp m n) ≡ Less → (o ≡ Less) ⊎ ((o ≡ Equal) × (m < n))
+pub less_parts : (o : Ordering) (m n : ℕ) → ordering_then o (nat_cmp m n) ≡ Less → (o ≡ Less) ⊎ ((o ≡ Equal) × (m < n))
 less_parts Less m n e = inl refl
 less_parts Equal m n e = inr (refl, is_less m n e)
 less_parts Greater m n e = absurd (let t : Greater ≡ Less = e in cc)

@@ -1,11 +1,11 @@
 -- A search that goes from place to place.
-use Rattle.std.proofs.Common.{◌≡◌, inl, inr, ◌+◌, ◌<◌, ◌≤◌, ℕ, zero, suc, Option, Some, None, List, [], ◌∷◌, get_or, sym, subst, arith}
+use Rattle.std.proofs.Common.{◌≡◌, inl, inr, ◌<◌, ℕ, zero, suc, Option, Some, None, List, [], ◌∷◌, get_or, sym, subst, arith}
 use Rattle.std.proofs.lemmas.Bool.{cases_lt}
 use Rattle.ikey.specs.declared.entry.Entry.{Entry}
 use Rattle.ikey.specs.Orders.{Order}
 use Rattle.store.specs.Files.{Files}
 use Rattle.ikey.specs.Sources.{joined, AreSearched, IsAnswer}
-use Rattle.ikey.specs.Views.{Among, IsNewest, IsUnseen}
+use Rattle.ikey.specs.Views.{IsUnseen}
 use Rattle.ikey.proofs.SearchedSources as sources
 use Rattle.edits.specs.declared.field.PlacedTable.{PlacedTable}
 use Rattle.recover.specs.Tables.{TableContent}

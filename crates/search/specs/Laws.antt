@@ -9,12 +9,18 @@ use Rattle.ikey.specs.Sources.{joined, AreSearched, SameEntries, IsAnswer}
 use Rattle.ikey.specs.Views.{IsUnseen}
 use Rattle.store.specs.Files.{Files}
 use Rattle.edits.specs.declared.field.PlacedTable.{PlacedTable}
+use Rattle.versions.specs.Levels.{Lists, AreInOrder}
 use Rattle.versions.specs.Searches.{IsSearchedAt, IsSearchedNext}
 use Rattle.recover.specs.Directory.{Directory, IsConsistent, entries_in}
 use Rattle.recover.specs.Logs.{LogContent, batch_entries, logged}
-use Rattle.recover.specs.Tables.{TableContent, HasTable, tabled}
+use Rattle.recover.specs.Tables.{TableContent, HasTable, InTables, tabled, table_at}
 use Rattle.recover.specs.Checks.{content_of}
 use Rattle.search.specs.Places.{table_sources, HasVersion}
+
+-- A table that is searched at a place is one of the version's.
+abbrev pub SearchedLaw : Type 0
+SearchedLaw = (order : Order) (files : Files) (tables : List PlacedTable) (contents : List TableContent) (key : List ℕ) (place : ℕ) (placed : PlacedTable)
+    → HasVersion order files tables contents → IsSearchedAt order.cmp key tables place placed → (entries : List Entry) × HasTable order files (content_of placed entries)
 
 -- What a table that is searched at a place answers, the source of the place answers.
 abbrev pub AnsweredLaw : Type 0
@@ -69,3 +75,17 @@ abbrev pub MemoryLaw : Type 0
 MemoryLaw = (order : Order) (files : Files) (d : Directory) (before : List LogContent) (last : LogContent) (sources : List (List Entry))
     → IsConsistent order files d → d.logs ≡ before ++ last ∷ [] → AreSearched sources → SameEntries (joined sources) (tabled d.tables)
     → AreSearched (batch_entries last.batches ∷ logged before ∷ sources) × SameEntries (joined (batch_entries last.batches ∷ logged before ∷ sources)) (entries_in d)
+
+-- ---- the tables of a directory
+
+-- A version that lists the tables of a consistent directory has them, with all their entries.
+abbrev pub VersionLaw : Type 0
+VersionLaw = (order : Order) (files : Files) (d : Directory) (tables : List PlacedTable) → IsTotalOrder order.cmp → IsAntisymmetric order.cmp
+    → IsConsistent order files d → Lists d.layout.tables.items tables → AreInOrder order.cmp tables
+    → (contents : List TableContent) × HasVersion order files tables contents × SameEntries (joined (table_sources contents)) (tabled d.tables)
+
+-- It keeps them while the files of its tables stay.
+abbrev pub KeptLaw : Type 0
+KeptLaw = (order : Order) (old new : Files) (tables : List PlacedTable) (contents : List TableContent) → HasVersion order old tables contents
+    → ((content : TableContent) → InTables contents content → table_at new content.placed.table.number ≡ table_at old content.placed.table.number)
+    → HasVersion order new tables contents

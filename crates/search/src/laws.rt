@@ -1,6 +1,11 @@
 //! What a search by places tells of the sources.
 
-ghost use Rattle.search.specs.Laws.{AnsweredLaw, PassedLaw, StepLaw, FoundLaw, EndLaw, MemoryLaw};
+ghost use Rattle.search.specs.Laws.{SearchedLaw, AnsweredLaw, PassedLaw, StepLaw, FoundLaw, EndLaw, MemoryLaw, VersionLaw, KeptLaw};
+
+/// A table that is searched at a place is one of the version's.
+pub fn searched_table()
+    ensures { SearchedLaw }
+{}
 
 /// What a table that is searched at a place answers, the source of the place answers.
 pub fn answered_place()
@@ -30,4 +35,14 @@ pub fn has_ended()
 /// The entries of a consistent directory lie in its last log, the logs before it, and its tables, each newer than the next.
 pub fn memory_in_front()
     ensures { MemoryLaw }
+{}
+
+/// A version that lists the tables of a consistent directory has them.
+pub fn version_of_directory()
+    ensures { VersionLaw }
+{}
+
+/// A version keeps its tables while their files stay.
+pub fn version_is_kept()
+    ensures { KeptLaw }
 {}
