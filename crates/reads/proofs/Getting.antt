@@ -17,9 +17,9 @@ use Rattle.recover.specs.Tables.{TableContent, HasTable, HasTables, InTables}
 use Rattle.recover.proofs.Memberships.{one_of_tables}
 use Rattle.recover.proofs.NameScan.{in_cons, in_none}
 use Rattle.reads.specs.Gets.{HasEntries, HasNoEntries, SaysOfTable, IsTooLong, IsOnlyTooLong, HasTablesOf, HasNoTablesOf, SaysOfAll, IsOneTooLong}
-use Rattle.reads.specs.Laws.{IsSearchedUpTo, IsStep}
-use Rattle.reads.specs.Places.{table_sources, HasVersion}
-use Rattle.reads.proofs.Walking.{step, found, ended}
+use Rattle.search.specs.Laws.{IsSearchedUpTo, IsStep}
+use Rattle.search.specs.Places.{table_sources, HasVersion}
+use Rattle.search.proofs.Walking.{step, found, ended}
 use Rattle.sources.specs.Tables.{Seen, IsSound, Carries, HasTable as HasFileOf, SaysOf}
 use Rattle.sources.specs.Values.{HasValue, IsLookUp, IsNoTable, IsPastLimit}
 use Rattle.sources.proofs.Carrying.{carries_itself, carries_both}

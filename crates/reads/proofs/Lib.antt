@@ -1,6 +1,1 @@
-pub mod Sought
-pub mod Levels
-pub mod Walking
-pub mod Memory
-pub mod Versions
 pub mod Getting

@@ -7,7 +7,7 @@ use Rattle.ikey.specs.Orders.{Order}
 use Rattle.ikey.specs.Sources.{IsAnswer, joined}
 use Rattle.recover.specs.Checks.{content_of}
 use Rattle.recover.specs.Tables.{TableContent, HasTable, InTables}
-use Rattle.reads.specs.Places.{table_sources, HasVersion}
+use Rattle.search.specs.Places.{table_sources, HasVersion}
 use Rattle.sources.specs.Tables.{Seen, IsSound}
 use Rattle.sources.specs.Values.{IsPastLimit}
 

@@ -1,3 +1,1 @@
 pub mod Gets
-pub mod Laws
-pub mod Places
