@@ -43,7 +43,7 @@ in_front front back sequence entry newer h = record {
   ];
 }
 
-behind_newest : (front back : List Entry) (sequence : ℕ) (entry : Entry) → IsUnseen front sequence entry.key → IsNewest back sequence entry → IsNewest (front ++ back) sequence entry
+pub behind_newest : (front back : List Entry) (sequence : ℕ) (entry : Entry) → IsUnseen front sequence entry.key → IsNewest back sequence entry → IsNewest (front ++ back) sequence entry
 behind_newest front back sequence entry unseen h = record {
   member = among_back front back entry h.member;
   seen = h.seen;

@@ -15,7 +15,8 @@ use Rattle.store.specs.Files.{Files}
 use Rattle.edits.specs.Snapshot.{AreInPlace, IsFollowedBy}
 use Rattle.edits.specs.declared.field.PlacedTable.{PlacedTable}
 use Rattle.ikey.specs.Views.{Among}
-use Rattle.recover.specs.Tables.{TableContent, HasTable, InTables, tabled, internal_key, ComesBefore, AreNewer, AreTables}
+use Rattle.ikey.specs.Sources.{ComesBefore}
+use Rattle.recover.specs.Tables.{TableContent, HasTable, InTables, tabled, internal_key, AreNewer, AreTables}
 use Rattle.recover.specs.Directory.{Directory, IsConsistent}
 use Rattle.recover.specs.Changes.{AreParted, LiesBelow, LiesAbove, HasLowerKeys, IsClosed, ClosedLaw}
 use Rattle.recover.proofs.Memberships.{from_tabled, one_of_tables, from_chosen, from_rest}

@@ -6,10 +6,11 @@ use Rattle.edits.specs.declared.field.Field.{Field}
 use Rattle.edits.specs.declared.layout.Layout.{Layout}
 use Rattle.ikey.specs.declared.entry.Entry.{Entry}
 use Rattle.ikey.specs.Views.{Among}
-use Rattle.recover.specs.Tables.{TableContent, HasTable, HasTables, InTables, tabled, ComesBefore, AreSorted, AreApart, AreNewer, AreTwoTables, AreTables}
+use Rattle.ikey.specs.Sources.{ComesBefore, AreSorted, SameEntries}
+use Rattle.recover.specs.Tables.{TableContent, HasTable, HasTables, InTables, tabled, AreApart, AreNewer, AreTwoTables, AreTables}
 use Rattle.recover.specs.Logs.{IsLive, logged}
 use Rattle.recover.specs.Directory.{HasManifest, Directory, IsConsistent}
-use Rattle.recover.specs.Changes.{AgreeBeside, SameEntries, AreParted, IsCompaction, compacted, CompactionLaw}
+use Rattle.recover.specs.Changes.{AgreeBeside, AreParted, IsCompaction, compacted, CompactionLaw}
 use Rattle.recover.proofs.Keeping.{keep_tables, keep_logs, live_of, same_live, all_live}
 use Rattle.recover.proofs.Adding.{among_split}
 use Rattle.recover.proofs.Memberships.{among_front, among_back, from_tabled, to_tabled, each_table, one_of_tables, in_part, from_rest, among_contents, among_chosen, among_rest}

@@ -9,7 +9,8 @@ use Rattle.store.specs.Files.{Files}
 use Rattle.edits.specs.Snapshot.{AreInPlace}
 use Rattle.edits.specs.declared.field.PlacedTable.{PlacedTable}
 use Rattle.recover.specs.Entries.{RiseAbove}
-use Rattle.recover.specs.Tables.{TableContent, HasTables, tabled, ComesBefore, AreSorted, AreTwoTables, AreTables}
+use Rattle.ikey.specs.Sources.{ComesBefore, AreSorted}
+use Rattle.recover.specs.Tables.{TableContent, HasTables, tabled, AreTwoTables, AreTables}
 use Rattle.recover.specs.Logs.{logged}
 use Rattle.recover.specs.Changes.{AreDistinct, DistinctLaw}
 use Rattle.recover.proofs.Adding.{above, among_split}

@@ -10,7 +10,7 @@ use Rattle.std.proofs.Math.Seq.{drop-cons}
 use Rattle.ikey.specs.Orders.{Order}
 use Rattle.ikey.specs.declared.entry.Entry.{Entry}
 use Rattle.ikey.specs.Views.{Among}
-use Rattle.recover.specs.Tables.{ComesBefore, AreSorted}
+use Rattle.ikey.specs.Sources.{ComesBefore, AreSorted}
 use Rattle.recover.specs.Checks.{IsNewerThan, StartsBefore}
 use Rattle.recover.proofs.Closed.{below_by, above_by, no_same}
 use Rattle.recover.proofs.KeyRanges.{parts_of}

@@ -13,7 +13,8 @@ use Rattle.recover.specs.Changes.{HasLowerKeys}
 use Rattle.recover.specs.Checks.{AreNewerThan, NeedsNewer, content_of, MayFollow, DoesFollow}
 use Rattle.ikey.specs.Views.{Among}
 use Rattle.recover.specs.Ranges.{IsKeyBefore, IsBefore, DoNotOverlap}
-use Rattle.recover.specs.Tables.{TableContent, HasTable, internal_key, ComesBefore, AreApart}
+use Rattle.ikey.specs.Sources.{ComesBefore}
+use Rattle.recover.specs.Tables.{TableContent, HasTable, internal_key, AreApart}
 use Rattle.recover.proofs.Closed.{newer_apart}
 use Rattle.recover.proofs.EntryOrder.{before_trans}
 use Rattle.recover.proofs.OneMeaning.{same_table_content}

@@ -9,7 +9,8 @@ use Rattle.store.specs.Files.{Files}
 use Rattle.table.specs.Table.{ArePairs}
 use Rattle.edits.specs.declared.field.PlacedTable.{PlacedTable}
 use Rattle.ikey.specs.Views.{Among}
-use Rattle.recover.specs.Tables.{IsTableFile, TableContent, HasTable, HasTables, InTables, internal_key, ComesBefore, AreTwoTables, AreTables}
+use Rattle.ikey.specs.Sources.{ComesBefore}
+use Rattle.recover.specs.Tables.{IsTableFile, TableContent, HasTable, HasTables, InTables, internal_key, AreTwoTables, AreTables}
 use Rattle.recover.specs.Ranges.{IsBefore, HasRange, DoNotOverlap, HaveRanges, HaveTableFiles}
 use Rattle.recover.specs.Directory.{Directory, IsConsistent}
 

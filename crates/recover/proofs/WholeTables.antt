@@ -18,7 +18,8 @@ use Rattle.table.specs.Table.{IsTable, ArePairs}
 use Rattle.edits.specs.Names.{IsNumbered}
 use Rattle.edits.specs.declared.field.PlacedTable.{PlacedTable}
 use Rattle.ikey.specs.Views.{Among}
-use Rattle.recover.specs.Tables.{table_at, HasTable, internal_key, ComesBefore, AreSorted}
+use Rattle.ikey.specs.Sources.{ComesBefore, AreSorted}
+use Rattle.recover.specs.Tables.{table_at, HasTable, internal_key}
 use Rattle.recover.specs.Checks.{content_of, first_key, IsSpanned, Never, IsOnly}
 use Rattle.recover.specs.Parts.{IsUnchanged, RefusesBytes}
 use Rattle.recover.specs.Report.{IsLongTable}

@@ -1,5 +1,5 @@
 -- What a database with tables does to its directory, and what that leaves of the meaning (LevelDB's doc/impl.md).
-use Rattle.std.specs.Prelude.{◌≡◌, ◌≢◌, ◌⊎◌, ◌<◌, ◌≤◌, ◌+◌, ◌↔◌, ℕ, true, Some, List, [], ◌∷◌, ◌++◌, if◌then◌else◌, length, take, map}
+use Rattle.std.specs.Prelude.{◌≡◌, ◌≢◌, ◌⊎◌, ◌<◌, ◌≤◌, ◌+◌, ℕ, true, Some, List, [], ◌∷◌, ◌++◌, if◌then◌else◌, length, take, map}
 use Rattle.std.specs.FinMap.{get, insert, contains_key}
 use Rattle.std.specs.Cmp.{IsTotalOrder}
 use Rattle.ikey.specs.Orders.{Order}
@@ -20,7 +20,8 @@ use Rattle.batch.specs.declared.operation.Operation.{Operation}
 use Rattle.table.specs.Writing.{KeepsOthers}
 use Rattle.recover.specs.Entries.{entries_of}
 use Rattle.ikey.specs.Views.{Among}
-use Rattle.recover.specs.Tables.{table_at, TableContent, HasTable, InTables, tabled, AreSorted, AreNewer, ComesBefore}
+use Rattle.ikey.specs.Sources.{ComesBefore, AreSorted, SameEntries}
+use Rattle.recover.specs.Tables.{table_at, TableContent, HasTable, InTables, tabled, AreNewer}
 use Rattle.recover.specs.Logs.{LogContent, IsLive, batch_entries, logged}
 use Rattle.recover.specs.Directory.{Directory, IsConsistent, HasManifest, EndsAt, entries_in, used_in}
 use Rattle.recover.specs.Laws.{AddsRecord, AddsAllOrNothing, IsSameLayout}
@@ -99,10 +100,6 @@ SameManifestLaw = (order : Order) (old new : Files) (d : Directory) → IsConsis
     → HasManifest order new d.manifest d.edits d.layout → AgreeBeside old new d → IsConsistent order new d
 
 -- ---- a flush
-
--- the same entries, in whatever order and however often
-abbrev pub SameEntries : List Entry → List Entry → Type 0
-SameEntries xs ys = (entry : Entry) → Among xs entry ↔ Among ys entry
 
 -- the contents with one more in the place of its table
 abbrev pub with_content : TableContent → List TableContent → List TableContent

@@ -9,7 +9,8 @@ use Rattle.edits.specs.declared.field.PlacedTable.{PlacedTable}
 use Rattle.edits.specs.declared.field.TableFile.{TableFile}
 use Rattle.ikey.specs.Entries.{Pair}
 use Rattle.ikey.specs.Views.{Among}
-use Rattle.recover.specs.Tables.{TableContent, HasTable, InTables, ComesBefore, AreTwoTables}
+use Rattle.ikey.specs.Sources.{ComesBefore}
+use Rattle.recover.specs.Tables.{TableContent, HasTable, InTables, AreTwoTables}
 use Rattle.recover.specs.Report.{HasBytes, AnyHasBytes}
 
 -- ---- entries

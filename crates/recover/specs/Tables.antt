@@ -1,6 +1,5 @@
 -- The tables of a directory.
 use Rattle.std.specs.Prelude.{◌≡◌, ◌⊎◌, ◌<◌, ℕ, Option, Some, List, [], ◌∷◌, ◌++◌, length, map}
-use Rattle.std.specs.declared.cmp.Ordering.TheVariants.{Less}
 use Rattle.std.specs.FinMap.{get}
 use Rattle.coding.specs.Fixed.{fixed64}
 use Rattle.ikey.specs.Orders.{Order}
@@ -13,6 +12,7 @@ use Rattle.ikey.specs.declared.entry.Entry.{Entry}
 use Rattle.ikey.specs.Entries.{InternalEntry, internal_key_of, entry_of}
 use Rattle.ikey.specs.Keys.{tag_of}
 use Rattle.table.specs.Table.{IsTable}
+use Rattle.ikey.specs.Sources.{ComesBefore, AreSorted}
 use Rattle.ikey.specs.Views.{Among}
 
 -- the bytes are the table file of these entries
@@ -32,15 +32,6 @@ pub record TableContent : Type 0 where
 -- the bytes of the internal key of an entry (LevelDB's db/dbformat.h)
 abbrev pub internal_key : Entry → List ℕ
 internal_key entry = entry.key ++ fixed64 (tag_of (internal_key_of entry))
-
--- the entry comes before the other: its key does, or it is a newer one of the same key
-abbrev pub ComesBefore : Order → Entry → Entry → Type 0
-ComesBefore order a b = (order.cmp a.key b.key ≡ Less) ⊎ ((a.key ≡ b.key) × (b.sequence < a.sequence))
-
--- each entry comes before all behind it, so that no two share a key and a sequence
-abbrev pub AreSorted : Order → List Entry → Type 0
-AreSorted order [] = Unit {0}
-AreSorted order (entry ∷ entries) = ((other : Entry) → Among entries other → ComesBefore order entry other) × AreSorted order entries
 
 -- The file is there with the size and the keys of its edit.
 pub record HasTable (order : Order) (files : Files) (content : TableContent) : Type 0 where

@@ -57,7 +57,6 @@ prev_inside entries (Some n) index h e = let l = h n refl in before_inside n (le
 
 module _ (cmp : Cmp) (old new : Seen) (number : ℕ) (frame : Frame) (here to_here : Option (InBlock Placed)) (at : Listed) (carries : Carries cmp old new) (t : IsTrue new.facts.faithful)
     (h : ListsTable cmp old number frame here at) where
-
   pub same_count : length (joined h.groups) ≡ length at.entries
   same_count = pairs_length (joined h.groups) at.entries h.entries_are
 

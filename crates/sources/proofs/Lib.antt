@@ -14,3 +14,7 @@ pub mod Entering
 pub mod Opening
 pub mod Arrivals
 pub mod TableSeeking
+pub mod LookingUp
+pub mod Denying
+pub mod Valuing
+pub mod Declining

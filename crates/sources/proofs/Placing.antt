@@ -21,7 +21,7 @@ in_front [] ys n x e = absurd (let bad : None ≡ Some x = e in cc)
 in_front (y ∷ xs) ys zero x e = e
 in_front (y ∷ xs) ys (suc n) x e = in_front xs ys n x e
 
-behind : {A : Type 0} (xs ys : List A) (n m : ℕ) → m ≡ length xs + n → slice_get (xs ++ ys) m ≡ slice_get ys n
+pub behind : {A : Type 0} (xs ys : List A) (n m : ℕ) → m ≡ length xs + n → slice_get (xs ++ ys) m ≡ slice_get ys n
 behind [] ys n m e = ap (slice_get ys) (let t : m ≡ n = omega (arith, e) in t)
 behind (x ∷ xs) ys n zero e = absurd (omega (arith, e))
 behind (x ∷ xs) ys n (suc m) e = behind xs ys n m (omega (arith, e))

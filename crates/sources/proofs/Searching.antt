@@ -50,7 +50,6 @@ searching_begins cmp passed old number frame start = record { carries = carries_
 module _ (cmp : Cmp) (passed : List ℕ → Type 0) (old now new : Seen) (number : ℕ) (frame : Frame) (start index : ℕ) (s : IsSearching cmp passed old now number frame start index) (carries : Carries cmp now new)
     (pairs : List Pair) (found : IsTrue new.facts.faithful → (groups : List (List Pair)) → HasData cmp now number frame groups → slice_get groups index ≡ Some pairs)
     (cursor : Placed) (its : cursor.pairs ≡ pairs) (stops : (stop : ℕ) × StopsAt passed pairs 0 stop × (cursor.place ≡ within pairs stop)) where
-
   block_there : IsTrue new.facts.faithful → (groups : List (List Pair)) → HasData cmp old number frame groups → slice_get groups index ≡ Some pairs
   block_there t groups has = let m = carries.reads.faithful t in found t groups (still_data cmp old now number frame groups s.carries m has)
 
@@ -132,7 +131,6 @@ back_begins cmp old number frame end = record { carries = carries_itself cmp old
 module _ (cmp : Cmp) (old now new : Seen) (number : ℕ) (frame : Frame) (end step index : ℕ) (less : step < end) (its_index : index ≡ end - step - 1) (s : IsSearchingBack cmp old now number frame end step)
     (carries : Carries cmp now new) (pairs : List Pair) (found : IsTrue new.facts.faithful → (groups : List (List Pair)) → HasData cmp now number frame groups → slice_get groups index ≡ Some pairs)
     (cursor : Placed) (its : cursor.pairs ≡ pairs) (last : cursor.place ≡ last_of pairs) where
-
   ends_here : IsTrue new.facts.faithful → (groups : List (List Pair)) → HasData cmp old number frame groups → (slice_get groups index ≡ Some pairs) × (pairs_before groups end ≡ pairs_before groups index + length pairs)
   ends_here t groups has =
       let m = carries.reads.faithful t in

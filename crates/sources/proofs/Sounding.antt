@@ -81,7 +81,6 @@ no_table cmp e old new number handle h =
 
 module _ (cmp : Cmp) (old mid new : Seen) (number : ℕ) (handle : Handle) (table : Opened) (carries : Carries cmp old mid) (stood : mid.facts.failures ≡ old.facts.failures) (reads : Reads mid.facts new.facts)
     (says : SaysOf cmp old mid number (λ file. HasFile mid.facts table.name file × IsOpen cmp file table.frame)) where
-
   pub no_block : (e : DbError) → Refuses e mid.facts new.facts table.name (λ file. IsDamaged cmp file handle) (λ file. IsUnsupported file handle)
       → RefusesTable e old.facts new.facts number (λ file. HasTable cmp old number file → IsBlockDamaged cmp handle file) (λ file. HasTable cmp old number file → IsBlockUnsupported handle file)
   no_block OutOfMemory h = h ∙ stood

@@ -59,7 +59,7 @@ module _ (passed : List ℕ → Type 0) where
   passed_none groups start = record { up = omega arith; all = λ k pair from less e. absurd (omega (arith, from, less)) }
 
   -- a pair of the block of this index
-  here : (groups : List (List Pair)) (index : ℕ) (pairs : List Pair) (k : ℕ) (pair : Pair) → slice_get groups index ≡ Some pairs → pairs_before groups index ≤ k → k < pairs_before groups index + length pairs
+  pub here : (groups : List (List Pair)) (index : ℕ) (pairs : List Pair) (k : ℕ) (pair : Pair) → slice_get groups index ≡ Some pairs → pairs_before groups index ≤ k → k < pairs_before groups index + length pairs
       → slice_get (joined groups) k ≡ Some pair → slice_get pairs (k - pairs_before groups index) ≡ Some pair
   here groups index pairs k pair e from less at =
       let j : ℕ = k - pairs_before groups index in

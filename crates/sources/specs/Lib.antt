@@ -3,3 +3,4 @@ pub mod MemoryLists
 pub mod TableLaws
 pub mod TablePlaces
 pub mod Tables
+pub mod Values

@@ -4,11 +4,13 @@
 mod in_block;
 mod memory_cursor;
 mod memory_laws;
+mod newest;
 mod table_cursor;
 mod table_search;
 mod tables;
 
 pub use memory_cursor::MemoryCursor;
 pub use memory_laws::{kept_for_all_is_same, later_inserts_are_kept, seen_entries_have_the_view};
+pub use newest::table_value;
 pub use table_cursor::TableCursor;
 pub use tables::{Tables, empty_is_sound};

@@ -1,6 +1,6 @@
 //! Searches over the data blocks of a table (LevelDB's table/two_level_iterator.cc).
 
-ghost use Rattle.std.specs.Prelude.{◌≡◌, ◌<◌, ◌≤◌, ◌^◌, ◌+◌, ℕ, List, length, slice_get, IsTrue, IfOk, IfErr};
+ghost use Rattle.std.specs.Prelude.{◌≡◌, ◌<◌, ◌≤◌, ◌^◌, ◌+◌, ℕ, List, length, slice_get, IsTrue, IsSome, IfSome, IfOk, IfErr};
 ghost use Rattle.block.specs.Places.{within};
 ghost use Rattle.cursor.specs.Moves.{Refuses};
 ghost use Rattle.cursor.specs.Places.{index_before};
@@ -44,6 +44,7 @@ pub fn search_on<K: KeyOrder, S: Store>(
     ensures found { IfOk result (λ here. IsTrue (S.facts source.new.store).faithful → (groups : List (List Pair))
         → HasData K.cmp (seen (S.facts source.old.store) source.old.tables source.old.blocks) number table.now.frame groups → start ≤ length groups
         → (place : ℕ) × StopsAt (Passed K.cmp aim.entry) (joined groups) (pairs_before groups start) place × IsPlacedIn groups here (within_list (joined groups) place)) }
+    ensures stands { IfOk result (λ here. IfSome here (λ found. IsSome found.cursor.place)) }
     ensures refused { IfErr result (λ e. Refuses e (S.facts source.old.store) (S.facts source.new.store)
         ((groups : List (List Pair)) → HasData K.cmp (seen (S.facts source.old.store) source.old.tables source.old.blocks) number table.now.frame groups → start ≤ length groups → ⊥)
         (AnyLong (handles table.now.frame))) }

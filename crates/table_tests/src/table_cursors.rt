@@ -3,8 +3,8 @@
 use cache::{BlockCache, TableCache};
 use coding::{Bytes, DbError};
 use cursor::{Cursor, ListCursor};
-use ikey::{Bytewise, Kind, pack};
-use sources::{TableCursor, Tables, empty_is_sound};
+use ikey::{Bytewise, Kind, SEQUENCE_END, pack};
+use sources::{TableCursor, Tables, empty_is_sound, table_value};
 use std::alloc::{AllocError, Global};
 use std::num::NonZeroUsize;
 use std::test::*;
@@ -190,5 +190,43 @@ fn a_missing_table_is_corrupt(rt: HostRuntime) -> Result<(), Fail> {
     let mut source = table_of(alloc, 1, 1)?;
     let refused = TableCursor::open(alloc, &mut source, 6);
     assert!(rt; matches!(refused, Err(DbError::Corrupt(_, _))));
+    Ok(())
+}
+
+// A user key and a sequence, and the byte that the newest entry put, or that it is a delete.
+#[rattlefmt::skip]
+const VALUES: [(&[u8], u64, Option<Option<u8>>); 14] = [
+    (b"a", 9, Some(Some(1))), (b"a", 8, Some(None)), (b"a", 4, Some(None)), (b"a", 3, None),
+    (b"c", 9, Some(Some(2))), (b"c", 2, Some(Some(3))), (b"c", 1, None), (b"ca", 8, Some(Some(4))), (b"ca", 7, None),
+    (b"e", 6, Some(None)), (b"g", 5, Some(Some(6))), (b"b", 9, None), (b"h", 9, None), (b"", 9, None),
+];
+
+// Whether each look-up over a table of such blocks finds what is wanted.
+fn finds_values(alloc: Global, block_bytes: usize) -> Result<bool, Fail> {
+    let mut source = table_of(alloc, block_bytes, 2)?;
+    for (key, sequence, wanted) in &VALUES {
+        if *sequence >= SEQUENCE_END {
+            return Ok(false);
+        }
+        let found = table_value(alloc, &mut source, 5, key, *sequence)?;
+        let same = match (&found, wanted) {
+            (None, None) => true,
+            (Some(None), Some(None)) => true,
+            (Some(Some(value)), Some(Some(byte))) => value.as_slice() == [*byte].as_slice(),
+            _ => false,
+        };
+        if !same {
+            return Ok(false);
+        }
+    }
+    Ok(true)
+}
+
+#[test]
+fn values_are_those_of_the_newest_entries(rt: HostRuntime) -> Result<(), Fail> {
+    let alloc = rt.alloc();
+    assert!(rt; finds_values(alloc, 1)?);
+    assert!(rt; finds_values(alloc, 40)?);
+    assert!(rt; finds_values(alloc, 4096)?);
     Ok(())
 }

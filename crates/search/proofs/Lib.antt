@@ -1,0 +1,6 @@
+pub mod Sought
+pub mod Orders
+pub mod Levels
+pub mod Walking
+pub mod Memory
+pub mod Version

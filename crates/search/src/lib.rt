@@ -1,0 +1,12 @@
+//! What a search through the tables of a version tells of all entries (LevelDB's db/version_set.cc, Version::Get).
+#![tactic(auto)]
+
+mod laws;
+
+pub use laws::{
+    answered_place, goes_on, has_ended, is_found, memory_in_front, passed_place, searched_table,
+    version_is_kept, version_of_directory,
+};
+
+#[cfg(test)]
+mod tests;
