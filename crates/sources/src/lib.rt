@@ -9,7 +9,7 @@ mod tables;
 
 pub use newest::table_value;
 pub use table_cursor::TableCursor;
-pub use tables::{Tables, empty_is_sound};
+pub use tables::{Tables, empty_is_sound, sound_lasts};
 
 #[cfg(test)]
 mod tests;
