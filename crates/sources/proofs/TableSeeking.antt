@@ -1,5 +1,5 @@
 -- Where a seek over a table leads.
-use Rattle.std.proofs.Common.{◌≡◌, ◌<◌, ◌≤◌, ◌+◌, ◌-◌, ◌++◌, ℕ, zero, suc, Bool, true, false, List, [], ◌∷◌, Option, Some, None, length, take, drop, get_or, IsTrue, refl, sym, ap, ◌∙◌, subst, arith, append_assoc, inl, inr}
+use Rattle.std.proofs.Common.{◌≡◌, ◌<◌, ◌++◌, ℕ, zero, suc, true, false, List, [], ◌∷◌, Option, Some, None, length, drop, IsTrue, refl, sym, ap, ◌∙◌, subst, arith, append_assoc, inl, inr}
 use Rattle.std.specs.Cmp.{IsTotalOrder}
 use Rattle.std.specs.List.{slice_get, AllByRecursion}
 use Rattle.std.proofs.lemmas.Bool.{cases_lt}
@@ -18,8 +18,7 @@ use Rattle.sources.specs.Tables.{Seen, Carries}
 use Rattle.sources.proofs.Arrivals.{lists_moved, same_within}
 use Rattle.sources.proofs.Entering.{pair_at}
 use Rattle.sources.proofs.Placing.{before_zero, data_length, in_front, some_at}
-use Rattle.table.proofs.Seeks.{AllBelow, blocks_below, front_keys}
-use Rattle.table.specs.declared.handle.Place.{Place}
+use Rattle.table.proofs.Seeks.{blocks_below, front_keys}
 use Rattle.table.specs.Frame.{Frame, IsFrame}
 use Rattle.table.specs.Refusals.{IsFirstPlace}
 use Rattle.table.specs.Table.{AreBounds, AreData, ArePairs}
@@ -40,7 +39,6 @@ before_front (x ∷ front) back = omega (arith, before_front front back, length-
 
 module _ (cmp : Cmp) (total : IsTotalOrder cmp) (target file : List ℕ) (frame : Frame) (start : ℕ) (groups : List (List Pair)) (is : IsFrame cmp file frame) (first : IsFirstPlace cmp target frame.places start)
     (data_is : AreData cmp file frame.places groups) (bounds : AreBounds cmp frame.places groups) where
-
   -- the pairs of the blocks in front of the first that can have the target
   pub below_front : (k : ℕ) (pair : Pair) → k < pairs_before groups start → slice_get (joined groups) k ≡ Some pair → IsBelowInternal cmp pair.key target
   below_front k pair less e =
