@@ -40,7 +40,7 @@ pub record IsMerging (cmp : Cmp) (deep : List ℕ → Bool) (last : List ℕ) (c
   pub last_is : ((came ≡ []) × (last ≡ [])) ⊎ ((entry : InternalEntry) × Among came entry × IsKey last entry.key)
   pub bound : (entry : Entry) → Among (map entry_of came) entry → (key : Key) × IsKey last key × IsUpTo cmp entry key
 
--- each entry of a user key has a sequence of its own
+-- each entry of a user key has a sequence of its own: no two differ in their kind alone
 abbrev pub HaveOwnSequences : List InternalEntry → Type 0
 HaveOwnSequences entries = (entry other : InternalEntry) → Among entries entry → Among entries other → entry.key.user ≡ other.key.user → entry.key.sequence ≡ other.key.sequence → entry.key.kind ≡ other.key.kind
 
@@ -65,6 +65,7 @@ pub record IsJob {C H S : Type 0} (cmp : Cmp) (deep : List ℕ → Bool) (facts 
   pub left : HasPassed lists cursor source came rest
   pub apart : ReadsApart facts store_of with_store keeps cursor (IsMine w next)
 
+-- the same of a job as its fields have it
 abbrev pub IsBetween : {K C H S : Type 0} → Cmp → (List ℕ → Bool) → (S → Facts) → (H → S) → (H → S → H) → (C → H → Listed → Type 0) → (C → H → H → Type 0) → Job K C → H → ℕ → List InternalEntry → List InternalEntry → Type 0
 IsBetween cmp deep facts store_of with_store lists keeps job source next came rest =
     IsJob cmp deep facts store_of with_store lists keeps job.last.items job.cursor job.selection job.outputs source next came rest

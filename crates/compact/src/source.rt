@@ -2,11 +2,12 @@
 
 ghost use Rattle.std.specs.Prelude.{◌≡◌};
 
-/// A source of cursors that has a store: a store beside which caches are kept, which whoever writes new files needn't
-/// know.
+/// A source of cursors that has a store, and may keep more beside it, as caches: whoever writes new files is lent the store
+/// alone, and leaves the rest.
 pub trait HasStore<S> {
     ghost use Rattle.std.specs.Borrow.{sem, Lends};
 
+    /// The store that the source has.
     ghost store_of: { Self → S };
 
     /// The source with another store, and all else as it is.
@@ -17,5 +18,6 @@ pub trait HasStore<S> {
         ensures* lends { sem 𝓛 (Lends Self.row S.row self.entry result (with_store self.entry.now)) }
         ensures value { result.now ≡ store_of self.old };
 
+    /// Another store is the one that it has then.
     ghost replaced: { (source : Self) (store : S) → store_of (with_store source store) ≡ store };
 }
