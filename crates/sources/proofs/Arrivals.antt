@@ -1,33 +1,20 @@
 -- Where the moves of a cursor over a table lead.
-use Rattle.std.proofs.Common.{◌≡◌, ◌<◌, ◌≤◌, ◌+◌, ◌-◌, ◌++◌, ℕ, zero, suc, Bool, true, false, cond, nat_lt, List, [], ◌∷◌, Option, Some, None, length, take, drop, get_or, IsTrue, refl, sym, ap, ◌∙◌, subst, arith, inl, inr}
-use Rattle.std.specs.Cmp.{IsTotalOrder}
-use Rattle.std.specs.List.{slice_get, AllByRecursion}
+use Rattle.std.proofs.Common.{◌≡◌, ◌<◌, ℕ, suc, cond, nat_lt, List, Option, Some, None, length, IsTrue, refl, ap, ◌∙◌, subst, arith}
 use Rattle.std.specs.Option.{option_and_then}
-use Rattle.std.proofs.lemmas.Bool.{cases_lt}
-use Rattle.std.proofs.lemmas.List.{length-append}
-use Rattle.std.proofs.lemmas.Option.{slice_get_within}
 use Rattle.block.specs.Places.{Placed}
 use Rattle.coding.specs.declared.error.DbError.{DbError}
 use Rattle.coding.specs.declared.error.DbError.TheVariants.{OutOfMemory, Io, Corrupt, Unsupported}
 use Rattle.cursor.specs.Moves.{Refuses}
-use Rattle.cursor.specs.Places.{Cmp, Listed, first_from, index_before, index_behind, is_below, to_first, to_key, to_last, to_next, to_prev, within}
-use Rattle.cursor.proofs.Comparing.{below_is}
-use Rattle.cursor.proofs.Singles.{before_inside, leading_at, pairs_length, within_inside}
-use Rattle.ikey.specs.Below.{IsBelowInternal}
-use Rattle.ikey.specs.Entries.{InternalEntry, Pair}
-use Rattle.ikey.specs.Keys.{Key, IsKey}
+use Rattle.cursor.specs.Places.{Cmp, Listed, index_before, index_behind, to_first, to_last, to_next, to_prev, within}
+use Rattle.cursor.proofs.Singles.{before_inside, pairs_length, within_inside}
+use Rattle.ikey.specs.Entries.{InternalEntry}
 use Rattle.sources.specs.declared.in_block.InBlock.{InBlock}
 use Rattle.sources.specs.TablePlaces.{IsPlacedIn, ListsTable, StopsAt, joined, pairs_before}
-use Rattle.sources.specs.Tables.{Seen, Carries, HasData}
+use Rattle.sources.specs.Tables.{Seen, Carries}
 use Rattle.sources.proofs.Carrying.{still_data}
-use Rattle.sources.proofs.Entering.{pair_at}
-use Rattle.sources.proofs.Placing.{before_all, before_zero, data_length, some_at}
+use Rattle.sources.proofs.Placing.{before_all, before_zero}
 use Rattle.sources.proofs.Stopping.{stops_there}
-use Rattle.table.proofs.Seeks.{AllBelow, blocks_below, front_keys}
-use Rattle.table.specs.declared.handle.Place.{Place}
-use Rattle.table.specs.Frame.{Frame, IsFrame}
-use Rattle.table.specs.Refusals.{IsFirstPlace}
-use Rattle.table.specs.Table.{AreBounds, AreData, ArePairs}
+use Rattle.table.specs.Frame.{Frame}
 
 -- ---- refusals
 

@@ -1,9 +1,9 @@
 -- Calls that only read tables, one after another.
-use Rattle.std.proofs.Common.{◌≡◌, ◌<◌, ◌≤◌, ℕ, List, IsTrue, refl, sym, ap, ◌∙◌, subst, arith}
+use Rattle.std.proofs.Common.{◌≡◌, ℕ, List, IsTrue, refl, ap, ◌∙◌, arith}
 use Rattle.cache.specs.Tables.{table_at}
 use Rattle.cursor.specs.Places.{Cmp}
 use Rattle.ikey.specs.Entries.{Pair}
-use Rattle.sources.specs.Tables.{Seen, IsSound, Carries, HasTable, HasData}
+use Rattle.sources.specs.Tables.{Seen, Carries, HasTable, HasData}
 use Rattle.store.specs.Files.{Facts}
 use Rattle.table.specs.Frame.{Frame}
 use Rattle.table.specs.Reading.{Reads}

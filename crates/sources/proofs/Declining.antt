@@ -1,12 +1,12 @@
 -- Why a look-up in a table is refused, and what it reads.
-use Rattle.std.proofs.Common.{◌≡◌, ◌<◌, ◌≤◌, ℕ, List, length, IsTrue, refl, sym, ap, ◌∙◌, subst, arith, inl, inr}
+use Rattle.std.proofs.Common.{◌≤◌, ℕ, List, length, IsTrue, subst, arith, inl, inr}
 use Rattle.cache.specs.Tables.{RefusesTable}
 use Rattle.coding.specs.declared.error.DbError.{DbError}
 use Rattle.coding.specs.declared.error.DbError.TheVariants.{OutOfMemory, Io, Corrupt, Unsupported}
 use Rattle.cursor.specs.Moves.{Refuses}
 use Rattle.cursor.specs.Places.{Cmp}
 use Rattle.ikey.specs.Entries.{InternalEntry}
-use Rattle.sources.specs.Tables.{Seen, Carries, HasData, HasTable, IsOpen, SaysOf}
+use Rattle.sources.specs.Tables.{Seen, Carries, HasData, HasTable, IsOpen}
 use Rattle.sources.specs.Values.{IsNoTable, IsPastLimit}
 use Rattle.sources.proofs.Carrying.{still_has}
 use Rattle.sources.proofs.Placing.{data_length}

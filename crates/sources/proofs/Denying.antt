@@ -1,11 +1,7 @@
 -- That a table's filter and index rule out a user key.
-use Rattle.std.proofs.Common.{◌≡◌, ◌<◌, ◌≤◌, ◌+◌, ◌-◌, ◌++◌, ℕ, zero, suc, List, [], ◌∷◌, Option, Some, None, length, get_or, map, refl, sym, ap, ◌∙◌, subst, arith, inl, inr}
+use Rattle.std.proofs.Common.{◌≡◌, ◌≤◌, ◌+◌, ◌-◌, ◌++◌, ℕ, zero, suc, List, [], ◌∷◌, Option, Some, None, length, sym, ap, ◌∙◌, subst, arith}
 use Rattle.std.specs.Cmp.{IsTotalOrder}
-use Rattle.std.specs.FinMap.{IsAntisymmetric}
 use Rattle.std.specs.List.{slice_get, AllByRecursion}
-use Rattle.std.specs.declared.cmp.Ordering.TheVariants.{Less}
-use Rattle.std.proofs.lemmas.Bool.{cases_lt}
-use Rattle.std.proofs.lemmas.Option.{slice_get_within, get_or_from_slice_get}
 use Rattle.block.specs.Block.{AreAbove}
 use Rattle.cursor.specs.Places.{Cmp}
 use Rattle.filter.specs.Hash.{hash_of}
@@ -15,8 +11,8 @@ use Rattle.ikey.specs.Keys.{Key, IsKey}
 use Rattle.sources.specs.TablePlaces.{joined, pairs_before}
 use Rattle.sources.proofs.Placing.{behind, before_zero}
 use Rattle.table.specs.declared.handle.Place.{Place}
-use Rattle.table.specs.Frame.{ArePlaces, TableAdmits, TableDenies}
-use Rattle.table.specs.Table.{AdmitsAll, AreAdmitted, AreBounds, IsBound}
+use Rattle.table.specs.Frame.{ArePlaces, TableAdmits}
+use Rattle.table.specs.Table.{AreAdmitted, AreBounds, IsBound}
 
 all_at : (P : Pair → Type 0) (pairs : List Pair) (n : ℕ) (pair : Pair) → AllByRecursion P pairs → slice_get pairs n ≡ Some pair → P pair
 all_at P [] n pair h e = absurd (let bad : None ≡ Some pair = e in cc)

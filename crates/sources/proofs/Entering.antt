@@ -1,10 +1,8 @@
 -- The entries of a table, and the pairs of its blocks.
-use Rattle.std.proofs.Common.{◌≡◌, ◌<◌, ◌≤◌, ◌+◌, ℕ, zero, suc, List, [], ◌∷◌, Option, Some, None, length, refl, sym, ap, ◌∙◌, subst, arith, inl, inr}
+use Rattle.std.proofs.Common.{◌≡◌, ◌+◌, ℕ, zero, suc, List, [], ◌∷◌, Option, Some, None, sym, ap, ◌∙◌, subst}
 use Rattle.std.specs.List.{slice_get}
-use Rattle.std.proofs.lemmas.Option.{slice_get_within}
 use Rattle.block.specs.Places.{Placed}
 use Rattle.cursor.specs.Places.{Cmp, Listed}
-use Rattle.cursor.proofs.Singles.{pairs_length}
 use Rattle.ikey.specs.Entries.{InternalEntry, Pair, IsPair}
 use Rattle.sources.specs.declared.in_block.InBlock.{InBlock}
 use Rattle.sources.specs.TablePlaces.{ListsTable, joined, pairs_before}

@@ -1,5 +1,5 @@
 -- A data block of a table, by its index.
-use Rattle.std.proofs.Common.{◌≡◌, ◌<◌, ◌≤◌, ◌^◌, ℕ, zero, suc, List, [], ◌∷◌, Option, Some, None, length, map, IsTrue, refl, sym, ap, ◌∙◌, subst, arith, inl, inr}
+use Rattle.std.proofs.Common.{◌≡◌, ◌<◌, ◌≤◌, ◌^◌, ℕ, zero, suc, List, [], ◌∷◌, Some, None, length, map, IsTrue, sym, ap, ◌∙◌, subst, arith, inl, inr}
 use Rattle.std.specs.List.{slice_get}
 use Rattle.cache.specs.Tables.{RefusesTable}
 use Rattle.coding.specs.declared.error.DbError.{DbError}
@@ -9,10 +9,9 @@ use Rattle.cursor.specs.Places.{Cmp}
 use Rattle.ikey.specs.Entries.{Pair}
 use Rattle.sources.specs.TablePlaces.{damage_of}
 use Rattle.sources.specs.Tables.{Seen, HasTable, HasData, SaysOf, IsBlockDamaged, IsBlockUnsupported}
-use Rattle.sources.proofs.Placing.{some_at, data_at, data_length}
+use Rattle.sources.proofs.Placing.{data_at, data_length}
 use Rattle.table.specs.Frame.{Frame, AnyLong, handles}
 use Rattle.table.specs.Table.{HasBlock}
-use Rattle.table.specs.declared.handle.Handle.{Handle}
 use Rattle.table.specs.declared.handle.Place.{Place}
 use Rattle.table.proofs.DataBlocks.{one_data}
 use Rattle.table.proofs.StoredBlocks.{only_long}

@@ -1,15 +1,15 @@
 -- What the first entry that isn't below a user key at a sequence says of that key.
-use Rattle.std.proofs.Common.{◌≡◌, ◌<◌, ◌≤◌, ℕ, zero, suc, true, false, List, [], ◌∷◌, Option, Some, None, length, map, refl, sym, ap, ◌∙◌, subst, arith, inl, inr, ◌⊎◌}
+use Rattle.std.proofs.Common.{◌≡◌, ◌<◌, ◌≤◌, ℕ, List, [], ◌∷◌, Option, Some, None, length, map, refl, sym, ap, ◌∙◌, subst, arith, inl, inr}
 use Rattle.std.specs.Cmp.{IsTotalOrder, tied_itself, nat_cmp_is}
 use Rattle.std.specs.FinMap.{IsAntisymmetric}
 use Rattle.std.specs.List.{slice_get}
 use Rattle.std.specs.Ordering.{nat_cmp, ordering_reverse, ordering_then}
 use Rattle.std.specs.declared.cmp.Ordering.{Ordering}
-use Rattle.std.specs.declared.cmp.Ordering.TheVariants.{Less, Equal, Greater}
+use Rattle.std.specs.declared.cmp.Ordering.TheVariants.{Less}
 use Rattle.std.proofs.lemmas.Bool.{cases_lt}
 use Rattle.std.proofs.lemmas.Option.{slice_get_within}
 use Rattle.cursor.specs.Places.{Cmp, Rises}
-use Rattle.cursor.proofs.Befores.{before_cases, get_among, itself, later_older, rises_get, same_get}
+use Rattle.cursor.proofs.Befores.{before_cases, get_among, later_older, rises_get, same_get}
 use Rattle.cursor.proofs.Fronts.{among_get}
 use Rattle.cursor.proofs.Onwards.{index_cases}
 use Rattle.ikey.specs.declared.entry.Entry.{Entry}
@@ -108,17 +108,17 @@ module _ (cmp : Cmp) (total : IsTotalOrder cmp) (exact : IsAntisymmetric cmp) wh
           -- the entry is of a higher user key
           other_there : (entry.key.user ≡ user → ⊥) → IsUnseen (map entry_of entries) sequence user
           other_there other = unseen (λ k x at same seen.
-            let le = behind k x at same seen in
-            elim (index_cases n k) [
-              | inl l ↦ elim (before_cases cmp total exact entry.key x.key (rises_get cmp entries n k entry x rises l there at)) [
-                | inl less ↦ stop entry there (below_by_user entry.key h.key (subst (λ (a : List ℕ). cmp entry.key.user a ≡ Less) (same ∙ sym h.user_is) less))
-                | inr s ↦ other (s.0 ∙ same)
-              ]
-              | inr (inl s) ↦
-                  let is : x ≡ entry = same_get entries n x entry (subst (λ (i : ℕ). slice_get entries i ≡ Some x) (sym s) at) there in
-                  other (sym (ap (λ (y : InternalEntry). y.key.user) is) ∙ same)
-              | inr (inr g) ↦ absurd (omega (arith, le, g))
-            ])
+              let le = behind k x at same seen in
+              elim (index_cases n k) [
+                | inl l ↦ elim (before_cases cmp total exact entry.key x.key (rises_get cmp entries n k entry x rises l there at)) [
+                  | inl less ↦ stop entry there (below_by_user entry.key h.key (subst (λ (a : List ℕ). cmp entry.key.user a ≡ Less) (same ∙ sym h.user_is) less))
+                  | inr s ↦ other (s.0 ∙ same)
+                ]
+                | inr (inl s) ↦
+                    let is : x ≡ entry = same_get entries n x entry (subst (λ (i : ℕ). slice_get entries i ≡ Some x) (sym s) at) there in
+                    other (sym (ap (λ (y : InternalEntry). y.key.user) is) ∙ same)
+                | inr (inr g) ↦ absurd (omega (arith, le, g))
+              ])
 
           pub found_there : (value : Option (Option (List ℕ))) → SaysOfEntry entry user value → IsLookUp (map entry_of entries) sequence user value
           found_there None says = other_there says

@@ -1,5 +1,5 @@
 -- Searches over the data blocks of a table, while a source is read.
-use Rattle.std.proofs.Common.{◌≡◌, ◌<◌, ◌≤◌, ◌+◌, ◌-◌, ℕ, zero, suc, Bool, true, false, List, [], ◌∷◌, Option, Some, None, length, is_some, IsTrue, refl, sym, ap, ◌∙◌, subst, arith, inl, inr}
+use Rattle.std.proofs.Common.{◌≡◌, ◌<◌, ◌≤◌, ◌+◌, ◌-◌, ℕ, suc, true, false, List, [], ◌∷◌, Option, Some, None, length, is_some, IsTrue, refl, sym, ap, ◌∙◌, subst, arith, inl, inr}
 use Rattle.std.specs.List.{slice_get}
 use Rattle.std.proofs.lemmas.Bool.{cases_lt}
 use Rattle.block.specs.Places.{Placed, within, last_of}
@@ -9,7 +9,6 @@ use Rattle.coding.specs.declared.error.DbError.TheVariants.{OutOfMemory, Io, Cor
 use Rattle.cursor.specs.Moves.{Refuses}
 use Rattle.cursor.specs.Places.{Cmp, index_before}
 use Rattle.cursor.specs.Places.{within as within_list}
-use Rattle.cursor.proofs.Leading.{within_cases}
 use Rattle.ikey.specs.Entries.{Pair}
 use Rattle.sources.specs.TablePlaces.{IsInBlock, StopsAt, joined, pairs_before}
 use Rattle.sources.specs.Tables.{Seen, Carries, HasData}

@@ -1,6 +1,5 @@
 -- That what is kept stays right, and what is answered of tables that the store has.
-use Rattle.std.proofs.Common.{◌≡◌, ◌<◌, ◌⊎◌, ℕ, List, Option, Some, Result, Ok, Err, IfOk, IfErr, IsTrue, Contains, refl, sym, ap, ◌∙◌, subst, arith, inl, inr}
-use Rattle.std.specs.FinMap.{get}
+use Rattle.std.proofs.Common.{◌≡◌, ℕ, List, Option, Result, Ok, Err, IfOk, IfErr, IsTrue, sym, ap, ◌∙◌, subst, arith, inl, inr}
 use Rattle.cache.specs.Blocks.{KeptBlock}
 use Rattle.cache.specs.Holding.{HoldsBlocks, HoldsTables, IsBlockOf, IsContent, IsOpenOf}
 use Rattle.cache.specs.Tables.{KeptTable, RefusesTable, table_at}

@@ -1,5 +1,5 @@
 -- Where a seek over a table leads.
-use Rattle.std.proofs.Common.{◌≡◌, ◌<◌, ◌≤◌, ◌+◌, ◌-◌, ◌++◌, ℕ, zero, suc, Bool, true, false, List, [], ◌∷◌, Option, Some, None, length, take, drop, get_or, IsTrue, refl, sym, ap, ◌∙◌, subst, arith, append_assoc, inl, inr}
+use Rattle.std.proofs.Common.{◌≡◌, ◌<◌, ◌++◌, ℕ, zero, suc, true, false, List, [], ◌∷◌, Option, Some, None, length, drop, IsTrue, refl, sym, ap, ◌∙◌, subst, arith, append_assoc, inl, inr}
 use Rattle.std.specs.Cmp.{IsTotalOrder}
 use Rattle.std.specs.List.{slice_get, AllByRecursion}
 use Rattle.std.proofs.lemmas.Bool.{cases_lt}
@@ -18,8 +18,7 @@ use Rattle.sources.specs.Tables.{Seen, Carries}
 use Rattle.sources.proofs.Arrivals.{lists_moved, same_within}
 use Rattle.sources.proofs.Entering.{pair_at}
 use Rattle.sources.proofs.Placing.{before_zero, data_length, in_front, some_at}
-use Rattle.table.proofs.Seeks.{AllBelow, blocks_below, front_keys}
-use Rattle.table.specs.declared.handle.Place.{Place}
+use Rattle.table.proofs.Seeks.{blocks_below, front_keys}
 use Rattle.table.specs.Frame.{Frame, IsFrame}
 use Rattle.table.specs.Refusals.{IsFirstPlace}
 use Rattle.table.specs.Table.{AreBounds, AreData, ArePairs}

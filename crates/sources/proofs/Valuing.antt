@@ -1,5 +1,5 @@
 -- What a search over a table's blocks says of a user key.
-use Rattle.std.proofs.Common.{◌≡◌, ◌<◌, ◌≤◌, ◌+◌, ◌-◌, ℕ, zero, suc, List, [], ◌∷◌, Option, Some, None, length, get_or, map, refl, sym, ap, ◌∙◌, subst, arith, inl, inr}
+use Rattle.std.proofs.Common.{◌≡◌, ◌<◌, ◌+◌, ◌-◌, ℕ, suc, List, Option, Some, None, map, sym, ap, ◌∙◌, subst, arith, inl, inr}
 use Rattle.std.specs.Cmp.{IsTotalOrder}
 use Rattle.std.specs.FinMap.{IsAntisymmetric}
 use Rattle.std.specs.List.{slice_get}
@@ -17,7 +17,7 @@ use Rattle.ikey.specs.Entries.{InternalEntry, Pair, IsPair, entry_of}
 use Rattle.ikey.specs.Keys.{Key, IsKey, IsFirstKey, key_cmp}
 use Rattle.ikey.specs.Views.{IsUnseen}
 use Rattle.sources.specs.declared.in_block.InBlock.{InBlock}
-use Rattle.sources.specs.TablePlaces.{IsInBlock, IsPlacedIn, StopsAt, joined, pairs_before}
+use Rattle.sources.specs.TablePlaces.{IsInBlock, StopsAt, joined, pairs_before}
 use Rattle.sources.specs.Values.{DeniesKey, IsLookUp, SaysOfEntry}
 use Rattle.sources.proofs.Denying.{above_bound, admitted_at, bounds_rise}
 use Rattle.sources.proofs.Entering.{pair_at}
@@ -61,30 +61,30 @@ module _ (cmp : Cmp) (total : IsTotalOrder cmp) (exact : IsAntisymmetric cmp) (f
 
   pub denied_unseen : DeniesKey frame start user → IsUnseen (map entry_of entries) sequence user
   denied_unseen d = unseen cmp total exact user sequence target h entries rising (λ k x at same seen.
-    let p = pair_of_entry k x at in
-    let b = data_at cmp file frame.places filled.blocks start d.place filled.data_is d.place_is in
-    let more = before_more filled.blocks start b.0 b.1 in
-    elim (cases_lt k (pairs_before filled.blocks start)) [
-      | inl l ↦ seen_not_below cmp total exact user sequence target h x.key same seen (front_below k x l at)
-      | inr ge ↦ elim (cases_lt k (pairs_before filled.blocks (suc start))) [
-        | inl l ↦
-            let inside = here (λ (key : List ℕ). ⊥) filled.blocks start b.0 k p.0 b.1 ge (omega (arith, l, more)) p.1 in
-            let admits = admitted_at frame.filter frame.places filled.blocks start d.place b.0 filled.admitted d.place_is b.1 (k - pairs_before filled.blocks start) p.0 x.key inside p.2.key in
-            denied frame.filter d.place.handle.offset (hash_of user) d.denied (subst (λ (a : List ℕ). TableAdmits frame.filter d.place.handle.offset (hash_of a)) same admits)
-        | inr over ↦
-            let rise = bounds_rise cmp total is.index_is.1 frame.places is.index_is.3.2.rises is.index_is.4 in
-            let above = above_bound cmp total frame.places filled.blocks start d.place filled.bounds rise d.place_is k p.0 over p.1 in
-            let less = to_less cmp d.place.key p.0.key d.bound x.key above d.bound_is p.2.key in
-            elim (before_cases cmp total exact d.bound x.key less) [
-              | inl lower ↦
-                  let under = below_by_user cmp total exact d.bound h.key (subst (λ (a : List ℕ). cmp d.bound.user a ≡ Less) (same ∙ sym h.user_is) lower) in
-                  let got = get_or_from_slice_get frame.places start d.place d.place d.place_is in
-                  first.found d.place (slice_get_within frame.places start d.place d.place_is)
-                  (subst (λ q. IsBelowInternal cmp q.key target) (sym got) (from_less cmp d.place.key target d.bound h.key under d.bound_is h.encoded))
-              | inr s ↦ d.other (s.0 ∙ same)
-            ]
-      ]
-    ])
+      let p = pair_of_entry k x at in
+      let b = data_at cmp file frame.places filled.blocks start d.place filled.data_is d.place_is in
+      let more = before_more filled.blocks start b.0 b.1 in
+      elim (cases_lt k (pairs_before filled.blocks start)) [
+        | inl l ↦ seen_not_below cmp total exact user sequence target h x.key same seen (front_below k x l at)
+        | inr ge ↦ elim (cases_lt k (pairs_before filled.blocks (suc start))) [
+          | inl l ↦
+              let inside = here (λ (key : List ℕ). ⊥) filled.blocks start b.0 k p.0 b.1 ge (omega (arith, l, more)) p.1 in
+              let admits = admitted_at frame.filter frame.places filled.blocks start d.place b.0 filled.admitted d.place_is b.1 (k - pairs_before filled.blocks start) p.0 x.key inside p.2.key in
+              denied frame.filter d.place.handle.offset (hash_of user) d.denied (subst (λ (a : List ℕ). TableAdmits frame.filter d.place.handle.offset (hash_of a)) same admits)
+          | inr over ↦
+              let rise = bounds_rise cmp total is.index_is.1 frame.places is.index_is.3.2.rises is.index_is.4 in
+              let above = above_bound cmp total frame.places filled.blocks start d.place filled.bounds rise d.place_is k p.0 over p.1 in
+              let less = to_less cmp d.place.key p.0.key d.bound x.key above d.bound_is p.2.key in
+              elim (before_cases cmp total exact d.bound x.key less) [
+                | inl lower ↦
+                    let under = below_by_user cmp total exact d.bound h.key (subst (λ (a : List ℕ). cmp d.bound.user a ≡ Less) (same ∙ sym h.user_is) lower) in
+                    let got = get_or_from_slice_get frame.places start d.place d.place d.place_is in
+                    first.found d.place (slice_get_within frame.places start d.place d.place_is)
+                    (subst (λ q. IsBelowInternal cmp q.key target) (sym got) (from_less cmp d.place.key target d.bound h.key under d.bound_is h.encoded))
+                | inr s ↦ d.other (s.0 ∙ same)
+              ]
+        ]
+      ])
 
   module _ (n : ℕ) (stops : StopsAt (λ (key : List ℕ). IsBelowInternal cmp key target) (joined filled.blocks) (pairs_before filled.blocks start) n) where
     all_front : (k : ℕ) (x : InternalEntry) → k < n → slice_get entries k ≡ Some x → key_cmp cmp x.key h.key ≡ Less

@@ -1,11 +1,11 @@
 -- Laws of cursors over tables.
-use Rattle.std.specs.Prelude.{◌≡◌, ℕ, true, false, List, Option, Some, None, is_some}
+use Rattle.std.specs.Prelude.{◌≡◌, ℕ, List, Option, Some, None, is_some}
 use Rattle.std.proofs.Common.{refl, sym, ap, ◌∙◌}
 use Rattle.block.specs.Places.{Placed}
 use Rattle.cursor.specs.Places.{Cmp, Listed}
 use Rattle.ikey.specs.Entries.{Pair}
 use Rattle.sources.specs.declared.in_block.InBlock.{InBlock}
-use Rattle.sources.specs.Tables.{Seen, HasTable, HasData}
+use Rattle.sources.specs.Tables.{Seen}
 use Rattle.sources.specs.TablePlaces.{IsPlacedIn, ListsTable, KeepsTable, block_stands}
 use Rattle.table.specs.Frame.{Frame}
 

@@ -1,7 +1,6 @@
 -- Where a cursor stands in the data blocks of a table.
 use Rattle.std.specs.Prelude.{◌≡◌, ◌<◌, ◌≤◌, ◌+◌, ℕ, zero, suc, Bool, false, List, [], ◌∷◌, Option, Some, None, length, slice_get, is_some, option_and_then}
 use Rattle.std.specs.List.{flat_map}
-use Rattle.std.specs.Borrow.{Bor}
 use Rattle.block.specs.Places.{Placed}
 use Rattle.cache.specs.Tables.{table_at}
 use Rattle.coding.specs.declared.error.DbError.{DbError}
@@ -10,12 +9,11 @@ use Rattle.coding.specs.declared.error.FileKind.TheVariants as file_kind
 use Rattle.coding.specs.declared.error.Damage.TheVariants as damage
 use Rattle.cursor.specs.Places.{Cmp, Listed, Rises, within, index_before, index_behind}
 use Rattle.ikey.specs.Below.{IsBelowInternal}
-use Rattle.ikey.specs.Entries.{InternalEntry, Pair}
+use Rattle.ikey.specs.Entries.{Pair}
 use Rattle.sources.specs.Tables.{Seen, IsSound, HasData}
 use Rattle.sources.specs.declared.table_search.Aim.{Aim}
 use Rattle.sources.specs.declared.table_search.Aim.TheVariants.{First, From}
 use Rattle.sources.specs.declared.in_block.InBlock.{InBlock}
-use Rattle.store.specs.Files.{Facts}
 use Rattle.table.specs.Frame.{Frame}
 use Rattle.table.specs.Table.{AreBounds, ArePairs}
 

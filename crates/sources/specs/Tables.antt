@@ -1,5 +1,5 @@
 -- A store whose tables are read through caches.
-use Rattle.std.specs.Prelude.{◌≡◌, ◌⊎◌, ℕ, List, Option, Some, [], IsTrue}
+use Rattle.std.specs.Prelude.{◌≡◌, ◌⊎◌, ℕ, List, Some, [], IsTrue, Contains}
 use Rattle.cache.specs.Blocks.{BlockCache, KeptBlock}
 use Rattle.cache.specs.Holding.{HoldsBlocks, HoldsTables}
 use Rattle.cache.specs.Tables.{TableCache, KeptTable, table_at}
@@ -7,7 +7,7 @@ use Rattle.cursor.specs.Places.{Cmp}
 use Rattle.ikey.specs.Entries.{Pair}
 use Rattle.store.specs.Files.{Facts}
 use Rattle.table.specs.Frame.{Frame, IsFrame}
-use Rattle.table.specs.Reading.{Reads}
+use Rattle.table.specs.Reading.{Reads, HasFile}
 use Rattle.table.specs.Refusals.{IsDamaged, IsUnsupported, IsFrameDamaged, IsFrameUnsupported}
 use Rattle.table.specs.Table.{AreData}
 use Rattle.table.specs.declared.handle.Handle.{Handle}
@@ -64,3 +64,11 @@ pub record HasData (cmp : Cmp) (source : Seen) (number : ℕ) (frame : Frame) (g
 -- of nothing that is kept, all is right
 abbrev pub EmptyIsSound : Type 0
 EmptyIsSound = (cmp : Cmp) (facts : Facts) → IsSound cmp (record { facts = facts; tables = []; blocks = [] })
+
+-- What is kept stays right while files change, where those of the tables of which something is kept stay or go.
+abbrev pub SoundLasts : Type 0
+SoundLasts = (cmp : Cmp) (source : Seen) (facts : Facts)
+    → ((kept : KeptTable) (file : List ℕ) → Contains source.tables kept → table_at facts.files kept.number ≡ Some file
+    → (table_at source.facts.files kept.number ≡ Some file) × (HasFile source.facts kept.table.name file → HasFile facts kept.table.name file))
+    → ((kept : KeptBlock) (file : List ℕ) → Contains source.blocks kept → table_at facts.files kept.file ≡ Some file → table_at source.facts.files kept.file ≡ Some file)
+    → IsSound cmp source → IsSound cmp (record { facts = facts; tables = source.tables; blocks = source.blocks })

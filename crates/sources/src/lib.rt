@@ -13,7 +13,7 @@ pub use memory_cursor::MemoryCursor;
 pub use memory_laws::{kept_for_all_is_same, later_inserts_are_kept, seen_entries_have_the_view};
 pub use newest::table_value;
 pub use table_cursor::TableCursor;
-pub use tables::{Tables, empty_is_sound};
+pub use tables::{Tables, empty_is_sound, sound_lasts};
 
 #[cfg(test)]
 mod table_tests;

@@ -1,6 +1,6 @@
 //! A store whose tables are read through caches (LevelDB's db/table_cache.cc).
 
-ghost use Rattle.sources.specs.Tables.{EmptyIsSound};
+ghost use Rattle.sources.specs.Tables.{EmptyIsSound, SoundLasts};
 
 use block::Block;
 use cache::{BlockCache, TableCache};
@@ -66,4 +66,9 @@ impl<K: KeyOrder, S: Store> Tables<K, S> {
 /// Where nothing is kept, all that is kept is right.
 pub fn empty_is_sound()
     ensures { EmptyIsSound }
+{}
+
+/// What is kept stays right while tables are written under numbers of which nothing is kept, and while tables are removed.
+pub fn sound_lasts()
+    ensures { SoundLasts }
 {}

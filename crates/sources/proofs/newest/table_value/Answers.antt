@@ -1,4 +1,3 @@
-use Rattle.std.proofs.Common.{◌≡◌, List, ℕ, Option, Some, subst}
 use Rattle.std.proofs.lemmas.Result.{err_from_is_err_and}
 use Rattle.sources.specs.Tables.{seen}
 use Rattle.sources.proofs.Declining.{data_of, filled_of, not_opened, not_searched, starts_inside}

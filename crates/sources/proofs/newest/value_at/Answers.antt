@@ -1,4 +1,4 @@
-use Rattle.std.proofs.Common.{◌≡◌, List, ℕ, Some, None, sym, ap, subst, ◌∙◌}
+use Rattle.std.proofs.Common.{List, ℕ, Some, sym, ap, subst, ◌∙◌}
 use Rattle.ikey.specs.Below.{same_key}
 use Rattle.ikey.specs.Entries.{value_of}
 use Rattle.ikey.specs.KeyViews.{key_of}

@@ -1,7 +1,6 @@
-use Rattle.std.proofs.Common.{List, ℕ, Option, Some, sym, ap, subst, ◌∙◌}
+use Rattle.std.proofs.Common.{sym, subst, ◌∙◌}
 use Rattle.std.proofs.lemmas.Result.{err_from_is_err_and}
 use Rattle.block.specs.Places.{Placed}
-use Rattle.ikey.specs.Entries.{Pair}
 use Rattle.sources.specs.TablePlaces.{IsInBlock}
 use Rattle.sources.proofs.Stepping.{stepped_back, stands_first}
 use Rattle.sources.proofs.table_cursor.step_back.Goals as goal

@@ -1,13 +1,10 @@
-use Rattle.std.proofs.Common.{◌≡◌, ◌<◌, ◌≤◌, List, Some, length, nat_lt, true, false, refl, sym, ap, ◌∙◌, subst, arith, inl, inr}
+use Rattle.std.proofs.Common.{◌≡◌, ◌≤◌, List, length, nat_lt, true, false, refl, sym, ap, ◌∙◌, subst, inl, inr}
 use Rattle.std.specs.List.{slice_get}
 use Rattle.std.proofs.lemmas.Bool.{cases_lt, lt-ltb, ltb-true}
 use Rattle.std.proofs.lemmas.Option.{slice_get_read}
-use Rattle.cursor.specs.Moves.{Refuses}
 use Rattle.sources.specs.Tables.{seen}
-use Rattle.sources.specs.TablePlaces.{damage_of}
-use Rattle.table.specs.Frame.{AnyLong, handles}
 use Rattle.table.specs.declared.handle.Place.{Place}
-use Rattle.sources.proofs.Fetching.{LacksBlock, found_block, long_one, no_such_block, refused_block}
+use Rattle.sources.proofs.Fetching.{found_block, long_one, no_such_block, refused_block}
 use Rattle.sources.proofs.table_search.read_index.Goals as goal
 
 pub returns-in_default-clause-refused : goal.returns-in_default-clause-refused

@@ -1,4 +1,3 @@
-use Rattle.std.proofs.Common.{arith, sym, subst}
 use Rattle.sources.specs.Tables.{seen}
 use Rattle.sources.proofs.Arrivals.{next_here, next_moved}
 use Rattle.sources.proofs.Carrying.{carries_itself}

@@ -1,4 +1,3 @@
-use Rattle.std.proofs.Common.{arith, sym, subst}
 use Rattle.sources.specs.Tables.{seen}
 use Rattle.sources.proofs.Arrivals.{prev_moved}
 use Rattle.sources.proofs.table_cursor.TableCursorCursorTables.prev.Goals as goal

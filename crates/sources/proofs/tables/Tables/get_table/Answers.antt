@@ -1,4 +1,3 @@
-use Rattle.std.proofs.Common.{ap}
 use Rattle.cache.specs.Tables.{table_at}
 use Rattle.sources.specs.Tables.{seen}
 use Rattle.sources.proofs.Sounding.{sound_opened, says_open}
