@@ -142,12 +142,15 @@ module _ {K : Type 0} {g : _} (cmp : Order) (motion : Motion) (before after : Wr
     inserts = inserts;
     last = last;
     placeless = not_lacking (lacks_place old.stands motion) _ placed;
-    moves = λ none m h. (refl, record {
-      bound = bound_on (Ok tt) w back.cursor cursor h.bound;
-      entries = (moved m h).0;
-      view = subst (λ (n : ℕ). IsViewList cmp (moved m h).0 n (walked_of m).pairs) (sym sequence) (moved m h).1;
-      placed = again m h;
-    });
+    moves = λ none m h. (
+      refl,
+      record {
+        bound = bound_on (Ok tt) w back.cursor cursor h.bound;
+        entries = (moved m h).0;
+        view = subst (λ (n : ℕ). IsViewList cmp (moved m h).0 n (walked_of m).pairs) (sym sequence) (moved m h).1;
+        placed = again m h;
+      },
+    );
     stayed = same_standing back.sequence old.sequence back.stands old.stands back.here.key.items old.here.key.items (sequence ∙ w.sequence) stands (key ∙ w.left);
     allowed = tt;
     placed = λ none. tt;

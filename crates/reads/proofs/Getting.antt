@@ -73,6 +73,7 @@ from_level level (p ∷ tables) placed i0 = by (p.level == level) (λ i. from_le
   where
     behind : Contains tables placed → Contains (p ∷ tables) placed
     behind i = (suc i.0, omega (arith, i.1), i.2)
+
     by : (b : Bool) → (Contains (tables_at level tables) placed → Contains tables placed) → Contains (cond b (p ∷ tables_at level tables) (tables_at level tables)) placed → Contains (p ∷ tables) placed
     by true rest i = elim (in_cons p (tables_at level tables) placed i) [
       | inl e ↦ (0, omega arith, e)
@@ -149,9 +150,9 @@ module _ (order : Order) (o : IsTotalOrder order.cmp) (exact : IsAntisymmetric o
       goes_on says = record {
         carries = carried;
         so_far = λ t contents has.
-        let before = carries.reads.faithful t in
-        let entries = (content_at contents has.1).0.entries in
-        step order old.facts.files tables contents key sequence target from place placed entries (is_step before contents has) (says t entries (has_now before contents has));
+            let before = carries.reads.faithful t in
+            let entries = (content_at contents has.1).0.entries in
+            step order old.facts.files tables contents key sequence target from place placed entries (is_step before contents has) (says t entries (has_now before contents has));
       }
 
       -- it is
