@@ -39,7 +39,6 @@ before_front (x ∷ front) back = omega (arith, before_front front back, length-
 
 module _ (cmp : Cmp) (total : IsTotalOrder cmp) (target file : List ℕ) (frame : Frame) (start : ℕ) (groups : List (List Pair)) (is : IsFrame cmp file frame) (first : IsFirstPlace cmp target frame.places start)
     (data_is : AreData cmp file frame.places groups) (bounds : AreBounds cmp frame.places groups) where
-
   -- the pairs of the blocks in front of the first that can have the target
   pub below_front : (k : ℕ) (pair : Pair) → k < pairs_before groups start → slice_get (joined groups) k ≡ Some pair → IsBelowInternal cmp pair.key target
   below_front k pair less e =
