@@ -111,10 +111,11 @@ none_behind order tables key from end e le place placed low is =
 -- So far it has read the tables at the places in front of this one, in which the key isn't seen.
 pub record IsSought (order : Order) (old now : Seen) (tables : List PlacedTable) (key : List ℕ) (sequence from : ℕ) : Type 0 where
   pub carries : Carries order.cmp old now
+  pub still : now.facts.failures ≡ old.facts.failures
   pub so_far : IsTrue now.facts.faithful → (contents : List TableContent) → HasTablesOf order old tables contents → IsSearchedUpTo contents key sequence from
 
 pub begins : (order : Order) (old : Seen) (tables : List PlacedTable) (key : List ℕ) (sequence : ℕ) → IsSought order old old tables key sequence 0
-begins order old tables key sequence = record { carries = carries_itself order.cmp old; so_far = λ t contents has i lt. absurd (omega (arith, lt)) }
+begins order old tables key sequence = record { carries = carries_itself order.cmp old; still = refl; so_far = λ t contents has i lt. absurd (omega (arith, lt)) }
 
 module _ (order : Order) (o : IsTotalOrder order.cmp) (exact : IsAntisymmetric order.cmp) (old now : Seen) (tables : List PlacedTable) (key : List ℕ) (sequence : ℕ) (target : List ℕ) (first : IsFirstKey key sequence target) (from : ℕ)
     (sought : IsSought order old now tables key sequence from) where
@@ -146,9 +147,10 @@ module _ (order : Order) (o : IsTotalOrder order.cmp) (exact : IsAntisymmetric o
       carried = carries_both order.cmp old now new sought.carries carries
 
       -- the key isn't seen in the table
-      pub goes_on : SaysOfTable order now new placed key sequence None → IsSought order old new tables key sequence (place + 1)
-      goes_on says = record {
+      pub goes_on : new.facts.failures ≡ now.facts.failures → SaysOfTable order now new placed key sequence None → IsSought order old new tables key sequence (place + 1)
+      goes_on stood says = record {
         carries = carried;
+        still = stood ∙ sought.still;
         so_far = λ t contents has.
             let before = carries.reads.faithful t in
             let entries = (content_at contents has.1).0.entries in
@@ -167,9 +169,9 @@ module _ (order : Order) (o : IsTotalOrder order.cmp) (exact : IsAntisymmetric o
       is_answer None e says = absurd (let t : true ≡ false = e in cc)
       is_answer (Some value) e says = is_found value says
 
-      pub is_none : (answer : Option (Option (List ℕ))) → false ≡ is_some answer → SaysOfTable order now new placed key sequence answer → IsSought order old new tables key sequence (place + 1)
-      is_none None e says = goes_on says
-      is_none (Some value) e says = absurd (let t : false ≡ true = e in cc)
+      pub is_none : (answer : Option (Option (List ℕ))) → new.facts.failures ≡ now.facts.failures → false ≡ is_some answer → SaysOfTable order now new placed key sequence answer → IsSought order old new tables key sequence (place + 1)
+      is_none None stood e says = goes_on stood says
+      is_none (Some value) stood e says = absurd (let t : false ≡ true = e in cc)
 
       -- the table isn't read
       pub not_read : (e : DbError) → Refuses e now.facts new.facts (HasNoEntries order now placed) (IsOnlyTooLong order now placed) → Refuses e old.facts new.facts (HasNoTablesOf order old tables) (IsOneTooLong order old tables)

@@ -4,7 +4,7 @@ ghost use Rattle.std.specs.Prelude.{◌≡◌, ◌<◌, ◌^◌, ◌+◌, length
 ghost use Rattle.cursor.specs.Moves.{Refuses};
 ghost use Rattle.ikey.specs.Orders.{order_of};
 ghost use Rattle.reads.specs.Gets.{HasNoEntries, HasNoTablesOf, IsOneTooLong, IsOnlyTooLong, SaysOfAll, SaysOfTable};
-ghost use Rattle.sources.specs.Tables.{Carries, seen};
+ghost use Rattle.sources.specs.Tables.{Carries, IsStill, seen};
 
 use coding::{Bytes, Damage, DbError, FileKind};
 use edits::{LEVELS, PlacedTable};
@@ -29,6 +29,7 @@ pub fn value_in_tables<K: KeyOrder, S: Store>(
     ensures carries { Carries K.cmp (seen (S.facts source.old.store) source.old.tables source.old.blocks) (seen (S.facts source.new.store) source.new.tables source.new.blocks) }
     ensures found { IfOk result (λ value. SaysOfAll (order_of K.name K.cmp) (seen (S.facts source.old.store) source.old.tables source.old.blocks) (seen (S.facts source.new.store) source.new.tables source.new.blocks)
         version.now.tables key.now sequence value) }
+    ensures still { IsStill (S.facts source.old.store) (S.facts source.new.store) result }
     ensures refused { IfErr result (λ e. Refuses e (S.facts source.old.store) (S.facts source.new.store)
         (HasNoTablesOf (order_of K.name K.cmp) (seen (S.facts source.old.store) source.old.tables source.old.blocks) version.now.tables)
         (IsOneTooLong (order_of K.name K.cmp) (seen (S.facts source.old.store) source.old.tables source.old.blocks) version.now.tables)) }
@@ -69,6 +70,7 @@ fn value_in_table<K: KeyOrder, S: Store>(
     ensures carries { Carries K.cmp (seen (S.facts source.old.store) source.old.tables source.old.blocks) (seen (S.facts source.new.store) source.new.tables source.new.blocks) }
     ensures found { IfOk result (λ value. SaysOfTable (order_of K.name K.cmp) (seen (S.facts source.old.store) source.old.tables source.old.blocks) (seen (S.facts source.new.store) source.new.tables source.new.blocks)
         placed.now key.now sequence value) }
+    ensures still { IsStill (S.facts source.old.store) (S.facts source.new.store) result }
     ensures refused { IfErr result (λ e. Refuses e (S.facts source.old.store) (S.facts source.new.store)
         (HasNoEntries (order_of K.name K.cmp) (seen (S.facts source.old.store) source.old.tables source.old.blocks) placed.now)
         (IsOnlyTooLong (order_of K.name K.cmp) (seen (S.facts source.old.store) source.old.tables source.old.blocks) placed.now)) }

@@ -8,6 +8,7 @@ pub mod Placing
 pub mod Stopping
 pub mod Sounding
 pub mod Fetching
+pub mod Standing
 pub mod Searching
 pub mod Stepping
 pub mod Entering

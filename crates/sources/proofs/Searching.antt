@@ -41,10 +41,11 @@ module _ (cmp : Cmp) (passed : List ℕ → Type 0) (old now : Seen) (number : �
   -- the blocks in front of this one are passed
   pub record IsSearching : Type 0 where
     pub carries : Carries cmp old now
+    pub still : now.facts.failures ≡ old.facts.failures
     pub passed_all : IsTrue now.facts.faithful → (groups : List (List Pair)) → HasData cmp old number frame groups → HasPassed passed groups start index
 
 pub searching_begins : (cmp : Cmp) (passed : List ℕ → Type 0) (old : Seen) (number : ℕ) (frame : Frame) (start : ℕ) → IsSearching cmp passed old old number frame start start
-searching_begins cmp passed old number frame start = record { carries = carries_itself cmp old; passed_all = λ t groups has. passed_none passed groups start }
+searching_begins cmp passed old number frame start = record { carries = carries_itself cmp old; still = refl; passed_all = λ t groups has. passed_none passed groups start }
 
 module _ (cmp : Cmp) (passed : List ℕ → Type 0) (old now new : Seen) (number : ℕ) (frame : Frame) (start index : ℕ) (s : IsSearching cmp passed old now number frame start index) (carries : Carries cmp now new)
     (pairs : List Pair) (found : IsTrue new.facts.faithful → (groups : List (List Pair)) → HasData cmp now number frame groups → slice_get groups index ≡ Some pairs)
@@ -52,9 +53,10 @@ module _ (cmp : Cmp) (passed : List ℕ → Type 0) (old now new : Seen) (number
   block_there : IsTrue new.facts.faithful → (groups : List (List Pair)) → HasData cmp old number frame groups → slice_get groups index ≡ Some pairs
   block_there t groups has = let m = carries.reads.faithful t in found t groups (still_data cmp old now number frame groups s.carries m has)
 
-  pub searching_on : is_some cursor.place ≡ false → IsSearching cmp passed old new number frame start (index + 1)
-  searching_on nowhere = record {
+  pub searching_on : is_some cursor.place ≡ false → new.facts.failures ≡ now.facts.failures → IsSearching cmp passed old new number frame start (index + 1)
+  searching_on nowhere stood = record {
     carries = carries_both cmp old now new s.carries carries;
+    still = stood ∙ s.still;
     passed_all = λ t groups has.
         let more = passed_block passed groups start index pairs stops.0 (s.passed_all (carries.reads.faithful t) groups has) (block_there t groups has) stops.1 (past_if pairs stops.0 cursor.place stops.2 nowhere) in
         let e : suc index ≡ index + 1 = omega arith in

@@ -1,8 +1,10 @@
 -- A store whose tables are read through caches.
-use Rattle.std.specs.Prelude.{◌≡◌, ◌⊎◌, ℕ, List, Some, [], IsTrue, Contains}
+use Rattle.std.specs.Prelude.{◌≡◌, ◌⊎◌, ℕ, List, Some, [], IsTrue, Contains, Result, Ok, Err}
 use Rattle.cache.specs.Blocks.{BlockCache, KeptBlock}
 use Rattle.cache.specs.Holding.{HoldsBlocks, HoldsTables}
 use Rattle.cache.specs.Tables.{TableCache, KeptTable, table_at}
+use Rattle.coding.specs.declared.error.DbError.{DbError}
+use Rattle.coding.specs.declared.error.DbError.TheVariants.{OutOfMemory}
 use Rattle.cursor.specs.Places.{Cmp}
 use Rattle.ikey.specs.Entries.{Pair}
 use Rattle.store.specs.Files.{Facts}
@@ -35,6 +37,15 @@ pub record Carries (cmp : Cmp) (old new : Seen) : Type 0 where
 pub record HasTable (cmp : Cmp) (source : Seen) (number : ℕ) (file : List ℕ) : Type 0 where
   pub sound : IsSound cmp source
   pub file_is : table_at source.facts.files number ≡ Some file
+
+-- Out of memory comes, as an Ok, only of a call in which the store didn't fail.
+abbrev pub IsErrorStill : DbError → Facts → Facts → Type 0
+IsErrorStill OutOfMemory old new = new.failures ≡ old.failures
+IsErrorStill e old new = Unit {0}
+
+abbrev pub IsStill : {T : Type 0} → Facts → Facts → Result T DbError → Type 0
+IsStill old new (Ok value) = new.failures ≡ old.failures
+IsStill old new (Err e) = IsErrorStill e old new
 
 -- of a faithful store, this is so of the table of this number, where there is one
 abbrev pub SaysOf : Cmp → Seen → Seen → ℕ → (List ℕ → Type 0) → Type 0

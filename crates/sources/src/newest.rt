@@ -3,7 +3,7 @@
 ghost use Rattle.std.specs.Prelude.{◌≡◌, ◌<◌, ◌^◌, ⊤, ℕ, List, Some, IsSome, IfOk, IfErr, MatchBool, slice_get};
 ghost use Rattle.cursor.specs.Moves.{Refuses};
 ghost use Rattle.ikey.specs.Entries.{InternalEntry, Pair, IsPair};
-ghost use Rattle.sources.specs.Tables.{Carries, HasTable, SaysOf, seen};
+ghost use Rattle.sources.specs.Tables.{Carries, HasTable, IsStill, SaysOf, seen};
 ghost use Rattle.sources.specs.Values.{DeniesKey, HasValue, IsNoTable, IsPastLimit, SaysOfEntry};
 
 use crate::table_search::{Aim, search_on};
@@ -31,6 +31,7 @@ pub fn table_value<K: KeyOrder, S: Store>(
     ensures carries { Carries K.cmp (seen (S.facts source.old.store) source.old.tables source.old.blocks) (seen (S.facts source.new.store) source.new.tables source.new.blocks) }
     ensures found { IfOk result (λ value. SaysOf K.cmp (seen (S.facts source.old.store) source.old.tables source.old.blocks) (seen (S.facts source.new.store) source.new.tables source.new.blocks)
         number (λ file. HasValue K.cmp file key.now sequence value)) }
+    ensures still { IsStill (S.facts source.old.store) (S.facts source.new.store) result }
     ensures refused { IfErr result (λ e. Refuses e (S.facts source.old.store) (S.facts source.new.store)
         ((file : List ℕ) → HasTable K.cmp (seen (S.facts source.old.store) source.old.tables source.old.blocks) number file → IsNoTable K.cmp file)
         ((file : List ℕ) → HasTable K.cmp (seen (S.facts source.old.store) source.old.tables source.old.blocks) number file → IsPastLimit K.cmp file)) }

@@ -7,7 +7,7 @@ ghost use Rattle.cursor.specs.Places.{index_before};
 ghost use Rattle.cursor.specs.Places.{within as within_list};
 ghost use Rattle.ikey.specs.Entries.{Pair};
 ghost use Rattle.sources.specs.TablePlaces.{IsPlacedIn, Passed, StopsAt, damage_of, joined, pairs_before};
-ghost use Rattle.sources.specs.Tables.{Carries, HasData, seen};
+ghost use Rattle.sources.specs.Tables.{Carries, HasData, IsStill, seen};
 ghost use Rattle.table.specs.Frame.{AnyLong, handles};
 
 use crate::in_block::InBlock;
@@ -45,6 +45,7 @@ pub fn search_on<K: KeyOrder, S: Store>(
         → HasData K.cmp (seen (S.facts source.old.store) source.old.tables source.old.blocks) number table.now.frame groups → start ≤ length groups
         → (place : ℕ) × StopsAt (Passed K.cmp aim.entry) (joined groups) (pairs_before groups start) place × IsPlacedIn groups here (within_list (joined groups) place)) }
     ensures stands { IfOk result (λ here. IfSome here (λ found. IsSome found.cursor.place)) }
+    ensures still { IsStill (S.facts source.old.store) (S.facts source.new.store) result }
     ensures refused { IfErr result (λ e. Refuses e (S.facts source.old.store) (S.facts source.new.store)
         ((groups : List (List Pair)) → HasData K.cmp (seen (S.facts source.old.store) source.old.tables source.old.blocks) number table.now.frame groups → start ≤ length groups → ⊥)
         (AnyLong (handles table.now.frame))) }
@@ -122,6 +123,7 @@ fn read_index<K: KeyOrder, S: Store>(
     ensures carries { Carries K.cmp (seen (S.facts source.old.store) source.old.tables source.old.blocks) (seen (S.facts source.new.store) source.new.tables source.new.blocks) }
     ensures found { IfOk result (λ block. IsTrue (S.facts source.new.store).faithful → (groups : List (List Pair))
         → HasData K.cmp (seen (S.facts source.old.store) source.old.tables source.old.blocks) number table.now.frame groups → slice_get groups index ≡ Some block.value.pairs) }
+    ensures still { IsStill (S.facts source.old.store) (S.facts source.new.store) result }
     ensures refused { IfErr result (λ e. Refuses e (S.facts source.old.store) (S.facts source.new.store)
         ((groups : List (List Pair)) → HasData K.cmp (seen (S.facts source.old.store) source.old.tables source.old.blocks) number table.now.frame groups → index < length groups → ⊥)
         (AnyLong (handles table.now.frame))) }

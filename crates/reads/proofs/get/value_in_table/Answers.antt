@@ -16,3 +16,8 @@ returns-clause-found g c =
     let old = seen (g.S.Store.facts c.args.source.now.store) c.args.source.now.tables c.args.source.now.blocks in
     let new = seen (g.S.Store.facts c.table_value.new.source.store) c.table_value.new.source.tables c.table_value.new.source.blocks in
     value_is (order_of g.K.KeyOrder.name g.K.KeyOrder.cmp) old new c.args.placed.now c.args.key.now c.args.sequence c.in_ok-value.value c.in_ok-value.ensures.found
+
+pub returns-in_err-value-clause-still : goal.returns-in_err-value-clause-still
+returns-in_err-value-clause-still g c =
+    let p = err_from_is_err_and c.from_residual.result c.from_residual.ensures.1 in
+    rw (p.1, p.2) c.in_err-value.ensures.still

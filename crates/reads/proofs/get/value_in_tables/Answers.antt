@@ -1,7 +1,8 @@
-use Rattle.std.proofs.Common.{◌<◌, ◌≤◌, ◌+◌, ◌^◌, sym, arith}
+use Rattle.std.proofs.Common.{◌<◌, ◌≤◌, ◌+◌, ◌^◌, sym, ◌∙◌, arith}
 use Rattle.std.proofs.lemmas.Result.{err_from_is_err_and}
 use Rattle.ikey.specs.Orders.{order_of}
 use Rattle.sources.specs.Tables.{seen}
+use Rattle.sources.proofs.Standing.{still_later}
 use Rattle.reads.proofs.Getting.{few_places, has_ended, is_answer, is_none, none_behind, not_read}
 use Rattle.reads.proofs.get.value_in_tables.Goals as goal
 
@@ -50,7 +51,7 @@ loop-from-preserved g c =
     let new = seen (g.S.Store.facts c.value_in_table.new.source.store) c.value_in_table.new.source.tables c.value_in_table.new.source.blocks in
     let next = rw c.deref.ensures.value at c.in-Some.ensures in
     is_none order g.met.K.KeyOrder.total g.met.K.KeyOrder.exact old now c.args.version.now.tables c.args.key.now c.args.sequence c.in_ok-target.target.items c.in_ok-target.ensures c.loop-from.from c.loop-from.invariant
-    c.in-Some.place c.in-Some.placed.now next new c.value_in_table.ensures.carries c.in_ok-found.found c.if-is_some.ensures c.in_ok-found.ensures.found
+    c.in-Some.place c.in-Some.placed.now next new c.value_in_table.ensures.carries c.in_ok-found.found c.in_ok-found.ensures.still c.if-is_some.ensures c.in_ok-found.ensures.found
 
 pub returns-clause-found : goal.returns-clause-found
 returns-clause-found g c =
@@ -59,3 +60,17 @@ returns-clause-found g c =
     let now = seen (g.S.Store.facts c.loop-from.source.store) c.loop-from.source.tables c.loop-from.source.blocks in
     has_ended order g.met.K.KeyOrder.total g.met.K.KeyOrder.exact old now c.args.version.now.tables c.args.key.now c.args.sequence c.in_ok-target.target.items c.in_ok-target.ensures c.loop-from.from c.loop-from.invariant
     (none_behind order c.args.version.now.tables c.in_ok-target.target.items c.loop-from.from c.search_end-end.result c.search_end-end.ensures.is (omega (arith, c.loop-from-test.false)))
+
+pub returns-in_err-found-clause-still : goal.returns-in_err-found-clause-still
+returns-in_err-found-clause-still g c =
+    let p = err_from_is_err_and c.from_residual-in_err-found.result c.from_residual-in_err-found.ensures.1 in
+    rw (p.1, p.2) (still_later c.in_err-found.field-0.0 (g.S.Store.facts c.args.source.now.store) (g.S.Store.facts c.loop-from.source.store) (g.S.Store.facts c.value_in_table.new.source.store) c.loop-from.invariant.still c.in_err-found.ensures.still)
+
+pub returns-in_default-clause-still : goal.returns-in_default-clause-still
+returns-in_default-clause-still g c = c.loop-from.invariant.still
+
+pub returns-then-is_some-clause-still : goal.returns-then-is_some-clause-still
+returns-then-is_some-clause-still g c = c.in_ok-found.ensures.still ∙ c.loop-from.invariant.still
+
+pub returns-clause-still : goal.returns-clause-still
+returns-clause-still g c = c.loop-from.invariant.still

@@ -1,6 +1,7 @@
 use Rattle.std.proofs.lemmas.Result.{err_from_is_err_and}
 use Rattle.sources.specs.Tables.{seen}
 use Rattle.sources.proofs.Declining.{data_of, filled_of, not_opened, not_searched, starts_inside}
+use Rattle.sources.proofs.Standing.{still_later, table_still}
 use Rattle.sources.proofs.Valuing.{denied_unseen, none_found, one_found}
 use Rattle.sources.proofs.newest.table_value.Goals as goal
 
@@ -62,3 +63,13 @@ returns-clause-found g c = λ t file has entries table.
     (starts_inside g.K.KeyOrder.cmp file c.in_ok-target.target.items frame entries c.first_place-start.result first filled) in
     none_found g.K.KeyOrder.cmp g.met.K.KeyOrder.total g.met.K.KeyOrder.exact file frame entries open_is.0 filled c.args.key.now c.args.sequence c.in_ok-target.target.items c.in_ok-target.ensures
     c.first_place-start.result first found.0 found.1 found.2
+
+pub returns-in_err-table-clause-still : goal.returns-in_err-table-clause-still
+returns-in_err-table-clause-still g c =
+    let p = err_from_is_err_and c.from_residual.result c.from_residual.ensures.1 in
+    rw (p.1, p.2) (table_still c.in_err-table.field-0.0 (g.S.Store.facts c.args.source.now.store) (g.S.Store.facts c.get_table.new.self.store) c.args.number _ _ c.in_err-table.ensures.refused)
+
+pub returns-in_err-found-clause-still : goal.returns-in_err-found-clause-still
+returns-in_err-found-clause-still g c =
+    let p = err_from_is_err_and c.from_residual-in_err-found.result c.from_residual-in_err-found.ensures.1 in
+    rw (p.1, p.2) (still_later c.in_err-found.field-0.0 (g.S.Store.facts c.args.source.now.store) (g.S.Store.facts c.get_table.new.self.store) (g.S.Store.facts c.search_on.new.source.store) c.in_ok-table.ensures.stood c.in_err-found.ensures.still)

@@ -4,6 +4,7 @@ use Rattle.std.proofs.lemmas.Bool.{cases_lt, lt-ltb, ltb-true}
 use Rattle.std.proofs.lemmas.Option.{slice_get_read}
 use Rattle.sources.specs.Tables.{seen}
 use Rattle.table.specs.declared.handle.Place.{Place}
+use Rattle.sources.proofs.Standing.{damage_still}
 use Rattle.sources.proofs.Fetching.{found_block, long_one, no_such_block, refused_block}
 use Rattle.sources.proofs.table_search.read_index.Goals as goal
 
@@ -40,3 +41,7 @@ returns-in-Err-clause-refused g c =
     rw c.refusal.ensures
     (refused_block g.K.KeyOrder.cmp old new c.args.number c.args.table.now.frame c.args.index c.in-Some.place.now (ap (λ (ps : List Place). slice_get ps c.args.index) (sym c.places.ensures) ∙ there) c.if-handle.false c.in-Err.e
     c.in-Err.ensures.refused)
+
+pub returns-in-Err-clause-still : goal.returns-in-Err-clause-still
+returns-in-Err-clause-still g c =
+    rw c.refusal.ensures (damage_still c.in-Err.e (g.S.Store.facts c.args.source.now.store) (g.S.Store.facts c.read_block.new.self.store) c.args.number _ _ c.in-Err.ensures.refused)

@@ -6,6 +6,7 @@ use Rattle.table.specs.Frame.{AnyLong, handles}
 use Rattle.table.specs.declared.handle.Place.{Place}
 use Rattle.sources.proofs.Carrying.{carries_both}
 use Rattle.sources.proofs.Placing.{data_length}
+use Rattle.sources.proofs.Standing.{still_later}
 use Rattle.sources.proofs.Searching.{refused_at, searching_begins, searching_found, searching_none, searching_on}
 use Rattle.sources.proofs.table_search.search_on.Goals as goal
 
@@ -57,7 +58,7 @@ loop-index-preserved g c =
     (seen (g.S.Store.facts c.loop-index.source.store) c.loop-index.source.tables c.loop-index.source.blocks)
     (seen (g.S.Store.facts c.read_index.new.source.store) c.read_index.new.source.tables c.read_index.new.source.blocks) c.args.number c.args.table.now.frame c.args.start c.loop-index.index
     c.loop-index.invariant c.read_index.ensures.carries c.in_ok-block.block.value.pairs c.in_ok-block.ensures.found c.in_ok-cursor.cursor c.in_ok-cursor.ensures.pairs c.in_ok-cursor.ensures.place
-    (sym c.stands.ensures ∙ c.if-stands.false)
+    (sym c.stands.ensures ∙ c.if-stands.false) c.in_ok-block.ensures.still
 
 pub returns-clause-carries : goal.returns-clause-carries
 returns-clause-carries g c = c.loop-index.invariant.carries
@@ -67,3 +68,14 @@ returns-clause-found g c =
     let end : length c.args.table.now.frame.places ≤ c.loop-index.index = subst (λ (ps : List Place). length ps ≤ c.loop-index.index) c.places-index-end.ensures (let l = c.loop-index-test.false in omega (arith, l)) in
     searching_none g.K.KeyOrder.cmp (Passed g.K.KeyOrder.cmp c.args.aim) (seen (g.S.Store.facts c.args.source.now.store) c.args.source.now.tables c.args.source.now.blocks)
     (seen (g.S.Store.facts c.loop-index.source.store) c.loop-index.source.tables c.loop-index.source.blocks) c.args.number c.args.table.now.frame c.args.start c.loop-index.index c.loop-index.invariant end
+
+pub returns-in_err-block-clause-still : goal.returns-in_err-block-clause-still
+returns-in_err-block-clause-still g c =
+    let p = err_from_is_err_and c.from_residual.result c.from_residual.ensures.1 in
+    rw (p.1, p.2) (still_later c.in_err-block.field-0.0 (g.S.Store.facts c.args.source.now.store) (g.S.Store.facts c.loop-index.source.store) (g.S.Store.facts c.read_index.new.source.store) c.loop-index.invariant.still c.in_err-block.ensures.still)
+
+pub returns-then-stands-clause-still : goal.returns-then-stands-clause-still
+returns-then-stands-clause-still g c = c.in_ok-block.ensures.still ∙ c.loop-index.invariant.still
+
+pub returns-clause-still : goal.returns-clause-still
+returns-clause-still g c = c.loop-index.invariant.still
