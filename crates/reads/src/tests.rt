@@ -74,11 +74,7 @@ fn placed_of(alloc: Global, spec: &Spec, size: u64) -> Result<PlacedTable, Fail>
 fn no_pointers(alloc: Global) -> Result<Vec<Option<Bytes>>, AllocError>
     ensures { IfOk result (λ pointers. length pointers.items ≡ 7) }
 {
-    let mut pointers = Vec::new(alloc);
-    for _ in 0..7 {
-        pointers.push(None)?;
-    }
-    Ok(pointers)
+    Ok(Vec::from_array(alloc, [None, None, None, None, None, None, None])?)
 }
 
 // The version of these tables, whose files go into the store.
