@@ -88,8 +88,8 @@ IsMerge cmp lists children current target source at =
 abbrev pub KeepsAll : {C S : Type 0} → (C → S → S → Type 0) → List (Child C) → S → S → Type 0
 KeepsAll {C} keeps children old new = (i : ℕ) (child : Child C) → slice_get children i ≡ Some child → keeps child.cursor old new
 
-abbrev pub AnyLimited : {C : Type 0} → (C → Type 0) → List (Child C) → Type 0
-AnyLimited {C} limited children = (i : ℕ) × (child : Child C) × (slice_get children i ≡ Some child) × limited child.cursor
+abbrev pub AnyLimited : {C S : Type 0} → (C → S → Type 0) → List (Child C) → S → Type 0
+AnyLimited {C} limited children source = (i : ℕ) × (child : Child C) × (slice_get children i ≡ Some child) × limited child.cursor source
 
 abbrev pub child_stands : {C : Type 0} → (C → Bool) → List (Child C) → Option ℕ → Bool
 child_stands stands children None = false

@@ -4,6 +4,7 @@ ghost use Rattle.std.specs.Prelude.{◌≡◌, ◌<◌, ℕ, List, Option, Some,
 ghost use Rattle.std.specs.List.{AllByRecursion};
 ghost use Rattle.ikey.specs.Entries.{InternalEntry};
 ghost use Rattle.ikey.specs.Keys.{Key, IsKey};
+ghost use Rattle.table.specs.Reading.{IsStill};
 ghost use Rattle.cursor.specs.Places.{Listed};
 ghost use Rattle.cursor.specs.Moves.{Stays, Refuses, after_move};
 ghost use Rattle.cursor.specs.Merging.{IsMerge, IsUnion, Each, KeepsAll, AnyLimited, child_stands, listed};
@@ -74,7 +75,7 @@ pub fn merge_begins<K: KeyOrder, S, C: Cursor<K, S>>(merge: &Merge<K, C>, source
 
 impl<K: KeyOrder, S, C: Cursor<K, S>> Cursor<K, S> for Merge<K, C> {
     ghost use Rattle.cursor.specs.Merging.{IsMerge, KeepsAll, child_stands, AnyLimited};
-    ghost use Rattle.cursor.specs.MergeLaws.{merge_rises, merge_placed, merge_inside, merge_kept, all_still, all_onward};
+    ghost use Rattle.cursor.specs.MergeLaws.{merge_rises, merge_placed, merge_inside, merge_kept, all_still, all_onward, any_limited_kept};
 
     ghost facts = { C.facts };
 
@@ -84,7 +85,9 @@ impl<K: KeyOrder, S, C: Cursor<K, S>> Cursor<K, S> for Merge<K, C> {
 
     ghost stands = { λ merge. child_stands C.stands merge.children.items merge.current };
 
-    ghost limited = { λ merge. AnyLimited C.limited merge.children.items };
+    ghost limited = { λ merge source. AnyLimited C.limited merge.children.items source };
+
+    ghost leaves = { C.leaves };
 
     fn first(&mut self, alloc: Global, source: &mut S) -> Result<(), DbError> {
         jump(self, alloc, source, Motion::First, End::Least)?;
@@ -156,6 +159,12 @@ impl<K: KeyOrder, S, C: Cursor<K, S>> Cursor<K, S> for Merge<K, C> {
     ghost still = { λ merge source. all_still C.keeps C.still merge.children.items source };
 
     ghost onward = { λ merge first second third k l. all_onward C.keeps C.onward merge.children.items first second third k l };
+
+    ghost limits_kept = { λ merge old new k l. any_limited_kept C.keeps C.limited C.limits_kept merge.children.items old new k l };
+
+    ghost leaves_still = { C.leaves_still };
+
+    ghost leaves_onward = { C.leaves_onward };
 }
 
 // Has the merge jump. The key of its entry is kept, for children that are led astray.
@@ -171,9 +180,10 @@ fn jump<K: KeyOrder, S, C: Cursor<K, S>>(
     ensures moves { IsTrue (C.facts source.new).faithful → (at : Listed) (goal : Key) → AimsJump motion.entry goal
         → IsMerge K.cmp C.lists merge.old.children.items merge.old.current merge.old.target.items source.old at
         → IsMerge K.cmp C.lists merge.new.children.items merge.new.current merge.new.target.items source.new (after_move result (λ from. place_of K.cmp motion.entry goal from.entries) at) }
-    ensures stays { Stays C.facts (KeepsAll C.keeps) (AnyLimited C.limited) merge.old.children.items merge.new.children.items source.old source.new }
+    ensures stays { Stays C.facts (KeepsAll C.keeps) (AnyLimited C.limited) C.leaves merge.old.children.items merge.new.children.items source.old source.new }
+    ensures still { IsStill (C.facts source.old) (C.facts source.new) result }
     ensures refused { IfErr result (λ e. Refuses e (C.facts source.old) (C.facts source.new)
-        ((at : Listed) (goal : Key) → AimsJump motion.entry goal → IsMerge K.cmp C.lists merge.old.children.items merge.old.current merge.old.target.items source.old at → ⊥) (AnyLimited C.limited merge.old.children.items)) }
+        ((at : Listed) (goal : Key) → AimsJump motion.entry goal → IsMerge K.cmp C.lists merge.old.children.items merge.old.current merge.old.target.items source.old at → ⊥) (AnyLimited C.limited merge.old.children.items source.old)) }
 {
     match standing::<K, S, C>(merge) {
         None => {

@@ -5,6 +5,7 @@ ghost use Rattle.std.specs.Option.{option_copied};
 ghost use Rattle.ikey.specs.Entries.{InternalEntry};
 ghost use Rattle.ikey.specs.Keys.{Key, IsKey};
 ghost use Rattle.ikey.specs.KeyViews.{key_of as key_view};
+ghost use Rattle.table.specs.Reading.{IsStill};
 ghost use Rattle.cursor.specs.Places.{within, index_before};
 ghost use Rattle.cursor.specs.Moves.{Refuses, ListsNone};
 ghost use Rattle.cursor.specs.Merging.{listed};
@@ -48,8 +49,9 @@ pub fn find_on<K: KeyOrder, S, C: Cursor<K, S>>(
     ensures found { IsTrue (C.facts source.new).faithful → IfOk result (λ found. (entries : List InternalEntry) (test : List ℕ → Bool) (index : ℕ) → C.lists cursor.old source.old (listed entries (within entries index))
         → SearchesOn K.cmp entries sequence test index hides hidden.old.items → AnswersOn K.cmp C.lists cursor.new source.new entries sequence test hidden.new.items found) }
     ensures stands { IfOk result (λ found. found ≡ true → C.stands cursor.new ≡ true) }
-    ensures wanders { Wanders C.facts C.lists C.keeps C.limited cursor.old cursor.new source.old source.new }
-    ensures refused { IfErr result (λ e. Refuses e (C.facts source.old) (C.facts source.new) (ListsNone C.lists cursor.old source.old) (C.limited cursor.old)) }
+    ensures wanders { Wanders C.facts C.lists C.keeps C.limited C.leaves cursor.old cursor.new source.old source.new }
+    ensures still { IsStill (C.facts source.old) (C.facts source.new) result }
+    ensures refused { IfErr result (λ e. Refuses e (C.facts source.old) (C.facts source.new) (ListsNone C.lists cursor.old source.old) (C.limited cursor.old source.old)) }
 {
     let mut hiding = hides;
     'search: for _ in 0..u64::MAX {
@@ -112,8 +114,9 @@ pub fn find_back<K: KeyOrder, S, C: Cursor<K, S>>(
 ) -> Result<bool, DbError>
     ensures found { IsTrue (C.facts source.new).faithful → IfOk result (λ has. (entries : List InternalEntry) (index : ℕ) → C.lists cursor.old source.old (listed entries (index_before index))
         → HasPassedNone entries sequence (below_bound K.cmp (option_copied bound.entry)) index → AnswersBack K.cmp C.lists cursor.new source.new entries sequence (below_bound K.cmp (option_copied bound.entry)) found.new.key.items found.new.value.items has) }
-    ensures wanders { Wanders C.facts C.lists C.keeps C.limited cursor.old cursor.new source.old source.new }
-    ensures refused { IfErr result (λ e. Refuses e (C.facts source.old) (C.facts source.new) (ListsNone C.lists cursor.old source.old) (C.limited cursor.old)) }
+    ensures wanders { Wanders C.facts C.lists C.keeps C.limited C.leaves cursor.old cursor.new source.old source.new }
+    ensures still { IsStill (C.facts source.old) (C.facts source.new) result }
+    ensures refused { IfErr result (λ e. Refuses e (C.facts source.old) (C.facts source.new) (ListsNone C.lists cursor.old source.old) (C.limited cursor.old source.old)) }
 {
     let mut has = false;
     'search: for _ in 0..u64::MAX {

@@ -3,6 +3,7 @@
 ghost use Rattle.std.specs.Prelude.{◌≡◌, ◌<◌, ◌^◌, ℕ, Bool, List, Option, Some, false, IsTrue, IfErr, OnOk, slice_get};
 ghost use Rattle.std.specs.Option.{option_copied};
 ghost use Rattle.ikey.specs.Entries.{InternalEntry};
+ghost use Rattle.table.specs.Reading.{IsStill};
 ghost use Rattle.cursor.specs.Places.{Cmp, Listed, within, index_before, is_less};
 ghost use Rattle.cursor.specs.Moves.{Refuses, ListsNone};
 ghost use Rattle.cursor.specs.Merging.{listed, ahead, behind};
@@ -40,8 +41,9 @@ pub fn stand_ahead<K: KeyOrder, S, C: Cursor<K, S>>(
     ensures stands { IsTrue (C.facts source.new).faithful → OnOk result ((entries : List InternalEntry) (entry : InternalEntry) (value : List ℕ) → IsVisible entries sequence entry → user.now ≡ entry.key.user
         → StandsAt K.cmp C.lists position cursor.old source.old entries entry value
         → (index : ℕ) × C.lists cursor.new source.new (listed entries (within entries index)) × IsBetween K.cmp entries index user.now) }
-    ensures wanders { Wanders C.facts C.lists C.keeps C.limited cursor.old cursor.new source.old source.new }
-    ensures refused { IfErr result (λ e. Refuses e (C.facts source.old) (C.facts source.new) (ListsNone C.lists cursor.old source.old) (C.limited cursor.old)) }
+    ensures wanders { Wanders C.facts C.lists C.keeps C.limited C.leaves cursor.old cursor.new source.old source.new }
+    ensures still { IsStill (C.facts source.old) (C.facts source.new) result }
+    ensures refused { IfErr result (λ e. Refuses e (C.facts source.old) (C.facts source.new) (ListsNone C.lists cursor.old source.old) (C.limited cursor.old source.old)) }
 {
     match position {
         Position::Here => Ok(()),
@@ -69,8 +71,9 @@ pub fn stand_behind<K: KeyOrder, S, C: Cursor<K, S>>(
     ensures stands { IsTrue (C.facts source.new).faithful → OnOk result ((entries : List InternalEntry) (entry : InternalEntry) (value : List ℕ) → IsVisible entries sequence entry → user.now ≡ entry.key.user
         → StandsAt K.cmp C.lists position cursor.old source.old entries entry value
         → (index : ℕ) × C.lists cursor.new source.new (listed entries (index_before index)) × FromOn entries index (λ other. is_less (K.cmp other.key.user user.now) ≡ false)) }
-    ensures wanders { Wanders C.facts C.lists C.keeps C.limited cursor.old cursor.new source.old source.new }
-    ensures refused { IfErr result (λ e. Refuses e (C.facts source.old) (C.facts source.new) (ListsNone C.lists cursor.old source.old) (C.limited cursor.old)) }
+    ensures wanders { Wanders C.facts C.lists C.keeps C.limited C.leaves cursor.old cursor.new source.old source.new }
+    ensures still { IsStill (C.facts source.old) (C.facts source.new) result }
+    ensures refused { IfErr result (λ e. Refuses e (C.facts source.old) (C.facts source.new) (ListsNone C.lists cursor.old source.old) (C.limited cursor.old source.old)) }
 {
     match position {
         Position::Here => Ok(()),
@@ -90,8 +93,9 @@ fn step_on<K: KeyOrder, S, C: Cursor<K, S>>(
 ) -> Result<(), DbError>
     ensures steps { IsTrue (C.facts source.new).faithful → OnOk result ((entries : List InternalEntry) (test : InternalEntry → Bool) → C.lists cursor.old source.old (listed entries (behind test entries))
         → C.lists cursor.new source.new (listed entries (ahead test entries))) }
-    ensures wanders { Wanders C.facts C.lists C.keeps C.limited cursor.old cursor.new source.old source.new }
-    ensures refused { IfErr result (λ e. Refuses e (C.facts source.old) (C.facts source.new) (ListsNone C.lists cursor.old source.old) (C.limited cursor.old)) }
+    ensures wanders { Wanders C.facts C.lists C.keeps C.limited C.leaves cursor.old cursor.new source.old source.new }
+    ensures still { IsStill (C.facts source.old) (C.facts source.new) result }
+    ensures refused { IfErr result (λ e. Refuses e (C.facts source.old) (C.facts source.new) (ListsNone C.lists cursor.old source.old) (C.limited cursor.old source.old)) }
 {
     if cursor.stands() {
         cursor.next(alloc, source)?;
@@ -112,8 +116,9 @@ fn find_again<K: KeyOrder, S, C: Cursor<K, S>>(
     requires { sequence < 2 ^ 56 }
     ensures finds { IsTrue (C.facts source.new).faithful → OnOk result ((entries : List InternalEntry) (entry : InternalEntry) (index : ℕ) (place : Option ℕ) → IsVisible entries sequence entry → user.now ≡ entry.key.user
         → slice_get entries index ≡ Some entry → C.lists cursor.old source.old (listed entries place) → C.lists cursor.new source.new (listed entries (Some index))) }
-    ensures wanders { Wanders C.facts C.lists C.keeps C.limited cursor.old cursor.new source.old source.new }
-    ensures refused { IfErr result (λ e. Refuses e (C.facts source.old) (C.facts source.new) (ListsNone C.lists cursor.old source.old) (C.limited cursor.old)) }
+    ensures wanders { Wanders C.facts C.lists C.keeps C.limited C.leaves cursor.old cursor.new source.old source.new }
+    ensures still { IsStill (C.facts source.old) (C.facts source.new) result }
+    ensures refused { IfErr result (λ e. Refuses e (C.facts source.old) (C.facts source.new) (ListsNone C.lists cursor.old source.old) (C.limited cursor.old source.old)) }
 {
     let key = seek_key(alloc, user, sequence)?;
     cursor.seek(alloc, source, &key)?;

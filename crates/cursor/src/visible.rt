@@ -32,6 +32,7 @@ pub struct Visible<K: KeyOrder, C> {
 impl<K: KeyOrder, C> Visible<K, C> {
     ghost use Rattle.std.specs.Prelude.{◌≡◌, ◌<◌, ◌^◌, ℕ, Bool, true, false, List, Option, None, Some, slice_get, IsTrue, IfErr, OnOk, OnErr};
     ghost use Rattle.ikey.specs.Entries.{InternalEntry, Pair};
+    ghost use Rattle.table.specs.Reading.{IsStill};
     ghost use Rattle.cursor.specs.Places.{within, index_before};
     ghost use Rattle.cursor.specs.Moves.{Stays, Refuses, ListsNone};
     ghost use Rattle.cursor.specs.Merging.{listed};
@@ -76,8 +77,9 @@ impl<K: KeyOrder, C> Visible<K, C> {
         C: Cursor<K, S>,
         ensures moves { IsTrue (C.facts source.new).faithful → (at : Walked) → IsWalk K.cmp C.lists self.old source.old at → IsWalk K.cmp C.lists self.new source.new (walk_after result (walk_first at) at) }
         ensures at_hand { OnOk result (self.new.stands ≡ true → value_at_hand C.stands self.new ≡ true) }
-        ensures stays { Stays C.facts C.keeps C.limited self.old.cursor self.new.cursor source.old source.new }
-        ensures refused { IfErr result (λ e. Refuses e (C.facts source.old) (C.facts source.new) ((at : Walked) → IsWalk K.cmp C.lists self.old source.old at → ⊥) (C.limited self.old.cursor)) }
+        ensures stays { Stays C.facts C.keeps C.limited C.leaves self.old.cursor self.new.cursor source.old source.new }
+        ensures still { IsStill (C.facts source.old) (C.facts source.new) result }
+        ensures refused { IfErr result (λ e. Refuses e (C.facts source.old) (C.facts source.new) ((at : Walked) → IsWalk K.cmp C.lists self.old source.old at → ⊥) (C.limited self.old.cursor source.old)) }
         ensures sequence { self.new.sequence ≡ self.old.sequence }
         ensures stayed { OnErr result ((self.new.stands ≡ self.old.stands) × (self.new.here.key.items ≡ self.old.here.key.items)) }
         ensures left { OnOk result (key_before self.new ≡ self.old.here.key.items) }
@@ -94,8 +96,9 @@ impl<K: KeyOrder, C> Visible<K, C> {
         C: Cursor<K, S>,
         ensures moves { IsTrue (C.facts source.new).faithful → (at : Walked) → IsWalk K.cmp C.lists self.old source.old at → IsWalk K.cmp C.lists self.new source.new (walk_after result (walk_last at) at) }
         ensures at_hand { OnOk result (self.new.stands ≡ true → value_at_hand C.stands self.new ≡ true) }
-        ensures stays { Stays C.facts C.keeps C.limited self.old.cursor self.new.cursor source.old source.new }
-        ensures refused { IfErr result (λ e. Refuses e (C.facts source.old) (C.facts source.new) ((at : Walked) → IsWalk K.cmp C.lists self.old source.old at → ⊥) (C.limited self.old.cursor)) }
+        ensures stays { Stays C.facts C.keeps C.limited C.leaves self.old.cursor self.new.cursor source.old source.new }
+        ensures still { IsStill (C.facts source.old) (C.facts source.new) result }
+        ensures refused { IfErr result (λ e. Refuses e (C.facts source.old) (C.facts source.new) ((at : Walked) → IsWalk K.cmp C.lists self.old source.old at → ⊥) (C.limited self.old.cursor source.old)) }
         ensures sequence { self.new.sequence ≡ self.old.sequence }
         ensures stayed { OnErr result ((self.new.stands ≡ self.old.stands) × (self.new.here.key.items ≡ self.old.here.key.items)) }
         ensures left { OnOk result (key_before self.new ≡ self.old.here.key.items) }
@@ -112,8 +115,9 @@ impl<K: KeyOrder, C> Visible<K, C> {
         C: Cursor<K, S>,
         ensures moves { IsTrue (C.facts source.new).faithful → (at : Walked) → IsWalk K.cmp C.lists self.old source.old at → IsWalk K.cmp C.lists self.new source.new (walk_after result (walk_to K.cmp target.now at) at) }
         ensures at_hand { OnOk result (self.new.stands ≡ true → value_at_hand C.stands self.new ≡ true) }
-        ensures stays { Stays C.facts C.keeps C.limited self.old.cursor self.new.cursor source.old source.new }
-        ensures refused { IfErr result (λ e. Refuses e (C.facts source.old) (C.facts source.new) ((at : Walked) → IsWalk K.cmp C.lists self.old source.old at → ⊥) (C.limited self.old.cursor)) }
+        ensures stays { Stays C.facts C.keeps C.limited C.leaves self.old.cursor self.new.cursor source.old source.new }
+        ensures still { IsStill (C.facts source.old) (C.facts source.new) result }
+        ensures refused { IfErr result (λ e. Refuses e (C.facts source.old) (C.facts source.new) ((at : Walked) → IsWalk K.cmp C.lists self.old source.old at → ⊥) (C.limited self.old.cursor source.old)) }
         ensures sequence { self.new.sequence ≡ self.old.sequence }
         ensures stayed { OnErr result ((self.new.stands ≡ self.old.stands) × (self.new.here.key.items ≡ self.old.here.key.items)) }
         ensures left { OnOk result (key_before self.new ≡ self.old.here.key.items) }
@@ -132,8 +136,9 @@ impl<K: KeyOrder, C> Visible<K, C> {
         requires { self.old.stands ≡ true }
         ensures moves { IsTrue (C.facts source.new).faithful → (at : Walked) → IsWalk K.cmp C.lists self.old source.old at → IsWalk K.cmp C.lists self.new source.new (walk_after result (walk_next at) at) }
         ensures at_hand { OnOk result (self.new.stands ≡ true → value_at_hand C.stands self.new ≡ true) }
-        ensures stays { Stays C.facts C.keeps C.limited self.old.cursor self.new.cursor source.old source.new }
-        ensures refused { IfErr result (λ e. Refuses e (C.facts source.old) (C.facts source.new) ((at : Walked) → IsWalk K.cmp C.lists self.old source.old at → ⊥) (C.limited self.old.cursor)) }
+        ensures stays { Stays C.facts C.keeps C.limited C.leaves self.old.cursor self.new.cursor source.old source.new }
+        ensures still { IsStill (C.facts source.old) (C.facts source.new) result }
+        ensures refused { IfErr result (λ e. Refuses e (C.facts source.old) (C.facts source.new) ((at : Walked) → IsWalk K.cmp C.lists self.old source.old at → ⊥) (C.limited self.old.cursor source.old)) }
         ensures sequence { self.new.sequence ≡ self.old.sequence }
         ensures stayed { OnErr result ((self.new.stands ≡ self.old.stands) × (self.new.here.key.items ≡ self.old.here.key.items)) }
         ensures left { OnOk result (key_before self.new ≡ self.old.here.key.items) }
@@ -159,8 +164,9 @@ impl<K: KeyOrder, C> Visible<K, C> {
         requires { self.old.stands ≡ true }
         ensures moves { IsTrue (C.facts source.new).faithful → (at : Walked) → IsWalk K.cmp C.lists self.old source.old at → IsWalk K.cmp C.lists self.new source.new (walk_after result (walk_prev at) at) }
         ensures at_hand { OnOk result (self.new.stands ≡ true → value_at_hand C.stands self.new ≡ true) }
-        ensures stays { Stays C.facts C.keeps C.limited self.old.cursor self.new.cursor source.old source.new }
-        ensures refused { IfErr result (λ e. Refuses e (C.facts source.old) (C.facts source.new) ((at : Walked) → IsWalk K.cmp C.lists self.old source.old at → ⊥) (C.limited self.old.cursor)) }
+        ensures stays { Stays C.facts C.keeps C.limited C.leaves self.old.cursor self.new.cursor source.old source.new }
+        ensures still { IsStill (C.facts source.old) (C.facts source.new) result }
+        ensures refused { IfErr result (λ e. Refuses e (C.facts source.old) (C.facts source.new) ((at : Walked) → IsWalk K.cmp C.lists self.old source.old at → ⊥) (C.limited self.old.cursor source.old)) }
         ensures sequence { self.new.sequence ≡ self.old.sequence }
         ensures stayed { OnErr result ((self.new.stands ≡ self.old.stands) × (self.new.here.key.items ≡ self.old.here.key.items)) }
         ensures left { OnOk result (key_before self.new ≡ self.old.here.key.items) }
@@ -236,8 +242,9 @@ impl<K: KeyOrder, C> Visible<K, C> {
         ensures sequence { self.new.sequence ≡ self.old.sequence }
         ensures stayed { OnErr result (HasStayed self.old self.new) }
         ensures left { OnOk result (key_before self.new ≡ self.old.here.key.items) }
-        ensures wanders { Wanders C.facts C.lists C.keeps C.limited self.old.cursor self.new.cursor source.old source.new }
-        ensures refused { IfErr result (λ e. Refuses e (C.facts source.old) (C.facts source.new) (ListsNone C.lists self.old.cursor source.old) (C.limited self.old.cursor)) }
+        ensures wanders { Wanders C.facts C.lists C.keeps C.limited C.leaves self.old.cursor self.new.cursor source.old source.new }
+        ensures still { IsStill (C.facts source.old) (C.facts source.new) result }
+        ensures refused { IfErr result (λ e. Refuses e (C.facts source.old) (C.facts source.new) (ListsNone C.lists self.old.cursor source.old) (C.limited self.old.cursor source.old)) }
     {
         copy_to(&mut self.spare.key, self.here.key.as_slice())?;
         if !find_on::<K, S, C>(
@@ -269,8 +276,9 @@ impl<K: KeyOrder, C> Visible<K, C> {
         ensures sequence { self.new.sequence ≡ self.old.sequence }
         ensures stayed { OnErr result (HasStayed self.old self.new) }
         ensures left { OnOk result (key_before self.new ≡ self.old.here.key.items) }
-        ensures wanders { Wanders C.facts C.lists C.keeps C.limited self.old.cursor self.new.cursor source.old source.new }
-        ensures refused { IfErr result (λ e. Refuses e (C.facts source.old) (C.facts source.new) (ListsNone C.lists self.old.cursor source.old) (C.limited self.old.cursor)) }
+        ensures wanders { Wanders C.facts C.lists C.keeps C.limited C.leaves self.old.cursor self.new.cursor source.old source.new }
+        ensures still { IsStill (C.facts source.old) (C.facts source.new) result }
+        ensures refused { IfErr result (λ e. Refuses e (C.facts source.old) (C.facts source.new) (ListsNone C.lists self.old.cursor source.old) (C.limited self.old.cursor source.old)) }
     {
         let bound = bound_of(past, self.here.key.as_slice());
         if !find_back::<K, S, C>(

@@ -1,5 +1,5 @@
 -- What the calls that read a table answer over a store.
-use Rattle.std.specs.Prelude.{◌≡◌, ◌<◌, ◌≤◌, ℕ, List, Some, IsTrue}
+use Rattle.std.specs.Prelude.{◌≡◌, ◌<◌, ◌≤◌, ℕ, List, Some, IsTrue, Result, Ok, Err}
 use Rattle.std.specs.FinMap.{get}
 use Rattle.coding.specs.declared.error.DbError.{DbError}
 use Rattle.coding.specs.declared.error.DbError.TheVariants.{OutOfMemory, Io, Corrupt, Unsupported}
@@ -20,6 +20,15 @@ pub record Reads (old new : Facts) : Type 0 where
   pub denials : new.denials ≡ old.denials
   pub held : new.held ≡ old.held
   pub synced : IsTrue new.faithful → new.synced ≡ old.synced
+
+-- Out of memory comes, as an Ok, only of a call in which the store didn't fail.
+abbrev pub IsErrorStill : DbError → Facts → Facts → Type 0
+IsErrorStill OutOfMemory old new = new.failures ≡ old.failures
+IsErrorStill e old new = Unit {0}
+
+abbrev pub IsStill : {T : Type 0} → Facts → Facts → Result T DbError → Type 0
+IsStill old new (Ok value) = new.failures ≡ old.failures
+IsStill old new (Err e) = IsErrorStill e old new
 
 -- the store has this file under this name
 abbrev pub HasFile : Facts → List ℕ → List ℕ → Type 0
