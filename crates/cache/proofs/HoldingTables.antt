@@ -10,7 +10,7 @@ use Rattle.table.specs.Frame.{Frame, Opened, IsFrame, IsOversized}
 use Rattle.table.specs.Reading.{Reads}
 use Rattle.table.specs.Refusals.{IsFrameDamaged, IsFrameUnsupported}
 use Rattle.cache.specs.Holding.{HoldsTables, HasTable, IsOpenOf}
-use Rattle.cache.specs.Tables.{KeptTable, OpensTable, OpensFile, RefusesTable, HitsTable, IsAnsweredTable, kept_table_at}
+use Rattle.cache.specs.Tables.{KeptTable, OpensTable, OpensFile, RefusesTable, IsNameOf, HitsTable, IsAnsweredTable, kept_table_at}
 use Rattle.cache.proofs.Holding.{reads_none}
 
 -- a table that is kept of a number is in the list
@@ -29,7 +29,7 @@ Contains-kept_table_at (k ∷ ks) number table h = (elim (number == k.number) as
 -- a call that only reads leaves a table open
 pub still_open : (cmp : List ℕ → List ℕ → Ordering) (content : ℕ → Option (List ℕ)) (old new : Facts) (number : ℕ) (table : Opened) → Reads old new → IsTrue new.faithful
     → IsOpenOf cmp content old number table → IsOpenOf cmp content new number table
-still_open cmp content old new number table reads t open_of file e = let p = open_of file e in (ap (λ files. get files table.name) (reads.files t) ∙ p.0, p.1, p.2)
+still_open cmp content old new number table reads t is = (is.0, λ file e. let p = is.1 file e in (ap (λ files. get files table.name) (reads.files t) ∙ p.0, p.1, p.2))
 
 opened_if : (cmp : List ℕ → List ℕ → Ordering) (content : ℕ → Option (List ℕ)) (new : Facts) (number : ℕ) (answer : Result Opened DbError)
     → ((table : Opened) → answer ≡ Ok table → IsOpenOf cmp content new number table) → IfOk answer (λ table. IsOpenOf cmp content new number table)
@@ -71,12 +71,15 @@ module _ (cmp : List ℕ → List ℕ → Ordering) (number : ℕ) (old new : Fa
   module _ (content : ℕ → Option (List ℕ)) (ks : List KeptTable) where
     pub fetched : (o : Option Opened) → kept_table_at ks number ≡ o → Fetched o → HoldsTables cmp content old ks → HasTable content number old → IsTrue new.faithful
         → (table : Opened) → answer ≡ Ok table → IsOpenOf cmp content new number table
-    fetched None e h holds has t table ok = λ file there.
-        let found = subst (λ a. IfOk a (λ opened. IsTrue new.faithful → OpensFile cmp old.files number opened)) ok h.found in
-        let at = found t in
-        let both : Some at.0 ≡ Some file = sym at.1 ∙ has file there in
-        let its : at.0 ≡ file = cc in
-        (ap (λ files. get files table.name) (h.reads.files t) ∙ at.2 ∙ both, subst (λ f. IsFrame cmp f table.frame) its at.3, subst (λ f. IsFrameUnsupported f → ⊥) its at.4)
+    fetched None e h holds has t table ok = (
+      subst (λ a. IfOk a (λ opened. IsNameOf number opened.name)) ok h.named,
+      λ file there.
+          let found = subst (λ a. IfOk a (λ opened. IsTrue new.faithful → OpensFile cmp old.files number opened)) ok h.found in
+          let at = found t in
+          let both : Some at.0 ≡ Some file = sym at.1 ∙ has file there in
+          let its : at.0 ≡ file = cc in
+          (ap (λ files. get files table.name) (h.reads.files t) ∙ at.2 ∙ both, subst (λ f. IsFrame cmp f table.frame) its at.3, subst (λ f. IsFrameUnsupported f → ⊥) its at.4),
+    )
     fetched (Some kept) e h holds has t table ok = elim h.0 [
       | inl hit ↦ let both : Ok kept ≡ Ok table = sym hit ∙ ok in let its : kept ≡ table = cc in
           still_open cmp content old new number table (reads_fetched (Some kept) h) t

@@ -1,5 +1,5 @@
 -- Opening a table by its number, from opening the file of a name.
-use Rattle.std.proofs.Common.{◌≡◌, ℕ, List, Some, Ok, Err, IsTrue, ap, sym, subst, ◌∙◌, arith}
+use Rattle.std.proofs.Common.{◌≡◌, ℕ, List, Some, Ok, Err, ap, sym, subst, ◌∙◌, arith}
 use Rattle.std.specs.declared.cmp.Ordering.{Ordering}
 use Rattle.std.specs.FinMap.{get}
 use Rattle.coding.specs.declared.error.DbError.{DbError}
@@ -8,7 +8,7 @@ use Rattle.store.specs.Files.{Facts}
 use Rattle.table.specs.Frame.{Frame, Opened, IsFrame, IsOversized}
 use Rattle.table.specs.Reading.{Reads, Finds, Answers, Refuses}
 use Rattle.table.specs.Refusals.{IsFrameDamaged, IsFrameUnsupported}
-use Rattle.cache.specs.Tables.{FindsName, OpensTable, RefusesTable}
+use Rattle.cache.specs.Tables.{FindsName, IsNameOf, OpensTable, RefusesTable}
 
 pub refuses_table : (e : DbError) (old mid new : Facts) (number : ℕ) (name : List ℕ) (damaged unsupported : List ℕ → Type 0)
     → Reads old mid → mid.failures ≡ old.failures → Reads mid new → FindsName old mid number name → Refuses e mid new name damaged unsupported → RefusesTable e old new number damaged unsupported
@@ -39,20 +39,22 @@ pub not_opened : (cmp : List ℕ → List ℕ → Ordering) (e : DbError) (old m
 not_opened cmp e old mid new number name first stood second finds told refused = record {
   reads = reads_both old mid new first second;
   found = tt;
+  named = tt;
   stood = tt;
   told = refuses_table e old mid new number name (IsFrameDamaged cmp) IsFrameUnsupported first stood second finds told;
   refused = refuses_table e old mid new number name _ _ first stood second finds refused;
 }
 
 pub opened : (cmp : List ℕ → List ℕ → Ordering) (old mid new : Facts) (number : ℕ) (name : List ℕ) (table : Opened) → Reads old mid → mid.failures ≡ old.failures → Reads mid new → new.failures ≡ mid.failures
-    → FindsName old mid number name → table.name ≡ name → Finds mid new name (λ file. IsFrame cmp file table.frame) → Answers mid new name (λ file. IsFrameUnsupported file → ⊥) → OpensTable cmp old new number (Ok table)
-opened cmp old mid new number name table first stood second still finds named found supported = record {
+    → FindsName old mid number name → IsNameOf number name → table.name ≡ name → Finds mid new name (λ file. IsFrame cmp file table.frame) → Answers mid new name (λ file. IsFrameUnsupported file → ⊥) → OpensTable cmp old new number (Ok table)
+opened cmp old mid new number name table first stood second still finds its named found supported = record {
   reads = reads_both old mid new first second;
   found = λ t.
       let m = second.faithful t in
       let f = found t in
       let there : get old.files name ≡ Some f.0 = ap (λ files. get files name) (sym (first.files m)) ∙ f.1 in
       (f.0, finds m ∙ there, ap (get old.files) named ∙ there, f.2, supported t f.0 f.1);
+  named = subst (IsNameOf number) (sym named) its;
   stood = still ∙ stood;
   told = tt;
   refused = tt;

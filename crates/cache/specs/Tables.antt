@@ -1,5 +1,5 @@
 -- What a table cache keeps (LevelDB's db/table_cache.cc), what it answers, and how tables and their blocks are read.
-use Rattle.std.specs.Prelude.{◌≡◌, ◌⊎◌, ◌<◌, ◌==◌, ℕ, List, [], ◌∷◌, Option, Some, None, Result, Ok, Err, IfOk, IfErr, IsTrue, cond}
+use Rattle.std.specs.Prelude.{◌≡◌, ◌⊎◌, ◌<◌, ◌==◌, ℕ, List, [], ◌∷◌, map, Option, Some, None, Result, Ok, Err, IfOk, IfErr, IsTrue, cond}
 use Rattle.std.specs.declared.alloc.Global.{Global}
 use Rattle.std.specs.declared.rc.Rc.{Rc}
 use Rattle.std.specs.declared.cmp.Ordering.{Ordering}
@@ -10,6 +10,7 @@ use Rattle.coding.specs.declared.error.DbError.TheVariants.{OutOfMemory, Io, Cor
 use Rattle.edits.specs.Names.{name_of}
 use Rattle.edits.specs.declared.names.FileName.TheVariants.{Table, OldTable}
 use Rattle.ikey.specs.Entries.{Pair}
+use Rattle.lru.specs.LruCache.{LruCache}
 use Rattle.store.specs.Files.{Files, Facts}
 use Rattle.table.specs.Frame.{Frame, Opened, IsFrame, IsOversized}
 use Rattle.table.specs.Reading.{Reads, Finds, Refuses}
@@ -29,6 +30,10 @@ pub record ReadsBlock (cmp : List ℕ → List ℕ → Ordering) (table : Opened
 abbrev pub table_at : Files → ℕ → Option (List ℕ)
 table_at files number = option_or (get files (name_of (Table number))) (get files (name_of (OldTable number)))
 
+-- it is one of the two names that the file of the table of this number may have
+abbrev pub IsNameOf : ℕ → List ℕ → Type 0
+IsNameOf number name = (name ≡ name_of (Table number)) ⊎ (name ≡ name_of (OldTable number))
+
 -- ---- what is kept
 
 -- a table that is kept: its number, the name of its file, and what was read of it
@@ -43,6 +48,15 @@ kept_table number table = record { number = number; table = table }
 pub record TableCache : Type 0 where
   pub tables : List KeptTable
   pub capacity : ℕ
+
+-- the tables that are in a cache of pairs
+abbrev pub tables_in : List (ℕ × Rc Opened Global) → List KeptTable
+tables_in entries = map (λ e. kept_table e.0 e.1.value) entries
+
+-- what is kept in a cache of pairs, where there is one
+abbrev pub tables_of : Option (LruCache ℕ (Rc Opened Global)) → TableCache
+tables_of None = record { tables = []; capacity = 0 }
+tables_of (Some cache) = record { tables = tables_in cache.entries; capacity = cache.cap }
 
 -- the table that is kept of this number
 unfoldable pub kept_table_at : List KeptTable → ℕ → Option Opened
@@ -104,6 +118,7 @@ RefusesTable e old new number damaged unsupported = ⊥
 pub record OpensTable (cmp : List ℕ → List ℕ → Ordering) (old new : Facts) (number : ℕ) (answer : Result Opened DbError) : Type 0 where
   pub reads : Reads old new
   pub found : IfOk answer (λ table. IsTrue new.faithful → OpensFile cmp old.files number table)
+  pub named : IfOk answer (λ table. IsNameOf number table.name)
   pub stood : IfOk answer (λ _. new.failures ≡ old.failures)
   pub told : IfErr answer (λ e. RefusesTable e old new number (IsFrameDamaged cmp) IsFrameUnsupported)
   -- a frame is refused only where one of its blocks is too long

@@ -1,6 +1,9 @@
 //! Blocks that were read, up to a number of them.
 
+ghost use Rattle.std.specs.Prelude.{◌≡◌, ◌⊎◌, Contains, IfOk, IfErr, IsSome};
+ghost use Rattle.cache.specs.Blocks.{IsOf, KeptBlock, answer_if, kept_at};
 ghost use Rattle.cache.specs.Holding.{BlocksLast};
+ghost use Rattle.cache.specs.Shared.{blocks_in};
 
 use crate::read_block::ReadBlock;
 use crate::slot::{SharedBlock, Slot};
@@ -20,16 +23,17 @@ use table::{Handle, Table};
 /// most recently used first, and how many there may be.
 #[derive(Drop)]
 pub struct BlockCache<K: KeyOrder> {
-    blocks: LruCache<Slot, SharedBlock<K>>,
+    // None where nothing is ever kept.
+    blocks: Option<LruCache<Slot, SharedBlock<K>>>,
 }
 
 impl<K: KeyOrder> Model for BlockCache<K> {
-    ghost use Rattle.std.specs.Prelude.{map};
-    ghost use Rattle.cache.specs.Blocks.{BlockCache as Kept, kept_block};
+    ghost use Rattle.cache.specs.Blocks.{BlockCache as Kept};
+    ghost use Rattle.cache.specs.Shared.{blocks_of};
 
     ghost Value = { Kept };
 
-    ghost view = { λ c. record { blocks = map (λ e. kept_block e.0.file e.0.offset e.1.size e.1.block.value.pairs) c.blocks.entries; capacity = c.blocks.cap } };
+    ghost view = { λ c. blocks_of c.blocks };
 }
 
 impl<K: KeyOrder> BlockCache<K> {
@@ -41,13 +45,23 @@ impl<K: KeyOrder> BlockCache<K> {
     ghost use Rattle.cache.specs.Holding.{HoldsBlocks, IsContent, IsBlockOf};
     ghost use Rattle.cache.specs.Blocks.{KeptBlock, answer_of, answer_if, kept_at, Hits, IsAnswered, IsOf};
 
+    /// A cache that keeps nothing, and takes no memory: what a database that isn't open has.
+    pub fn none() -> Self
+        ensures empty { result.blocks ≡ [] }
+        ensures capacity { result.capacity ≡ 0 }
+    {
+        BlockCache { blocks: None }
+    }
+
     /// A cache that keeps at most so many blocks, and none yet.
     pub fn new(alloc: Global, capacity: NonZeroUsize) -> Result<Self, AllocError>
         ensures empty { IfOk result (λ cache. cache.blocks ≡ []) }
         ensures capacity { IfOk result (λ cache. cache.capacity ≡ non_zero_usize_get capacity) }
     {
         let blocks = LruCache::sparse(alloc, capacity)?;
-        Ok(BlockCache { blocks })
+        Ok(BlockCache {
+            blocks: Some(blocks),
+        })
     }
 
     /// How many blocks are kept.
@@ -55,7 +69,10 @@ impl<K: KeyOrder> BlockCache<K> {
         ensures length { result ≡ length self.now.blocks }
         ensures fits { result ≤ self.now.capacity }
     {
-        self.blocks.len()
+        match &self.blocks {
+            None => 0,
+            Some(blocks) => blocks.len(),
+        }
     }
 
     /// Whether no block is kept.
@@ -127,18 +144,10 @@ impl<K: KeyOrder> BlockCache<K> {
         ensures kept { (kept : KeptBlock) → Contains self.new.blocks kept → Contains self.old.blocks kept }
         ensures capacity { self.new.capacity ≡ self.old.capacity }
     {
-        let slot = Slot {
-            file,
-            offset: handle.offset,
-        };
-        let Some(shared) = self.blocks.get(&slot) else {
+        let Some(blocks) = &mut self.blocks else {
             return Ok(None);
         };
-        if shared.size != handle.size {
-            return Ok(None);
-        }
-        let block = shared.block.clone()?;
-        Ok(Some(block))
+        find_in(blocks, file, handle)
     }
 
     // Keeps the block, where there is memory for it.
@@ -146,19 +155,60 @@ impl<K: KeyOrder> BlockCache<K> {
         ensures kept { (kept : KeptBlock) → Contains self.new.blocks kept → Contains self.old.blocks kept ⊎ IsOf kept file handle block.now.value.pairs }
         ensures capacity { self.new.capacity ≡ self.old.capacity }
     {
-        let slot = Slot {
-            file,
-            offset: handle.offset,
-        };
-        let Ok(block) = block.clone() else {
+        let Some(blocks) = &mut self.blocks else {
             return;
         };
-        let shared = SharedBlock {
-            size: handle.size,
-            block,
-        };
-        let _ = self.blocks.put(slot, shared);
+        keep_in(blocks, file, handle, block);
     }
+}
+
+// The block that is kept.
+fn find_in<K: KeyOrder>(
+    blocks: &mut LruCache<Slot, SharedBlock<K>>,
+    file: u64,
+    handle: Handle,
+) -> Result<Option<Rc<Block<Internal<K>>>>, AllocError>
+    ensures found { IfOk result (λ found. kept_at (blocks_in blocks.old.entries) file handle ≡ answer_if found) }
+    ensures refused { IfErr result (λ _. IsSome (kept_at (blocks_in blocks.old.entries) file handle)) }
+    ensures kept { (kept : KeptBlock) → Contains (blocks_in blocks.new.entries) kept → Contains (blocks_in blocks.old.entries) kept }
+    ensures capacity { blocks.new.cap ≡ blocks.old.cap }
+{
+    let slot = Slot {
+        file,
+        offset: handle.offset,
+    };
+    let Some(shared) = blocks.get(&slot) else {
+        return Ok(None);
+    };
+    if shared.size != handle.size {
+        return Ok(None);
+    }
+    let block = shared.block.clone()?;
+    Ok(Some(block))
+}
+
+// Keeps the block, where there is memory for it.
+fn keep_in<K: KeyOrder>(
+    blocks: &mut LruCache<Slot, SharedBlock<K>>,
+    file: u64,
+    handle: Handle,
+    block: &Rc<Block<Internal<K>>>,
+)
+    ensures kept { (kept : KeptBlock) → Contains (blocks_in blocks.new.entries) kept → Contains (blocks_in blocks.old.entries) kept ⊎ IsOf kept file handle block.now.value.pairs }
+    ensures capacity { blocks.new.cap ≡ blocks.old.cap }
+{
+    let slot = Slot {
+        file,
+        offset: handle.offset,
+    };
+    let Ok(block) = block.clone() else {
+        return;
+    };
+    let shared = SharedBlock {
+        size: handle.size,
+        block,
+    };
+    let _ = blocks.put(slot, shared);
 }
 
 /// What is kept stays right while tables come into use under new numbers and go out of use.

@@ -3,7 +3,7 @@
 ghost use Rattle.std.specs.Prelude.{◌≡◌, ◌<◌, IfOk, IfErr, OnOk, IsTrue, IsSome, MatchBool, None, string_bytes};
 ghost use Rattle.std.specs.FinMap.{get};
 ghost use Rattle.table.specs.Reading.{Reads};
-ghost use Rattle.cache.specs.Tables.{OpensTable, FindsName, StopsReading, table_answer_of};
+ghost use Rattle.cache.specs.Tables.{OpensTable, FindsName, IsNameOf, StopsReading, table_answer_of};
 
 use coding::DbError;
 use edits::{FileName, print_name};
@@ -34,6 +34,7 @@ pub fn open_table<K: KeyOrder, S: Store>(
 fn table_name<S: Store>(alloc: Global, store: &mut S, number: u64) -> Result<String, DbError>
     requires { 0 < number }
     ensures reads { Reads (S.facts store.old) (S.facts store.new) }
+    ensures named { IfOk result (λ name. IsNameOf number (string_bytes name)) }
     ensures found { IfOk result (λ name. FindsName (S.facts store.old) (S.facts store.new) number (string_bytes name)) }
     ensures stood { OnOk result ((S.facts store.new).failures ≡ (S.facts store.old).failures) }
     ensures refused { IfErr result (λ e. StopsReading e (S.facts store.old) (S.facts store.new)) }

@@ -1,6 +1,8 @@
 //! Tables that stay open, up to a number of them.
 
+ghost use Rattle.std.specs.Prelude.{◌≡◌, ◌⊎◌, None, Contains, IfOk, IfErr, IsSome};
 ghost use Rattle.cache.specs.Holding.{TablesLast};
+ghost use Rattle.cache.specs.Tables.{IsKeptOf, KeptTable, kept_table_at, table_if, tables_in};
 
 use crate::opening::open_table;
 use coding::DbError;
@@ -18,16 +20,16 @@ use table::Table;
 /// many there may be.
 #[derive(Drop)]
 pub struct TableCache<K: KeyOrder> {
-    tables: LruCache<u64, Rc<Table<K>>>,
+    // None where nothing is ever kept.
+    tables: Option<LruCache<u64, Rc<Table<K>>>>,
 }
 
 impl<K: KeyOrder> Model for TableCache<K> {
-    ghost use Rattle.std.specs.Prelude.{map};
-    ghost use Rattle.cache.specs.Tables.{TableCache as Kept, kept_table};
+    ghost use Rattle.cache.specs.Tables.{TableCache as Kept, tables_of};
 
     ghost Value = { Kept };
 
-    ghost view = { λ c. record { tables = map (λ e. kept_table e.0 e.1.value) c.tables.entries; capacity = c.tables.cap } };
+    ghost view = { λ c. tables_of c.tables };
 }
 
 impl<K: KeyOrder> TableCache<K> {
@@ -39,13 +41,23 @@ impl<K: KeyOrder> TableCache<K> {
     ghost use Rattle.table.specs.Reading.{Reads};
     ghost use Rattle.table.specs.Refusals.{IsFrameDamaged, IsFrameUnsupported};
 
+    /// A cache that keeps nothing, and takes no memory: what a database that isn't open has.
+    pub fn none() -> Self
+        ensures empty { result.tables ≡ [] }
+        ensures capacity { result.capacity ≡ 0 }
+    {
+        TableCache { tables: None }
+    }
+
     /// A cache that keeps at most so many tables, and none yet.
     pub fn new(alloc: Global, capacity: NonZeroUsize) -> Result<Self, AllocError>
         ensures empty { IfOk result (λ cache. cache.tables ≡ []) }
         ensures capacity { IfOk result (λ cache. cache.capacity ≡ non_zero_usize_get capacity) }
     {
         let tables = LruCache::sparse(alloc, capacity)?;
-        Ok(TableCache { tables })
+        Ok(TableCache {
+            tables: Some(tables),
+        })
     }
 
     /// How many tables are kept.
@@ -53,7 +65,10 @@ impl<K: KeyOrder> TableCache<K> {
         ensures length { result ≡ length self.now.tables }
         ensures fits { result ≤ self.now.capacity }
     {
-        self.tables.len()
+        match &self.tables {
+            None => 0,
+            Some(tables) => tables.len(),
+        }
     }
 
     /// Whether no table is kept.
@@ -101,9 +116,10 @@ impl<K: KeyOrder> TableCache<K> {
         ensures kept { (kept : KeptTable) → Contains self.new.tables kept → Contains self.old.tables kept }
         ensures capacity { self.new.capacity ≡ self.old.capacity }
     {
-        // No number is kept twice: that is what the contract of `len` says.
-        let _count = self.tables.len();
-        let _table = self.tables.pop(&number);
+        let Some(tables) = &mut self.tables else {
+            return;
+        };
+        evict_from(tables, number);
     }
 
     // The table that is kept or, where none is, one that is opened, and kept where there is memory to keep it.
@@ -135,11 +151,10 @@ impl<K: KeyOrder> TableCache<K> {
         ensures kept { (kept : KeptTable) → Contains self.new.tables kept → Contains self.old.tables kept }
         ensures capacity { self.new.capacity ≡ self.old.capacity }
     {
-        let Some(kept) = self.tables.get(&number) else {
+        let Some(tables) = &mut self.tables else {
             return Ok(None);
         };
-        let table = kept.clone()?;
-        Ok(Some(table))
+        find_in(tables, number)
     }
 
     // Keeps the table, where there is memory for it.
@@ -147,11 +162,50 @@ impl<K: KeyOrder> TableCache<K> {
         ensures kept { (kept : KeptTable) → Contains self.new.tables kept → Contains self.old.tables kept ⊎ IsKeptOf kept number table.now.value }
         ensures capacity { self.new.capacity ≡ self.old.capacity }
     {
-        let Ok(table) = table.clone() else {
+        let Some(tables) = &mut self.tables else {
             return;
         };
-        let _ = self.tables.put(number, table);
+        keep_in(tables, number, table);
     }
+}
+
+// The table that is kept.
+fn find_in<K: KeyOrder>(
+    tables: &mut LruCache<u64, Rc<Table<K>>>,
+    number: u64,
+) -> Result<Option<Rc<Table<K>>>, AllocError>
+    ensures found { IfOk result (λ found. kept_table_at (tables_in tables.old.entries) number ≡ table_if found) }
+    ensures refused { IfErr result (λ _. IsSome (kept_table_at (tables_in tables.old.entries) number)) }
+    ensures kept { (kept : KeptTable) → Contains (tables_in tables.new.entries) kept → Contains (tables_in tables.old.entries) kept }
+    ensures capacity { tables.new.cap ≡ tables.old.cap }
+{
+    let Some(kept) = tables.get(&number) else {
+        return Ok(None);
+    };
+    let table = kept.clone()?;
+    Ok(Some(table))
+}
+
+// Keeps the table, where there is memory for it.
+fn keep_in<K: KeyOrder>(tables: &mut LruCache<u64, Rc<Table<K>>>, number: u64, table: &Rc<Table<K>>)
+    ensures kept { (kept : KeptTable) → Contains (tables_in tables.new.entries) kept → Contains (tables_in tables.old.entries) kept ⊎ IsKeptOf kept number table.now.value }
+    ensures capacity { tables.new.cap ≡ tables.old.cap }
+{
+    let Ok(table) = table.clone() else {
+        return;
+    };
+    let _ = tables.put(number, table);
+}
+
+// Closes the table of this number.
+fn evict_from<K: KeyOrder>(tables: &mut LruCache<u64, Rc<Table<K>>>, number: u64)
+    ensures gone { kept_table_at (tables_in tables.new.entries) number ≡ None }
+    ensures kept { (kept : KeptTable) → Contains (tables_in tables.new.entries) kept → Contains (tables_in tables.old.entries) kept }
+    ensures capacity { tables.new.cap ≡ tables.old.cap }
+{
+    // No number is kept twice: that is what the contract of `len` says.
+    let _count = tables.len();
+    let _table = tables.pop(&number);
 }
 
 /// What is kept stays right while tables come into use under new numbers and go out of use, and the files of those in

@@ -1,5 +1,5 @@
 -- Where the moves of a cursor over a table lead.
-use Rattle.std.proofs.Common.{◌≡◌, ◌<◌, ℕ, suc, cond, nat_lt, List, Option, Some, None, length, IsTrue, refl, ap, ◌∙◌, subst, arith}
+use Rattle.std.proofs.Common.{◌≡◌, ◌<◌, ℕ, suc, cond, nat_lt, List, Option, Some, None, length, IsTrue, refl, ap, ◌∙◌, subst, arith, inl, inr}
 use Rattle.std.specs.Option.{option_and_then}
 use Rattle.block.specs.Places.{Placed}
 use Rattle.coding.specs.declared.error.DbError.{DbError}
@@ -22,7 +22,7 @@ pub refused_as : (e : DbError) (old new : _) (a b limited : Type 0) → (a → b
 refused_as OutOfMemory old new a b limited f h = tt
 refused_as Io old new a b limited f h = h
 refused_as (Corrupt kind what) old new a b limited f h = λ t. f (h t)
-refused_as (Unsupported what) old new a b limited f h = h
+refused_as (Unsupported what) old new a b limited f h = λ t. elim (h t) [ inl none ↦ inl (f none) | inr past ↦ inr past ]
 refused_as e old new a b limited f h = absurd h
 
 -- ---- lists of one length

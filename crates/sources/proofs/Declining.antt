@@ -44,18 +44,24 @@ module _ (cmp : Cmp) (old : Seen) (number : ℕ) where
   not_opened OutOfMemory new h = tt
   not_opened Io new h = h
   not_opened (Corrupt kind what) new h = λ t file has entries table. (h t file has.file_is).0 table.0 table.1
-  not_opened (Unsupported what) new h = λ t file has. inl (h t file has.file_is)
+  not_opened (Unsupported what) new h = λ t. inr (λ file has. inl (h t file has.file_is))
   not_opened e new h = absurd h
 
   module _ (mid new : Seen) (first_reads : Carries cmp old mid) (second : Carries cmp mid new) (target : List ℕ) (frame : Frame) (start : ℕ) (first : IsFirstPlace cmp target frame.places start)
       (says : IsTrue mid.facts.faithful → (file : List ℕ) → HasTable cmp old number file → IsOpen cmp file frame) where
-    pub not_searched : (e : DbError) → Refuses e mid.facts new.facts (Lacks cmp mid number frame start) (AnyLong (handles frame)) → Refuses e old.facts new.facts NoTableThere LimitThere
-    not_searched OutOfMemory h = tt
-    not_searched Io h = let f = first_reads.reads.failures in omega (arith, f, h)
-    not_searched (Corrupt kind what) h = λ t file has entries table.
+    lacks_table : IsTrue new.facts.faithful → Lacks cmp mid number frame start → NoTableThere
+    lacks_table t lacks file has entries table =
         let m = second.reads.faithful t in
         let open_is = says m file has in
         let filled = filled_of cmp file frame entries open_is.0 table in
-        h t filled.blocks (data_of cmp old mid number file frame entries first_reads m has open_is filled) (starts_inside cmp file target frame entries start first filled)
-    not_searched (Unsupported what) h = λ t file has. inr (frame, (says (second.reads.faithful t) file has).0, h t)
+        lacks filled.blocks (data_of cmp old mid number file frame entries first_reads m has open_is filled) (starts_inside cmp file target frame entries start first filled)
+
+    pub not_searched : (e : DbError) → Refuses e mid.facts new.facts (Lacks cmp mid number frame start) (AnyLong (handles frame)) → Refuses e old.facts new.facts NoTableThere LimitThere
+    not_searched OutOfMemory h = tt
+    not_searched Io h = let f = first_reads.reads.failures in omega (arith, f, h)
+    not_searched (Corrupt kind what) h = λ t. lacks_table t (h t)
+    not_searched (Unsupported what) h = λ t. elim (h t) [
+      | inl lacks ↦ inl (lacks_table t lacks)
+      | inr long ↦ inr (λ file has. inr (frame, (says (second.reads.faithful t) file has).0, long))
+    ]
     not_searched e h = absurd h

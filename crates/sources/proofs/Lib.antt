@@ -11,6 +11,7 @@ pub mod Fetching
 pub mod Standing
 pub mod Searching
 pub mod Stepping
+pub mod Strides
 pub mod Entering
 pub mod Opening
 pub mod Arrivals

@@ -104,7 +104,10 @@ refused_at cmp OutOfMemory old now new number frame start index limited first se
 refused_at cmp Io old now new number frame start index limited first second less h = let f = first.reads.failures in omega (arith, f, h)
 refused_at cmp (Corrupt kind what) old now new number frame start index limited first second less h = λ t groups has fits.
     h t groups (still_data cmp old now number frame groups first (second.reads.faithful t) has) (less groups has fits)
-refused_at cmp (Unsupported what) old now new number frame start index limited first second less h = h
+refused_at cmp (Unsupported what) old now new number frame start index limited first second less h = λ t. elim (h t) [
+  | inl lacks ↦ inl (λ groups has fits. lacks groups (still_data cmp old now number frame groups first (second.reads.faithful t) has) (less groups has fits))
+  | inr long ↦ inr long
+]
 refused_at cmp e old now new number frame start index limited first second less h = absurd h
 
 -- ---- back
@@ -124,10 +127,11 @@ module _ (cmp : Cmp) (old now : Seen) (number : ℕ) (frame : Frame) (end step :
   -- the blocks that were read have no pair
   pub record IsSearchingBack : Type 0 where
     pub carries : Carries cmp old now
+    pub still : now.facts.failures ≡ old.facts.failures
     pub same : IsTrue now.facts.faithful → (groups : List (List Pair)) → HasData cmp old number frame groups → pairs_before groups (end - step) ≡ pairs_before groups end
 
 pub back_begins : (cmp : Cmp) (old : Seen) (number : ℕ) (frame : Frame) (end : ℕ) → IsSearchingBack cmp old old number frame end 0
-back_begins cmp old number frame end = record { carries = carries_itself cmp old; same = λ t groups has. let e : end - 0 ≡ end = omega arith in ap (pairs_before groups) e }
+back_begins cmp old number frame end = record { carries = carries_itself cmp old; still = refl; same = λ t groups has. let e : end - 0 ≡ end = omega arith in ap (pairs_before groups) e }
 
 module _ (cmp : Cmp) (old now new : Seen) (number : ℕ) (frame : Frame) (end step index : ℕ) (less : step < end) (its_index : index ≡ end - step - 1) (s : IsSearchingBack cmp old now number frame end step)
     (carries : Carries cmp now new) (pairs : List Pair) (found : IsTrue new.facts.faithful → (groups : List (List Pair)) → HasData cmp now number frame groups → slice_get groups index ≡ Some pairs)
@@ -139,9 +143,10 @@ module _ (cmp : Cmp) (old now new : Seen) (number : ℕ) (frame : Frame) (end st
       let e : suc index ≡ end - step = omega (arith, its_index, less) in
       (there, sym (s.same m groups has) ∙ ap (pairs_before groups) (sym e) ∙ before_more groups index pairs there)
 
-  pub back_on : is_some cursor.place ≡ false → IsSearchingBack cmp old new number frame end (step + 1)
-  back_on nowhere = record {
+  pub back_on : is_some cursor.place ≡ false → new.facts.failures ≡ now.facts.failures → IsSearchingBack cmp old new number frame end (step + 1)
+  back_on nowhere stood = record {
     carries = carries_both cmp old now new s.carries carries;
+    still = stood ∙ s.still;
     same = λ t groups has.
         let h = ends_here t groups has in
         let none = none_if pairs cursor.place last nowhere in

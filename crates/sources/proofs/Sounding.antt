@@ -1,12 +1,16 @@
 -- That what is kept stays right, and what is answered of tables that the store has.
 use Rattle.std.proofs.Common.{◌≡◌, ℕ, List, Option, Result, Ok, Err, IfOk, IfErr, IsTrue, sym, ap, ◌∙◌, subst, arith, inl, inr}
+use Rattle.std.specs.FinMap.{get}
+use Rattle.std.specs.Option.{option_or}
 use Rattle.cache.specs.Blocks.{KeptBlock}
 use Rattle.cache.specs.Holding.{HoldsBlocks, HoldsTables, IsBlockOf, IsContent, IsOpenOf}
-use Rattle.cache.specs.Tables.{KeptTable, RefusesTable, table_at}
+use Rattle.cache.specs.Tables.{IsNameOf, KeptTable, RefusesTable, table_at}
 use Rattle.cache.proofs.HoldingTables.{still_open}
 use Rattle.coding.specs.declared.error.DbError.{DbError}
 use Rattle.coding.specs.declared.error.DbError.TheVariants.{OutOfMemory, Io, Corrupt, Unsupported}
 use Rattle.cursor.specs.Places.{Cmp}
+use Rattle.edits.specs.Names.{name_of}
+use Rattle.edits.specs.declared.names.FileName.TheVariants.{Table, OldTable}
 use Rattle.ikey.specs.Entries.{Pair}
 use Rattle.sources.specs.Tables.{Seen, IsSound, Carries, HasTable, SaysOf, IsOpen, IsBlockDamaged, IsBlockUnsupported}
 use Rattle.store.specs.Files.{Facts, Files}
@@ -30,8 +34,23 @@ sound_opened cmp old facts tables reads t holds sound =
 pub says_open : (cmp : Cmp) (old new : Seen) (number : ℕ) (answer : Result Opened DbError)
     → (IsSound cmp old → IsTrue new.facts.faithful → IfOk answer (λ table. IsOpenOf cmp (table_at old.facts.files) new.facts number table))
     → IfOk answer (λ table. SaysOf cmp old new number (λ file. HasFile new.facts table.name file × IsOpen cmp file table.frame))
-says_open cmp old new number (Ok table) h = λ t file has. let p = h has.sound t file has.file_is in (p.0, (p.1, p.2))
+says_open cmp old new number (Ok table) h = λ t file has. let p = (h has.sound t).1 file has.file_is in (p.0, (p.1, p.2))
 says_open cmp old new number (Err e) h = tt
+
+-- ---- files change
+
+-- the table of a number is still the same, where both of its names have the files that they had
+pub same_table : (old new : Files) (number : ℕ) → get new (name_of (Table number)) ≡ get old (name_of (Table number)) → get new (name_of (OldTable number)) ≡ get old (name_of (OldTable number))
+    → table_at new number ≡ table_at old number
+same_table old new number table old_table = ap (λ found. option_or found (get new (name_of (OldTable number)))) table ∙ ap (option_or (get old (name_of (Table number)))) old_table
+
+-- and so is the file of either name
+pub same_file : (old new : Files) (number : ℕ) (name : List ℕ) → IsNameOf number name → get new (name_of (Table number)) ≡ get old (name_of (Table number))
+    → get new (name_of (OldTable number)) ≡ get old (name_of (OldTable number)) → get new name ≡ get old name
+same_file old new number name is table old_table = elim is [
+  | inl its ↦ subst (λ n. get new n ≡ get old n) (sym its) table
+  | inr its ↦ subst (λ n. get new n ≡ get old n) (sym its) old_table
+]
 
 -- ---- a block is read through an open table
 

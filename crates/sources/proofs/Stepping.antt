@@ -28,7 +28,7 @@ end_if pairs place j e none = elim (cases_lt (suc j) (length pairs)) [
 ]
 
 module _ (groups : List (List Pair)) (index : ℕ) (old new : Placed) (place : Option ℕ) (h : IsInBlock groups index old place) where
-  pub stepped_on : is_some (option_and_then (block.index_behind old.pairs) old.place) ≡ true → new ≡ record { pairs = old.pairs; place = option_and_then (block.index_behind old.pairs) old.place }
+  stepped_on : is_some (option_and_then (block.index_behind old.pairs) old.place) ≡ true → new ≡ record { pairs = old.pairs; place = option_and_then (block.index_behind old.pairs) old.place }
       → IsInBlock groups index new (option_and_then (index_behind (joined groups)) place)
   stepped_on some is =
       let less = behind_if old.pairs old.place h.inside h.stands some in
@@ -57,6 +57,10 @@ module _ (groups : List (List Pair)) (index : ℕ) (old new : Placed) (place : O
         ap (λ (n : ℕ). within (joined groups) (pairs_before groups n)) (sym start) ∙ ap (within (joined groups)) e ∙ sym (ap (option_and_then (index_behind (joined groups))) h.place_is),
       )
 
+  pub stepped : is_some (option_and_then (block.index_behind old.pairs) old.place) ≡ true → new ≡ record { pairs = old.pairs; place = option_and_then (block.index_behind old.pairs) old.place }
+      → (is_some (option_and_then (index_behind (joined groups)) place) ≡ true) × IsInBlock groups index new (option_and_then (index_behind (joined groups)) place)
+  stepped some is = let moved = stepped_on some is in (ap is_some moved.place_is, moved)
+
   stays_there : (inside : ℕ) → h.inside ≡ suc inside → new ≡ record { pairs = old.pairs; place = option_and_then block.index_before old.place } → IsInBlock groups index new (option_and_then index_before place)
   stays_there inside e is =
       let before : ℕ = pairs_before groups index in
@@ -71,12 +75,16 @@ module _ (groups : List (List Pair)) (index : ℕ) (old new : Placed) (place : O
         place_is = ap (option_and_then index_before) (h.place_is ∙ ap Some sum);
       }
 
-  pub stepped_back : is_some (option_and_then block.index_before old.place) ≡ true → new ≡ record { pairs = old.pairs; place = option_and_then block.index_before old.place }
+  stepped_back : is_some (option_and_then block.index_before old.place) ≡ true → new ≡ record { pairs = old.pairs; place = option_and_then block.index_before old.place }
       → IsInBlock groups index new (option_and_then index_before place)
   stepped_back some is = by h.inside refl where
     by : (n : ℕ) → h.inside ≡ n → IsInBlock groups index new (option_and_then index_before place)
     by zero e = absurd (some_or_not (is_some (option_and_then block.index_before old.place)) some (ap (λ (p : Option ℕ). is_some (option_and_then block.index_before p)) (h.stands ∙ ap Some e)))
     by (suc n) e = stays_there n e is
+
+  pub stepped_to_front : is_some (option_and_then block.index_before old.place) ≡ true → new ≡ record { pairs = old.pairs; place = option_and_then block.index_before old.place }
+      → (is_some (option_and_then index_before place) ≡ true) × IsInBlock groups index new (option_and_then index_before place)
+  stepped_to_front some is = let moved = stepped_back some is in (ap is_some moved.place_is, moved)
 
   pub stands_first : is_some (option_and_then block.index_before old.place) ≡ false → (index ≤ length groups) × (index_before (pairs_before groups index) ≡ option_and_then index_before place)
   stands_first none = by h.inside refl where

@@ -1,12 +1,9 @@
 -- Where a cursor stands in the data blocks of a table.
-use Rattle.std.specs.Prelude.{◌≡◌, ◌<◌, ◌≤◌, ◌+◌, ℕ, zero, suc, Bool, false, List, [], ◌∷◌, Option, Some, None, length, slice_get, is_some, option_and_then}
+use Rattle.std.specs.Prelude.{◌≡◌, ◌<◌, ◌≤◌, ◌+◌, ℕ, zero, suc, Bool, true, false, List, [], ◌∷◌, Option, Some, None, Result, Ok, Err, IsTrue, length, slice_get, is_some, option_and_then}
 use Rattle.std.specs.List.{flat_map}
 use Rattle.block.specs.Places.{Placed}
 use Rattle.cache.specs.Tables.{table_at}
 use Rattle.coding.specs.declared.error.DbError.{DbError}
-use Rattle.coding.specs.declared.error.DbError.TheVariants.{Corrupt, Unsupported}
-use Rattle.coding.specs.declared.error.FileKind.TheVariants as file_kind
-use Rattle.coding.specs.declared.error.Damage.TheVariants as damage
 use Rattle.cursor.specs.Places.{Cmp, Listed, Rises, within, index_before, index_behind}
 use Rattle.ikey.specs.Below.{IsBelowInternal}
 use Rattle.ikey.specs.Entries.{Pair}
@@ -77,19 +74,22 @@ pub record StopsAt (passed : List ℕ → Type 0) (pairs : List Pair) (from inde
 
 -- It has gone on to the pair behind; or it stays, and the pair behind is the first from this block on.
 abbrev pub StepsOn : List (List Pair) → Option (InBlock Placed) → Option ℕ → Option ℕ → Type 0
-StepsOn groups new place None = IsPlacedIn groups new (option_and_then (index_behind (joined groups)) place)
+StepsOn groups new place None =
+    IsTrue (is_some (option_and_then (index_behind (joined groups)) place)) × IsPlacedIn groups new (option_and_then (index_behind (joined groups)) place)
 StepsOn groups new place (Some start) =
     IsPlacedIn groups new place × (start ≤ length groups) × (within (joined groups) (pairs_before groups start) ≡ option_and_then (index_behind (joined groups)) place)
 
 -- It has gone back to the pair in front; or it stays, and the pair in front is the last of the blocks in front of this one.
 abbrev pub StepsBack : List (List Pair) → Option (InBlock Placed) → Option ℕ → Option ℕ → Type 0
-StepsBack groups new place None = IsPlacedIn groups new (option_and_then index_before place)
+StepsBack groups new place None = IsTrue (is_some (option_and_then index_before place)) × IsPlacedIn groups new (option_and_then index_before place)
 StepsBack groups new place (Some end) =
     IsPlacedIn groups new place × (end ≤ length groups) × (index_before (pairs_before groups end) ≡ option_and_then index_before place)
 
--- ---- refusals
+-- ---- steps over the table
 
--- what isn't supported of a table that was supported is damage
-abbrev pub damage_of : DbError → DbError
-damage_of (Unsupported what) = Corrupt file_kind.Table damage.Kind
-damage_of e = e
+-- What a step that looks for this place answers: that it has gone there; that there is none; or why it was refused. Where
+-- it hasn't gone on, it stays.
+abbrev pub StepsTo : (Listed → Type 0) → (Listed → Option ℕ) → Result Bool DbError → Listed → Type 0
+StepsTo lists to (Ok true) at = IsTrue (is_some (to at)) × lists (record at { place = to at })
+StepsTo lists to (Ok false) at = (to at ≡ None) × lists at
+StepsTo lists to (Err error) at = lists at

@@ -1,11 +1,12 @@
 -- A store whose tables are read through caches.
-use Rattle.std.specs.Prelude.{◌≡◌, ◌⊎◌, ℕ, List, Some, [], IsTrue, Contains, Result, Ok, Err}
+use Rattle.std.specs.FinMap.{get}
+use Rattle.std.specs.Prelude.{◌≡◌, ◌⊎◌, ℕ, List, Some, [], IsTrue, Contains}
 use Rattle.cache.specs.Blocks.{BlockCache, KeptBlock}
 use Rattle.cache.specs.Holding.{HoldsBlocks, HoldsTables}
 use Rattle.cache.specs.Tables.{TableCache, KeptTable, table_at}
-use Rattle.coding.specs.declared.error.DbError.{DbError}
-use Rattle.coding.specs.declared.error.DbError.TheVariants.{OutOfMemory}
 use Rattle.cursor.specs.Places.{Cmp}
+use Rattle.edits.specs.Names.{name_of}
+use Rattle.edits.specs.declared.names.FileName.TheVariants.{Table, OldTable}
 use Rattle.ikey.specs.Entries.{Pair}
 use Rattle.store.specs.Files.{Facts}
 use Rattle.table.specs.Frame.{Frame, IsFrame}
@@ -23,6 +24,10 @@ pub record Seen : Type 0 where
 abbrev pub seen : Facts → TableCache → BlockCache → Seen
 seen facts tables blocks = record { facts = facts; tables = tables.tables; blocks = blocks.blocks }
 
+-- how many tables stay open
+abbrev pub open_tables : ℕ
+open_tables = 990
+
 -- Each kept table and block is what a read of the store's file gives, of those numbers of which it has a table.
 pub record IsSound (cmp : Cmp) (source : Seen) : Type 0 where
   pub tables : HoldsTables cmp (table_at source.facts.files) source.facts source.tables
@@ -37,15 +42,6 @@ pub record Carries (cmp : Cmp) (old new : Seen) : Type 0 where
 pub record HasTable (cmp : Cmp) (source : Seen) (number : ℕ) (file : List ℕ) : Type 0 where
   pub sound : IsSound cmp source
   pub file_is : table_at source.facts.files number ≡ Some file
-
--- Out of memory comes, as an Ok, only of a call in which the store didn't fail.
-abbrev pub IsErrorStill : DbError → Facts → Facts → Type 0
-IsErrorStill OutOfMemory old new = new.failures ≡ old.failures
-IsErrorStill e old new = Unit {0}
-
-abbrev pub IsStill : {T : Type 0} → Facts → Facts → Result T DbError → Type 0
-IsStill old new (Ok value) = new.failures ≡ old.failures
-IsStill old new (Err e) = IsErrorStill e old new
 
 -- of a faithful store, this is so of the table of this number, where there is one
 abbrev pub SaysOf : Cmp → Seen → Seen → ℕ → (List ℕ → Type 0) → Type 0
@@ -82,4 +78,11 @@ SoundLasts = (cmp : Cmp) (source : Seen) (facts : Facts)
     → ((kept : KeptTable) (file : List ℕ) → Contains source.tables kept → table_at facts.files kept.number ≡ Some file
     → (table_at source.facts.files kept.number ≡ Some file) × (HasFile source.facts kept.table.name file → HasFile facts kept.table.name file))
     → ((kept : KeptBlock) (file : List ℕ) → Contains source.blocks kept → table_at facts.files kept.file ≡ Some file → table_at source.facts.files kept.file ≡ Some file)
+    → IsSound cmp source → IsSound cmp (record { facts = facts; tables = source.tables; blocks = source.blocks })
+
+-- And so it does while files change, where those that have the name of a table stay as they are.
+abbrev pub SoundStays : Type 0
+SoundStays = (cmp : Cmp) (source : Seen) (facts : Facts)
+    → ((number : ℕ) → get facts.files (name_of (Table number)) ≡ get source.facts.files (name_of (Table number)))
+    → ((number : ℕ) → get facts.files (name_of (OldTable number)) ≡ get source.facts.files (name_of (OldTable number)))
     → IsSound cmp source → IsSound cmp (record { facts = facts; tables = source.tables; blocks = source.blocks })

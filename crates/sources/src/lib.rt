@@ -13,4 +13,4 @@ pub use memory_cursor::MemoryCursor;
 pub use memory_laws::{kept_for_all_is_same, later_inserts_are_kept, seen_entries_have_the_view};
 pub use newest::table_value;
 pub use table_cursor::TableCursor;
-pub use tables::{Tables, empty_is_sound, sound_lasts};
+pub use tables::{Tables, empty_is_sound, sound_lasts, sound_stays};

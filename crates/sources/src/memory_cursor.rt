@@ -149,7 +149,9 @@ impl<K: KeyOrder> Cursor<K, MemTable<K>> for MemoryCursor<K> {
 
     ghost stands = { λ cursor. is_some cursor.node };
 
-    ghost limited = { λ cursor. ⊥ };
+    ghost limited = { λ cursor source. ⊥ };
+
+    ghost leaves = { λ old new. old.inserts ≡ new.inserts };
 
     fn first(&mut self, alloc: Global, source: &mut MemTable<K>) -> Result<(), DbError> {
         let node = source.first();
@@ -219,6 +221,12 @@ impl<K: KeyOrder> Cursor<K, MemTable<K>> for MemoryCursor<K> {
     ghost still = { λ cursor source. refl };
 
     ghost onward = { λ cursor first second third k l. k ∙ l };
+
+    ghost limits_kept = { λ cursor old new k l. l };
+
+    ghost leaves_still = { λ source. refl };
+
+    ghost leaves_onward = { λ first second third k l. k ∙ l };
 }
 
 // The first node from this one on whose entry is up to the sequence.

@@ -3,8 +3,9 @@
 ghost use Rattle.std.specs.Prelude.{◌≡◌, ◌<◌, ◌^◌, ⊤, ℕ, List, Some, IsSome, IfOk, IfErr, MatchBool, slice_get};
 ghost use Rattle.cursor.specs.Moves.{Refuses};
 ghost use Rattle.ikey.specs.Entries.{InternalEntry, Pair, IsPair};
-ghost use Rattle.sources.specs.Tables.{Carries, HasTable, IsStill, SaysOf, seen};
+ghost use Rattle.sources.specs.Tables.{Carries, HasTable, SaysOf, seen};
 ghost use Rattle.sources.specs.Values.{DeniesKey, HasValue, IsNoTable, IsPastLimit, SaysOfEntry};
+ghost use Rattle.table.specs.Reading.{IsStill};
 
 use crate::table_search::{Aim, search_on};
 use crate::tables::Tables;

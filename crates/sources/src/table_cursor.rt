@@ -30,9 +30,14 @@ impl<K: KeyOrder> TableCursor<K> {
     ghost use Rattle.std.specs.Prelude.{◌≡◌, ◌<◌, List, ℕ, None, Some, IsTrue, IfOk, IfErr, OnOk};
     ghost use Rattle.cache.specs.Tables.{RefusesTable, table_at};
     ghost use Rattle.cursor.specs.Merging.{listed};
+    ghost use Rattle.cursor.specs.Moves.{Refuses, after_move};
+    ghost use Rattle.cursor.specs.Places.{Listed, to_first, to_key, to_last, to_next, to_prev};
     ghost use Rattle.ikey.specs.Entries.{InternalEntry};
-    ghost use Rattle.sources.specs.TablePlaces.{ListsTable};
-    ghost use Rattle.sources.specs.Tables.{Carries, HasTable, SaysOf, seen};
+    ghost use Rattle.ikey.specs.Keys.{Key, IsKey};
+    ghost use Rattle.sources.specs.TablePlaces.{ListsTable, StepsTo, block_stands};
+    ghost use Rattle.sources.specs.Tables.{Carries, HasTable, IsOpen, SaysOf, seen};
+    ghost use Rattle.table.specs.Frame.{AnyLong, handles};
+    ghost use Rattle.table.specs.Reading.{IsStill};
     ghost use Rattle.table.specs.Refusals.{IsFrameDamaged, IsFrameUnsupported};
     ghost use Rattle.table.specs.Table.{IsTable};
 
@@ -50,7 +55,10 @@ impl<K: KeyOrder> TableCursor<K> {
         ensures lists { IfOk result (λ cursor. SaysOf K.cmp (seen (S.facts source.old.store) source.old.tables source.old.blocks) (seen (S.facts source.new.store) source.new.tables source.new.blocks) number
             (λ file. (entries : List InternalEntry) → IsTable K.cmp file entries
             → ListsTable K.cmp (seen (S.facts source.new.store) source.new.tables source.new.blocks) number cursor.table.value.frame None (listed entries None))) }
+        ensures open { IfOk result (λ cursor. SaysOf K.cmp (seen (S.facts source.old.store) source.old.tables source.old.blocks) (seen (S.facts source.new.store) source.new.tables source.new.blocks) number
+            (λ file. IsOpen K.cmp file cursor.table.value.frame)) }
         ensures stood { OnOk result ((S.facts source.new.store).failures ≡ (S.facts source.old.store).failures) }
+        ensures still { IsStill (S.facts source.old.store) (S.facts source.new.store) result }
         ensures refused { IfErr result (λ e. RefusesTable e (S.facts source.old.store) (S.facts source.new.store) number (IsFrameDamaged K.cmp) IsFrameUnsupported) }
     {
         let table = source.get_table(alloc, number)?;
@@ -59,6 +67,130 @@ impl<K: KeyOrder> TableCursor<K> {
             table,
             here: None,
         })
+    }
+
+    /// Stands on the first entry, or nowhere where there is none.
+    pub fn to_first<S: Store>(
+        &mut self,
+        alloc: Global,
+        source: &mut Tables<K, S>,
+    ) -> Result<(), DbError>
+        ensures carries { Carries K.cmp (seen (S.facts source.old.store) source.old.tables source.old.blocks) (seen (S.facts source.new.store) source.new.tables source.new.blocks) }
+        ensures number { self.new.number ≡ self.old.number }
+        ensures table { self.new.table ≡ self.old.table }
+        ensures moves { IsTrue (S.facts source.new.store).faithful → (at : Listed) → ListsTable K.cmp (seen (S.facts source.old.store) source.old.tables source.old.blocks) self.old.number self.old.table.value.frame self.old.here at
+            → ListsTable K.cmp (seen (S.facts source.new.store) source.new.tables source.new.blocks) self.old.number self.old.table.value.frame self.new.here (after_move result to_first at) }
+        ensures still { IsStill (S.facts source.old.store) (S.facts source.new.store) result }
+        ensures refused { IfErr result (λ e. Refuses e (S.facts source.old.store) (S.facts source.new.store)
+            ((at : Listed) → ListsTable K.cmp (seen (S.facts source.old.store) source.old.tables source.old.blocks) self.old.number self.old.table.value.frame self.old.here at → ⊥)
+            (AnyLong (handles self.old.table.value.frame))) }
+    {
+        self.here = search_on(alloc, source, self.number, &self.table, 0, Aim::First)?;
+        Ok(())
+    }
+
+    /// Stands on the last entry, or nowhere where there is none.
+    pub fn to_last<S: Store>(
+        &mut self,
+        alloc: Global,
+        source: &mut Tables<K, S>,
+    ) -> Result<(), DbError>
+        ensures carries { Carries K.cmp (seen (S.facts source.old.store) source.old.tables source.old.blocks) (seen (S.facts source.new.store) source.new.tables source.new.blocks) }
+        ensures number { self.new.number ≡ self.old.number }
+        ensures table { self.new.table ≡ self.old.table }
+        ensures moves { IsTrue (S.facts source.new.store).faithful → (at : Listed) → ListsTable K.cmp (seen (S.facts source.old.store) source.old.tables source.old.blocks) self.old.number self.old.table.value.frame self.old.here at
+            → ListsTable K.cmp (seen (S.facts source.new.store) source.new.tables source.new.blocks) self.old.number self.old.table.value.frame self.new.here (after_move result to_last at) }
+        ensures still { IsStill (S.facts source.old.store) (S.facts source.new.store) result }
+        ensures refused { IfErr result (λ e. Refuses e (S.facts source.old.store) (S.facts source.new.store)
+            ((at : Listed) → ListsTable K.cmp (seen (S.facts source.old.store) source.old.tables source.old.blocks) self.old.number self.old.table.value.frame self.old.here at → ⊥)
+            (AnyLong (handles self.old.table.value.frame))) }
+    {
+        let end = self.table.places().len();
+        self.here = search_back(alloc, source, self.number, &self.table, end)?;
+        Ok(())
+    }
+
+    /// Stands on the first entry whose internal key isn't below the target, an internal key, or nowhere where there is none.
+    pub fn to_key<S: Store>(
+        &mut self,
+        alloc: Global,
+        source: &mut Tables<K, S>,
+        target: &[u8],
+    ) -> Result<(), DbError>
+        ensures carries { Carries K.cmp (seen (S.facts source.old.store) source.old.tables source.old.blocks) (seen (S.facts source.new.store) source.new.tables source.new.blocks) }
+        ensures number { self.new.number ≡ self.old.number }
+        ensures table { self.new.table ≡ self.old.table }
+        ensures moves { (key : Key) → IsKey target.now key → IsTrue (S.facts source.new.store).faithful → (at : Listed) → ListsTable K.cmp (seen (S.facts source.old.store) source.old.tables source.old.blocks) self.old.number self.old.table.value.frame self.old.here at
+            → ListsTable K.cmp (seen (S.facts source.new.store) source.new.tables source.new.blocks) self.old.number self.old.table.value.frame self.new.here (after_move result (to_key K.cmp key) at) }
+        ensures still { IsStill (S.facts source.old.store) (S.facts source.new.store) result }
+        ensures refused { IfErr result (λ e. Refuses e (S.facts source.old.store) (S.facts source.new.store)
+            ((key : Key) → IsKey target.now key → (at : Listed) → ListsTable K.cmp (seen (S.facts source.old.store) source.old.tables source.old.blocks) self.old.number self.old.table.value.frame self.old.here at → ⊥)
+            (AnyLong (handles self.old.table.value.frame))) }
+    {
+        let start = self.table.first_place(target);
+        let aim = Aim::From(target);
+        self.here = search_on(alloc, source, self.number, &self.table, start, aim)?;
+        Ok(())
+    }
+
+    /// Steps to the pair behind, where there is one; else it stays where it stands, and the answer is false.
+    pub fn step<S: Store>(
+        &mut self,
+        alloc: Global,
+        source: &mut Tables<K, S>,
+    ) -> Result<bool, DbError>
+        requires { IsTrue (block_stands self.old.here) }
+        ensures carries { Carries K.cmp (seen (S.facts source.old.store) source.old.tables source.old.blocks) (seen (S.facts source.new.store) source.new.tables source.new.blocks) }
+        ensures number { self.new.number ≡ self.old.number }
+        ensures table { self.new.table ≡ self.old.table }
+        ensures steps { IsTrue (S.facts source.new.store).faithful → (at : Listed) → ListsTable K.cmp (seen (S.facts source.old.store) source.old.tables source.old.blocks) self.old.number self.old.table.value.frame self.old.here at
+            → StepsTo (ListsTable K.cmp (seen (S.facts source.new.store) source.new.tables source.new.blocks) self.old.number self.old.table.value.frame self.new.here) to_next result at }
+        ensures still { IsStill (S.facts source.old.store) (S.facts source.new.store) result }
+        ensures refused { IfErr result (λ e. Refuses e (S.facts source.old.store) (S.facts source.new.store)
+            ((at : Listed) → ListsTable K.cmp (seen (S.facts source.old.store) source.old.tables source.old.blocks) self.old.number self.old.table.value.frame self.old.here at → ⊥)
+            (AnyLong (handles self.old.table.value.frame))) }
+    {
+        let start = match step_on(&mut self.here)? {
+            Some(start) => start,
+            None => return Ok(true),
+        };
+        match search_on(alloc, source, self.number, &self.table, start, Aim::First)? {
+            Some(found) => {
+                self.here = Some(found);
+                Ok(true)
+            }
+            None => Ok(false),
+        }
+    }
+
+    /// Steps to the pair in front, where there is one; else it stays where it stands, and the answer is false.
+    pub fn step_back<S: Store>(
+        &mut self,
+        alloc: Global,
+        source: &mut Tables<K, S>,
+    ) -> Result<bool, DbError>
+        requires { IsTrue (block_stands self.old.here) }
+        ensures carries { Carries K.cmp (seen (S.facts source.old.store) source.old.tables source.old.blocks) (seen (S.facts source.new.store) source.new.tables source.new.blocks) }
+        ensures number { self.new.number ≡ self.old.number }
+        ensures table { self.new.table ≡ self.old.table }
+        ensures steps { IsTrue (S.facts source.new.store).faithful → (at : Listed) → ListsTable K.cmp (seen (S.facts source.old.store) source.old.tables source.old.blocks) self.old.number self.old.table.value.frame self.old.here at
+            → StepsTo (ListsTable K.cmp (seen (S.facts source.new.store) source.new.tables source.new.blocks) self.old.number self.old.table.value.frame self.new.here) to_prev result at }
+        ensures still { IsStill (S.facts source.old.store) (S.facts source.new.store) result }
+        ensures refused { IfErr result (λ e. Refuses e (S.facts source.old.store) (S.facts source.new.store)
+            ((at : Listed) → ListsTable K.cmp (seen (S.facts source.old.store) source.old.tables source.old.blocks) self.old.number self.old.table.value.frame self.old.here at → ⊥)
+            (AnyLong (handles self.old.table.value.frame))) }
+    {
+        let end = match step_back(&mut self.here)? {
+            Some(end) => end,
+            None => return Ok(true),
+        };
+        match search_back(alloc, source, self.number, &self.table, end)? {
+            Some(found) => {
+                self.here = Some(found);
+                Ok(true)
+            }
+            None => Ok(false),
+        }
     }
 }
 
@@ -76,16 +208,17 @@ impl<K: KeyOrder, S: Store> Cursor<K, Tables<K, S>> for TableCursor<K> {
 
     ghost stands = { λ cursor. block_stands cursor.here };
 
-    ghost limited = { λ cursor. AnyLong (handles cursor.table.value.frame) };
+    ghost limited = { λ cursor source. AnyLong (handles cursor.table.value.frame) };
+
+    ghost leaves = { λ old new. Unit {0} };
 
     fn first(&mut self, alloc: Global, source: &mut Tables<K, S>) -> Result<(), DbError> {
-        self.here = search_on(alloc, source, self.number, &self.table, 0, Aim::First)?;
+        self.to_first(alloc, source)?;
         Ok(())
     }
 
     fn last(&mut self, alloc: Global, source: &mut Tables<K, S>) -> Result<(), DbError> {
-        let end = self.table.places().len();
-        self.here = search_back(alloc, source, self.number, &self.table, end)?;
+        self.to_last(alloc, source)?;
         Ok(())
     }
 
@@ -95,27 +228,23 @@ impl<K: KeyOrder, S: Store> Cursor<K, Tables<K, S>> for TableCursor<K> {
         source: &mut Tables<K, S>,
         target: &[u8],
     ) -> Result<(), DbError> {
-        let start = self.table.first_place(target);
-        let aim = Aim::From(target);
-        self.here = search_on(alloc, source, self.number, &self.table, start, aim)?;
+        self.to_key(alloc, source, target)?;
         Ok(())
     }
 
     fn next(&mut self, alloc: Global, source: &mut Tables<K, S>) -> Result<(), DbError> {
-        let start = match step_on(&mut self.here)? {
-            Some(start) => start,
-            None => return Ok(()),
-        };
-        self.here = search_on(alloc, source, self.number, &self.table, start, Aim::First)?;
+        if self.step(alloc, source)? {
+            return Ok(());
+        }
+        self.here = None;
         Ok(())
     }
 
     fn prev(&mut self, alloc: Global, source: &mut Tables<K, S>) -> Result<(), DbError> {
-        let end = match step_back(&mut self.here)? {
-            Some(end) => end,
-            None => return Ok(()),
-        };
-        self.here = search_back(alloc, source, self.number, &self.table, end)?;
+        if self.step_back(alloc, source)? {
+            return Ok(());
+        }
+        self.here = None;
         Ok(())
     }
 
@@ -151,6 +280,12 @@ impl<K: KeyOrder, S: Store> Cursor<K, Tables<K, S>> for TableCursor<K> {
     ghost still = { λ cursor source. table_still K.cmp cursor.number _ };
 
     ghost onward = { λ cursor first second third k l. table_onward K.cmp cursor.number _ _ _ k l };
+
+    ghost limits_kept = { λ cursor old new k l. l };
+
+    ghost leaves_still = { λ source. tt };
+
+    ghost leaves_onward = { λ first second third k l. tt };
 }
 
 // One step on within the block. On its last pair nothing moves, and the answer is the index of the block behind.

@@ -6,14 +6,15 @@ ghost use Rattle.cursor.specs.Moves.{Refuses};
 ghost use Rattle.cursor.specs.Places.{index_before};
 ghost use Rattle.cursor.specs.Places.{within as within_list};
 ghost use Rattle.ikey.specs.Entries.{Pair};
-ghost use Rattle.sources.specs.TablePlaces.{IsPlacedIn, Passed, StopsAt, damage_of, joined, pairs_before};
-ghost use Rattle.sources.specs.Tables.{Carries, HasData, IsStill, seen};
+ghost use Rattle.sources.specs.TablePlaces.{IsPlacedIn, Passed, StopsAt, joined, pairs_before};
+ghost use Rattle.sources.specs.Tables.{Carries, HasData, seen};
 ghost use Rattle.table.specs.Frame.{AnyLong, handles};
+ghost use Rattle.table.specs.Reading.{IsStill};
 
 use crate::in_block::InBlock;
 use crate::tables::Tables;
-use block::{Block, BlockCursor, MAX_BLOCK_LENGTH};
-use coding::{Damage, DbError, Feature, FileKind};
+use block::{Block, BlockCursor};
+use coding::{Damage, DbError, FileKind};
 use ikey::{Internal, KeyOrder};
 use std::alloc::{AllocError, Global};
 use std::rc::Rc;
@@ -30,7 +31,7 @@ pub enum Aim<'a> {
 }
 
 /// Looks on from a block for a pair: the block that has it, and a cursor there. Corrupt, where the source hasn't this
-/// table; Unsupported, where a block has more than 2^30 bytes.
+/// table; Unsupported, where it hasn't, or a block has more than 2^30 bytes.
 pub fn search_on<K: KeyOrder, S: Store>(
     alloc: Global,
     source: &mut Tables<K, S>,
@@ -73,6 +74,7 @@ pub fn search_back<K: KeyOrder, S: Store>(
     ensures found { IfOk result (λ here. IsTrue (S.facts source.new.store).faithful → (groups : List (List Pair))
         → HasData K.cmp (seen (S.facts source.old.store) source.old.tables source.old.blocks) number table.now.frame groups → end ≤ length groups
         → IsPlacedIn groups here (index_before (pairs_before groups end))) }
+    ensures still { IsStill (S.facts source.old.store) (S.facts source.new.store) result }
     ensures refused { IfErr result (λ e. Refuses e (S.facts source.old.store) (S.facts source.new.store)
         ((groups : List (List Pair)) → HasData K.cmp (seen (S.facts source.old.store) source.old.tables source.old.blocks) number table.now.frame groups → end ≤ length groups → ⊥)
         (AnyLong (handles table.now.frame))) }
@@ -131,22 +133,6 @@ fn read_index<K: KeyOrder, S: Store>(
     let Some(place) = table.places().get(index) else {
         return Err(DbError::Corrupt(FileKind::Table, Damage::Missing));
     };
-    let handle = place.handle;
-    if handle.size > MAX_BLOCK_LENGTH as u64 {
-        return Err(DbError::Unsupported(Feature::BlockSize));
-    }
-    match source.read_block(alloc, number, handle) {
-        Ok(block) => Ok(block),
-        Err(e) => Err(refusal(e)),
-    }
-}
-
-// The table was supported when it was opened, and a block that is short enough is, where it is a table's.
-fn refusal(e: DbError) -> DbError
-    ensures { result ≡ damage_of e }
-{
-    match e {
-        DbError::Unsupported(_) => DbError::Corrupt(FileKind::Table, Damage::Kind),
-        e => e,
-    }
+    let block = source.read_block(alloc, number, place.handle)?;
+    Ok(block)
 }

@@ -1,15 +1,20 @@
 //! A store whose tables are read through caches (LevelDB's db/table_cache.cc).
 
-ghost use Rattle.sources.specs.Tables.{EmptyIsSound, SoundLasts};
+ghost use Rattle.sources.specs.Tables.{EmptyIsSound, SoundLasts, SoundStays};
 
 use block::Block;
 use cache::{BlockCache, TableCache};
 use coding::DbError;
 use ikey::{Internal, KeyOrder};
-use std::alloc::Global;
+use std::alloc::{AllocError, Global};
+use std::num::NonZeroUsize;
 use std::rc::Rc;
 use store::Store;
 use table::{Handle, Table};
+
+// How many tables stay open: LevelDB's `max_open_files`, 1000, less ten for its other files (db/db_impl.cc,
+// `TableCacheSize`).
+const OPEN_TABLES: usize = 990;
 
 /// A store, with the tables that stay open and the blocks that were read.
 #[derive(Drop)]
@@ -20,13 +25,57 @@ pub struct Tables<K: KeyOrder, S> {
 }
 
 impl<K: KeyOrder, S: Store> Tables<K, S> {
-    ghost use Rattle.std.specs.Prelude.{◌≡◌, ◌<◌, IsTrue, IfOk, IfErr, OnOk};
+    ghost use Rattle.std.specs.Prelude.{◌≡◌, ◌<◌, [], IsTrue, IfOk, IfErr, OnOk, OnErr};
+    ghost use Rattle.std.specs.NonZero.{non_zero_usize_get};
     ghost use Rattle.cache.specs.Blocks.{answer_of};
     ghost use Rattle.cache.specs.Tables.{RefusesTable, table_answer_of};
-    ghost use Rattle.sources.specs.Tables.{Carries, HasTable, IsBlockDamaged, IsBlockUnsupported, IsOpen, SaysOf, seen};
+    ghost use Rattle.sources.specs.Tables.{Carries, HasTable, IsBlockDamaged, IsBlockUnsupported, IsOpen, SaysOf, open_tables, seen};
     ghost use Rattle.table.specs.Reading.{HasFile};
     ghost use Rattle.table.specs.Refusals.{IsFrameDamaged, IsFrameUnsupported};
     ghost use Rattle.table.specs.Table.{HasBlock};
+
+    /// This store, of which nothing is kept: no table stays open and no block in memory, until `begin`.
+    pub fn over(store: S) -> Self
+        ensures store { result.store ≡ store }
+        ensures tables { result.tables.tables ≡ [] }
+        ensures blocks { result.blocks.blocks ≡ [] }
+        ensures capacity { (result.tables.capacity ≡ 0) × (result.blocks.capacity ≡ 0) }
+    {
+        Tables {
+            store,
+            tables: TableCache::none(),
+            blocks: BlockCache::none(),
+        }
+    }
+
+    /// Begins to keep what is read: at most 990 open tables, and so many blocks. Nothing that was kept before stays.
+    pub fn begin(&mut self, alloc: Global, blocks: NonZeroUsize) -> Result<(), AllocError>
+        ensures store { self.new.store ≡ self.old.store }
+        ensures tables { OnOk result (self.new.tables.tables ≡ []) }
+        ensures blocks { OnOk result (self.new.blocks.blocks ≡ []) }
+        ensures capacity { OnOk result ((self.new.tables.capacity ≡ open_tables) × (self.new.blocks.capacity ≡ non_zero_usize_get blocks)) }
+        ensures refused { OnErr result (self.new ≡ self.old) }
+    {
+        let Some(open) = NonZeroUsize::new(OPEN_TABLES) else {
+            unreachable!()
+        };
+        let tables = TableCache::new(alloc, open)?;
+        let blocks = BlockCache::new(alloc, blocks)?;
+        self.tables = tables;
+        self.blocks = blocks;
+        Ok(())
+    }
+
+    /// Keeps nothing any more: what was kept is let go, and nothing is kept until `begin`.
+    pub fn end(&mut self)
+        ensures store { self.new.store ≡ self.old.store }
+        ensures tables { self.new.tables.tables ≡ [] }
+        ensures blocks { self.new.blocks.blocks ≡ [] }
+        ensures capacity { (self.new.tables.capacity ≡ 0) × (self.new.blocks.capacity ≡ 0) }
+    {
+        self.tables = TableCache::none();
+        self.blocks = BlockCache::none();
+    }
 
     /// The open table of this number, as `TableCache::get_table`.
     pub fn get_table(&mut self, alloc: Global, number: u64) -> Result<Rc<Table<K>>, DbError>
@@ -71,4 +120,9 @@ pub fn empty_is_sound()
 /// What is kept stays right while tables are written under numbers of which nothing is kept, and while tables are removed.
 pub fn sound_lasts()
     ensures { SoundLasts }
+{}
+
+/// What is kept stays right while the files of tables stay.
+pub fn sound_stays()
+    ensures { SoundStays }
 {}

@@ -2,7 +2,7 @@ use Rattle.std.proofs.Common.{sym, subst, ◌∙◌}
 use Rattle.std.proofs.lemmas.Result.{err_from_is_err_and}
 use Rattle.block.specs.Places.{Placed}
 use Rattle.sources.specs.TablePlaces.{IsInBlock}
-use Rattle.sources.proofs.Stepping.{stepped_back, stands_first}
+use Rattle.sources.proofs.Stepping.{stepped_to_front, stands_first}
 use Rattle.sources.proofs.table_cursor.step_back.Goals as goal
 
 pub returns-in_err-prev-clause-err : goal.returns-in_err-prev-clause-err
@@ -12,7 +12,7 @@ returns-in_err-prev-clause-err g c =
 
 pub returns-then-has_prev-clause-ok : goal.returns-then-has_prev-clause-ok
 returns-then-has_prev-clause-ok g c = λ groups place h.
-    stepped_back groups c.in-Some.here.index c.in-Some.here.cursor c.prev.new.self place (rw c.in-Some.is at h) (sym c.has_prev.ensures ∙ c.if-has_prev.true) c.in_ok-prev.ensures.ok
+    stepped_to_front groups c.in-Some.here.index c.in-Some.here.cursor c.prev.new.self place (rw c.in-Some.is at h) (sym c.has_prev.ensures ∙ c.if-has_prev.true) c.in_ok-prev.ensures.ok
 
 pub returns-clause-ok : goal.returns-clause-ok
 returns-clause-ok g c = λ groups place h.

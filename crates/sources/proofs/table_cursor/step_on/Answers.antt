@@ -2,7 +2,7 @@ use Rattle.std.proofs.Common.{sym, subst, ◌∙◌}
 use Rattle.std.proofs.lemmas.Result.{err_from_is_err_and}
 use Rattle.block.specs.Places.{Placed}
 use Rattle.sources.specs.TablePlaces.{IsInBlock}
-use Rattle.sources.proofs.Stepping.{stepped_on, stands_last}
+use Rattle.sources.proofs.Stepping.{stepped, stands_last}
 use Rattle.sources.proofs.table_cursor.step_on.Goals as goal
 
 pub returns-in_err-next-clause-err : goal.returns-in_err-next-clause-err
@@ -12,7 +12,7 @@ returns-in_err-next-clause-err g c =
 
 pub returns-then-has_next-clause-ok : goal.returns-then-has_next-clause-ok
 returns-then-has_next-clause-ok g c = λ groups place h.
-    stepped_on groups c.in-Some.here.index c.in-Some.here.cursor c.next.new.self place (rw c.in-Some.is at h) (sym c.has_next.ensures ∙ c.if-has_next.true) c.in_ok-next.ensures.ok
+    stepped groups c.in-Some.here.index c.in-Some.here.cursor c.next.new.self place (rw c.in-Some.is at h) (sym c.has_next.ensures ∙ c.if-has_next.true) c.in_ok-next.ensures.ok
 
 pub returns-clause-ok : goal.returns-clause-ok
 returns-clause-ok g c = λ groups place h.

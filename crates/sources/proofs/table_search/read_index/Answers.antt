@@ -2,10 +2,11 @@ use Rattle.std.proofs.Common.{◌≡◌, ◌≤◌, List, length, nat_lt, true, 
 use Rattle.std.specs.List.{slice_get}
 use Rattle.std.proofs.lemmas.Bool.{cases_lt, lt-ltb, ltb-true}
 use Rattle.std.proofs.lemmas.Option.{slice_get_read}
+use Rattle.std.proofs.lemmas.Result.{err_from_is_err_and}
 use Rattle.sources.specs.Tables.{seen}
 use Rattle.table.specs.declared.handle.Place.{Place}
-use Rattle.sources.proofs.Standing.{damage_still}
-use Rattle.sources.proofs.Fetching.{found_block, long_one, no_such_block, refused_block}
+use Rattle.sources.proofs.Standing.{table_still}
+use Rattle.sources.proofs.Fetching.{found_block, no_such_block, refused_block}
 use Rattle.sources.proofs.table_search.read_index.Goals as goal
 
 pub returns-in_default-clause-refused : goal.returns-in_default-clause-refused
@@ -18,30 +19,26 @@ returns-in_default-clause-refused g c = λ t.
     ] in
     no_such_block g.K.KeyOrder.cmp old c.args.number c.args.table.now.frame c.args.index end
 
-pub returns-then-handle-clause-refused : goal.returns-then-handle-clause-refused
-returns-then-handle-clause-refused g c = λ t.
-    let l = c.in-Some.ensures.lookup in
-    let there = slice_get_read c.places.result.now (length c.places.result.now) c.args.index c.in-Some.place.now refl (ltb-true c.args.index (length c.places.result.now) (sym l.0)) l.1 in
-    long_one c.args.table.now.frame.places c.args.index c.in-Some.place.now (ap (λ (ps : List Place). slice_get ps c.args.index) (sym c.places.ensures) ∙ there) c.if-handle.true
-
-pub returns-in-Ok-clause-found : goal.returns-in-Ok-clause-found
-returns-in-Ok-clause-found g c =
+pub returns-clause-found : goal.returns-clause-found
+returns-clause-found g c =
     let old = seen (g.S.Store.facts c.args.source.now.store) c.args.source.now.tables c.args.source.now.blocks in
     let new = seen (g.S.Store.facts c.read_block.new.self.store) c.read_block.new.self.tables c.read_block.new.self.blocks in
     let l = c.in-Some.ensures.lookup in
     let there = slice_get_read c.places.result.now (length c.places.result.now) c.args.index c.in-Some.place.now refl (ltb-true c.args.index (length c.places.result.now) (sym l.0)) l.1 in
-    found_block g.K.KeyOrder.cmp old new c.args.number c.args.table.now.frame c.args.index c.in-Some.place.now c.in-Ok.block.value.pairs (ap (λ (ps : List Place). slice_get ps c.args.index) (sym c.places.ensures) ∙ there) c.in-Ok.ensures.found
+    found_block g.K.KeyOrder.cmp old new c.args.number c.args.table.now.frame c.args.index c.in-Some.place.now c.in_ok-block.block.value.pairs (ap (λ (ps : List Place). slice_get ps c.args.index) (sym c.places.ensures) ∙ there) c.in_ok-block.ensures.found
 
-pub returns-in-Err-clause-refused : goal.returns-in-Err-clause-refused
-returns-in-Err-clause-refused g c =
+pub returns-in_err-block-clause-refused : goal.returns-in_err-block-clause-refused
+returns-in_err-block-clause-refused g c =
+    let p = err_from_is_err_and c.from_residual.result c.from_residual.ensures.1 in
     let old = seen (g.S.Store.facts c.args.source.now.store) c.args.source.now.tables c.args.source.now.blocks in
     let new = seen (g.S.Store.facts c.read_block.new.self.store) c.read_block.new.self.tables c.read_block.new.self.blocks in
     let l = c.in-Some.ensures.lookup in
     let there = slice_get_read c.places.result.now (length c.places.result.now) c.args.index c.in-Some.place.now refl (ltb-true c.args.index (length c.places.result.now) (sym l.0)) l.1 in
-    rw c.refusal.ensures
-    (refused_block g.K.KeyOrder.cmp old new c.args.number c.args.table.now.frame c.args.index c.in-Some.place.now (ap (λ (ps : List Place). slice_get ps c.args.index) (sym c.places.ensures) ∙ there) c.if-handle.false c.in-Err.e
-    c.in-Err.ensures.refused)
+    rw (p.1, p.2)
+    (refused_block g.K.KeyOrder.cmp old new c.args.number c.args.table.now.frame c.args.index c.in-Some.place.now (ap (λ (ps : List Place). slice_get ps c.args.index) (sym c.places.ensures) ∙ there) c.in_err-block.field-0.0
+    c.in_err-block.ensures.refused)
 
-pub returns-in-Err-clause-still : goal.returns-in-Err-clause-still
-returns-in-Err-clause-still g c =
-    rw c.refusal.ensures (damage_still c.in-Err.e (g.S.Store.facts c.args.source.now.store) (g.S.Store.facts c.read_block.new.self.store) c.args.number _ _ c.in-Err.ensures.refused)
+pub returns-in_err-block-clause-still : goal.returns-in_err-block-clause-still
+returns-in_err-block-clause-still g c =
+    let p = err_from_is_err_and c.from_residual.result c.from_residual.ensures.1 in
+    rw (p.1, p.2) (table_still c.in_err-block.field-0.0 (g.S.Store.facts c.args.source.now.store) (g.S.Store.facts c.read_block.new.self.store) c.args.number _ _ c.in_err-block.ensures.refused)

@@ -4,6 +4,8 @@ use Rattle.memtable.specs.Order.{Placed}
 use Rattle.memtable.specs.Places.{Stands, up_to}
 use Rattle.cursor.specs.Places.{Listed, within, to_next}
 use Rattle.sources.proofs.Arriving.{led, has_node, same_some, no_stranger, stands_on, next_is}
+use Rattle.sources.specs.Memory.{memory_facts}
+use Rattle.sources.proofs.Standing.{nothing_called}
 use Rattle.sources.proofs.memory_cursor.MemoryCursorCursorMemTable.next.Goals as goal
 
 pub returns-in_default-clause-moves : goal.returns-in_default-clause-moves
@@ -22,3 +24,6 @@ returns-clause-moves g c = λ f at h.
     let one : Placed = record { node = node.0; entry = s.entry } in
     led cmp table c.stand_from.new.self c.stand_from.result (λ (at : Listed). within at.entries (length (up_to cursor.sequence (s.front ++ one ∷ [])))) to_next at (next_is cmp cursor table at node.0 s)
     (c.stand_from.ensures.moves (s.front ++ one ∷ []) s.back at (s.stands ∙ sym (append_assoc s.front (one ∷ []) s.back)) (c.next-node.ensures.neighbour s.front s.back s.entry stands) h)
+
+pub returns-clause-still : goal.returns-clause-still
+returns-clause-still g c = nothing_called memory_facts c.stand_from.result

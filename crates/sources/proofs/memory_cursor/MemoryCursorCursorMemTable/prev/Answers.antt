@@ -3,6 +3,8 @@ use Rattle.memtable.specs.Order.{Placed}
 use Rattle.memtable.specs.Places.{Stands, up_to}
 use Rattle.cursor.specs.Places.{Listed, index_before, to_prev}
 use Rattle.sources.proofs.Arriving.{led, has_node, same_some, no_stranger, stands_on, prev_is}
+use Rattle.sources.specs.Memory.{memory_facts}
+use Rattle.sources.proofs.Standing.{nothing_called}
 use Rattle.sources.proofs.memory_cursor.MemoryCursorCursorMemTable.prev.Goals as goal
 
 pub returns-in_default-clause-moves : goal.returns-in_default-clause-moves
@@ -21,3 +23,6 @@ returns-clause-moves g c = λ f at h.
     let one : Placed = record { node = node.0; entry = s.entry } in
     led cmp table c.stand_back.new.self c.stand_back.result (λ (at : Listed). index_before (length (up_to cursor.sequence s.front))) to_prev at (prev_is cmp cursor table at node.0 s)
     (c.stand_back.ensures.moves s.front (one ∷ s.back) at s.stands (c.prev-node.ensures.neighbour s.front s.back s.entry stands) h)
+
+pub returns-clause-still : goal.returns-clause-still
+returns-clause-still g c = nothing_called memory_facts c.stand_back.result

@@ -5,9 +5,10 @@ use Rattle.ikey.specs.KeyViews.{key_of}
 use Rattle.memtable.specs.Order.{ordered}
 use Rattle.memtable.specs.Places.{up_to}
 use Rattle.cursor.specs.Places.{Listed, within, to_key}
-use Rattle.sources.specs.Memory.{IsFrom}
+use Rattle.sources.specs.Memory.{memory_facts, IsFrom}
 use Rattle.sources.proofs.Arriving.{led}
 use Rattle.sources.proofs.Seeking.{sought_is}
+use Rattle.sources.proofs.Standing.{nothing_called}
 use Rattle.sources.proofs.memory_cursor.MemoryCursorCursorMemTable.seek.Goals as goal
 
 pub returns-clause-moves : goal.returns-clause-moves
@@ -20,3 +21,6 @@ returns-clause-moves g c = λ key bytes f at h.
     led cmp table c.stand_from.new.self c.stand_from.result (λ (at : Listed). within at.entries (length (up_to cursor.sequence from.front))) (to_key cmp key) at
     (sought_is cmp cursor.sequence key (ordered cmp table.inserts) c.first_from-node.result at h.entries from)
     (c.stand_from.ensures.moves from.front from.back at from.placed_is from.node_is h)
+
+pub returns-clause-still : goal.returns-clause-still
+returns-clause-still g c = nothing_called memory_facts c.stand_from.result

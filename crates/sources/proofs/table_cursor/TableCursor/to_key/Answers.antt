@@ -4,7 +4,7 @@ use Rattle.sources.specs.Tables.{seen}
 use Rattle.sources.proofs.Arrivals.{refused_as}
 use Rattle.sources.proofs.TableSeeking.{seek_moved}
 use Rattle.sources.proofs.Placing.{data_length}
-use Rattle.sources.proofs.table_cursor.TableCursorCursorTables.seek.Goals as goal
+use Rattle.sources.proofs.table_cursor.TableCursor.to_key.Goals as goal
 
 pub returns-in_err-self-clause-refused : goal.returns-in_err-self-clause-refused
 returns-in_err-self-clause-refused g c =

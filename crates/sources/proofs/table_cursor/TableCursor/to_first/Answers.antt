@@ -2,7 +2,7 @@ use Rattle.std.proofs.Common.{arith}
 use Rattle.std.proofs.lemmas.Result.{err_from_is_err_and}
 use Rattle.sources.specs.Tables.{seen}
 use Rattle.sources.proofs.Arrivals.{first_moved, refused_as}
-use Rattle.sources.proofs.table_cursor.TableCursorCursorTables.first.Goals as goal
+use Rattle.sources.proofs.table_cursor.TableCursor.to_first.Goals as goal
 
 pub returns-in_err-self-clause-refused : goal.returns-in_err-self-clause-refused
 returns-in_err-self-clause-refused g c =

@@ -5,7 +5,7 @@ use Rattle.sources.proofs.Arrivals.{last_moved, refused_as}
 use Rattle.sources.proofs.Placing.{data_length}
 use Rattle.table.specs.declared.handle.Place.{Place}
 use Rattle.table.specs.Frame.{Opened}
-use Rattle.sources.proofs.table_cursor.TableCursorCursorTables.last.Goals as goal
+use Rattle.sources.proofs.table_cursor.TableCursor.to_last.Goals as goal
 
 pub returns-in_err-self-clause-refused : goal.returns-in_err-self-clause-refused
 returns-in_err-self-clause-refused g c =

@@ -1,0 +1,12 @@
+use Rattle.std.proofs.Common.{◌==◌, ◌∙◌}
+use Rattle.cache.specs.Tables.{IsKeptOf}
+use Rattle.cache.proofs.Keeping.{within_or, put_or, put_table_is}
+use Rattle.cache.proofs.table_cache.keep_in.Goals as goal
+
+pub returns-clause-kept : goal.returns-clause-kept
+returns-clause-kept g c =
+    within_or _ c.put.new.self.entries c.args.tables.now.entries _ (λ k. IsKeptOf k c.args.number c.args.table.now.value)
+    (put_or (λ a b. a == b) c.args.tables.now c.put.new.self c.args.number _ c.put.result c.put.ensures.entries c.put.ensures.err)
+    (λ e put.
+    let is = put_table_is (λ v. v.value) c.args.number c.args.tables.now _ e put in
+    (is.0, is.1 ∙ c.in-Ok.ensures.cases))
