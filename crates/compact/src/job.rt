@@ -48,7 +48,7 @@ pub struct Job<K: KeyOrder, C> {
 }
 
 impl<K: KeyOrder, C: Drop> Job<K, C> {
-    ghost use Rattle.std.specs.Prelude.{◌≡◌, ◌≤◌, ◌^◌, ◌∷◌, ◌++◌, [], ℕ, Bool, List, None, IsTrue, IfOk, IfErr, OnOk, MatchBool};
+    ghost use Rattle.std.specs.Prelude.{◌≡◌, ◌≤◌, ◌⊎◌, ◌^◌, ◌∷◌, ◌++◌, [], ℕ, Bool, List, None, IsTrue, IfOk, IfErr, OnOk, MatchBool};
     ghost use Rattle.cursor.specs.Moves.{ListsNone};
     ghost use Rattle.cursor.specs.Places.{Listed};
     ghost use Rattle.ikey.specs.Entries.{InternalEntry};
@@ -76,7 +76,7 @@ impl<K: KeyOrder, C: Drop> Job<K, C> {
         ensures written { IfOk result (λ job. job.outputs ≡ record { closed = []; at_hand = None }) }
         ensures reads { Reads (S.facts (H.store_of source.old)) (S.facts (H.store_of source.new)) }
         ensures refused { IfErr result (λ e. RefusesEntry e (S.facts (H.store_of source.old)) (S.facts (H.store_of source.new))
-            (IsTrue (S.facts (H.store_of source.new)).faithful → ListsNone C.lists cursor source.old) (IsTrue (S.facts (H.store_of source.new)).faithful → C.limited cursor) ⊥) }
+            (IsTrue (S.facts (H.store_of source.new)).faithful → ListsNone C.lists cursor source.old) (IsTrue (S.facts (H.store_of source.new)).faithful → ListsNone C.lists cursor source.old ⊎ C.limited cursor source.old) ⊥) }
         ensures started { IfOk result (λ job. (deep : List ℕ → Bool) (next : ℕ) (at : Listed) → IsTrue (S.facts (H.store_of source.new)).faithful
             → C.lists cursor source.old at → ReadsApart S.facts H.store_of H.with_store C.keeps cursor (λ number. next ≤ number)
             → IsBetween K.cmp deep S.facts H.store_of H.with_store C.lists C.keeps job source.new next [] at.entries) }

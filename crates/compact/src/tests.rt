@@ -42,7 +42,7 @@ struct InMemory<K: KeyOrder> {
 impl<K: KeyOrder, S: Store> Cursor<K, Alone<S>> for InMemory<K> {
     ghost use Rattle.std.specs.Prelude.{is_some};
     ghost use Rattle.cursor.specs.Single.{ListsPairs};
-    ghost use Rattle.std.proofs.Common.{ap};
+    ghost use Rattle.std.proofs.Common.{◌∙◌, ap, refl};
 
     ghost facts = { λ source. S.facts source.store };
 
@@ -52,7 +52,9 @@ impl<K: KeyOrder, S: Store> Cursor<K, Alone<S>> for InMemory<K> {
 
     ghost stands = { λ cursor. is_some cursor.list.place };
 
-    ghost limited = { λ cursor. ⊥ };
+    ghost limited = { λ cursor source. ⊥ };
+
+    ghost leaves = { λ old new. old ≡ new };
 
     fn first(&mut self, alloc: Global, source: &mut Alone<S>) -> Result<(), DbError> {
         self.list.first(alloc, &mut source.store)
@@ -97,6 +99,12 @@ impl<K: KeyOrder, S: Store> Cursor<K, Alone<S>> for InMemory<K> {
     ghost still = { λ cursor source. tt };
 
     ghost onward = { λ cursor first second third k l. tt };
+
+    ghost limits_kept = { λ cursor old new k l. l };
+
+    ghost leaves_still = { λ source. refl };
+
+    ghost leaves_onward = { λ first second third k l. k ∙ l };
 }
 
 type Entry = (&'static [u8], u64, Kind, &'static [u8]);

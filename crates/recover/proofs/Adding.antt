@@ -23,7 +23,7 @@ use Rattle.recover.specs.Tables.{table_at, TableContent, HasTables, InTables, ta
 use Rattle.recover.specs.Logs.{Batch, LogContent, AreBatches, HasLog, HasLogs, IsLive, AreLive, InLogs, NumbersRise, batch_entries, logged}
 use Rattle.recover.specs.Directory.{Directory, IsConsistent, EndsAt, IsAppendable, IsDirectory, entries_in, used_in}
 use Rattle.recover.specs.Laws.{AppendLaw, FailedAppendLaw}
-use Rattle.recover.specs.Changes.{IsExtended, ExtendLaw}
+use Rattle.recover.specs.Changes.{IsExtended, ExtendLaw, FailedExtendLaw}
 use Rattle.recover.proofs.NamedFiles.{get_other, get_same}
 use Rattle.recover.proofs.Keeping.{keep_tables, keep_logs}
 
@@ -390,3 +390,55 @@ extend order files d log position os payload added text h ends there spelled add
     let P : ℕ → Type 0 = λ l. ExtendsTo order files d os (text ++ added) l (length (text ++ added)) in
     let Q : ℕ → Type 0 = λ n. ExtendsTo order files d os (text ++ added) log n in
     subst Q total (subst P ends.number made)
+
+-- what a beginning of a record behind the last log leaves, by its number
+FailsTo : Order → Files → Directory → List Operation → List ℕ → ℕ → Type 0
+FailsTo order files d os text log =
+    (e : Directory) × IsConsistent order (insert files (name_of (Log log)) text) e
+    × ((IsExtended d e [] × (used_in e ≡ used_in d)) ⊎ (IsExtended d e (entries_of (used_in d + 1) os) × (used_in e ≡ used_in d + length os)))
+
+fail_torn : (order : Order) (files : Files) (d : Directory) (before : List LogContent) (last : LogContent) (os : List Operation) (text : List ℕ) (tail : Tail) (h : IsConsistent order files d) (parts : d.logs ≡ before ++ last ∷ [])
+    → IsLog text (last_log order files d before last h parts).spelled.records tail
+    → FailsTo order files d os text last.number
+unfolding put replaced torn_log FailsTo
+fail_torn order files d before last os text tail h parts log =
+    let l = last_log order files d before last h parts in
+    let next = torn_log last tail in
+    let same = sym (append-nil (batch_entries last.batches)) in
+    let whole = logged-replaced d before last next [] parts same ∙ append-nil (logged d.logs) in (
+      replaced d before next,
+      good_again order files d before last next text [] h parts refl
+          (record { bytes = text; numbered = l.numbered; there = get_same files (name_of (Log last.number)) text; spelled = record { records = l.spelled.records; log = log; spelled = l.spelled.spelled } })
+          same tt,
+      inl (
+        record { before = before; last = last; next = next; old = parts; new = refl; number = refl; entries = same },
+        ap (λ (es : List Entry). max d.layout.last_sequence (greatest es)) whole,
+      ),
+    )
+
+fail_whole : (order : Order) (files : Files) (d : Directory) (before : List LogContent) (last : LogContent) (os : List Operation) (payload text : List ℕ) (h : IsConsistent order files d) (parts : d.logs ≡ before ++ last ∷ [])
+    → IsBatch payload (used_in d + 1) os → IsLog text ((last_log order files d before last h parts).spelled.records ++ payload ∷ []) Clean
+    → FailsTo order files d os text last.number
+unfolding ExtendsTo FailsTo
+fail_whole order files d before last os payload text h parts spelled log =
+    let made = extend_at order files d before last os payload text h parts spelled log in
+    (made.0, made.1, inr (made.3, made.4))
+
+pub failed_extend : FailedExtendLaw
+unfolding FailsTo
+failed_extend order files d log position n os payload added text h ends there spelled adds =
+    let len : length text ≡ position = ap length (same_bytes files (name_of (Log log)) text ends.bytes there ends.there) ∙ ends.length in
+    let records = (last_log order files d ends.before ends.last h ends.logs).spelled.records in
+    let new = text ++ take n added in
+    let P : ℕ → Type 0 = λ l. FailsTo order files d os new l in
+    elim (adds text records n len (last_bytes order files d ends.before ends.last h ends.logs log text ends.number there ends.clean)) [
+      | inl torn ↦ subst P ends.number (fail_torn order files d ends.before ends.last os new torn.0 h ends.logs torn.1)
+      | inr whole ↦ subst P ends.number (fail_whole order files d ends.before ends.last os payload new h ends.logs spelled whole)
+    ]
+
+-- the tables stay, and the entries stand behind those that were logged
+pub logged-extended : (d e : Directory) (more : List Entry) → IsExtended d e more → (e.tables ≡ d.tables) × (logged e.logs ≡ logged d.logs ++ more)
+logged-extended d e more x = (
+  ap (λ (f : Directory). f.tables) x.new,
+  ap (λ (f : Directory). logged f.logs) x.new ∙ logged-replaced d x.before x.last x.next more x.old x.entries,
+)

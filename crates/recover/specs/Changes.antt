@@ -49,6 +49,14 @@ ExtendLaw = (order : Order) (files : Files) (d : Directory) (log position : ℕ)
     × EndsAt (insert files (name_of (Log log)) (before ++ added)) e log (position + length added)
     × IsExtended d e (entries_of (used_in d + 1) operations) × (used_in e ≡ used_in d + length operations)
 
+-- A beginning of its bytes changes no part but the last log, which ends otherwise, or has all of the batch's entries.
+abbrev pub FailedExtendLaw : Type 0
+FailedExtendLaw = (order : Order) (files : Files) (d : Directory) (log position n : ℕ) (operations : List Operation) (payload added before : List ℕ)
+    → IsConsistent order files d → EndsAt files d log position → get files (name_of (Log log)) ≡ Some before
+    → IsBatch payload (used_in d + 1) operations → AddsAllOrNothing position payload added
+    → (e : Directory) × IsConsistent order (insert files (name_of (Log log)) (before ++ take n added)) e
+    × ((IsExtended d e [] × (used_in e ≡ used_in d)) ⊎ (IsExtended d e (entries_of (used_in d + 1) operations) × (used_in e ≡ used_in d + length operations)))
+
 -- a log without batches
 abbrev pub empty_log : ℕ → LogContent
 empty_log number = record { number = number; batches = []; tail = Clean }

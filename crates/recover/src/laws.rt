@@ -1,7 +1,7 @@
 //! What calls of the store do to the meaning of a directory.
 
 ghost use Rattle.recover.specs.Laws.{AppendLaw, FailedAppendLaw, FreeChangeLaw, ReopenLaw, NewLogLaw, EmptyLaw, NumberLaw, AppendableLaw, OneManifestLaw, OneDirectoryLaw};
-ghost use Rattle.recover.specs.Changes.{ExtendLaw, BeginLogLaw, EditLaw, FailedEditLaw, SameManifestLaw, FlushLaw, CompactionLaw, ClosedLaw, UnreadLaw, DistinctLaw, BeyondLaw, RecoveredLaw};
+ghost use Rattle.recover.specs.Changes.{ExtendLaw, FailedExtendLaw, BeginLogLaw, EditLaw, FailedEditLaw, SameManifestLaw, FlushLaw, CompactionLaw, ClosedLaw, UnreadLaw, DistinctLaw, BeyondLaw, RecoveredLaw};
 
 /// A record for the next batch behind the last log adds the batch's entries.
 pub fn append_law()
@@ -56,6 +56,11 @@ pub fn one_directory()
 /// A record for the next batch behind the last log adds the batch's entries there, and changes no other part.
 pub fn extend_law()
     ensures { ExtendLaw }
+{}
+
+/// A beginning of such a record changes no part but the last log, and adds nothing to it, or all of the batch's entries.
+pub fn failed_extend_law()
+    ensures { FailedExtendLaw }
 {}
 
 /// A new log behind the others changes no other part.

@@ -18,9 +18,9 @@ mod tables;
 pub use checking::check;
 pub use laws::{
     append_law, appendable_law, begin_log_law, beyond_law, closed_law, compaction_law,
-    distinct_law, edit_law, empty_law, extend_law, failed_append_law, failed_edit_law, flush_law,
-    free_change_law, new_log_law, number_law, one_directory, one_manifest, recovered_law,
-    reopen_law, same_manifest_law, unread_law,
+    distinct_law, edit_law, empty_law, extend_law, failed_append_law, failed_edit_law,
+    failed_extend_law, flush_law, free_change_law, new_log_law, number_law, one_directory,
+    one_manifest, recovered_law, reopen_law, same_manifest_law, unread_law,
 };
 pub use listing::{Listing, first_number, list_directory};
 pub use origins::{Origin, file_entries};

@@ -1,7 +1,7 @@
 use Rattle.std.proofs.lemmas.Result.{err_from_is_err_and}
 use Rattle.store.specs.Files.{Facts}
 use Rattle.cursor.specs.Moves.{ListsNone}
-use Rattle.std.proofs.Common.{IsTrue, ◌≤◌, ◌^◌, map, List, ℕ, ◌∷◌, ◌++◌, length, ◌≡◌, refl, sym, ap, subst, ◌∙◌}
+use Rattle.std.proofs.Common.{IsTrue, ◌⊎◌, ◌≤◌, ◌^◌, map, List, ℕ, ◌∷◌, ◌++◌, length, ◌≡◌, refl, sym, ap, subst, ◌∙◌}
 use Rattle.cursor.specs.Merging.{listed}
 use Rattle.cursor.specs.Places.{Listed, within}
 use Rattle.ikey.specs.Entries.{InternalEntry, entry_of}
@@ -26,7 +26,7 @@ returns-clause-merged g c = λ came entry rest t h.
     let over_is : IsKey c.set_bytes.new.bytes.items entry.key = subst (λ (bytes : List ℕ). IsKey bytes entry.key) (sym c.in_ok-set_bytes.ensures) is_key in
     let k : Key = key_of c.in-Some.key in
     let same : entry.key ≡ k = same_key c.set_bytes.new.bytes.items entry.key k over_is (subst (λ (bytes : List ℕ). IsKey bytes k) c.as_slice-2.ensures.value c.in-Some.ensures.found) in
-    job-step g.K.KeyOrder.cmp (g.D.DeeperFiles.covers c.args.deeper.now) g.S.Store.facts g.H.HasStore.store_of g.H.HasStore.with_store g.C.Cursor.facts g.C.Cursor.lists g.C.Cursor.keeps g.C.Cursor.limited
+    job-step g.K.KeyOrder.cmp (g.D.DeeperFiles.covers c.args.deeper.now) g.S.Store.facts g.H.HasStore.store_of g.H.HasStore.with_store g.C.Cursor.facts g.C.Cursor.lists g.C.Cursor.keeps g.C.Cursor.limited g.C.Cursor.leaves
     c.requires.facts g.met.H.HasStore.replaced g.met.C.Cursor.kept
     c.args.self.now.last.items c.set_bytes.new.bytes.items c.args.self.now.cursor c.next.new.self c.args.self.now.selection c.take.new.self c.args.self.now.outputs c.write_chosen.new.outputs
     c.args.source.now c.store_mut.result.now c.write_chosen.new.store c.next.new.source c.args.numbers.now.next c.write_chosen.new.numbers.next came entry rest c.in_ok-choice.choice
@@ -90,7 +90,7 @@ pub returns-in_err-next-clause-writes : goal.returns-in_err-next-clause-writes
 returns-in_err-next-clause-writes g c =
     writes-reads (g.S.Store.facts (g.H.HasStore.store_of c.args.source.now)) (g.S.Store.facts c.write_chosen.new.store) (g.S.Store.facts (g.H.HasStore.store_of c.next.new.source)) (IsMine c.args.self.now.outputs c.args.numbers.now.next)
     (subst (λ s. WritesTables (g.S.Store.facts s) (g.S.Store.facts c.write_chosen.new.store) (IsMine c.args.self.now.outputs c.args.numbers.now.next)) c.store_mut.ensures.value c.in_ok-write_chosen.ensures.writes)
-    (writes-move g.K.KeyOrder.cmp (g.D.DeeperFiles.covers c.args.deeper.now) g.S.Store.facts g.H.HasStore.store_of g.H.HasStore.with_store g.C.Cursor.facts g.C.Cursor.lists g.C.Cursor.keeps g.C.Cursor.limited
+    (writes-move g.K.KeyOrder.cmp (g.D.DeeperFiles.covers c.args.deeper.now) g.S.Store.facts g.H.HasStore.store_of g.H.HasStore.with_store g.C.Cursor.facts g.C.Cursor.lists g.C.Cursor.keeps g.C.Cursor.limited g.C.Cursor.leaves
     c.requires.facts g.met.H.HasStore.replaced g.met.C.Cursor.kept
     c.args.self.now.cursor c.next.new.self c.args.source.now c.store_mut.result.now c.write_chosen.new.store c.next.new.source (IsMine c.args.self.now.outputs c.args.numbers.now.next)
     c.store_mut.ensures.value c.in_ok-write_chosen.ensures.writes c.in_err-next.ensures.stays)
@@ -99,7 +99,7 @@ pub returns-clause-writes : goal.returns-clause-writes
 returns-clause-writes g c =
     writes-reads (g.S.Store.facts (g.H.HasStore.store_of c.args.source.now)) (g.S.Store.facts c.write_chosen.new.store) (g.S.Store.facts (g.H.HasStore.store_of c.next.new.source)) (IsMine c.args.self.now.outputs c.args.numbers.now.next)
     (subst (λ s. WritesTables (g.S.Store.facts s) (g.S.Store.facts c.write_chosen.new.store) (IsMine c.args.self.now.outputs c.args.numbers.now.next)) c.store_mut.ensures.value c.in_ok-write_chosen.ensures.writes)
-    (writes-move g.K.KeyOrder.cmp (g.D.DeeperFiles.covers c.args.deeper.now) g.S.Store.facts g.H.HasStore.store_of g.H.HasStore.with_store g.C.Cursor.facts g.C.Cursor.lists g.C.Cursor.keeps g.C.Cursor.limited
+    (writes-move g.K.KeyOrder.cmp (g.D.DeeperFiles.covers c.args.deeper.now) g.S.Store.facts g.H.HasStore.store_of g.H.HasStore.with_store g.C.Cursor.facts g.C.Cursor.lists g.C.Cursor.keeps g.C.Cursor.limited g.C.Cursor.leaves
     c.requires.facts g.met.H.HasStore.replaced g.met.C.Cursor.kept
     c.args.self.now.cursor c.next.new.self c.args.source.now c.store_mut.result.now c.write_chosen.new.store c.next.new.source (IsMine c.args.self.now.outputs c.args.numbers.now.next)
     c.store_mut.ensures.value c.in_ok-write_chosen.ensures.writes c.in_ok-next.ensures.stays)
@@ -113,16 +113,16 @@ returns-in_err-next-clause-refused g c =
     let spent = 2 ^ 62 ≤ c.write_chosen.new.numbers.next in
     let writes = subst (λ s. WritesTables (g.S.Store.facts s) b (IsMine c.args.self.now.outputs c.args.numbers.now.next)) c.store_mut.ensures.value c.in_ok-write_chosen.ensures.writes in
     let p = err_from_is_err_and c.from_residual-in_err-next.result c.from_residual-in_err-next.ensures.1 in
-    rw (p.1, p.2) (refuses-as c.in_err-next.field-0.0 a b d (IsTrue d.faithful → ListsNone g.C.Cursor.lists c.args.self.now.cursor mid) (IsTrue d.faithful → g.C.Cursor.limited c.args.self.now.cursor) spent
+    rw (p.1, p.2) (refuses-as c.in_err-next.field-0.0 a b d (IsTrue d.faithful → ListsNone g.C.Cursor.lists c.args.self.now.cursor mid) (IsTrue d.faithful → ListsNone g.C.Cursor.lists c.args.self.now.cursor mid ⊎ g.C.Cursor.limited c.args.self.now.cursor mid) spent
     (IsTrue d.faithful → (came : List InternalEntry) (entry : InternalEntry) (rest : List InternalEntry)
     → IsBetween g.K.KeyOrder.cmp (g.D.DeeperFiles.covers c.args.deeper.now) g.S.Store.facts g.H.HasStore.store_of g.H.HasStore.with_store g.C.Cursor.lists g.C.Cursor.keeps c.args.self.now c.args.source.now c.args.numbers.now.next came (entry ∷ rest) → HaveOwnSequences (came ++ entry ∷ rest) → ⊥)
     (Unit {0}) spent writes.failures
     (λ none t came entry rest h own.
     let at : Listed = listed (came ++ entry ∷ rest) (within (came ++ entry ∷ rest) (length came)) in
-    none t at (still-lists g.K.KeyOrder.cmp (g.D.DeeperFiles.covers c.args.deeper.now) g.S.Store.facts g.H.HasStore.store_of g.H.HasStore.with_store g.C.Cursor.facts g.C.Cursor.lists g.C.Cursor.keeps g.C.Cursor.limited
+    none t at (still-lists g.K.KeyOrder.cmp (g.D.DeeperFiles.covers c.args.deeper.now) g.S.Store.facts g.H.HasStore.store_of g.H.HasStore.with_store g.C.Cursor.facts g.C.Cursor.lists g.C.Cursor.keeps g.C.Cursor.limited g.C.Cursor.leaves
     c.requires.facts g.met.H.HasStore.replaced g.met.C.Cursor.kept
     c.args.self.now.cursor c.next.new.self c.args.source.now c.store_mut.result.now c.write_chosen.new.store c.next.new.source (IsMine c.args.self.now.outputs c.args.numbers.now.next) at
     c.store_mut.ensures.value c.in_ok-write_chosen.ensures.writes h.apart c.in_err-next.ensures.stays t h.left))
     (λ u. tt) (λ u. u)
-    (refuses-moving c.in_err-next.field-0.0 (g.C.Cursor.facts mid) (g.C.Cursor.facts c.next.new.source) b d (ListsNone g.C.Cursor.lists c.args.self.now.cursor mid) (g.C.Cursor.limited c.args.self.now.cursor) spent
+    (refuses-moving c.in_err-next.field-0.0 (g.C.Cursor.facts mid) (g.C.Cursor.facts c.next.new.source) b d (ListsNone g.C.Cursor.lists c.args.self.now.cursor mid) (g.C.Cursor.limited c.args.self.now.cursor mid) spent
     (c.requires.facts mid ∙ ap g.S.Store.facts (g.met.H.HasStore.replaced c.args.source.now c.write_chosen.new.store)) (c.requires.facts c.next.new.source) c.in_err-next.ensures.refused))

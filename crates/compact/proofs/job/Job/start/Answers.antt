@@ -8,12 +8,12 @@ returns-in_err-first-clause-refused g c =
     let p = err_from_is_err_and c.from_residual-in_err-first.result c.from_residual-in_err-first.ensures.1 in
     rw (p.1, p.2) (refuses-moving c.in_err-first.field-0.0 (g.C.Cursor.facts c.args.source.now) (g.C.Cursor.facts c.first.new.source)
     (g.S.Store.facts (g.H.HasStore.store_of c.args.source.now)) (g.S.Store.facts (g.H.HasStore.store_of c.first.new.source))
-    (ListsNone g.C.Cursor.lists c.args.cursor c.args.source.now) (g.C.Cursor.limited c.args.cursor) ⊥
+    (ListsNone g.C.Cursor.lists c.args.cursor c.args.source.now) (g.C.Cursor.limited c.args.cursor c.args.source.now) ⊥
     (c.requires.facts c.args.source.now) (c.requires.facts c.first.new.source) c.in_err-first.ensures.refused)
 
 pub returns-clause-started : goal.returns-clause-started
 returns-clause-started g c = λ deep next at t h apart.
-    starts g.K.KeyOrder.cmp deep g.S.Store.facts g.H.HasStore.store_of g.H.HasStore.with_store g.C.Cursor.facts g.C.Cursor.lists g.C.Cursor.keeps g.C.Cursor.limited
+    starts g.K.KeyOrder.cmp deep g.S.Store.facts g.H.HasStore.store_of g.H.HasStore.with_store g.C.Cursor.facts g.C.Cursor.lists g.C.Cursor.keeps g.C.Cursor.limited g.C.Cursor.leaves
     c.requires.facts c.new-2.result.items c.args.cursor c.first.new.self c.in_ok-selection.selection c.new-4.result c.args.source.now c.first.new.source next at c.new-4.ensures.empty c.new-2.ensures.items
     (c.in_ok-selection.ensures.none g.K.KeyOrder.cmp deep) (c.new-4.ensures.none (g.S.Store.facts (g.H.HasStore.store_of c.first.new.source)) next)
     c.in_ok-first.ensures.moves c.in_ok-first.ensures.stays t h apart
