@@ -48,7 +48,10 @@ module _ (order : Order) (old new : Seen) (placed : PlacedTable) where
   not_table OutOfMemory h = h
   not_table Io h = h
   not_table (Corrupt kind what) h = λ t entries has. h t has.1.bytes (file_of entries has) has.1.spelled.0 has.1.spelled.1
-  not_table (Unsupported what) h = λ t entries has. (has.1.bytes, has.1.there, h t has.1.bytes (file_of entries has))
+  not_table (Unsupported what) h = λ t. elim (h t) [
+    | inl none ↦ inl (λ entries has. none has.1.bytes (file_of entries has) has.1.spelled.0 has.1.spelled.1)
+    | inr past ↦ inr (λ entries has. (has.1.bytes, has.1.there, past has.1.bytes (file_of entries has)))
+  ]
   not_table e h = absurd h
 
   pub no_number : placed.table.number ≡ 0 → HasNoEntries order old placed
@@ -178,10 +181,12 @@ module _ (order : Order) (o : IsTotalOrder order.cmp) (exact : IsAntisymmetric o
       not_read OutOfMemory h = tt
       not_read Io h = let f = sought.carries.reads.failures in omega (arith, f, h)
       not_read (Corrupt kind what) h = λ t contents has. let before = carries.reads.faithful t in h t (content_at contents has.1).0.entries (has_now before contents has)
-      not_read (Unsupported what) h = λ t contents has.
-          let before = carries.reads.faithful t in
-          let c = content_at contents has.1 in
-          let long = h t c.0.entries (has_now before contents has) in
-          let here : IsTooLong order old placed = (long.0, ap (λ files. table_at files placed.table.number) (sym (sought.carries.reads.files before)) ∙ long.1, long.2) in
-          (c.0, c.1, subst (λ (p : PlacedTable). IsTooLong order old p) (sym c.2) here)
+      not_read (Unsupported what) h = λ t. let before = carries.reads.faithful t in elim (h t) [
+        | inl none ↦ inl (λ contents has. none (content_at contents has.1).0.entries (has_now before contents has))
+        | inr past ↦ inr (λ contents has.
+            let c = content_at contents has.1 in
+            let long = past c.0.entries (has_now before contents has) in
+            let here : IsTooLong order old placed = (long.0, ap (λ files. table_at files placed.table.number) (sym (sought.carries.reads.files before)) ∙ long.1, long.2) in
+            (c.0, c.1, subst (λ (p : PlacedTable). IsTooLong order old p) (sym c.2) here))
+      ]
       not_read e h = absurd h

@@ -4,7 +4,8 @@ ghost use Rattle.std.specs.Prelude.{◌≡◌, ◌<◌, ◌^◌, ◌+◌, length
 ghost use Rattle.cursor.specs.Moves.{Refuses};
 ghost use Rattle.ikey.specs.Orders.{order_of};
 ghost use Rattle.reads.specs.Gets.{HasNoEntries, HasNoTablesOf, IsOneTooLong, IsOnlyTooLong, SaysOfAll, SaysOfTable};
-ghost use Rattle.sources.specs.Tables.{Carries, IsStill, seen};
+ghost use Rattle.sources.specs.Tables.{Carries, seen};
+ghost use Rattle.table.specs.Reading.{IsStill};
 
 use coding::{Bytes, Damage, DbError, FileKind};
 use edits::{LEVELS, PlacedTable};

@@ -1,0 +1,61 @@
+-- What the moves of a cursor over a row keep, and which limits they pass.
+use Rattle.std.proofs.Common.{◌≡◌, ◌⊎◌, ◌∙◌, ap, length, List, Option, Some, None, IsTrue, IfSome, inl, inr}
+use Rattle.coding.specs.declared.error.DbError.{DbError}
+use Rattle.coding.specs.declared.error.DbError.TheVariants.{OutOfMemory, Io, Corrupt, Unsupported}
+use Rattle.cursor.specs.Moves.{Refuses}
+use Rattle.cursor.specs.Places.{Cmp, Listed}
+use Rattle.edits.specs.declared.field.PlacedTable.{PlacedTable}
+use Rattle.rows.specs.declared.in_table.InTable.{InTable}
+use Rattle.ikey.specs.Entries.{InternalEntry}
+use Rattle.rows.specs.InRows.{HaveLists, IsOneLimited, IsOpenLimited, KeepsTables, ListsTables}
+use Rattle.rows.specs.RowLaws.{lists_kept}
+use Rattle.rows.specs.Searches.{IsOneOf, IsSameTable}
+use Rattle.rows.proofs.Having.{have_length}
+use Rattle.rows.proofs.Moving.{nothing_kept, opened_kept, row_carried, same_kept, same_limited}
+use Rattle.rows.proofs.Refusing.{limited_before, opened_limited}
+use Rattle.sources.specs.Tables.{Seen, Carries}
+use Rattle.store.specs.Files.{Facts}
+
+pub refused_as : (e : DbError) (old new : Facts) (a b limit limited : Type 0) → (a → b) → (limit → limited) → Refuses e old new a limit → Refuses e old new b limited
+refused_as OutOfMemory old new a b limit limited f l h = tt
+refused_as Io old new a b limit limited f l h = h
+refused_as (Corrupt kind what) old new a b limit limited f l h = λ t. f (h t)
+refused_as (Unsupported what) old new a b limit limited f l h = λ t. elim (h t) [ inl x ↦ inl (f x) | inr y ↦ inr (l y) ]
+refused_as e old new a b limit limited f l h = absurd h
+
+module _ {K : Type 0} {g : _} (cmp : Cmp) (row : List PlacedTable) where
+  -- what only read leaves list and place
+  pub unmoved : (old new : Seen) (here : Option (InTable K g)) (at : Listed) → Carries cmp old new → IsTrue new.facts.faithful → ListsTables cmp old row here at → ListsTables cmp new row here at
+  unmoved old new here at carries t h = lists_kept cmp row here old new at (row_carried cmp row here old new carries t) h
+
+  -- ---- a search
+
+  pub found_kept : (old new first second : Seen) (here found : Option (InTable K g)) → IfSome found (λ (one : InTable K g). IsOneOf cmp old new row one.cursor.number one.cursor.table.value.frame) → KeepsTables cmp row here first second
+      → KeepsTables cmp row found first second
+  found_kept old new first second here None opened k = nothing_kept cmp row here first second k
+  found_kept old new first second here (Some one) opened k = opened_kept cmp row here one old new first second opened k
+
+  pub found_limited : (old new : Seen) (here found : Option (InTable K g)) → IfSome found (λ (one : InTable K g). IsOneOf cmp old new row one.cursor.number one.cursor.table.value.frame) → Carries cmp old new → IsTrue new.facts.faithful
+      → IsOneLimited cmp new row ⊎ IsOpenLimited found → IsOneLimited cmp old row ⊎ IsOpenLimited here
+  found_limited old new here found opened carries t (inl one) = inl (limited_before cmp old new row carries t one)
+  found_limited old new here None opened carries t (inr long) = absurd long
+  found_limited old new here (Some one) opened carries t (inr long) = inl (opened_limited cmp old new row one.cursor.number one.cursor.table.value.frame opened t long)
+
+  -- ---- a step within a table
+
+  pub step_kept : (first second : Seen) (here stepped : Option (InTable K g)) → IsSameTable here stepped → KeepsTables cmp row here first second → KeepsTables cmp row stepped first second
+  step_kept first second here stepped same k = record { same = k.same; sound = k.sound; here = same_kept cmp here stepped first second same k.here }
+
+  pub step_limited : (old new : Seen) (here stepped : Option (InTable K g)) → IsSameTable here stepped → Carries cmp old new → IsTrue new.facts.faithful → IsOneLimited cmp new row ⊎ IsOpenLimited stepped
+      → IsOneLimited cmp old row ⊎ IsOpenLimited here
+  step_limited old new here stepped same carries t (inl one) = inl (limited_before cmp old new row carries t one)
+  step_limited old new here stepped same carries t (inr long) = inr (same_limited here stepped same long)
+
+  -- where nothing moved
+  pub still_limited : (old new : Seen) (here : Option (InTable K g)) → Carries cmp old new → IsTrue new.facts.faithful → IsOneLimited cmp new row ⊎ IsOpenLimited here → IsOneLimited cmp old row ⊎ IsOpenLimited here
+  still_limited old new here carries t (inl one) = inl (limited_before cmp old new row carries t one)
+  still_limited old new here carries t (inr long) = inr long
+
+-- the end of the row
+pub ends_row : (cmp : Cmp) (source : Seen) (row now : List PlacedTable) (lists : List (List InternalEntry)) → now ≡ row → HaveLists cmp source row lists → length now ≡ length lists
+ends_row cmp source row now lists same have = ap (length {A = PlacedTable}) same ∙ have_length cmp source row lists have

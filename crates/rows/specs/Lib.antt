@@ -1,0 +1,4 @@
+pub mod InRows
+pub mod RowLaws
+pub mod Rows
+pub mod Searches
