@@ -1,0 +1,12 @@
+pub mod AtHand
+pub mod Batches
+pub mod FirstPlaces
+pub mod Joining
+pub mod NewScans
+pub mod Ranges
+pub mod ScanSteps
+pub mod Sights
+pub mod Slices
+pub mod SourceSteps
+pub mod TakenBack
+pub mod ViewPairs

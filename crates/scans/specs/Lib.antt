@@ -1,0 +1,8 @@
+pub mod Pairs
+pub mod Places
+pub mod Rows
+pub mod Scanning
+pub mod Scans
+pub mod SourceLaws
+pub mod Whole
+pub mod Written

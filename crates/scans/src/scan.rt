@@ -1,0 +1,173 @@
+//! A walk over the pairs of a view (LevelDB's db/db_iter.cc over db/db_impl.cc, DBImpl::NewInternalIterator).
+
+use crate::beginning::{add_levels, add_newest};
+use crate::source::Sources;
+use crate::source_cursor::SourceCursor;
+use coding::{Bytes, DbError};
+use cursor::{Merge, Visible, each_list_has_a_view, lists_have_a_union, views_agree};
+use ikey::KeyOrder;
+use rows::row_begins;
+use sources::MemoryCursor;
+use std::alloc::{AllocError, Global};
+use std::rc::Rc;
+use store::Store;
+use versions::Version;
+
+/// A walk over the pairs of a view, in the order of their keys.
+#[derive(Drop)]
+pub struct Scan<K: KeyOrder> {
+    walk: Visible<K, Merge<K, SourceCursor<K>>>,
+}
+
+impl<K: KeyOrder> Scan<K> {
+    ghost use Rattle.std.specs.Prelude.{◌≡◌, ◌<◌, ◌^◌, List, false, min, true, IfOk};
+    ghost use Rattle.cursor.specs.Views.{Walked, walk_first, walk_last, walk_next, walk_prev, walk_to};
+    ghost use Rattle.cursor.specs.Walks.{key_before};
+    ghost use Rattle.edits.specs.declared.field.PlacedTable.{PlacedTable};
+    ghost use Rattle.ikey.specs.Orders.{order_of};
+    ghost use Rattle.scans.specs.Pairs.{pair_on};
+    ghost use Rattle.scans.specs.Scanning.{IsScanned, ScanIsKept, ScanPastLimit, TakesBack, has_pair};
+    ghost use Rattle.scans.specs.Scans.{BeginsScan, IsScan};
+    ghost use Rattle.scans.specs.Whole.{whole};
+
+    /// A scan over what the entries of the memory table and of a version's tables put up to a sequence, up to the last one
+    /// that is used. It stands nowhere; nothing is read, and no table is opened.
+    pub fn over<S: Store>(
+        alloc: Global,
+        source: &Sources<K, S>,
+        version: &Rc<Version<K>>,
+        sequence: u64,
+    ) -> Result<Self, AllocError>
+        ensures nowhere { IfOk result (λ scan. scan.walk.stands ≡ false) }
+        ensures sequence { IfOk result (λ scan. scan.walk.sequence ≡ min sequence source.now.memory.last) }
+        ensures begins { IfOk result (λ scan. BeginsScan (order_of K.name K.cmp) version.now.value.tables sequence
+            (whole (S.facts source.now.tables.store) source.now.tables.tables source.now.tables.blocks source.now.memory) scan) }
+    {
+        lists_have_a_union::<K>();
+        each_list_has_a_view::<K>();
+        views_agree::<K>();
+        row_begins::<K>();
+        // They are in order.
+        let _tables = version.tables();
+        let sequence = sequence.min(source.memory.last());
+        let memory = MemoryCursor::new(alloc, sequence);
+        source.memory.begins(&memory);
+        let mut cursors = Vec::new(alloc);
+        cursors.push(SourceCursor::Memory(memory))?;
+        add_newest(&mut cursors, version)?;
+        add_levels(&mut cursors, version)?;
+        let merge = Merge::new(alloc, cursors)?;
+        Ok(Scan {
+            walk: Visible::new(alloc, merge, sequence),
+        })
+    }
+
+    /// Stands on the pair of the least key, or nowhere where there is none. `Corrupt` only where a faithful source doesn't hold what
+    /// the scan was made for, `Unsupported` there or where the file of one of its tables passes a limit of reading.
+    pub fn first<S: Store>(
+        &mut self,
+        alloc: Global,
+        source: &mut Sources<K, S>,
+    ) -> Result<(), DbError>
+        ensures { IsScanned K.cmp walk_first (whole (S.facts source.old.tables.store) source.old.tables.tables source.old.tables.blocks source.old.memory) (whole (S.facts source.new.tables.store) source.new.tables.tables source.new.tables.blocks source.new.memory) self.old self.new result }
+    {
+        self.walk.first(alloc, source)
+    }
+
+    /// Stands on the pair of the greatest key, or nowhere where there is none.
+    pub fn last<S: Store>(
+        &mut self,
+        alloc: Global,
+        source: &mut Sources<K, S>,
+    ) -> Result<(), DbError>
+        ensures { IsScanned K.cmp walk_last (whole (S.facts source.old.tables.store) source.old.tables.tables source.old.tables.blocks source.old.memory) (whole (S.facts source.new.tables.store) source.new.tables.tables source.new.tables.blocks source.new.memory) self.old self.new result }
+    {
+        self.walk.last(alloc, source)
+    }
+
+    /// Stands on the pair of the first key that isn't below the target, or nowhere where there is none.
+    pub fn seek<S: Store>(
+        &mut self,
+        alloc: Global,
+        source: &mut Sources<K, S>,
+        target: &[u8],
+    ) -> Result<(), DbError>
+        ensures { IsScanned K.cmp (walk_to K.cmp target.now) (whole (S.facts source.old.tables.store) source.old.tables.tables source.old.tables.blocks source.old.memory) (whole (S.facts source.new.tables.store) source.new.tables.tables source.new.tables.blocks source.new.memory) self.old self.new result }
+    {
+        self.walk.seek(alloc, source, target)
+    }
+
+    /// Stands on the pair behind, or nowhere where there is none.
+    pub fn next<S: Store>(
+        &mut self,
+        alloc: Global,
+        source: &mut Sources<K, S>,
+    ) -> Result<(), DbError>
+        requires { self.old.walk.stands ≡ true }
+        ensures { IsScanned K.cmp walk_next (whole (S.facts source.old.tables.store) source.old.tables.tables source.old.tables.blocks source.old.memory) (whole (S.facts source.new.tables.store) source.new.tables.tables source.new.tables.blocks source.new.memory) self.old self.new result }
+    {
+        self.walk.next(alloc, source)
+    }
+
+    /// Stands on the pair in front, or nowhere where there is none.
+    pub fn prev<S: Store>(
+        &mut self,
+        alloc: Global,
+        source: &mut Sources<K, S>,
+    ) -> Result<(), DbError>
+        requires { self.old.walk.stands ≡ true }
+        ensures { IsScanned K.cmp walk_prev (whole (S.facts source.old.tables.store) source.old.tables.tables source.old.tables.blocks source.old.memory) (whole (S.facts source.new.tables.store) source.new.tables.tables source.new.tables.blocks source.new.memory) self.old self.new result }
+    {
+        self.walk.prev(alloc, source)
+    }
+
+    /// Takes back the last move, where it succeeded: the scan stands again on the pair on which it stood before, or nowhere, where
+    /// it stood on none. It takes no memory; the pair can be asked for again after the next move.
+    pub fn take_back(&mut self, stood: bool)
+        ensures cursor { self.new.walk.cursor ≡ self.old.walk.cursor }
+        ensures sequence { self.new.walk.sequence ≡ self.old.walk.sequence }
+        ensures stands { self.new.walk.stands ≡ stood }
+        ensures key { self.new.walk.here.key.items ≡ key_before self.old.walk }
+        ensures back { TakesBack K.cmp stood self.old self.new }
+    {
+        self.walk.take_back(stood);
+    }
+
+    /// Whether the scan stands on a pair.
+    pub fn stands(&self) -> bool
+        ensures { result ≡ self.now.walk.stands }
+    {
+        self.walk.stands()
+    }
+
+    /// A copy of the pair on which the scan stands, after a move that succeeded; nothing where it stands nowhere.
+    pub fn pair<S: Store>(
+        &self,
+        alloc: Global,
+        source: &Sources<K, S>,
+    ) -> Result<Option<(Bytes, Bytes)>, AllocError>
+        requires { self.now.walk.stands ≡ true → has_pair self.now ≡ true }
+        ensures { IfOk result (λ pair. (tables : List PlacedTable) (at : Walked) → IsScan K.cmp tables self.now (whole (S.facts source.now.tables.store) source.now.tables.tables source.now.tables.blocks source.now.memory) at → pair ≡ pair_on at) }
+    {
+        if !self.walk.stands() {
+            return Ok(None);
+        }
+        let key = Bytes::copied_from(alloc, self.walk.key())?;
+        let value = Bytes::copied_from(alloc, self.walk.value(source))?;
+        Ok(Some((key, value)))
+    }
+
+    /// A scan stays where it is while what it reads is kept.
+    pub fn stays(&self)
+        ensures { ScanIsKept K.cmp self.now }
+    {
+        let _ = self;
+    }
+
+    /// A scan that passes a limit of reading goes over a table whose file does.
+    pub fn past_limit(&self)
+        ensures { ScanPastLimit K.cmp self.now }
+    {
+        let _ = self;
+    }
+}
