@@ -9,19 +9,20 @@ use Rattle.edits.specs.Names.{name_of, IsNumbered}
 use Rattle.edits.specs.declared.names.FileName.TheVariants.{Current, Manifest}
 use Rattle.engine.specs.declared.command.Mode.{Mode}
 use Rattle.engine.specs.declared.finding.Found.{Found}
-use Rattle.engine.specs.declared.state.DbState.{DbState}
 use Rattle.recover.specs.Laws.{FreeChangeLaw}
 use Rattle.engine.specs.Calls.{RefusesLock}
-use Rattle.engine.specs.Opening.{Finds, RefusesOpen, IsBeyondOpening}
+use Rattle.engine.specs.Opening.{Finds, RefusesOpen}
 use Rattle.engine.specs.Causes.{IsMet}
 use Rattle.engine.specs.Telling.{IsOpenable, RefusalTells, Tells}
-use Rattle.engine.proofs.OpenLock.{OnlyLock, may_lock_only, only_back, empty_beside, consistent_beside}
+use Rattle.recover.specs.Reading.{IsBeyondReading}
+use Rattle.engine.proofs.FoundSteps.{directory_read, plain_directory}
+use Rattle.engine.proofs.OpenLock.{OnlyLock, may_lock_only, only_back, empty_beside, consistent_beside, recovers_beside}
 
 -- what was found can be opened
 pub found_openable : (order : Order) (files : Files) (found : Found) → Finds order files found → IsOpenable order files
 found_openable order files found h = elim h.what [
   | inl none ↦ inl none.0
-  | inr there ↦ inr (there.directory, there.consistent, there.plain)
+  | inr some ↦ inr (some.recovered, some.read, λ plain. (directory_read order files some.recovered some.read, plain_directory order files some.recovered some.read plain))
 ]
 
 -- what isn't found tells
@@ -48,40 +49,25 @@ lock_tells order old new error.Locked h = tt
 lock_tells order old new _ h = absurd h
 
 -- a MANIFEST that isn't read says the same where another file was made
-beyond_back : (order : Order) (old new : Files) → OnlyLock old new → IsBeyondOpening order new → IsBeyondOpening order old
+beyond_back : (order : Order) (old new : Files) → OnlyLock old new → IsBeyondReading order new → IsBeyondReading order old
 unfolding OnlyLock
-beyond_back order old new only (inl b) = inl (record {
+beyond_back order old new only b = record {
   number = b.number;
   numbered = b.numbered;
   current = sym (only Current tt (λ e. cc)) ∙ b.current;
   bytes = b.bytes;
   there = sym (only (Manifest b.number) b.numbered (λ e. cc)) ∙ b.there;
   spelled = b.spelled;
-})
-beyond_back order old new only (inr b) =
-    let has = b.3 in
-    inr (
-      b.0,
-      b.1,
-      b.2,
-      record {
-        numbered = has.numbered;
-        current = sym (only Current tt (λ e. cc)) ∙ has.current;
-        bytes = has.bytes;
-        there = sym (only (Manifest b.0) has.numbered (λ e. cc)) ∙ has.there;
-        spelled = has.spelled;
-      },
-      b.4,
-    )
+}
 
 -- the file of the lock says nothing
-pub tells_beside : {K : Type 0} → (order : Order) (old new : Files) → FreeChangeLaw → MayLock old new → (r : Result (DbState K) DbError) → Tells order new r → Tells order old r
+pub tells_beside : {T : Type 0} → (order : Order) (old new : Files) → FreeChangeLaw → MayLock old new → (r : Result T DbError) → Tells order new r → Tells order old r
 unfolding OnlyLock
 tells_beside order old new law may (Ok state) h =
     let back = only_back old new (may_lock_only old new may) in
     elim h [
       | inl none ↦ inl (empty_beside order new old law back none)
-      | inr there ↦ inr (there.0, consistent_beside order new old law back there.0 there.1, there.2)
+      | inr there ↦ inr (there.0, recovers_beside order new old law back there.0 there.1, λ plain. let d = there.2 plain in (d.0, consistent_beside order new old law back d.0 d.1))
     ]
 tells_beside order old new law may (Err (error.Corrupt file what)) h =
     let on = may_lock_only old new may in

@@ -6,16 +6,18 @@ use Rattle.batch.specs.declared.operation.Operation.{Operation}
 use Rattle.coding.specs.declared.error.DbError.{DbError}
 use Rattle.store.specs.Files.{Facts}
 use Rattle.ikey.specs.Orders.{Order}
-use Rattle.ikey.specs.Views.{IsValueAt}
 use Rattle.engine.specs.declared.command.Op.{Op}
 use Rattle.engine.specs.declared.command.Op.TheVariants.{Get, Close}
 use Rattle.engine.specs.declared.command.Answer.{Answer}
 use Rattle.engine.specs.declared.command.Answer.TheVariants.{Value}
 use Rattle.engine.specs.declared.ids.Ids.{Ids}
-use Rattle.engine.specs.declared.state.DbState.{DbState}
+use Rattle.engine.specs.Held.{Held}
+use Rattle.engine.specs.Stands.{store_of, held_in}
+use Rattle.engine.specs.StandsDb.{db_store_of, held_by}
+use Rattle.scans.specs.declared.scan.Scan.{Scan}
 use Rattle.engine.specs.declared.session.Session.{Session}
 use Rattle.engine.specs.declared.db.Db.{Db}
-use Rattle.engine.specs.Reads.{sequence_at}
+use Rattle.engine.specs.Reads.{sequence_at, ReadsMemory}
 use Rattle.engine.specs.Step.{Step}
 use Rattle.engine.specs.Follows.{Follows}
 use Rattle.engine.specs.Outcomes.{OutcomeOf, IsAnswerTo, Succeeds}
@@ -25,59 +27,59 @@ use Rattle.engine.specs.Telling.{CommandTells, OpenTells}
 
 -- ---- of one command
 
--- A value that a get answers is what the newest entry of the key put, as far as the read sees.
-abbrev pub IsRead : {K : Type 0} → List ℕ → Option ℕ → Option (DbState K) → Answer → Type 0
+-- A value that a get answers is what the newest entry of the key in memory put, as far as the read sees.
+abbrev pub IsRead : {I : Type 0} → List ℕ → Option ℕ → Option (Held I) → Answer → Type 0
 IsRead key snapshot None (Value value) = ⊥
-IsRead key snapshot (Some state) (Value value) = (sequence : ℕ) × (sequence_at state snapshot ≡ Some sequence) × IsValueAt state.table.contents.inserts sequence key value
+IsRead key snapshot (Some db) (Value value) = (sequence : ℕ) × (sequence_at db snapshot ≡ Some sequence) × ReadsMemory db sequence key value
 IsRead key snapshot state _ = Unit {0}
 
-abbrev pub Shows : {K : Type 0} → Op → Option (DbState K) → Answer → Type 0
+abbrev pub Shows : {I : Type 0} → Op → Option (Held I) → Answer → Type 0
 Shows (Get key snapshot) state answer = IsRead key snapshot state answer
 Shows _ state answer = Unit {0}
 
 -- No database is open behind a close.
-abbrev pub Shuts : {K : Type 0} → Op → Option (DbState K) → Type 0
+abbrev pub Shuts : {I : Type 0} → Op → Option (Held I) → Type 0
 Shuts Close state = state ≡ None
 Shuts _ state = Unit {0}
 
 -- why a write is refused
-abbrev pub write_causes : {K : Type 0} → List Operation → Option (DbState K) → Ids → Option DbError
+abbrev pub write_causes : {I : Type 0} → List Operation → Option (Held I) → Ids → Option DbError
 write_causes operations state ids = option_or (first_refusal [] operations) (where_open (λ s. write_refusal s operations) state)
 
 -- ---- of two sessions
 
-abbrev pub CausedBy : {S K : Type 0} → (Option (DbState K) → Ids → Option DbError) → Session S K → Session S K → Answer → Type 0
-CausedBy cause old new answer = IsCaused (cause old.state old.ids) old.store new.store answer
+abbrev pub CausedBy : {S K : Type 0} {g : _} → (Option (Held (Scan K g)) → Ids → Option DbError) → Session S K g → Session S K g → Answer → Type 0
+CausedBy cause old new answer = IsCaused (cause (held_in old) old.ids) (store_of old) (store_of new) answer
 
-abbrev pub TouchedBy : {S K : Type 0} → (Option (DbState K) → Facts → Facts → Answer → Type 0) → (S → Facts) → Session S K → Session S K → Answer → Type 0
-TouchedBy touches facts old new answer = touches old.state (facts old.store) (facts new.store) answer
+abbrev pub TouchedBy : {S K : Type 0} {g : _} → (Option (Held (Scan K g)) → Facts → Facts → Answer → Type 0) → (S → Facts) → Session S K g → Session S K g → Answer → Type 0
+TouchedBy touches facts old new answer = touches (held_in old) (facts (store_of old)) (facts (store_of new)) answer
 
-abbrev pub Left : {K : Type 0} → Option (DbState K) → Facts → Facts → Answer → Type 0
+abbrev pub Left : {I : Type 0} → Option (Held I) → Facts → Facts → Answer → Type 0
 Left state old new answer = LeavesStore old new
 
-abbrev pub ToldBy : {S K : Type 0} → Op → Order → (S → Facts) → Session S K → Session S K → Answer → Type 0
-ToldBy op order facts old new answer = CommandTells op order old.state (facts old.store) (facts new.store) answer
+abbrev pub ToldBy : {S K : Type 0} {g : _} → Op → Order → (S → Facts) → Session S K g → Session S K g → Answer → Type 0
+ToldBy op order facts old new answer = CommandTells op order (held_in old) (facts (store_of old)) (facts (store_of new)) answer
 
-abbrev pub OpenTold : {S K : Type 0} → Order → (S → Facts) → Session S K → Session S K → Answer → Type 0
-OpenTold order facts old new answer = OpenTells order old.state (facts old.store) (facts new.store) answer
+abbrev pub OpenTold : {S K : Type 0} {g : _} → Order → (S → Facts) → Session S K g → Session S K g → Answer → Type 0
+OpenTold order facts old new answer = OpenTells order (held_in old) (facts (store_of old)) (facts (store_of new)) answer
 
-abbrev pub ReadBy : {S K : Type 0} → List ℕ → Option ℕ → Session S K → Answer → Type 0
-ReadBy key snapshot old answer = IsRead key snapshot old.state answer
+abbrev pub ReadBy : {S K : Type 0} {g : _} → List ℕ → Option ℕ → Session S K g → Answer → Type 0
+ReadBy key snapshot old answer = IsRead key snapshot (held_in old) answer
 
-abbrev pub ShownBy : {S K : Type 0} → Op → Session S K → Answer → Type 0
-ShownBy op old answer = Shows op old.state answer
+abbrev pub ShownBy : {S K : Type 0} {g : _} → Op → Session S K g → Answer → Type 0
+ShownBy op old answer = Shows op (held_in old) answer
 
-abbrev pub IsShut : {S K : Type 0} → Session S K → Type 0
-IsShut session = session.state ≡ None
+abbrev pub IsShut : {S K : Type 0} {g : _} → Session S K g → Type 0
+IsShut session = held_in session ≡ None
 
 -- what parting with the store does to it
-abbrev pub Parted : {S K : Type 0} → Session S K → Facts → Facts → Type 0
-Parted session old new = CloseTouches session.state old new
+abbrev pub Parted : {S K : Type 0} {g : _} → Session S K g → Facts → Facts → Type 0
+Parted session old new = CloseTouches (held_in session) old new
 
-abbrev pub ShutBy : {S K : Type 0} → Op → Session S K → Type 0
-ShutBy op new = Shuts op new.state
+abbrev pub ShutBy : {S K : Type 0} {g : _} → Op → Session S K g → Type 0
+ShutBy op new = Shuts op (held_in new)
 
-pub record Applied {S K : Type 0} (order : Order) (facts : S → Facts) (op : Op) (old new : Session S K) (answer : Answer) : Type 0 where
+pub record Applied {S K : Type 0} {g : _} (order : Order) (facts : S → Facts) (op : Op) (old new : Session S K g) (answer : Answer) : Type 0 where
   pub step : Follows order facts old new (λ m n. Step order m op answer n)
   pub outcome : OutcomeOf (IsAnswerTo op) facts old new answer
   pub succeeds : Succeeds op old new answer
@@ -90,29 +92,33 @@ pub record Applied {S K : Type 0} (order : Order) (facts : S → Facts) (op : Op
 -- ---- of a list of commands
 
 -- Each is applied to what the one before has left.
-abbrev pub AllApplied : {S K : Type 0} → Order → (S → Facts) → List Op → List Answer → Session S K → Session S K → Type 0
+abbrev pub AllApplied : {S K : Type 0} {g : _} → Order → (S → Facts) → List Op → List Answer → Session S K g → Session S K g → Type 0
 AllApplied order facts [] [] old new = new ≡ old
-AllApplied {S} {K} order facts (op ∷ ops) (answer ∷ answers) old new = (mid : Session S K) × Applied order facts op old mid answer × AllApplied order facts ops answers mid new
+AllApplied {S} {K} {g} order facts (op ∷ ops) (answer ∷ answers) old new = (mid : Session S K g) × Applied order facts op old mid answer × AllApplied order facts ops answers mid new
 AllApplied order facts [] (answer ∷ answers) old new = ⊥
 AllApplied order facts (op ∷ ops) [] old new = ⊥
 
 -- ---- of an open database
 
 -- why a write to it is refused
-abbrev pub DbCaused : {S K T : Type 0} → (DbState K → Ids → Option DbError) → Db S K → Db S K → Result T DbError → Type 0
-DbCaused cause old new result = IsCausedIn (cause old.state old.ids) old.store new.store result
+abbrev pub DbCaused : {S K T : Type 0} {g : _} → (Held (Scan K g) → Ids → Option DbError) → Db S K g → Db S K g → Result T DbError → Type 0
+DbCaused cause old new result = IsCausedIn (cause (held_by old) old.ids) (db_store_of old) (db_store_of new) result
 
-abbrev pub DbSyncs : {S K T : Type 0} → Type 0 → Bool → (S → Facts) → Db S K → Db S K → Result T DbError → Type 0
-DbSyncs asked sync facts old new result = SyncsLog asked sync (string_bytes old.state.log.name) (facts old.store) (facts new.store) result
+abbrev pub DbSyncs : {S K T : Type 0} {g : _} → Type 0 → Bool → (S → Facts) → Db S K g → Db S K g → Result T DbError → Type 0
+DbSyncs asked sync facts old new result = SyncsLog asked sync (string_bytes old.state.log.name) (facts (db_store_of old)) (facts (db_store_of new)) result
 
 -- A write of no operations to one that isn't broken, which makes no call of the store.
-abbrev pub DbWritesEmpty : {S K : Type 0} → List Operation → Db S K → Db S K → Result (Unit {0}) DbError → Type 0
-DbWritesEmpty operations old new result = operations ≡ [] → old.state.broken ≡ false → (result ≡ Ok tt) × (new.store ≡ old.store)
+abbrev pub DbWritesEmpty : {S K : Type 0} {g : _} → List Operation → Db S K g → Db S K g → Result (Unit {0}) DbError → Type 0
+DbWritesEmpty operations old new result = operations ≡ [] → old.state.broken ≡ false → (result ≡ Ok tt) × (db_store_of new ≡ db_store_of old)
 
-abbrev pub DbLeaves : {S K : Type 0} → (S → Facts) → Db S K → Db S K → Type 0
-DbLeaves facts old new = LeavesStore (facts old.store) (facts new.store)
+abbrev pub DbLeaves : {S K : Type 0} {g : _} → (S → Facts) → Db S K g → Db S K g → Type 0
+DbLeaves facts old new = LeavesStore (facts (db_store_of old)) (facts (db_store_of new))
 
--- A value that it answers is what the newest entry of the key put, as far as the read sees.
-abbrev pub DbRead : {S K : Type 0} → List ℕ → Option ℕ → Db S K → Result (Option (List ℕ)) DbError → Type 0
-DbRead key snapshot db (Ok value) = IsRead key snapshot (Some db.state) (Value value)
-DbRead key snapshot db (Err e) = Unit {0}
+-- the same of the parts of one
+abbrev pub IsReadBy : {I : Type 0} → List ℕ → Option ℕ → Held I → Result (Option (List ℕ)) DbError → Type 0
+IsReadBy key snapshot db (Ok value) = IsRead key snapshot (Some db) (Value value)
+IsReadBy key snapshot db (Err e) = Unit {0}
+
+-- A value that it answers is what the newest entry of the key in memory put, as far as the read sees.
+abbrev pub DbRead : {S K : Type 0} {g : _} → List ℕ → Option ℕ → Db S K g → Result (Option (List ℕ)) DbError → Type 0
+DbRead key snapshot db result = IsReadBy key snapshot (held_by db) result

@@ -12,7 +12,8 @@ use Rattle.engine.specs.declared.command.Op.TheVariants.{Open, Write, Get, Relea
 use Rattle.engine.specs.declared.command.Answer.{Answer}
 use Rattle.engine.specs.declared.command.Answer.TheVariants.{Refused}
 use Rattle.engine.specs.declared.ids.Ids.{Ids}
-use Rattle.engine.specs.declared.state.DbState.{DbState}
+use Rattle.engine.specs.Held.{Held}
+use Rattle.scans.specs.declared.scan.Scan.{Scan}
 use Rattle.engine.specs.Live.{kept_at}
 use Rattle.engine.specs.Reads.{sequence_at}
 use Rattle.engine.specs.Views.{spent}
@@ -20,52 +21,52 @@ use Rattle.engine.specs.Walks.{Motion, ToFirst, ToLast, ToKey, ToNext, ToPrev, l
 
 -- ---- in an open database
 
-abbrev pub broken_in : {K : Type 0} → DbState K → Option DbError
+abbrev pub broken_in : {I : Type 0} → Held I → Option DbError
 broken_in state = if state.broken then Some error.Broken else None
 
-abbrev pub full_in : {K : Type 0} → DbState K → List Operation → Option DbError
+abbrev pub full_in : {I : Type 0} → Held I → List Operation → Option DbError
 full_in state [] = None
 full_in state (operation ∷ operations) = if nat_lt (2 ^ 56 - 1) (state.table.last + length (operation ∷ operations)) then Some error.SequenceFull else None
 
-abbrev pub unseen_in : {K : Type 0} → DbState K → Option ℕ → Option DbError
+abbrev pub unseen_in : {I : Type 0} → Held I → Option ℕ → Option DbError
 unseen_in state snapshot = if is_some (sequence_at state snapshot) then None else Some error.NoSnapshot
 
-abbrev pub placeless_in : {K : Type 0} → DbState K → ℕ → Motion → Option DbError
-placeless_in state id motion = if is_some (kept_at state.iterators id) then option_and_then (λ iterator. lacks_place iterator.stands motion) (kept_at state.iterators id) else Some error.NoIterator
+abbrev pub placeless_in : {K : Type 0} {g : _} → Held (Scan K g) → ℕ → Motion → Option DbError
+placeless_in state id motion = if is_some (kept_at state.iterators id) then option_and_then (λ iterator. lacks_place iterator.walk.stands motion) (kept_at state.iterators id) else Some error.NoIterator
 
-abbrev pub write_refusal : {K : Type 0} → DbState K → List Operation → Option DbError
+abbrev pub write_refusal : {I : Type 0} → Held I → List Operation → Option DbError
 write_refusal state operations = option_or (broken_in state) (full_in state operations)
 
-abbrev pub get_refusal : {K : Type 0} → DbState K → Option ℕ → Option DbError
+abbrev pub get_refusal : {I : Type 0} → Held I → Option ℕ → Option DbError
 get_refusal state snapshot = option_or (broken_in state) (unseen_in state snapshot)
 
-abbrev pub snapshot_refusal : {K : Type 0} → DbState K → Ids → Option DbError
+abbrev pub snapshot_refusal : {I : Type 0} → Held I → Ids → Option DbError
 snapshot_refusal state ids = option_or (broken_in state) (spent ids.snapshot)
 
-abbrev pub release_refusal : {K : Type 0} → DbState K → ℕ → Option DbError
+abbrev pub release_refusal : {I : Type 0} → Held I → ℕ → Option DbError
 release_refusal state id = option_or (broken_in state) (unseen_in state (Some id))
 
-abbrev pub iterate_refusal : {K : Type 0} → DbState K → Ids → Option ℕ → Option DbError
+abbrev pub iterate_refusal : {I : Type 0} → Held I → Ids → Option ℕ → Option DbError
 iterate_refusal state ids snapshot = option_or (broken_in state) (option_or (unseen_in state snapshot) (spent ids.iterator))
 
-abbrev pub move_refusal : {K : Type 0} → DbState K → ℕ → Motion → Option DbError
+abbrev pub move_refusal : {K : Type 0} {g : _} → Held (Scan K g) → ℕ → Motion → Option DbError
 move_refusal state id motion = option_or (broken_in state) (placeless_in state id motion)
 
-abbrev pub drop_refusal : {K : Type 0} → DbState K → ℕ → Option DbError
+abbrev pub drop_refusal : {I : Type 0} → Held I → ℕ → Option DbError
 drop_refusal state id = option_or (broken_in state) (if is_some (kept_at state.iterators id) then None else Some error.NoIterator)
 
 -- ---- in a session
 
-abbrev pub where_open : {K : Type 0} → (DbState K → Option DbError) → Option (DbState K) → Option DbError
+abbrev pub where_open : {I : Type 0} → (Held I → Option DbError) → Option (Held I) → Option DbError
 where_open cause None = Some error.NotOpen
 where_open cause (Some state) = cause state
 
-abbrev pub opened_already : {K : Type 0} → Option (DbState K) → Option DbError
+abbrev pub opened_already : {I : Type 0} → Option (Held I) → Option DbError
 opened_already None = None
 opened_already (Some state) = if state.broken then Some error.Broken else Some error.AlreadyOpen
 
 -- the refusal that a command has to have in this state
-abbrev pub cause_of : {K : Type 0} → Op → Option (DbState K) → Ids → Option DbError
+abbrev pub cause_of : {K : Type 0} {g : _} → Op → Option (Held (Scan K g)) → Ids → Option DbError
 cause_of (Open mode) state ids = opened_already state
 cause_of (Write operations sync) state ids = option_or (first_refusal [] operations.items) (where_open (λ s. write_refusal s operations.items) state)
 cause_of (Get key snapshot) state ids = where_open (λ s. get_refusal s snapshot) state

@@ -8,22 +8,25 @@ use Rattle.ikey.specs.Orders.{Order}
 use Rattle.edits.specs.Names.{name_of}
 use Rattle.edits.specs.declared.names.FileName.TheVariants.{Current}
 use Rattle.recover.specs.Directory.{Directory, IsConsistent, IsEmpty}
+use Rattle.recover.specs.Reading.{Recovers, IsBeyondReading}
+use Rattle.recover.specs.declared.reading.Recovered.{Recovered}
 use Rattle.engine.specs.declared.command.Op.{Op}
 use Rattle.engine.specs.declared.command.Op.TheVariants.{Open}
 use Rattle.engine.specs.declared.command.Answer.{Answer}
-use Rattle.engine.specs.declared.state.DbState.{DbState}
-use Rattle.engine.specs.Opening.{IsBeyondOpening}
+use Rattle.engine.specs.Held.{Held}
 use Rattle.engine.specs.Touching.{unit_result}
 
--- It is empty, or consistent and without tables.
+-- It is empty, or its MANIFEST and its logs are whole, and so are the names, sizes and keys of its tables, which aren't read.
+-- Without tables it is consistent.
 abbrev pub IsOpenable : Order → Files → Type 0
-IsOpenable order files = IsEmpty files ⊎ ((d : Directory) × IsConsistent order files d × (d.tables ≡ []))
+IsOpenable order files = IsEmpty files
+    ⊎ ((recovered : Recovered) × Recovers order files recovered × (recovered.layout.tables.items ≡ [] → (d : Directory) × IsConsistent order files d))
 
 -- Damage is neither an empty directory nor a consistent one. What isn't supported is a MANIFEST that is there and says
 -- so. There is no database where the directory is empty, and one where `CURRENT` is there.
 abbrev pub RefusalTells : Order → Files → DbError → Type 0
 RefusalTells order files (error.Corrupt file what) = (IsEmpty files → ⊥) × ((d : Directory) → IsConsistent order files d → ⊥)
-RefusalTells order files (error.Unsupported what) = IsBeyondOpening order files
+RefusalTells order files (error.Unsupported what) = IsBeyondReading order files
 RefusalTells order files error.NoDatabase = IsEmpty files
 RefusalTells order files error.Exists = contains_key files (name_of Current) ≡ true
 RefusalTells order files _ = Unit {0}
@@ -33,10 +36,10 @@ Tells order files (Ok x) = IsOpenable order files
 Tells order files (Err e) = RefusalTells order files e
 
 -- What the answer to a command tells of a faithful store's files, before the command.
-abbrev pub OpenTells : {K : Type 0} → Order → Option (DbState K) → Facts → Facts → Answer → Type 0
+abbrev pub OpenTells : {I : Type 0} → Order → Option (Held I) → Facts → Facts → Answer → Type 0
 OpenTells order None old new answer = IsTrue new.faithful → Tells order old.files (unit_result answer)
 OpenTells order (Some state) old new answer = Unit {0}
 
-abbrev pub CommandTells : {K : Type 0} → Op → Order → Option (DbState K) → Facts → Facts → Answer → Type 0
+abbrev pub CommandTells : {I : Type 0} → Op → Order → Option (Held I) → Facts → Facts → Answer → Type 0
 CommandTells (Open mode) order state old new answer = OpenTells order state old new answer
 CommandTells _ order state old new answer = Unit {0}

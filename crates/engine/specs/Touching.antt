@@ -7,7 +7,7 @@ use Rattle.engine.specs.declared.command.Op.{Op}
 use Rattle.engine.specs.declared.command.Op.TheVariants.{Open, Write, Close}
 use Rattle.engine.specs.declared.command.Answer.{Answer}
 use Rattle.engine.specs.declared.command.Answer.TheVariants.{Done, Refused}
-use Rattle.engine.specs.declared.state.DbState.{DbState}
+use Rattle.engine.specs.Held.{Held}
 use Rattle.engine.specs.Durable.{SyncsOnly, IsSynced, LeavesDurable}
 
 -- whether it was refused
@@ -34,7 +34,7 @@ abbrev pub AsksSync : List Operation → Bool → Type 0
 AsksSync operations sync = (sync ≡ true) × (operations ≢ [])
 
 -- the name of the log that an open database writes to
-abbrev pub log_of : {K : Type 0} → Option (DbState K) → List ℕ
+abbrev pub log_of : {I : Type 0} → Option (Held I) → List ℕ
 log_of None = []
 log_of (Some state) = string_bytes state.log.name
 
@@ -68,18 +68,18 @@ pub record OpensStore {T : Type 0} (old new : Facts) (result : Result T DbError)
   pub locks : Locks old new result
   pub durable : LeavesDurable old new result
 
-abbrev pub OpenTouches : {K : Type 0} → Option (DbState K) → Facts → Facts → Answer → Type 0
+abbrev pub OpenTouches : {I : Type 0} → Option (Held I) → Facts → Facts → Answer → Type 0
 OpenTouches None old new answer = OpensStore old new (unit_result answer)
 OpenTouches (Some state) old new answer = LeavesStore old new
 
-abbrev pub CloseTouches : {K : Type 0} → Option (DbState K) → Facts → Facts → Type 0
+abbrev pub CloseTouches : {I : Type 0} → Option (Held I) → Facts → Facts → Type 0
 CloseTouches None old new = LeavesStore old new
 CloseTouches (Some state) old new = ClosesStore old new
 
-abbrev pub WriteTouches : {K : Type 0} → List Operation → Bool → Option (DbState K) → Facts → Facts → Answer → Type 0
+abbrev pub WriteTouches : {I : Type 0} → List Operation → Bool → Option (Held I) → Facts → Facts → Answer → Type 0
 WriteTouches operations sync state old new answer = SyncsLog (AsksSync operations sync) sync (log_of state) old new (unit_result answer)
 
-abbrev pub Touches : {K : Type 0} → Op → Option (DbState K) → Facts → Facts → Answer → Type 0
+abbrev pub Touches : {I : Type 0} → Op → Option (Held I) → Facts → Facts → Answer → Type 0
 Touches (Open mode) state old new answer = OpenTouches state old new answer
 Touches (Write operations sync) state old new answer = WriteTouches operations.items sync state old new answer
 Touches Close state old new answer = CloseTouches state old new

@@ -1,0 +1,168 @@
+-- What the directory of an open database says of its tables, and what calls that only read leave of an open database.
+use Rattle.std.proofs.Common.{◌≡◌, ◌⊎◌, inl, inr, ℕ, zero, suc, ◌+◌, ◌<◌, ◌≤◌, Bool, true, false, IsTrue, Option, Some, None, List, [], ◌∷◌, ◌++◌, length, map, MatchBool, MatchOption, refl, sym, ap, subst, ◌∙◌, arith, Contains}
+use Rattle.std.specs.Cmp.{IsTotalOrder}
+use Rattle.std.specs.FinMap.{IsAntisymmetric}
+use Rattle.std.specs.declared.cmp.Ordering.{Ordering}
+use Rattle.std.specs.BTreeMap.{BTreeMap}
+use Rattle.cache.specs.Tables.{table_at}
+use Rattle.edits.specs.declared.field.PlacedTable.{PlacedTable}
+use Rattle.ikey.specs.declared.entry.Entry.{Entry}
+use Rattle.ikey.specs.Orders.{Order}
+use Rattle.ikey.specs.Sources.{joined, SameEntries}
+use Rattle.reads.specs.Gets.{HasTablesOf, IsTooLong}
+use Rattle.recover.specs.Directory.{Directory, IsConsistent}
+use Rattle.recover.specs.Report.{IsLongTable}
+use Rattle.recover.specs.Tables.{TableContent, IsTableFile, InTables, HasTable, tabled}
+use Rattle.recover.proofs.Memberships.{one_of_tables}
+use Rattle.scans.specs.Scans.{KeepsWhole, IsScan}
+use Rattle.scans.specs.Scanning.{ScanIsKept}
+use Rattle.scans.specs.Whole.{Whole}
+use Rattle.scans.specs.Written.{Written}
+use Rattle.scans.specs.declared.scan.Scan.{Scan}
+use Rattle.search.specs.Laws.{VersionLaw}
+use Rattle.search.specs.Places.{table_sources, HasVersion}
+use Rattle.memtable.specs.Places.{up_to}
+use Rattle.sources.specs.Tables.{Seen, IsSound, Carries}
+use Rattle.sources.specs.Values.{IsPastLimit}
+use Rattle.memtable.specs.Order.{ordered}
+use Rattle.store.specs.Files.{Files, Facts}
+use Rattle.table.proofs.FrameParts.{long_frame}
+use Rattle.versions.specs.Levels.{Lists}
+use Rattle.engine.specs.declared.ids.Ids.{Ids}
+use Rattle.engine.specs.Directory.{CanAppend, IsAtRest, IsReadable, IsWithinLimits}
+use Rattle.engine.specs.Held.{Held, whole_of, entries_of}
+use Rattle.engine.specs.Iterators.{IsWalk, walked_of}
+use Rattle.engine.specs.Live.{AreSnapshots, AreWalks}
+use Rattle.engine.specs.Machine.{Machine, Walk}
+use Rattle.engine.specs.Stands.{HasLog, HasTables, IsBroken, IsServing, StandsOpen}
+use Rattle.engine.proofs.LiveIds.{live_then}
+
+-- ---- members
+
+abbrev placed_of : List TableContent → List PlacedTable
+placed_of contents = map (λ (content : TableContent). content.placed) contents
+
+find_placed : (contents : List TableContent) (p : PlacedTable) → Contains (placed_of contents) p → (c : TableContent) × InTables contents c × (c.placed ≡ p)
+find_placed [] p (k, lt, e) = absurd (omega (arith, lt))
+find_placed (c ∷ contents) p (zero, lt, e) = (c, inl refl, e)
+find_placed (c ∷ contents) p (suc k, lt, e) = let rest = find_placed contents p (k, omega (arith, lt), e) in (rest.0, inr rest.1, rest.2)
+
+has_placed : (contents : List TableContent) (c : TableContent) → InTables contents c → Contains (placed_of contents) c.placed
+has_placed [] c i = absurd i
+has_placed (x ∷ contents) c (inl e) = (0, omega arith, ap (λ (t : TableContent). t.placed) (sym e))
+has_placed (x ∷ contents) c (inr i) = let rest = has_placed contents c i in (suc rest.0, omega (arith, rest.1), rest.2)
+
+-- ---- the tables of an open database
+
+-- The files of its version are tables, and their entries those of the directory's tables.
+pub tables_found : {I : Type 0} → (order : Order) (source : Seen) (contents : List TableContent) (db : Held I) → VersionLaw → IsTotalOrder order.cmp → IsAntisymmetric order.cmp
+    → HasLog order source.facts.files contents db → HasTables order source contents db
+    → (found : List TableContent) × HasTablesOf order source db.tables found × SameEntries (joined (table_sources found)) (tabled contents)
+tables_found order source contents db law total exact log tables =
+    let a = log.directory in
+    let d = a.directory in
+    let placed : map (λ (content : TableContent). content.placed) contents ≡ d.layout.tables.items = ap (λ (cs : List TableContent). map (λ (content : TableContent). content.placed) cs) a.in_tables ∙ a.consistent.placed in
+    let v = law order source.facts.files d db.tables total exact a.consistent (subst (λ (ps : List PlacedTable). Lists ps db.tables) placed tables.version) tables.in_order in
+    (v.0, (tables.sound, v.1), subst (λ (cs : List TableContent). SameEntries (joined (table_sources v.0)) (tabled cs)) (sym a.in_tables) v.2)
+
+-- a file that is a table, and is past a limit
+long_table : (order : Order) (file : List ℕ) (entries : List Entry) → IsTableFile order file entries → IsPastLimit order.cmp file → IsLongTable order file
+long_table order file entries t (inl unsupported) = (t.1.0, (t.1.1, inl (long_frame order.cmp file unsupported t.1.0 t.1.1)))
+long_table order file entries t (inr long) = (long.0, (long.1, inr long.2))
+
+-- Where the file of one of them is past a limit, the directory is.
+pub passes_limit : {I : Type 0} → (order : Order) (source : Seen) (contents found : List TableContent) (db : Held I) (content : TableContent)
+    → HasLog order source.facts.files contents db → HasTables order source contents db → HasVersion order source.facts.files db.tables found → InTables found content → IsTooLong order source content.placed
+    → IsWithinLimits order source.facts.files → ⊥
+passes_limit order source contents found db content log tables version i long within =
+    let a = log.directory in
+    let d = a.directory in
+    let here : Contains db.tables content.placed = subst (λ (ps : List PlacedTable). Contains ps content.placed) version.placed (has_placed found content i) in
+    let listed : Contains (placed_of contents) content.placed = subst (λ (p : PlacedTable). Contains (placed_of contents) p) here.2 (tables.version.only here.0 content.placed here.1) in
+    let other = find_placed d.tables content.placed (subst (λ (cs : List TableContent). Contains (placed_of cs) content.placed) a.in_tables listed) in
+    let has : HasTable order source.facts.files other.0 = one_of_tables order source.facts.files d.tables other.0 a.consistent.tables other.1 in
+    let there : table_at source.facts.files other.0.placed.table.number ≡ Some long.0 = ap (λ (p : PlacedTable). table_at source.facts.files p.table.number) other.2 ∙ long.1 in
+    let both : Some has.bytes ≡ Some long.0 = sym has.there ∙ there in
+    let same : has.bytes ≡ long.0 = cc in
+    within d a.consistent (inr (other.0, other.1, (long.0, there, long_table order long.0 other.0.entries (subst (λ (file : List ℕ). IsTableFile order file other.0.entries) same has.spelled) long.2)))
+
+-- ---- calls that only read
+
+-- the machine after them
+abbrev pub read_by : Facts → Machine → Machine
+read_by facts m = record m { failures = facts.failures; denials = facts.denials }
+
+-- what a scan reads is the same
+whole_kept : (cmp : List ℕ → List ℕ → Ordering) (old new : Whole) (sequence : ℕ) → new.written.contents.inserts ≡ old.written.contents.inserts → new.seen.facts.files ≡ old.seen.facts.files → (IsSound cmp old.seen → IsSound cmp new.seen)
+    → KeepsWhole cmp sequence old new
+whole_kept cmp old new sequence inserts files sound = record {
+  memory = λ cursor within. ap (λ (es : List Entry). up_to cursor.sequence (ordered cmp es)) (sym inserts);
+  tables = λ number. ap (λ (fs : Files). table_at fs number) files;
+  sound = sound;
+}
+
+module _ {K : Type 0} {g : _} (order : Order) (kept : (scan : Scan K g) → ScanIsKept order.cmp scan) where
+  -- an iterator where what it reads is the same
+  pub walk_kept : (tables : List PlacedTable) (old new : Whole) (iterator : Scan K g) (walk : Walk) → KeepsWhole order.cmp iterator.walk.sequence old new → old.written.last ≤ new.written.last
+      → IsWalk order.cmp old tables iterator walk → IsWalk order.cmp new tables iterator walk
+  walk_kept tables old new iterator walk keeps last h = record {
+    bound = (let within : iterator.walk.sequence ≤ old.written.last = h.bound in omega (arith, within, last));
+    scan = kept iterator tables old new (walked_of walk) keeps h.scan;
+  }
+
+  pub walks_kept : (tables : List PlacedTable) (old new : Whole) (iterators : BTreeMap ℕ (Scan K g)) (m : Machine) → ((sequence : ℕ) → sequence ≤ old.written.last → KeepsWhole order.cmp sequence old new) → old.written.last ≤ new.written.last
+      → AreWalks order.cmp old tables m iterators → AreWalks order.cmp new tables m iterators
+  walks_kept tables old new iterators m keeps last h =
+      live_then (IsWalk order.cmp old tables) (IsWalk order.cmp new tables) iterators m.iterators (λ iterator walk is. walk_kept tables old new iterator walk (keeps iterator.walk.sequence is.bound) last is) h
+
+  -- files and memory are the same, whatever else the calls did
+  module _ (old new : Seen) (db : Held (Scan K g)) (table : Written) (m : Machine) (files : new.facts.files ≡ old.facts.files) (sound : IsSound order.cmp old → IsSound order.cmp new)
+      (inserts : table.contents.inserts ≡ db.table.contents.inserts) (last : table.last ≡ db.table.last) where
+    abbrev after : Held (Scan K g)
+    after = record db { table = table }
+
+    readable_read : IsReadable order old.facts.files m → IsReadable order new.facts.files (read_by new.facts m)
+    readable_read h = subst (λ (fs : Files). IsReadable order fs (read_by new.facts m)) (sym files) (record { made = h.made; numbers = h.numbers; limits = h.limits })
+
+    log_read : (contents : List TableContent) → HasLog order old.facts.files contents db → HasLog order new.facts.files contents after
+    log_read contents h = record {
+      named = h.named;
+      directory = rw (inserts, last) (subst (λ (fs : Files). CanAppend order fs db.log.number db.log.end contents db.table.contents.inserts db.table.last) (sym files) h.directory);
+    }
+
+    serving_read : IsServing order old db m → IsServing order new after (read_by new.facts m)
+    serving_read h = record {
+      whole = h.whole;
+      certain = h.certain;
+      contents = h.contents;
+      log = log_read h.contents h.log;
+      tables = record { version = h.tables.version; in_order = h.tables.in_order; sound = sound h.tables.sound };
+      entries = record {
+        used = h.entries.used ∙ sym last;
+        fits = (let fits = h.entries.fits in omega (arith, fits, last));
+        view = rw (inserts, last) h.entries.view;
+        bounded = rw (inserts, last) h.entries.bounded;
+      };
+      snapshots = rw (inserts, last) h.snapshots;
+      iterators = walks_kept db.tables (whole_of old db) (whole_of new after) db.iterators m (λ sequence within. whole_kept order.cmp (whole_of old db) (whole_of new after) sequence inserts files sound) (omega (arith, last)) h.iterators;
+      readable = readable_read h.readable;
+    }
+
+    rest_read : (b : Bool) → MatchBool b (IsBroken order old.facts.files m) (IsServing order old db m) → MatchBool b (IsBroken order new.facts.files (read_by new.facts m)) (IsServing order new after (read_by new.facts m))
+    rest_read true h =
+        let there : IsAtRest order new.facts.files m = subst (λ (fs : Files). IsAtRest order fs m) (sym files) h.rest in
+        record { broken = h.broken; rest = record { meaning = there.meaning; readable = readable_read h.rest.readable } }
+    rest_read false h = serving_read h
+
+    pub stands_kept : (ids : Ids) → StandsOpen order old ids db m → StandsOpen order new ids (record db { table = table }) (read_by new.facts m)
+    stands_kept ids s = record {
+      counts = record { failures = refl; denials = refl };
+      ids = s.ids;
+      opened = s.opened;
+      rest = rest_read db.broken s.rest;
+    }
+
+  -- Calls of a faithful store that only read it leave all but the counts.
+  pub stands_read : (old new : Seen) (ids : Ids) (db : Held (Scan K g)) (table : Written) (m : Machine) → Carries order.cmp old new → IsTrue new.facts.faithful
+      → table.contents.inserts ≡ db.table.contents.inserts → table.last ≡ db.table.last → StandsOpen order old ids db m → StandsOpen order new ids (record db { table = table }) (read_by new.facts m)
+  stands_read old new ids db table m carries f inserts last s = stands_kept old new db table m (carries.reads.files f) (carries.sound f) inserts last ids s

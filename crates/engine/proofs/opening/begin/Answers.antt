@@ -1,0 +1,55 @@
+use Rattle.ikey.specs.Orders.{order_of}
+use Rattle.std.proofs.Common.{◌≡◌, Result, Ok, Err, refl, sym, subst, ◌∙◌, rules}
+use Rattle.coding.specs.declared.error.DbError.{DbError}
+use Rattle.engine.specs.Durable.{LeavesDurable}
+use Rattle.engine.specs.declared.opening.Begun.{Begun}
+use Rattle.engine.proofs.BegunSteps.{continued_same, continued_behind, begins}
+use Rattle.engine.proofs.Telling.{found_openable}
+use Rattle.engine.proofs.Locking.{behind_read}
+use Rattle.engine.proofs.opening.begin.Goals as goal
+
+pub returns-in_err-found-clause-continued : goal.returns-in_err-found-clause-continued
+returns-in_err-found-clause-continued g c = λ f.
+    continued_same (order_of g.K.KeyOrder.name g.K.KeyOrder.cmp) (g.S.Store.facts c.args.store.now).files (g.S.Store.facts c.find.new.store).files (c.in_err-found.ensures.store.same f)
+
+pub returns-in_err-version-clause-continued : goal.returns-in_err-version-clause-continued
+returns-in_err-version-clause-continued g c = λ f.
+    continued_same (order_of g.K.KeyOrder.name g.K.KeyOrder.cmp) (g.S.Store.facts c.args.store.now).files (g.S.Store.facts c.find.new.store).files (c.in_ok-found.ensures.store.same f)
+
+pub returns-in_err-rewrite-clause-continued : goal.returns-in_err-rewrite-clause-continued
+returns-in_err-rewrite-clause-continued g c = λ f.
+    continued_same (order_of g.K.KeyOrder.name g.K.KeyOrder.cmp) (g.S.Store.facts c.args.store.now).files (g.S.Store.facts c.find.new.store).files (c.in_ok-found.ensures.store.same f)
+
+pub returns-in_err-memory-clause-continued : goal.returns-in_err-memory-clause-continued
+returns-in_err-memory-clause-continued g c = λ f.
+    continued_same (order_of g.K.KeyOrder.name g.K.KeyOrder.cmp) (g.S.Store.facts c.args.store.now).files (g.S.Store.facts c.find.new.store).files (c.in_ok-found.ensures.store.same f)
+
+pub returns-in_err-rewrite_directory-clause-durable : goal.returns-in_err-rewrite_directory-clause-durable
+returns-in_err-rewrite_directory-clause-durable g c =
+    let old = g.S.Store.facts c.args.store.now in
+    let mid = g.S.Store.facts c.find.new.store in
+    let new = g.S.Store.facts c.rewrite_directory.new.store in
+    let e = c.in_err-rewrite_directory.field-0.0 in
+    let is : c.from_residual-in_err-rewrite_directory.result ≡ Err e = search rules in
+    subst (λ (r : Result (Begun _) DbError). LeavesDurable old new r) (sym is)
+    (behind_read {T = Unit {0}} {U = Begun _} old mid new e c.in_err-rewrite_directory.ensures.files.call.faithful c.in_ok-found.ensures.store.same c.in_ok-found.ensures.store.synced c.in_err-rewrite_directory.ensures.durable)
+
+pub returns-in_err-rewrite_directory-clause-continued : goal.returns-in_err-rewrite_directory-clause-continued
+returns-in_err-rewrite_directory-clause-continued g c =
+    continued_behind (order_of g.K.KeyOrder.name g.K.KeyOrder.cmp) (g.S.Store.facts c.args.store.now) (g.S.Store.facts c.find.new.store) (g.S.Store.facts c.rewrite_directory.new.store) c.in_ok-found.found _
+    c.in_ok-found.ensures.store.same c.in_ok-found.ensures.found c.in_err-rewrite_directory.ensures.files
+
+pub returns-clause-begun : goal.returns-clause-begun
+returns-clause-begun g c =
+    begins (order_of g.K.KeyOrder.name g.K.KeyOrder.cmp) c.args.mode (g.S.Store.facts c.args.store.now) (g.S.Store.facts c.find.new.store) (g.S.Store.facts c.rewrite_directory.new.store) c.in_ok-found.found _
+    c.recovered_law.ensures c.in_ok-found.ensures.store.same c.in_ok-found.ensures.found c.in_ok-found.ensures.allowed c.in_ok-rewrite_directory.ensures.files
+    (c.in_ok-memory.ensures.0 ∙ c.deref.ensures.value) c.in_ok-memory.ensures.1 c.in_ok-version.ensures.found.tables refl refl
+
+pub returns-clause-continued : goal.returns-clause-continued
+returns-clause-continued g c =
+    continued_behind (order_of g.K.KeyOrder.name g.K.KeyOrder.cmp) (g.S.Store.facts c.args.store.now) (g.S.Store.facts c.find.new.store) (g.S.Store.facts c.rewrite_directory.new.store) c.in_ok-found.found _
+    c.in_ok-found.ensures.store.same c.in_ok-found.ensures.found c.in_ok-rewrite_directory.ensures.files
+
+pub returns-clause-tells : goal.returns-clause-tells
+returns-clause-tells g c = λ f.
+    found_openable (order_of g.K.KeyOrder.name g.K.KeyOrder.cmp) (g.S.Store.facts c.args.store.now).files c.in_ok-found.found (c.in_ok-found.ensures.found (c.in_ok-rewrite_directory.ensures.files.call.faithful f))

@@ -1,0 +1,40 @@
+//! What a session lends while no database is open: its store, of which nothing is kept in memory.
+
+ghost use Rattle.std.specs.Prelude.{◌≡◌};
+
+use ikey::KeyOrder;
+use scans::{MemoryTable, Sources};
+use sources::Tables;
+use std::alloc::Global;
+use store::Store;
+
+/// A store with nothing beside it. It takes no memory.
+pub fn sources_over<K: KeyOrder, S: Store>(alloc: Global, store: S) -> Sources<K, S>
+    ensures { result.tables.store ≡ store }
+{
+    Sources {
+        tables: Tables::over(store),
+        memory: MemoryTable::empty(alloc),
+    }
+}
+
+/// Keeps nothing beside the store any more.
+pub fn forget<K: KeyOrder, S: Store>(alloc: Global, source: &mut Sources<K, S>)
+    ensures { source.new.tables.store ≡ source.old.tables.store }
+{
+    source.tables.end();
+    source.memory = MemoryTable::empty(alloc);
+}
+
+/// The store alone.
+pub fn store_in<K: KeyOrder, S: Store>(source: Sources<K, S>) -> S
+    ensures { result ≡ source.tables.store }
+{
+    let Sources { tables, memory: _ } = source;
+    let Tables {
+        store,
+        tables: _,
+        blocks: _,
+    } = tables;
+    store
+}
