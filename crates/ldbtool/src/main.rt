@@ -1,0 +1,33 @@
+//! The command line of the database: `run` answers a script of commands, `check` says whether a directory is good, and
+//! `dump` prints its entries. `ldbtool help run` shows what a line of a script looks like.
+#![tactic(auto)]
+
+mod command_line;
+mod help;
+mod inspect;
+mod report;
+mod settings;
+mod start;
+mod status;
+
+use std::alloc::AllocGlobal;
+use std::process::ExitCode;
+use std::rt::Env;
+use std::{env, io};
+
+fn main(rt: HostRuntime) -> ExitCode {
+    let mut faults = rt.stderr();
+    let words = match arguments(&rt) {
+        Ok(words) => words,
+        Err(error) => return ExitCode::from(start::report_fault(&mut faults, &error)),
+    };
+    let mut answers = rt.stdout();
+    ExitCode::from(start::start(&rt, words.as_slice(), rt.stdin(), &mut answers, &mut faults))
+}
+
+fn arguments(rt: &(impl Env + AllocGlobal)) -> io::Result<Vec<String>> {
+    Ok(env::args(rt)?.collect(rt.alloc())?)
+}
+
+#[cfg(test)]
+mod tests;

@@ -1,0 +1,117 @@
+// The program, over streams that are handed in.
+
+use crate::inspect::{check, dump};
+use crate::settings::{Numbers, Task, settings};
+use crate::status::{DONE, FAILED, MISUSED};
+use clap::error::ErrorKind;
+use engine::{Options, Session};
+use ikey::Bytewise;
+use script::{Fault, drive};
+use std::alloc::Global;
+use std::fmt;
+use std::io::{Read, Write};
+use store::{FileStore, StoreError};
+
+/// Does what the words ask for, of which the first is the program's name, and answers the exit status. What has no place
+/// on `writer` is said on `faults`.
+pub fn start<R: Read + Drop, W: Write, F: Write>(
+    rt: &HostRuntime,
+    words: &[String],
+    reader: R,
+    writer: &mut W,
+    faults: &mut F,
+) -> u8 {
+    let task = match settings(rt.alloc(), words) {
+        Ok(task) => task,
+        Err(error) => return refuse(&error, writer, faults),
+    };
+    let folder = folder_of(&task);
+    let mut store = match FileStore::open(rt, folder) {
+        Ok(store) => store,
+        Err(error) => return folder_fault(faults, folder, error),
+    };
+    match task {
+        Task::Run(numbers, _) => run(rt, store, numbers, reader, writer, faults),
+        Task::Check(_) => {
+            status_of(
+                check::<Bytewise, FileStore, W>(rt.alloc(), &mut store, writer),
+                faults,
+            )
+        },
+        Task::Dump(_) => {
+            status_of(
+                dump::<Bytewise, FileStore, W>(rt.alloc(), &mut store, writer),
+                faults,
+            )
+        },
+    }
+}
+
+fn folder_of<'a>(task: &Task<'a>) -> &'a str {
+    match task {
+        Task::Run(_, folder) => folder,
+        Task::Check(folder) => folder,
+        Task::Dump(folder) => folder,
+    }
+}
+
+// Says why the command line was refused, or the help that was asked for.
+fn refuse<W: Write, F: Write>(error: &clap::Error, writer: &mut W, faults: &mut F) -> u8 {
+    if !error.use_stderr() {
+        return match write!(writer, "{error}") {
+            Ok(()) => DONE,
+            Err(fault) => report_fault(faults, &fault),
+        };
+    }
+    let _ = write!(faults, "{error}");
+    if error.kind() == ErrorKind::OutOfMemory {
+        FAILED
+    } else {
+        MISUSED
+    }
+}
+
+// Runs a script over the store.
+fn run<R: Read + Drop, W: Write, F: Write>(
+    rt: &HostRuntime,
+    store: FileStore,
+    numbers: Numbers,
+    reader: R,
+    writer: &mut W,
+    faults: &mut F,
+) -> u8 {
+    let Some(options) = numbers.options() else {
+        return MISUSED;
+    };
+    let mut session = new_session(rt.alloc(), store, options);
+    match drive(rt.alloc(), &mut session, reader, writer) {
+        Ok(()) => DONE,
+        Err(fault) => report_fault(faults, &fault),
+    }
+}
+
+// The one place where a session is made.
+fn new_session(alloc: Global, store: FileStore, options: Options) -> Session<FileStore, Bytewise> {
+    Session::new(alloc, store, options)
+}
+
+fn status_of<F: Write>(done: Result<u8, Fault>, faults: &mut F) -> u8 {
+    match done {
+        Ok(status) => status,
+        Err(fault) => report_fault(faults, &fault),
+    }
+}
+
+fn folder_fault<F: Write>(faults: &mut F, folder: &str, error: StoreError) -> u8 {
+    let _ = writeln!(
+        faults,
+        "ldbtool: the folder {folder} can't be opened: {error:?}"
+    );
+    FAILED
+}
+
+/// Says a fault that has no answer line, and answers the status for it.
+pub fn report_fault<F: Write, D: fmt::Display>(faults: &mut F, fault: &D) -> u8 {
+    let _ = writeln!(faults, "ldbtool: {fault}");
+    FAILED
+}

@@ -1,0 +1,53 @@
+use Rattle.std.proofs.Common.{[], ◌∷◌, inl, inr, refl}
+use Rattle.std.specs.Prelude.{Some, None}
+use Rattle.ikey.specs.Orders.{order_of}
+use Rattle.script.proofs.Written.{on_err, on_ok_so, on_err_so}
+use Rattle.script.proofs.Runs.{answered_none, answered_bad, answered_one}
+use Rattle.script.proofs.run.answer_to.Goals as goal
+
+pub returns-in_err-read_line-clause-stopped : goal.returns-in_err-read_line-clause-stopped
+returns-in_err-read_line-clause-stopped g c =
+    on_err c.from_residual.result _ ([], [], [], inl refl, answered_none (order_of g.K.KeyOrder.name g.K.KeyOrder.cmp) g.S.Store.facts c.args.session.now, refl)
+
+pub returns-in-None-clause-done : goal.returns-in-None-clause-done
+returns-in-None-clause-done g c =
+    let says = rw c.in-None.is at c.in_ok-read_line.ensures in
+    on_ok_so c.push_answer.result _ _
+    (λ text. (None ∷ [], [], answered_bad (order_of g.K.KeyOrder.name g.K.KeyOrder.cmp) g.S.Store.facts c.args.session.now c.args.line.now says, text)) c.push_answer.ensures.ok
+
+pub returns-in-None-clause-stopped : goal.returns-in-None-clause-stopped
+returns-in-None-clause-stopped g c =
+    on_err_so c.push_answer.result _ _
+    (λ text. ([], [], [], inl refl, answered_none (order_of g.K.KeyOrder.name g.K.KeyOrder.cmp) g.S.Store.facts c.args.session.now, text)) c.push_answer.ensures.err
+
+pub returns-in-Some-clause-done : goal.returns-in-Some-clause-done
+returns-in-Some-clause-done g c =
+    let says = rw c.in-Some.is at c.in_ok-read_line.ensures in
+    let one = answered_one (order_of g.K.KeyOrder.name g.K.KeyOrder.cmp) g.S.Store.facts c.args.session.now c.apply-answer.new.self c.args.line.now c.in-Some.command c.apply-answer.result
+    says record {
+      step = c.apply-answer.ensures.step;
+      outcome = c.apply-answer.ensures.outcome;
+      succeeds = c.apply-answer.ensures.succeeds;
+      caused = c.apply-answer.ensures.caused;
+      touches = c.apply-answer.ensures.touches;
+      tells = c.apply-answer.ensures.tells;
+      shown = c.apply-answer.ensures.shown;
+      shut = c.apply-answer.ensures.shut;
+    } in
+    on_ok_so c.push_answer-in-Some.result _ _ (λ text. (Some c.in-Some.command ∷ [], c.apply-answer.result ∷ [], one, text)) c.push_answer-in-Some.ensures.ok
+
+pub returns-in-Some-clause-stopped : goal.returns-in-Some-clause-stopped
+returns-in-Some-clause-stopped g c =
+    let says = rw c.in-Some.is at c.in_ok-read_line.ensures in
+    let one = answered_one (order_of g.K.KeyOrder.name g.K.KeyOrder.cmp) g.S.Store.facts c.args.session.now c.apply-answer.new.self c.args.line.now c.in-Some.command c.apply-answer.result
+    says record {
+      step = c.apply-answer.ensures.step;
+      outcome = c.apply-answer.ensures.outcome;
+      succeeds = c.apply-answer.ensures.succeeds;
+      caused = c.apply-answer.ensures.caused;
+      touches = c.apply-answer.ensures.touches;
+      tells = c.apply-answer.ensures.tells;
+      shown = c.apply-answer.ensures.shown;
+      shut = c.apply-answer.ensures.shut;
+    } in
+    on_err_so c.push_answer-in-Some.result _ _ (λ text. (c.args.line.now ∷ [], Some c.in-Some.command ∷ [], c.apply-answer.result ∷ [], inr refl, one, text)) c.push_answer-in-Some.ensures.err

@@ -1,0 +1,97 @@
+//! What stands behind the first word of most lines: ids, numbers, keys.
+
+ghost use Rattle.std.specs.Prelude.{◌≡◌, [], ◌∷◌, IfOk};
+ghost use Rattle.engine.specs.declared.command.Mode.{Mode as ModeValue};
+ghost use Rattle.engine.specs.declared.command.Op.{Op as OpValue};
+ghost use Rattle.script.specs.declared.verb.Verb.TheVariants as verb;
+ghost use Rattle.script.specs.Words.{texts_of, Reads};
+ghost use Rattle.script.specs.Script.{Spells, IsNumberAlone, AreSnapshot, mode_words};
+
+use crate::word::{read_bytes, read_number};
+use engine::{Mode, Op};
+use std::alloc::{AllocError, Global};
+
+/// The mode of an open.
+pub fn read_mode(words: &[&[u8]]) -> Option<Mode>
+    ensures { Reads (λ (mode : ModeValue). texts_of words.now ≡ mode_words mode) result }
+{
+    match words {
+        [] => Some(Mode::Existing),
+        [word] => read_mode_word(word),
+        _ => None,
+    }
+}
+
+fn read_mode_word(word: &[u8]) -> Option<Mode>
+    ensures { Reads (λ (mode : ModeValue). word.now ∷ [] ≡ mode_words mode) result }
+{
+    match word {
+        b"new" => Some(Mode::New),
+        b"any" => Some(Mode::Any),
+        _ => None,
+    }
+}
+
+/// The number that is the only word.
+pub fn read_number_alone(words: &[&[u8]]) -> Option<u64>
+    ensures { Reads (IsNumberAlone 64 (texts_of words.now)) result }
+{
+    match words {
+        [word] => read_number(word),
+        _ => None,
+    }
+}
+
+/// The id of a snapshot, `Some(None)` where there is no word.
+pub fn read_snapshot(words: &[&[u8]]) -> Option<Option<u64>>
+    ensures { Reads (AreSnapshot (texts_of words.now)) result }
+{
+    match words {
+        [] => Some(None),
+        [word] => Some(Some(read_number(word)?)),
+        _ => None,
+    }
+}
+
+/// A read, of a key and perhaps at a snapshot.
+pub fn read_get(alloc: Global, words: &[&[u8]]) -> Result<Option<Op>, AllocError>
+    ensures { IfOk result (Reads (Spells verb.Get (texts_of words.now))) }
+{
+    let [word, rest @ ..] = words else {
+        return Ok(None);
+    };
+    let Some(snapshot) = read_snapshot(rest) else {
+        return Ok(None);
+    };
+    let Some(key) = read_bytes(alloc, word)? else {
+        return Ok(None);
+    };
+    Ok(Some(Op::Get(key, snapshot)))
+}
+
+/// A move of an iterator to a key.
+pub fn read_seek(alloc: Global, words: &[&[u8]]) -> Result<Option<Op>, AllocError>
+    ensures { IfOk result (Reads (Spells verb.Seek (texts_of words.now))) }
+{
+    let [first, second] = words else {
+        return Ok(None);
+    };
+    let Some(id) = read_number(first) else {
+        return Ok(None);
+    };
+    let Some(key) = read_bytes(alloc, second)? else {
+        return Ok(None);
+    };
+    Ok(Some(Op::Seek(id, key)))
+}
+
+/// This command, where there is no word behind its verb.
+pub fn read_alone(words: &[&[u8]], command: Op) -> Option<Op>
+    ensures { Reads (λ (found : OpValue). (texts_of words.now ≡ []) × (found ≡ command)) result }
+{
+    if words.is_empty() {
+        Some(command)
+    } else {
+        None
+    }
+}

@@ -1,0 +1,57 @@
+//! Lines and the commands that they say.
+
+ghost use Rattle.std.specs.Prelude.{IfOk, ℕ, List};
+ghost use Rattle.engine.specs.declared.command.Op.{Op as OpValue};
+ghost use Rattle.script.specs.Words.{texts_of, Reads};
+ghost use Rattle.script.specs.Script.{Spells, Says, IsSame};
+
+use crate::arguments::{
+    read_alone, read_get, read_mode, read_number_alone, read_seek, read_snapshot,
+};
+use crate::batch_words::{read_batch, read_delete_alone, read_put_alone};
+use crate::verb::{Verb, read_verb};
+use crate::word::split_words;
+use engine::Op;
+use std::alloc::{AllocError, Global};
+
+/// The command that a line says, without the newline that ends it, or `None` where it says none.
+pub fn read_line(alloc: Global, line: &[u8]) -> Result<Option<Op>, AllocError>
+    ensures { IfOk result (Reads (Says line.now)) }
+{
+    let words = split_words(alloc, line)?;
+    let [first, rest @ ..] = words.as_slice() else {
+        return Ok(None);
+    };
+    let Some(verb) = read_verb(first) else {
+        return Ok(None);
+    };
+    read_rest(alloc, verb, rest)
+}
+
+// The command that a verb makes of the words behind it.
+fn read_rest(alloc: Global, verb: Verb, words: &[&[u8]]) -> Result<Option<Op>, AllocError>
+    ensures { IfOk result (Reads (Spells verb (texts_of words.now))) }
+{
+    match verb {
+        Verb::Open => Ok(read_mode(words).map(Op::Open)),
+        Verb::Put => read_put_alone(alloc, words),
+        Verb::Del => read_delete_alone(alloc, words),
+        Verb::Write => read_batch(alloc, words),
+        Verb::Get => read_get(alloc, words),
+        Verb::Snapshot => Ok(read_alone(words, Op::Snapshot)),
+        Verb::Release => Ok(read_number_alone(words).map(Op::Release)),
+        Verb::Iter => Ok(read_snapshot(words).map(Op::Iterate)),
+        Verb::First => Ok(read_number_alone(words).map(Op::First)),
+        Verb::Last => Ok(read_number_alone(words).map(Op::Last)),
+        Verb::Seek => read_seek(alloc, words),
+        Verb::Next => Ok(read_number_alone(words).map(Op::Next)),
+        Verb::Prev => Ok(read_number_alone(words).map(Op::Prev)),
+        Verb::Drop => Ok(read_number_alone(words).map(Op::DropIterator)),
+        Verb::Close => Ok(read_alone(words, Op::Close)),
+    }
+}
+
+/// No line says two commands.
+pub fn one_command()
+    ensures { (line : List ℕ) (command other : OpValue) → Says line command → Says line other → IsSame command other }
+{}

@@ -1,0 +1,67 @@
+//! Words: numbers, byte strings, and the cutting of a line into words.
+
+ghost use Rattle.std.specs.Prelude.{◌≡◌, ℕ, true, false, IfOk};
+ghost use Rattle.script.specs.Words.{words_of, texts_of, IsNumber, IsPlain, IsByteString, Reads};
+
+use coding::Bytes;
+use hex::FromHexError;
+use std::alloc::{AllocError, Global};
+
+/// The words of a line: what stands between its spaces.
+pub fn split_words(alloc: Global, line: &[u8]) -> Result<Vec<&[u8]>, AllocError>
+    ensures { IfOk result (λ words. texts_of words.items ≡ words_of line.now) }
+{
+    line.split(|byte| *byte == b' ').collect(alloc)
+}
+
+/// The number that a word writes in decimal, with no sign and no zero in front, where it is below 2^64.
+pub fn read_number(word: &[u8]) -> Option<u64>
+    ensures { Reads (IsNumber 64 word.now) result }
+{
+    if has_needless_front(word) {
+        return None;
+    }
+    let Ok(text) = str::from_utf8(word) else {
+        return None;
+    };
+    match text.parse::<u64>() {
+        Ok(number) => Some(number),
+        Err(_) => None,
+    }
+}
+
+// Whether a number would have a sign, or a zero in front of other digits.
+fn has_needless_front(word: &[u8]) -> bool
+    ensures number { result ≡ true → (number : ℕ) → IsNumber 64 word.now number → ⊥ }
+    ensures plain { result ≡ false → IsPlain word.now }
+{
+    if word.is_empty() {
+        return false;
+    }
+    if word[0] == b'+' {
+        return true;
+    }
+    if word[0] != b'0' {
+        return false;
+    }
+    word.len() > 1
+}
+
+/// The bytes that a word writes with two hexadecimal digits each, of either case, or as `-` where there are none.
+pub fn read_bytes(alloc: Global, word: &[u8]) -> Result<Option<Bytes>, AllocError>
+    ensures { IfOk result (Reads (IsByteString word.now)) }
+{
+    if word == b"-".as_slice() {
+        return Ok(Some(Bytes::from_vec(Vec::new(alloc))));
+    }
+    if word.is_empty() {
+        return Ok(None);
+    }
+    match hex::decode(alloc, word) {
+        Ok(bytes) => Ok(Some(Bytes::from_vec(bytes))),
+        Err(FromHexError::OutOfMemory) => Err(AllocError),
+        Err(FromHexError::OddLength) => Ok(None),
+        Err(FromHexError::InvalidStringLength) => Ok(None),
+        Err(FromHexError::InvalidHexCharacter { c: _, index: _ }) => Ok(None),
+    }
+}
