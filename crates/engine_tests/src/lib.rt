@@ -1,4 +1,5 @@
-//! Tests of directories: what is read of them and checked in them, and what sessions answer and leave there.
+//! Tests of directories: what is read of them and checked in them, and what sessions answer and leave there,
+//! and scripts as text.
 #![tactic(auto)]
 
 #[cfg(test)]
@@ -7,5 +8,7 @@ mod checks;
 mod origins;
 #[cfg(test)]
 mod readings;
+#[cfg(test)]
+mod scripts;
 #[cfg(test)]
 mod sessions;

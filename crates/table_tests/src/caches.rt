@@ -3,6 +3,7 @@ use block::{Block, BlockCursor};
 use cache::{BlockCache, ReadBlock, TableCache};
 use coding::DbError;
 use ikey::{Bytewise, Internal};
+use sources::Tables;
 use std::alloc::Global;
 use std::num::NonZeroUsize;
 use std::rc::Rc;
@@ -31,8 +32,11 @@ fn two_tables(alloc: Global) -> Result<FaultStore, Fail> {
     Ok(FaultStore::new(store, Vec::new(alloc)))
 }
 
+// Of capacity 0, the cache that keeps nothing.
 fn blocks_for(alloc: Global, capacity: usize) -> Result<BlockCache<Bytewise>, Fail> {
-    let capacity = NonZeroUsize::new(capacity).ok_or("a capacity")?;
+    let Some(capacity) = NonZeroUsize::new(capacity) else {
+        return Ok(BlockCache::none());
+    };
     Ok(BlockCache::new(alloc, capacity)?)
 }
 
@@ -84,6 +88,12 @@ const ROOM_FOR_ONE: [Fetch; 4] = [
     Fetch { number: 7, handle: SECOND, value: Some(0x33), is_read: true, kept: 1 },
     Fetch { number: 7, handle: SECOND, value: Some(0x33), is_read: false, kept: 1 },
     Fetch { number: 7, handle: FIRST, value: Some(0x31), is_read: true, kept: 1 },
+];
+
+#[rattlefmt::skip]
+const NOTHING_KEPT: [Fetch; 2] = [
+    Fetch { number: 5, handle: FIRST, value: Some(0x31), is_read: true, kept: 0 },
+    Fetch { number: 5, handle: FIRST, value: Some(0x31), is_read: true, kept: 0 },
 ];
 
 #[rattlefmt::skip]
@@ -177,6 +187,12 @@ fn the_least_recently_used_block_goes(rt: HostRuntime) -> Result<(), Fail> {
 }
 
 #[test]
+fn a_cache_that_keeps_nothing_reads_again(rt: HostRuntime) -> Result<(), Fail> {
+    assert!(rt; are_so(rt.alloc(), 0, &NOTHING_KEPT)?);
+    Ok(())
+}
+
+#[test]
 fn refusals_are_not_kept(rt: HostRuntime) -> Result<(), Fail> {
     assert!(rt; are_so(rt.alloc(), 2, &REFUSED)?);
     Ok(())
@@ -206,5 +222,58 @@ fn a_kept_table_is_not_opened_again(rt: HostRuntime) -> Result<(), Fail> {
     let missing = tables.get_table(alloc, &mut store, 6);
     assert!(rt; matches!(missing, Err(DbError::Corrupt(_, _))));
     assert_eq!(rt; tables.len(), 0);
+    Ok(())
+}
+
+// What is done to the tables of a store: to begin to keep what is read, to end that, or to read the first block of table 5.
+#[derive(Clone, Copy)]
+enum Turn {
+    Begin,
+    End,
+    Read,
+}
+
+// Each turn; whether the store is asked, and how many tables and how many blocks are kept behind it.
+#[rattlefmt::skip]
+const TURNS: [(Turn, bool, usize); 10] = [
+    (Turn::Read, true, 0), (Turn::Read, true, 0),
+    (Turn::Begin, false, 0), (Turn::Read, true, 1), (Turn::Read, false, 1),
+    (Turn::Begin, false, 0), (Turn::Read, true, 1),
+    (Turn::End, false, 0), (Turn::Read, true, 0), (Turn::Read, true, 0),
+];
+
+// Whether the turn did what it should.
+fn take(alloc: Global, source: &mut Tables<Bytewise, FaultStore>, turn: Turn) -> bool {
+    match turn {
+        Turn::Begin => match NonZeroUsize::new(2) {
+            Some(blocks) => source.begin(alloc, blocks).is_ok(),
+            None => false,
+        },
+        Turn::End => {
+            source.end();
+            true
+        }
+        Turn::Read => has_value(alloc, source.read_block(alloc, 5, FIRST), Some(0x31)),
+    }
+}
+
+fn goes_so(
+    alloc: Global,
+    source: &mut Tables<Bytewise, FaultStore>,
+    wanted: (Turn, bool, usize),
+) -> bool {
+    let calls = source.store.calls();
+    let is_done = take(alloc, source, wanted.0);
+    let is_read = calls < source.store.calls();
+    let are_kept = source.tables.len() == wanted.2 && source.blocks.len() == wanted.2;
+    is_done && is_read == wanted.1 && are_kept
+}
+
+#[test]
+fn tables_are_kept_from_begin_to_end(rt: HostRuntime) -> Result<(), Fail> {
+    let mut source = Tables::<Bytewise, FaultStore>::over(two_tables(rt.alloc())?);
+    for turn in TURNS {
+        assert!(rt; goes_so(rt.alloc(), &mut source, turn));
+    }
     Ok(())
 }

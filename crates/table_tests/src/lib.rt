@@ -20,6 +20,8 @@ mod memory_tables;
 #[cfg(test)]
 mod reading;
 #[cfg(test)]
+mod row_cursors;
+#[cfg(test)]
 mod sizes;
 #[cfg(test)]
 mod stores;

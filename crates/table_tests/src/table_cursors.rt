@@ -1,5 +1,6 @@
 //! Cursors over table files.
 
+use crate::files::ONE_ENTRY;
 use cache::{BlockCache, TableCache};
 use coding::{Bytes, DbError};
 use cursor::{Cursor, ListCursor};
@@ -76,6 +77,15 @@ fn table_of(
     if !builder.is_empty() {
         builder.finish(alloc, &mut store)?;
     }
+    tables_of(alloc, store, blocks)
+}
+
+// A store whose tables are read through a cache of so many blocks.
+fn tables_of(
+    alloc: Global,
+    store: MemStore,
+    blocks: usize,
+) -> Result<Tables<Bytewise, MemStore>, Fail> {
     Ok(Tables {
         store,
         tables: TableCache::new(alloc, NonZeroUsize::new(1).ok_or("a capacity")?)?,
@@ -181,6 +191,48 @@ fn a_damaged_block_is_refused_and_the_place_stays(rt: HostRuntime) -> Result<(),
         at_hand(&cursor, &source),
         Some((second.as_slice(), [0].as_slice()))
     );
+    Ok(())
+}
+
+// What is put behind the data block of the table of one entry: type 1 with the checksum of type 0, which is damage, and
+// with its own, which isn't supported.
+const OF_TYPE_ONE: [([u8; 5], bool); 2] = [
+    ([1, 0x82, 0x7E, 0xF9, 0x3A], false),
+    ([1, 0x55, 0x62, 0xF4, 0x40], true),
+];
+
+// Whether a call was refused: as not supported, or as damaged.
+fn is_refused<T>(answer: &Result<T, DbError>, is_unsupported: bool) -> bool {
+    match answer {
+        Ok(_) => false,
+        Err(DbError::Unsupported(_)) => is_unsupported,
+        Err(DbError::Corrupt(_, _)) => !is_unsupported,
+        Err(_) => false,
+    }
+}
+
+// Whether both a cursor and a look-up are refused so over the table 5 with these bytes behind its data block.
+fn are_refused(alloc: Global, behind: &[u8; 5], is_unsupported: bool) -> Result<bool, Fail> {
+    let mut store = MemStore::new(alloc);
+    store.create(NAME)?;
+    store.append(NAME, &ONE_ENTRY[..21])?;
+    store.append(NAME, behind)?;
+    store.append(NAME, &ONE_ENTRY[26..])?;
+    let mut source = tables_of(alloc, store, 1)?;
+    let mut cursor = TableCursor::open(alloc, &mut source, 5)?;
+    let walked = step(&mut cursor, alloc, &mut source, Turn::First);
+    let found = table_value(alloc, &mut source, 5, b"a", 9);
+    Ok(is_refused(&walked, is_unsupported) && is_refused(&found, is_unsupported))
+}
+
+#[test]
+fn a_block_of_another_type_is_not_supported(rt: HostRuntime) -> Result<(), Fail> {
+    for (behind, is_unsupported) in OF_TYPE_ONE {
+        assert!(rt;
+            are_refused(rt.alloc(), &behind, is_unsupported)?,
+            "{behind:?}"
+        );
+    }
     Ok(())
 }
 

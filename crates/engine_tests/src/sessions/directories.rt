@@ -165,10 +165,10 @@ const EDITS: [(&[u8], Wanted<'static>); 8] = [
         b"\x02\x02\x03\x03\x04\x00\x01\x01c",
         Refused(DbError::Unsupported(Feature::Comparator)),
     ),
-    // a table, which is not read yet, and one that is not there
+    // a table, which no open reads, and one that is not there
     (
         b"\x02\x03\x03\x05\x04\x01\x07\x00\x04\xb0\x01\x09a\x01\x01\0\0\0\0\0\0\x09a\x01\x01\0\0\0\0\0\0",
-        Refused(DbError::Unsupported(Feature::Tables)),
+        Done,
     ),
     (
         b"\x02\x03\x03\x06\x04\x01\x07\x00\x05\xb0\x01\x09a\x01\x01\0\0\0\0\0\0\x09a\x01\x01\0\0\0\0\0\0",

@@ -1,0 +1,3 @@
+// Scripts as text: what their lines say, and what is written when they are run.
+mod lines;
+mod runs;
