@@ -3,7 +3,11 @@
 //   leveldb_driver version                 the version of LevelDB, as 1.23
 //   leveldb_driver dump FLAGS FOLDER       opens a database and prints its pairs, one line each
 //   leveldb_driver get FLAGS FOLDER        opens a database and prints the value of each key of standard input, or "none"
+//   leveldb_driver seek FLAGS FOLDER       the same of the first pair whose key doesn't come before it, or "end"
 //   leveldb_driver write FLAGS FOLDER      opens or makes a database and applies the lines of standard input
+//   leveldb_driver history FLAGS FOLDER    makes a database by a random history: opens, writes, deletes, batches, snapshots,
+//                                          compactions, each open with options of its own. --seed says which
+//   leveldb_driver file FLAGS FILE         prints what a MANIFEST, a log or a table holds (DumpFile), without a database
 //   leveldb_driver compact FLAGS FOLDER    opens a database and compacts all of it (CompactRange)
 //   leveldb_driver repair FLAGS FOLDER     makes a database of the files that lie in a folder (RepairDB)
 //   leveldb_driver hold FLAGS FOLDER       opens a database, prints "held", and keeps it open until its input ends
@@ -24,15 +28,22 @@
 //   --restarts=N         block_restart_interval
 //   --file-bytes=N       max_file_size
 //   --backwards          `dump` goes from the last pair to the first
+//   --seed=N             which history
+//   --operations=N       how many operations a history has (8000)
 
+#include <cstdint>
 #include <cstdlib>
 #include <iostream>
 #include <memory>
+#include <random>
 #include <sstream>
 #include <string>
+#include <vector>
 
 #include "leveldb/comparator.h"
 #include "leveldb/db.h"
+#include "leveldb/dumpfile.h"
+#include "leveldb/env.h"
 #include "leveldb/filter_policy.h"
 #include "leveldb/iterator.h"
 #include "leveldb/options.h"
@@ -86,6 +97,8 @@ struct Database {
   std::string folder;
   leveldb::Options options;
   bool backwards = false;
+  uint64_t seed = 0;
+  int operations = 8000;
 };
 
 // What a flag says of a database. The comparator and the filter policy are kept to the end of the program.
@@ -112,6 +125,10 @@ bool TakeFlag(const std::string& flag, Database* database) {
     options.max_file_size = number;
   } else if (name == "--backwards") {
     database->backwards = true;
+  } else if (name == "--seed") {
+    database->seed = number;
+  } else if (name == "--operations" && number > 0) {
+    database->operations = number;
   } else {
     return false;
   }
@@ -170,6 +187,23 @@ int Get(const Database& database) {
   return 0;
 }
 
+int Seek(const Database& database) {
+  std::unique_ptr<leveldb::DB> db;
+  const leveldb::Status status = Open(database, false, &db);
+  if (!status.ok()) return Refuse(status);
+  std::unique_ptr<leveldb::Iterator> pairs(db->NewIterator(Checked()));
+  for (std::string line, key; std::getline(std::cin, line);) {
+    if (!FromHex(line, &key)) {
+      std::cerr << "no key: " << line << "\n";
+      return kMisused;
+    }
+    pairs->Seek(key);
+    if (!pairs->status().ok()) return Refuse(pairs->status());
+    std::cout << (pairs->Valid() ? ToHex(pairs->key()) + " " + ToHex(pairs->value()) : "end") << "\n";
+  }
+  return 0;
+}
+
 int Compact(const Database& database) {
   std::unique_ptr<leveldb::DB> db;
   const leveldb::Status status = Open(database, false, &db);
@@ -220,6 +254,128 @@ int Write(const Database& database) {
   return 0;
 }
 
+// The choices of a history.
+class Chance {
+ public:
+  explicit Chance(uint64_t seed) : bits_(seed) {}
+
+  uint64_t Below(uint64_t n) { return bits_() % n; }
+
+  template <typename T, size_t N>
+  T OneOf(const T (&choices)[N]) {
+    return choices[Below(N)];
+  }
+
+  std::string Bytes(size_t length) {
+    std::string bytes;
+    while (bytes.size() < length) bytes.push_back(static_cast<char>(Below(256)));
+    return bytes;
+  }
+
+  // One of some thousand keys: most share fronts, some have any bytes, one is empty.
+  std::string Key() {
+    const uint64_t n = Below(4000);
+    if (n == 0) return "";
+    if (n % 7 == 0) return Chance(n).Bytes(1 + n % 19);
+    std::string digits = std::to_string(n);
+    return (n % 2 == 0 ? "key" : "another-key/") + std::string(6 - digits.size(), '0') + digits;
+  }
+
+  std::string Value() {
+    const uint64_t n = Below(100);
+    if (n < 5) return "";
+    return Bytes(n < 97 ? Below(400) : Below(9000));
+  }
+
+ private:
+  std::mt19937_64 bits_;
+};
+
+leveldb::Options ChosenOptions(const leveldb::Options& given, Chance* chance) {
+  static const leveldb::FilterPolicy* const bloom = leveldb::NewBloomFilterPolicy(10);
+  leveldb::Options options = given;
+  options.create_if_missing = true;
+  options.reuse_logs = chance->Below(2) == 0;
+  options.write_buffer_size = 64 << 10;
+  options.max_file_size = 1 << 20;
+  options.block_size = chance->OneOf({512, 1024, 2048, 4096, 16384});
+  options.block_restart_interval = chance->OneOf({1, 2, 5, 16, 32});
+  options.filter_policy = chance->Below(2) == 0 ? bloom : nullptr;
+  return options;
+}
+
+void CompactSome(leveldb::DB* db, Chance* chance) {
+  std::string first = chance->Key(), last = chance->Key();
+  if (last < first) std::swap(first, last);
+  const leveldb::Slice begin = first, end = last;
+  const bool all = chance->Below(4) == 0;
+  db->CompactRange(all ? nullptr : &begin, all ? nullptr : &end);
+}
+
+void AddSome(leveldb::WriteBatch* batch, Chance* chance, uint64_t count) {
+  for (uint64_t i = 0; i < count; i++) {
+    if (chance->Below(5) == 0) {
+      batch->Delete(chance->Key());
+    } else {
+      batch->Put(chance->Key(), chance->Value());
+    }
+  }
+}
+
+// One open with so many writes. Snapshots keep old versions of keys through the compactions meanwhile.
+leveldb::Status Live(leveldb::DB* db, Chance* chance, int operations) {
+  std::vector<const leveldb::Snapshot*> snapshots;
+  leveldb::Status status;
+  for (int done = 0; done < operations && status.ok();) {
+    const uint64_t count = chance->Below(20) == 0 ? chance->Below(60) : 1;
+    leveldb::WriteBatch batch;
+    AddSome(&batch, chance, count);
+    leveldb::WriteOptions how;
+    how.sync = chance->Below(500) == 0;
+    status = db->Write(how, &batch);
+    done += count;
+    if (chance->Below(600) == 0) CompactSome(db, chance);
+    if (chance->Below(200) == 0) snapshots.push_back(db->GetSnapshot());
+    if (chance->Below(400) == 0 && !snapshots.empty()) {
+      db->ReleaseSnapshot(snapshots.back());
+      snapshots.pop_back();
+    }
+  }
+  for (const leveldb::Snapshot* snapshot : snapshots) db->ReleaseSnapshot(snapshot);
+  return status;
+}
+
+int History(const Database& database) {
+  Chance chance(database.seed);
+  const int opens = 1 + chance.Below(6);
+  for (int i = 0; i < opens; i++) {
+    leveldb::DB* opened = nullptr;
+    leveldb::Status status = leveldb::DB::Open(ChosenOptions(database.options, &chance), database.folder, &opened);
+    std::unique_ptr<leveldb::DB> db(opened);
+    if (status.ok()) status = Live(db.get(), &chance, database.operations / opens);
+    if (!status.ok()) return Refuse(status);
+  }
+  return 0;
+}
+
+// A file that is standard output.
+class Output : public leveldb::WritableFile {
+ public:
+  leveldb::Status Append(const leveldb::Slice& data) override {
+    std::cout.write(data.data(), data.size());
+    return leveldb::Status::OK();
+  }
+  leveldb::Status Close() override { return leveldb::Status::OK(); }
+  leveldb::Status Flush() override { return leveldb::Status::OK(); }
+  leveldb::Status Sync() override { return leveldb::Status::OK(); }
+};
+
+int File(const Database& database) {
+  Output output;
+  const leveldb::Status status = leveldb::DumpFile(leveldb::Env::Default(), database.folder, &output);
+  return status.ok() ? 0 : Refuse(status);
+}
+
 int Hold(const Database& database) {
   std::unique_ptr<leveldb::DB> db;
   const leveldb::Status status = Open(database, false, &db);
@@ -252,11 +408,15 @@ int main(int argc, char** argv) {
   if (!misused && !database.folder.empty()) {
     if (verb == "dump") return Dump(database);
     if (verb == "get") return Get(database);
+    if (verb == "seek") return Seek(database);
     if (verb == "write") return Write(database);
+    if (verb == "history") return History(database);
+    if (verb == "file") return File(database);
     if (verb == "compact") return Compact(database);
     if (verb == "repair") return Repair(database);
     if (verb == "hold") return Hold(database);
   }
-  std::cerr << "usage: leveldb_driver version, or dump, get, write, compact, repair or hold, then flags and a folder\n";
+  std::cerr << "usage: leveldb_driver version, or dump, get, seek, write, history, compact, repair, hold or file, then flags and a "
+               "folder, or a file\n";
   return kMisused;
 }

@@ -1,0 +1,298 @@
+"""The checks of LDBTOOL over directories that LevelDB made by random histories: several opens, tables in several levels.
+
+What a directory has is taken from LevelDB: its MANIFEST, its tables and its logs as DumpFile prints them, and the pairs
+that its iterators and gets find in a copy.
+"""
+import functools
+import os
+import random
+import re
+import shutil
+import subprocess
+import tempfile
+
+from beside import LDBTOOL, LEVELDB, SECONDS, bytes_of, check, contents, copied, files_of, leveldb, leveldb_reads, run, short, want, want_lines, want_map
+
+SEEDS = range(1, 21)
+CHANGES = 12
+
+
+# ---- the program
+
+
+def ldbtool(verb, folder, script=None):
+    return run([LDBTOOL, verb, folder], input=script)
+
+
+def prints(verb, folder, script=None):
+    """What the program prints over a folder that it is to accept."""
+    ran = ldbtool(verb, folder, script)
+    want(ran.returncode == 0, f"ldbtool {verb} ended with status {ran.returncode}: {short(ran.stdout + ran.stderr)}")
+    want(ran.stderr == "", f"ldbtool {verb} complained: {short(ran.stderr)}")
+    return ran.stdout
+
+
+def want_answers(folder, script, wanted, whose):
+    """Runs a script, one answer a line, over the folder itself."""
+    found = prints("run", folder, "".join(line + "\n" for line in script))
+    want_lines(found, "".join(line + "\n" for line in wanted), whose)
+
+
+# ---- what LevelDB says of a directory's files
+
+
+def escaped(text):
+    """Bytes as LevelDB prints them between quotes (util/logging.cc, AppendEscapedStringTo)."""
+    found = b"" if text == "-" else bytes.fromhex(text)
+    return "".join(chr(byte) if 32 <= byte <= 126 else f"\\x{byte:02x}" for byte in found)
+
+
+def dumped_by_leveldb(path):
+    return leveldb("file", path).splitlines()
+
+
+class Layout:
+    """What the edits of a MANIFEST leave."""
+
+    def __init__(self, folder):
+        self.folder, self.tables = folder, set()
+        numbers = {"LogNumber": 0, "PrevLogNumber": 0, "LastSeq": 0}
+        with open(os.path.join(folder, "CURRENT"), encoding="ascii") as current:
+            manifest = os.path.join(folder, current.read().strip())
+        for line in dumped_by_leveldb(manifest):
+            words = line.split()
+            name = words[0].rstrip(":") if line.startswith("  ") and words else ""
+            if name in numbers:
+                numbers[name] = int(words[1])
+            elif name == "RemoveFile":
+                self.tables.remove((int(words[1]), int(words[2])))
+            elif name == "AddFile":
+                self.tables.add((int(words[1]), int(words[2])))
+        named = [int(name.split(".")[0]) for name in files_of(folder, ".log")]
+        self.logs = [it for it in sorted(named) if it >= numbers["LogNumber"] or it == numbers["PrevLogNumber"]]
+        self.last_sequence = numbers["LastSeq"]
+
+    def levels(self):
+        return {level for level, _ in self.tables}
+
+    def path(self, number, ending="ldb"):
+        return os.path.join(self.folder, f"{number:06d}.{ending}")
+
+    def batches(self, number):
+        """The sequence and the number of operations of each batch of a log."""
+        found = []
+        for line in dumped_by_leveldb(self.path(number, "log")):
+            if line.startswith("--- offset"):
+                found.append([int(line.split()[-1]), 0])
+            else:
+                found[-1][1] += 1
+        return found
+
+    def report(self):
+        """What a check of the directory is to print."""
+        tables = [f"table {level} {number} {len(dumped_by_leveldb(self.path(number)))}" for level, number in sorted(self.tables)]
+        last, logs = self.last_sequence, []
+        for number in self.logs:
+            batches = self.batches(number)
+            last = max([last, *[sequence + count - 1 for sequence, count in batches]])
+            logs.append(f"log {number} {len(batches)} clean")
+        return "".join(line + "\n" for line in ["good", f"last-sequence {last}", *tables, *logs])
+
+
+def like_table(line):
+    """A line of a dump as DumpFile has it for a table, or for a log without the batches' heads."""
+    words = line.split()
+    if words[0] == "table":
+        key, sequence, kind, value = words[3], words[4], words[5], words[6:] or ["-"]
+        return f"'{escaped(key)}' @ {sequence} : {'val' if kind == 'put' else 'del'} => '{escaped(value[0])}'"
+    key, kind, value = words[2], words[4], words[5:]
+    return f"  put '{escaped(key)}' '{escaped(value[0])}'" if kind == "put" else f"  del '{escaped(key)}'"
+
+
+def want_dump(layout, text):
+    """Compares a dump with what LevelDB prints of each file, in their order."""
+    wanted = [line for _, number in sorted(layout.tables) for line in dumped_by_leveldb(layout.path(number))]
+    for number in layout.logs:
+        wanted += [line for line in dumped_by_leveldb(layout.path(number, "log")) if not line.startswith("--- offset")]
+    found = [like_table(line) for line in text.splitlines()]
+    want_lines("\n".join(found), "\n".join(wanted), "the dump")
+
+
+def pairs_of(text):
+    """The pairs that the newest entries of a dump make."""
+    newest = {}
+    for line in text.splitlines():
+        words = line.split()
+        at = 3 if words[0] == "table" else 2
+        key, sequence = words[at], int(words[at + 1])
+        if sequence > newest.get(key, (-1,))[0]:
+            newest[key] = (sequence, words[at + 3] if words[at + 2] == "put" else None)
+    return {key: value for key, (_, value) in newest.items() if value is not None}
+
+
+# ---- the directories
+
+
+@functools.lru_cache(maxsize=None)
+def history(seed):
+    """A directory that LevelDB made, kept for all checks; they copy what they change."""
+    folder = os.path.join(tempfile.mkdtemp(prefix="interop-history-"), "folder")
+    leveldb("history", folder, f"--seed={seed}")
+    return folder
+
+
+def forget_histories():
+    for seed in SEEDS:
+        shutil.rmtree(os.path.dirname(history(seed)), ignore_errors=True)
+
+
+@check("directories: a check prints the tables and logs that LevelDB's own files say, and changes nothing")
+def checked(_room):
+    levels, filters = set(), 0
+    for seed in SEEDS:
+        folder = history(seed)
+        layout, before = Layout(folder), contents(folder)
+        want_lines(prints("check", folder), layout.report(), f"seed {seed}")
+        want(contents(folder) == before, f"seed {seed}: a check changed the folder")
+        levels.add(len(layout.levels()))
+        filters += any(b"filter.leveldb.BuiltinBloomFilter2" in bytes_of(layout.path(number)) for _, number in layout.tables)
+    want(max(levels) >= 3, f"no directory has tables in three levels: {levels}")
+    want(0 < filters, "no table has a filter")
+
+
+@check("directories: a dump has each entry of each table and log, and its newest ones are LevelDB's pairs")
+def dumped(_room):
+    for seed in SEEDS:
+        folder = history(seed)
+        text = prints("dump", folder)
+        want_dump(Layout(folder), text)
+        want_map(pairs_of(text), leveldb_reads(folder))
+
+
+# ---- a byte that was changed
+
+
+def flip(path, place, mask):
+    with open(path, "r+b") as file:
+        file.seek(place)
+        byte = file.read(1)[0]
+        file.seek(place)
+        file.write(bytes([byte ^ mask]))
+
+
+@check("directories: a check refuses a table with a changed byte, wherever it lies")
+def changed(_room):
+    taken, kinds = [], {}
+    for seed in SEEDS:
+        chance, layout = random.Random(seed), Layout(history(seed))
+        with tempfile.TemporaryDirectory(prefix="interop-") as room:
+            copy = copied(layout.folder, room)
+            for _ in range(CHANGES):
+                level, number = chance.choice(sorted(layout.tables))
+                path, mask = os.path.join(copy, f"{number:06d}.ldb"), chance.randrange(1, 256)
+                length = os.path.getsize(path)
+                place = chance.choice([chance.randrange(length), length - 1 - chance.randrange(min(length, 400))])
+                flip(path, place, mask)
+                ran = ldbtool("check", copy)
+                flip(path, place, mask)
+                kinds[ran.stdout] = kinds.get(ran.stdout, 0) + 1
+                if ran.returncode != 1 or re.fullmatch(r"refused 5 Corrupt\n|refused 6 Unsupported\n", ran.stdout) is None:
+                    taken.append(f"seed {seed}, level {level}, table {number}, byte {place} of {length}: {short(ran.stdout)}")
+    want(not taken, f"{len(taken)} of {CHANGES * len(SEEDS)} changes were taken: {short(str(taken))}")
+    want(kinds.get("refused 5 Corrupt\n", 0) > 9 * CHANGES * len(SEEDS) // 10, f"refusals: {kinds}")
+
+
+# ---- scripts
+
+
+def between(chance, keys):
+    """Keys that may be there, and others before, between and behind them."""
+    found = chance.sample(sorted(keys), min(len(keys), 60))
+    near = [key + "00" for key in found[:20] if key != "-"] + [key[:-2] or "-" for key in found[20:40] if key != "-"]
+    return [*found, *near, "-", "ff" * 20, "6b6579", *[chance.randbytes(5).hex() for _ in range(20)]]
+
+
+def want_reads(folder, chance):
+    """Has a script read a copy of the folder: gets, seeks, and a walk over all pairs in both directions."""
+    pairs = leveldb_reads(folder)
+    walk = [f"at {key} {value}" for key, value in pairs.items()]
+    asked = between(chance, pairs)
+    with tempfile.TemporaryDirectory(prefix="interop-") as room:
+        copy = copied(folder, room)
+        got = leveldb("get", copy, lines=asked).split("\n")[:-1]
+        sought = leveldb("seek", copy, lines=asked).split("\n")[:-1]
+    script = ["open", *[f"get {key}" for key in asked], "iter", "first 1", *["next 1" for _ in pairs], "last 1"]
+    script += [*["prev 1" for _ in pairs], *[f"seek 1 {key}" for key in asked], "drop 1", "close"]
+    wanted = ["ok", *["none" if value == "none" else f"value {value}" for value in got], "iter 1", *walk, "end"]
+    wanted += [*reversed(walk), "end", *["end" if pair == "end" else f"at {pair}" for pair in sought], "ok", "ok"]
+    with tempfile.TemporaryDirectory(prefix="interop-") as room:
+        want_answers(copied(folder, room), script, wanted, "a script that reads")
+
+
+def want_writes(folder, chance):
+    """Has a script write to a copy of the folder, twice, and LevelDB read what is there then."""
+    pairs = leveldb_reads(folder)
+    with tempfile.TemporaryDirectory(prefix="interop-") as room:
+        copy = copied(folder, room)
+        for _ in range(2):
+            keys = between(chance, pairs)
+            script = ["open"]
+            for key in keys[::2]:
+                pairs[key] = chance.randbytes(chance.randrange(300)).hex() or "-"
+                script.append(f"put {key} {pairs[key]}")
+            for key in keys[1::4]:
+                pairs.pop(key, None)
+                script.append(f"del {key}")
+            more = {chance.randbytes(4).hex(): chance.randbytes(20).hex() for _ in range(30)}
+            pairs.update(more)
+            script.append("write sync " + " ".join(f"put {key} {value}" for key, value in more.items()))
+            want_answers(copy, script, ["ok" for _ in script], "a script that writes")
+            want_map(leveldb_reads(copy), pairs)
+        want_map(leveldb_reads(copy, "--reuse"), pairs)
+
+
+@check("directories: a script reads what LevelDB reads, both ways, and at keys between")
+def read_by_script(_room):
+    for seed in SEEDS:
+        want_reads(history(seed), random.Random(seed))
+
+
+@check("directories: LevelDB reads what a script wrote over its own tables")
+def written_by_script(_room):
+    for seed in SEEDS:
+        want_writes(history(seed), random.Random(seed))
+
+
+@check("directories of logs alone: a script reads what LevelDB reads, and LevelDB what it writes; so does a check, before and after")
+def logs_alone(room):
+    for seed in (1, 2, 3):
+        folder, chance = os.path.join(room, str(seed)), random.Random(seed)
+        lines = []
+        for _ in range(400):
+            key = chance.randbytes(chance.randrange(3)).hex() or "-"
+            lines.append(f"del {key}" if chance.random() < 0.2 else f"put {key} {chance.randbytes(chance.randrange(90)).hex() or '-'}")
+        leveldb("write", folder, "--reuse", lines=lines)
+        layout = Layout(folder)
+        want_lines(prints("check", folder), layout.report(), f"seed {seed}")
+        want_dump(layout, prints("dump", folder))
+        want_reads(folder, chance)
+        want_writes(folder, chance)
+
+
+@check("directories: one that LevelDB holds is checked and not opened, an empty one is empty, a missing one a fault")
+def no_lock(room):
+    empty = os.path.join(room, "empty")
+    os.mkdir(empty)
+    want(prints("check", empty) == "empty\n" and prints("dump", empty) == "", "an empty folder isn't empty")
+    held = copied(history(1), room)
+    holder = subprocess.Popen([LEVELDB, "hold", "--reuse", held], stdin=subprocess.PIPE, stdout=subprocess.PIPE, text=True)
+    try:
+        want(holder.stdout.readline() == "held\n", "LevelDB did not open the folder")
+        want(prints("check", held).startswith("good\n"), "a folder that LevelDB holds is not good")
+        want_answers(held, ["open", "close"], ["refused 18 Locked", "refused 16 NotOpen"], "a script")
+    finally:
+        holder.stdin.close()
+        holder.wait(SECONDS)
+    ran = ldbtool("check", os.path.join(room, "none"))
+    want(ran.returncode == 1 and ran.stdout == "" and ran.stderr != "", f"a missing folder: {short(ran.stdout + ran.stderr)}")
+    forget_histories()
