@@ -4,7 +4,7 @@
 RT ?= $(firstword $(shell command -v rt 2> /dev/null) $(wildcard /opt/rattle/bin/rt))
 export RT
 
-PROGRAMS := quickstart tables
+PROGRAMS := quickstart tables ldbtool
 
 .PHONY: help demo quick build test bugs costs interop clean needs-rt
 .SILENT:
@@ -30,7 +30,8 @@ build: needs-rt
 	echo 'Proving $(PROGRAMS) and all below: up to half an hour from nothing, and seconds where nothing has changed.'
 	mkdir -p build
 	for program in $(PROGRAMS); do \
-	  (cd crates/$$program && $(RT) run < /dev/null > /dev/null) && cp crates/$$program/out/$$program build/ || exit 1; \
+	  (cd crates/$$program && set -- && if [ -f args ]; then set -- -- $$(cat args); fi && $(RT) run "$$@" < /dev/null > /dev/null) && \
+	    cp crates/$$program/out/$$program build/ || exit 1; \
 	  echo "build/$$program"; \
 	done
 
