@@ -9,3 +9,4 @@ pub mod Covering
 pub mod Jobs
 pub mod Rising
 pub mod Refusing
+pub mod Drawing

@@ -48,7 +48,7 @@ pub struct Job<K: KeyOrder, C> {
 }
 
 impl<K: KeyOrder, C: Drop> Job<K, C> {
-    ghost use Rattle.std.specs.Prelude.{◌≡◌, ◌≤◌, ◌⊎◌, ◌^◌, ◌∷◌, ◌++◌, [], ℕ, Bool, List, None, IsTrue, IfOk, IfErr, OnOk, MatchBool};
+    ghost use Rattle.std.specs.Prelude.{◌≡◌, ◌≤◌, ◌⊎◌, ◌+◌, ◌^◌, max, ◌∷◌, ◌++◌, [], ℕ, Bool, List, None, IsTrue, IfOk, IfErr, OnOk, MatchBool};
     ghost use Rattle.cursor.specs.Moves.{ListsNone};
     ghost use Rattle.cursor.specs.Places.{Listed};
     ghost use Rattle.ikey.specs.Entries.{InternalEntry};
@@ -110,6 +110,7 @@ impl<K: KeyOrder, C: Drop> Job<K, C> {
         C: Cursor<K, H>,
         requires facts { (held : H) → C.facts held ≡ S.facts (H.store_of held) }
         ensures numbers { numbers.old.next ≤ numbers.new.next }
+        ensures drawn { numbers.new.next ≤ numbers.old.next + max budget 1 }
         ensures plan { self.new.plan ≡ self.old.plan }
         ensures snapshots { self.new.selection.snapshots ≡ self.old.selection.snapshots }
         ensures mine { OnOk result (KeepsMine self.old.outputs numbers.old.next self.new.outputs numbers.new.next) }
@@ -185,6 +186,7 @@ impl<K: KeyOrder, C: Drop> Job<K, C> {
         requires facts { (held : H) → C.facts held ≡ S.facts (H.store_of held) }
         requires stands { IsTrue (C.stands self.old.cursor) }
         ensures numbers { numbers.old.next ≤ numbers.new.next }
+        ensures drawn { numbers.new.next ≤ numbers.old.next + 1 }
         ensures plan { self.new.plan ≡ self.old.plan }
         ensures snapshots { self.new.selection.snapshots ≡ self.old.selection.snapshots }
         ensures mine { OnOk result (KeepsMine self.old.outputs numbers.old.next self.new.outputs numbers.new.next) }

@@ -45,10 +45,11 @@ impl<K: KeyOrder> Model for OpenTable<K> {
 }
 
 impl<K: KeyOrder> OpenTable<K> {
-    ghost use Rattle.std.specs.Prelude.{◌≡◌, ◌<◌, ◌∷◌, ◌++◌, [], ℕ, List, IsTrue, IfOk, IfErr, OnOk};
+    ghost use Rattle.std.specs.Prelude.{◌≡◌, ◌≢◌, ◌<◌, ◌≤◌, ◌∷◌, ◌++◌, [], ℕ, List, IsTrue, IfOk, IfErr, OnOk, MatchBool};
+    ghost use Rattle.ikey.specs.Keys.{Key, IsKey};
     ghost use Rattle.ikey.specs.Entries.{Pair};
     ghost use Rattle.store.specs.Files.{Facts};
-    ghost use Rattle.table.specs.Building.{MayFollow, Builds};
+    ghost use Rattle.table.specs.Building.{MayFollow, Builds, data_size};
     ghost use Rattle.table.specs.Writing.{Writes, NeedsLongBlock, NeedsLongEnds};
     ghost use Rattle.compact.specs.Outputs.{table_name, IsFilling, Closes, RefusesEntry};
 
@@ -85,6 +86,7 @@ impl<K: KeyOrder> OpenTable<K> {
     /// use.
     pub fn add<S: Store>(&mut self, store: &mut S, key: &[u8], value: &[u8]) -> Result<(), DbError>
         ensures number { self.new.number ≡ self.old.number }
+        ensures largest { OnOk result (self.new.largest ≡ key.now) }
         ensures writes { Writes (S.facts store.old) (S.facts store.new) (table_name self.old.number) }
         ensures added { OnOk result ((pairs : List Pair) → IsTrue (S.facts store.new).faithful → (pairs ≡ [] → key.now ≡ self.old.smallest)
             → IsFilling K.cmp self.old (S.facts store.old) pairs
@@ -102,14 +104,20 @@ impl<K: KeyOrder> OpenTable<K> {
 
     /// Whether the table ends before an entry of this user key: its data blocks have so many bytes, and its last entry is
     /// of another user key.
-    pub fn ends_before(&self, user: &[u8], file_bytes: u64) -> bool {
+    pub fn ends_before(&self, user: &[u8], file_bytes: u64) -> bool
+        ensures { MatchBool result ((file_bytes ≤ data_size self.now.building) × ((key : Key) → IsKey self.now.largest key → key.user ≢ user.now))
+            (file_bytes ≤ data_size self.now.building → (key : Key) → IsKey self.now.largest key → key.user ≡ user.now) }
+    {
         if self.builder.size() < file_bytes {
             return false;
         }
-        match unpack(self.largest.as_slice()) {
-            Some(last) => last.user != user,
-            None => false,
+        let Some(last) = unpack(self.largest.as_slice()) else {
+            return false;
+        };
+        if last.user == user {
+            return false;
         }
+        true
     }
 
     /// Ends the table, and has the device keep it. `None` where it has no entry.

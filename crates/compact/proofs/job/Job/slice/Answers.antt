@@ -40,6 +40,7 @@ loop-merged-preserved g c =
       (λ n is. inv.3 n (c.in_ok-merge_one.ensures.mine n is)),
       writes-on a b d c.args.self.now.outputs c.loop-merged.self.outputs c.args.numbers.now.next c.loop-merged.numbers.next inv.3 inv.4 c.in_ok-merge_one.ensures.writes,
       c.in_ok-merge_one.ensures.plan ∙ inv.5,
+      omega (arith, inv.6, c.in_ok-merge_one.ensures.drawn),
     )
 
 pub loop-merged-init : goal.loop-merged-init
@@ -58,6 +59,7 @@ loop-merged-init g c =
       (λ n is. is),
       writes-nothing a (IsMine c.args.self.now.outputs c.args.numbers.now.next),
       refl,
+      omega arith,
     )
 
 pub returns-in_err-merge_one-clause-writes : goal.returns-in_err-merge_one-clause-writes

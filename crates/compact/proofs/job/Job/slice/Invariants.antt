@@ -1,4 +1,4 @@
-use Rattle.std.proofs.Common.{◌≡◌, ◌≤◌, ◌++◌, List, IsTrue, length}
+use Rattle.std.proofs.Common.{◌≡◌, ◌≤◌, ◌+◌, ◌++◌, List, IsTrue, length}
 use Rattle.ikey.specs.Entries.{InternalEntry}
 use Rattle.compact.specs.Merging.{IsBetween, KeepsMine}
 use Rattle.compact.specs.Outputs.{IsMine, WritesTables}
@@ -17,3 +17,4 @@ invariant-loop-merged g l =
     × KeepsMine l.initial.self.outputs l.initial.numbers.next l.self.outputs l.numbers.next
     × WritesTables (g.S.Store.facts (g.H.HasStore.store_of l.initial.source)) (g.S.Store.facts (g.H.HasStore.store_of l.source)) (IsMine l.initial.self.outputs l.initial.numbers.next)
     × (l.self.plan ≡ l.initial.self.plan)
+    × (l.numbers.next ≤ l.initial.numbers.next + l.merged)
