@@ -12,3 +12,5 @@ mod readings;
 mod scripts;
 #[cfg(test)]
 mod sessions;
+#[cfg(test)]
+mod watching;

@@ -1,6 +1,6 @@
 // What a store over a folder of the system does.
 use crate::stores::{CALLS, Step, assert_missing, assert_reads, assert_steps, perform};
-use std::alloc::AllocGlobal;
+use std::alloc::{AllocError, AllocGlobal, Global};
 use std::os::unix::fs::PermissionsExt;
 use std::process::Abort;
 use std::test::Fail;
@@ -189,24 +189,63 @@ fn the_lock_is_denied_to_another_store(rt: HostRuntime) -> Result<(), Fail> {
 }
 
 // More files than are kept open at once.
-#[test]
-fn many_files_stay_readable(rt: HostRuntime) -> Result<(), Fail> {
-    let folder = fresh_folder(&rt, "many")?;
-    let mut store = FileStore::open(&rt, folder.as_str())?;
-    for number in 0..1100u32 {
-        let name = format!(in rt.alloc(); "{number:06}.ldb")?;
-        store.create(name.as_str())?;
-        store.append(name.as_str(), b"kept")?;
+const MANY: u32 = 1_100;
+
+// How many files a store keeps open at most.
+const KEPT_OPEN: usize = 800;
+
+fn name_of(alloc: Global, number: u32) -> Result<String, AllocError> {
+    format!(in alloc; "{number:06}.ldb")
+}
+
+// How many descriptors this process has open, as Linux lists them.
+fn open_descriptors(rt: &HostRuntime) -> Result<usize, Fail> {
+    let mut count = 0usize;
+    for entry in fs::read_dir(rt, "/proc/self/fd")? {
+        let _ = entry?;
+        count = count.saturating_add(1);
     }
-    for name in [
-        "000000.ldb",
-        "000299.ldb",
-        "000300.ldb",
-        "000700.ldb",
-        "001099.ldb",
-    ] {
+    Ok(count)
+}
+
+// Makes each file, with its number's text in it.
+fn make_many(alloc: Global, store: &mut FileStore) -> Result<(), Fail> {
+    for number in 0..MANY {
+        let name = name_of(alloc, number)?;
+        store.create(name.as_str())?;
+        store.append(name.as_str(), name.as_str().as_bytes())?;
+    }
+    Ok(())
+}
+
+// Whether each file is read as it was made.
+fn are_many(alloc: Global, store: &mut FileStore) -> Result<bool, Fail> {
+    for number in 0..MANY {
+        let name = name_of(alloc, number)?;
+        let read = store.read_at(alloc, name.as_str(), 0, 100)?;
+        if read.as_slice() != name.as_str().as_bytes() {
+            return Ok(false);
+        }
+    }
+    Ok(true)
+}
+
+// Each is read twice, rising: so each is opened again, however many of the others stay open.
+#[test]
+fn many_files_stay_readable_and_few_stay_open(rt: HostRuntime) -> Result<(), Fail> {
+    let alloc = rt.alloc();
+    let folder = fresh_folder(&rt, "many")?;
+    let before = open_descriptors(&rt)?;
+    let mut store = FileStore::open(&rt, folder.as_str())?;
+    make_many(alloc, &mut store)?;
+    assert!(rt; are_many(alloc, &mut store)?);
+    assert!(rt; are_many(alloc, &mut store)?);
+    let kept = open_descriptors(&rt)?.saturating_sub(before);
+    assert_eq!(rt; kept, KEPT_OPEN + 1, "with the folder's own");
+    for name in ["000000.ldb", "000299.ldb", "001099.ldb"] {
         store.append(name, b"+")?;
-        assert_steps(&rt, &mut store, &[(Step::Holds(name, b"kept+"), Ok(true))]);
+        let read = store.read_at(alloc, name, 10, 100)?;
+        assert_eq!(rt; read.as_slice(), b"+".as_slice(), "{name}");
     }
     fs::remove_dir_all(&rt, folder.as_str())?;
     Ok(())
