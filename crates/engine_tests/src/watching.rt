@@ -1,5 +1,4 @@
 //! A store in memory that notes what is read of it, and can be told to return other bytes.
-ghost use Rattle.store.specs.Files.{Facts};
 ghost use Rattle.store.specs.MemFacts.{mem_facts};
 
 use std::alloc::Global;
