@@ -6,14 +6,26 @@ export RT
 
 PROGRAMS := quickstart tables ldbtool
 
-.PHONY: help demo quick build test bugs costs interop clean needs-rt
+# Where `make install` puts ldbtool and its page. DESTDIR is put in front of it, as packagers want it.
+PREFIX ?= /usr/local
+LDBTOOL ?= build/ldbtool
+BIN := $(DESTDIR)$(PREFIX)/bin
+MAN := $(DESTDIR)$(PREFIX)/share/man/man1
+
+# What the proved program is made of: where none of it is newer, it isn't proved again.
+SOURCES := crates.txt $(shell find crates -name out -prune -o \( -name '*.rt' -o -name '*.antt' \) -print)
+
+.PHONY: help demo quick build install uninstall program test bugs costs interop clean needs-rt
 .SILENT:
 
 help:
 	echo 'make demo      runs quickstart before any proof: it opens, writes, reads, closes and shows the log (under a minute)'
-	echo 'make quick     what needs no proof: each test and program, and the checks beside LevelDB over what is in build/ (minutes)'
-	echo 'make test      everything: each proof from nothing, each edit and test, and the checks beside LevelDB itself (an hour)'
+	echo 'make quick     what needs no proof: each test and program, and over what is in build/ the checks of ldbtool and those beside LevelDB (minutes)'
+	echo 'make test      everything: each proof from nothing, each edit and test, the checks of ldbtool and those beside LevelDB itself (an hour)'
 	echo 'make build     proves the programs and leaves them in build/'
+	echo 'make install   puts ldbtool, proved, and its manual page below PREFIX (/usr/local), which lies in DESTDIR (none)'
+	echo 'make uninstall takes both away again'
+	echo 'make program   ldbtool as its users run it: scripts, pipes, wrong folders, examples, installing (a minute once it is built)'
 	echo 'make interop   the checks beside LevelDB itself alone'
 	echo 'make bugs      the edits of bugs/, each of which the prover must refuse (hours; make bugs CRATE=table for one crate)'
 	echo 'make costs     what the gate pays for each crate (hours; make costs CRATE=table for one crate)'
@@ -31,9 +43,27 @@ build: needs-rt
 	mkdir -p build
 	for program in $(PROGRAMS); do \
 	  (cd crates/$$program && set -- && if [ -f args ]; then set -- -- $$(cat args); fi && $(RT) run "$$@" < /dev/null > /dev/null) && \
-	    cp crates/$$program/out/$$program build/ || exit 1; \
+	    install -m 755 crates/$$program/out/$$program build/ || exit 1; \
 	  echo "build/$$program"; \
 	done
+
+build/ldbtool: $(SOURCES)
+	$(MAKE) --no-print-directory build PROGRAMS=ldbtool
+
+install: $(LDBTOOL)
+	install -d '$(BIN)' '$(MAN)'
+	install -m 755 '$(LDBTOOL)' '$(BIN)/ldbtool'
+	install -m 644 man/ldbtool.1 '$(MAN)/ldbtool.1'
+	echo 'installed $(BIN)/ldbtool'
+	echo 'installed $(MAN)/ldbtool.1'
+
+uninstall:
+	for file in '$(BIN)/ldbtool' '$(MAN)/ldbtool.1'; do \
+	  if [ -e "$$file" ]; then rm "$$file" && echo "removed $$file" || exit 1; else echo "there is no $$file"; fi; \
+	done
+
+program: build/ldbtool
+	tools/program build/ldbtool
 
 interop: needs-rt
 	interop/run

@@ -60,42 +60,48 @@ fn write_buffer<'a>(alloc: Global) -> Arg<'a>
     ensures { IsArg result (number_rule (codes "write-buffer") (codes "4194304") (2 ^ 30)) }
 {
     number(alloc, "write-buffer", "4194304", 1 << 30).help(
-        "Bytes of entries in memory before a table is written of them",
+        "Bytes of entries in memory before a table is written of them, from 1 to 1073741824",
     )
 }
 
 fn block_bytes<'a>(alloc: Global) -> Arg<'a>
     ensures { IsArg result (number_rule (codes "block-bytes") (codes "4096") (2 ^ 20)) }
 {
-    number(alloc, "block-bytes", "4096", 1 << 20).help("Bytes of a table's data block")
+    number(alloc, "block-bytes", "4096", 1 << 20).help(
+        "Bytes of a table's data block, from 1 to 1048576",
+    )
 }
 
 fn file_bytes<'a>(alloc: Global) -> Arg<'a>
     ensures { IsArg result (number_rule (codes "file-bytes") (codes "2097152") (2 ^ 30)) }
 {
     number(alloc, "file-bytes", "2097152", 1 << 30).help(
-        "Bytes of a table that a compaction writes",
+        "Bytes of a table that a compaction writes, from 1 to 1073741824",
     )
 }
 
 fn level0_files<'a>(alloc: Global) -> Arg<'a>
     ensures { IsArg result (number_rule (codes "level0-files") (codes "4") (1024)) }
 {
-    number(alloc, "level0-files", "4", 1024).help("Files of level 0 that are compacted")
+    number(alloc, "level0-files", "4", 1024).help(
+        "Files of level 0 that are compacted, from 1 to 1024",
+    )
 }
 
 fn base_bytes<'a>(alloc: Global) -> Arg<'a>
     ensures { IsArg result (number_rule (codes "base-bytes") (codes "10485760") (2 ^ 40)) }
 {
     number(alloc, "base-bytes", "10485760", 1 << 40).help(
-        "Bytes of level 1; each deeper level has ten times as many",
+        "Bytes of level 1, from 1 to 1099511627776; each deeper level has ten times as many",
     )
 }
 
 fn cache_blocks<'a>(alloc: Global) -> Arg<'a>
     ensures { IsArg result (number_rule (codes "cache-blocks") (codes "1024") (65536)) }
 {
-    number(alloc, "cache-blocks", "1024", 65_536).help("Blocks that are kept in memory")
+    number(alloc, "cache-blocks", "1024", 65_536).help(
+        "Blocks that are kept in memory, from 1 to 65536",
+    )
 }
 
 // An option with a number from 1 to `most`.

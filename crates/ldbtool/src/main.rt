@@ -19,7 +19,7 @@ fn main(rt: HostRuntime) -> ExitCode {
     let mut faults = rt.stderr();
     let words = match arguments(&rt) {
         Ok(words) => words,
-        Err(error) => return ExitCode::from(start::report_fault(&mut faults, &error)),
+        Err(error) => return ExitCode::from(start::refuse_words(&mut faults, &error)),
     };
     let mut answers = rt.stdout();
     ExitCode::from(start::start(&rt, words.as_slice(), rt.stdin(), &mut answers, &mut faults))

@@ -9,7 +9,7 @@ use ikey::Bytewise;
 use script::{Fault, drive};
 use std::alloc::Global;
 use std::fmt;
-use std::io::{Read, Write};
+use std::io::{self, Read, Write};
 use store::{FileStore, StoreError};
 
 /// Does what the words ask for, of which the first is the program's name, and answers the exit status. What has no place
@@ -60,7 +60,7 @@ fn refuse<W: Write, F: Write>(error: &clap::Error, writer: &mut W, faults: &mut 
     if !error.use_stderr() {
         return match write!(writer, "{error}") {
             Ok(()) => DONE,
-            Err(fault) => report_fault(faults, &fault),
+            Err(fault) => stop(faults, &Fault::Write(fault)),
         };
     }
     let _ = write!(faults, "{error}");
@@ -86,7 +86,7 @@ fn run<R: Read + Drop, W: Write, F: Write>(
     let mut session = new_session(rt.alloc(), store, options);
     match drive(rt.alloc(), &mut session, reader, writer) {
         Ok(()) => DONE,
-        Err(fault) => report_fault(faults, &fault),
+        Err(fault) => stop(faults, &fault),
     }
 }
 
@@ -98,20 +98,56 @@ fn new_session(alloc: Global, store: FileStore, options: Options) -> Session<Fil
 fn status_of<F: Write>(done: Result<u8, Fault>, faults: &mut F) -> u8 {
     match done {
         Ok(status) => status,
-        Err(fault) => report_fault(faults, &fault),
+        Err(fault) => stop(faults, &fault),
     }
 }
 
-fn folder_fault<F: Write>(faults: &mut F, folder: &str, error: StoreError) -> u8 {
-    let _ = writeln!(
-        faults,
-        "ldbtool: the folder {folder} can't be opened: {error:?}"
-    );
+fn folder_fault<F: Write>(faults: &mut F, folder: &str, error: StoreError) -> u8
+    ensures { result ≡ 1 }
+{
+    let why = match error {
+        StoreError::Missing => "there is no such folder",
+        StoreError::Device => "it isn't a folder, or this user may not open it",
+        StoreError::Memory => "out of memory",
+    };
+    let _ = writeln!(faults, "ldbtool: {folder}: {why}");
     FAILED
 }
 
+/// Says why the words of the command line can't be had, and answers the status for it. The kit reads them as UTF-8.
+pub fn refuse_words<F: Write>(faults: &mut F, error: &io::Error) -> u8
+    ensures { (result ≡ 1) ⊎ (result ≡ 2) }
+{
+    if error.kind() != io::ErrorKind::InvalidData {
+        return report_fault(faults, error);
+    }
+    let _ = writeln!(faults, "ldbtool: a word of the command line isn't UTF-8");
+    MISUSED
+}
+
+// The status of a task that was stopped by this.
+fn stop<F: Write>(faults: &mut F, fault: &Fault) -> u8
+    ensures { result ≡ 1 }
+{
+    if is_closed_pipe(fault) {
+        return FAILED;
+    }
+    report_fault(faults, fault)
+}
+
+// Whether whoever reads the output has gone, as `head` does once it has enough: this is no news to the user.
+fn is_closed_pipe(fault: &Fault) -> bool {
+    match fault {
+        Fault::Write(error) => error.kind() == io::ErrorKind::BrokenPipe,
+        Fault::Read(_) => false,
+        Fault::Memory => false,
+    }
+}
+
 /// Says a fault that has no answer line, and answers the status for it.
-pub fn report_fault<F: Write, D: fmt::Display>(faults: &mut F, fault: &D) -> u8 {
+pub fn report_fault<F: Write, D: fmt::Display>(faults: &mut F, fault: &D) -> u8
+    ensures { result ≡ 1 }
+{
     let _ = writeln!(faults, "ldbtool: {fault}");
     FAILED
 }

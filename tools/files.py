@@ -1,0 +1,123 @@
+"""Files of a LevelDB directory, made by hand from the format (docs/FORMATS.md), for the checks of tools/program."""
+import os
+import struct
+from dataclasses import dataclass, field
+
+CRC32C = 0x82F63B78
+MASK = 0xA282EAD8
+PUT = 1
+
+
+def crc32c(text):
+    register = 0xFFFFFFFF
+    for byte in text:
+        register ^= byte
+        for _ in range(8):
+            register = register >> 1 ^ (CRC32C if register & 1 else 0)
+    return register ^ 0xFFFFFFFF
+
+
+def masked(text):
+    """The checksum as files store it."""
+    found = crc32c(text)
+    return struct.pack("<I", ((found >> 15 | found << 17) + MASK) & 0xFFFFFFFF)
+
+
+def varint(number):
+    found = b""
+    while number >= 128:
+        found += bytes([number % 128 + 128])
+        number //= 128
+    return found + bytes([number])
+
+
+def string(text):
+    return varint(len(text)) + text
+
+
+def spelled(text):
+    """The bytes of a word of a script."""
+    return b"" if text == "-" else bytes.fromhex(text)
+
+
+def record(payload):
+    """A log record that fits one block, at the block's front or behind others in it."""
+    return masked(b"\x01" + payload) + struct.pack("<HB", len(payload), 1) + payload
+
+
+def log_file(batches):
+    """A log of batches, each a sequence and a list of keys with their values, None for a delete."""
+    found = b""
+    for sequence, operations in batches:
+        batch = struct.pack("<QI", sequence, len(operations))
+        for key, value in operations:
+            batch += b"\x00" + string(spelled(key)) if value is None else b"\x01" + string(spelled(key)) + string(spelled(value))
+        found += record(batch)
+    assert len(found) < 32_768
+    return found
+
+
+def internal_key(key, sequence):
+    return spelled(key) + struct.pack("<Q", sequence << 8 | PUT)
+
+
+@dataclass
+class Manifest:
+    """A MANIFEST of one edit. A table is its level, number, size, least and greatest key, and their sequence."""
+
+    log: int
+    next_file: int
+    last_sequence: int = 0
+    tables: list = field(default_factory=list)
+
+    def file(self):
+        edit = b"\x01" + string(b"leveldb.BytewiseComparator")
+        edit += b"\x02" + varint(self.log) + b"\x03" + varint(self.next_file) + b"\x04" + varint(self.last_sequence)
+        for level, number, size, least, greatest, sequence in self.tables:
+            edit += b"\x07" + varint(level) + varint(number) + varint(size)
+            edit += string(internal_key(least, sequence)) + string(internal_key(greatest, sequence))
+        return record(edit)
+
+
+def stored(block):
+    return block + b"\x00" + masked(block + b"\x00")
+
+
+def hexadecimal(text):
+    return bytes.fromhex(text)
+
+
+# the table that has 61 = 31 at sequence 1 alone: a data block, a filter block, the metaindex, the index, and the footer
+ONE_TABLE = (
+    stored(hexadecimal("00 09 01 61 01 01 00 00 00 00 00 00 31 00 00 00 00 01 00 00 00"))
+    + stored(hexadecimal("08 10 20 40 80 00 01 00 06 00 00 00 00 09 00 00 00 0b"))
+    + stored(hexadecimal("00 22 02") + b"filter.leveldb.BuiltinBloomFilter2" + hexadecimal("1a 12 00 00 00 00 01 00 00 00"))
+    + stored(hexadecimal("00 09 02 61 01 01 00 00 00 00 00 00 00 15 00 00 00 00 01 00 00 00"))
+    + hexadecimal("31 2f 65 16" + "00" * 36 + "57 fb 80 8b 24 75 47 db")
+)
+assert len(ONE_TABLE) == 176
+
+
+# ---- folders
+
+
+def new_folder(room, name="folder"):
+    folder = os.path.join(room, name)
+    os.mkdir(folder)
+    return folder
+
+
+def bytes_of(folder, name):
+    with open(os.path.join(folder, name) if name else folder, "rb") as file:
+        return file.read()
+
+
+def write_directory(room, name, manifest, files):
+    """A new folder with these files, and with the MANIFEST, number 1, and a CURRENT that names it, where one is given."""
+    folder = new_folder(room, name)
+    if manifest:
+        files = {"CURRENT": b"MANIFEST-000001\n", "MANIFEST-000001": manifest.file(), **files}
+    for name_of_file, text in files.items():
+        with open(os.path.join(folder, name_of_file), "wb") as file:
+            file.write(text)
+    return folder
