@@ -1,5 +1,7 @@
 // The program, over streams that are handed in.
 
+ghost use Rattle.std.specs.Prelude.{◌≡◌, ◌⊎◌};
+
 use crate::inspect::{check, dump};
 use crate::settings::{Numbers, Task, settings};
 use crate::status::{DONE, FAILED, MISUSED};
