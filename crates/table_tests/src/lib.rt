@@ -14,6 +14,8 @@ mod files;
 #[cfg(test)]
 mod folders;
 #[cfg(test)]
+mod generations;
+#[cfg(test)]
 mod memory_cursors;
 #[cfg(test)]
 mod memory_tables;

@@ -1,0 +1,282 @@
+-- Which tables there are under which generation, through what is changed.
+use Rattle.std.proofs.Common.{◌≡◌, ◌≢◌, ◌⊎◌, ◌<◌, ◌≤◌, ◌+◌, ◌^◌, ◌++◌, ◌∷◌, [], ℕ, Bool, true, false, cond, not, List, Option, Some, None, IfSome, IsSome, MatchBool, inl, inr, refl, sym, ap, subst, ◌∙◌, arith, append_assoc}
+use Rattle.std.proofs.Math.Dec.{eqb}
+use Rattle.std.proofs.lemmas.Bool.{cases_eq, cond_both, cond-true, cond-false, eq-eqb, eqb-true, eqb-false}
+use Rattle.std.specs.Bool.{nat_eq}
+use Rattle.std.specs.BTreeMap.{is_at}
+use Rattle.std.specs.Cmp.{unsigned_tied}
+use Rattle.std.specs.Map.{lookup}
+use Rattle.std.specs.Map.Calls.{RetainsPairs}
+use Rattle.std.specs.Option.{option_eq, option_map}
+use Rattle.std.specs.Ordering.{is_eq, nat_cmp}
+use Rattle.ikey.specs.declared.entry.Entry.{Entry}
+use Rattle.ikey.specs.Views.{AllUpTo}
+use Rattle.memtable.specs.Contents.{Contents}
+use Rattle.memories.specs.Changes.{IsFlushed, IsRemembered, IsSealed, IsUsed, IsWritten, KeepsUsed}
+use Rattle.memories.specs.Memories.{AreMemories, Memories, inserts_of, older_at, sealed_inserts, sealed_in, table_in}
+use Rattle.memories.specs.Places.{LeavesMemories, older_inserts}
+use Rattle.memories.proofs.Batches.{bounded_more}
+
+-- ---- keys
+
+pub same_key : (k q : ℕ) → is_eq (nat_cmp k q) ≡ true → k ≡ q
+same_key k q is = eqb-true k q (sym (unsigned_tied k q) ∙ is)
+
+pub other_key : (k q : ℕ) → is_eq (nat_cmp k q) ≡ false → k ≢ q
+other_key k q is = eqb-false k q (sym (unsigned_tied k q) ∙ is)
+
+-- what a map has after an entry of it was put in or taken out
+abbrev pub Updates : ℕ → Option Contents → List (ℕ × Contents) → List (ℕ × Contents) → Type 0
+Updates k now old new = (q : ℕ) → older_at new q ≡ cond (is_eq (nat_cmp k q)) now (older_at old q)
+
+pub updated_here : (k : ℕ) (now : Option Contents) (old new : List (ℕ × Contents)) → Updates k now old new → older_at new k ≡ now
+updated_here k now old new updates = updates k ∙ cond-true (is_eq (nat_cmp k k)) now (older_at old k) (unsigned_tied k k ∙ eq-eqb k k refl)
+
+pub updated_apart : (k q : ℕ) (now : Option Contents) (old new : List (ℕ × Contents)) → Updates k now old new → q ≢ k → older_at new q ≡ older_at old q
+updated_apart k q now old new updates apart =
+    updates q ∙ cond_both (is_eq (nat_cmp k q)) now (older_at old q) (λ (o : Option Contents). o ≡ older_at old q) (λ is. absurd (apart (sym (same_key k q is)))) (λ _. refl)
+
+-- ---- tables
+
+pub table_current : (m : Memories) (generation : ℕ) → generation ≡ m.generation → table_in m generation ≡ Some m.current
+table_current m generation is = cond-true (nat_eq generation m.generation) (Some m.current) (older_at m.older generation) (eq-eqb generation m.generation is)
+
+pub table_older : (m : Memories) (generation : ℕ) → generation ≢ m.generation → table_in m generation ≡ older_at m.older generation
+table_older m generation apart =
+    cond_both (nat_eq generation m.generation) (Some m.current) (older_at m.older generation) (λ (o : Option Contents). o ≡ older_at m.older generation) (λ is. absurd (apart (eqb-true generation m.generation is))) (λ _. refl)
+
+-- a generation above all has no table
+none_above : (m : Memories) (generation : ℕ) (o : Option Contents) → ((table : Contents) → o ≡ Some table → generation < m.generation) → m.generation ≤ generation → o ≡ None
+none_above m generation None h above = refl
+none_above m generation (Some table) h above = (let below = h table refl in absurd (omega (arith, below, above)))
+
+pub fresh_there : (m : Memories) → AreMemories m → table_in m (m.generation + 1) ≡ None
+fresh_there m are =
+    table_older m (m.generation + 1) (λ is. omega (arith, is))
+    ∙ none_above m (m.generation + 1) (older_at m.older (m.generation + 1)) (λ table at. are.below (m.generation + 1) table at) (omega arith)
+
+pub none_current : (m : Memories) → AreMemories m → older_at m.older m.generation ≡ None
+none_current m are = none_above m m.generation (older_at m.older m.generation) (λ table at. are.below m.generation table at) (omega arith)
+
+-- ---- what moves leave
+
+inserts_in : Option Contents → Option (List Entry)
+inserts_in table = option_map (λ (t : Contents). t.inserts) table
+
+pub left_current : (m : Memories) (table : Contents) → table.inserts ≡ m.current.inserts → LeavesMemories m (record m { current = table })
+left_current m table is = record { inserts = is; last = refl; generation = refl; sealed = refl; older = λ generation. refl }
+
+pub left_older : (m : Memories) (generation : ℕ) (was table : Contents) (older : List (ℕ × Contents)) → older_at m.older generation ≡ Some was → table.inserts ≡ was.inserts
+    → Updates generation (Some table) m.older older → LeavesMemories m (record m { older = older })
+left_older m generation was table older there is updates = record {
+  inserts = refl;
+  last = refl;
+  generation = refl;
+  sealed = refl;
+  older = λ q.
+    ap (option_map (λ (t : Contents). t.inserts)) (updates q)
+    ∙ cond_both (is_eq (nat_cmp generation q)) (Some table) (older_at m.older q) (λ (o : Option Contents). option_map (λ (t : Contents). t.inserts) o ≡ older_inserts m q)
+    (λ same. ap Some is ∙ ap (option_map (λ (t : Contents). t.inserts)) (sym there ∙ ap (older_at m.older) (same_key generation q same))) (λ _. refl);
+}
+
+-- ---- the invariant
+
+same_inserts : (o p : Option Contents) (table : Contents) → option_map (λ (t : Contents). t.inserts) o ≡ option_map (λ (t : Contents). t.inserts) p → o ≡ Some table
+    → (was : Contents) × (p ≡ Some was) × (table.inserts ≡ was.inserts)
+same_inserts None p table same is = absurd cc
+same_inserts (Some now) None table same is = absurd cc
+same_inserts (Some now) (Some was) table same is = (was, refl, (let one : table ≡ now = cc in let two : now.inserts ≡ was.inserts = cc in ap (λ (t : Contents). t.inserts) one ∙ two))
+
+still_there : (o p : Option Contents) → option_map (λ (t : Contents). t.inserts) o ≡ option_map (λ (t : Contents). t.inserts) p → IsSome p → IsSome o
+still_there None None same is = is
+still_there None (Some was) same is = absurd cc
+still_there (Some now) p same is = refl
+
+sealed_still : (sealed : Option ℕ) (old new : List (ℕ × Contents)) → ((generation : ℕ) → sealed ≡ Some generation → IsSome (older_at old generation) → IsSome (older_at new generation))
+    → IfSome sealed (λ (generation : ℕ). IsSome (older_at old generation)) → IfSome sealed (λ (generation : ℕ). IsSome (older_at new generation))
+sealed_still None old new keep is = tt
+sealed_still (Some generation) old new keep is = keep generation refl is
+
+pub invariant_left : (old new : Memories) → LeavesMemories old new → AreMemories old → AreMemories new
+invariant_left old new h are = record {
+  current = subst (λ (es : List Entry). AllUpTo new.last es) (sym h.inserts) (subst (λ (n : ℕ). AllUpTo n old.current.inserts) (sym h.last) are.current);
+  older = λ generation table is.
+    let was = same_inserts (older_at new.older generation) (older_at old.older generation) table (h.older generation) is in
+    subst (λ (es : List Entry). AllUpTo new.last es) (sym was.2) (subst (λ (n : ℕ). AllUpTo n was.0.inserts) (sym h.last) (are.older generation was.0 was.1));
+  below = λ generation table is.
+    let was = same_inserts (older_at new.older generation) (older_at old.older generation) table (h.older generation) is in
+    let low = are.below generation was.0 was.1 in
+    omega (arith, low, h.generation);
+  sealed = subst (λ (s : Option ℕ). IfSome s (λ (generation : ℕ). IsSome (older_at new.older generation))) (sym h.sealed)
+    (sealed_still old.sealed old.older new.older (λ generation at is. still_there (older_at new.older generation) (older_at old.older generation) (h.older generation) is) are.sealed);
+  fits = omega (arith, are.fits, h.last);
+}
+
+up_to_more : (last : ℕ) (entries : List Entry) → AllUpTo last entries → AllUpTo (last + 1) entries
+up_to_more last entries h e among = (let low = h e among in omega (arith, low))
+
+pub invariant_added : (m : Memories) (table : Contents) (key : List ℕ) (value : Option (List ℕ)) → table.inserts ≡ m.current.inserts ++ record { key = key; sequence = m.last + 1; value = value } ∷ []
+    → m.last + 1 < 2 ^ 56 → AreMemories m → AreMemories (record m { current = table; last = m.last + 1 })
+invariant_added m table key value is fits are = record {
+  current = subst (λ (es : List Entry). AllUpTo (m.last + 1) es) (sym is) (bounded_more m.current.inserts m.last key value are.current);
+  older = λ generation older there. up_to_more m.last older.inserts (are.older generation older there);
+  below = are.below;
+  sealed = are.sealed;
+  fits = fits;
+}
+
+some_is : (o : Option Contents) (table : Contents) → o ≡ Some table → IsSome o
+some_is None table is = absurd cc
+some_is (Some t) table is = refl
+
+pub invariant_sealed : (m : Memories) (table : Contents) (older : List (ℕ × Contents)) → table.inserts ≡ [] → Updates m.generation (Some m.current) m.older older → AreMemories m
+    → AreMemories (record { current = table; last = m.last; generation = m.generation + 1; sealed = Some m.generation; older = older })
+invariant_sealed m table older none updates are = record {
+  current = subst (λ (es : List Entry). AllUpTo m.last es) (sym none) (λ e among. absurd among);
+  older = λ generation found is. by generation found is (cases_eq generation m.generation);
+  below = λ generation found is. under generation found is (cases_eq generation m.generation);
+  sealed = some_is (older_at older m.generation) m.current (updated_here m.generation (Some m.current) m.older older updates);
+  fits = are.fits;
+}
+  where
+    by : (generation : ℕ) (found : Contents) → older_at older generation ≡ Some found → (generation ≡ m.generation) ⊎ (generation ≢ m.generation) → AllUpTo m.last found.inserts
+    by generation found is (inl same) =
+        let here : Some m.current ≡ Some found = sym (updated_here m.generation (Some m.current) m.older older updates) ∙ ap (older_at older) (sym same) ∙ is in
+        let one : m.current ≡ found = cc in
+        subst (λ (t : Contents). AllUpTo m.last t.inserts) one are.current
+    by generation found is (inr apart) = are.older generation found (sym (updated_apart m.generation generation (Some m.current) m.older older updates apart) ∙ is)
+
+    under : (generation : ℕ) (found : Contents) → older_at older generation ≡ Some found → (generation ≡ m.generation) ⊎ (generation ≢ m.generation) → generation < m.generation + 1
+    under generation found is (inl same) = omega (arith, same)
+    under generation found is (inr apart) = (let low = are.below generation found (sym (updated_apart m.generation generation (Some m.current) m.older older updates apart) ∙ is) in omega (arith, low))
+
+pub invariant_dropped : (m : Memories) (older : List (ℕ × Contents)) → ((generation : ℕ) → m.sealed ≡ Some generation → older_at older generation ≡ older_at m.older generation)
+    → ((generation : ℕ) (table : Contents) → older_at older generation ≡ Some table → older_at m.older generation ≡ Some table) → AreMemories m → AreMemories (record m { older = older })
+invariant_dropped m older kept from are = record {
+  current = are.current;
+  older = λ generation table is. are.older generation table (from generation table is);
+  below = λ generation table is. are.below generation table (from generation table is);
+  sealed = sealed_still m.sealed m.older older (λ generation at is. subst (λ (o : Option Contents). IsSome o) (sym (kept generation at)) is) are.sealed;
+  fits = are.fits;
+}
+
+pub invariant_alone : (table : Contents) (last generation : ℕ) (older : List (ℕ × Contents)) → older ≡ [] → AllUpTo last table.inserts → last < 2 ^ 56
+    → AreMemories (record { current = table; last = last; generation = generation; sealed = None; older = older })
+invariant_alone table last generation older none bound fits = record {
+  current = bound;
+  older = λ number found is. absurd (nothing number found is);
+  below = λ number found is. absurd (nothing number found is);
+  sealed = tt;
+  fits = fits;
+}
+  where
+    nothing : (number : ℕ) (found : Contents) → older_at older number ≡ Some found → ⊥
+    nothing number found is = (let bad : None ≡ Some found = ap (λ (es : List (ℕ × Contents)). older_at es number) (sym none) ∙ is in cc)
+
+pub invariant_flushed : (m : Memories) → AreMemories m → AreMemories (record m { sealed = None })
+invariant_flushed m are = record { current = are.current; older = are.older; below = are.below; sealed = tt; fits = are.fits }
+
+-- ---- sealing
+
+pub is_sealed : (m : Memories) (older : List (ℕ × Contents)) → Updates m.generation (Some m.current) m.older older → AreMemories m
+    → IsSealed m (record { current = record { inserts = []; entry_room = 0; byte_room = 0 }; last = m.last; generation = m.generation + 1; sealed = Some m.generation; older = older })
+is_sealed m older updates are = record {
+  current = refl;
+  last = refl;
+  generation = refl;
+  sealed = refl;
+  kept = updated_here m.generation (Some m.current) m.older older updates;
+  others = λ generation apart. updated_apart m.generation generation (Some m.current) m.older older updates apart;
+  fresh = fresh_there m are;
+}
+
+pub inserts_sealed : (old new : Memories) → IsSealed old new → sealed_inserts new ≡ old.current.inserts
+inserts_sealed old new h =
+    ap (λ (s : Option ℕ). inserts_of (found s)) h.sealed ∙ ap inserts_of h.kept
+  where
+    found : Option ℕ → Option Contents
+    found None = None
+    found (Some generation) = older_at new.older generation
+
+-- ---- dropping
+
+-- What is left under a generation of an older table: it is the same where it is of use, and else none; none comes anew.
+abbrev pub Keeps : (ℕ → Type 0) → Option Contents → Option Contents → ℕ → Type 0
+Keeps used old new generation = (used generation → new ≡ old) × ((used generation → ⊥) → new ≡ None) × ((table : Contents) → new ≡ Some table → old ≡ Some table)
+
+abbrev look : ℕ → List (ℕ × Contents) → Option Contents
+look q entries = lookup (is_at (nat_cmp q)) entries
+
+module _ (used : ℕ → Type 0) (q : ℕ) where
+  kept_here : (here : Bool) (k : ℕ) (v w : Contents) (old new : Option Contents) → (here ≡ true → q ≡ k) → used k → w ≡ v → Keeps used old new q → Keeps used (cond here (Some v) old) (cond here (Some w) new) q
+  kept_here true k v w old new one is same h = (λ _. ap Some same, λ out. absurd (out (subst used (sym (one refl)) is)), λ table e. sym (ap Some same) ∙ e)
+  kept_here false k v w old new one is same h = h
+
+  gone_here : (here : Bool) (k : ℕ) (v : Contents) (old new : Option Contents) → (here ≡ true → q ≡ k) → (used k → ⊥) → Keeps used old new q → Keeps used (cond here (Some v) old) new q
+  gone_here true k v old new one out h =
+      let away : used q → ⊥ = λ u. out (subst used (one refl) u) in
+      let none : new ≡ None = h.1 away in
+      (λ u. absurd (away u), λ _. none, λ table e. let bad : None ≡ Some table = sym none ∙ e in absurd cc)
+  gone_here false k v old new one out h = h
+
+  kept_step : (k : ℕ) (v w : Contents) (b : Bool) (rest old : List (ℕ × Contents)) → MatchBool b (used k) (used k → ⊥) → w ≡ v → Keeps used (look q old) (look q rest) q
+      → Keeps used (cond (is_eq (nat_cmp q k)) (Some v) (look q old)) (look q (cond b ((k, w) ∷ rest) rest)) q
+  kept_step k v w true rest old is same h = kept_here (is_eq (nat_cmp q k)) k v w (look q old) (look q rest) (same_key q k) is same h
+  kept_step k v w false rest old is same h = gone_here (is_eq (nat_cmp q k)) k v (look q old) (look q rest) (same_key q k) is h
+
+  pub kept_all : {F : Type 0} (T : F → ℕ → Contents → Bool → Contents → F → Type 0) (holds : F → Type 0) → ((f : F) (k : ℕ) (v : Contents) (b : Bool) (w : Contents) (g : F) → holds f → T f k v b w g → MatchBool b (used k) (used k → ⊥) × (w ≡ v) × holds g)
+      → (f : F) (old new : List (ℕ × Contents)) → holds f → RetainsPairs T f old new → Keeps used (lookup (is_at (nat_cmp q)) old) (lookup (is_at (nat_cmp q)) new) q
+  kept_all T holds tells f [] new same is = subst (λ (es : List (ℕ × Contents)). Keeps used None (look q es) q) (sym is) (λ _. refl, λ _. refl, λ table e. e)
+  kept_all T holds tells f (e ∷ old) new same (b, w, g, rest, called, more, is) =
+      let told = tells f e.0 e.1 b w g same called in
+      subst (λ (es : List (ℕ × Contents)). Keeps used (look q (e ∷ old)) (look q es) q) (sym is)
+      (kept_step e.0 e.1 w b rest old told.0 told.1 (kept_all T holds tells g old rest told.2 more))
+
+-- the same of a test that stays as it was
+pub kept_same : {F : Type 0} (T : F → ℕ → Contents → Bool → Contents → F → Type 0) (used : ℕ → Type 0) (f : F) → ((k : ℕ) (v : Contents) (b : Bool) (w : Contents) (g : F) → T f k v b w g → MatchBool b (used k) (used k → ⊥) × (w ≡ v) × (g ≡ f))
+    → (old new : List (ℕ × Contents)) → RetainsPairs T f old new → (q : ℕ) → Keeps used (older_at old q) (older_at new q) q
+kept_same {F} T used f tells old new is q =
+    kept_all used q T (λ (g : F). g ≡ f) (λ e k v b w g same called. tells k v b w g (subst (λ (s : F). T s k v b w g) same called)) f old new refl is
+
+-- after one was taken out
+pub kept_others : (sealed : Option ℕ) (generation : ℕ) (old new : List (ℕ × Contents)) → (sealed ≡ Some generation → ⊥) → Updates generation None old new → (q : ℕ)
+    → Keeps (λ (q : ℕ). (sealed ≡ Some q) ⊎ (q ≢ generation)) (older_at old q) (older_at new q) q
+kept_others sealed generation old new open_one updates q = by (cases_eq q generation)
+  where
+    by : (q ≡ generation) ⊎ (q ≢ generation) → Keeps (λ (q : ℕ). (sealed ≡ Some q) ⊎ (q ≢ generation)) (older_at old q) (older_at new q) q
+    by (inl same) =
+        let none : older_at new q ≡ None = ap (older_at new) same ∙ updated_here generation None old new updates in (
+          λ used. elim used [ inl is ↦ absurd (open_one (is ∙ ap Some same)) | inr apart ↦ absurd (apart same) ],
+          λ _. none,
+          λ table is. let bad : None ≡ Some table = sym none ∙ is in absurd cc,
+        )
+    by (inr apart) =
+        let is = updated_apart generation q None old new updates apart in
+        (λ _. is, λ out. absurd (out (inr apart)), λ table e. sym is ∙ e)
+
+pub not_sealed : (sealed : Option ℕ) (generation : ℕ) → true ≡ not (option_eq eqb sealed (Some generation)) → sealed ≡ Some generation → ⊥
+not_sealed sealed generation other is =
+    let bad : true ≡ false = other ∙ ap (λ (s : Option ℕ). not (option_eq eqb s (Some generation))) is ∙ ap not (eq-eqb generation generation refl) in
+    cc
+
+-- where none was taken out, since it is sealed
+pub kept_sealed : (sealed : Option ℕ) (generation : ℕ) (old : List (ℕ × Contents)) → sealed ≡ Some generation → (q : ℕ) → Keeps (λ (q : ℕ). (sealed ≡ Some q) ⊎ (q ≢ generation)) (older_at old q) (older_at old q) q
+kept_sealed sealed generation old is q = (
+  λ _. refl,
+  λ out. elim (cases_eq q generation) [ inl same ↦ absurd (out (inl (is ∙ ap Some (sym same)))) | inr apart ↦ absurd (out (inr apart)) ],
+  λ table e. e,
+)
+
+pub keeps_used : (used : ℕ → Type 0) (m : Memories) (older : List (ℕ × Contents)) → ((q : ℕ) → Keeps used (older_at m.older q) (older_at older q) q) → KeepsUsed used m (record m { older = older })
+keeps_used used m older h = record { others = refl; kept = λ q is. (h q).0 is; gone = λ q out. (h q).1 out }
+
+pub invariant_used : (names : ℕ → Type 0) (m : Memories) (older : List (ℕ × Contents)) → ((q : ℕ) → Keeps (λ (q : ℕ). (m.sealed ≡ Some q) ⊎ names q) (older_at m.older q) (older_at older q) q) → AreMemories m → AreMemories (record m { older = older })
+invariant_used names m older h are = invariant_dropped m older (λ q is. (h q).0 (inl is)) (λ q table is. (h q).2 table is) are
+
+-- ---- writing
+
+pub written_more : (first second third : Memories) (xs ys : List Entry) → IsWritten first second xs → IsWritten second third ys → IsWritten first third (xs ++ ys)
+written_more first second third xs ys one two = record {
+  inserts = two.inserts ∙ ap (λ (es : List Entry). es ++ ys) one.inserts ∙ append_assoc first.current.inserts xs ys;
+  others = two.others ∙ ap (λ (m : Memories). record m { current = third.current; last = third.last }) one.others;
+}

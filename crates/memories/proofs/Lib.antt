@@ -1,0 +1,4 @@
+mod Batches
+mod Generations
+mod Moving
+mod Searching

@@ -1,0 +1,4 @@
+pub mod Changes
+pub mod Memories
+pub mod PlaceLaws
+pub mod Places
