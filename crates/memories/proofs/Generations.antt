@@ -74,9 +74,9 @@ left_older m generation was table older there is updates = record {
   generation = refl;
   sealed = refl;
   older = λ q.
-    ap (option_map (λ (t : Contents). t.inserts)) (updates q)
-    ∙ cond_both (is_eq (nat_cmp generation q)) (Some table) (older_at m.older q) (λ (o : Option Contents). option_map (λ (t : Contents). t.inserts) o ≡ older_inserts m q)
-    (λ same. ap Some is ∙ ap (option_map (λ (t : Contents). t.inserts)) (sym there ∙ ap (older_at m.older) (same_key generation q same))) (λ _. refl);
+      ap (option_map (λ (t : Contents). t.inserts)) (updates q)
+      ∙ cond_both (is_eq (nat_cmp generation q)) (Some table) (older_at m.older q) (λ (o : Option Contents). option_map (λ (t : Contents). t.inserts) o ≡ older_inserts m q)
+      (λ same. ap Some is ∙ ap (option_map (λ (t : Contents). t.inserts)) (sym there ∙ ap (older_at m.older) (same_key generation q same))) (λ _. refl);
 }
 
 -- ---- the invariant
@@ -101,14 +101,14 @@ pub invariant_left : (old new : Memories) → LeavesMemories old new → AreMemo
 invariant_left old new h are = record {
   current = subst (λ (es : List Entry). AllUpTo new.last es) (sym h.inserts) (subst (λ (n : ℕ). AllUpTo n old.current.inserts) (sym h.last) are.current);
   older = λ generation table is.
-    let was = same_inserts (older_at new.older generation) (older_at old.older generation) table (h.older generation) is in
-    subst (λ (es : List Entry). AllUpTo new.last es) (sym was.2) (subst (λ (n : ℕ). AllUpTo n was.0.inserts) (sym h.last) (are.older generation was.0 was.1));
+      let was = same_inserts (older_at new.older generation) (older_at old.older generation) table (h.older generation) is in
+      subst (λ (es : List Entry). AllUpTo new.last es) (sym was.2) (subst (λ (n : ℕ). AllUpTo n was.0.inserts) (sym h.last) (are.older generation was.0 was.1));
   below = λ generation table is.
-    let was = same_inserts (older_at new.older generation) (older_at old.older generation) table (h.older generation) is in
-    let low = are.below generation was.0 was.1 in
-    omega (arith, low, h.generation);
+      let was = same_inserts (older_at new.older generation) (older_at old.older generation) table (h.older generation) is in
+      let low = are.below generation was.0 was.1 in
+      omega (arith, low, h.generation);
   sealed = subst (λ (s : Option ℕ). IfSome s (λ (generation : ℕ). IsSome (older_at new.older generation))) (sym h.sealed)
-    (sealed_still old.sealed old.older new.older (λ generation at is. still_there (older_at new.older generation) (older_at old.older generation) (h.older generation) is) are.sealed);
+      (sealed_still old.sealed old.older new.older (λ generation at is. still_there (older_at new.older generation) (older_at old.older generation) (h.older generation) is) are.sealed);
   fits = omega (arith, are.fits, h.last);
 }
 

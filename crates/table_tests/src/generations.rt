@@ -189,8 +189,10 @@ fn walks(
 
 fn reads_each_table(alloc: Global) -> Result<bool, DbError> {
     let mut memories = two_tables(alloc)?;
-    Ok(walks(&mut memories, alloc, 0, 2, &FIRST_PAIRS)?
-        && walks(&mut memories, alloc, 1, 5, &SECOND_PAIRS)?)
+    Ok(
+        walks(&mut memories, alloc, 0, 2, &FIRST_PAIRS)?
+            && walks(&mut memories, alloc, 1, 5, &SECOND_PAIRS)?,
+    )
 }
 
 #[test]
@@ -198,11 +200,7 @@ fn a_cursor_reads_the_table_of_its_generation(rt: HostRuntime) {
     assert_eq!(rt; reads_each_table(rt.alloc()), Ok(true));
 }
 
-fn is_missing(
-    memories: &mut MemoryTables<Bytewise>,
-    alloc: Global,
-    generation: u64,
-) -> bool {
+fn is_missing(memories: &mut MemoryTables<Bytewise>, alloc: Global, generation: u64) -> bool {
     let mut cursor = MemoriesCursor::new(alloc, generation, 9);
     matches!(
         cursor.first(alloc, memories),
