@@ -1,29 +1,24 @@
 -- Which tables there are under which generation, through what is changed.
-use Rattle.std.proofs.Common.{◌≡◌, ◌≢◌, ◌⊎◌, ◌<◌, ◌≤◌, ◌+◌, ◌^◌, ◌++◌, ◌∷◌, [], ℕ, Bool, true, false, cond, not, List, Option, Some, None, IfSome, IsSome, MatchBool, inl, inr, refl, sym, ap, subst, ◌∙◌, arith, append_assoc}
+use Rattle.std.proofs.Common.{◌≡◌, ◌≢◌, ◌⊎◌, ◌<◌, ◌+◌, ◌^◌, ◌++◌, ◌∷◌, [], ℕ, Bool, true, false, cond, not, List, Option, Some, None, IfSome, IsSome, MatchBool, inl, inr, refl, sym, ap, subst, ◌∙◌, arith, append_assoc}
 use Rattle.std.proofs.Math.Dec.{eqb}
-use Rattle.std.proofs.lemmas.Bool.{cases_eq, cond_both, cond-true, cond-false, eq-eqb, eqb-true, eqb-false}
-use Rattle.std.specs.Bool.{nat_eq}
+use Rattle.std.proofs.lemmas.Bool.{cases_eq, cond_both, cond-true, eq-eqb, eqb-true}
 use Rattle.std.specs.BTreeMap.{is_at}
 use Rattle.std.specs.Cmp.{unsigned_tied}
 use Rattle.std.specs.Map.{lookup}
 use Rattle.std.specs.Map.Calls.{RetainsPairs}
-use Rattle.std.specs.Option.{option_eq, option_map}
+use Rattle.std.specs.Option.{option_eq}
 use Rattle.std.specs.Ordering.{is_eq, nat_cmp}
 use Rattle.ikey.specs.declared.entry.Entry.{Entry}
 use Rattle.ikey.specs.Views.{AllUpTo}
 use Rattle.memtable.specs.Contents.{Contents}
-use Rattle.memories.specs.Changes.{IsFlushed, IsRemembered, IsSealed, IsUsed, IsWritten, KeepsUsed}
-use Rattle.memories.specs.Memories.{AreMemories, Memories, inserts_of, older_at, sealed_inserts, sealed_in, table_in}
-use Rattle.memories.specs.Places.{LeavesMemories, older_inserts}
+use Rattle.memories.specs.Changes.{IsWritten, KeepsUsed}
+use Rattle.memories.specs.Memories.{AreMemories, Memories, older_at}
 use Rattle.memories.proofs.Batches.{bounded_more}
 
 -- ---- keys
 
 pub same_key : (k q : ℕ) → is_eq (nat_cmp k q) ≡ true → k ≡ q
 same_key k q is = eqb-true k q (sym (unsigned_tied k q) ∙ is)
-
-pub other_key : (k q : ℕ) → is_eq (nat_cmp k q) ≡ false → k ≢ q
-other_key k q is = eqb-false k q (sym (unsigned_tied k q) ∙ is)
 
 -- what a map has after an entry of it was put in or taken out
 abbrev pub Updates : ℕ → Option Contents → List (ℕ × Contents) → List (ℕ × Contents) → Type 0
@@ -36,81 +31,12 @@ pub updated_apart : (k q : ℕ) (now : Option Contents) (old new : List (ℕ × 
 updated_apart k q now old new updates apart =
     updates q ∙ cond_both (is_eq (nat_cmp k q)) now (older_at old q) (λ (o : Option Contents). o ≡ older_at old q) (λ is. absurd (apart (sym (same_key k q is)))) (λ _. refl)
 
--- ---- tables
-
-pub table_current : (m : Memories) (generation : ℕ) → generation ≡ m.generation → table_in m generation ≡ Some m.current
-table_current m generation is = cond-true (nat_eq generation m.generation) (Some m.current) (older_at m.older generation) (eq-eqb generation m.generation is)
-
-pub table_older : (m : Memories) (generation : ℕ) → generation ≢ m.generation → table_in m generation ≡ older_at m.older generation
-table_older m generation apart =
-    cond_both (nat_eq generation m.generation) (Some m.current) (older_at m.older generation) (λ (o : Option Contents). o ≡ older_at m.older generation) (λ is. absurd (apart (eqb-true generation m.generation is))) (λ _. refl)
-
--- a generation above all has no table
-none_above : (m : Memories) (generation : ℕ) (o : Option Contents) → ((table : Contents) → o ≡ Some table → generation < m.generation) → m.generation ≤ generation → o ≡ None
-none_above m generation None h above = refl
-none_above m generation (Some table) h above = (let below = h table refl in absurd (omega (arith, below, above)))
-
-pub fresh_there : (m : Memories) → AreMemories m → table_in m (m.generation + 1) ≡ None
-fresh_there m are =
-    table_older m (m.generation + 1) (λ is. omega (arith, is))
-    ∙ none_above m (m.generation + 1) (older_at m.older (m.generation + 1)) (λ table at. are.below (m.generation + 1) table at) (omega arith)
-
-pub none_current : (m : Memories) → AreMemories m → older_at m.older m.generation ≡ None
-none_current m are = none_above m m.generation (older_at m.older m.generation) (λ table at. are.below m.generation table at) (omega arith)
-
--- ---- what moves leave
-
-inserts_in : Option Contents → Option (List Entry)
-inserts_in table = option_map (λ (t : Contents). t.inserts) table
-
-pub left_current : (m : Memories) (table : Contents) → table.inserts ≡ m.current.inserts → LeavesMemories m (record m { current = table })
-left_current m table is = record { inserts = is; last = refl; generation = refl; sealed = refl; older = λ generation. refl }
-
-pub left_older : (m : Memories) (generation : ℕ) (was table : Contents) (older : List (ℕ × Contents)) → older_at m.older generation ≡ Some was → table.inserts ≡ was.inserts
-    → Updates generation (Some table) m.older older → LeavesMemories m (record m { older = older })
-left_older m generation was table older there is updates = record {
-  inserts = refl;
-  last = refl;
-  generation = refl;
-  sealed = refl;
-  older = λ q.
-      ap (option_map (λ (t : Contents). t.inserts)) (updates q)
-      ∙ cond_both (is_eq (nat_cmp generation q)) (Some table) (older_at m.older q) (λ (o : Option Contents). option_map (λ (t : Contents). t.inserts) o ≡ older_inserts m q)
-      (λ same. ap Some is ∙ ap (option_map (λ (t : Contents). t.inserts)) (sym there ∙ ap (older_at m.older) (same_key generation q same))) (λ _. refl);
-}
-
 -- ---- the invariant
-
-same_inserts : (o p : Option Contents) (table : Contents) → option_map (λ (t : Contents). t.inserts) o ≡ option_map (λ (t : Contents). t.inserts) p → o ≡ Some table
-    → (was : Contents) × (p ≡ Some was) × (table.inserts ≡ was.inserts)
-same_inserts None p table same is = absurd cc
-same_inserts (Some now) None table same is = absurd cc
-same_inserts (Some now) (Some was) table same is = (was, refl, (let one : table ≡ now = cc in let two : now.inserts ≡ was.inserts = cc in ap (λ (t : Contents). t.inserts) one ∙ two))
-
-still_there : (o p : Option Contents) → option_map (λ (t : Contents). t.inserts) o ≡ option_map (λ (t : Contents). t.inserts) p → IsSome p → IsSome o
-still_there None None same is = is
-still_there None (Some was) same is = absurd cc
-still_there (Some now) p same is = refl
 
 sealed_still : (sealed : Option ℕ) (old new : List (ℕ × Contents)) → ((generation : ℕ) → sealed ≡ Some generation → IsSome (older_at old generation) → IsSome (older_at new generation))
     → IfSome sealed (λ (generation : ℕ). IsSome (older_at old generation)) → IfSome sealed (λ (generation : ℕ). IsSome (older_at new generation))
 sealed_still None old new keep is = tt
 sealed_still (Some generation) old new keep is = keep generation refl is
-
-pub invariant_left : (old new : Memories) → LeavesMemories old new → AreMemories old → AreMemories new
-invariant_left old new h are = record {
-  current = subst (λ (es : List Entry). AllUpTo new.last es) (sym h.inserts) (subst (λ (n : ℕ). AllUpTo n old.current.inserts) (sym h.last) are.current);
-  older = λ generation table is.
-      let was = same_inserts (older_at new.older generation) (older_at old.older generation) table (h.older generation) is in
-      subst (λ (es : List Entry). AllUpTo new.last es) (sym was.2) (subst (λ (n : ℕ). AllUpTo n was.0.inserts) (sym h.last) (are.older generation was.0 was.1));
-  below = λ generation table is.
-      let was = same_inserts (older_at new.older generation) (older_at old.older generation) table (h.older generation) is in
-      let low = are.below generation was.0 was.1 in
-      omega (arith, low, h.generation);
-  sealed = subst (λ (s : Option ℕ). IfSome s (λ (generation : ℕ). IsSome (older_at new.older generation))) (sym h.sealed)
-      (sealed_still old.sealed old.older new.older (λ generation at is. still_there (older_at new.older generation) (older_at old.older generation) (h.older generation) is) are.sealed);
-  fits = omega (arith, are.fits, h.last);
-}
 
 up_to_more : (last : ℕ) (entries : List Entry) → AllUpTo last entries → AllUpTo (last + 1) entries
 up_to_more last entries h e among = (let low = h e among in omega (arith, low))
@@ -124,31 +50,6 @@ invariant_added m table key value is fits are = record {
   sealed = are.sealed;
   fits = fits;
 }
-
-some_is : (o : Option Contents) (table : Contents) → o ≡ Some table → IsSome o
-some_is None table is = absurd cc
-some_is (Some t) table is = refl
-
-pub invariant_sealed : (m : Memories) (table : Contents) (older : List (ℕ × Contents)) → table.inserts ≡ [] → Updates m.generation (Some m.current) m.older older → AreMemories m
-    → AreMemories (record { current = table; last = m.last; generation = m.generation + 1; sealed = Some m.generation; older = older })
-invariant_sealed m table older none updates are = record {
-  current = subst (λ (es : List Entry). AllUpTo m.last es) (sym none) (λ e among. absurd among);
-  older = λ generation found is. by generation found is (cases_eq generation m.generation);
-  below = λ generation found is. under generation found is (cases_eq generation m.generation);
-  sealed = some_is (older_at older m.generation) m.current (updated_here m.generation (Some m.current) m.older older updates);
-  fits = are.fits;
-}
-  where
-    by : (generation : ℕ) (found : Contents) → older_at older generation ≡ Some found → (generation ≡ m.generation) ⊎ (generation ≢ m.generation) → AllUpTo m.last found.inserts
-    by generation found is (inl same) =
-        let here : Some m.current ≡ Some found = sym (updated_here m.generation (Some m.current) m.older older updates) ∙ ap (older_at older) (sym same) ∙ is in
-        let one : m.current ≡ found = cc in
-        subst (λ (t : Contents). AllUpTo m.last t.inserts) one are.current
-    by generation found is (inr apart) = are.older generation found (sym (updated_apart m.generation generation (Some m.current) m.older older updates apart) ∙ is)
-
-    under : (generation : ℕ) (found : Contents) → older_at older generation ≡ Some found → (generation ≡ m.generation) ⊎ (generation ≢ m.generation) → generation < m.generation + 1
-    under generation found is (inl same) = omega (arith, same)
-    under generation found is (inr apart) = (let low = are.below generation found (sym (updated_apart m.generation generation (Some m.current) m.older older updates apart) ∙ is) in omega (arith, low))
 
 pub invariant_dropped : (m : Memories) (older : List (ℕ × Contents)) → ((generation : ℕ) → m.sealed ≡ Some generation → older_at older generation ≡ older_at m.older generation)
     → ((generation : ℕ) (table : Contents) → older_at older generation ≡ Some table → older_at m.older generation ≡ Some table) → AreMemories m → AreMemories (record m { older = older })
@@ -172,31 +73,6 @@ invariant_alone table last generation older none bound fits = record {
   where
     nothing : (number : ℕ) (found : Contents) → older_at older number ≡ Some found → ⊥
     nothing number found is = (let bad : None ≡ Some found = ap (λ (es : List (ℕ × Contents)). older_at es number) (sym none) ∙ is in cc)
-
-pub invariant_flushed : (m : Memories) → AreMemories m → AreMemories (record m { sealed = None })
-invariant_flushed m are = record { current = are.current; older = are.older; below = are.below; sealed = tt; fits = are.fits }
-
--- ---- sealing
-
-pub is_sealed : (m : Memories) (older : List (ℕ × Contents)) → Updates m.generation (Some m.current) m.older older → AreMemories m
-    → IsSealed m (record { current = record { inserts = []; entry_room = 0; byte_room = 0 }; last = m.last; generation = m.generation + 1; sealed = Some m.generation; older = older })
-is_sealed m older updates are = record {
-  current = refl;
-  last = refl;
-  generation = refl;
-  sealed = refl;
-  kept = updated_here m.generation (Some m.current) m.older older updates;
-  others = λ generation apart. updated_apart m.generation generation (Some m.current) m.older older updates apart;
-  fresh = fresh_there m are;
-}
-
-pub inserts_sealed : (old new : Memories) → IsSealed old new → sealed_inserts new ≡ old.current.inserts
-inserts_sealed old new h =
-    ap (λ (s : Option ℕ). inserts_of (found s)) h.sealed ∙ ap inserts_of h.kept
-  where
-    found : Option ℕ → Option Contents
-    found None = None
-    found (Some generation) = older_at new.older generation
 
 -- ---- dropping
 
@@ -258,14 +134,6 @@ pub not_sealed : (sealed : Option ℕ) (generation : ℕ) → true ≡ not (opti
 not_sealed sealed generation other is =
     let bad : true ≡ false = other ∙ ap (λ (s : Option ℕ). not (option_eq eqb s (Some generation))) is ∙ ap not (eq-eqb generation generation refl) in
     cc
-
--- where none was taken out, since it is sealed
-pub kept_sealed : (sealed : Option ℕ) (generation : ℕ) (old : List (ℕ × Contents)) → sealed ≡ Some generation → (q : ℕ) → Keeps (λ (q : ℕ). (sealed ≡ Some q) ⊎ (q ≢ generation)) (older_at old q) (older_at old q) q
-kept_sealed sealed generation old is q = (
-  λ _. refl,
-  λ out. elim (cases_eq q generation) [ inl same ↦ absurd (out (inl (is ∙ ap Some (sym same)))) | inr apart ↦ absurd (out (inr apart)) ],
-  λ table e. e,
-)
 
 pub keeps_used : (used : ℕ → Type 0) (m : Memories) (older : List (ℕ × Contents)) → ((q : ℕ) → Keeps used (older_at m.older q) (older_at older q) q) → KeepsUsed used m (record m { older = older })
 keeps_used used m older h = record { others = refl; kept = λ q is. (h q).0 is; gone = λ q out. (h q).1 out }

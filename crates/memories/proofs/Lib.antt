@@ -1,4 +1,3 @@
 mod Batches
 mod Generations
-mod Moving
 mod Searching

@@ -1,8 +1,8 @@
 -- A search in the current table and then in the sealed one.
-use Rattle.std.proofs.Common.{◌≡◌, ◌⊎◌, ◌<◌, ◌≤◌, ◌++◌, ◌∷◌, [], ℕ, List, Option, Some, None, Result, Ok, Err, IfOk, inl, inr, refl, sym, ap, subst, ◌∙◌, arith}
+use Rattle.std.proofs.Common.{◌⊎◌, ◌++◌, ◌∷◌, [], ℕ, List, Option, Some, None, Result, Ok, Err, IfOk, inl, inr, arith}
 use Rattle.ikey.specs.declared.entry.Entry.{Entry}
 use Rattle.ikey.specs.Sources.{BehindLaw, FrontLaw, IsAnswer, IsNewerThan}
-use Rattle.ikey.specs.Views.{Among, IsNewest, IsUnseen, IsValueAt}
+use Rattle.ikey.specs.Views.{Among, IsUnseen, IsValueAt}
 
 among_split : (xs ys : List Entry) (e : Entry) → Among (xs ++ ys) e → Among xs e ⊎ Among ys e
 among_split [] ys e i = inr i

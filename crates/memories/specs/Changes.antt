@@ -1,5 +1,5 @@
 -- What calls change of the memory tables.
-use Rattle.std.specs.Prelude.{◌≡◌, ◌≢◌, ◌⊎◌, ◌+◌, ◌++◌, ℕ, List, [], Option, Some, None}
+use Rattle.std.specs.Prelude.{◌≡◌, ◌≢◌, ◌⊎◌, ◌+◌, ◌++◌, ℕ, List, [], Some, None}
 use Rattle.ikey.specs.declared.entry.Entry.{Entry}
 use Rattle.memories.specs.Memories.{Memories, older_at, table_in}
 

@@ -1,10 +1,9 @@
 -- Laws of cursors over the memory tables.
-use Rattle.std.specs.Prelude.{◌≡◌, ◌<◌, ℕ, Option, Some, None, IsSomeAnd, is_some, length, List}
+use Rattle.std.specs.Prelude.{◌≡◌, ◌<◌, ℕ, Option, Some, None, IsSomeAnd, is_some, length}
 use Rattle.std.specs.Option.{option_map}
-use Rattle.std.proofs.Common.{refl, sym, ◌∙◌}
+use Rattle.std.proofs.Common.{refl, ◌∙◌}
 use Rattle.cursor.specs.Places.{Cmp, Listed, Rises}
 use Rattle.memtable.specs.Contents.{Contents}
-use Rattle.memtable.specs.Order.{Placed}
 use Rattle.memories.specs.Memories.{Memories, table_in}
 use Rattle.memories.specs.Places.{MemoriesPlace, ListsMemories, KeepsMemories, LeavesMemories, seen_by}
 use Rattle.sources.specs.Memory.{MemoryPlace, ListsMemory}

@@ -1,9 +1,9 @@
-use Rattle.std.proofs.Common.{◌≡◌, ℕ, Option, Some, IsSomeAnd, sym, ap, subst, ◌∙◌}
+use Rattle.std.proofs.Common.{◌≡◌, Option, Some, IsSomeAnd, sym, ap, subst, ◌∙◌}
 use Rattle.std.specs.Option.{option_copied}
 use Rattle.memtable.specs.Contents.{Contents}
 use Rattle.memories.specs.Memories.{table_in}
-use Rattle.memories.specs.Places.{ListsMemories, ListsTable, MemoriesPlace}
-use Rattle.sources.specs.Memory.{ListsMemory, MemoryPlace}
+use Rattle.memories.specs.Places.{ListsMemories, MemoriesPlace}
+use Rattle.sources.specs.Memory.{ListsMemory}
 use Rattle.memories.proofs.memories_cursor.MemoriesCursorCursorMemoryTables.key.Goals as goal
 
 pub returns-in-Some : goal.returns-in-Some

@@ -1,7 +1,7 @@
-use Rattle.std.proofs.Common.{ap, sym, subst, ◌≡◌, ◌∙◌, ◌++◌, Option, Some, None, List, ℕ}
+use Rattle.std.proofs.Common.{ap, sym, subst, ◌≡◌, ◌∙◌, Option, Some, List, ℕ}
 use Rattle.std.specs.Option.{option_copied}
 use Rattle.ikey.specs.declared.entry.Entry.{Entry}
-use Rattle.ikey.specs.Sources.{IsAnswer, IsNewerThan}
+use Rattle.ikey.specs.Sources.{IsAnswer}
 use Rattle.ikey.specs.Views.{IsUnseen}
 use Rattle.memories.specs.Memories.{Memories, sealed_inserts, inserts_of}
 use Rattle.memories.proofs.Searching.{found_in_front, found_behind, if_ok_more}
