@@ -1,6 +1,6 @@
 //! The memory tables of an open database (LevelDB's db/memtable.h, and db/db_impl.h, DBImpl::mem_ and DBImpl::imm_).
 
-ghost use Rattle.std.specs.Prelude.{◌≡◌, ◌++◌, ◌∷◌, [], true, ℕ, ◌⊎◌, Some, IfOk, IfSome, MatchBool, sum_by};
+ghost use Rattle.std.specs.Prelude.{◌≡◌, ◌++◌, ◌∷◌, [], ◌⊎◌, Some, IfOk, IfSome, MatchBool, sum_by};
 ghost use Rattle.coding.specs.declared.error.DbError.TheVariants.{Corrupt};
 ghost use Rattle.coding.specs.declared.error.FileKind.TheVariants.{Log};
 ghost use Rattle.coding.specs.declared.error.Damage.TheVariants.{Missing};
@@ -45,15 +45,14 @@ impl<K: KeyOrder> Model for MemoryTables<K> {
 }
 
 impl<K: KeyOrder> MemoryTables<K> {
-    ghost use Rattle.std.specs.Prelude.{◌≡◌, ◌==◌, ◌+◌, ◌-◌, ◌++◌, ◌∷◌, [], ◌<◌, ◌≤◌, ◌^◌, ℕ, length, is_some, slice_get, IsTrue, None, Some, IfOk, IfErr, OnOk, OnErr};
+    ghost use Rattle.std.specs.Prelude.{◌≡◌, ◌==◌, ◌+◌, ◌-◌, ◌++◌, ◌∷◌, [], ◌<◌, ◌≤◌, ◌^◌, length, is_some, IsTrue, None, Some, IfOk, IfErr, OnOk, OnErr};
     ghost use Rattle.std.specs.Option.{option_copied};
-    ghost use Rattle.batch.specs.declared.operation.Operation.{Operation};
     ghost use Rattle.cursor.specs.Moves.{ListsNone, Moves, Refuses};
     ghost use Rattle.cursor.specs.Places.{to_first, to_key, to_last, to_next, to_prev};
     ghost use Rattle.ikey.specs.Keys.{Key, IsKey};
     ghost use Rattle.ikey.specs.Sources.{IsAnswer, IsNewerThan};
     ghost use Rattle.memories.specs.Changes.{IsFlushed, IsRemembered, IsSealed, IsUsed, IsWritten, KeepsUsed};
-    ghost use Rattle.memories.specs.Memories.{HasRoom, IsAlone, operation_bytes, sealed_in, sealed_inserts, table_in};
+    ghost use Rattle.memories.specs.Memories.{AreMemories, HasRoom, IsAlone, operation_bytes, sealed_in, sealed_inserts, table_in};
     ghost use Rattle.memories.specs.Places.{LeavesMemories, ListsTable, StaysInMemories};
     ghost use Rattle.memtable.specs.Contents.{size_of};
     ghost use Rattle.recover.specs.Entries.{RiseAbove, greatest, entry_of, entries_of};
@@ -100,6 +99,13 @@ impl<K: KeyOrder> MemoryTables<K> {
         ensures fits { self.now.last < 2 ^ 56 }
     {
         self.last
+    }
+
+    /// No entry is above the last sequence, and the older tables, among which the sealed one is, have lower generations.
+    pub fn are_bounded(&self)
+        ensures { AreMemories self.now }
+    {
+        let _ = &self.current;
     }
 
     /// The generation of the current table.

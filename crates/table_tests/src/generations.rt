@@ -245,6 +245,7 @@ fn counts(alloc: Global) -> Result<bool, AllocError> {
     let mut memories = MemoryTables::<Bytewise>::of(alloc, &[entry(alloc)?], 4)?;
     let whole = memories.size() == 16 && !memories.is_empty() && memories.last() == 4;
     let alone = memories.generation() == 0 && memories.sealed().is_none();
+    memories.are_bounded();
     seal(&mut memories, alloc)?;
     let emptied = memories.is_empty() && memories.size() == 0 && memories.last() == 4;
     let sealed = match memories.sealed() {
