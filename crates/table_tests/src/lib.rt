@@ -8,6 +8,8 @@ mod caches;
 #[cfg(test)]
 mod cursors;
 #[cfg(test)]
+mod directories;
+#[cfg(test)]
 mod entries;
 #[cfg(test)]
 mod files;

@@ -1,0 +1,5 @@
+pub mod StoreCalls
+pub mod EditSteps
+pub mod NewLogFiles
+pub mod Cleaning
+pub mod Meaning

@@ -1,0 +1,4 @@
+pub mod Calls
+pub mod Manifest
+pub mod LogFile
+pub mod Removal
