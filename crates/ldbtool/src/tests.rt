@@ -127,8 +127,16 @@ fn empty_folder(rt: &HostRuntime, name: &str) -> Result<String, Fail> {
     Ok(String::from_str(rt.alloc(), path.as_str())?)
 }
 
-fn is_answered(rt: &HostRuntime, words: &[&str], script: &str, status: u8, wanted: &str) -> bool {
-    match ran(rt, words, script) {
+// Whether a verb over a folder writes this, and nothing on the side, and ends so.
+fn is_answered(
+    rt: &HostRuntime,
+    verb: &str,
+    folder: &str,
+    script: &str,
+    status: u8,
+    wanted: &str,
+) -> bool {
+    match ran(rt, &["ldbtool", verb, folder], script) {
         Ok(ran) => {
             ran.status == status
                 && ran.faults.is_empty()
@@ -169,8 +177,10 @@ const STEPS: [(&str, &str, u8, &str); 7] = [
 fn a_folder_is_written_checked_and_dumped(rt: HostRuntime) -> Result<(), Fail> {
     let folder = empty_folder(&rt, "steps")?;
     for (verb, script, status, wanted) in STEPS {
-        let words = ["ldbtool", verb, folder.as_str()];
-        assert!(rt; is_answered(&rt, &words, script, status, wanted), "{verb}");
+        assert!(rt;
+            is_answered(&rt, verb, folder.as_str(), script, status, wanted),
+            "{verb}"
+        );
     }
     fs::remove_dir_all(&rt, folder.as_str())?;
     Ok(())
@@ -182,9 +192,8 @@ fn a_refused_directory_has_status_one(rt: HostRuntime) -> Result<(), Fail> {
     let name = format!(in rt.alloc(); "{}/CURRENT", folder.as_str())?;
     fs::write(&rt, name.as_str(), b"MANIFEST-000007\n")?;
     for verb in ["check", "dump"] {
-        let words = ["ldbtool", verb, folder.as_str()];
         assert!(rt;
-            is_answered(&rt, &words, "", 1, "refused 5 Corrupt\n"),
+            is_answered(&rt, verb, folder.as_str(), "", 1, "refused 5 Corrupt\n"),
             "{verb}"
         );
     }
