@@ -1,6 +1,6 @@
 //! The memory tables of an open database: the current one, the sealed one and those that are kept for readers.
 
-ghost use Rattle.std.specs.Prelude.{◌≡◌};
+ghost use Rattle.std.specs.Prelude.{◌≡◌, IfOk};
 
 use batch::Operation;
 use coding::{Bytes, Damage, DbError, FileKind};
@@ -232,7 +232,9 @@ fn tables_stay_while_they_are_sealed_or_read(rt: HostRuntime) {
     assert_eq!(rt; drops_what_is_unused(rt.alloc()), Ok(true));
 }
 
-fn entry(alloc: Global) -> Result<Entry, AllocError> {
+fn entry(alloc: Global) -> Result<Entry, AllocError>
+    ensures { IfOk result (λ entry. entry.sequence ≡ 3) }
+{
     Ok(Entry {
         key: Bytes::copied_from(alloc, b"key")?,
         sequence: 3,
