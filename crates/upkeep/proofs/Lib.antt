@@ -1,5 +1,10 @@
-pub mod StoreCalls
-pub mod EditSteps
-pub mod NewLogFiles
 pub mod Cleaning
+pub mod EditSteps
+pub mod Filled
+pub mod FlushEdits
+pub mod Made
 pub mod Meaning
+pub mod NewLogFiles
+pub mod Ranks
+pub mod Sizes
+pub mod StoreCalls

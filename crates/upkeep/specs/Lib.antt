@@ -1,4 +1,6 @@
 pub mod Calls
-pub mod Manifest
+pub mod FlushEdits
+pub mod Level0
 pub mod LogFile
+pub mod Manifest
 pub mod Removal

@@ -1,12 +1,16 @@
-//! What an open database does to its directory while it serves: it puts edits behind the MANIFEST, begins logs, and removes
-//! files that aren't live (LevelDB's doc/impl.md).
+//! What an open database does to its directory while it serves: it puts edits behind the MANIFEST, begins logs, writes its memory
+//! into tables, and removes files that aren't live (LevelDB's doc/impl.md).
 #![tactic(auto)]
 
 mod calls;
+mod flush_edits;
+mod level0;
 mod log_file;
 mod manifest;
 mod removal;
 
+pub use flush_edits::flush_edit;
+pub use level0::write_level0;
 pub use log_file::begin_log;
 pub use manifest::{CurrentManifest, append_edit};
 pub use removal::{LiveTables, remove_files};
