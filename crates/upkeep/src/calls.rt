@@ -8,7 +8,7 @@ ghost use Rattle.upkeep.specs.Calls.{Touches, IsRefusalOf, Creates, AppendsSynce
 use coding::DbError;
 use store::{Store, StoreError};
 
-// Why a call was refused that doesn't look for a file.
+/// Why a call was refused that doesn't look for a file.
 pub fn refusal_of(error: StoreError) -> DbError
     ensures { IsRefusalOf error result }
 {
