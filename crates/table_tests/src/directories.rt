@@ -1,5 +1,6 @@
 // What an open database does to its directory. The bytes of records are made outside.
-ghost use Rattle.std.specs.Prelude.{ℕ, Contains};
+ghost use Rattle.std.specs.Prelude.{ℕ, All, Contains, IfOk};
+ghost use Rattle.edits.specs.Edit.{IsProper, IsInOrder};
 
 use crate::stores::{Step, perform};
 use coding::DbError;
@@ -29,13 +30,19 @@ fn manifest_at(alloc: Global, end: u64) -> Result<CurrentManifest, DbError> {
     })
 }
 
-fn first_edit(alloc: Global) -> Result<Edit, DbError> {
+fn first_edit(alloc: Global) -> Result<Edit, DbError>
+    ensures proper { IfOk result (λ edit. All IsProper edit) }
+    ensures order { IfOk result (λ edit. IsInOrder edit) }
+{
     let mut edit = Edit::new(alloc);
     edit.push(Field::LogNumber(5))?;
     Ok(edit)
 }
 
-fn second_edit(alloc: Global) -> Result<Edit, DbError> {
+fn second_edit(alloc: Global) -> Result<Edit, DbError>
+    ensures proper { IfOk result (λ edit. All IsProper edit) }
+    ensures order { IfOk result (λ edit. IsInOrder edit) }
+{
     let mut edit = Edit::new(alloc);
     edit.push(Field::LogNumber(7))?;
     edit.push(Field::PreviousLogNumber(0))?;
