@@ -1,11 +1,12 @@
 -- An open up to where its database is made, step by step.
-use Rattle.std.proofs.Common.{◌≡◌, ℕ, ◌+◌, List, [], map, Result, Ok, Err, IsTrue, string_bytes, inl, inr, refl, sym, ap, subst, ◌∙◌, arith}
+use Rattle.std.proofs.Common.{◌≡◌, ℕ, ◌+◌, List, map, Result, Ok, IsTrue, inl, inr, sym, ap, subst, ◌∙◌, arith}
 use Rattle.coding.specs.declared.error.DbError.{DbError}
 use Rattle.store.specs.Files.{Facts, Files}
 use Rattle.ikey.specs.Orders.{Order}
 use Rattle.ikey.specs.declared.entry.Entry.{Entry}
 use Rattle.edits.specs.Layout.{fields_of}
 use Rattle.edits.specs.declared.field.PlacedTable.{PlacedTable}
+use Rattle.memories.specs.Memories.{logged_in}
 use Rattle.recover.specs.Changes.{RecoveredLaw}
 use Rattle.recover.specs.Numbers.{IsFree}
 use Rattle.recover.specs.Tables.{TableContent}
@@ -13,7 +14,7 @@ use Rattle.versions.specs.Levels.{Lists}
 use Rattle.engine.specs.declared.command.Mode.{Mode}
 use Rattle.engine.specs.declared.finding.Found.{Found}
 use Rattle.engine.specs.declared.opening.Begun.{Begun}
-use Rattle.engine.specs.Begun.{HasBegun, Begins}
+use Rattle.engine.specs.Begun.{Begins}
 use Rattle.engine.specs.Directory.{IsDirectoryOf, CanAppend}
 use Rattle.engine.specs.Opening.{Finds, AllowsFiles, IsContinued, IsReady, Rewrites}
 use Rattle.engine.proofs.FoundSteps.{parts_found}
@@ -70,7 +71,7 @@ found_says order files found law h tables entries used (inr there) = elim h.what
 ]
 
 pub begins : {K : Type 0} (order : Order) (mode : Mode) (old mid new : Facts) (found : Found) (begun : Begun K) → RecoveredLaw → (IsTrue mid.faithful → mid.files ≡ old.files) → (IsTrue mid.faithful → Finds order old.files found)
-    → (IsTrue mid.faithful → AllowsFiles mode old.files) → Rewrites {T = Unit {0}} order mid new found (Ok tt) → begun.memory.contents.inserts ≡ found.entries.items → begun.memory.last ≡ found.used
+    → (IsTrue mid.faithful → AllowsFiles mode old.files) → Rewrites {T = Unit {0}} order mid new found (Ok tt) → (logged_in begun.memory) ≡ found.entries.items → begun.memory.last ≡ found.used
     → Lists found.layout.tables.items begun.version.value.tables → begun.log.number ≡ found.number + 1 → begun.log.end ≡ 0 → IsTrue new.faithful → Begins order mode old.files new.files begun
 begins order mode old mid new found begun law same finds allowed w inserts last lists number end f =
     let g = w.call.faithful f in

@@ -1,5 +1,5 @@
 -- What a get that reads the tables of a database answers.
-use Rattle.std.proofs.Common.{◌≡◌, ℕ, ◌≤◌, ◌<◌, Bool, true, false, cond, IsTrue, Option, Some, None, is_some, List, [], ◌∷◌, Result, Ok, Err, MatchOption, length, unwrap_or, refl, sym, ap, subst, ◌∙◌, arith, inl, inr}
+use Rattle.std.proofs.Common.{◌≡◌, ℕ, ◌≤◌, ◌<◌, Bool, false, cond, Option, Some, None, is_some, List, [], ◌∷◌, Result, Ok, Err, length, unwrap_or, refl, sym, ap, subst, ◌∙◌, arith, inl, inr}
 use Rattle.std.specs.Bool.{nat_eq}
 use Rattle.std.specs.Cmp.{IsTotalOrder}
 use Rattle.std.specs.FinMap.{IsAntisymmetric}
@@ -11,13 +11,15 @@ use Rattle.cursor.specs.Moves.{Refuses}
 use Rattle.edits.specs.declared.field.PlacedTable.{PlacedTable}
 use Rattle.ikey.specs.Orders.{Order}
 use Rattle.ikey.specs.Sources.{IsAnswer, FrontLaw, BehindLaw, SameViewLaw}
-use Rattle.ikey.specs.Views.{IsUnseen, IsValueAt, IsView}
+use Rattle.ikey.specs.Views.{IsUnseen}
+use Rattle.memories.specs.Memories.{logged_in}
+use Rattle.memories.specs.PlaceLaws.{left_there}
 use Rattle.reads.specs.Gets.{HasNoTablesOf, IsOneTooLong, SaysOfAll}
 use Rattle.scans.specs.Scanning.{ScanIsKept}
 use Rattle.scans.specs.declared.scan.Scan.{Scan}
 use Rattle.search.specs.Laws.{VersionLaw}
 use Rattle.sources.specs.Tables.{Seen, Carries}
-use Rattle.table.specs.Reading.{IsStill, IsErrorStill}
+use Rattle.table.specs.Reading.{IsErrorStill}
 use Rattle.store.specs.Files.{Facts}
 use Rattle.table.specs.Reading.{Reads}
 use Rattle.engine.specs.declared.command.Answer.TheVariants.{Value, Refused}
@@ -30,7 +32,7 @@ use Rattle.engine.specs.Live.{kept_at, IsBoth, IsSnapshot}
 use Rattle.engine.specs.Machine.{Machine}
 use Rattle.engine.specs.Outcomes.{DbOutcome, IsSame, MayRefuseGet}
 use Rattle.engine.specs.Reads.{sequence_at, ReadsMemory}
-use Rattle.engine.specs.Stands.{IsServing, StandsOpen}
+use Rattle.engine.specs.Stands.{IsServing}
 use Rattle.engine.specs.Touching.{LeavesStore}
 use Rattle.engine.proofs.Reading.{read_by, stands_read}
 use Rattle.engine.proofs.Steps.{denies_none, serving_of, got_value, got_refused, tables_value, tables_refused}
@@ -49,21 +51,21 @@ missing_at None e is = (refl, (let same : e ≡ error.NoSnapshot = cc in same))
 missing_at (Some other) e is = absurd (cc)
 
 -- no snapshot sees more than what is used
-pub within_last : {K : Type 0} {g : _} → (order : Order) (source : Seen) (db : Held (Scan K g)) (m : Machine) (snapshot : Option ℕ) (sequence : ℕ) → IsServing order source db m → sequence_at db snapshot ≡ Some sequence → sequence ≤ db.table.last
-within_last order source db m None sequence serving at = (let same : db.table.last ≡ sequence = cc in omega (arith, same))
+pub within_last : {K : Type 0} {g : _} → (order : Order) (source : Seen) (db : Held (Scan K g)) (m : Machine) (snapshot : Option ℕ) (sequence : ℕ) → IsServing order source db m → sequence_at db snapshot ≡ Some sequence → sequence ≤ db.memory.last
+within_last order source db m None sequence serving at = (let same : db.memory.last ≡ sequence = cc in omega (arith, same))
 within_last order source db m (Some id) sequence serving at = by (kept_at db.snapshots id) (lookup (nat_eq id) m.snapshots) at (serving.snapshots id)
   where
-    by : (o live : Option ℕ) → o ≡ Some sequence → IsBoth (IsSnapshot (entries_of serving.contents db) db.table.last m) o live → sequence ≤ db.table.last
+    by : (o live : Option ℕ) → o ≡ Some sequence → IsBoth (IsSnapshot (entries_of serving.contents db) db.memory.last m) o live → sequence ≤ db.memory.last
     by None live is h = absurd (cc)
-    by (Some kept) (Some count) is h = (let same : kept ≡ sequence = cc in let below : kept ≤ db.table.last = h.1 in omega (arith, same, below))
+    by (Some kept) (Some count) is h = (let same : kept ≡ sequence = cc in let below : kept ≤ db.memory.last = h.1 in omega (arith, same, below))
     by (Some kept) None is h = absurd h
 
 -- ---- the machine
 
 module _ {K : Type 0} {g : _} (order : Order) (kept : (scan : Scan K g) → ScanIsKept order.cmp scan) (version : VersionLaw) (total : IsTotalOrder order.cmp) (exact : IsAntisymmetric order.cmp)
     (old new : Seen) (ids : Ids) (db : Held (Scan K g)) (key : List ℕ) (snapshot : Option ℕ) (sequence below : ℕ) (whole : db.broken ≡ false) (at : sequence_at db snapshot ≡ Some sequence)
-    (clamped : sequence ≤ db.table.last → below ≡ sequence) (carries : Carries order.cmp old new) where
-  pub tables_read : FrontLaw → BehindLaw → SameViewLaw → IsUnseen db.table.contents.inserts sequence key → (answer : Option (Option (List ℕ))) → SaysOfAll order old new db.tables key below answer
+    (clamped : sequence ≤ db.memory.last → below ≡ sequence) (carries : Carries order.cmp old new) where
+  pub tables_read : FrontLaw → BehindLaw → SameViewLaw → IsUnseen (logged_in db.memory) sequence key → (answer : Option (Option (List ℕ))) → SaysOfAll order old new db.tables key below answer
       → LeadsOpen order old new ids db db (λ m n. Gets m key snapshot (Value (unwrap_or answer None)) n)
   tables_read front behind same unseen answer says = record {
     faithful = carries.reads.faithful;
@@ -74,7 +76,7 @@ module _ {K : Type 0} {g : _} (order : Order) (kept : (scan : Scan K g) → Scan
           read_by new.facts m,
           got_value order old ids db m key snapshot s whole sequence at (read_by new.facts m) (unwrap_or answer None)
               (denies_none m (read_by new.facts m) _ (let rise : old.facts.failures ≤ new.facts.failures = carries.reads.failures in omega (arith, s.counts.failures, rise)) (carries.reads.denials ∙ sym s.counts.denials)) refl value,
-          stands_read order kept old new ids db db.table m carries f refl refl s,
+          stands_read order kept old new ids db db.memory m carries f (left_there db.memory) s,
         );
   }
 
@@ -86,7 +88,7 @@ module _ {K : Type 0} {g : _} (order : Order) (kept : (scan : Scan K g) → Scan
       got_refused order old ids db m key snapshot s whole sequence at (read_by new.facts m) e
           (denies_none m (read_by new.facts m) _ (let rise : old.facts.failures ≤ new.facts.failures = carries.reads.failures in omega (arith, s.counts.failures, rise)) (carries.reads.denials ∙ sym s.counts.denials))
           (tables_refused order old ids db m key snapshot s whole sequence at version total exact new.facts e f refused),
-      stands_read order kept old new ids db db.table m carries f refl refl s,
+      stands_read order kept old new ids db db.memory m carries f (left_there db.memory) s,
     );
   }
 
@@ -150,15 +152,15 @@ outcome_err old new db e P Q reads h still = record {
 }
 
 -- what memory answers
-pub reads_seen : {I : Type 0} → (db : Held I) (sequence : ℕ) (key : List ℕ) (value : Option (List ℕ)) → IsAnswer db.table.contents.inserts sequence key (Some value) → ReadsMemory db sequence key value
+pub reads_seen : {I : Type 0} → (db : Held I) (sequence : ℕ) (key : List ℕ) (value : Option (List ℕ)) → IsAnswer (logged_in db.memory) sequence key (Some value) → ReadsMemory db sequence key value
 reads_seen db sequence key value a = record { first = λ seen. inl a; alone = λ none. inl a }
 
 -- where the key isn't seen there, and there are no tables
-pub reads_nothing : {I : Type 0} → (db : Held I) (sequence : ℕ) (key : List ℕ) → IsUnseen db.table.contents.inserts sequence key → ReadsMemory db sequence key None
+pub reads_nothing : {I : Type 0} → (db : Held I) (sequence : ℕ) (key : List ℕ) → IsUnseen (logged_in db.memory) sequence key → ReadsMemory db sequence key None
 reads_nothing db sequence key unseen = record { first = λ seen. absurd (seen unseen); alone = λ none. inr (unseen, refl) }
 
 -- or there are
-pub reads_behind : {I : Type 0} → (db : Held I) (sequence : ℕ) (key : List ℕ) (value : Option (List ℕ)) → IsUnseen db.table.contents.inserts sequence key → (db.tables ≡ [] → ⊥) → ReadsMemory db sequence key value
+pub reads_behind : {I : Type 0} → (db : Held I) (sequence : ℕ) (key : List ℕ) (value : Option (List ℕ)) → IsUnseen (logged_in db.memory) sequence key → (db.tables ≡ [] → ⊥) → ReadsMemory db sequence key value
 reads_behind db sequence key value unseen some = record { first = λ seen. absurd (seen unseen); alone = λ none. absurd (some none) }
 
 pub none_of : (tables : List PlacedTable) → length tables ≡ 0 → tables ≡ []

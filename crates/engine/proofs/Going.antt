@@ -1,5 +1,5 @@
 -- Steps of the machine behind the moves of an iterator.
-use Rattle.std.proofs.Common.{◌≡◌, inl, inr, ℕ, zero, suc, ◌<◌, ◌≤◌, Bool, true, false, cond, IsTrue, List, [], ◌∷◌, map, Option, Some, None, is_some, MatchOption, MatchResult, Contains, Ok, Err, IfErr, Result, refl, sym, ap, subst, ◌∙◌, arith}
+use Rattle.std.proofs.Common.{◌≡◌, inl, inr, ℕ, ◌<◌, ◌≤◌, Bool, true, false, cond, IsTrue, List, [], Option, Some, None, is_some, MatchOption, MatchResult, Ok, Err, IfErr, Result, refl, sym, ap, subst, ◌∙◌, arith}
 use Rattle.std.specs.Bool.{nat_eq}
 use Rattle.std.specs.BTreeMap.{BTreeMap}
 use Rattle.std.specs.Cmp.{IsTotalOrder}
@@ -11,14 +11,12 @@ use Rattle.std.specs.declared.cmp.Ordering.{Ordering}
 use Rattle.coding.specs.declared.error.DbError.{DbError}
 use Rattle.coding.specs.declared.error.DbError.TheVariants as error
 use Rattle.cursor.specs.Moves.{Refuses}
-use Rattle.edits.specs.declared.field.PlacedTable.{PlacedTable}
 use Rattle.ikey.specs.Orders.{Order}
-use Rattle.reads.specs.Gets.{IsTooLong}
-use Rattle.recover.specs.Tables.{TableContent, InTables}
+use Rattle.memories.specs.PlaceLaws.{left_logged}
 use Rattle.scans.specs.Scanning.{ScanIsKept}
-use Rattle.scans.specs.Scans.{IsScanLimited, IsOnePastLimit, ListsMerged}
+use Rattle.scans.specs.Scans.{IsScanLimited, ListsMerged}
 use Rattle.scans.specs.Whole.{Whole}
-use Rattle.scans.specs.Written.{Written}
+use Rattle.memories.specs.Memories.{Memories}
 use Rattle.scans.specs.declared.scan.Scan.{Scan}
 use Rattle.search.specs.Laws.{VersionLaw}
 use Rattle.sources.specs.Tables.{Seen}
@@ -40,7 +38,7 @@ use Rattle.engine.specs.Stands.{IsServing, StandsOpen}
 use Rattle.engine.specs.Views.{no_iterator}
 use Rattle.engine.specs.Walks.{Motion, place_after, pair_at, no_place, lacks_place, needs_place, walk_under, move_cause, moved, Moves}
 use Rattle.engine.proofs.LiveIds.{same_id, live_again, live_changed, live_replaced, both_then}
-use Rattle.engine.proofs.Reading.{read_by, tables_found, passes_limit, stands_read}
+use Rattle.engine.proofs.Reading.{read_by, stands_read}
 use Rattle.engine.proofs.Steps.{denies_none, by_cause, without_cause, serving_of}
 use Rattle.engine.proofs.ViewSteps.{Updates, cause_whole, iterator_known, stands_anew, stands_beside}
 use Rattle.engine.proofs.Walking.{stands_is}
@@ -52,7 +50,7 @@ pub not_walked : {K : Type 0} {g : _} → (order : Order) (source : Seen) (ids :
 not_walked order source ids db open_ones id motion is gone same = record {
   faithful = λ f. f;
   moved = λ f m s.
-      let walks : AreLive (IsWalk order.cmp (whole_of source db) db.tables) open_ones m.iterators = λ q. subst (λ (o : Option (Scan _ _)). IsBoth (IsWalk order.cmp (whole_of source db) db.tables) o (lookup (nat_eq q) m.iterators)) (sym (same q)) ((serving_of order source ids db m is s).iterators q) in (
+      let walks : AreLive (IsWalk order.cmp m.over_limit (whole_of source db)) open_ones m.iterators = λ q. subst (λ (o : Option (Scan _ _)). IsBoth (IsWalk order.cmp m.over_limit (whole_of source db)) o (lookup (nat_eq q) m.iterators)) (sym (same q)) ((serving_of order source ids db m is s).iterators q) in (
         m,
         by_cause (move_cause m id motion) m error.NoIterator ⊥
             (cause_whole order source ids db m (option_or (no_iterator m id) (no_place (walk_under m id) motion)) is s
@@ -69,36 +67,25 @@ walk_at Is (Some x) None iterator is h = absurd h
 walk_at {X} Is (Some x) (Some walk) iterator is h = (let same : x ≡ iterator = cc in subst (λ (i : X). Is i walk) same h)
 
 -- the same place is lacked
-lacks_same : {K : Type 0} {g : _} (order : Order) (whole : Whole) (tables : List PlacedTable) (scan : Scan K g) (walk : Walk) (motion : Motion) → IsWalk order.cmp whole tables scan walk → no_place walk motion ≡ lacks_place scan.walk.stands motion
-lacks_same order whole tables scan walk motion h =
+lacks_same : {K : Type 0} {g : _} (order : Order) (limited : Bool) (whole : Whole) (scan : Scan K g) (walk : Walk) (motion : Motion) → IsWalk order.cmp limited whole scan walk → no_place walk motion ≡ lacks_place scan.walk.stands motion
+lacks_same order limited whole scan walk motion h =
     sym (ap (λ (b : Bool). lacks_place b motion) (stands_is order.cmp (ListsMerged order.cmp) scan.walk.cursor scan.walk.sequence scan.walk.stands scan.walk.position scan.walk.here.key.items scan.walk.here.value.items whole h.scan.walk.0 (walked_of walk) h.scan.walk.2))
 
 -- ---- limits of reading
 
--- the contents of a table that is listed
-content_of : (contents : List TableContent) (p : PlacedTable) → Contains (map (λ (content : TableContent). content.placed) contents) p → (c : TableContent) × InTables contents c × (c.placed ≡ p)
-content_of [] p (k, less, is) = absurd (omega (arith, less))
-content_of (c ∷ contents) p (zero, less, is) = (c, inl refl, is)
-content_of (c ∷ contents) p (suc k, less, is) = let rest = content_of contents p (k, omega (arith, less), is) in (rest.0, inr rest.1, rest.2)
-
 module _ {K : Type 0} {g : _} (order : Order) (source : Seen) (db : Held (Scan K g)) (m : Machine) (version : VersionLaw) (total : IsTotalOrder order.cmp) (exact : IsAntisymmetric order.cmp) (serving : IsServing order source db m) where
-  -- A scan passes one only where the directory of the machine does.
-  over_limit : IsOnePastLimit order.cmp db.tables (whole_of source db) → (b : Bool) → m.over_limit ≡ b → m.over_limit ≡ true
-  over_limit past true is = is
-  over_limit past false is =
-      let found = tables_found order source serving.contents db version total exact serving.log serving.tables in
-      let placed : PlacedTable = past.0 in
-      let content = content_of found.0 placed (subst (λ (ps : List PlacedTable). Contains ps placed) (sym found.1.1.placed) past.1) in
-      let long : IsTooLong order source content.0.placed = subst (λ (p : PlacedTable). IsTooLong order source p) (sym content.2) (past.2, past.3, past.4) in
-      absurd (passes_limit order source serving.contents found.0 db content.0 serving.log serving.tables found.1.1 content.1 long (serving.readable.limits is))
+  -- An iterator passes one only where the directory of the machine does.
+  over_limit : (b : Bool) → m.over_limit ≡ b → (b ≡ false → ⊥) → m.over_limit ≡ true
+  over_limit true is none = is
+  over_limit false is none = absurd (none refl)
 
   -- why a move is refused, the machine allows
-  pub read_refused : (new : Facts) (scan : Scan K g) (walk : Walk) (e : DbError) → IsTrue new.faithful → m.failures ≡ source.facts.failures → IsWalk order.cmp (whole_of source db) db.tables scan walk
+  pub read_refused : (new : Facts) (scan : Scan K g) (walk : Walk) (e : DbError) → IsTrue new.faithful → m.failures ≡ source.facts.failures → IsWalk order.cmp m.over_limit (whole_of source db) scan walk
       → Refuses e source.facts new (IsNoWalk order.cmp (whole_of source db) scan) (IsScanLimited order.cmp scan (whole_of source db)) → ReadRefused m e (read_by new m)
   read_refused new scan walk error.OutOfMemory f counts h r = refl
   read_refused new scan walk error.Io f counts h r = ((let rise : source.facts.failures < new.failures = r in omega (arith, counts, rise)), refl)
-  read_refused new scan walk (error.Corrupt file what) f counts h r = absurd (r f db.tables walk h)
-  read_refused new scan walk (error.Unsupported what) f counts h r = (elim (r f) [ inl damaged ↦ absurd (damaged db.tables walk h) | inr limited ↦ over_limit (h.scan.limits limited) m.over_limit refl ], refl)
+  read_refused new scan walk (error.Corrupt file what) f counts h r = absurd (r f m.over_limit walk h)
+  read_refused new scan walk (error.Unsupported what) f counts h r = (elim (r f) [ inl damaged ↦ absurd (damaged m.over_limit walk h) | inr limited ↦ over_limit m.over_limit refl (λ is. h.limits is (h.scan.limits limited)) ], refl)
   read_refused new scan walk _ f counts h r = absurd r
 
 -- ---- a move
@@ -115,41 +102,41 @@ placed_somewhere None pair old new before after h = refl
 placed_somewhere (Some cause) pair old new before after h = absurd (let bad : SameMove (Ok pair) (Err cause) = h.0 in cc)
 
 module _ {K : Type 0} {g : _} (order : Order) (kept : (scan : Scan K g) → ScanIsKept order.cmp scan) (version : VersionLaw) (total : IsTotalOrder order.cmp) (exact : IsAntisymmetric order.cmp)
-    (source new : Seen) (ids : Ids) (db : Held (Scan K g)) (table : Written) (open_ones : BTreeMap ℕ (Scan K g)) (id : ℕ) (motion : Motion) (was now : Scan K g)
+    (source new : Seen) (ids : Ids) (db : Held (Scan K g)) (memory : Memories) (open_ones : BTreeMap ℕ (Scan K g)) (id : ℕ) (motion : Motion) (was now : Scan K g)
     (is : db.broken ≡ false) (there : kept_at db.iterators id ≡ Some was) (updates : Updates id (Some now) db.iterators open_ones) where
   abbrev before : Whole
   before = whole_of source db
 
   abbrev after : Whole
-  after = record { seen = new; written = table }
+  after = record { seen = new; memory = memory }
 
   -- the database behind the move, but for its iterators
   abbrev read_db : Held (Scan K g)
-  read_db = record db { table = table }
+  read_db = record db { memory = memory }
 
-  walk_known : (m : Machine) → StandsOpen order source ids db m → IsWalk order.cmp before db.tables was (walk_under m id)
-  walk_known m s = walk_at (IsWalk order.cmp before db.tables) (kept_at db.iterators id) (lookup (nat_eq id) m.iterators) was there ((serving_of order source ids db m is s).iterators id)
+  walk_known : (m : Machine) → StandsOpen order source ids db m → IsWalk order.cmp m.over_limit before was (walk_under m id)
+  walk_known m s = walk_at (IsWalk order.cmp m.over_limit before) (kept_at db.iterators id) (lookup (nat_eq id) m.iterators) was there ((serving_of order source ids db m is s).iterators id)
 
   move_at : (m : Machine) (o : Option DbError) → StandsOpen order source ids db m → lacks_place was.walk.stands motion ≡ o → move_cause m id motion ≡ o
   move_at m o s known =
       cause_whole order source ids db m (option_or (no_iterator m id) (no_place (walk_under m id) motion)) is s
       ∙ ap (λ (x : Option DbError). option_or x (no_place (walk_under m id) motion)) (iterator_known order source ids db m is s id true (ap is_some there))
-      ∙ lacks_same order before db.tables was (walk_under m id) motion (walk_known m s) ∙ known
+      ∙ lacks_same order m.over_limit before was (walk_under m id) motion (walk_known m s) ∙ known
 
   stands_on : (result : Result (Option (List ℕ × List ℕ)) DbError) → IsMoved order.cmp motion before after was now result → IsTrue new.facts.faithful → (m : Machine) → StandsOpen order source ids db m → StandsOpen order new ids read_db (read_by new.facts m)
-  stands_on result h f m s = stands_read order kept source new ids db table m (record { reads = h.reads; sound = λ faithful. (h.keeps faithful 0).sound }) f h.inserts h.last s
+  stands_on result h f m s = stands_read order kept source new ids db memory m (record { reads = h.reads; sound = λ faithful. (h.keeps faithful 0).sound }) f h.memory s
 
   counts_on : (result : Result (Option (List ℕ × List ℕ)) DbError) (answer : Answer) (place : Option ℕ) → IsMoved order.cmp motion before after was now result → (m : Machine) → StandsOpen order source ids db m → Counted m answer (read_by new.facts m)
   counts_on result answer place h m s = denies_none m (read_by new.facts m) answer (let same : m.failures ≡ source.facts.failures = s.counts.failures in let rise : source.facts.failures ≤ new.facts.failures = h.reads.failures in omega (arith, same, rise)) (h.reads.denials ∙ sym s.counts.denials)
 
-  pub walked : (pair : Option (List ℕ × List ℕ)) → IsMoved order.cmp motion before after was now (Ok pair) → LeadsOpen order source new ids db (record db { table = table; iterators = open_ones }) (λ m n. Moves order m id motion (Pair pair) n)
+  pub walked : (pair : Option (List ℕ × List ℕ)) → IsMoved order.cmp motion before after was now (Ok pair) → LeadsOpen order source new ids db (record db { memory = memory; iterators = open_ones }) (λ m n. Moves order m id motion (Pair pair) n)
   walked pair h = record {
     faithful = h.reads.faithful;
     moved = λ f m s.
         let place = place_after order.cmp motion (walk_under m id) in
         let n : Machine = read_by new.facts (moved m id place) in
         let free : lacks_place was.walk.stands motion ≡ None = placed_somewhere (lacks_place was.walk.stands motion) pair was now before after h.placeless in
-        let goes : MovesTo order.cmp motion after db.tables now (walk_under m id) (Ok pair) = h.moves f free db.tables (walk_under m id) (walk_known m s) in
+        let goes : MovesTo order.cmp motion m.over_limit after now (walk_under m id) (Ok pair) = h.moves f free m.over_limit (walk_under m id) (walk_known m s) in
         let stands = stands_on (Ok pair) h f m s in
         let counted = counts_on (Ok pair) (Pair pair) place h m s in
         let serving = serving_of order new ids read_db (read_by new.facts m) is stands in (
@@ -157,35 +144,35 @@ module _ {K : Type 0} {g : _} (order : Order) (kept : (scan : Scan K g) → Scan
           without_cause (move_cause m id motion) m n (Pair pair) ((pair ≡ pair_at (walk_under m id).pairs place) × Becomes (moved m id place) n) (move_at m None s free)
               (record { failures = counted.failures; denials = counted.denials; undenied = counted.undenied }) (goes.1, refl),
           stands_beside order new ids ids read_db db.snapshots open_ones (read_by new.facts m) m.snapshots n.iterators m.last_snapshot m.last_iterator is stands s.ids.0 s.ids.1 serving.snapshots
-              (live_replaced (IsWalk order.cmp after db.tables) id db.iterators open_ones m.iterators now (record (walk_under m id) { place = place }) updates goes.0 serving.iterators),
+              (live_replaced (IsWalk order.cmp m.over_limit after) id db.iterators open_ones m.iterators now (record (walk_under m id) { place = place }) updates goes.0 serving.iterators),
         );
   }
 
   -- it was refused, and has stayed
   stays_there : (e : DbError) → IsMoved order.cmp motion before after was now (Err e) → IsTrue new.facts.faithful → lacks_place was.walk.stands motion ≡ None → (m : Machine) → StandsOpen order source ids db m
-      → StandsOpen order new ids (record db { table = table; iterators = open_ones }) (read_by new.facts m)
+      → StandsOpen order new ids (record db { memory = memory; iterators = open_ones }) (read_by new.facts m)
   stays_there e h f free m s =
       let stands = stands_on (Err e) h f m s in
       let serving = serving_of order new ids read_db (read_by new.facts m) is stands in
-      let both : IsBoth (IsWalk order.cmp before db.tables) (Some was) (lookup (nat_eq id) m.iterators) =
-      subst (λ (o : Option (Scan K g)). IsBoth (IsWalk order.cmp before db.tables) o (lookup (nat_eq id) m.iterators)) there ((serving_of order source ids db m is s).iterators id) in
+      let both : IsBoth (IsWalk order.cmp m.over_limit before) (Some was) (lookup (nat_eq id) m.iterators) =
+      subst (λ (o : Option (Scan K g)). IsBoth (IsWalk order.cmp m.over_limit before) o (lookup (nat_eq id) m.iterators)) there ((serving_of order source ids db m is s).iterators id) in
       stands_beside order new ids ids read_db db.snapshots open_ones (read_by new.facts m) m.snapshots m.iterators m.last_snapshot m.last_iterator is stands s.ids.0 s.ids.1 serving.snapshots
-      (live_again (IsWalk order.cmp after db.tables) id db.iterators open_ones m.iterators now
-      (both_then (IsWalk order.cmp before db.tables) (IsWalk order.cmp after db.tables) was now (lookup (nat_eq id) m.iterators) (λ walk known. h.moves f free db.tables walk known) both) updates serving.iterators)
+      (live_again (IsWalk order.cmp m.over_limit after) id db.iterators open_ones m.iterators now
+      (both_then (IsWalk order.cmp m.over_limit before) (IsWalk order.cmp m.over_limit after) was now (lookup (nat_eq id) m.iterators) (λ walk known. h.moves f free m.over_limit walk known) both) updates serving.iterators)
 
   -- there was no place to step from, and nothing was done
-  same_there : now ≡ was → after ≡ before → (m : Machine) → StandsOpen order source ids db m → StandsOpen order new ids (record db { table = table; iterators = open_ones }) m
+  same_there : now ≡ was → after ≡ before → (m : Machine) → StandsOpen order source ids db m → StandsOpen order new ids (record db { memory = memory; iterators = open_ones }) m
   same_there same whole m s =
       let serving = serving_of order source ids db m is s in
-      subst (λ (w : Whole). StandsOpen order w.seen ids (record db { table = w.written; iterators = open_ones }) m) (sym whole)
+      subst (λ (w : Whole). StandsOpen order w.seen ids (record db { memory = w.memory; iterators = open_ones }) m) (sym whole)
       (stands_anew order source ids db db.snapshots open_ones m is (λ q. refl)
-      (live_changed (IsWalk order.cmp before db.tables) id db.iterators open_ones m.iterators was now there (λ walk known. subst (λ (i : Scan K g). IsWalk order.cmp before db.tables i walk) (sym same) known) updates serving.iterators) s)
+      (live_changed (IsWalk order.cmp m.over_limit before) id db.iterators open_ones m.iterators was now there (λ walk known. subst (λ (i : Scan K g). IsWalk order.cmp m.over_limit before i walk) (sym same) known) updates serving.iterators) s)
 
-  pub stood : (e : DbError) → IsMoved order.cmp motion before after was now (Err e) → LeadsOpen order source new ids db (record db { table = table; iterators = open_ones }) (λ m n. Moves order m id motion (Refused e) n)
+  pub stood : (e : DbError) → IsMoved order.cmp motion before after was now (Err e) → LeadsOpen order source new ids db (record db { memory = memory; iterators = open_ones }) (λ m n. Moves order m id motion (Refused e) n)
   stood e h = record { faithful = h.reads.faithful; moved = λ f m s. at f m s (lacks_place was.walk.stands motion) refl h.placeless }
     where
       at : IsTrue new.facts.faithful → (m : Machine) → StandsOpen order source ids db m → (o : Option DbError) → lacks_place was.walk.stands motion ≡ o → Placeless o (Err e) was now before after
-          → (n : Machine) × Moves order m id motion (Refused e) n × StandsOpen order new ids (record db { table = table; iterators = open_ones }) n
+          → (n : Machine) × Moves order m id motion (Refused e) n × StandsOpen order new ids (record db { memory = memory; iterators = open_ones }) n
       at f m s None known free = (
         read_by new.facts m,
         without_cause (move_cause m id motion) m (read_by new.facts m) (Refused e) (ReadRefused m e (read_by new.facts m)) (move_at m None s known) (counts_on (Err e) (Refused e) None h m s)
@@ -198,7 +185,7 @@ module _ {K : Type 0} {g : _} (order : Order) (kept : (scan : Scan K g) → Scan
         same_there same.1 same.2 m s,
       )
 
-  pub walks : (r : Result (Option (List ℕ × List ℕ)) DbError) → IsMoved order.cmp motion before after was now r → LeadsOpen order source new ids db (record db { table = table; iterators = open_ones }) (λ m n. Moves order m id motion (pair_answer r) n)
+  pub walks : (r : Result (Option (List ℕ × List ℕ)) DbError) → IsMoved order.cmp motion before after was now r → LeadsOpen order source new ids db (record db { memory = memory; iterators = open_ones }) (λ m n. Moves order m id motion (pair_answer r) n)
   walks (Ok pair) h = walked pair h
   walks (Err e) h = stood e h
 
@@ -216,13 +203,13 @@ not_io stands motion cause known io = at stands (needs_place motion) known
     at true true is = cc
     at false true is = cc
 
-module _ {K : Type 0} {g : _} (cmp : List ℕ → List ℕ → Ordering) (source new : Seen) (db : Held (Scan K g)) (table : Written) (open_ones : BTreeMap ℕ (Scan K g)) (id : ℕ) (motion : Motion) (was now : Scan K g)
+module _ {K : Type 0} {g : _} (cmp : List ℕ → List ℕ → Ordering) (source new : Seen) (db : Held (Scan K g)) (memory : Memories) (open_ones : BTreeMap ℕ (Scan K g)) (id : ℕ) (motion : Motion) (was now : Scan K g)
     (there : kept_at db.iterators id ≡ Some was) (updates : Updates id (Some now) db.iterators open_ones) where
   -- a refusal leaves all that is answered from
-  leaves_same : (e : DbError) → IsMoved cmp motion (whole_of source db) (record { seen = new; written = table }) was now (Err e) → IsSame db (record db { table = table; iterators = open_ones })
+  leaves_same : (e : DbError) → IsMoved cmp motion (whole_of source db) (record { seen = new; memory = memory }) was now (Err e) → IsSame db (record db { memory = memory; iterators = open_ones })
   leaves_same e h = record {
-    entries = h.inserts;
-    sequence = h.last;
+    entries = left_logged db.memory memory h.memory;
+    sequence = h.memory.last;
     tables = refl;
     log = refl;
     snapshots = λ q. refl;
@@ -235,20 +222,20 @@ module _ {K : Type 0} {g : _} (cmp : List ℕ → List ℕ → Ordering) (source
           let same : q ≡ id = same_id id q known in
           ap Some h.stayed ∙ sym (ap (option_map standing) (ap (kept_at db.iterators) same ∙ there))
 
-  fails_on_io : (r : Result (Option (List ℕ × List ℕ)) DbError) → IsMoved cmp motion (whole_of source db) (record { seen = new; written = table }) was now r → r ≡ Err error.Io → source.facts.failures < new.facts.failures
+  fails_on_io : (r : Result (Option (List ℕ × List ℕ)) DbError) → IsMoved cmp motion (whole_of source db) (record { seen = new; memory = memory }) was now r → r ≡ Err error.Io → source.facts.failures < new.facts.failures
   fails_on_io r h io = at (lacks_place was.walk.stands motion) refl
     where
       at : (o : Option DbError) → lacks_place was.walk.stands motion ≡ o → source.facts.failures < new.facts.failures
       at None known = subst (λ (x : Result (Option (List ℕ × List ℕ)) DbError). IfErr x (λ e. Refuses e source.facts new.facts (IsNoWalk cmp (whole_of source db) was) (IsScanLimited cmp was (whole_of source db)))) io (h.refused known)
       at (Some cause) known =
-          let none : Placeless (Some cause) r was now (whole_of source db) (record { seen = new; written = table }) = subst (λ (o : Option DbError). Placeless o r was now (whole_of source db) (record { seen = new; written = table })) known h.placeless in
+          let none : Placeless (Some cause) r was now (whole_of source db) (record { seen = new; memory = memory }) = subst (λ (o : Option DbError). Placeless o r was now (whole_of source db) (record { seen = new; memory = memory })) known h.placeless in
           absurd (not_io was.walk.stands motion cause known (let same : SameMove (Err cause) (Err error.Io) = sym none.0 ∙ io in let is : cause ≡ error.Io = cc in is))
 
   still_of : (r : Result (Option (List ℕ × List ℕ)) DbError) → IsStill source.facts new.facts r → r ≡ Err error.OutOfMemory → new.facts.failures ≡ source.facts.failures
   still_of r still is = subst (λ (x : Result (Option (List ℕ × List ℕ)) DbError). IsStill source.facts new.facts x) is still
 
-  pub move_outcome : (r : Result (Option (List ℕ × List ℕ)) DbError) → IsMoved cmp motion (whole_of source db) (record { seen = new; written = table }) was now r
-      → DbOutcome (MayRefuseMove motion) source.facts new.facts db (record db { table = table; iterators = open_ones }) r
+  pub move_outcome : (r : Result (Option (List ℕ × List ℕ)) DbError) → IsMoved cmp motion (whole_of source db) (record { seen = new; memory = memory }) was now r
+      → DbOutcome (MayRefuseMove motion) source.facts new.facts db (record db { memory = memory; iterators = open_ones }) r
   move_outcome r h = record {
     failures = h.reads.failures;
     denials = h.reads.denials;
@@ -262,8 +249,8 @@ module _ {K : Type 0} {g : _} (cmp : List ℕ → List ℕ → Ordering) (source
       at (Ok pair) k = tt
       at (Err e) k = k
 
-      keeps : (x : Result (Option (List ℕ × List ℕ)) DbError) → IsMoved cmp motion (whole_of source db) (record { seen = new; written = table }) was now x
-          → MatchResult x (λ y. Unit {0}) (λ e. Keeps source.facts new.facts db (record db { table = table; iterators = open_ones }))
+      keeps : (x : Result (Option (List ℕ × List ℕ)) DbError) → IsMoved cmp motion (whole_of source db) (record { seen = new; memory = memory }) was now x
+          → MatchResult x (λ y. Unit {0}) (λ e. Keeps source.facts new.facts db (record db { memory = memory; iterators = open_ones }))
       keeps (Ok pair) k = tt
       keeps (Err e) k = (leaves_same e k, inl refl)
 

@@ -1,15 +1,15 @@
 -- An iterator through a move of its scan.
-use Rattle.std.proofs.Common.{◌≡◌, ◌⊎◌, ℕ, ◌≤◌, Bool, true, false, cond, List, Option, Some, None, Result, Ok, Err, MatchOption, inl, inr, refl, sym, ap, subst, ◌∙◌, arith}
+use Rattle.std.proofs.Common.{◌≡◌, ◌⊎◌, ℕ, ◌≤◌, Bool, true, false, cond, List, Option, Some, None, Result, Ok, Err, MatchOption, IsTrue, inl, inr, refl, sym, ap, subst, ◌∙◌, arith}
 use Rattle.std.specs.declared.cmp.Ordering.{Ordering}
+use Rattle.cache.specs.Tables.{table_at}
 use Rattle.coding.specs.declared.error.DbError.{DbError}
 use Rattle.coding.specs.declared.error.DbError.TheVariants as error
 use Rattle.cursor.specs.Moves.{Refuses}
 use Rattle.cursor.specs.Views.{Walked}
 use Rattle.cursor.specs.Walks.{key_before}
-use Rattle.edits.specs.declared.field.PlacedTable.{PlacedTable}
 use Rattle.scans.specs.Pairs.{pair_on}
-use Rattle.scans.specs.Scanning.{IsScanned, TakesBack}
-use Rattle.scans.specs.Scans.{IsScan, IsScanLimited}
+use Rattle.scans.specs.Scanning.{IsScanned, ReadsAs, TakesBack}
+use Rattle.scans.specs.Scans.{IsOnePastLimit, IsScan, IsScanLimited, tables_of}
 use Rattle.scans.specs.Whole.{Whole}
 use Rattle.scans.specs.declared.scan.Scan.{Scan}
 use Rattle.store.specs.Files.{Facts}
@@ -73,30 +73,34 @@ same_standing : (sequence other : ℕ) (stands stood : Bool) (key was : List ℕ
 same_standing sequence other stands stood key was s b k = λ i. (s i, cond (b i) (Some (k i)) None)
 
 module _ {K : Type 0} {g : _} (cmp : Order) (motion : Motion) (before after : Whole) (old new : Scan K g) (placed : lacks_place old.walk.stands motion ≡ None) where
-  bound_on : (result : Result (Unit {0}) DbError) (scan : Scan K g) → IsScanned cmp (destination cmp motion) before after old new result → scan.walk.sequence ≡ new.walk.sequence → old.walk.sequence ≤ before.written.last → scan.walk.sequence ≤ after.written.last
-  bound_on result scan w same bound = omega (arith, same, bound, w.sequence, w.last)
+  bound_on : (result : Result (Unit {0}) DbError) (scan : Scan K g) → IsScanned cmp (destination cmp motion) before after old new result → scan.walk.sequence ≡ new.walk.sequence → old.walk.sequence ≤ before.memory.last → scan.walk.sequence ≤ after.memory.last
+  bound_on result scan w same bound = omega (arith, same, bound, w.sequence, w.memory.last)
+
+  -- what is past a limit of reading was so before
+  past_before : (result : Result (Unit {0}) DbError) (scan : Scan K g) → IsScanned cmp (destination cmp motion) before after old new result → ReadsAs old scan → IsTrue after.seen.facts.faithful → IsOnePastLimit cmp (tables_of scan) after → IsOnePastLimit cmp (tables_of old) before
+  past_before result scan w alike f past =
+      let there : IsOnePastLimit cmp (tables_of old) after = subst (λ (v : _). IsOnePastLimit cmp v.value.tables after) alike.version past in
+      (there.0, there.1, there.2, ap (λ files. table_at files there.0.table.number) (sym (w.reads.files f)) ∙ there.3, there.4)
 
   pub moved_err : (e : DbError) → IsScanned cmp (destination cmp motion) before after old new (Err e) → IsMoved cmp motion before after old new (Err e)
   moved_err e w = record {
-    inserts = w.inserts;
-    last = w.last;
+    memory = w.memory;
     reads = w.reads;
     still = w.still;
     stayed = same_standing new.walk.sequence old.walk.sequence new.walk.stands old.walk.stands new.walk.here.key.items old.walk.here.key.items w.sequence w.stayed.0 w.stayed.1;
     allowed = may_refuse motion e before.seen.facts after.seen.facts _ _ w.refused;
     placeless = not_lacking (lacks_place old.walk.stands motion) _ placed;
     placed = λ none. is_met e before.seen.facts after.seen.facts _ _ w.refused;
-    refused = λ none. refuses_as e before.seen.facts after.seen.facts ((tables : List PlacedTable) (at : Walked) → IsScan cmp tables old before at → ⊥) (IsNoWalk cmp before old) (IsScanLimited cmp old before)
-        (λ none_is tables walk is. none_is tables (walked_of walk) is.scan) w.refused;
+    refused = λ none. refuses_as e before.seen.facts after.seen.facts ((at : Walked) → IsScan cmp old before at → ⊥) (IsNoWalk cmp before old) (IsScanLimited cmp old before)
+        (λ none_is limited walk is. none_is (walked_of walk) is.scan) w.refused;
     keeps = w.keeps;
-    moves = λ f none tables m h. record { bound = bound_on (Err e) new w refl h.bound; scan = w.moves f tables (walked_of m) h.scan };
+    moves = λ f none limited m h. record { bound = bound_on (Err e) new w refl h.bound; scan = w.moves f (walked_of m) h.scan; limits = λ is past. h.limits is (past_before (Err e) new w w.reads_as f past) };
   }
 
-  pub moved_ok : (pair : Option (List ℕ × List ℕ)) → ((tables : List PlacedTable) (at : Walked) → IsScan cmp tables new after at → pair ≡ pair_on at) → IsScanned cmp (destination cmp motion) before after old new (Ok tt)
+  pub moved_ok : (pair : Option (List ℕ × List ℕ)) → ((at : Walked) → IsScan cmp new after at → pair ≡ pair_on at) → IsScanned cmp (destination cmp motion) before after old new (Ok tt)
       → IsMoved cmp motion before after old new (Ok pair)
   moved_ok pair reads w = record {
-    inserts = w.inserts;
-    last = w.last;
+    memory = w.memory;
     reads = w.reads;
     still = w.still;
     stayed = tt;
@@ -105,19 +109,18 @@ module _ {K : Type 0} {g : _} (cmp : Order) (motion : Motion) (before after : Wh
     placed = λ none. tt;
     refused = λ none. tt;
     keeps = w.keeps;
-    moves = λ f none tables m h.
+    moves = λ f none limited m h.
         let there : Walk = record m { place = place_after cmp motion m } in
-        let on : IsScan cmp tables new after (walked_of there) =
-        subst (λ (place : Option ℕ). IsScan cmp tables new after (record (walked_of m) { place = place })) (destination_is cmp motion m) (w.moves f tables (walked_of m) h.scan) in
-        (record { bound = bound_on (Ok tt) new w refl h.bound; scan = on }, reads tables (walked_of there) on ∙ pair_is there);
+        let on : IsScan cmp new after (walked_of there) =
+        subst (λ (place : Option ℕ). IsScan cmp new after (record (walked_of m) { place = place })) (destination_is cmp motion m) (w.moves f (walked_of m) h.scan) in
+        (record { bound = bound_on (Ok tt) new w refl h.bound; scan = on; limits = λ is past. h.limits is (past_before (Ok tt) new w w.reads_as f past) }, reads (walked_of there) on ∙ pair_is there);
   }
 
   -- the pair found no memory, and the move was taken back
-  pub taken_back : (stood : Bool) (back : Scan K g) → stood ≡ old.walk.stands → TakesBack cmp stood new back → back.walk.sequence ≡ new.walk.sequence → back.walk.stands ≡ stood → back.walk.here.key.items ≡ key_before new.walk
+  pub taken_back : (stood : Bool) (back : Scan K g) → stood ≡ old.walk.stands → TakesBack cmp stood new back → back.walk.sequence ≡ new.walk.sequence → back.walk.stands ≡ stood → back.walk.here.key.items ≡ key_before new.walk → ReadsAs new back
       → IsScanned cmp (destination cmp motion) before after old new (Ok tt) → IsMoved cmp motion before after old back (Err error.OutOfMemory)
-  taken_back stood back was again sequence stands key w = record {
-    inserts = w.inserts;
-    last = w.last;
+  taken_back stood back was again sequence stands key alike w = record {
+    memory = w.memory;
     reads = w.reads;
     still = w.still;
     stayed = same_standing back.walk.sequence old.walk.sequence back.walk.stands old.walk.stands back.walk.here.key.items old.walk.here.key.items (sequence ∙ w.sequence) (stands ∙ was) (key ∙ w.left);
@@ -126,8 +129,9 @@ module _ {K : Type 0} {g : _} (cmp : Order) (motion : Motion) (before after : Wh
     placed = λ none. tt;
     refused = λ none. tt;
     keeps = w.keeps;
-    moves = λ f none tables m h. record {
+    moves = λ f none limited m h. record {
       bound = bound_on (Ok tt) back w sequence h.bound;
-      scan = again old tables before after (walked_of m).pairs m.place (destination cmp motion (walked_of m)) h.scan (w.moves f tables (walked_of m) h.scan) (sym was) w.sequence w.left;
+      scan = again old before after (walked_of m).pairs m.place (destination cmp motion (walked_of m)) h.scan (w.moves f (walked_of m) h.scan) (sym was) w.sequence w.left;
+      limits = λ is past. h.limits is (past_before (Ok tt) back w (record { generation = alike.generation ∙ w.reads_as.generation; sealed = alike.sealed ∙ w.reads_as.sealed; version = alike.version ∙ w.reads_as.version }) f past);
     };
   }

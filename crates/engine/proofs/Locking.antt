@@ -2,15 +2,15 @@
 use Rattle.std.proofs.Common.{true, false, ◌≡◌, ◌≢◌, ◌⊎◌, ◌<◌, ◌≤◌, ap, sym, ◌∙◌, Result, Ok, Err, IsTrue, OnOk, OnErr, inl, inr, refl, arith}
 use Rattle.std.specs.FinMap.{get}
 use Rattle.coding.specs.declared.error.DbError.{DbError}
-use Rattle.store.specs.Files.{Facts, Files, Synced, MayLock}
+use Rattle.store.specs.Files.{Facts, Files, Synced}
 use Rattle.store.specs.Calls.{Counts}
 use Rattle.store.specs.declared.error.StoreError.{StoreError}
 use Rattle.store.specs.declared.error.StoreError.TheVariants as store_error
 use Rattle.edits.specs.Names.{name_of}
 use Rattle.edits.specs.declared.names.FileName.TheVariants.{Current}
 use Rattle.engine.specs.Calls.{TakesLock}
-use Rattle.engine.specs.Durable.{LeavesFile, IsDurable, LeavesDurable}
-use Rattle.engine.specs.Touching.{Locks, OpensStore, Frees}
+use Rattle.engine.specs.Durable.{LeavesFile, LeavesDurable}
+use Rattle.engine.specs.Touching.{OpensStore, Frees}
 use Rattle.engine.proofs.OpenLock.{OnlyLock, may_lock_only}
 
 -- ---- what is synced

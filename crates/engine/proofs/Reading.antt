@@ -1,5 +1,5 @@
 -- What the directory of an open database says of its tables, and what calls that only read leave of an open database.
-use Rattle.std.proofs.Common.{◌≡◌, ◌⊎◌, inl, inr, ℕ, zero, suc, ◌+◌, ◌<◌, ◌≤◌, Bool, true, false, IsTrue, Option, Some, None, List, [], ◌∷◌, ◌++◌, length, map, MatchBool, MatchOption, refl, sym, ap, subst, ◌∙◌, arith, Contains}
+use Rattle.std.proofs.Common.{◌≡◌, inl, inr, ℕ, zero, suc, ◌≤◌, Bool, true, false, IsTrue, Some, List, [], ◌∷◌, map, MatchBool, refl, sym, ap, subst, ◌∙◌, arith, Contains}
 use Rattle.std.specs.Cmp.{IsTotalOrder}
 use Rattle.std.specs.FinMap.{IsAntisymmetric}
 use Rattle.std.specs.declared.cmp.Ordering.{Ordering}
@@ -10,29 +10,29 @@ use Rattle.ikey.specs.declared.entry.Entry.{Entry}
 use Rattle.ikey.specs.Orders.{Order}
 use Rattle.ikey.specs.Sources.{joined, SameEntries}
 use Rattle.reads.specs.Gets.{HasTablesOf, IsTooLong}
-use Rattle.recover.specs.Directory.{Directory, IsConsistent}
 use Rattle.recover.specs.Report.{IsLongTable}
 use Rattle.recover.specs.Tables.{TableContent, IsTableFile, InTables, HasTable, tabled}
 use Rattle.recover.proofs.Memberships.{one_of_tables}
-use Rattle.scans.specs.Scans.{KeepsWhole, IsScan}
+use Rattle.scans.specs.SourceLaws.{keeps_any}
+use Rattle.scans.specs.Scans.{IsOnePastLimit, KeepsScan, KeepsUpTo, reads_memory, reads_table, tables_of}
 use Rattle.scans.specs.Scanning.{ScanIsKept}
 use Rattle.scans.specs.Whole.{Whole}
-use Rattle.scans.specs.Written.{Written}
+use Rattle.memories.specs.Memories.{Memories, logged_in}
+use Rattle.memories.specs.PlaceLaws.{left_kept, left_logged}
+use Rattle.memories.specs.Places.{LeavesMemories}
 use Rattle.scans.specs.declared.scan.Scan.{Scan}
 use Rattle.search.specs.Laws.{VersionLaw}
 use Rattle.search.specs.Places.{table_sources, HasVersion}
-use Rattle.memtable.specs.Places.{up_to}
 use Rattle.sources.specs.Tables.{Seen, IsSound, Carries}
 use Rattle.sources.specs.Values.{IsPastLimit}
-use Rattle.memtable.specs.Order.{ordered}
 use Rattle.store.specs.Files.{Files, Facts}
 use Rattle.table.proofs.FrameParts.{long_frame}
 use Rattle.versions.specs.Levels.{Lists}
 use Rattle.engine.specs.declared.ids.Ids.{Ids}
 use Rattle.engine.specs.Directory.{CanAppend, IsAtRest, IsReadable, IsWithinLimits}
-use Rattle.engine.specs.Held.{Held, whole_of, entries_of}
+use Rattle.engine.specs.Held.{Held, whole_of}
 use Rattle.engine.specs.Iterators.{IsWalk, walked_of}
-use Rattle.engine.specs.Live.{AreSnapshots, AreWalks}
+use Rattle.engine.specs.Live.{AreWalks}
 use Rattle.engine.specs.Machine.{Machine, Walk}
 use Rattle.engine.specs.Stands.{HasLog, HasTables, IsBroken, IsServing, StandsOpen}
 use Rattle.engine.proofs.LiveIds.{live_then}
@@ -93,33 +93,45 @@ abbrev pub read_by : Facts → Machine → Machine
 read_by facts m = record m { failures = facts.failures; denials = facts.denials }
 
 -- what a scan reads is the same
-whole_kept : (cmp : List ℕ → List ℕ → Ordering) (old new : Whole) (sequence : ℕ) → new.written.contents.inserts ≡ old.written.contents.inserts → new.seen.facts.files ≡ old.seen.facts.files → (IsSound cmp old.seen → IsSound cmp new.seen)
-    → KeepsWhole cmp sequence old new
-whole_kept cmp old new sequence inserts files sound = record {
-  memory = λ cursor within. ap (λ (es : List Entry). up_to cursor.sequence (ordered cmp es)) (sym inserts);
-  tables = λ number. ap (λ (fs : Files). table_at fs number) files;
+whole_kept : (cmp : List ℕ → List ℕ → Ordering) (old new : Whole) (sequence : ℕ) → LeavesMemories old.memory new.memory → new.seen.facts.files ≡ old.seen.facts.files → (IsSound cmp old.seen → IsSound cmp new.seen)
+    → KeepsUpTo cmp sequence old new
+whole_kept cmp old new sequence left files sound = record {
+  memory = λ cursor within. left_kept cmp cursor old.memory new.memory left;
+  files = λ number. ap (λ (fs : Files). table_at fs number) files;
   sound = sound;
 }
 
+-- the files of its tables are the same
+limits_kept : {K : Type 0} {g : _} (cmp : List ℕ → List ℕ → Ordering) (scan : Scan K g) (old new : Whole) → KeepsScan cmp scan old new → IsOnePastLimit cmp (tables_of scan) new → IsOnePastLimit cmp (tables_of scan) old
+limits_kept cmp scan old new keeps past = (past.0, past.1, past.2, sym (keeps.files past.0.table.number (inl (past.0, past.1, refl))) ∙ past.3, past.4)
+
 module _ {K : Type 0} {g : _} (order : Order) (kept : (scan : Scan K g) → ScanIsKept order.cmp scan) where
   -- an iterator where what it reads is the same
-  pub walk_kept : (tables : List PlacedTable) (old new : Whole) (iterator : Scan K g) (walk : Walk) → KeepsWhole order.cmp iterator.walk.sequence old new → old.written.last ≤ new.written.last
-      → IsWalk order.cmp old tables iterator walk → IsWalk order.cmp new tables iterator walk
-  walk_kept tables old new iterator walk keeps last h = record {
-    bound = (let within : iterator.walk.sequence ≤ old.written.last = h.bound in omega (arith, within, last));
-    scan = kept iterator tables old new (walked_of walk) keeps h.scan;
+  pub walk_kept : (limited : Bool) (old new : Whole) (iterator : Scan K g) (walk : Walk) → KeepsScan order.cmp iterator old new → old.memory.last ≤ new.memory.last
+      → IsWalk order.cmp limited old iterator walk → IsWalk order.cmp limited new iterator walk
+  walk_kept limited old new iterator walk keeps last h = record {
+    bound = (let within : iterator.walk.sequence ≤ old.memory.last = h.bound in omega (arith, within, last));
+    scan = kept iterator old new (walked_of walk) keeps h.scan;
+    limits = λ is past. h.limits is (limits_kept order.cmp iterator old new keeps past);
   }
 
-  pub walks_kept : (tables : List PlacedTable) (old new : Whole) (iterators : BTreeMap ℕ (Scan K g)) (m : Machine) → ((sequence : ℕ) → sequence ≤ old.written.last → KeepsWhole order.cmp sequence old new) → old.written.last ≤ new.written.last
-      → AreWalks order.cmp old tables m iterators → AreWalks order.cmp new tables m iterators
-  walks_kept tables old new iterators m keeps last h =
-      live_then (IsWalk order.cmp old tables) (IsWalk order.cmp new tables) iterators m.iterators (λ iterator walk is. walk_kept tables old new iterator walk (keeps iterator.walk.sequence is.bound) last is) h
+  pub walks_kept : (old new : Whole) (iterators : BTreeMap ℕ (Scan K g)) (m : Machine) → ((sequence : ℕ) → sequence ≤ old.memory.last → KeepsUpTo order.cmp sequence old new) → old.memory.last ≤ new.memory.last
+      → AreWalks order.cmp old m iterators → AreWalks order.cmp new m iterators
+  walks_kept old new iterators m keeps last h =
+      live_then (IsWalk order.cmp m.over_limit old) (IsWalk order.cmp m.over_limit new) iterators m.iterators
+      (λ iterator walk is. walk_kept m.over_limit old new iterator walk (keeps_any order.cmp (reads_memory iterator) (reads_table iterator) iterator.walk.sequence old new (keeps iterator.walk.sequence is.bound)) last is) h
 
   -- files and memory are the same, whatever else the calls did
-  module _ (old new : Seen) (db : Held (Scan K g)) (table : Written) (m : Machine) (files : new.facts.files ≡ old.facts.files) (sound : IsSound order.cmp old → IsSound order.cmp new)
-      (inserts : table.contents.inserts ≡ db.table.contents.inserts) (last : table.last ≡ db.table.last) where
+  module _ (old new : Seen) (db : Held (Scan K g)) (memory : Memories) (m : Machine) (files : new.facts.files ≡ old.facts.files) (sound : IsSound order.cmp old → IsSound order.cmp new)
+      (left : LeavesMemories db.memory memory) where
+    inserts : logged_in memory ≡ logged_in db.memory
+    inserts = left_logged db.memory memory left
+
+    last : memory.last ≡ db.memory.last
+    last = left.last
+
     abbrev after : Held (Scan K g)
-    after = record db { table = table }
+    after = record db { memory = memory }
 
     readable_read : IsReadable order old.facts.files m → IsReadable order new.facts.files (read_by new.facts m)
     readable_read h = subst (λ (fs : Files). IsReadable order fs (read_by new.facts m)) (sym files) (record { made = h.made; numbers = h.numbers; limits = h.limits })
@@ -127,7 +139,7 @@ module _ {K : Type 0} {g : _} (order : Order) (kept : (scan : Scan K g) → Scan
     log_read : (contents : List TableContent) → HasLog order old.facts.files contents db → HasLog order new.facts.files contents after
     log_read contents h = record {
       named = h.named;
-      directory = rw (inserts, last) (subst (λ (fs : Files). CanAppend order fs db.log.number db.log.end contents db.table.contents.inserts db.table.last) (sym files) h.directory);
+      directory = rw (inserts, last) (subst (λ (fs : Files). CanAppend order fs db.log.number db.log.end contents (logged_in db.memory) db.memory.last) (sym files) h.directory);
     }
 
     serving_read : IsServing order old db m → IsServing order new after (read_by new.facts m)
@@ -144,7 +156,7 @@ module _ {K : Type 0} {g : _} (order : Order) (kept : (scan : Scan K g) → Scan
         bounded = rw (inserts, last) h.entries.bounded;
       };
       snapshots = rw (inserts, last) h.snapshots;
-      iterators = walks_kept db.tables (whole_of old db) (whole_of new after) db.iterators m (λ sequence within. whole_kept order.cmp (whole_of old db) (whole_of new after) sequence inserts files sound) (omega (arith, last)) h.iterators;
+      iterators = walks_kept (whole_of old db) (whole_of new after) db.iterators m (λ sequence within. whole_kept order.cmp (whole_of old db) (whole_of new after) sequence left files sound) (omega (arith, last)) h.iterators;
       readable = readable_read h.readable;
     }
 
@@ -154,7 +166,7 @@ module _ {K : Type 0} {g : _} (order : Order) (kept : (scan : Scan K g) → Scan
         record { broken = h.broken; rest = record { meaning = there.meaning; readable = readable_read h.rest.readable } }
     rest_read false h = serving_read h
 
-    pub stands_kept : (ids : Ids) → StandsOpen order old ids db m → StandsOpen order new ids (record db { table = table }) (read_by new.facts m)
+    pub stands_kept : (ids : Ids) → StandsOpen order old ids db m → StandsOpen order new ids (record db { memory = memory }) (read_by new.facts m)
     stands_kept ids s = record {
       counts = record { failures = refl; denials = refl };
       ids = s.ids;
@@ -163,6 +175,6 @@ module _ {K : Type 0} {g : _} (order : Order) (kept : (scan : Scan K g) → Scan
     }
 
   -- Calls of a faithful store that only read it leave all but the counts.
-  pub stands_read : (old new : Seen) (ids : Ids) (db : Held (Scan K g)) (table : Written) (m : Machine) → Carries order.cmp old new → IsTrue new.facts.faithful
-      → table.contents.inserts ≡ db.table.contents.inserts → table.last ≡ db.table.last → StandsOpen order old ids db m → StandsOpen order new ids (record db { table = table }) (read_by new.facts m)
-  stands_read old new ids db table m carries f inserts last s = stands_kept old new db table m (carries.reads.files f) (carries.sound f) inserts last ids s
+  pub stands_read : (old new : Seen) (ids : Ids) (db : Held (Scan K g)) (memory : Memories) (m : Machine) → Carries order.cmp old new → IsTrue new.facts.faithful
+      → LeavesMemories db.memory memory → StandsOpen order old ids db m → StandsOpen order new ids (record db { memory = memory }) (read_by new.facts m)
+  stands_read old new ids db memory m carries f left s = stands_kept old new db memory m (carries.reads.files f) (carries.sound f) left ids s

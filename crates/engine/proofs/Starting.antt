@@ -1,5 +1,5 @@
--- A new iterator over the memory table and the tables of a directory.
-use Rattle.std.proofs.Common.{inl, inr, ℕ, ◌≤◌, ◌++◌, List}
+-- A new iterator over the memory tables and the tables of a directory.
+use Rattle.std.proofs.Common.{◌≡◌, inl, inr, ℕ, zero, suc, Bool, false, ◌≤◌, ◌++◌, List, [], ◌∷◌, Contains, map, refl, sym, subst, arith}
 use Rattle.std.specs.Cmp.{IsTotalOrder}
 use Rattle.std.specs.FinMap.{IsAntisymmetric}
 use Rattle.ikey.specs.Orders.{Order}
@@ -7,16 +7,20 @@ use Rattle.ikey.specs.Sources.{IsNewerThan, SameEntries, SameViewLaw, joined}
 use Rattle.ikey.specs.Views.{Contents, IsView}
 use Rattle.ikey.specs.declared.entry.Entry.{Entry}
 use Rattle.ikey.proofs.SearchedSources.{among_split, among_front, among_back}
-use Rattle.recover.specs.Tables.{TableContent, tabled}
-use Rattle.scans.specs.Scans.{BeginsScan}
+use Rattle.edits.specs.declared.field.PlacedTable.{PlacedTable}
+use Rattle.memories.specs.Memories.{logged_in}
+use Rattle.reads.specs.Gets.{IsTooLong}
+use Rattle.recover.specs.Tables.{InTables, TableContent, tabled}
+use Rattle.scans.specs.Scans.{BeginsScan, tables_of}
 use Rattle.scans.specs.declared.scan.Scan.{Scan}
 use Rattle.search.specs.Laws.{VersionLaw}
 use Rattle.search.specs.Places.{table_sources}
 use Rattle.sources.specs.Tables.{Seen}
+use Rattle.engine.specs.Directory.{IsWithinLimits}
 use Rattle.engine.specs.Held.{Held, whole_of, entries_of}
 use Rattle.engine.specs.Iterators.{BeginsWalk}
 use Rattle.engine.specs.Stands.{HasLog, HasTables}
-use Rattle.engine.proofs.Reading.{tables_found}
+use Rattle.engine.proofs.Reading.{passes_limit, tables_found}
 use Rattle.engine.proofs.Tabled.{appendable_of, logged_newer}
 
 -- what is newer than entries is newer than the same in another order
@@ -30,15 +34,33 @@ in_front inserts old new same e = (
   λ i. elim (among_split inserts new e i) [ inl j ↦ among_back old inserts e j | inr j ↦ among_front old inserts e ((same e).0 j) ],
 )
 
-pub starts_walk : {K : Type 0} {g : _} → (order : Order) (source : Seen) (db : Held (Scan K g)) (scan : Scan K g) (contents : List TableContent) (sequence : ℕ) (map : Contents)
+-- the contents of a table that is listed
+content_of : (contents : List TableContent) (p : PlacedTable) → Contains (map (λ (content : TableContent). content.placed) contents) p → (c : TableContent) × InTables contents c × (c.placed ≡ p)
+content_of [] p (k, less, is) = absurd (omega (arith, less))
+content_of (c ∷ contents) p (zero, less, is) = (c, inl refl, is)
+content_of (c ∷ contents) p (suc k, less, is) = let rest = content_of contents p (k, omega (arith, less), is) in (rest.0, inr rest.1, rest.2)
+
+pub starts_walk : {K : Type 0} {g : _} → (order : Order) (limited : Bool) (source : Seen) (db : Held (Scan K g)) (scan : Scan K g) (contents : List TableContent) (sequence : ℕ) (view_map : Contents)
     → SameViewLaw → VersionLaw → IsTotalOrder order.cmp → IsAntisymmetric order.cmp → HasLog order source.facts.files contents db → HasTables order source contents db
-    → scan.walk.sequence ≤ db.table.last → sequence ≤ db.table.last → IsView (entries_of contents db) sequence map → BeginsScan order db.tables sequence (whole_of source db) scan
-    → BeginsWalk order.cmp map (whole_of source db) db.tables scan
-starts_walk order source db scan contents sequence map same version total exact log tables bound within view begins =
-    let inserts = db.table.contents.inserts in
+    → scan.walk.sequence ≤ db.memory.last → sequence ≤ db.memory.last → IsView (entries_of contents db) sequence view_map → BeginsScan order db.tables sequence (whole_of source db) scan → tables_of scan ≡ db.tables
+    → (limited ≡ false → IsWithinLimits order source.facts.files) → BeginsWalk order.cmp limited view_map (whole_of source db) scan
+starts_walk order limited source db scan contents sequence view_map same version total exact log tables bound within view begins over limits =
+    let inserts = (logged_in db.memory) in
     let found = tables_found order source contents db version total exact log tables in
-    let newer = logged_newer order source.facts.files contents inserts db.table.last (appendable_of order source.facts.files db.log.number db.log.end contents inserts db.table.last log.directory) in
-    let sees : IsView (inserts ++ joined (table_sources found.0)) sequence map =
-    (same (entries_of contents db) (inserts ++ joined (table_sources found.0)) sequence (in_front inserts (tabled contents) (joined (table_sources found.0)) found.2)).0 map view in
-    let start = begins found.0 map within found.1.0 found.1.1 (newer_as inserts (tabled contents) (joined (table_sources found.0)) found.2 newer) sees in
-    (start.0, start.1, record { bound = bound; scan = start.2 })
+    let newer = logged_newer order source.facts.files contents inserts db.memory.last (appendable_of order source.facts.files db.log.number db.log.end contents inserts db.memory.last log.directory) in
+    let sees : IsView (inserts ++ joined (table_sources found.0)) sequence view_map =
+    (same (entries_of contents db) (inserts ++ joined (table_sources found.0)) sequence (in_front inserts (tabled contents) (joined (table_sources found.0)) found.2)).0 view_map view in
+    let start = begins found.0 view_map within found.1.0 found.1.1 (newer_as inserts (tabled contents) (joined (table_sources found.0)) found.2 newer) sees in (
+      start.0,
+      start.1,
+      record {
+        bound = bound;
+        scan = start.2;
+        limits = λ is past.
+            let placed : PlacedTable = past.0 in
+            let here : Contains db.tables placed = subst (λ (ps : List PlacedTable). Contains ps placed) over past.1 in
+            let content = content_of found.0 placed (subst (λ (ps : List PlacedTable). Contains ps placed) (sym found.1.1.placed) here) in
+            let long : IsTooLong order source content.0.placed = subst (λ (p : PlacedTable). IsTooLong order source p) (sym content.2) (past.2, past.3, past.4) in
+            passes_limit order source contents found.0 db content.0 log tables found.1.1 content.1 long (limits is);
+      },
+    )

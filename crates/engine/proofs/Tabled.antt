@@ -1,5 +1,5 @@
 -- Entries of which some lie in tables, and the newer ones in the logs: what a read of both answers, and what a write adds.
-use Rattle.std.proofs.Common.{◌≡◌, ◌⊎◌, inl, inr, ℕ, ◌+◌, ◌<◌, ◌≤◌, Option, Some, None, List, [], ◌∷◌, ◌++◌, length, unwrap_or, refl, sym, ap, subst, ◌∙◌, append_assoc, arith}
+use Rattle.std.proofs.Common.{◌≡◌, inl, inr, ℕ, ◌+◌, ◌<◌, ◌≤◌, Option, Some, None, List, [], ◌∷◌, ◌++◌, length, unwrap_or, refl, subst, append_assoc, arith}
 use Rattle.std.specs.BTreeMap.{BTreeMap}
 use Rattle.std.specs.List.{AllByRecursion}
 use Rattle.batch.specs.declared.operation.Operation.{Operation}
@@ -7,7 +7,7 @@ use Rattle.store.specs.Files.{Files}
 use Rattle.ikey.specs.Orders.{Order}
 use Rattle.ikey.specs.declared.entry.Entry.{Entry}
 use Rattle.ikey.specs.Sources.{IsNewerThan, joined, SameEntries, IsAnswer, FrontLaw, BehindLaw, SameViewLaw}
-use Rattle.ikey.specs.Views.{Among, AllUpTo, Contents, IsNewest, IsUnseen, IsValueAt, IsView}
+use Rattle.ikey.specs.Views.{Among, AllUpTo, Contents, IsValueAt, IsView}
 use Rattle.ikey.proofs.SearchedSources.{among_split, among_front, among_back}
 use Rattle.recover.specs.Directory.{Directory, IsConsistent, IsDirectory, used_in}
 use Rattle.recover.specs.Entries.{entry_of, entries_of, greatest}

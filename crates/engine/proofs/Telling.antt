@@ -1,11 +1,9 @@
 -- What an open's answer tells of the directory.
-use Rattle.std.proofs.Common.{Bool, true, false, cond, ◌≡◌, ◌≢◌, ◌⊎◌, List, [], is_some, Result, Ok, Err, IsTrue, inl, inr, refl, sym, ap, subst, ◌∙◌}
-use Rattle.std.specs.FinMap.{get, contains_key}
+use Rattle.std.proofs.Common.{◌≡◌, ◌⊎◌, is_some, Result, Ok, Err, IsTrue, inl, inr, sym, ap, subst, ◌∙◌}
 use Rattle.coding.specs.declared.error.DbError.{DbError}
 use Rattle.coding.specs.declared.error.DbError.TheVariants as error
 use Rattle.store.specs.Files.{Facts, Files, MayLock}
 use Rattle.ikey.specs.Orders.{Order}
-use Rattle.edits.specs.Names.{name_of, IsNumbered}
 use Rattle.edits.specs.declared.names.FileName.TheVariants.{Current, Manifest}
 use Rattle.engine.specs.declared.command.Mode.{Mode}
 use Rattle.engine.specs.declared.finding.Found.{Found}

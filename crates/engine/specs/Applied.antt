@@ -21,7 +21,7 @@ use Rattle.engine.specs.Reads.{sequence_at, ReadsMemory}
 use Rattle.engine.specs.Step.{Step}
 use Rattle.engine.specs.Follows.{Follows}
 use Rattle.engine.specs.Outcomes.{OutcomeOf, IsAnswerTo, Succeeds}
-use Rattle.engine.specs.Causes.{IsCaused, IsCausedIn, where_open, opened_already, write_refusal, cause_of}
+use Rattle.engine.specs.Causes.{IsCaused, IsCausedIn, where_open, write_refusal, cause_of}
 use Rattle.engine.specs.Touching.{SyncsLog, LeavesStore, CloseTouches, Touches}
 use Rattle.engine.specs.Telling.{CommandTells, OpenTells}
 

@@ -8,6 +8,7 @@ use Rattle.ikey.specs.Orders.{Order}
 use Rattle.ikey.specs.declared.entry.Entry.{Entry}
 use Rattle.edits.specs.Names.{name_of}
 use Rattle.edits.specs.declared.names.FileName.TheVariants.{Current, Log}
+use Rattle.memories.specs.Memories.{logged_in}
 use Rattle.recover.specs.Tables.{TableContent}
 use Rattle.versions.specs.Levels.{Lists, AreInOrder}
 use Rattle.engine.specs.declared.command.Mode.{Mode}
@@ -25,7 +26,7 @@ pub record IsBegun {K : Type 0} (order : Order) (begun : Begun K) : Type 0 where
 -- What a directory says is in memory: the entries of its logs, the last sequence and the tables. A record can be put behind
 -- the new log.
 pub record HasBegun {K : Type 0} (order : Order) (files : Files) (begun : Begun K) (tables : List TableContent) (entries : List Entry) (used : ℕ) : Type 0 where
-  pub inserts : begun.memory.contents.inserts ≡ entries
+  pub inserts : logged_in begun.memory ≡ entries
   pub last : begun.memory.last ≡ used
   pub version : Lists (map (λ (content : TableContent). content.placed) tables) begun.version.value.tables
   pub log : CanAppend order files begun.log.number begun.log.end tables entries used

@@ -1,6 +1,6 @@
 -- Refusals that a command's arguments and what is open show, whatever the store returns. Each command has at most one:
 -- the first of them.
-use Rattle.std.specs.Prelude.{◌≡◌, ◌≢◌, ◌^◌, ◌-◌, ◌+◌, ℕ, nat_lt, if◌then◌else◌, Option, Some, None, is_some, MatchOption, List, [], ◌∷◌, length, Result, Err}
+use Rattle.std.specs.Prelude.{◌≡◌, ◌^◌, ◌-◌, ◌+◌, ℕ, nat_lt, if◌then◌else◌, Option, Some, None, is_some, MatchOption, List, [], ◌∷◌, length, Result, Err}
 use Rattle.std.specs.Option.{option_or, option_and_then}
 use Rattle.batch.specs.Batch.{first_refusal}
 use Rattle.batch.specs.declared.operation.Operation.{Operation}
@@ -26,7 +26,7 @@ broken_in state = if state.broken then Some error.Broken else None
 
 abbrev pub full_in : {I : Type 0} → Held I → List Operation → Option DbError
 full_in state [] = None
-full_in state (operation ∷ operations) = if nat_lt (2 ^ 56 - 1) (state.table.last + length (operation ∷ operations)) then Some error.SequenceFull else None
+full_in state (operation ∷ operations) = if nat_lt (2 ^ 56 - 1) (state.memory.last + length (operation ∷ operations)) then Some error.SequenceFull else None
 
 abbrev pub unseen_in : {I : Type 0} → Held I → Option ℕ → Option DbError
 unseen_in state snapshot = if is_some (sequence_at state snapshot) then None else Some error.NoSnapshot

@@ -3,9 +3,9 @@ use Rattle.std.specs.Prelude.{ℕ, Bool, List, ◌++◌}
 use Rattle.std.specs.BTreeMap.{BTreeMap}
 use Rattle.edits.specs.declared.field.PlacedTable.{PlacedTable}
 use Rattle.ikey.specs.declared.entry.Entry.{Entry}
+use Rattle.memories.specs.Memories.{Memories, logged_in}
 use Rattle.recover.specs.Tables.{TableContent, tabled}
 use Rattle.scans.specs.Whole.{Whole}
-use Rattle.scans.specs.Written.{Written}
 use Rattle.scans.specs.declared.scan.Scan.{Scan}
 use Rattle.scans.specs.declared.source.Sources.{Sources}
 use Rattle.sources.specs.Tables.{Seen, seen}
@@ -13,20 +13,20 @@ use Rattle.store.specs.Files.{Facts}
 use Rattle.engine.specs.declared.log.CurrentLog.{CurrentLog}
 use Rattle.engine.specs.declared.state.DbState.{DbState}
 
--- Its memory table, the tables of its version, the log that writes go to, the last sequence that each live snapshot sees,
+-- Its memory tables, the tables of its version, the log that writes go to, the last sequence that each live snapshot sees,
 -- the open iterators, and whether it is broken.
 pub record Held (I : Type 0) : Type 0 where
-  pub table : Written
+  pub memory : Memories
   pub tables : List PlacedTable
   pub log : CurrentLog
   pub snapshots : BTreeMap ℕ ℕ
   pub iterators : BTreeMap ℕ I
   pub broken : Bool
 
--- a database beside its memory table
-abbrev pub held : {K : Type 0} {g : _} → Written → DbState K g → Held (Scan K g)
-held table state = record {
-  table = table;
+-- a database beside its memory tables
+abbrev pub held : {K : Type 0} {g : _} → Memories → DbState K g → Held (Scan K g)
+held memory state = record {
+  memory = memory;
   tables = state.version.value.tables;
   log = state.log;
   snapshots = state.snapshots;
@@ -38,14 +38,14 @@ held table state = record {
 abbrev pub seen_of : {S K : Type 0} → (S → Facts) → Sources K S → Seen
 seen_of facts source = seen (facts source.tables.store) source.tables.tables source.tables.blocks
 
--- what its reads go over: its store with what is kept of its tables, and its memory table
+-- what its reads go over: its store with what is kept of its tables, and its memory tables
 abbrev pub whole_of : {I : Type 0} → Seen → Held I → Whole
-whole_of source db = record { seen = source; written = db.table }
+whole_of source db = record { seen = source; memory = db.memory }
 
 -- so of what is lent to a call
 abbrev pub whole_in : {S K : Type 0} → (S → Facts) → Sources K S → Whole
-whole_in facts source = record { seen = seen_of facts source; written = source.memory }
+whole_in facts source = record { seen = seen_of facts source; memory = source.memory }
 
 -- all its entries, where its tables have these contents
 abbrev pub entries_of : {I : Type 0} → List TableContent → Held I → List Entry
-entries_of tables db = tabled tables ++ db.table.contents.inserts
+entries_of tables db = tabled tables ++ logged_in db.memory

@@ -1,11 +1,10 @@
 -- What an open iterator stands for (LevelDB's include/leveldb/iterator.h).
-use Rattle.std.specs.Prelude.{◌≤◌, ℕ, Option, Some, None, List, map, if◌then◌else◌}
+use Rattle.std.specs.Prelude.{◌≡◌, ◌≤◌, ℕ, Bool, false, Option, Some, None, List, map, if◌then◌else◌}
 use Rattle.std.specs.declared.cmp.Ordering.{Ordering}
-use Rattle.edits.specs.declared.field.PlacedTable.{PlacedTable}
 use Rattle.ikey.specs.Views.{Contents as View}
 use Rattle.cursor.specs.Views.{Walked, walk_first, walk_last, walk_to, walk_next, walk_prev}
 use Rattle.scans.specs.Pairs.{ArePairs, listed_pair}
-use Rattle.scans.specs.Scans.{IsScan}
+use Rattle.scans.specs.Scans.{IsOnePastLimit, IsScan, tables_of}
 use Rattle.scans.specs.Whole.{Whole}
 use Rattle.scans.specs.declared.scan.Scan.{Scan}
 use Rattle.engine.specs.Machine.{Walk}
@@ -18,11 +17,12 @@ standing scan = (scan.walk.sequence, if scan.walk.stands then Some scan.walk.her
 abbrev pub walked_of : Walk → Walked
 walked_of walk = record { pairs = map listed_pair walk.pairs; place = walk.place }
 
--- Over what the database reads, up to the last sequence, and a version of these tables, the iterator goes over the pairs of the
--- machine's, and stands at its place.
-pub record IsWalk {K : Type 0} {g : _} (cmp : List ℕ → List ℕ → Ordering) (whole : Whole) (tables : List PlacedTable) (iterator : Scan K g) (walk : Walk) : Type 0 where
-  pub bound : iterator.walk.sequence ≤ whole.written.last
-  pub scan : IsScan cmp tables iterator whole (walked_of walk)
+-- Over what the database reads, up to the last sequence, the iterator goes over the pairs of the machine's, and stands at its place.
+-- Where nothing passes a limit of reading, none of its tables does.
+pub record IsWalk {K : Type 0} {g : _} (cmp : List ℕ → List ℕ → Ordering) (limited : Bool) (whole : Whole) (iterator : Scan K g) (walk : Walk) : Type 0 where
+  pub bound : iterator.walk.sequence ≤ whole.memory.last
+  pub scan : IsScan cmp iterator whole (walked_of walk)
+  pub limits : limited ≡ false → IsOnePastLimit cmp (tables_of iterator) whole → ⊥
 
 -- where a motion leads a walk
 abbrev pub destination : (List ℕ → List ℕ → Ordering) → Motion → Walked → Option ℕ
@@ -33,6 +33,6 @@ destination cmp ToNext at = walk_next at
 destination cmp ToPrev at = walk_prev at
 
 -- A new iterator goes over the pairs of the map, in the order of their keys, and has no place.
-abbrev pub BeginsWalk : {K : Type 0} {g : _} → (List ℕ → List ℕ → Ordering) → View → Whole → List PlacedTable → Scan K g → Type 0
-BeginsWalk cmp map whole tables iterator =
-    (pairs : List (List ℕ × List ℕ)) × ArePairs cmp map pairs × IsWalk cmp whole tables iterator (record { pairs = pairs; place = None })
+abbrev pub BeginsWalk : {K : Type 0} {g : _} → (List ℕ → List ℕ → Ordering) → Bool → View → Whole → Scan K g → Type 0
+BeginsWalk cmp limited map whole iterator =
+    (pairs : List (List ℕ × List ℕ)) × ArePairs cmp map pairs × IsWalk cmp limited whole iterator (record { pairs = pairs; place = None })

@@ -1,10 +1,10 @@
 -- What an iterator answers to a move.
-use Rattle.std.specs.Prelude.{◌≡◌, ℕ, IsTrue, List, Option, None, Result, Ok, Err, IfErr, OnErr, MatchOption}
+use Rattle.std.specs.Prelude.{◌≡◌, ℕ, Bool, IsTrue, List, Option, None, Result, Ok, Err, IfErr, OnErr, MatchOption}
 use Rattle.std.specs.declared.cmp.Ordering.{Ordering}
 use Rattle.coding.specs.declared.error.DbError.{DbError}
 use Rattle.cursor.specs.Moves.{Refuses}
-use Rattle.edits.specs.declared.field.PlacedTable.{PlacedTable}
-use Rattle.scans.specs.Scans.{IsScanLimited, KeepsWhole}
+use Rattle.memories.specs.Places.{LeavesMemories}
+use Rattle.scans.specs.Scans.{IsScanLimited, KeepsUpTo}
 use Rattle.scans.specs.Whole.{Whole}
 use Rattle.scans.specs.declared.scan.Scan.{Scan}
 use Rattle.table.specs.Reading.{IsStill, Reads}
@@ -16,20 +16,19 @@ use Rattle.engine.specs.Walks.{Motion, lacks_place, place_after, pair_at}
 
 -- Where a move has led an iterator that was this walk: to the place of the motion, with the pair there, or, refused, to where
 -- it stood.
-abbrev pub MovesTo : {K : Type 0} {g : _} → (List ℕ → List ℕ → Ordering) → Motion → Whole → List PlacedTable → Scan K g → Walk → Result (Option (List ℕ × List ℕ)) DbError → Type 0
-MovesTo cmp motion after tables new walk (Ok pair) =
-    IsWalk cmp after tables new (record walk { place = place_after cmp motion walk }) × (pair ≡ pair_at walk.pairs (place_after cmp motion walk))
-MovesTo cmp motion after tables new walk (Err e) = IsWalk cmp after tables new walk
+abbrev pub MovesTo : {K : Type 0} {g : _} → (List ℕ → List ℕ → Ordering) → Motion → Bool → Whole → Scan K g → Walk → Result (Option (List ℕ × List ℕ)) DbError → Type 0
+MovesTo cmp motion limited after new walk (Ok pair) =
+    IsWalk cmp limited after new (record walk { place = place_after cmp motion walk }) × (pair ≡ pair_at walk.pairs (place_after cmp motion walk))
+MovesTo cmp motion limited after new walk (Err e) = IsWalk cmp limited after new walk
 
--- no walk over any tables is what the iterator stands for
+-- no walk is what the iterator stands for
 abbrev pub IsNoWalk : {K : Type 0} {g : _} → (List ℕ → List ℕ → Ordering) → Whole → Scan K g → Type 0
-IsNoWalk cmp whole iterator = (tables : List PlacedTable) (walk : Walk) → IsWalk cmp whole tables iterator walk → ⊥
+IsNoWalk cmp whole iterator = (limited : Bool) (walk : Walk) → IsWalk cmp limited whole iterator walk → ⊥
 
 -- What a move of an iterator does, which only reads.
 pub record IsMoved {K : Type 0} {g : _} (cmp : List ℕ → List ℕ → Ordering) (motion : Motion) (before after : Whole) (old new : Scan K g) (result : Result (Option (List ℕ × List ℕ)) DbError) : Type 0 where
   -- whatever the store returns
-  pub inserts : after.written.contents.inserts ≡ before.written.contents.inserts
-  pub last : after.written.last ≡ before.written.last
+  pub memory : LeavesMemories before.memory after.memory
   pub reads : Reads before.seen.facts after.seen.facts
   pub still : IsStill before.seen.facts after.seen.facts result
   pub stayed : OnErr result (standing new ≡ standing old)
@@ -39,6 +38,6 @@ pub record IsMoved {K : Type 0} {g : _} (cmp : List ℕ → List ℕ → Orderin
   pub placed : lacks_place old.walk.stands motion ≡ None → IfErr result IsMet
   pub refused : lacks_place old.walk.stands motion ≡ None → IfErr result (λ e. Refuses e before.seen.facts after.seen.facts (IsNoWalk cmp before old) (IsScanLimited cmp old before))
   -- while it is faithful
-  pub keeps : IsTrue after.seen.facts.faithful → (sequence : ℕ) → KeepsWhole cmp sequence before after
-  pub moves : IsTrue after.seen.facts.faithful → lacks_place old.walk.stands motion ≡ None → (tables : List PlacedTable) (walk : Walk) → IsWalk cmp before tables old walk
-      → MovesTo cmp motion after tables new walk result
+  pub keeps : IsTrue after.seen.facts.faithful → (sequence : ℕ) → KeepsUpTo cmp sequence before after
+  pub moves : IsTrue after.seen.facts.faithful → lacks_place old.walk.stands motion ≡ None → (limited : Bool) (walk : Walk) → IsWalk cmp limited before old walk
+      → MovesTo cmp motion limited after new walk result

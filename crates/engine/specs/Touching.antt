@@ -6,7 +6,7 @@ use Rattle.store.specs.Files.{Facts}
 use Rattle.engine.specs.declared.command.Op.{Op}
 use Rattle.engine.specs.declared.command.Op.TheVariants.{Open, Write, Close}
 use Rattle.engine.specs.declared.command.Answer.{Answer}
-use Rattle.engine.specs.declared.command.Answer.TheVariants.{Done, Refused}
+use Rattle.engine.specs.declared.command.Answer.TheVariants.{Refused}
 use Rattle.engine.specs.Held.{Held}
 use Rattle.engine.specs.Durable.{SyncsOnly, IsSynced, LeavesDurable}
 

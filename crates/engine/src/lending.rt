@@ -3,7 +3,8 @@
 ghost use Rattle.std.specs.Prelude.{◌≡◌};
 
 use ikey::KeyOrder;
-use scans::{MemoryTable, Sources};
+use memories::MemoryTables;
+use scans::Sources;
 use sources::Tables;
 use std::alloc::Global;
 use store::Store;
@@ -14,7 +15,7 @@ pub fn sources_over<K: KeyOrder, S: Store>(alloc: Global, store: S) -> Sources<K
 {
     Sources {
         tables: Tables::over(store),
-        memory: MemoryTable::empty(alloc),
+        memory: MemoryTables::empty(alloc),
     }
 }
 
@@ -23,7 +24,7 @@ pub fn forget<K: KeyOrder, S: Store>(alloc: Global, source: &mut Sources<K, S>)
     ensures { source.new.tables.store ≡ source.old.tables.store }
 {
     source.tables.end();
-    source.memory = MemoryTable::empty(alloc);
+    source.memory = MemoryTables::empty(alloc);
 }
 
 /// The store alone.

@@ -1,19 +1,21 @@
 -- Which tables there are under which generation, through what is changed.
-use Rattle.std.proofs.Common.{◌≡◌, ◌≢◌, ◌⊎◌, ◌<◌, ◌+◌, ◌^◌, ◌++◌, ◌∷◌, [], ℕ, Bool, true, false, cond, not, List, Option, Some, None, IfSome, IsSome, MatchBool, inl, inr, refl, sym, ap, subst, ◌∙◌, arith, append_assoc}
+use Rattle.std.proofs.Common.{◌≡◌, ◌≢◌, ◌⊎◌, ◌<◌, ◌≤◌, ◌+◌, ◌^◌, ◌++◌, ◌∷◌, [], ℕ, Bool, true, false, cond, not, List, Option, Some, None, IfSome, IsSome, MatchBool, inl, inr, refl, sym, ap, subst, ◌∙◌, arith, append_assoc}
 use Rattle.std.proofs.Math.Dec.{eqb}
 use Rattle.std.proofs.lemmas.Bool.{cases_eq, cond_both, cond-true, eq-eqb, eqb-true}
 use Rattle.std.specs.BTreeMap.{is_at}
 use Rattle.std.specs.Cmp.{unsigned_tied}
 use Rattle.std.specs.Map.{lookup}
 use Rattle.std.specs.Map.Calls.{RetainsPairs}
-use Rattle.std.specs.Option.{option_eq}
+use Rattle.std.specs.Option.{option_and_then, option_eq, option_map}
 use Rattle.std.specs.Ordering.{is_eq, nat_cmp}
 use Rattle.ikey.specs.declared.entry.Entry.{Entry}
-use Rattle.ikey.specs.Views.{AllUpTo}
+use Rattle.ikey.specs.Sources.{IsNewerThan}
+use Rattle.ikey.specs.Views.{AllUpTo, Among}
 use Rattle.memtable.specs.Contents.{Contents}
 use Rattle.memories.specs.Changes.{IsWritten, KeepsUsed}
-use Rattle.memories.specs.Memories.{AreMemories, Memories, older_at}
+use Rattle.memories.specs.Memories.{AreMemories, Memories, inserts_of, older_at, sealed_inserts}
 use Rattle.memories.proofs.Batches.{bounded_more}
+use Rattle.memories.proofs.Searching.{among_split}
 
 -- ---- keys
 
@@ -41,9 +43,30 @@ sealed_still (Some generation) old new keep is = keep generation refl is
 up_to_more : (last : ℕ) (entries : List Entry) → AllUpTo last entries → AllUpTo (last + 1) entries
 up_to_more last entries h e among = (let low = h e among in omega (arith, low))
 
+-- a new entry is above all that is sealed
+newer_added : (m : Memories) (inserts : List Entry) (key : List ℕ) (value : Option (List ℕ)) → inserts ≡ m.current.inserts ++ record { key = key; sequence = m.last + 1; value = value } ∷ []
+    → AreMemories m → IsNewerThan inserts (sealed_inserts m)
+newer_added m inserts key value is are a b i j same = elim (among_split m.current.inserts (record { key = key; sequence = m.last + 1; value = value } ∷ []) a (subst (λ (es : List Entry). Among es a) is i)) [
+  | inl old ↦ are.newer a b old j same
+  | inr new ↦ (let low : b.sequence ≤ m.last = sealed_bounded m.sealed b j in let at = added a new in omega (arith, low, at))
+]
+  where
+    added : (a : Entry) → Among (record { key = key; sequence = m.last + 1; value = value } ∷ []) a → a.sequence ≡ m.last + 1
+    added a (inl e) = ap (λ (x : Entry). x.sequence) e
+    added a (inr e) = absurd e
+
+    at_most : (o : Option Contents) → ((table : Contents) → o ≡ Some table → AllUpTo m.last table.inserts) → (b : Entry) → Among (inserts_of o) b → b.sequence ≤ m.last
+    at_most None bound b j = absurd j
+    at_most (Some table) bound b j = bound table refl b j
+
+    sealed_bounded : (o : Option ℕ) → (b : Entry) → Among (inserts_of (option_and_then (older_at m.older) o)) b → b.sequence ≤ m.last
+    sealed_bounded None b j = absurd j
+    sealed_bounded (Some generation) b j = at_most (older_at m.older generation) (are.older generation) b j
+
 pub invariant_added : (m : Memories) (table : Contents) (key : List ℕ) (value : Option (List ℕ)) → table.inserts ≡ m.current.inserts ++ record { key = key; sequence = m.last + 1; value = value } ∷ []
     → m.last + 1 < 2 ^ 56 → AreMemories m → AreMemories (record m { current = table; last = m.last + 1 })
 invariant_added m table key value is fits are = record {
+  newer = newer_added m table.inserts key value is are;
   current = subst (λ (es : List Entry). AllUpTo (m.last + 1) es) (sym is) (bounded_more m.current.inserts m.last key value are.current);
   older = λ generation older there. up_to_more m.last older.inserts (are.older generation older there);
   below = are.below;
@@ -51,12 +74,18 @@ invariant_added m table key value is fits are = record {
   fits = fits;
 }
 
+sealed_same : (sealed : Option ℕ) (old new : List (ℕ × Contents)) → ((generation : ℕ) → sealed ≡ Some generation → older_at new generation ≡ older_at old generation)
+    → inserts_of (option_and_then (older_at new) sealed) ≡ inserts_of (option_and_then (older_at old) sealed)
+sealed_same None old new kept = refl
+sealed_same (Some generation) old new kept = ap inserts_of (kept generation refl)
+
 pub invariant_dropped : (m : Memories) (older : List (ℕ × Contents)) → ((generation : ℕ) → m.sealed ≡ Some generation → older_at older generation ≡ older_at m.older generation)
     → ((generation : ℕ) (table : Contents) → older_at older generation ≡ Some table → older_at m.older generation ≡ Some table) → AreMemories m → AreMemories (record m { older = older })
 invariant_dropped m older kept from are = record {
   current = are.current;
   older = λ generation table is. are.older generation table (from generation table is);
   below = λ generation table is. are.below generation table (from generation table is);
+  newer = subst (λ (es : List Entry). IsNewerThan m.current.inserts es) (sym (sealed_same m.sealed m.older older kept)) are.newer;
   sealed = sealed_still m.sealed m.older older (λ generation at is. subst (λ (o : Option Contents). IsSome o) (sym (kept generation at)) is) are.sealed;
   fits = are.fits;
 }
@@ -67,6 +96,7 @@ invariant_alone table last generation older none bound fits = record {
   current = bound;
   older = λ number found is. absurd (nothing number found is);
   below = λ number found is. absurd (nothing number found is);
+  newer = λ a b i j key. absurd j;
   sealed = tt;
   fits = fits;
 }
@@ -148,3 +178,49 @@ written_more first second third xs ys one two = record {
   inserts = two.inserts ∙ ap (λ (es : List Entry). es ++ ys) one.inserts ∙ append_assoc first.current.inserts xs ys;
   others = two.others ∙ ap (λ (m : Memories). record m { current = third.current; last = third.last }) one.others;
 }
+
+-- ---- moves
+
+-- where an older table is there as one with the same entries
+pub moved_older : (k : ℕ) (was now : Contents) (old new : List (ℕ × Contents)) → older_at old k ≡ Some was → now.inserts ≡ was.inserts → Updates k (Some now) old new → (q : ℕ)
+    → option_map (λ (table : Contents). table.inserts) (older_at new q) ≡ option_map (λ (table : Contents). table.inserts) (older_at old q)
+moved_older k was now old new there same updates q = by (cases_eq q k)
+  where
+    by : (q ≡ k) ⊎ (q ≢ k) → option_map (λ (table : Contents). table.inserts) (older_at new q) ≡ option_map (λ (table : Contents). table.inserts) (older_at old q)
+    by (inl is) =
+        ap (λ (n : ℕ). option_map (λ (table : Contents). table.inserts) (older_at new n)) is
+        ∙ ap (option_map (λ (table : Contents). table.inserts)) (updated_here k (Some now) old new updates)
+        ∙ ap Some same
+        ∙ sym (ap (λ (n : ℕ). option_map (λ (table : Contents). table.inserts) (older_at old n)) is ∙ ap (option_map (λ (table : Contents). table.inserts)) there)
+    by (inr apart) = ap (option_map (λ (table : Contents). table.inserts)) (updated_apart k q (Some now) old new updates apart)
+
+was_there : (old new : Option Contents) (table : Contents) → option_map (λ (table : Contents). table.inserts) new ≡ option_map (λ (table : Contents). table.inserts) old → new ≡ Some table → (before : Contents) × (old ≡ Some before) × (table.inserts ≡ before.inserts)
+was_there None new table same is = absurd cc
+was_there (Some before) None table same is = absurd cc
+was_there (Some before) (Some after) table same is = (before, refl, (let one : after ≡ table = cc in let both : after.inserts ≡ before.inserts = cc in sym (ap (λ (t : Contents). t.inserts) one) ∙ both))
+
+still_there : (old new : Option Contents) → option_map (λ (table : Contents). table.inserts) new ≡ option_map (λ (table : Contents). table.inserts) old → IsSome old → IsSome new
+still_there None new same is = absurd (let bad : false ≡ true = is in cc)
+still_there (Some before) None same is = absurd cc
+still_there (Some before) (Some after) same is = is
+
+inserts_same : (old new : Option Contents) → option_map (λ (table : Contents). table.inserts) new ≡ option_map (λ (table : Contents). table.inserts) old → inserts_of new ≡ inserts_of old
+inserts_same None None same = refl
+inserts_same None (Some after) same = absurd cc
+inserts_same (Some before) None same = absurd cc
+inserts_same (Some before) (Some after) same = (let both : after.inserts ≡ before.inserts = cc in both)
+
+pub invariant_moved : (m : Memories) (older : List (ℕ × Contents)) → ((q : ℕ) → option_map (λ (table : Contents). table.inserts) (older_at older q) ≡ option_map (λ (table : Contents). table.inserts) (older_at m.older q))
+    → AreMemories m → AreMemories (record m { older = older })
+invariant_moved m older same are = record {
+  current = are.current;
+  older = λ q table is. (let was = was_there (older_at m.older q) (older_at older q) table (same q) is in subst (λ (es : List Entry). AllUpTo m.last es) (sym was.2) (are.older q was.0 was.1));
+  below = λ q table is. (let was = was_there (older_at m.older q) (older_at older q) table (same q) is in are.below q was.0 was.1);
+  sealed = sealed_still m.sealed m.older older (λ q at some. still_there (older_at m.older q) (older_at older q) (same q) some) are.sealed;
+  newer = subst (λ (es : List Entry). IsNewerThan m.current.inserts es) (sym (sealed_as m.sealed)) are.newer;
+  fits = are.fits;
+}
+  where
+    sealed_as : (o : Option ℕ) → inserts_of (option_and_then (older_at older) o) ≡ inserts_of (option_and_then (older_at m.older) o)
+    sealed_as None = refl
+    sealed_as (Some q) = inserts_same (older_at m.older q) (older_at older q) (same q)

@@ -1,5 +1,5 @@
 -- The memory tables of an open database (LevelDB's db/db_impl.h, DBImpl::mem_ and DBImpl::imm_).
-use Rattle.std.specs.Prelude.{◌≡◌, ◌<◌, ◌≤◌, ◌+◌, ◌^◌, ℕ, nat_eq, if◌then◌else◌, List, [], length, sum_by, Option, Some, None, IfSome, IsSome}
+use Rattle.std.specs.Prelude.{◌≡◌, ◌<◌, ◌≤◌, ◌+◌, ◌^◌, ℕ, nat_eq, if◌then◌else◌, List, [], ◌++◌, length, sum_by, Option, Some, None, IfSome, IsSome}
 use Rattle.std.specs.Option.{option_and_then}
 use Rattle.std.specs.Ordering.{nat_cmp}
 use Rattle.std.specs.BTreeMap.{is_at}
@@ -7,6 +7,7 @@ use Rattle.std.specs.Map.{lookup}
 use Rattle.batch.specs.declared.operation.Operation.{Operation}
 use Rattle.batch.specs.declared.operation.Operation.TheVariants.{Put, Delete}
 use Rattle.ikey.specs.declared.entry.Entry.{Entry}
+use Rattle.ikey.specs.Sources.{IsNewerThan}
 use Rattle.ikey.specs.Views.{AllUpTo}
 use Rattle.memtable.specs.Contents.{Contents}
 
@@ -39,12 +40,18 @@ inserts_of (Some table) = table.inserts
 abbrev pub sealed_inserts : Memories → List Entry
 sealed_inserts memories = inserts_of (sealed_in memories)
 
--- No entry is above the last sequence, older tables have lower generations, and the sealed one is one of them.
+-- the entries of the logs, in their order: those of the sealed table, and then the current one's
+abbrev pub logged_in : Memories → List Entry
+logged_in memories = sealed_inserts memories ++ memories.current.inserts
+
+-- No entry is above the last sequence, older tables have lower generations, and the sealed one is one of them. Of the same key, the
+-- current table's entries are newer than the sealed one's.
 pub record AreMemories (memories : Memories) : Type 0 where
   pub current : AllUpTo memories.last memories.current.inserts
   pub older : (generation : ℕ) (table : Contents) → older_at memories.older generation ≡ Some table → AllUpTo memories.last table.inserts
   pub below : (generation : ℕ) (table : Contents) → older_at memories.older generation ≡ Some table → generation < memories.generation
   pub sealed : IfSome memories.sealed (λ (generation : ℕ). IsSome (older_at memories.older generation))
+  pub newer : IsNewerThan memories.current.inserts (sealed_inserts memories)
   pub fits : memories.last < 2 ^ 56
 
 -- there is no table beside the current one

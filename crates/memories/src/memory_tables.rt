@@ -50,9 +50,9 @@ impl<K: KeyOrder> MemoryTables<K> {
     ghost use Rattle.cursor.specs.Moves.{ListsNone, Moves, Refuses};
     ghost use Rattle.cursor.specs.Places.{to_first, to_key, to_last, to_next, to_prev};
     ghost use Rattle.ikey.specs.Keys.{Key, IsKey};
-    ghost use Rattle.ikey.specs.Sources.{IsAnswer, IsNewerThan};
+    ghost use Rattle.ikey.specs.Sources.{IsAnswer};
     ghost use Rattle.memories.specs.Changes.{IsFlushed, IsRemembered, IsSealed, IsUsed, IsWritten, KeepsUsed};
-    ghost use Rattle.memories.specs.Memories.{AreMemories, HasRoom, IsAlone, operation_bytes, sealed_in, sealed_inserts, table_in};
+    ghost use Rattle.memories.specs.Memories.{AreMemories, HasRoom, IsAlone, logged_in, operation_bytes, sealed_in, sealed_inserts, table_in};
     ghost use Rattle.memories.specs.Places.{LeavesMemories, ListsTable, StaysInMemories};
     ghost use Rattle.memtable.specs.Contents.{size_of};
     ghost use Rattle.recover.specs.Entries.{RiseAbove, greatest, entry_of, entries_of};
@@ -101,7 +101,8 @@ impl<K: KeyOrder> MemoryTables<K> {
         self.last
     }
 
-    /// No entry is above the last sequence, and the older tables, among which the sealed one is, have lower generations.
+    /// No entry is above the last sequence, the older tables, among which the sealed one is, have lower generations, and the
+    /// current table's entries are newer than the sealed one's.
     pub fn are_bounded(&self)
         ensures { AreMemories self.now }
     {
@@ -146,10 +147,11 @@ impl<K: KeyOrder> MemoryTables<K> {
         key: &[u8],
         sequence: u64,
     ) -> Result<Option<Option<Bytes>>, AllocError>
-        ensures { IfOk result (λ answer. IsNewerThan self.now.current.inserts (sealed_inserts self.now) → IsAnswer (self.now.current.inserts ++ sealed_inserts self.now) sequence key.now answer) }
+        ensures { IfOk result (λ answer. IsAnswer (logged_in self.now) sequence key.now answer) }
     {
         newest_in_front();
         unseen_in_front();
+        self.are_bounded();
         if let Some(found) = value_in(alloc, &self.current, key, sequence)? {
             return Ok(Some(found));
         }

@@ -1,9 +1,9 @@
 pub mod AtHand
-pub mod Batches
 pub mod FirstPlaces
 pub mod Joining
 pub mod NewScans
 pub mod Ranges
+pub mod ReadTables
 pub mod ScanSteps
 pub mod Sights
 pub mod Slices

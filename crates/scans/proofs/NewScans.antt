@@ -1,51 +1,43 @@
 -- A new scan over a memory table and the tables of a version.
-use Rattle.std.proofs.Common.{◌≡◌, ◌⊎◌, ◌↔◌, ◌+◌, ◌-◌, ◌++◌, ◌<◌, ◌≤◌, ℕ, zero, suc, Bool, true, false, Option, Some, None, is_some, List, [], ◌∷◌, drop, get_or, length, map, take, refl, sym, ap, ◌∙◌, subst, inl, inr, arith}
+use Rattle.std.proofs.Common.{◌≡◌, ◌-◌, ◌++◌, ◌≤◌, ℕ, zero, suc, false, Option, Some, None, is_some, List, [], ◌∷◌, drop, length, map, take, refl, sym, ap, ◌∙◌, subst, inl, inr, arith}
 use Rattle.std.specs.Prelude.{Contains, slice_get}
 use Rattle.std.specs.List.{AllByRecursion}
-use Rattle.std.specs.Cmp.{IsTotalOrder}
 use Rattle.std.specs.Option.{option_map}
-use Rattle.std.specs.FinMap.{get}
 use Rattle.std.proofs.lemmas.List.{drop-map, length-map, take-map}
-use Rattle.cache.specs.Tables.{table_at}
 use Rattle.cursor.specs.declared.child.Child.{Child}
 use Rattle.cursor.specs.declared.child.Side.{Side}
 use Rattle.cursor.specs.declared.child.Side.TheVariants.{Astray}
-use Rattle.cursor.specs.Merging.{Each, IsBeside, IsMerge, IsUnion, KeepsAll, listed}
+use Rattle.cursor.specs.Merging.{IsBeside, IsMerge, IsUnion, listed}
 use Rattle.cursor.specs.Places.{Cmp, Rises}
-use Rattle.cursor.specs.Sharing.{ShareNoKey}
-use Rattle.cursor.specs.Views.{HasPair, IsViewList}
-use Rattle.cursor.specs.Walks.{walked}
 use Rattle.edits.specs.declared.field.PlacedTable.{PlacedTable}
 use Rattle.ikey.specs.declared.entry.Entry.{Entry}
-use Rattle.ikey.specs.Entries.{InternalEntry, Pair, entry_of}
-use Rattle.ikey.specs.Keys.{Key}
+use Rattle.ikey.specs.Entries.{InternalEntry, entry_of}
 use Rattle.ikey.specs.Orders.{Order}
-use Rattle.ikey.specs.Sources.{AreInRow, AreSearched, IsNewerThan, joined}
-use Rattle.ikey.specs.Views.{Among, Contents, IsView}
-use Rattle.ikey.proofs.SearchedSources as sources
+use Rattle.ikey.specs.Sources.{AreInRow, joined}
 use Rattle.recover.specs.Tables.{TableContent, HasTables}
 use Rattle.recover.proofs.NameScan.{in_cons, in_none}
 use Rattle.rows.specs.declared.row_cursor.RowCursor.{RowCursor}
-use Rattle.rows.specs.InRows.{HaveLists, KeepsOpen, IsOpenLimited}
+use Rattle.rows.specs.InRows.{HaveLists, IsOpenLimited}
 use Rattle.rows.specs.Rows.{ListsRow, rows_tables}
-use Rattle.scans.specs.declared.scan.Scan.{Scan}
 use Rattle.scans.specs.declared.source_cursor.SourceCursor.{SourceCursor}
 use Rattle.scans.specs.declared.source_cursor.SourceCursor.TheVariants.{Memory, Row}
-use Rattle.scans.specs.Pairs.{ArePairs, listed_pair, tuple_of}
 use Rattle.scans.specs.Places.{ListsSource, KeepsSource, LimitedSource}
-use Rattle.scans.specs.Rows.{Spot, OfMemory, OfRow, spot_of, spots_of}
-use Rattle.scans.specs.Scans.{IsOnePastLimit, IsScan, KeepsWhole}
+use Rattle.memories.specs.Memories.{AreMemories, Memories, sealed_inserts, table_in}
+use Rattle.memories.specs.Places.{ListsMemories, MemoriesPlace}
+use Rattle.memtable.specs.Contents.{Contents as MemoryContents}
+use Rattle.scans.specs.Rows.{IsOneOf, OfMemory, OfRow, memory_spots, place_in, spot_of, spots_of}
+use Rattle.scans.specs.Scans.{GoesOver, IsOnePastLimit, KeepsWhole}
 use Rattle.scans.specs.SourceLaws.{source_rises}
 use Rattle.scans.specs.Whole.{Whole}
-use Rattle.scans.proofs.Joining.{all_entries, entries_of, seen_from, seen_has, share_none, union_from, union_has, view_up_to}
-use Rattle.scans.proofs.Slices.{IsRow, Kept, LevelsRise, all_ranges, all_rows, entries_in, kept_joined, kept_searched, kept_sources, placed_of, slice}
-use Rattle.scans.proofs.ViewPairs.{listed_again, pairs_of_view}
-use Rattle.search.specs.Places.{contents_at, lists_of, table_sources, HasVersion}
-use Rattle.search.proofs.Orders.{ForTwo, for_two}
-use Rattle.sources.specs.Memory.{MemoryPlace, ListsMemory, seen_entries}
+use Rattle.scans.proofs.Joining.{all_entries, entries_of}
+use Rattle.scans.proofs.Slices.{IsRow, LevelsRise, all_ranges, entries_in, placed_of, slice}
+use Rattle.search.specs.Places.{lists_of}
+use Rattle.search.proofs.Orders.{ForTwo}
+use Rattle.scans.proofs.ReadTables.{current_there, row_kept, sealed_there}
+use Rattle.sources.specs.Memory.{seen_entries}
 use Rattle.sources.specs.Tables.{Seen, HasTable, IsSound}
 use Rattle.std.proofs.lemmas.Option.{slice_get-map}
-use Rattle.versions.specs.Levels.{AreInOrder, IsBefore}
+use Rattle.versions.specs.Levels.{IsBefore}
 
 -- ---- two lists, side by side
 
@@ -127,20 +119,23 @@ has_file cmp source (t ∷ tables) (list ∷ lists) placed h i = elim (in_cons t
 
 -- ---- new cursors
 
--- a new cursor over no entries above the sequence, or over these tables
-abbrev pub IsNew : {K : Type 0} {g : _} → ℕ → List PlacedTable → SourceCursor K g → Type 0
-IsNew sequence tables (Memory cursor) = cursor.sequence ≤ sequence
-IsNew sequence tables (Row cursor) = (cursor.here ≡ None) × (cursor.version.value.tables ≡ tables)
+-- a new cursor over a memory table that is read and no entries above the sequence, or over these tables
+abbrev pub IsNew : {K : Type 0} {g : _} → (ℕ → Type 0) → ℕ → List PlacedTable → SourceCursor K g → Type 0
+IsNew reads sequence tables (Memory cursor) = reads cursor.generation × (cursor.place.sequence ≤ sequence)
+IsNew reads sequence tables (Row cursor) = (cursor.here ≡ None) × (cursor.version.value.tables ≡ tables)
 
-module _ {K : Type 0} {g : _} (sequence : ℕ) (tables : List PlacedTable) where
-  new_row : (cursor : SourceCursor K g) (range : ℕ × ℕ) → spot_of cursor ≡ OfRow tables range.0 range.1 false → IsNew sequence tables cursor
+module _ {K : Type 0} {g : _} (generation : ℕ) (sealed : Option ℕ) (sequence : ℕ) (tables : List PlacedTable) where
+  abbrev pub New : SourceCursor K g → Type 0
+  New cursor = IsNew (IsOneOf generation sealed) sequence tables cursor
+
+  new_row : (cursor : SourceCursor K g) (range : ℕ × ℕ) → spot_of cursor ≡ OfRow tables range.0 range.1 false → New cursor
   new_row (Memory cursor) range e = absurd (cc)
   new_row (Row cursor) range e =
       let none : is_some cursor.here ≡ false = cc in
       let same : cursor.version.value.tables ≡ tables = cc in
       (none_of cursor.here none, same)
 
-  new_rows : (ranges : List (ℕ × ℕ)) (cursors : List (SourceCursor K g)) → map spot_of cursors ≡ spots_of tables ranges → AllByRecursion (IsNew sequence tables) cursors
+  new_rows : (ranges : List (ℕ × ℕ)) (cursors : List (SourceCursor K g)) → map spot_of cursors ≡ spots_of tables ranges → AllByRecursion New cursors
   new_rows [] [] e = tt
   new_rows [] (c ∷ cursors) e = absurd (cc)
   new_rows (r ∷ ranges) [] e = absurd (cc)
@@ -149,23 +144,35 @@ module _ {K : Type 0} {g : _} (sequence : ℕ) (tables : List PlacedTable) where
       let rest : map spot_of cursors ≡ spots_of tables ranges = cc in
       (new_row c r first, new_rows ranges cursors rest)
 
-  pub new_all : (place : MemoryPlace) (ranges : List (ℕ × ℕ)) (cursors : List (SourceCursor K g)) → map spot_of cursors ≡ OfMemory place ∷ spots_of tables ranges → place.sequence ≤ sequence → AllByRecursion (IsNew sequence tables) cursors
-  new_all place ranges [] e le = absurd (cc)
-  new_all place ranges (Row cursor ∷ cursors) e le = absurd (cc)
-  new_all place ranges (Memory cursor ∷ cursors) e le =
-      let same : place ≡ cursor = cc in
+  new_memory : (cursor : SourceCursor K g) (named : ℕ) → IsOneOf generation sealed named → spot_of cursor ≡ OfMemory (place_in sequence named) → New cursor
+  new_memory (Row cursor) named is e = absurd (cc)
+  new_memory (Memory cursor) named is e =
+      let same : place_in sequence named ≡ cursor = cc in
+      subst (λ (p : MemoriesPlace). IsOneOf generation sealed p.generation × (p.place.sequence ≤ sequence)) same (is, omega arith)
+
+  new_all : (o : Option ℕ) (ranges : List (ℕ × ℕ)) (cursors : List (SourceCursor K g)) → sealed ≡ o → map spot_of cursors ≡ memory_spots sequence generation o ++ spots_of tables ranges → AllByRecursion New cursors
+  new_all None ranges [] is e = absurd (cc)
+  new_all None ranges (c ∷ cursors) is e =
+      let first : spot_of c ≡ OfMemory (place_in sequence generation) = cc in
       let rest : map spot_of cursors ≡ spots_of tables ranges = cc in
-      (subst (λ (p : MemoryPlace). p.sequence ≤ sequence) same le, new_rows ranges cursors rest)
+      (new_memory c generation (inl refl) first, new_rows ranges cursors rest)
+  new_all (Some named) ranges [] is e = absurd (cc)
+  new_all (Some named) ranges (c ∷ []) is e = absurd (cc)
+  new_all (Some named) ranges (c ∷ d ∷ cursors) is e =
+      let first : spot_of c ≡ OfMemory (place_in sequence generation) = cc in
+      let second : spot_of d ≡ OfMemory (place_in sequence named) = cc in
+      let rest : map spot_of cursors ≡ spots_of tables ranges = cc in
+      (new_memory c generation (inl refl) first, (new_memory d named (inr is) second, new_rows ranges cursors rest))
 
-  pub keeps_new : (cmp : Cmp) (cursor : SourceCursor K g) (old new : Whole) → IsNew sequence tables cursor → KeepsWhole cmp sequence old new → KeepsSource cmp cursor old new
-  keeps_new cmp (Memory cursor) old new h k = k.memory cursor h
-  keeps_new cmp (Row cursor) old new h k = record {
-    same = λ placed i. k.tables placed.table.number;
-    sound = k.sound;
-    here = subst (λ o. KeepsOpen cmp o old.seen new.seen) (sym h.0) tt;
-  }
+  pub all_new : (ranges : List (ℕ × ℕ)) (cursors : List (SourceCursor K g)) → map spot_of cursors ≡ memory_spots sequence generation sealed ++ spots_of tables ranges → AllByRecursion New cursors
+  all_new ranges cursors e = new_all sealed ranges cursors refl e
 
-  pub limited_new : (cmp : Cmp) (cursor : SourceCursor K g) (whole : Whole) (list : List InternalEntry) → IsNew sequence tables cursor → ListsSource cmp cursor whole (listed list None) → LimitedSource cmp cursor whole → IsOnePastLimit cmp tables whole
+  pub keeps_new : (cmp : Cmp) (numbers : ℕ → Type 0) (cursor : SourceCursor K g) (old new : Whole) → ((number : ℕ) → GoesOver cursor number → numbers number) → New cursor
+      → KeepsWhole cmp (IsOneOf generation sealed) numbers sequence old new → KeepsSource cmp cursor old new
+  keeps_new cmp numbers (Memory cursor) old new over h k = k.memory cursor h.0 h.1
+  keeps_new cmp numbers (Row cursor) old new over h k = row_kept cmp (IsOneOf generation sealed) numbers sequence old new cursor over k
+
+  pub limited_new : (cmp : Cmp) (cursor : SourceCursor K g) (whole : Whole) (list : List InternalEntry) → New cursor → ListsSource cmp cursor whole (listed list None) → LimitedSource cmp cursor whole → IsOnePastLimit cmp tables whole
   limited_new cmp (Memory cursor) whole list h lists l = absurd l
   limited_new cmp (Row cursor) whole list h lists (inl l) =
       let file = has_file cmp whole.seen (rows_tables cursor) lists.lists l.0 lists.tables l.1 in
@@ -174,6 +181,18 @@ module _ {K : Type 0} {g : _} (sequence : ℕ) (tables : List PlacedTable) where
   limited_new cmp (Row cursor) whole list h lists (inr l) = absurd (subst (λ o. IsOpenLimited o) h.0 l)
 
 -- ---- what they list
+
+-- what is listed of the memory tables
+abbrev pub seen_current : Cmp → Memories → ℕ → List InternalEntry
+seen_current cmp memory sequence = seen_entries cmp memory.current.inserts sequence
+
+abbrev pub seen_sealed : Cmp → Memories → ℕ → List InternalEntry
+seen_sealed cmp memory sequence = seen_entries cmp (sealed_inserts memory) sequence
+
+-- that of the sealed table, where there is one, in front of others
+abbrev pub in_front : Cmp → Memories → ℕ → Option ℕ → List (List InternalEntry) → List (List InternalEntry)
+in_front cmp memory sequence None lists = lists
+in_front cmp memory sequence (Some named) lists = seen_sealed cmp memory sequence ∷ lists
 
 module _ {K : Type 0} {g : _} (order : Order) (whole : Whole) (tables : List PlacedTable) (contents : List TableContent) (placed : placed_of contents ≡ tables) (sound : IsSound order.cmp whole.seen)
     (begins : (row : List TableContent) → HasTables order whole.seen.facts.files row → AreInRow order (lists_of row)
@@ -207,18 +226,48 @@ module _ {K : Type 0} {g : _} (order : Order) (whole : Whole) (tables : List Pla
       let others = rows_listed ranges cursors rest rows.1 in
       (here.0 ∷ others.0, (λ i. here.1 i ∷ others.1 i), (here.2, others.2))
 
-  -- the memory table's entries in front of those of the tables
-  pub all_listed : (place : MemoryPlace) (cursors : List (SourceCursor K g)) → map spot_of cursors ≡ OfMemory place ∷ spots_of tables (all_ranges tables)
-      → ListsMemory order.cmp place whole.written.contents (listed (seen_entries order.cmp whole.written.contents.inserts place.sequence) None) → AllByRecursion (IsRow order whole.seen.facts.files contents) (all_ranges tables)
-      → (lists : List (List InternalEntry)) × (all_entries lists ≡ map (entries_in contents) (all_ranges tables)) × AllTwo Lists cursors (seen_entries order.cmp whole.written.contents.inserts place.sequence ∷ lists)
-  all_listed place [] e memory rows = absurd (cc)
-  all_listed place (Row cursor ∷ cursors) e memory rows = absurd (cc)
-  all_listed place (Memory cursor ∷ cursors) e memory rows =
-      let same : cursor ≡ place = cc in
-      let rest : map spot_of cursors ≡ spots_of tables (all_ranges tables) = cc in
-      let others = rows_listed (all_ranges tables) cursors rest rows in
-      let seen = seen_entries order.cmp whole.written.contents.inserts place.sequence in
-      (others.0, others.1, (subst (λ (p : MemoryPlace). ListsMemory order.cmp p whole.written.contents (listed seen None)) (sym same) memory, others.2))
+  module _ (sequence : ℕ) (are : AreMemories whole.memory)
+      (memory : (generation : ℕ) (table : MemoryContents) → IsOneOf whole.memory.generation whole.memory.sealed generation → table_in whole.memory generation ≡ Some table
+      → ListsMemories order.cmp (place_in sequence generation) whole.memory (listed (seen_entries order.cmp table.inserts sequence) None)) where
+    memory_listed : (cursor : SourceCursor K g) (named : ℕ) (table : MemoryContents) (inserts : List Entry) → table.inserts ≡ inserts → IsOneOf whole.memory.generation whole.memory.sealed named → table_in whole.memory named ≡ Some table
+        → spot_of cursor ≡ OfMemory (place_in sequence named) → Lists cursor (seen_entries order.cmp inserts sequence)
+    memory_listed (Row cursor) named table inserts equal is there e = absurd (cc)
+    memory_listed (Memory cursor) named table inserts equal is there e =
+        let same : place_in sequence named ≡ cursor = cc in
+        subst (λ (p : MemoriesPlace). ListsMemories order.cmp p whole.memory (listed (seen_entries order.cmp inserts sequence) None)) same
+        (subst (λ (es : List Entry). ListsMemories order.cmp (place_in sequence named) whole.memory (listed (seen_entries order.cmp es sequence) None)) equal (memory named table is there))
+
+    abbrev Listing : Option ℕ → List (SourceCursor K g) → Type 0
+    Listing o cursors = (lists : List (List InternalEntry)) × (all_entries lists ≡ map (entries_in contents) (all_ranges tables)) × AllTwo Lists cursors (seen_current order.cmp whole.memory sequence ∷ in_front order.cmp whole.memory sequence o lists)
+
+    listed_with : (o : Option ℕ) (cursors : List (SourceCursor K g)) → whole.memory.sealed ≡ o → map spot_of cursors ≡ memory_spots sequence whole.memory.generation o ++ spots_of tables (all_ranges tables)
+        → AllByRecursion (IsRow order whole.seen.facts.files contents) (all_ranges tables) → Listing o cursors
+    listed_with None [] is e rows = absurd (cc)
+    listed_with None (c ∷ cursors) is e rows =
+        let first : spot_of c ≡ OfMemory (place_in sequence whole.memory.generation) = cc in
+        let rest : map spot_of cursors ≡ spots_of tables (all_ranges tables) = cc in
+        let others = rows_listed (all_ranges tables) cursors rest rows in
+        (others.0, others.1, (memory_listed c whole.memory.generation whole.memory.current whole.memory.current.inserts refl (inl refl) (current_there whole.memory) first, others.2))
+    listed_with (Some named) [] is e rows = absurd (cc)
+    listed_with (Some named) (c ∷ []) is e rows = absurd (cc)
+    listed_with (Some named) (c ∷ d ∷ cursors) is e rows =
+        let first : spot_of c ≡ OfMemory (place_in sequence whole.memory.generation) = cc in
+        let second : spot_of d ≡ OfMemory (place_in sequence named) = cc in
+        let rest : map spot_of cursors ≡ spots_of tables (all_ranges tables) = cc in
+        let others = rows_listed (all_ranges tables) cursors rest rows in
+        let has = sealed_there whole.memory named are is in (
+          others.0,
+          others.1,
+          (
+            memory_listed c whole.memory.generation whole.memory.current whole.memory.current.inserts refl (inl refl) (current_there whole.memory) first,
+            (memory_listed d named has.table (sealed_inserts whole.memory) (sym has.inserts) (inr is) has.there second, others.2),
+          ),
+        )
+
+    -- the memory tables' entries in front of those of the tables
+    pub all_listed : (cursors : List (SourceCursor K g)) → map spot_of cursors ≡ memory_spots sequence whole.memory.generation whole.memory.sealed ++ spots_of tables (all_ranges tables)
+        → AllByRecursion (IsRow order whole.seen.facts.files contents) (all_ranges tables) → Listing whole.memory.sealed cursors
+    all_listed cursors e rows = listed_with whole.memory.sealed cursors refl e rows
 
   pub all_rise : (cursors : List (SourceCursor K g)) (lists : List (List InternalEntry)) → AllTwo Lists cursors lists → AllByRecursion (Rises order.cmp) lists
   all_rise [] [] h = tt

@@ -1,9 +1,8 @@
 -- Over which of a version's tables cursors are added.
-use Rattle.std.proofs.Common.{◌≡◌, ◌+◌, ◌++◌, ◌<◌, ◌≤◌, ◌==◌, ℕ, zero, suc, Bool, true, false, cond, List, [], ◌∷◌, length, map, refl, sym, ap, ◌∙◌, add-one, arith, append_assoc}
+use Rattle.std.proofs.Common.{◌≡◌, ◌+◌, ◌++◌, ◌≤◌, ◌==◌, ℕ, suc, Bool, true, false, cond, List, [], ◌∷◌, length, refl, sym, ap, ◌∙◌, add-one, arith, append_assoc}
 use Rattle.std.specs.Prelude.{nat_lt}
-use Rattle.std.proofs.lemmas.Bool.{cases_lt}
 use Rattle.std.proofs.lemmas.Bool.Decides.{nat_tests}
-use Rattle.std.proofs.lemmas.List.{map-append, append-nil}
+use Rattle.std.proofs.lemmas.List.{map-append}
 use Rattle.edits.specs.declared.field.PlacedTable.{PlacedTable}
 use Rattle.scans.specs.Rows.{Spot, OfRow, below, deeper_ranges, newest_ranges, range_kept, spots_of}
 use Rattle.versions.specs.Levels.{tables_at}

@@ -1,50 +1,42 @@
 -- What a move of a scan says.
-use Rattle.std.proofs.Common.{◌≡◌, ◌++◌, ◌≤◌, ◌<◌, ℕ, Bool, true, IsTrue, Option, Some, None, List, Result, Ok, Err, inl, inr, IfErr, OnOk, OnErr, refl, sym, ap, ◌∙◌, subst, arith}
-use Rattle.std.specs.Prelude.{slice_get}
-use Rattle.std.specs.List.{AllByRecursion}
+use Rattle.std.proofs.Common.{◌≡◌, ℕ, true, IsTrue, Option, List, Result, Ok, Err, inl, inr, IfErr, OnOk, OnErr, refl, sym, ap, ◌∙◌, subst, arith}
 use Rattle.cache.specs.Tables.{table_at}
 use Rattle.coding.specs.declared.error.DbError.{DbError}
 use Rattle.coding.specs.declared.error.DbError.TheVariants.{OutOfMemory, Io, Corrupt, Unsupported}
-use Rattle.cursor.specs.declared.child.Child.{Child}
 use Rattle.cursor.specs.declared.merge.Merge.{Merge}
-use Rattle.cursor.specs.Merging.{AnyLimited, IsMerge, KeepsAll, listed}
+use Rattle.cursor.specs.Merging.{AnyLimited, IsMerge, KeepsAll}
 use Rattle.cursor.specs.Moves.{Refuses, Stays}
 use Rattle.cursor.specs.Places.{Cmp, Listed}
 use Rattle.cursor.specs.Views.{Walked}
 use Rattle.cursor.specs.Walks.{IsWalk, key_before, walk_after}
 use Rattle.edits.specs.declared.field.PlacedTable.{PlacedTable}
-use Rattle.ikey.specs.declared.entry.Entry.{Entry}
 use Rattle.ikey.specs.declared.key_order.KeyOrder.{Ghosts}
-use Rattle.memtable.specs.Order.{ordered}
-use Rattle.memtable.specs.Places.{up_to}
-use Rattle.rows.specs.declared.in_table.InTable.{InTable}
-use Rattle.rows.specs.declared.row_cursor.RowCursor.{RowCursor}
-use Rattle.rows.specs.InRows.{KeepsOpen}
-use Rattle.rows.specs.Rows.{KeepsRow}
+use Rattle.memories.specs.Memories.{Memories}
+use Rattle.memories.specs.PlaceLaws.{left_kept}
+use Rattle.memories.specs.Places.{MemoriesPlace, KeepsMemories, LeavesMemories}
 use Rattle.scans.specs.declared.scan.Scan.{Scan}
 use Rattle.scans.specs.declared.source_cursor.SourceCursor.{SourceCursor}
 use Rattle.scans.specs.declared.source_cursor.SourceCursor.TheVariants.{Memory, Row}
 use Rattle.scans.specs.Places.{KeepsSource, LeavesSource, LimitedSource, ListsSource}
-use Rattle.scans.specs.Scanning.{IsScanned, ScanIsKept, ScanPastLimit, WritesAreKept, has_pair}
-use Rattle.scans.specs.Scans.{IsOnePastLimit, IsScan, IsScanLimited, KeepsWhole, ListsMerged}
+use Rattle.scans.specs.Scanning.{IsScanned, ReadsAs, ScanIsKept, ScanPastLimit, has_pair}
+use Rattle.scans.specs.Scans.{GoesOver, IsOnePastLimit, KeepsScan, ListsMerged, reads_memory, reads_table, tables_of}
 use Rattle.scans.specs.SourceLaws.{source_kept, source_limits}
 use Rattle.scans.specs.Whole.{Whole}
-use Rattle.scans.specs.Written.{Written}
 use Rattle.store.specs.Files.{Facts}
+use Rattle.scans.proofs.ReadTables.{read_after, read_before, row_kept, tables_as, there_kept, there_left}
 use Rattle.scans.proofs.Sights.{merged_as, placed_as}
-use Rattle.sources.specs.Memory.{MemoryPlace, KeepsMemory}
 use Rattle.table.specs.Reading.{IsStill}
-use Rattle.sources.specs.Tables.{IsSound}
 
 -- ---- a source that is kept
 
-limit_kept : (cmp : Cmp) (tables : List PlacedTable) (sequence : ℕ) (old new : Whole) → KeepsWhole cmp sequence old new → IsOnePastLimit cmp tables old → IsOnePastLimit cmp tables new
-limit_kept cmp tables sequence old new k l = (l.0, l.1, l.2, k.tables l.0.table.number ∙ l.3, l.4)
+limit_kept : {K : Type 0} {g : Ghosts K} (cmp : Cmp) (scan : Scan K g) (old new : Whole) → KeepsScan cmp scan old new → IsOnePastLimit cmp (tables_of scan) old → IsOnePastLimit cmp (tables_of scan) new
+limit_kept cmp scan old new k l = (l.0, l.1, l.2, k.files l.0.table.number (inl (l.0, l.1, refl)) ∙ l.3, l.4)
 
 pub scan_kept : {K : Type 0} {g : Ghosts K} (cmp : Cmp) (scan : Scan K g) → ScanIsKept cmp scan
-scan_kept cmp scan tables old new at k h = record {
+scan_kept cmp scan old new at k h = record {
+  there = there_kept cmp (reads_memory scan) (reads_table scan) scan.walk.sequence old new k h.there;
   bound = h.bound;
-  limits = λ l. limit_kept cmp tables scan.walk.sequence old new k (h.limits (l.0, l.1, l.2, source_limits cmp l.1.cursor old new (h.bound old new k l.0 l.1 l.2) l.3));
+  limits = λ l. limit_kept cmp scan old new k (h.limits (l.0, l.1, l.2, source_limits cmp l.1.cursor old new (h.bound old new k l.0 l.1 l.2) l.3));
   walk = (
     h.walk.0,
     h.walk.1,
@@ -56,7 +48,7 @@ scan_kept cmp scan tables old new at k h = record {
 }
 
 pub past_limit : {K : Type 0} {g : Ghosts K} (cmp : Cmp) (scan : Scan K g) → ScanPastLimit cmp scan
-past_limit cmp scan tables whole at h l = h.limits l
+past_limit cmp scan whole at h l = h.limits l
 
 -- ---- refusals
 
@@ -95,72 +87,70 @@ module _ {K : Type 0} {g : Ghosts K} {S : Type 0} (cmp : Cmp) (whole_of : S → 
         scan.walk.sequence scan.walk.stands scan.walk.position scan.walk.here.key.items scan.walk.here.value.items h.0 at h.2,
   )
 
-  -- what it reads before a move it reads after it
-  keeps_row : (row : RowCursor K g) (old new : Whole) (sequence : ℕ) → KeepsWhole cmp sequence old new → KeepsRow cmp row old.seen new.seen
-  keeps_row row old new sequence k = record { same = λ placed i. k.tables placed.table.number; sound = k.sound; here = open_kept row.here }
-    where
-      open_kept : (here : Option (InTable K g)) → KeepsOpen cmp here old.seen new.seen
-      open_kept None = tt
-      open_kept (Some here) = record { same = k.tables here.cursor.number; sound = k.sound }
-
   abbrev Keeps : Merge K (SourceCursor K g) → S → S → Type 0
   Keeps merge s t = KeepsAll (λ cursor s t. KeepsSource cmp cursor (whole_of s) (whole_of t)) merge.children.items s t
 
   abbrev Limited : Merge K (SourceCursor K g) → S → Type 0
   Limited merge s = AnyLimited (λ cursor s. LimitedSource cmp cursor (whole_of s)) merge.children.items s
 
-  module _ (with : S → Written → S) (with_is : (s : S) (w : Written) → whole_of (with s w) ≡ record { seen = (whole_of s).seen; written = w })
+  module _ (with : S → Memories → S) (with_is : (s : S) (w : Memories) → whole_of (with s w) ≡ record { seen = (whole_of s).seen; memory = w })
       (to : Walked → Option ℕ) (before after : S) (old new : Scan K g) (result : Result (Unit {0}) DbError)
       (moves : IsTrue (whole_of after).seen.facts.faithful → (at : Walked) → IsWalk cmp ListsOver old.walk before at → IsWalk cmp ListsOver new.walk after (walk_after result (to at) at))
-      (sequence : new.walk.sequence ≡ old.walk.sequence)
+      (sequence : new.walk.sequence ≡ old.walk.sequence) (reads : ReadsAs old new)
       (stays : Stays (λ s. (whole_of s).seen.facts) Keeps Limited (λ s t. LeavesSource cmp (whole_of s) (whole_of t)) old.walk.cursor new.walk.cursor before after) where
-    bound_new : ((s t : Whole) → KeepsWhole cmp old.walk.sequence s t → KeepsAll (KeepsSource cmp) old.walk.cursor.children.items s t) → (s t : Whole) → KeepsWhole cmp new.walk.sequence s t → KeepsAll (KeepsSource cmp) new.walk.cursor.children.items s t
+    bound_new : ((s t : Whole) → KeepsScan cmp old s t → KeepsAll (KeepsSource cmp) old.walk.cursor.children.items s t) → (s t : Whole) → KeepsScan cmp new s t → KeepsAll (KeepsSource cmp) new.walk.cursor.children.items s t
     bound_new bound s t k i child is = at child.cursor refl
       where
         first : Whole
-        first = record { seen = (whole_of before).seen; written = s.written }
+        first = record { seen = (whole_of before).seen; memory = s.memory }
 
         second : Whole
-        second = record { seen = (whole_of before).seen; written = t.written }
+        second = record { seen = (whole_of before).seen; memory = t.memory }
 
-        both : KeepsWhole cmp old.walk.sequence first second
-        both = record { memory = λ place le. k.memory place (let same = sequence in omega (arith, le, same)); tables = λ number. refl; sound = λ h. h }
+        both : KeepsScan cmp old first second
+        both = record { memory = λ place named le. k.memory place (read_after old new reads place.generation named) (let same = sequence in omega (arith, le, same)); files = λ number named. refl; sound = λ h. h }
 
-        kept : Keeps old.walk.cursor (with before s.written) (with before t.written)
-        kept j other there = subst (λ (w : Whole). KeepsSource cmp other.cursor w (whole_of (with before t.written))) (sym (with_is before s.written))
-            (subst (λ (w : Whole). KeepsSource cmp other.cursor first w) (sym (with_is before t.written)) (bound first second both j other there))
+        kept : Keeps old.walk.cursor (with before s.memory) (with before t.memory)
+        kept j other there = subst (λ (w : Whole). KeepsSource cmp other.cursor w (whole_of (with before t.memory))) (sym (with_is before s.memory))
+            (subst (λ (w : Whole). KeepsSource cmp other.cursor first w) (sym (with_is before t.memory)) (bound first second both j other there))
 
         at : (cursor : SourceCursor K g) → child.cursor ≡ cursor → KeepsSource cmp child.cursor s t
         at (Memory place) same =
-            let now = stays.same (with before s.written) (with before t.written) kept i child is in
-            let moved = subst (λ (w : Whole). KeepsSource cmp child.cursor first w) (with_is before t.written)
-            (subst (λ (w : Whole). KeepsSource cmp child.cursor w (whole_of (with before t.written))) (with_is before s.written) now) in
+            let now = stays.same (with before s.memory) (with before t.memory) kept i child is in
+            let moved = subst (λ (w : Whole). KeepsSource cmp child.cursor first w) (with_is before t.memory)
+            (subst (λ (w : Whole). KeepsSource cmp child.cursor w (whole_of (with before t.memory))) (with_is before s.memory) now) in
             subst (λ (c : SourceCursor K g). KeepsSource cmp c s t) (sym same) (subst (λ (c : SourceCursor K g). KeepsSource cmp c first second) same moved)
-        at (Row row) same = subst (λ (c : SourceCursor K g). KeepsSource cmp c s t) (sym same) (keeps_row row s t new.walk.sequence k)
+        at (Row row) same = subst (λ (c : SourceCursor K g). KeepsSource cmp c s t) (sym same)
+            (row_kept cmp (reads_memory new) (reads_table new) new.walk.sequence s t row (λ number over. inr (i, child, is, subst (λ (c : SourceCursor K g). GoesOver c number) (sym same) over)) k)
 
     pub scanned : IsStill (whole_of before).seen.facts (whole_of after).seen.facts result → OnOk result (new.walk.stands ≡ true → has_pair new ≡ true) → OnErr result ((new.walk.stands ≡ old.walk.stands) × (new.walk.here.key.items ≡ old.walk.here.key.items)) → OnOk result (key_before new.walk ≡ old.walk.here.key.items)
         → IfErr result (λ e. Refuses e (whole_of before).seen.facts (whole_of after).seen.facts ((at : Walked) → IsWalk cmp ListsOver old.walk before at → ⊥) (Limited old.walk.cursor before))
         → IsScanned cmp to (whole_of before) (whole_of after) old new result
     scanned still at_hand stayed left refused = record {
-      moves = λ t tables at h. record {
+      moves = λ t at h. record {
+        there = λ generation named. there_left (whole_of before).memory (whole_of after).memory stays.left.memory generation (h.there generation (read_before old new reads generation named));
         bound = bound_new h.bound;
         limits = λ l.
             let past = h.limits (stays.limit t l) in
+            subst (λ (tables : List PlacedTable). IsOnePastLimit cmp tables (whole_of after)) (sym (tables_as old new reads))
             (past.0, past.1, past.2, ap (λ files. table_at files past.0.table.number) (stays.reads.files t) ∙ past.3, past.4);
         walk = seen_whole new after _ (moves t at (read_whole old before at h.walk));
       };
       at_hand = at_hand;
       sequence = sequence;
+      reads_as = reads;
       keeps = λ t n. record {
-        memory = λ place le. ap (λ (es : List Entry). up_to place.sequence (ordered cmp es)) (sym stays.left.inserts);
-        tables = λ number. ap (λ files. table_at files number) (stays.reads.files t);
+        memory = λ place le. stays_left place stays.left.memory;
+        files = λ number. ap (λ files. table_at files number) (stays.reads.files t);
         sound = stays.left.carries.sound t;
       };
-      inserts = stays.left.inserts;
-      last = stays.left.last;
+      memory = stays.left.memory;
       reads = stays.reads;
       still = still;
       stayed = stayed;
       left = left;
-      refused = if_refuses result (whole_of before).seen.facts (whole_of after).seen.facts _ _ _ (λ damaged tables at h. damaged at (read_whole old before at h.walk)) refused;
+      refused = if_refuses result (whole_of before).seen.facts (whole_of after).seen.facts _ _ _ (λ damaged at h. damaged at (read_whole old before at h.walk)) refused;
     }
+      where
+        stays_left : (place : MemoriesPlace) → LeavesMemories (whole_of before).memory (whole_of after).memory → KeepsMemories cmp place (whole_of before).memory (whole_of after).memory
+        stays_left place left = left_kept cmp place (whole_of before).memory (whole_of after).memory left

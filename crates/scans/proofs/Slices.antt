@@ -9,10 +9,10 @@ use Rattle.edits.specs.declared.field.PlacedTable.{PlacedTable}
 use Rattle.ikey.specs.declared.entry.Entry.{Entry}
 use Rattle.ikey.specs.Orders.{Order}
 use Rattle.ikey.specs.Sources.{AreInRow, AreSearched, IsNewerThan, joined}
-use Rattle.recover.specs.Tables.{TableContent, HasTable, HasTables}
+use Rattle.recover.specs.Tables.{TableContent, HasTables}
 use Rattle.scans.specs.Rows.{below, deeper_ranges, newest_ranges, range_kept}
 use Rattle.scans.proofs.Ranges.{level_fits}
-use Rattle.search.specs.Places.{contents_at, lists_of, table_sources, HasVersion}
+use Rattle.search.specs.Places.{contents_at, lists_of, table_sources}
 use Rattle.store.specs.Files.{Files}
 use Rattle.versions.specs.Levels.{tables_at}
 

@@ -1,57 +1,55 @@
 -- What a move of one of a scan's cursors leaves.
-use Rattle.std.proofs.Common.{◌≡◌, ℕ, IsTrue, List, refl, sym, ap, subst}
+use Rattle.std.proofs.Common.{◌≡◌, IsTrue, refl, sym, subst}
 use Rattle.cursor.specs.Moves.{Stays}
 use Rattle.cursor.specs.Places.{Cmp}
-use Rattle.ikey.specs.declared.entry.Entry.{Entry}
 use Rattle.ikey.specs.declared.key_order.KeyOrder.{Ghosts}
-use Rattle.memtable.specs.Order.{ordered}
-use Rattle.memtable.specs.Places.{up_to}
+use Rattle.memories.specs.Memories.{Memories}
+use Rattle.memories.specs.PlaceLaws.{left_there}
+use Rattle.memories.specs.Places.{KeepsMemories, LeavesMemories, MemoriesPlace}
 use Rattle.rows.specs.declared.row_cursor.RowCursor.{RowCursor}
 use Rattle.rows.specs.RowLaws.{row_still}
 use Rattle.rows.specs.Rows.{KeepsRow, IsRowLimited, rows_tables}
 use Rattle.scans.specs.declared.source_cursor.SourceCursor.{SourceCursor}
 use Rattle.scans.specs.declared.source_cursor.SourceCursor.TheVariants.{Memory, Row}
-use Rattle.scans.specs.Places.{KeepsSource, LeavesSource, LimitedSource, StaysInMemory}
+use Rattle.scans.specs.Places.{KeepsSource, LeavesSource, LimitedSource}
 use Rattle.scans.specs.Whole.{Whole}
-use Rattle.scans.specs.Written.{Written}
-use Rattle.sources.specs.Memory.{MemoryPlace}
+use Rattle.sources.specs.Memory.{memory_facts}
 use Rattle.sources.specs.Tables.{Seen, Carries}
 use Rattle.sources.proofs.Carrying.{carries_itself}
-use Rattle.store.specs.Files.{Facts}
 
-abbrev pub whole_of : {S T : Type 0} → (T → Seen) → (S → T) → (S → Written) → S → Whole
-whole_of seen_of tables_of written_of source = record { seen = seen_of (tables_of source); written = written_of source }
+abbrev pub whole_of : {S T : Type 0} → (T → Seen) → (S → T) → (S → Memories) → S → Whole
+whole_of seen_of tables_of memory_of source = record { seen = seen_of (tables_of source); memory = memory_of source }
 
-module _ {K : Type 0} {g : Ghosts K} {S T : Type 0} (cmp : Cmp) (seen_of : T → Seen) (tables_of : S → T) (written_of : S → Written) where
+module _ {K : Type 0} {g : Ghosts K} {S T : Type 0} (cmp : Cmp) (seen_of : T → Seen) (tables_of : S → T) (memory_of : S → Memories) where
   abbrev pub StaysSource : SourceCursor K g → SourceCursor K g → S → S → Type 0
-  StaysSource old new before after = Stays (λ source. (whole_of seen_of tables_of written_of source).seen.facts) (λ cursor s t. KeepsSource cmp cursor (whole_of seen_of tables_of written_of s) (whole_of seen_of tables_of written_of t)) (λ cursor source. LimitedSource cmp cursor (whole_of seen_of tables_of written_of source))
-      (λ s t. LeavesSource cmp (whole_of seen_of tables_of written_of s) (whole_of seen_of tables_of written_of t)) old new before after
+  StaysSource old new before after = Stays (λ source. (whole_of seen_of tables_of memory_of source).seen.facts) (λ cursor s t. KeepsSource cmp cursor (whole_of seen_of tables_of memory_of s) (whole_of seen_of tables_of memory_of t)) (λ cursor source. LimitedSource cmp cursor (whole_of seen_of tables_of memory_of source))
+      (λ s t. LeavesSource cmp (whole_of seen_of tables_of memory_of s) (whole_of seen_of tables_of memory_of t)) old new before after
 
-  -- a move over the memory table
-  pub stays_memory : (old new : MemoryPlace) (before after : S) → seen_of (tables_of after) ≡ seen_of (tables_of before) → StaysInMemory cmp old new (written_of before) (written_of after) → StaysSource (Memory old) (Memory new) before after
+  -- a move over a memory table
+  pub stays_memory : (old new : MemoriesPlace) (before after : S) → seen_of (tables_of after) ≡ seen_of (tables_of before)
+      → Stays (λ memories. memory_facts) (λ cursor s t. KeepsMemories cmp cursor s t) (λ cursor memories. ⊥) (λ s t. LeavesMemories s t) old new (memory_of before) (memory_of after) → StaysSource (Memory old) (Memory new) before after
   stays_memory old new before after is h =
       let carries = subst (λ (s : Seen). Carries cmp (seen_of (tables_of before)) s) (sym is) (carries_itself cmp (seen_of (tables_of before))) in
       record {
         reads = carries.reads;
-        left = record { inserts = h.inserts; last = h.last; carries = carries };
+        left = record { memory = h.left; carries = carries };
         others = λ t other. rest other;
-        same = λ s t k. h.same (written_of s).contents (written_of t).contents k;
+        same = λ s t k. h.same (memory_of s) (memory_of t) k;
         limit = λ t l. l;
       }
     where
-      rest : (other : SourceCursor K g) → KeepsSource cmp other (whole_of seen_of tables_of written_of before) (whole_of seen_of tables_of written_of after)
-      rest (Memory place) = ap (λ (es : List Entry). up_to place.sequence (ordered cmp es)) (sym h.inserts)
+      rest : (other : SourceCursor K g) → KeepsSource cmp other (whole_of seen_of tables_of memory_of before) (whole_of seen_of tables_of memory_of after)
+      rest (Memory place) = h.others refl place
       rest (Row row) = subst (λ (s : Seen). KeepsRow cmp row (seen_of (tables_of before)) s) (sym is) (row_still cmp (rows_tables row) row.here (seen_of (tables_of before)))
 
   -- a move over a row of tables
-  pub stays_row : (leaves : T → T → Type 0) (old new : RowCursor K g) (before after : S) → written_of after ≡ written_of before
+  pub stays_row : (leaves : T → T → Type 0) (old new : RowCursor K g) (before after : S) → memory_of after ≡ memory_of before
       → Stays (λ tables. (seen_of tables).facts) (λ cursor s t. KeepsRow cmp cursor (seen_of s) (seen_of t)) (λ cursor tables. IsRowLimited cmp (seen_of tables) cursor) leaves old new (tables_of before) (tables_of after)
       → StaysSource (Row old) (Row new) before after
   stays_row leaves old new before after is h = record {
     reads = h.reads;
     left = record {
-      inserts = ap (λ (w : Written). w.contents.inserts) is;
-      last = ap (λ (w : Written). w.last) is;
+      memory = subst (λ (m : Memories). LeavesMemories (memory_of before) m) (sym is) (left_there (memory_of before));
       carries = record { reads = h.reads; sound = λ t. (h.others t old).sound };
     };
     others = λ t other. rest t other;
@@ -59,6 +57,6 @@ module _ {K : Type 0} {g : Ghosts K} {S T : Type 0} (cmp : Cmp) (seen_of : T →
     limit = h.limit;
   }
     where
-      rest : IsTrue (seen_of (tables_of after)).facts.faithful → (other : SourceCursor K g) → KeepsSource cmp other (whole_of seen_of tables_of written_of before) (whole_of seen_of tables_of written_of after)
-      rest t (Memory place) = ap (λ (w : Written). up_to place.sequence (ordered cmp w.contents.inserts)) (sym is)
+      rest : IsTrue (seen_of (tables_of after)).facts.faithful → (other : SourceCursor K g) → KeepsSource cmp other (whole_of seen_of tables_of memory_of before) (whole_of seen_of tables_of memory_of after)
+      rest t (Memory place) = subst (λ (m : Memories). KeepsMemories cmp place (memory_of before) m) (sym is) refl
       rest t (Row row) = h.others t row

@@ -5,4 +5,3 @@ pub mod Scanning
 pub mod Scans
 pub mod SourceLaws
 pub mod Whole
-pub mod Written

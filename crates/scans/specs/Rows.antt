@@ -1,19 +1,32 @@
--- Over which of a version's tables a scan has cursors (LevelDB's db/version_set.cc, Version::AddIterators).
-use Rattle.std.specs.Prelude.{◌≡◌, ◌+◌, ◌-◌, ◌++◌, ℕ, zero, suc, Bool, List, [], ◌∷◌, is_some, length, map, nat_lt, false, if◌then◌else◌}
+-- Over which memory tables and which of a version's tables a scan has cursors (LevelDB's db/version_set.cc, Version::AddIterators).
+use Rattle.std.specs.Prelude.{◌≡◌, ◌⊎◌, ◌+◌, ◌++◌, ℕ, zero, suc, Bool, Option, Some, None, List, [], ◌∷◌, is_some, length, map, nat_lt, false, if◌then◌else◌}
 use Rattle.edits.specs.declared.field.PlacedTable.{PlacedTable}
 use Rattle.scans.specs.declared.source_cursor.SourceCursor.{SourceCursor}
 use Rattle.scans.specs.declared.source_cursor.SourceCursor.TheVariants.{Memory, Row}
-use Rattle.sources.specs.Memory.{MemoryPlace}
+use Rattle.memories.specs.Places.{MemoriesPlace}
 use Rattle.versions.specs.Levels.{tables_at}
 
--- What a new cursor goes over: the memory table, or of these tables those from one index to another. It may have opened one.
+-- What a new cursor goes over: a memory table, or of these tables those from one index to another. It may have opened one.
 pub data Spot : Type 0 where
-  OfMemory : MemoryPlace → Spot
+  OfMemory : MemoriesPlace → Spot
   OfRow : List PlacedTable → ℕ → ℕ → Bool → Spot
 
 abbrev pub spot_of : {K : Type 0} {g : _} → SourceCursor K g → Spot
 spot_of (Memory cursor) = OfMemory cursor
 spot_of (Row cursor) = OfRow cursor.version.value.tables cursor.from cursor.end (is_some cursor.here)
+
+-- a cursor over the memory table of a generation that stands nowhere
+abbrev pub place_in : ℕ → ℕ → MemoriesPlace
+place_in sequence generation = record { generation = generation; place = record { sequence = sequence; node = None; key = [] } }
+
+-- over the current memory table, and over the sealed one, where there is one
+abbrev pub memory_spots : ℕ → ℕ → Option ℕ → List Spot
+memory_spots sequence generation None = OfMemory (place_in sequence generation) ∷ []
+memory_spots sequence generation (Some sealed) = OfMemory (place_in sequence generation) ∷ OfMemory (place_in sequence sealed) ∷ []
+
+-- the generation is one of these
+abbrev pub IsOneOf : ℕ → Option ℕ → ℕ → Type 0
+IsOneOf current sealed generation = (generation ≡ current) ⊎ (sealed ≡ Some generation)
 
 abbrev pub spots_of : List PlacedTable → List (ℕ × ℕ) → List Spot
 spots_of tables ranges = map (λ (range : ℕ × ℕ). OfRow tables range.0 range.1 false) ranges

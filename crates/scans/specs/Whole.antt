@@ -1,15 +1,14 @@
 -- What an open database reads, as contracts see it.
-use Rattle.std.specs.Prelude.{ℕ}
 use Rattle.cache.specs.Blocks.{BlockCache}
 use Rattle.cache.specs.Tables.{TableCache}
 use Rattle.store.specs.Files.{Facts}
 use Rattle.sources.specs.Tables.{Seen, seen}
-use Rattle.scans.specs.Written.{Written}
+use Rattle.memories.specs.Memories.{Memories}
 
--- its store, with what is kept of its tables, and its memory table
+-- its store, with what is kept of its tables, and its memory tables
 pub record Whole : Type 0 where
   pub seen : Seen
-  pub written : Written
+  pub memory : Memories
 
-abbrev pub whole : Facts → TableCache → BlockCache → Written → Whole
-whole facts tables blocks written = record { seen = seen facts tables blocks; written = written }
+abbrev pub whole : Facts → TableCache → BlockCache → Memories → Whole
+whole facts tables blocks memory = record { seen = seen facts tables blocks; memory = memory }

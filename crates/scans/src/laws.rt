@@ -3,11 +3,11 @@
 ghost use Rattle.scans.specs.Scanning.{WritesAreKept};
 
 use ikey::KeyOrder;
-use sources::later_inserts_are_kept;
+use memories::changes_are_kept;
 
 /// What is written above a scan's sequence leaves what the scan reads.
 pub fn writes_are_kept<K: KeyOrder>()
     ensures { WritesAreKept K.cmp }
 {
-    later_inserts_are_kept::<K>();
+    changes_are_kept::<K>();
 }

@@ -1,13 +1,12 @@
 //! A walk over the pairs of a view (LevelDB's db/db_iter.cc over db/db_impl.cc, DBImpl::NewInternalIterator).
 
-use crate::beginning::{add_levels, add_newest};
+use crate::beginning::{add_levels, add_memory, add_newest};
 use crate::source::Sources;
 use crate::source_cursor::SourceCursor;
 use coding::{Bytes, DbError};
 use cursor::{Merge, Visible, each_list_has_a_view, lists_have_a_union, views_agree};
 use ikey::KeyOrder;
 use rows::row_begins;
-use sources::MemoryCursor;
 use std::alloc::{AllocError, Global};
 use std::rc::Rc;
 use store::Store;
@@ -17,20 +16,24 @@ use versions::Version;
 #[derive(Drop)]
 pub struct Scan<K: KeyOrder> {
     walk: Visible<K, Merge<K, SourceCursor<K>>>,
+    // the tables that it goes over
+    version: Rc<Version<K>>,
+    // the generations of the memory tables that it reads
+    generation: u64,
+    sealed: Option<u64>,
 }
 
 impl<K: KeyOrder> Scan<K> {
-    ghost use Rattle.std.specs.Prelude.{◌≡◌, ◌<◌, ◌^◌, List, false, min, true, IfOk};
+    ghost use Rattle.std.specs.Prelude.{◌≡◌, ◌<◌, ◌^◌, List, false, min, true, IfOk, MatchBool};
     ghost use Rattle.cursor.specs.Views.{Walked, walk_first, walk_last, walk_next, walk_prev, walk_to};
     ghost use Rattle.cursor.specs.Walks.{key_before};
-    ghost use Rattle.edits.specs.declared.field.PlacedTable.{PlacedTable};
     ghost use Rattle.ikey.specs.Orders.{order_of};
     ghost use Rattle.scans.specs.Pairs.{pair_on};
-    ghost use Rattle.scans.specs.Scanning.{IsScanned, ScanIsKept, ScanPastLimit, TakesBack, has_pair};
-    ghost use Rattle.scans.specs.Scans.{BeginsScan, IsScan};
+    ghost use Rattle.scans.specs.Scanning.{IsScanned, ReadsAs, ScanIsKept, ScanPastLimit, TakesBack, has_pair};
+    ghost use Rattle.scans.specs.Scans.{BeginsScan, IsScan, reads_memory, tables_of};
     ghost use Rattle.scans.specs.Whole.{whole};
 
-    /// A scan over what the entries of the memory table and of a version's tables put up to a sequence, up to the last one
+    /// A scan over what the entries of the memory tables and of a version's tables put up to a sequence, up to the last one
     /// that is used. It stands nowhere; nothing is read, and no table is opened.
     pub fn over<S: Store>(
         alloc: Global,
@@ -40,6 +43,7 @@ impl<K: KeyOrder> Scan<K> {
     ) -> Result<Self, AllocError>
         ensures nowhere { IfOk result (λ scan. scan.walk.stands ≡ false) }
         ensures sequence { IfOk result (λ scan. scan.walk.sequence ≡ min sequence source.now.memory.last) }
+        ensures tables { IfOk result (λ scan. tables_of scan ≡ version.now.value.tables) }
         ensures begins { IfOk result (λ scan. BeginsScan (order_of K.name K.cmp) version.now.value.tables sequence
             (whole (S.facts source.now.tables.store) source.now.tables.tables source.now.tables.blocks source.now.memory) scan) }
     {
@@ -49,16 +53,18 @@ impl<K: KeyOrder> Scan<K> {
         row_begins::<K>();
         // They are in order.
         let _tables = version.tables();
+        source.memory.are_bounded();
         let sequence = sequence.min(source.memory.last());
-        let memory = MemoryCursor::new(alloc, sequence);
-        source.memory.begins(&memory);
         let mut cursors = Vec::new(alloc);
-        cursors.push(SourceCursor::Memory(memory))?;
+        add_memory(alloc, &mut cursors, &source.memory, sequence)?;
         add_newest(&mut cursors, version)?;
         add_levels(&mut cursors, version)?;
         let merge = Merge::new(alloc, cursors)?;
         Ok(Scan {
             walk: Visible::new(alloc, merge, sequence),
+            version: version.clone()?,
+            generation: source.memory.generation(),
+            sealed: source.memory.sealed_generation(),
         })
     }
 
@@ -126,6 +132,7 @@ impl<K: KeyOrder> Scan<K> {
     pub fn take_back(&mut self, stood: bool)
         ensures cursor { self.new.walk.cursor ≡ self.old.walk.cursor }
         ensures sequence { self.new.walk.sequence ≡ self.old.walk.sequence }
+        ensures reads_as { ReadsAs self.old self.new }
         ensures stands { self.new.walk.stands ≡ stood }
         ensures key { self.new.walk.here.key.items ≡ key_before self.old.walk }
         ensures back { TakesBack K.cmp stood self.old self.new }
@@ -147,7 +154,7 @@ impl<K: KeyOrder> Scan<K> {
         source: &Sources<K, S>,
     ) -> Result<Option<(Bytes, Bytes)>, AllocError>
         requires { self.now.walk.stands ≡ true → has_pair self.now ≡ true }
-        ensures { IfOk result (λ pair. (tables : List PlacedTable) (at : Walked) → IsScan K.cmp tables self.now (whole (S.facts source.now.tables.store) source.now.tables.tables source.now.tables.blocks source.now.memory) at → pair ≡ pair_on at) }
+        ensures { IfOk result (λ pair. (at : Walked) → IsScan K.cmp self.now (whole (S.facts source.now.tables.store) source.now.tables.tables source.now.tables.blocks source.now.memory) at → pair ≡ pair_on at) }
     {
         if !self.walk.stands() {
             return Ok(None);
@@ -155,6 +162,13 @@ impl<K: KeyOrder> Scan<K> {
         let key = Bytes::copied_from(alloc, self.walk.key())?;
         let value = Bytes::copied_from(alloc, self.walk.value(source))?;
         Ok(Some((key, value)))
+    }
+
+    /// Whether the scan reads the memory table of this generation.
+    pub fn reads(&self, generation: u64) -> bool
+        ensures { MatchBool result (reads_memory self.now generation) (reads_memory self.now generation → ⊥) }
+    {
+        generation == self.generation || self.sealed == Some(generation)
     }
 
     /// A scan stays where it is while what it reads is kept.

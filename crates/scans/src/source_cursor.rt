@@ -4,16 +4,16 @@ use crate::source::Sources;
 use coding::DbError;
 use cursor::Cursor;
 use ikey::KeyOrder;
-use memtable::MemTable;
+use memories::{MemoriesCursor, MemoryTables};
 use rows::RowCursor;
-use sources::{MemoryCursor, Tables};
+use sources::Tables;
 use std::alloc::Global;
 use store::Store;
 
-/// A cursor over the memory table, or over a row of tables of a version, of what an open database reads.
+/// A cursor over one of the memory tables, or over a row of tables of a version, of what an open database reads.
 #[derive(Drop)]
 pub enum SourceCursor<K: KeyOrder> {
-    Memory(MemoryCursor<K>),
+    Memory(MemoriesCursor<K>),
     Row(RowCursor<K>),
 }
 
@@ -36,14 +36,14 @@ impl<K: KeyOrder, S: Store> Cursor<K, Sources<K, S>> for SourceCursor<K> {
 
     fn first(&mut self, alloc: Global, source: &mut Sources<K, S>) -> Result<(), DbError> {
         match self {
-            SourceCursor::Memory(cursor) => source.memory.cursor_first(alloc, cursor),
+            SourceCursor::Memory(cursor) => cursor.first(alloc, &mut source.memory),
             SourceCursor::Row(cursor) => cursor.first(alloc, &mut source.tables),
         }
     }
 
     fn last(&mut self, alloc: Global, source: &mut Sources<K, S>) -> Result<(), DbError> {
         match self {
-            SourceCursor::Memory(cursor) => source.memory.cursor_last(alloc, cursor),
+            SourceCursor::Memory(cursor) => cursor.last(alloc, &mut source.memory),
             SourceCursor::Row(cursor) => cursor.last(alloc, &mut source.tables),
         }
     }
@@ -55,42 +55,42 @@ impl<K: KeyOrder, S: Store> Cursor<K, Sources<K, S>> for SourceCursor<K> {
         target: &[u8],
     ) -> Result<(), DbError> {
         match self {
-            SourceCursor::Memory(cursor) => source.memory.cursor_seek(alloc, cursor, target),
+            SourceCursor::Memory(cursor) => cursor.seek(alloc, &mut source.memory, target),
             SourceCursor::Row(cursor) => cursor.seek(alloc, &mut source.tables, target),
         }
     }
 
     fn next(&mut self, alloc: Global, source: &mut Sources<K, S>) -> Result<(), DbError> {
         match self {
-            SourceCursor::Memory(cursor) => source.memory.cursor_next(alloc, cursor),
+            SourceCursor::Memory(cursor) => cursor.next(alloc, &mut source.memory),
             SourceCursor::Row(cursor) => cursor.next(alloc, &mut source.tables),
         }
     }
 
     fn prev(&mut self, alloc: Global, source: &mut Sources<K, S>) -> Result<(), DbError> {
         match self {
-            SourceCursor::Memory(cursor) => source.memory.cursor_prev(alloc, cursor),
+            SourceCursor::Memory(cursor) => cursor.prev(alloc, &mut source.memory),
             SourceCursor::Row(cursor) => cursor.prev(alloc, &mut source.tables),
         }
     }
 
     fn stands(&self) -> bool {
         match self {
-            SourceCursor::Memory(cursor) => Cursor::<K, MemTable<K>>::stands(cursor),
+            SourceCursor::Memory(cursor) => Cursor::<K, MemoryTables<K>>::stands(cursor),
             SourceCursor::Row(cursor) => Cursor::<K, Tables<K, S>>::stands(cursor),
         }
     }
 
     fn key<'a>(&'a self, source: &'a Sources<K, S>) -> &'a [u8] {
         match self {
-            SourceCursor::Memory(cursor) => source.memory.cursor_key(cursor),
+            SourceCursor::Memory(cursor) => cursor.key(&source.memory),
             SourceCursor::Row(cursor) => cursor.key(&source.tables),
         }
     }
 
     fn value<'a>(&'a self, source: &'a Sources<K, S>) -> &'a [u8] {
         match self {
-            SourceCursor::Memory(cursor) => source.memory.cursor_value(cursor),
+            SourceCursor::Memory(cursor) => cursor.value(&source.memory),
             SourceCursor::Row(cursor) => cursor.value(&source.tables),
         }
     }

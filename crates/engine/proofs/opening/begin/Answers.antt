@@ -1,8 +1,9 @@
 use Rattle.ikey.specs.Orders.{order_of}
-use Rattle.std.proofs.Common.{◌≡◌, Result, Ok, Err, refl, sym, subst, ◌∙◌, rules}
+use Rattle.std.proofs.Common.{◌≡◌, Result, Err, refl, sym, subst, ◌∙◌, rules}
 use Rattle.coding.specs.declared.error.DbError.{DbError}
 use Rattle.engine.specs.Durable.{LeavesDurable}
 use Rattle.engine.specs.declared.opening.Begun.{Begun}
+use Rattle.memories.specs.PlaceLaws.{alone_logged}
 use Rattle.engine.proofs.BegunSteps.{continued_same, continued_behind, begins}
 use Rattle.engine.proofs.Telling.{found_openable}
 use Rattle.engine.proofs.Locking.{behind_read}
@@ -43,7 +44,7 @@ pub returns-clause-begun : goal.returns-clause-begun
 returns-clause-begun g c =
     begins (order_of g.K.KeyOrder.name g.K.KeyOrder.cmp) c.args.mode (g.S.Store.facts c.args.store.now) (g.S.Store.facts c.find.new.store) (g.S.Store.facts c.rewrite_directory.new.store) c.in_ok-found.found _
     c.recovered_law.ensures c.in_ok-found.ensures.store.same c.in_ok-found.ensures.found c.in_ok-found.ensures.allowed c.in_ok-rewrite_directory.ensures.files
-    (c.in_ok-memory.ensures.0 ∙ c.deref.ensures.value) c.in_ok-memory.ensures.1 c.in_ok-version.ensures.found.tables refl refl
+    (alone_logged c.in_ok-memory.memory c.in_ok-memory.ensures.2 ∙ c.in_ok-memory.ensures.0 ∙ c.deref.ensures.value) c.in_ok-memory.ensures.1 c.in_ok-version.ensures.found.tables refl refl
 
 pub returns-clause-continued : goal.returns-clause-continued
 returns-clause-continued g c =

@@ -1,6 +1,5 @@
-use Rattle.std.proofs.Common.{◌≡◌, ◌+◌, ◌-◌, ◌++◌, ◌<◌, ◌≤◌, ℕ, suc, List, length, map, refl, sym, ap, subst, ◌∙◌, arith, append-nil}
-use Rattle.edits.specs.declared.field.PlacedTable.{PlacedTable}
-use Rattle.scans.specs.Rows.{Spot, below, deeper_ranges, range_kept, spot_of, spots_of}
+use Rattle.std.proofs.Common.{◌≡◌, ◌+◌, ◌++◌, suc, length, map, refl, sym, ap, ◌∙◌, arith, append-nil}
+use Rattle.scans.specs.Rows.{below, range_kept, spot_of, spots_of}
 use Rattle.versions.specs.Levels.{Placement, tables_at}
 use Rattle.scans.proofs.Ranges.{below_first, below_next, level_added, level_within}
 use Rattle.scans.proofs.beginning.add_levels.Goals as goal

@@ -1,6 +1,5 @@
-use Rattle.std.proofs.Common.{◌≡◌, ◌+◌, ◌-◌, ◌++◌, ◌≤◌, ℕ, suc, List, length, map, sym, ap, ◌∙◌, arith}
-use Rattle.scans.specs.Rows.{newest_ranges, range_kept, spot_of, spots_of, Spot}
-use Rattle.versions.specs.Levels.{tables_at}
+use Rattle.std.proofs.Common.{◌≡◌, ◌-◌, ◌++◌, ℕ, suc, List, map, ap, ◌∙◌, arith}
+use Rattle.scans.specs.Rows.{newest_ranges, spot_of, spots_of, Spot}
 use Rattle.scans.proofs.Ranges.{level_fits, newest_left}
 use Rattle.scans.proofs.beginning.add_newest.Goals as goal
 

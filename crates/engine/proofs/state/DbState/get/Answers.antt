@@ -1,4 +1,4 @@
-use Rattle.std.proofs.Common.{◌≡◌, ◌≢◌, ◌≤◌, ℕ, List, [], Option, Some, None, Ok, Err, Result, length, unwrap_or, refl, sym, ap, subst, ◌∙◌, arith, rules}
+use Rattle.std.proofs.Common.{◌≡◌, ◌≢◌, ℕ, List, Option, Some, None, Err, Result, length, refl, sym, ap, subst, ◌∙◌, arith, rules}
 use Rattle.std.proofs.lemmas.Bool.Decides.{nat_tests}
 use Rattle.std.proofs.lemmas.Result.{err_from_is_err_and}
 use Rattle.coding.specs.declared.error.DbError.{DbError}
@@ -7,6 +7,7 @@ use Rattle.edits.specs.declared.field.PlacedTable.{PlacedTable}
 use Rattle.ikey.specs.Orders.{order_of}
 use Rattle.ikey.specs.Sources.{IsAnswer}
 use Rattle.cursor.specs.Moves.{Refuses}
+use Rattle.memories.specs.Memories.{logged_in}
 use Rattle.reads.specs.Gets.{HasNoTablesOf, IsOneTooLong, SaysOfAll}
 use Rattle.scans.proofs.ScanSteps.{scan_kept}
 use Rattle.sources.specs.Tables.{seen}
@@ -64,16 +65,16 @@ returns-in-Some-clause-step g c ids =
     let source = seen_of g.S.Store.facts c.args.source.now in
     let db = held c.args.source.now.memory c.args.self.now in
     let at = found_at (sequence_at db c.args.snapshot) c.in_ok-sequence.sequence c.in_ok-sequence.ensures in
-    let a : IsAnswer db.table.contents.inserts c.in_ok-sequence.sequence c.args.key.now (Some c.in-Some.value) =
-    subst (λ (o : Option (Option (List ℕ))). IsAnswer db.table.contents.inserts c.in_ok-sequence.sequence c.args.key.now o) c.in-Some.is c.in_ok-value.ensures in
+    let a : IsAnswer (logged_in db.memory) c.in_ok-sequence.sequence c.args.key.now (Some c.in-Some.value) =
+    subst (λ (o : Option (Option (List ℕ))). IsAnswer (logged_in db.memory) c.in_ok-sequence.sequence c.args.key.now o) c.in-Some.is c.in_ok-value.ensures in
     stays_open order source ids db _ (λ m s. got_value order source ids db m c.args.key.now c.args.snapshot s c.if-self.false c.in_ok-sequence.sequence at m c.in-Some.value (same_counts m _) refl
     (memory_value order source ids db m c.args.key.now c.args.snapshot s c.if-self.false c.in_ok-sequence.sequence at c.newest_in_front.ensures c.unseen_in_front.ensures c.same_view.ensures c.in-Some.value a))
 
 pub returns-in-Some-clause-read : goal.returns-in-Some-clause-read
 returns-in-Some-clause-read g c =
     let db = held c.args.source.now.memory c.args.self.now in
-    let a : IsAnswer db.table.contents.inserts c.in_ok-sequence.sequence c.args.key.now (Some c.in-Some.value) =
-    subst (λ (o : Option (Option (List ℕ))). IsAnswer db.table.contents.inserts c.in_ok-sequence.sequence c.args.key.now o) c.in-Some.is c.in_ok-value.ensures in
+    let a : IsAnswer (logged_in db.memory) c.in_ok-sequence.sequence c.args.key.now (Some c.in-Some.value) =
+    subst (λ (o : Option (Option (List ℕ))). IsAnswer (logged_in db.memory) c.in_ok-sequence.sequence c.args.key.now o) c.in-Some.is c.in_ok-value.ensures in
     (c.in_ok-sequence.sequence, found_at (sequence_at db c.args.snapshot) c.in_ok-sequence.sequence c.in_ok-sequence.ensures, reads_seen db c.in_ok-sequence.sequence c.args.key.now c.in-Some.value a)
 
 pub returns-in-Some-clause-outcome : goal.returns-in-Some-clause-outcome
@@ -87,8 +88,8 @@ returns-then-is_empty-clause-step g c ids =
     let source = seen_of g.S.Store.facts c.args.source.now in
     let db = held c.args.source.now.memory c.args.self.now in
     let at = found_at (sequence_at db c.args.snapshot) c.in_ok-sequence.sequence c.in_ok-sequence.ensures in
-    let unseen : IsAnswer db.table.contents.inserts c.in_ok-sequence.sequence c.args.key.now None =
-    subst (λ (o : Option (Option (List ℕ))). IsAnswer db.table.contents.inserts c.in_ok-sequence.sequence c.args.key.now o) c.in_default.is c.in_ok-value.ensures in
+    let unseen : IsAnswer (logged_in db.memory) c.in_ok-sequence.sequence c.args.key.now None =
+    subst (λ (o : Option (Option (List ℕ))). IsAnswer (logged_in db.memory) c.in_ok-sequence.sequence c.args.key.now o) c.in_default.is c.in_ok-value.ensures in
     let short : length c.tables.result.now ≡ 0 = grind (arith, nat_tests, c.if-is_empty.ensures) in
     let same : c.tables.result.now ≡ c.args.self.now.version.value.tables = c.tables.ensures.is ∙ ap (λ (v : Placement). v.tables) c.deref.ensures in
     stays_open order source ids db _ (λ m s. got_value order source ids db m c.args.key.now c.args.snapshot s c.if-self.false c.in_ok-sequence.sequence at m None (same_counts m _) refl
@@ -98,8 +99,8 @@ returns-then-is_empty-clause-step g c ids =
 pub returns-then-is_empty-clause-read : goal.returns-then-is_empty-clause-read
 returns-then-is_empty-clause-read g c =
     let db = held c.args.source.now.memory c.args.self.now in
-    let unseen : IsAnswer db.table.contents.inserts c.in_ok-sequence.sequence c.args.key.now None =
-    subst (λ (o : Option (Option (List ℕ))). IsAnswer db.table.contents.inserts c.in_ok-sequence.sequence c.args.key.now o) c.in_default.is c.in_ok-value.ensures in
+    let unseen : IsAnswer (logged_in db.memory) c.in_ok-sequence.sequence c.args.key.now None =
+    subst (λ (o : Option (Option (List ℕ))). IsAnswer (logged_in db.memory) c.in_ok-sequence.sequence c.args.key.now o) c.in_default.is c.in_ok-value.ensures in
     (c.in_ok-sequence.sequence, found_at (sequence_at db c.args.snapshot) c.in_ok-sequence.sequence c.in_ok-sequence.ensures, reads_nothing db c.in_ok-sequence.sequence c.args.key.now unseen)
 
 pub returns-then-is_empty-clause-outcome : goal.returns-then-is_empty-clause-outcome
@@ -154,8 +155,8 @@ returns-in-Some-2-clause-step g c ids =
     let new = seen (g.S.Store.facts c.value_in_tables.new.source.store) c.value_in_tables.new.source.tables c.value_in_tables.new.source.blocks in
     let db = held c.args.source.now.memory c.args.self.now in
     let at = found_at (sequence_at db c.args.snapshot) c.in_ok-sequence.sequence c.in_ok-sequence.ensures in
-    let unseen : IsAnswer db.table.contents.inserts c.in_ok-sequence.sequence c.args.key.now None =
-    subst (λ (o : Option (Option (List ℕ))). IsAnswer db.table.contents.inserts c.in_ok-sequence.sequence c.args.key.now o) c.in_default.is c.in_ok-value.ensures in
+    let unseen : IsAnswer (logged_in db.memory) c.in_ok-sequence.sequence c.args.key.now None =
+    subst (λ (o : Option (Option (List ℕ))). IsAnswer (logged_in db.memory) c.in_ok-sequence.sequence c.args.key.now o) c.in_default.is c.in_ok-value.ensures in
     let says = subst (λ (v : Placement). SaysOfAll order source new v.tables c.args.key.now c.at_most-below.result c.in_ok-value-2.field-0) c.deref-2.ensures c.in_ok-value-2.ensures.found in
     tables_read order (λ scan. scan_kept order.cmp scan) c.version_of_directory.ensures g.met.K.KeyOrder.total g.met.K.KeyOrder.exact source new ids db c.args.key.now c.args.snapshot c.in_ok-sequence.sequence c.at_most-below.result
     c.if-self.false at (λ below. c.at_most-below.ensures.kept (omega (arith, below, c.last.ensures.is))) c.value_in_tables.ensures.carries
@@ -176,8 +177,8 @@ returns-in-Some-2-clause-leaves g c = reads_leave (g.S.Store.facts c.args.source
 pub returns-in-Some-2-clause-read : goal.returns-in-Some-2-clause-read
 returns-in-Some-2-clause-read g c =
     let db = held c.args.source.now.memory c.args.self.now in
-    let unseen : IsAnswer db.table.contents.inserts c.in_ok-sequence.sequence c.args.key.now None =
-    subst (λ (o : Option (Option (List ℕ))). IsAnswer db.table.contents.inserts c.in_ok-sequence.sequence c.args.key.now o) c.in_default.is c.in_ok-value.ensures in
+    let unseen : IsAnswer (logged_in db.memory) c.in_ok-sequence.sequence c.args.key.now None =
+    subst (λ (o : Option (Option (List ℕ))). IsAnswer (logged_in db.memory) c.in_ok-sequence.sequence c.args.key.now o) c.in_default.is c.in_ok-value.ensures in
     let long : length c.tables.result.now ≢ 0 = grind (arith, nat_tests, c.if-is_empty.ensures) in
     let same : c.tables.result.now ≡ c.args.self.now.version.value.tables = c.tables.ensures.is ∙ ap (λ (v : Placement). v.tables) c.deref.ensures in (
       c.in_ok-sequence.sequence,
@@ -192,8 +193,8 @@ returns-in-None-clause-step g c ids =
     let new = seen (g.S.Store.facts c.value_in_tables.new.source.store) c.value_in_tables.new.source.tables c.value_in_tables.new.source.blocks in
     let db = held c.args.source.now.memory c.args.self.now in
     let at = found_at (sequence_at db c.args.snapshot) c.in_ok-sequence.sequence c.in_ok-sequence.ensures in
-    let unseen : IsAnswer db.table.contents.inserts c.in_ok-sequence.sequence c.args.key.now None =
-    subst (λ (o : Option (Option (List ℕ))). IsAnswer db.table.contents.inserts c.in_ok-sequence.sequence c.args.key.now o) c.in_default.is c.in_ok-value.ensures in
+    let unseen : IsAnswer (logged_in db.memory) c.in_ok-sequence.sequence c.args.key.now None =
+    subst (λ (o : Option (Option (List ℕ))). IsAnswer (logged_in db.memory) c.in_ok-sequence.sequence c.args.key.now o) c.in_default.is c.in_ok-value.ensures in
     let says = subst (λ (v : Placement). SaysOfAll order source new v.tables c.args.key.now c.at_most-below.result c.in_ok-value-2.field-0) c.deref-2.ensures c.in_ok-value-2.ensures.found in
     tables_read order (λ scan. scan_kept order.cmp scan) c.version_of_directory.ensures g.met.K.KeyOrder.total g.met.K.KeyOrder.exact source new ids db c.args.key.now c.args.snapshot c.in_ok-sequence.sequence c.at_most-below.result
     c.if-self.false at (λ below. c.at_most-below.ensures.kept (omega (arith, below, c.last.ensures.is))) c.value_in_tables.ensures.carries
@@ -214,8 +215,8 @@ returns-in-None-clause-leaves g c = reads_leave (g.S.Store.facts c.args.source.n
 pub returns-in-None-clause-read : goal.returns-in-None-clause-read
 returns-in-None-clause-read g c =
     let db = held c.args.source.now.memory c.args.self.now in
-    let unseen : IsAnswer db.table.contents.inserts c.in_ok-sequence.sequence c.args.key.now None =
-    subst (λ (o : Option (Option (List ℕ))). IsAnswer db.table.contents.inserts c.in_ok-sequence.sequence c.args.key.now o) c.in_default.is c.in_ok-value.ensures in
+    let unseen : IsAnswer (logged_in db.memory) c.in_ok-sequence.sequence c.args.key.now None =
+    subst (λ (o : Option (Option (List ℕ))). IsAnswer (logged_in db.memory) c.in_ok-sequence.sequence c.args.key.now o) c.in_default.is c.in_ok-value.ensures in
     let long : length c.tables.result.now ≢ 0 = grind (arith, nat_tests, c.if-is_empty.ensures) in
     let same : c.tables.result.now ≡ c.args.self.now.version.value.tables = c.tables.ensures.is ∙ ap (λ (v : Placement). v.tables) c.deref.ensures in (
       c.in_ok-sequence.sequence,

@@ -1,4 +1,4 @@
-use Rattle.std.proofs.Common.{◌≡◌, ◌∙◌, sym}
+use Rattle.std.proofs.Common.{◌∙◌, sym}
 use Rattle.scans.specs.Scans.{ListsMerged}
 use Rattle.scans.specs.Whole.{whole}
 use Rattle.scans.proofs.AtHand.{same_pair, pair_placed, pair_there}
@@ -6,7 +6,7 @@ use Rattle.scans.proofs.ScanSteps.{read_whole}
 use Rattle.scans.proofs.scan.Scan.pair.Goals as goal
 
 pub returns : goal.returns
-returns g c = λ tables at h.
+returns g c = λ at h.
     let walk = c.args.self.now.walk in
     let s = c.args.source.now in
     let stands = sym c.stands.ensures ∙ c.if-not-stands.false in

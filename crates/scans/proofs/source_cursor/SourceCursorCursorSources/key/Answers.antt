@@ -6,9 +6,9 @@ use Rattle.scans.proofs.source_cursor.SourceCursorCursorSources.key.Goals as goa
 pub returns-in-Memory : goal.returns-in-Memory
 returns-in-Memory g c = λ at index entry h place is.
     let s = c.args.source.now in
-    c.cursor_key.ensures at index entry (subst (λ cursor. ListsSource g.K.KeyOrder.cmp cursor (whole (g.S.Store.facts s.tables.store) s.tables.tables s.tables.blocks s.memory) at) c.in-Memory.is h) place is
+    c.key.ensures at index entry (subst (λ cursor. ListsSource g.K.KeyOrder.cmp cursor (whole (g.S.Store.facts s.tables.store) s.tables.tables s.tables.blocks s.memory) at) c.in-Memory.is h) place is
 
 pub returns-in-Row : goal.returns-in-Row
 returns-in-Row g c = λ at index entry h place is.
     let s = c.args.source.now in
-    c.key.ensures at index entry (subst (λ cursor. ListsSource g.K.KeyOrder.cmp cursor (whole (g.S.Store.facts s.tables.store) s.tables.tables s.tables.blocks s.memory) at) c.in-Row.is h) place is
+    c.key-in-Row.ensures at index entry (subst (λ cursor. ListsSource g.K.KeyOrder.cmp cursor (whole (g.S.Store.facts s.tables.store) s.tables.tables s.tables.blocks s.memory) at) c.in-Row.is h) place is

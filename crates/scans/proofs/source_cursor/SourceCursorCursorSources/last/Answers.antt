@@ -1,7 +1,5 @@
 use Rattle.std.proofs.Common.{refl, sym, subst}
-use Rattle.cursor.specs.Moves.{Stays}
 use Rattle.scans.proofs.SourceSteps.{StaysSource, stays_memory, stays_row}
-use Rattle.scans.specs.declared.source_cursor.SourceCursor.{SourceCursor}
 use Rattle.scans.specs.declared.source_cursor.SourceCursor.TheVariants.{Memory, Row}
 use Rattle.sources.specs.Tables.{seen}
 use Rattle.sources.proofs.Standing.{nothing_called}
@@ -9,15 +7,15 @@ use Rattle.scans.proofs.source_cursor.SourceCursorCursorSources.last.Goals as go
 
 pub returns-in-Memory-clause-stays : goal.returns-in-Memory-clause-stays
 returns-in-Memory-clause-stays g c =
-    subst (λ cursor. StaysSource g.K.KeyOrder.cmp (λ tables. seen (g.S.Store.facts tables.store) tables.tables tables.blocks) (λ source. source.tables) (λ source. source.memory) cursor (Memory c.cursor_last.new.cursor) c.args.source.now (record c.args.source.now { memory = c.cursor_last.new.self })) (sym c.in-Memory.is)
-    (stays_memory g.K.KeyOrder.cmp (λ tables. seen (g.S.Store.facts tables.store) tables.tables tables.blocks) (λ source. source.tables) (λ source. source.memory) c.in-Memory.cursor c.cursor_last.new.cursor c.args.source.now (record c.args.source.now { memory = c.cursor_last.new.self }) refl
-    c.cursor_last.ensures.stays)
+    subst (λ cursor. StaysSource g.K.KeyOrder.cmp (λ tables. seen (g.S.Store.facts tables.store) tables.tables tables.blocks) (λ source. source.tables) (λ source. source.memory) cursor (Memory c.last.new.self) c.args.source.now (record c.args.source.now { memory = c.last.new.source })) (sym c.in-Memory.is)
+    (stays_memory g.K.KeyOrder.cmp (λ tables. seen (g.S.Store.facts tables.store) tables.tables tables.blocks) (λ source. source.tables) (λ source. source.memory) c.in-Memory.cursor c.last.new.self c.args.source.now (record c.args.source.now { memory = c.last.new.source }) refl
+    c.last.ensures.stays)
 
 pub returns-in-Row-clause-stays : goal.returns-in-Row-clause-stays
 returns-in-Row-clause-stays g c =
-    subst (λ cursor. StaysSource g.K.KeyOrder.cmp (λ tables. seen (g.S.Store.facts tables.store) tables.tables tables.blocks) (λ source. source.tables) (λ source. source.memory) cursor (Row c.last.new.self) c.args.source.now (record c.args.source.now { tables = c.last.new.source })) (sym c.in-Row.is)
-    (stays_row g.K.KeyOrder.cmp (λ tables. seen (g.S.Store.facts tables.store) tables.tables tables.blocks) (λ source. source.tables) (λ source. source.memory) (λ s t. Unit {0}) c.in-Row.cursor c.last.new.self c.args.source.now (record c.args.source.now { tables = c.last.new.source }) refl
-    c.last.ensures.stays)
+    subst (λ cursor. StaysSource g.K.KeyOrder.cmp (λ tables. seen (g.S.Store.facts tables.store) tables.tables tables.blocks) (λ source. source.tables) (λ source. source.memory) cursor (Row c.last-in-Row.new.self) c.args.source.now (record c.args.source.now { tables = c.last-in-Row.new.source })) (sym c.in-Row.is)
+    (stays_row g.K.KeyOrder.cmp (λ tables. seen (g.S.Store.facts tables.store) tables.tables tables.blocks) (λ source. source.tables) (λ source. source.memory) (λ s t. Unit {0}) c.in-Row.cursor c.last-in-Row.new.self c.args.source.now (record c.args.source.now { tables = c.last-in-Row.new.source }) refl
+    c.last-in-Row.ensures.stays)
 
 pub returns-in-Memory-clause-still : goal.returns-in-Memory-clause-still
-returns-in-Memory-clause-still g c = nothing_called (g.S.Store.facts c.args.source.now.tables.store) c.cursor_last.result
+returns-in-Memory-clause-still g c = nothing_called (g.S.Store.facts c.args.source.now.tables.store) c.last.result

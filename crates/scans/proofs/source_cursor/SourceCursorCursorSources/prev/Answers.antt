@@ -1,7 +1,5 @@
 use Rattle.std.proofs.Common.{refl, sym, subst}
-use Rattle.cursor.specs.Moves.{Stays}
 use Rattle.scans.proofs.SourceSteps.{StaysSource, stays_memory, stays_row}
-use Rattle.scans.specs.declared.source_cursor.SourceCursor.{SourceCursor}
 use Rattle.scans.specs.declared.source_cursor.SourceCursor.TheVariants.{Memory, Row}
 use Rattle.sources.specs.Tables.{seen}
 use Rattle.sources.proofs.Standing.{nothing_called}
@@ -9,15 +7,15 @@ use Rattle.scans.proofs.source_cursor.SourceCursorCursorSources.prev.Goals as go
 
 pub returns-in-Memory-clause-stays : goal.returns-in-Memory-clause-stays
 returns-in-Memory-clause-stays g c =
-    subst (λ cursor. StaysSource g.K.KeyOrder.cmp (λ tables. seen (g.S.Store.facts tables.store) tables.tables tables.blocks) (λ source. source.tables) (λ source. source.memory) cursor (Memory c.cursor_prev.new.cursor) c.args.source.now (record c.args.source.now { memory = c.cursor_prev.new.self })) (sym c.in-Memory.is)
-    (stays_memory g.K.KeyOrder.cmp (λ tables. seen (g.S.Store.facts tables.store) tables.tables tables.blocks) (λ source. source.tables) (λ source. source.memory) c.in-Memory.cursor c.cursor_prev.new.cursor c.args.source.now (record c.args.source.now { memory = c.cursor_prev.new.self }) refl
-    c.cursor_prev.ensures.stays)
+    subst (λ cursor. StaysSource g.K.KeyOrder.cmp (λ tables. seen (g.S.Store.facts tables.store) tables.tables tables.blocks) (λ source. source.tables) (λ source. source.memory) cursor (Memory c.prev.new.self) c.args.source.now (record c.args.source.now { memory = c.prev.new.source })) (sym c.in-Memory.is)
+    (stays_memory g.K.KeyOrder.cmp (λ tables. seen (g.S.Store.facts tables.store) tables.tables tables.blocks) (λ source. source.tables) (λ source. source.memory) c.in-Memory.cursor c.prev.new.self c.args.source.now (record c.args.source.now { memory = c.prev.new.source }) refl
+    c.prev.ensures.stays)
 
 pub returns-in-Row-clause-stays : goal.returns-in-Row-clause-stays
 returns-in-Row-clause-stays g c =
-    subst (λ cursor. StaysSource g.K.KeyOrder.cmp (λ tables. seen (g.S.Store.facts tables.store) tables.tables tables.blocks) (λ source. source.tables) (λ source. source.memory) cursor (Row c.prev.new.self) c.args.source.now (record c.args.source.now { tables = c.prev.new.source })) (sym c.in-Row.is)
-    (stays_row g.K.KeyOrder.cmp (λ tables. seen (g.S.Store.facts tables.store) tables.tables tables.blocks) (λ source. source.tables) (λ source. source.memory) (λ s t. Unit {0}) c.in-Row.cursor c.prev.new.self c.args.source.now (record c.args.source.now { tables = c.prev.new.source }) refl
-    c.prev.ensures.stays)
+    subst (λ cursor. StaysSource g.K.KeyOrder.cmp (λ tables. seen (g.S.Store.facts tables.store) tables.tables tables.blocks) (λ source. source.tables) (λ source. source.memory) cursor (Row c.prev-in-Row.new.self) c.args.source.now (record c.args.source.now { tables = c.prev-in-Row.new.source })) (sym c.in-Row.is)
+    (stays_row g.K.KeyOrder.cmp (λ tables. seen (g.S.Store.facts tables.store) tables.tables tables.blocks) (λ source. source.tables) (λ source. source.memory) (λ s t. Unit {0}) c.in-Row.cursor c.prev-in-Row.new.self c.args.source.now (record c.args.source.now { tables = c.prev-in-Row.new.source }) refl
+    c.prev-in-Row.ensures.stays)
 
 pub returns-in-Memory-clause-still : goal.returns-in-Memory-clause-still
-returns-in-Memory-clause-still g c = nothing_called (g.S.Store.facts c.args.source.now.tables.store) c.cursor_prev.result
+returns-in-Memory-clause-still g c = nothing_called (g.S.Store.facts c.args.source.now.tables.store) c.prev.result
