@@ -70,7 +70,7 @@ next_said log previous next_file last table = by_gone (λ (more : List Field). l
 sequence_said : (log previous next_file last : ℕ) (table : TableFile) → last_said last_sequence_in (flush_fields log previous next_file last table) ≡ Some last
 sequence_said log previous next_file last table = by_gone (λ (more : List Field). last_said last_sequence_in (with_more log next_file last table more) ≡ Some last) previous refl refl
 
-pointer_said : (level log previous next_file last : ℕ) (table : TableFile) → last_said (compact_pointer_in level) (flush_fields log previous next_file last table) ≡ None
+pub pointer_said : (level log previous next_file last : ℕ) (table : TableFile) → last_said (compact_pointer_in level) (flush_fields log previous next_file last table) ≡ None
 pointer_said level log previous next_file last table = by_gone (λ (more : List Field). last_said (compact_pointer_in level) (with_more log next_file last table more) ≡ None) previous refl refl
 
 -- the previous log's number is 0 then, whether the edit says so or it was
@@ -101,6 +101,14 @@ new_one log previous next_file last table tables unused =
     ap (option_and_then (after_new (flush_fields log previous next_file last table))) (deleted_none log previous next_file last table tables)
     ∙ then_none previous (with_table placed tables)
     ∙ ap (λ (b : Bool). cond b None (Some (inserted placed tables))) unused
+
+pub none_edit : (log previous next_file last : ℕ) (table : TableFile) (tables : List PlacedTable) → is_used table.number tables ≡ true
+    → after_edit (flush_fields log previous next_file last table) tables ≡ None
+none_edit log previous next_file last table tables used =
+    let placed : PlacedTable = record { level = 0; table = table } in
+    ap (option_and_then (after_new (flush_fields log previous next_file last table))) (deleted_none log previous next_file last table tables)
+    ∙ then_none previous (with_table placed tables)
+    ∙ ap (λ (b : Bool). cond b None (Some (inserted placed tables))) used
 
 pub after_flush : (name : List ℕ) (edits : List (List Field)) (old new : Layout) (log previous next_file last : ℕ) (table : TableFile) → IsLayout name edits old → old.previous_log_number ≡ previous
     → is_used table.number old.tables.items ≡ false → IsAfterFlush log next_file last table old new → IsLayout name (edits ++ flush_fields log previous next_file last table ∷ []) new

@@ -2,9 +2,11 @@ pub mod Cleaning
 pub mod EditSteps
 pub mod Filled
 pub mod FlushEdits
+pub mod KeyEnds
 pub mod Made
 pub mod Meaning
 pub mod NewLogFiles
+pub mod NewVersions
 pub mod Ranks
 pub mod Sizes
 pub mod StoreCalls

@@ -77,7 +77,7 @@ first_entry order inserts (one ∷ placed) node is h e =
       λ other i. elim i [ inl s ↦ inl s | inr j ↦ inr (h.0 other j) ],
     )
 
-last_split : (placed : List Placed) → (placed ≡ []) ⊎ ((front : List Placed) × (one : Placed) × (placed ≡ front ++ one ∷ []))
+pub last_split : (placed : List Placed) → (placed ≡ []) ⊎ ((front : List Placed) × (one : Placed) × (placed ≡ front ++ one ∷ []))
 last_split [] = inl refl
 last_split (one ∷ later) = elim (last_split later) [
   | inl e ↦ inr ([], one, ap (λ (v : List Placed). one ∷ v) e)

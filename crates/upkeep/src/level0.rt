@@ -16,6 +16,7 @@ ghost use Rattle.memtable.specs.Slots.{entry_seen, value_seen};
 ghost use Rattle.edits.specs.declared.names.FileName.TheVariants.{Table};
 ghost use Rattle.edits.specs.Names.{name_of};
 ghost use Rattle.recover.specs.Tables.{internal_key};
+ghost use Rattle.versions.specs.Levels.{IsRange};
 ghost use Rattle.table.specs.Building.{Builds, MayFollow, last_added};
 ghost use Rattle.table.specs.Reading.{HasFile};
 ghost use Rattle.table.specs.Writing.{Writes, WriteRefuses, IsTableOf, NeedsLongBlock};
@@ -47,6 +48,8 @@ pub fn write_level0<K: KeyOrder, S: Store>(
     ensures writes { Writes (S.facts store.old) (S.facts store.new) (name_of (Table number)) }
     ensures written { IfOk result (λ table. IsTrue (S.facts store.new).faithful → IsLevel0 (order_of K.name K.cmp) (S.facts store.new).files number memory.now.inserts table) }
     ensures proper { IfOk result IsTableProper }
+    ensures number { IfOk result (λ table. table.number ≡ number) }
+    ensures range { IfOk result (λ table. IsRange K.cmp (record { level = 0; table = table })) }
     ensures synced { OnOk result (IsTrue (S.facts store.new).faithful → (S.facts store.new).synced (name_of (Table number)) ≡ get (S.facts store.new).files (name_of (Table number))) }
     ensures stood { OnOk result ((S.facts store.new).failures ≡ (S.facts store.old).failures) }
     ensures refused { IfErr result (λ e. WriteRefuses e (S.facts store.old) (S.facts store.new) (IsTooLarge (S.facts store.new) memory.now.inserts)) }

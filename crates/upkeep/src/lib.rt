@@ -3,12 +3,14 @@
 #![tactic(auto)]
 
 mod calls;
+mod flush;
 mod flush_edits;
 mod level0;
 mod log_file;
 mod manifest;
 mod removal;
 
+pub use flush::{FlushError, FlushPlan, Flushed, flush_memory};
 pub use flush_edits::flush_edit;
 pub use level0::write_level0;
 pub use log_file::begin_log;
