@@ -3,9 +3,13 @@ use Rattle.std.proofs.Common.{◌≡◌, ◌≢◌, ◌⊎◌, ◌==◌, nat_lt,
 use Rattle.std.specs.Prelude.{Any}
 use Rattle.std.specs.Option.{option_or}
 use Rattle.std.specs.declared.cmp.Ordering.{Ordering}
-use Rattle.std.proofs.lemmas.Bool.{cond_both, cases_order}
+use Rattle.std.proofs.lemmas.Bool.{cond_both, cases_lt}
 use Rattle.std.proofs.lemmas.List.Elements.{All-cons, All-from_recursion, Contains-get_or}
 use Rattle.std.proofs.lemmas.List.Kept.{AllPairs-cons}
+use Rattle.coding.specs.declared.error.DbError.{DbError}
+use Rattle.coding.specs.declared.error.DbError.TheVariants.{OutOfMemory, Io, Corrupt, Unsupported, NumbersSpent}
+use Rattle.ikey.specs.declared.entry.Entry.{Entry}
+use Rattle.store.specs.Files.{Facts}
 use Rattle.edits.specs.declared.field.Field.{Field}
 use Rattle.edits.specs.declared.field.PlacedTable.{PlacedTable}
 use Rattle.edits.specs.declared.field.TableFile.{TableFile}
@@ -16,7 +20,7 @@ use Rattle.versions.specs.Keeping.{HasNumber}
 use Rattle.versions.specs.Levels.{Placement, Lists, IsRange, IsBefore, AreInOrder, AreApart, pointers_after}
 use Rattle.versions.proofs.Sets.{inside, no_some, used_in}
 use Rattle.versions.proofs.Pairs.{contained_among, all_contained}
-use Rattle.upkeep.specs.Flush.{HasNewVersion}
+use Rattle.upkeep.specs.Flush.{HasNewVersion, RefusesTable, RefusesVersion}
 use Rattle.upkeep.specs.FlushEdits.{flush_fields}
 use Rattle.upkeep.proofs.FlushEdits.{new_one, none_edit, pointer_said}
 
@@ -55,11 +59,11 @@ module _ (cmp : List ℕ → List ℕ → Ordering) (table : TableFile) where
       by : (level : ℕ) → level ≡ c.level → IsBefore cmp c new ⊎ IsBefore cmp new c
       by zero is =
           let F : ℕ → Type 0 = λ n. Rattle.versions.specs.Levels.IsFirstAt cmp n c new in
-          elim (cases_order c.table.number table.number) [
+          elim (cases_lt c.table.number table.number) [
             | inl less ↦ inl (inr (sym is, subst F is less))
-            | inr rest ↦ elim rest [
-              | inl same ↦ absurd (other (sym same))
-              | inr more ↦ inr (inr (is, more))
+            | inr most ↦ elim (cases_lt table.number c.table.number) [
+              | inl less ↦ inr (inr (is, less))
+              | inr least ↦ absurd (other (omega (arith, most, least)))
             ]
           ]
       by (suc n) is = inr (inl (omega (arith, is)))
@@ -83,8 +87,8 @@ module _ (cmp : List ℕ → List ℕ → Ordering) (table : TableFile) where
   used_number : (tables : List PlacedTable) → is_used table.number tables ≡ true → HasNumber table.number tables
   used_number tables used =
       let u = used_in table.number tables used in
-      let c = contained_among u.0 tables u.1 in
-      (c.0, c.1, λ d. ?)
+      let c = u.1 in
+      (c.0, u.0, c.1, c.2, u.2)
 
   by_used : {R : Type 0} (tables : List PlacedTable) → (is_used table.number tables ≡ true → R) → (is_used table.number tables ≡ false → R) → R
   by_used {R} tables yes_used not_used = by (is_used table.number tables) refl
@@ -131,3 +135,30 @@ module _ (cmp : List ℕ → List ℕ → Ordering) (table : TableFile) where
       in_order = in_order;
       pointers = said ∙ same_pointers 0 pointers;
     }
+
+-- ---- why there is none
+
+refused_by : (e : DbError) (old now : Facts) (entries : List Entry) (tables : List PlacedTable) (next after : ℕ) (astray : Type 0) → (astray → HasNumber next tables) → now.failures ≡ old.failures
+    → RefusesVersion e astray → RefusesTable e old now entries tables next after
+refused_by OutOfMemory old now entries tables next after astray to stood h = stood
+refused_by (Corrupt file what) old now entries tables next after astray to stood h = to h
+refused_by Io old now entries tables next after astray to stood h = absurd h
+refused_by (Unsupported what) old now entries tables next after astray to stood h = absurd h
+refused_by NumbersSpent old now entries tables next after astray to stood h = absurd h
+refused_by e old now entries tables next after astray to stood h = absurd h
+
+module _ (cmp : List ℕ → List ℕ → Ordering) (table : TableFile) (log previous next_file last : ℕ) (tables : List PlacedTable) (order : AreInOrder cmp tables) (edit : List Field)
+    (is : edit ≡ flush_fields log previous next_file last table) (number : ℕ) (number_is : table.number ≡ number) where
+  pub version_refused : (e : DbError) (old new : Facts) (entries : List Entry) (after : ℕ) → IsRange cmp (record { level = 0; table = table }) → new.failures ≡ old.failures
+      → RefusesVersion e (LeadsAstray cmp (after_edit edit) tables) → RefusesTable e old new entries tables number after
+  version_refused e old new entries after range stood h =
+      refused_by e old new entries tables number after (LeadsAstray cmp (after_edit edit) tables)
+      (λ astray. subst (λ (n : ℕ). HasNumber n tables) number_is
+      (number_used cmp table log previous next_file last tables order range (subst (λ (fields : List Field). LeadsAstray cmp (after_edit fields) tables) is astray)))
+      stood h
+
+  pub version_made : (pointers : List (Option (List ℕ))) (after : Placement) → Leads (after_edit edit) tables after.tables → AreInOrder cmp after.tables → after.compact_pointers ≡ pointers_after edit 0 pointers
+      → HasNewVersion cmp number (record { tables = tables; compact_pointers = pointers }) after
+  version_made pointers after leads in_order said =
+      new_version cmp table log previous next_file last tables order number pointers after number_is
+      (subst (λ (fields : List Field). Leads (after_edit fields) tables after.tables) is leads) in_order (said ∙ ap (λ (fields : List Field). pointers_after fields 0 pointers) is)
