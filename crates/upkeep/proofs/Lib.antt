@@ -10,3 +10,4 @@ pub mod NewVersions
 pub mod Ranks
 pub mod Sizes
 pub mod StoreCalls
+pub mod TableFiles

@@ -75,7 +75,7 @@ listed_with files name q there =
 
 -- above a free number all are free, whether the log is there or not
 module _ (order : Order) (files : Files) (number : ℕ) (free : IsFree order files number) where
-  recorded_more : (m : ℕ) (edits : List (List Field)) (layout : Layout) → HasManifest order files m edits layout
+  pub recorded_more : (m : ℕ) (edits : List (List Field)) (layout : Layout) → HasManifest order files m edits layout
       → (layout.next_file_number ≤ number + 1) × (layout.log_number < number + 1) × (layout.previous_log_number < number + 1) × AllByRecursion (NamesBelow (number + 1)) (fields_of edits)
   recorded_more m edits layout has =
       let r = free.recorded m edits layout has in

@@ -36,9 +36,9 @@ use Rattle.upkeep.specs.declared.manifest.CurrentManifest.{CurrentManifest}
 
 -- ---- over any store
 
--- One number is drawn at most.
-abbrev pub DrawsTable : ℕ → ℕ → Type 0
-DrawsTable next after = (after ≡ next) ⊎ (after ≡ next + 1)
+-- The number that was next is drawn, or none is, and then nothing else was done.
+abbrev pub DrawsTable : Facts → Facts → ℕ → ℕ → Type 0
+DrawsTable old new next after = ((after ≡ next) × (new ≡ old)) ⊎ ((after ≡ next + 1) × (0 < next) × (next < 2 ^ 62))
 
 -- Once a store has returned something else than what was written, that is so for good. The failures don't fall, and the
 -- lock isn't asked for. But for the files of these names, all are as before.
@@ -100,6 +100,7 @@ pub record HasPrepared {K : Type 0} (order : Order) (new : Facts) (after : ℕ) 
   pub fields : prepared.edit ≡ flush_fields plan.log_number plan.previous_log_number after plan.last_sequence table
   pub proper : All IsProper prepared.edit
   pub spelled : IsInOrder prepared.edit
+  pub limit : HasPastLimit prepared.edit → ⊥
   pub leads : Leads (after_edit prepared.edit) old.tables prepared.version.value.tables
   pub version : HasNewVersion order.cmp prepared.number old prepared.version.value
   pub written : IsTrue new.faithful → IsLevel0 order new.files prepared.number entries table

@@ -87,7 +87,7 @@ pub fn flush_memory<K: KeyOrder, S: Store>(
     ensures call { FlushTouches (S.facts store.old) (S.facts store.new) (name_of (Table numbers.old.next)) (string_bytes manifest.now.name) }
     ensures stood { OnOk result ((S.facts store.new).failures ≡ (S.facts store.old).failures) }
     ensures refused { IfErr result (λ error. RefusesFlush error (S.facts store.old) (S.facts store.new) memory.now.inserts version.now.tables numbers.old.next numbers.new.next) }
-    ensures drawn { DrawsTable numbers.old.next numbers.new.next }
+    ensures drawn { DrawsTable (S.facts store.old) (S.facts store.new) numbers.old.next numbers.new.next }
     ensures version { HasVersion K.cmp version.now numbers.old.next numbers.new.next result }
     ensures syncs { SyncsFlush (S.facts store.new) (name_of (Table numbers.old.next)) (string_bytes manifest.now.name) result }
     ensures leaves { FlushLeaves (order_of K.name K.cmp) (S.facts store.old) (S.facts store.new) numbers.old.next numbers.new.next plan manifest.now memory.now.inserts version.now.tables result }
@@ -124,7 +124,7 @@ fn prepare<K: KeyOrder, S: Store>(
     ensures writes { Writes (S.facts store.old) (S.facts store.new) (name_of (Table numbers.old.next)) }
     ensures stood { OnOk result ((S.facts store.new).failures ≡ (S.facts store.old).failures) }
     ensures refused { IfErr result (λ error. RefusesTable error (S.facts store.old) (S.facts store.new) memory.now.inserts version.now.tables numbers.old.next numbers.new.next) }
-    ensures drawn { DrawsTable numbers.old.next numbers.new.next }
+    ensures drawn { DrawsTable (S.facts store.old) (S.facts store.new) numbers.old.next numbers.new.next }
     ensures prepares { Prepares (order_of K.name K.cmp) (S.facts store.new) numbers.old.next numbers.new.next plan memory.now.inserts version.now result }
 {
     let number = numbers.draw()?;

@@ -32,6 +32,7 @@ returns-clause-prepares g c =
         fields = c.in_ok-edit.ensures.fields;
         proper = c.in_ok-edit.ensures.proper;
         spelled = c.in_ok-edit.ensures.order;
+        limit = c.in_ok-edit.ensures.limit (let few : c.in_ok-table.table.number < 2 ^ 62 = omega (arith, c.in_ok-table.ensures.number, drawn.2) in few);
         leads = c.in_ok-version.ensures.tables;
         version = version_made g.K.KeyOrder.cmp c.in_ok-table.table plan.log_number plan.previous_log_number after plan.last_sequence c.args.version.now.tables c.in_ok-version.ensures.old c.in_ok-edit.edit
             c.in_ok-edit.ensures.fields c.in_ok-number.number c.in_ok-table.ensures.number c.args.version.now.compact_pointers c.in_ok-version.version.value c.in_ok-version.ensures.tables c.in_ok-version.ensures.order
