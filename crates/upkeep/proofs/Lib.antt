@@ -2,6 +2,7 @@ pub mod Cleaning
 pub mod EditSteps
 pub mod Filled
 pub mod FlushEdits
+pub mod Flushes
 pub mod KeyEnds
 pub mod Made
 pub mod Meaning
@@ -10,4 +11,5 @@ pub mod NewVersions
 pub mod Ranks
 pub mod Sizes
 pub mod StoreCalls
+pub mod TableEdits
 pub mod TableFiles
