@@ -15,7 +15,7 @@ use Rattle.recover.specs.Logs.{LogContent}
 use Rattle.recover.specs.Directory.{Directory}
 use Rattle.recover.specs.Changes.{FlushLaw, SameManifestLaw, UnreadLaw}
 use Rattle.upkeep.specs.Calls.{Touches}
-use Rattle.upkeep.specs.Flush.{CanFlush, DrawsTable, FlushTouches, FlushLeaves, FlushMeans, HasPrepared, IsUnflushed, SyncsFlush, edit_refusal}
+use Rattle.upkeep.specs.Flush.{CanFlush, DrawsTable, FlushTouches, FlushLeaves, FlushMeans, HasPrepared, IsUnflushed, RefusesTable, SyncsFlush, edit_refusal}
 use Rattle.upkeep.specs.Level0.{IsLevel0}
 use Rattle.upkeep.specs.Manifest.{AppendsEdit, SyncsEdit}
 use Rattle.upkeep.specs.declared.flush.FlushError.{FlushError}
@@ -25,7 +25,7 @@ use Rattle.upkeep.specs.declared.flush.Flushed.{Flushed}
 use Rattle.upkeep.specs.declared.flush.Prepared.{Prepared}
 use Rattle.upkeep.specs.declared.manifest.CurrentManifest.{CurrentManifest}
 use Rattle.upkeep.proofs.TableEdits.{flushed_ok, maybe_flushed, unflushed_still}
-use Rattle.upkeep.proofs.TableFiles.{unflushed, unflushed_yet}
+use Rattle.upkeep.proofs.TableFiles.{not_corrupt, unflushed, unflushed_yet}
 
 -- ---- which files change
 
@@ -57,15 +57,21 @@ numbered_by n some few = (some, omega (arith, few))
 
 module _ (K : Type 0) (order : Order) (old : Facts) (next after : ℕ) (plan : FlushPlan) (manifest : CurrentManifest) (entries : List Entry) where
   -- the table isn't ready
-  pub leaves_none : UnreadLaw → (new : Facts) (tables : List PlacedTable) (e : DbError) → Writes old new (name_of (Table next)) → DrawsTable old new next after
+  pub leaves_none : UnreadLaw → (new : Facts) (tables : List PlacedTable) (e : DbError) → Writes old new (name_of (Table next)) → DrawsTable old new next after → RefusesTable e old new entries tables next after
       → FlushLeaves {K = K} order old new next after plan manifest entries tables (Err (Before e))
-  leaves_none law new tables e w (inl none) f d sealed current can =
+  leaves_none law new tables e w (inl none) why f d sealed current can =
       let P : Files → Type 0 = λ fs. IsUnflushed order old.files fs after plan manifest entries tables d sealed current in
       let N : ℕ → Type 0 = λ k. IsUnflushed order old.files old.files k plan manifest entries tables d sealed current in
-      subst P (sym (ap (λ (x : Facts). x.files) none.1)) (subst N (sym none.0) (unflushed_yet order old.files next plan manifest entries tables d sealed current can))
-  leaves_none law new tables e w (inr drawn) f d sealed current can =
+      (
+        not_corrupt order old.files next after plan manifest entries tables d sealed current old new e can why,
+        subst P (sym (ap (λ (x : Facts). x.files) none.1)) (subst N (sym none.0) (unflushed_yet order old.files next plan manifest entries tables d sealed current can)),
+      )
+  leaves_none law new tables e w (inr drawn) why f d sealed current can =
       let N : ℕ → Type 0 = λ k. IsUnflushed order old.files new.files k plan manifest entries tables d sealed current in
-      subst N (sym drawn.0) (unflushed order old.files new.files next (numbered_by next drawn.1 drawn.2) (w.others f) plan manifest entries tables d sealed current can law)
+      (
+        not_corrupt order old.files next after plan manifest entries tables d sealed current old new e can why,
+        subst N (sym drawn.0) (unflushed order old.files new.files next (numbered_by next drawn.1 drawn.2) (w.others f) plan manifest entries tables d sealed current can law),
+      )
 
 module _ {K : Type 0} (order : Order) (old : Facts) (next after : ℕ) (plan : FlushPlan) (manifest : CurrentManifest) (entries : List Entry) where
   module _ (law : UnreadLaw) (flush : FlushLaw) (same : SameManifestLaw) (mid new : Facts) (placement : Placement) (prepared : Prepared K) (w : Writes old mid (name_of (Table next))) (t : Touches mid new)
@@ -93,7 +99,7 @@ module _ {K : Type 0} (order : Order) (old : Facts) (next after : ℕ) (plan : F
         let M : DbError → Type 0 = λ x. FlushMeans {K = K} order old.files new.files next after plan manifest entries placement.tables d sealed current (Err (edit_refusal x)) in
         let A : DbError → Type 0 = λ x. AppendsEdit order mid new manifest.number (string_bytes manifest.name) manifest.end prepared.edit (Err x) in
         elim which [
-          | inl memory ↦ subst M (sym memory) (unflushed_still order old.files mid next after few more plan manifest entries placement.tables d sealed current can (still g d sealed current can) p.table (p.number_is ∙ number)
+          | inl memory ↦ subst M (sym memory) (λ corrupt. corrupt, unflushed_still order old.files mid next after few more plan manifest entries placement.tables d sealed current can (still g d sealed current can) p.table (p.number_is ∙ number)
               (written g) prepared.edit p.fields p.limit new f (subst A memory r))
           | inr io ↦ subst M (sym io) (maybe_flushed order old.files mid next after few more plan manifest entries placement.tables d sealed current can (still g d sealed current can) p.table (p.number_is ∙ number)
               (written g) prepared.edit p.fields p.limit flush same new f (subst A io r))

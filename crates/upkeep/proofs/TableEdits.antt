@@ -40,7 +40,7 @@ use Rattle.upkeep.specs.Manifest.{CanAddEdit, IsRecordedBelow, AppendsEdit}
 use Rattle.upkeep.specs.declared.flush.FlushPlan.{FlushPlan}
 use Rattle.upkeep.specs.declared.manifest.CurrentManifest.{CurrentManifest}
 use Rattle.upkeep.proofs.FlushEdits.{after_flush, all_said, fields_last, new_one}
-use Rattle.upkeep.proofs.TableFiles.{below_free, numbered_table, agree_then, last_numbered, log_stays, end_kept, log_manifest, table_manifest, old_table_manifest}
+use Rattle.upkeep.proofs.TableFiles.{below_free, below_placed, numbered_table, agree_then, last_numbered, log_stays, end_kept, log_manifest, table_manifest, old_table_manifest}
 
 -- ---- tables of distinct numbers
 
@@ -49,11 +49,6 @@ placed_of contents = map (λ (content : TableContent). content.placed) contents
 
 abbrev numbers_of : List PlacedTable → List ℕ
 numbers_of tables = map (λ (p : PlacedTable). p.table.number) tables
-
-in_placed : (contents : List TableContent) (p : PlacedTable) → Among p (placed_of contents) → (content : TableContent) × InTables contents content × (content.placed ≡ p)
-in_placed [] p h = absurd h
-in_placed (c ∷ contents) p (inl e) = (c, inl refl, e)
-in_placed (c ∷ contents) p (inr h) = let r = in_placed contents p h in (r.0, inr r.1, r.2)
 
 others_apart : (x : ℕ) (tables : List PlacedTable) → All (λ (q : PlacedTable). x ≢ q.table.number) tables → AllByRecursion (λ (y : ℕ). eqb x y ≡ false) (numbers_of tables)
 others_apart x [] h = tt
@@ -134,10 +129,7 @@ module _ (order : Order) (old : Files) (m : Facts) (n after : ℕ) (few : n < 2 
   content_number = ap (λ (p : PlacedTable). p.table.number) level0.placed ∙ number_is
 
   below_items : (p : PlacedTable) → Among p items → p.table.number < n
-  below_items p a =
-      let r = in_placed d.tables p a in
-      let below = below_free order old d n can.consistent can.free r.0 r.1 in
-      omega (arith, below, ap (λ (q : PlacedTable). q.table.number) r.2)
+  below_items = below_placed order old d n can.consistent can.free
 
   fresh_at : (b : Bool) → is_used table.number items ≡ b → is_used table.number items ≡ false
   fresh_at true e =

@@ -1,12 +1,15 @@
 -- A table that the directory doesn't know yet.
-use Rattle.std.proofs.Common.{◌≡◌, ◌≢◌, ◌⊎◌, ◌<◌, ◌≤◌, ◌+◌, ℕ, Bool, true, false, List, [], ◌∷◌, ◌++◌, length, Option, Some, None, is_some, inl, inr, refl, sym, ap, subst, ◌∙◌, arith}
+use Rattle.std.proofs.Common.{◌≡◌, ◌≢◌, ◌⊎◌, ◌<◌, ◌≤◌, ◌+◌, ℕ, Bool, true, false, List, [], ◌∷◌, ◌++◌, length, map, Contains, Option, Some, None, is_some, inl, inr, refl, sym, ap, subst, ◌∙◌, arith}
 use Rattle.std.specs.Cmp.{tied_itself}
 use Rattle.std.specs.Cmp.Lexicographic.{slice_cmp, nat_list_cmp_total}
 use Rattle.std.specs.Ordering.{is_eq, nat_cmp, eq_by_cmp}
 use Rattle.std.specs.FinMap.{get, contains_key}
 use Rattle.std.specs.Option.{option_or}
 use Rattle.std.proofs.lemmas.Bool.{false≢true}
-use Rattle.store.specs.Files.{Files}
+use Rattle.std.proofs.lemmas.List.Elements.{All-contains}
+use Rattle.coding.specs.declared.error.DbError.{DbError}
+use Rattle.coding.specs.declared.error.DbError.TheVariants.{Corrupt}
+use Rattle.store.specs.Files.{Files, Facts}
 use Rattle.ikey.specs.declared.entry.Entry.{Entry}
 use Rattle.ikey.specs.Orders.{Order}
 use Rattle.edits.specs.Names.{name_of, IsNumbered, IsFileName}
@@ -24,7 +27,8 @@ use Rattle.recover.proofs.Adding.{last_in, logs_back}
 use Rattle.recover.proofs.Keeping.{keep_manifest, live_of}
 use Rattle.recover.proofs.Memberships.{one_of_tables}
 use Rattle.recover.proofs.NamedFiles.{same_name}
-use Rattle.upkeep.specs.Flush.{CanFlush, KeepsParts, IsUnflushed}
+use Rattle.versions.proofs.Pairs.{Among, among_contained}
+use Rattle.upkeep.specs.Flush.{CanFlush, IsCorrupt, KeepsParts, IsUnflushed, RefusesTable}
 use Rattle.upkeep.specs.declared.flush.FlushPlan.{FlushPlan}
 use Rattle.upkeep.specs.declared.manifest.CurrentManifest.{CurrentManifest}
 use Rattle.upkeep.proofs.NewLogFiles.{recorded_more}
@@ -202,3 +206,26 @@ module _ (order : Order) (old mid : Files) (n : ℕ) (numbered : IsNumbered n) (
 pub unflushed_yet : (order : Order) (files : Files) (n : ℕ) (plan : FlushPlan) (manifest : CurrentManifest) (entries : List Entry) (tables : List PlacedTable) (d : Directory) (sealed : List LogContent) (current : LogContent)
     → CanFlush order files n plan manifest entries tables d sealed current → IsUnflushed order files files n plan manifest entries tables d sealed current
 unflushed_yet order files n plan manifest entries tables d sealed current can = record { can = can; kept = record { beside = agree_itself files d; ends = λ log position e. e } }
+
+-- ---- the version has room
+
+in_placed : (contents : List TableContent) (p : PlacedTable) → Among p (map (λ (content : TableContent). content.placed) contents) → (content : TableContent) × InTables contents content × (content.placed ≡ p)
+in_placed [] p h = absurd h
+in_placed (c ∷ contents) p (inl e) = (c, inl refl, e)
+in_placed (c ∷ contents) p (inr h) = let r = in_placed contents p h in (r.0, inr r.1, r.2)
+
+-- a directory's tables have numbers below what is free
+pub below_placed : (order : Order) (files : Files) (d : Directory) (n : ℕ) → IsConsistent order files d → IsFree order files n → (p : PlacedTable) → Among p (map (λ (content : TableContent). content.placed) d.tables) → p.table.number < n
+below_placed order files d n h free p a =
+    let r = in_placed d.tables p a in
+    let below = below_free order files d n h free r.0 r.1 in
+    omega (arith, below, ap (λ (q : PlacedTable). q.table.number) r.2)
+
+pub not_corrupt : (order : Order) (files : Files) (n after : ℕ) (plan : FlushPlan) (manifest : CurrentManifest) (entries : List Entry) (tables : List PlacedTable) (d : Directory) (sealed : List LogContent) (current : LogContent)
+    (old new : Facts) (e : DbError) → CanFlush order files n plan manifest entries tables d sealed current → RefusesTable e old new entries tables n after → IsCorrupt e → ⊥
+not_corrupt order files n after plan manifest entries tables d sealed current old new (Corrupt file what) can (i, p, lt, here, is) c =
+    let items = map (λ (content : TableContent). content.placed) d.tables in
+    let there = All-contains (Contains items) tables p can.listed.only (i, lt, here) in
+    let below = below_placed order files d n can.consistent can.free p (among_contained p items there.0 there.1 there.2) in
+    omega (arith, below, is)
+not_corrupt order files n after plan manifest entries tables d sealed current old new e can h c = absurd c

@@ -172,10 +172,16 @@ pub record MayBeFlushed (order : Order) (old new : Files) (number after : ℕ) (
   pub either : (IsConsistent order new d × KeepsParts old new d d) ⊎ HasFlushed order old new number after entries d sealed current
   pub free : IsFree order new after
 
+-- a version that has no room for the table
+abbrev pub IsCorrupt : DbError → Type 0
+IsCorrupt (Corrupt file what) = Unit {0}
+IsCorrupt e = ⊥
+
+-- What it leaves, by its answer. A directory's own version always has room for the table.
 abbrev pub FlushMeans : {K : Type 0} → Order → Files → Files → ℕ → ℕ → FlushPlan → CurrentManifest → List Entry → List PlacedTable → Directory → List LogContent → LogContent
     → Result (Flushed K) FlushError → Type 0
 FlushMeans order old new next after plan manifest entries tables d sealed current (Ok done) = IsFlushed order old new next after done.manifest_end entries done.version.value.tables d sealed current
-FlushMeans order old new next after plan manifest entries tables d sealed current (Err (Before e)) = IsUnflushed order old new after plan manifest entries tables d sealed current
+FlushMeans order old new next after plan manifest entries tables d sealed current (Err (Before e)) = (IsCorrupt e → ⊥) × IsUnflushed order old new after plan manifest entries tables d sealed current
 FlushMeans order old new next after plan manifest entries tables d sealed current (Err Edit) = MayBeFlushed order old new next after entries d sealed current
 
 -- What a flush leaves of a directory, while the store is faithful.

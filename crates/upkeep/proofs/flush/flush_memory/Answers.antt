@@ -16,7 +16,7 @@ returns-in-Err-clause-call g c =
 pub returns-in-Err-clause-leaves : goal.returns-in-Err-clause-leaves
 returns-in-Err-clause-leaves g c =
     leaves_none g.row.K.Denot (order_of g.K.KeyOrder.name g.K.KeyOrder.cmp) (g.S.Store.facts c.args.store.now) c.args.numbers.now.next c.prepare.new.numbers.next c.args.plan c.args.manifest.now c.args.memory.now.inserts
-    c.unread_law.ensures (g.S.Store.facts c.prepare.new.store) c.args.version.now.tables c.in-Err.error c.in-Err.ensures.writes c.in-Err.ensures.drawn
+    c.unread_law.ensures (g.S.Store.facts c.prepare.new.store) c.args.version.now.tables c.in-Err.error c.in-Err.ensures.writes c.in-Err.ensures.drawn c.in-Err.ensures.refused
 
 pub returns-in-Ok-append_edit-clause-call : goal.returns-in-Ok-append_edit-clause-call
 returns-in-Ok-append_edit-clause-call g c =
