@@ -1,5 +1,5 @@
 -- A whole flush, by what its calls say.
-use Rattle.std.proofs.Common.{◌≡◌, ◌≢◌, ◌⊎◌, ◌<◌, ◌≤◌, ◌+◌, ◌^◌, ℕ, List, Result, Ok, Err, IsTrue, OnOk, string_bytes, inl, inr, refl, sym, ap, subst, ◌∙◌, arith}
+use Rattle.std.proofs.Common.{◌≡◌, ◌⊎◌, ◌<◌, ◌+◌, ◌^◌, ℕ, List, Ok, Err, IsTrue, string_bytes, inl, inr, sym, ap, subst, ◌∙◌, arith}
 use Rattle.std.specs.FinMap.{get}
 use Rattle.coding.specs.declared.error.DbError.{DbError}
 use Rattle.coding.specs.declared.error.DbError.TheVariants.{OutOfMemory, Io}
@@ -18,10 +18,8 @@ use Rattle.upkeep.specs.Calls.{Touches}
 use Rattle.upkeep.specs.Flush.{CanFlush, DrawsTable, FlushTouches, FlushLeaves, FlushMeans, HasPrepared, IsUnflushed, RefusesTable, SyncsFlush, edit_refusal}
 use Rattle.upkeep.specs.Level0.{IsLevel0}
 use Rattle.upkeep.specs.Manifest.{AppendsEdit, SyncsEdit}
-use Rattle.upkeep.specs.declared.flush.FlushError.{FlushError}
 use Rattle.upkeep.specs.declared.flush.FlushError.TheVariants.{Before}
 use Rattle.upkeep.specs.declared.flush.FlushPlan.{FlushPlan}
-use Rattle.upkeep.specs.declared.flush.Flushed.{Flushed}
 use Rattle.upkeep.specs.declared.flush.Prepared.{Prepared}
 use Rattle.upkeep.specs.declared.manifest.CurrentManifest.{CurrentManifest}
 use Rattle.upkeep.proofs.TableEdits.{flushed_ok, maybe_flushed, unflushed_still}
@@ -61,14 +59,12 @@ module _ (K : Type 0) (order : Order) (old : Facts) (next after : ℕ) (plan : F
       → FlushLeaves {K = K} order old new next after plan manifest entries tables (Err (Before e))
   leaves_none law new tables e w (inl none) why f d sealed current can =
       let P : Files → Type 0 = λ fs. IsUnflushed order old.files fs after plan manifest entries tables d sealed current in
-      let N : ℕ → Type 0 = λ k. IsUnflushed order old.files old.files k plan manifest entries tables d sealed current in
-      (
+      let N : ℕ → Type 0 = λ k. IsUnflushed order old.files old.files k plan manifest entries tables d sealed current in (
         not_corrupt order old.files next after plan manifest entries tables d sealed current old new e can why,
         subst P (sym (ap (λ (x : Facts). x.files) none.1)) (subst N (sym none.0) (unflushed_yet order old.files next plan manifest entries tables d sealed current can)),
       )
   leaves_none law new tables e w (inr drawn) why f d sealed current can =
-      let N : ℕ → Type 0 = λ k. IsUnflushed order old.files new.files k plan manifest entries tables d sealed current in
-      (
+      let N : ℕ → Type 0 = λ k. IsUnflushed order old.files new.files k plan manifest entries tables d sealed current in (
         not_corrupt order old.files next after plan manifest entries tables d sealed current old new e can why,
         subst N (sym drawn.0) (unflushed order old.files new.files next (numbered_by next drawn.1 drawn.2) (w.others f) plan manifest entries tables d sealed current can law),
       )
@@ -99,8 +95,11 @@ module _ {K : Type 0} (order : Order) (old : Facts) (next after : ℕ) (plan : F
         let M : DbError → Type 0 = λ x. FlushMeans {K = K} order old.files new.files next after plan manifest entries placement.tables d sealed current (Err (edit_refusal x)) in
         let A : DbError → Type 0 = λ x. AppendsEdit order mid new manifest.number (string_bytes manifest.name) manifest.end prepared.edit (Err x) in
         elim which [
-          | inl memory ↦ subst M (sym memory) (λ corrupt. corrupt, unflushed_still order old.files mid next after few more plan manifest entries placement.tables d sealed current can (still g d sealed current can) p.table (p.number_is ∙ number)
-              (written g) prepared.edit p.fields p.limit new f (subst A memory r))
+          | inl memory ↦ subst M (sym memory) (
+            λ corrupt. corrupt,
+            unflushed_still order old.files mid next after few more plan manifest entries placement.tables d sealed current can (still g d sealed current can) p.table (p.number_is ∙ number)
+                (written g) prepared.edit p.fields p.limit new f (subst A memory r),
+          )
           | inr io ↦ subst M (sym io) (maybe_flushed order old.files mid next after few more plan manifest entries placement.tables d sealed current can (still g d sealed current can) p.table (p.number_is ∙ number)
               (written g) prepared.edit p.fields p.limit flush same new f (subst A io r))
         ]

@@ -1,10 +1,9 @@
 -- A version with one table more at level 0.
-use Rattle.std.proofs.Common.{◌≡◌, ◌≢◌, ◌⊎◌, ◌==◌, nat_lt, ◌<◌, ◌≤◌, ℕ, zero, suc, Bool, true, false, cond, Option, Some, None, List, [], ◌∷◌, length, get_or, All, AllPairs, Contains, inl, inr, refl, sym, ap, subst, ◌∙◌, arith}
-use Rattle.std.specs.Prelude.{Any}
+use Rattle.std.proofs.Common.{◌≡◌, ◌≢◌, ◌⊎◌, ◌<◌, ℕ, zero, suc, Bool, true, false, Option, List, [], ◌∷◌, get_or, All, AllPairs, Contains, inl, inr, refl, sym, ap, subst, ◌∙◌, arith}
 use Rattle.std.specs.Option.{option_or}
 use Rattle.std.specs.declared.cmp.Ordering.{Ordering}
 use Rattle.std.proofs.lemmas.Bool.{cond_both, cases_lt}
-use Rattle.std.proofs.lemmas.List.Elements.{All-cons, All-from_recursion, Contains-get_or}
+use Rattle.std.proofs.lemmas.List.Elements.{All-cons, All-from_recursion}
 use Rattle.std.proofs.lemmas.List.Kept.{AllPairs-cons}
 use Rattle.coding.specs.declared.error.DbError.{DbError}
 use Rattle.coding.specs.declared.error.DbError.TheVariants.{OutOfMemory, Io, Corrupt, Unsupported, NumbersSpent}
@@ -19,7 +18,7 @@ use Rattle.versions.specs.Applying.{Leads, LeadsAstray}
 use Rattle.versions.specs.Keeping.{HasNumber}
 use Rattle.versions.specs.Levels.{Placement, Lists, IsRange, IsBefore, AreInOrder, AreApart, pointers_after}
 use Rattle.versions.proofs.Sets.{inside, no_some, used_in}
-use Rattle.versions.proofs.Pairs.{contained_among, all_contained}
+use Rattle.versions.proofs.Pairs.{all_contained}
 use Rattle.upkeep.specs.Flush.{HasNewVersion, RefusesTable, RefusesVersion}
 use Rattle.upkeep.specs.FlushEdits.{flush_fields}
 use Rattle.upkeep.proofs.FlushEdits.{new_one, none_edit, pointer_said}

@@ -1,17 +1,14 @@
 -- The edit of a flush behind the MANIFEST.
-use Rattle.std.proofs.Common.{◌≡◌, ◌≢◌, ◌⊎◌, ◌==◌, ◌||◌, ◌<◌, ◌≤◌, ◌+◌, ◌^◌, ℕ, zero, suc, Bool, true, false, cond, eqb, List, [], ◌∷◌, ◌++◌, length, map, Option, Some, None, All, AllPairs, Contains, Result, Ok, Err, IsTrue, string_bytes, is_some, inl, inr, refl, sym, ap, subst, ◌∙◌, arith}
+use Rattle.std.proofs.Common.{◌≡◌, ◌≢◌, ◌⊎◌, ◌<◌, ◌≤◌, ◌+◌, ◌^◌, ℕ, suc, Bool, true, false, eqb, List, [], ◌∷◌, ◌++◌, length, map, Some, All, AllPairs, Ok, Err, IsTrue, string_bytes, is_some, inl, inr, refl, sym, ap, subst, ◌∙◌, arith}
 use Rattle.std.specs.Global.{Vec}
 use Rattle.std.specs.List.{AllByRecursion, IsDistinct, list_any}
-use Rattle.std.specs.FinMap.{get}
 use Rattle.std.specs.Option.{option_or}
 use Rattle.std.proofs.lemmas.Bool.{cond_both, or_cases, eqb-true, ne_eqb}
 use Rattle.std.proofs.lemmas.Map.Steps.{length-le_from_distinct_below}
-use Rattle.coding.specs.declared.error.DbError.{DbError}
 use Rattle.coding.specs.declared.error.DbError.TheVariants.{OutOfMemory, Io}
 use Rattle.store.specs.Files.{Files, Facts}
 use Rattle.ikey.specs.declared.entry.Entry.{Entry}
 use Rattle.ikey.specs.Orders.{Order}
-use Rattle.ikey.specs.Sources.{SameEntries}
 use Rattle.edits.specs.Edit.{HasPastLimit}
 use Rattle.edits.specs.Layout.{IsLayout, fields_of, is_used, is_before, inserted, after_edit}
 use Rattle.edits.specs.Names.{name_of, IsNumbered}
@@ -23,13 +20,13 @@ use Rattle.edits.specs.declared.names.FileName.TheVariants.{Log, Table, OldTable
 use Rattle.table.specs.Writing.{KeepsOthers}
 use Rattle.versions.specs.Applying.{Leads}
 use Rattle.versions.specs.Levels.{Lists}
-use Rattle.versions.proofs.Pairs.{Among, among_contained, contained_among}
+use Rattle.versions.proofs.Pairs.{Among, among_contained}
 use Rattle.versions.proofs.Sets.{inside, used_in}
-use Rattle.recover.specs.Tables.{TableContent, HasTable, InTables, table_at}
+use Rattle.recover.specs.Tables.{TableContent, HasTable, table_at}
 use Rattle.recover.specs.Logs.{LogContent, HasLogs}
 use Rattle.recover.specs.Directory.{Directory, IsConsistent, HasManifest, EndsAt, used_in as used_of}
 use Rattle.recover.specs.Changes.{ManifestEndsAt, AgreeBeside, IsFlush, flushed, with_content, FlushLaw, SameManifestLaw}
-use Rattle.recover.specs.Numbers.{IsFree, NamesBelow}
+use Rattle.recover.specs.Numbers.{NamesBelow}
 use Rattle.recover.specs.Report.{IsLongTable, HasBytes}
 use Rattle.recover.proofs.Adding.{logs_back}
 use Rattle.recover.proofs.Memberships.{in_with, placed_with}
@@ -40,7 +37,7 @@ use Rattle.upkeep.specs.Manifest.{CanAddEdit, IsRecordedBelow, AppendsEdit}
 use Rattle.upkeep.specs.declared.flush.FlushPlan.{FlushPlan}
 use Rattle.upkeep.specs.declared.manifest.CurrentManifest.{CurrentManifest}
 use Rattle.upkeep.proofs.FlushEdits.{after_flush, all_said, fields_last, new_one}
-use Rattle.upkeep.proofs.TableFiles.{below_free, below_placed, numbered_table, agree_then, last_numbered, log_stays, end_kept, log_manifest, table_manifest, old_table_manifest}
+use Rattle.upkeep.proofs.TableFiles.{below_free, below_placed, numbered_table, agree_then, log_stays, end_kept, log_manifest, table_manifest, old_table_manifest}
 
 -- ---- tables of distinct numbers
 

@@ -1,5 +1,5 @@
 -- A table that the directory doesn't know yet.
-use Rattle.std.proofs.Common.{◌≡◌, ◌≢◌, ◌⊎◌, ◌<◌, ◌≤◌, ◌+◌, ℕ, Bool, true, false, List, [], ◌∷◌, ◌++◌, length, map, Contains, Option, Some, None, is_some, inl, inr, refl, sym, ap, subst, ◌∙◌, arith}
+use Rattle.std.proofs.Common.{◌≡◌, ◌≢◌, ◌⊎◌, ◌<◌, ◌+◌, ℕ, Bool, true, false, List, [], ◌∷◌, ◌++◌, map, Contains, Option, Some, None, is_some, inl, inr, refl, sym, ap, subst, ◌∙◌, arith}
 use Rattle.std.specs.Cmp.{tied_itself}
 use Rattle.std.specs.Cmp.Lexicographic.{slice_cmp, nat_list_cmp_total}
 use Rattle.std.specs.Ordering.{is_eq, nat_cmp, eq_by_cmp}
@@ -12,14 +12,13 @@ use Rattle.coding.specs.declared.error.DbError.TheVariants.{Corrupt}
 use Rattle.store.specs.Files.{Files, Facts}
 use Rattle.ikey.specs.declared.entry.Entry.{Entry}
 use Rattle.ikey.specs.Orders.{Order}
-use Rattle.edits.specs.Names.{name_of, IsNumbered, IsFileName}
+use Rattle.edits.specs.Names.{name_of, IsNumbered}
 use Rattle.edits.specs.declared.field.PlacedTable.{PlacedTable}
-use Rattle.edits.specs.declared.names.FileName.{FileName}
 use Rattle.edits.specs.declared.names.FileName.TheVariants.{Current, Log, Table, OldTable, Manifest}
 use Rattle.edits.proofs.FileNames.{one_file}
 use Rattle.table.specs.Writing.{KeepsOthers}
-use Rattle.recover.specs.Tables.{TableContent, HasTable, InTables, table_at}
-use Rattle.recover.specs.Logs.{LogContent, HasLog, HasLogs, IsLive, InLogs}
+use Rattle.recover.specs.Tables.{TableContent, InTables}
+use Rattle.recover.specs.Logs.{LogContent, HasLogs, IsLive, InLogs}
 use Rattle.recover.specs.Directory.{Directory, IsConsistent, EndsAt}
 use Rattle.recover.specs.Changes.{ManifestEndsAt, AgreeBeside, IsUnread, UnreadLaw}
 use Rattle.recover.specs.Numbers.{IsFree, number_of}
@@ -28,7 +27,7 @@ use Rattle.recover.proofs.Keeping.{keep_manifest, live_of}
 use Rattle.recover.proofs.Memberships.{one_of_tables}
 use Rattle.recover.proofs.NamedFiles.{same_name}
 use Rattle.versions.proofs.Pairs.{Among, among_contained}
-use Rattle.upkeep.specs.Flush.{CanFlush, IsCorrupt, KeepsParts, IsUnflushed, RefusesTable}
+use Rattle.upkeep.specs.Flush.{CanFlush, IsCorrupt, IsUnflushed, RefusesTable}
 use Rattle.upkeep.specs.declared.flush.FlushPlan.{FlushPlan}
 use Rattle.upkeep.specs.declared.manifest.CurrentManifest.{CurrentManifest}
 use Rattle.upkeep.proofs.NewLogFiles.{recorded_more}

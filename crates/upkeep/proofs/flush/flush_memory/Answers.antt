@@ -1,6 +1,5 @@
-use Rattle.std.proofs.Common.{◌≡◌, List, ℕ, Err, sym, subst}
+use Rattle.std.proofs.Common.{Err, sym, subst}
 use Rattle.ikey.specs.Orders.{order_of}
-use Rattle.store.specs.Files.{Facts}
 use Rattle.edits.specs.Names.{name_of}
 use Rattle.edits.specs.declared.names.FileName.TheVariants.{Table}
 use Rattle.upkeep.specs.Flush.{FlushLeaves}

@@ -1,9 +1,5 @@
-use Rattle.std.proofs.Common.{◌≡◌, ◌+◌, ◌<◌, ◌^◌, ℕ, List, IsTrue, sym, ap, subst, ◌∙◌, arith}
-use Rattle.std.specs.FinMap.{get}
+use Rattle.std.proofs.Common.{◌≡◌, ◌+◌, ◌<◌, ◌^◌, ◌∙◌, arith}
 use Rattle.std.proofs.lemmas.Result.{err_from_is_err_and}
-use Rattle.edits.specs.Names.{name_of}
-use Rattle.ikey.specs.Orders.{order_of}
-use Rattle.store.specs.Files.{Facts}
 use Rattle.upkeep.proofs.NewVersions.{version_refused, version_made}
 use Rattle.upkeep.proofs.flush.prepare.Goals as goal
 

@@ -1,4 +1,4 @@
-use Rattle.std.proofs.Common.{rules, ◌≡◌, List, sym, subst}
+use Rattle.std.proofs.Common.{rules, ◌≡◌, List, subst}
 use Rattle.edits.specs.Layout.{after_edit}
 use Rattle.edits.specs.declared.field.Field.{Field}
 use Rattle.versions.specs.Applying.{Leads}
