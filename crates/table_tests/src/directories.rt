@@ -1,16 +1,24 @@
 // What an open database does to its directory. The bytes of records are made outside.
-ghost use Rattle.std.specs.Prelude.{ℕ, All, Contains, IfOk};
+ghost use Rattle.std.specs.Prelude.{◌<◌, ℕ, All, Contains, IfOk, length};
 ghost use Rattle.edits.specs.Edit.{IsProper, IsInOrder};
+ghost use Rattle.upkeep.specs.Level0.{HaveSequences};
 
+use crate::files::ONE_ENTRY;
+use crate::row_cursors::empty_layout;
 use crate::stores::{Step, perform};
 use coding::DbError;
 use compact::FileNumbers;
-use edits::{Edit, Field};
-use std::alloc::Global;
+use edits::{Edit, Field, encode_edit};
+use ikey::Bytewise;
+use memtable::MemTable;
+use std::alloc::{AllocError, Global};
 use std::test::*;
 use store::{Fault, FaultStore, MemStore, Store, StoreError};
-use upkeep::{CurrentManifest, LiveTables, append_edit, begin_log, remove_files};
-use versions::LiveNumbers;
+use upkeep::{
+    CurrentManifest, FlushError, FlushPlan, LiveTables, append_edit, begin_log, flush_edit,
+    flush_memory, remove_files, write_level0,
+};
+use versions::{LiveNumbers, Version};
 
 // ---- the MANIFEST
 
@@ -152,6 +160,153 @@ fn no_log_has_a_number_beyond_the_last(rt: HostRuntime) -> Result<(), Fail> {
         )
     );
     assert_eq!(rt; numbers.next, 1 << 62);
+    assert!(rt; matches!(perform(rt.alloc(), &mut store, Step::Names("")), Ok(true)));
+    Ok(())
+}
+
+// ---- flushes
+
+const FLUSH_MANIFEST: &str = "MANIFEST-000002";
+
+// The log number is 3, the next file number 5 and the last sequence 1, and the table 4 of 176 bytes at level 0 has the key `61`
+// at sequence 1; then the same behind a previous log.
+const FLUSH_EDITS: &[(u64, &[u8])] = &[
+    (
+        0,
+        b"\x02\x03\x03\x05\x04\x01\x07\x00\x04\xb0\x01\x09a\x01\x01\x00\x00\x00\x00\x00\x00\x09a\x01\x01\x00\x00\x00\x00\x00\x00",
+    ),
+    (
+        2,
+        b"\x02\x03\x03\x05\x04\x01\x07\x00\x04\xb0\x01\x09a\x01\x01\x00\x00\x00\x00\x00\x00\x09a\x01\x01\x00\x00\x00\x00\x00\x00\x09\x00",
+    ),
+];
+
+// A MANIFEST of the first of them.
+const FLUSHED: &[u8] =
+    b"\xe8\x99\xd3\x40\x1f\x00\x01\x02\x03\x03\x05\x04\x01\x07\x00\x04\xb0\x01\x09a\x01\x01\x00\x00\x00\x00\x00\x00\x09a\x01\x01\x00\x00\x00\x00\x00\x00";
+
+// A memory table in which `61` is put as `31`.
+fn sealed(alloc: Global) -> Result<MemTable<Bytewise>, AllocError>
+    ensures some { IfOk result (λ memory. 0 < length memory.inserts) }
+    ensures sequences { IfOk result (λ memory. HaveSequences memory.inserts) }
+{
+    let mut memory = MemTable::new(alloc);
+    memory.reserve(1, 2)?;
+    memory.insert(b"a", 1, Some(b"1"));
+    Ok(memory)
+}
+
+// Whether the edit of its table is this one.
+fn puts_table(alloc: Global, previous: u64, bytes: &[u8]) -> Result<bool, DbError> {
+    let mut store = MemStore::new(alloc);
+    let table = write_level0(alloc, &mut store, &sealed(alloc)?, 4, 4096)?;
+    let edit = flush_edit(alloc, 3, previous, 5, 1, table)?;
+    Ok(encode_edit(alloc, &edit)?.as_slice() == bytes)
+}
+
+#[test]
+fn edits_of_flushes_have_their_tables(rt: HostRuntime) -> Result<(), Fail> {
+    for (previous, bytes) in FLUSH_EDITS {
+        assert!(rt; matches!(puts_table(rt.alloc(), *previous, bytes), Ok(true)));
+    }
+    Ok(())
+}
+
+// Flushes it behind an empty MANIFEST into a version without tables, with the next number of these. The answer is where the
+// MANIFEST ends, and whether the new version has the table 4.
+fn flushes<S: Store>(
+    alloc: Global,
+    store: &mut S,
+    numbers: &mut FileNumbers,
+) -> Result<(u64, bool), FlushError> {
+    let Ok(memory) = sealed(alloc) else {
+        return Err(FlushError::Before(DbError::OutOfMemory));
+    };
+    let Ok(version) = empty_version(alloc) else {
+        return Err(FlushError::Before(DbError::OutOfMemory));
+    };
+    let Ok(name) = String::from_str(alloc, FLUSH_MANIFEST) else {
+        return Err(FlushError::Before(DbError::OutOfMemory));
+    };
+    let manifest = CurrentManifest {
+        number: 2,
+        name,
+        end: 0,
+    };
+    let plan = FlushPlan {
+        log_number: 3,
+        previous_log_number: 0,
+        last_sequence: 1,
+        block_bytes: 4096,
+    };
+    let flushed = flush_memory(alloc, store, &memory, &version, &manifest, numbers, plan)?;
+    Ok((flushed.manifest_end, flushed.version.has_number(4)))
+}
+
+fn empty_version(alloc: Global) -> Result<Version<Bytewise>, DbError> {
+    let layout = empty_layout(alloc)?;
+    match Version::new(alloc, &layout) {
+        Ok(version) => Ok(version),
+        Err(_) => Err(DbError::OutOfMemory),
+    }
+}
+
+fn is_there(alloc: Global, store: &mut MemStore, name: &str, bytes: &[u8]) -> bool {
+    matches!(perform(alloc, store, Step::Holds(name, bytes)), Ok(true))
+}
+
+#[test]
+fn a_flush_makes_a_table_and_its_edit(rt: HostRuntime) -> Result<(), Fail> {
+    let mut store = MemStore::new(rt.alloc());
+    store.create(FLUSH_MANIFEST)?;
+    let mut numbers = FileNumbers { next: 4 };
+    assert!(rt;
+        matches!(
+            flushes(rt.alloc(), &mut store, &mut numbers),
+            Ok((38, true))
+        )
+    );
+    assert!(rt; is_there(rt.alloc(), &mut store, "000004.ldb", &ONE_ENTRY));
+    assert!(rt; is_there(rt.alloc(), &mut store, FLUSH_MANIFEST, FLUSHED));
+    assert_eq!(rt; numbers.next, 5);
+    Ok(())
+}
+
+// The number of the append that fails, of a block, of what stands behind the blocks or of the edit, and how the flush is refused.
+const REFUSALS: &[(u64, FlushError)] = &[
+    (3, FlushError::Before(DbError::Io)),
+    (4, FlushError::Before(DbError::Io)),
+    (6, FlushError::Edit),
+];
+
+// Whether the flush is refused so where this append fails.
+fn refuses(alloc: Global, call: u64, refusal: FlushError) -> Result<bool, StoreError> {
+    let mut faults = Vec::new(alloc);
+    faults.push((call, Fault::Part(0)))?;
+    let mut store = FaultStore::new(MemStore::new(alloc), faults);
+    store.create(FLUSH_MANIFEST)?;
+    let mut numbers = FileNumbers { next: 4 };
+    Ok(matches!(flushes(alloc, &mut store, &mut numbers), Err(error) if error == refusal))
+}
+
+#[test]
+fn flushes_are_refused_before_their_edit_or_at_it(rt: HostRuntime) -> Result<(), Fail> {
+    for (call, refusal) in REFUSALS {
+        assert!(rt; refuses(rt.alloc(), *call, *refusal)?, "{call}");
+    }
+    Ok(())
+}
+
+#[test]
+fn no_flush_draws_a_number_beyond_the_last(rt: HostRuntime) -> Result<(), Fail> {
+    let mut store = MemStore::new(rt.alloc());
+    let mut numbers = FileNumbers { next: 1 << 62 };
+    assert!(rt;
+        matches!(
+            flushes(rt.alloc(), &mut store, &mut numbers),
+            Err(FlushError::Before(DbError::NumbersSpent))
+        )
+    );
     assert!(rt; matches!(perform(rt.alloc(), &mut store, Step::Names("")), Ok(true)));
     Ok(())
 }

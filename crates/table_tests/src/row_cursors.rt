@@ -118,7 +118,7 @@ fn no_pointers(alloc: Global) -> Result<Vec<Option<Bytes>>, AllocError>
     }
 }
 
-fn empty_layout(alloc: Global) -> Result<Layout, AllocError>
+pub fn empty_layout(alloc: Global) -> Result<Layout, AllocError>
     ensures { IfOk result (λ layout. length layout.compact_pointers.items ≡ 7) }
 {
     Ok(Layout {
