@@ -30,7 +30,7 @@ use Rattle.recover.specs.Numbers.{NamesBelow}
 use Rattle.recover.specs.Report.{IsLongTable, HasBytes}
 use Rattle.recover.proofs.Adding.{logs_back}
 use Rattle.recover.proofs.Memberships.{in_with, placed_with}
-use Rattle.upkeep.specs.Flush.{CanFlush, IsWithinLimits, KeepsParts, HasFlushed, IsFlushed, IsUnflushed, MayBeFlushed}
+use Rattle.upkeep.specs.Flush.{CanFlush, PassesNoLimit, KeepsParts, HasFlushed, IsFlushed, IsUnflushed, MayBeFlushed}
 use Rattle.upkeep.specs.FlushEdits.{IsAfterFlush, flush_fields}
 use Rattle.upkeep.specs.Level0.{IsLevel0}
 use Rattle.upkeep.specs.Manifest.{CanAddEdit, IsRecordedBelow, AppendsEdit}
@@ -267,7 +267,7 @@ module _ (order : Order) (old : Files) (m : Facts) (n after : ℕ) (few : n < 2 
           length = e.length;
         }
 
-    within : IsWithinLimits order old d → IsWithinLimits order new done
+    within : PassesNoLimit order old d → PassesNoLimit order new done
     within h (inl past) = elim (past_split (fields_of d.edits) edit (subst HasPastLimit (fields_last d.edits edit) past)) [
       | inl before ↦ h (inl before)
       | inr here ↦ limit here

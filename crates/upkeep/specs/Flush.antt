@@ -130,8 +130,8 @@ pub record CanFlush (order : Order) (files : Files) (next : ℕ) (plan : FlushPl
   pub listed : Lists (map (λ (content : TableContent). content.placed) d.tables) tables
 
 -- no table's number is past the limit of reading, and no block is
-abbrev pub IsWithinLimits : Order → Files → Directory → Type 0
-IsWithinLimits order files d = HasPastLimit (fields_of d.edits) ⊎ AnyHasBytes (IsLongTable order) files d.tables → ⊥
+abbrev pub PassesNoLimit : Order → Files → Directory → Type 0
+PassesNoLimit order files d = HasPastLimit (fields_of d.edits) ⊎ AnyHasBytes (IsLongTable order) files d.tables → ⊥
 
 -- What is the same in the files after a call: the logs and the tables of the directory, and where the last log ends.
 pub record KeepsParts (old new : Files) (d e : Directory) : Type 0 where
@@ -152,7 +152,7 @@ pub record HasFlushed (order : Order) (old new : Files) (number after : ℕ) (en
   pub same : SameEntries (entries_in (flushed d (d.edits ++ edit ∷ []) next content current)) (entries_in d)
   pub used : used_in (flushed d (d.edits ++ edit ∷ []) next content current) ≡ used_in d
   pub kept : KeepsParts old new d (flushed d (d.edits ++ edit ∷ []) next content current)
-  pub limits : IsWithinLimits order old d → IsWithinLimits order new (flushed d (d.edits ++ edit ∷ []) next content current)
+  pub limits : PassesNoLimit order old d → PassesNoLimit order new (flushed d (d.edits ++ edit ∷ []) next content current)
 
 -- Then the MANIFEST ends here, and the tables are the directory's.
 pub record IsFlushed (order : Order) (old new : Files) (number after end : ℕ) (entries : List Entry) (tables : List PlacedTable) (d : Directory) (sealed : List LogContent) (current : LogContent) : Type 0 where

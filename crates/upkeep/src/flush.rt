@@ -20,7 +20,7 @@ use compact::FileNumbers;
 use edits::Edit;
 use ikey::KeyOrder;
 use memtable::MemTable;
-use recover::{flush_law, one_manifest, same_manifest_law, unread_law};
+use recover::{flush_law, same_manifest_law, unread_law};
 use std::alloc::Global;
 use std::rc::Rc;
 use store::Store;
@@ -72,6 +72,8 @@ pub struct Prepared<K: KeyOrder> {
 
 /// Draws a number, writes the entries of a memory table, which has some, into the table of that number, and puts an edit behind the
 /// MANIFEST that has this table at level 0 in place of all logs in front of the current one. All growth comes before the edit.
+/// Refused before it out of memory, with Io where the store fails, with NumbersSpent, as Unsupported where a block would have
+/// more than 2^30 bytes, and as Corrupt where the version has a table of the number that is next.
 pub fn flush_memory<K: KeyOrder, S: Store>(
     alloc: Global,
     store: &mut S,
