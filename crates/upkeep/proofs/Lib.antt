@@ -2,6 +2,9 @@ pub mod Cleaning
 pub mod EditSteps
 pub mod Filled
 pub mod FlushEdits
+pub mod JobFolds
+pub mod JobOutputs
+pub mod JobTables
 pub mod Made
 pub mod Meaning
 pub mod NewLogFiles

@@ -3,12 +3,14 @@
 #![tactic(auto)]
 
 mod calls;
+mod compaction_edits;
 mod flush_edits;
 mod level0;
 mod log_file;
 mod manifest;
 mod removal;
 
+pub use compaction_edits::{job_done_law, job_folds_law, outputs_law, replaces_law};
 pub use flush_edits::flush_edit;
 pub use level0::write_level0;
 pub use log_file::begin_log;
