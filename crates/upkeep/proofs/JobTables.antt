@@ -167,7 +167,7 @@ remove_one (x ∷ contents) chosen rest c (inr h) row i =
 
 -- ---- all inputs are taken out
 
-among_placed : (contents : List TableContent) (x : TableContent) → InTables contents x → Among (placed_in contents) x.placed
+pub among_placed : (contents : List TableContent) (x : TableContent) → InTables contents x → Among (placed_in contents) x.placed
 among_placed [] x i = absurd i
 among_placed (c ∷ contents) x (inl e) = inl (ap (λ (t : TableContent). t.placed) e)
 among_placed (c ∷ contents) x (inr i) = inr (among_placed contents x i)
@@ -367,7 +367,7 @@ all_back P (f ∷ fs) gs h = all_back P fs gs h.1
 
 -- ---- what the edit says of its tables
 
-table_of : (level : ℕ) (tables : List TableFile) (p : PlacedTable) → Among (map (at_level level) tables) p → (t : TableFile) × Among tables t × (p ≡ at_level level t)
+pub table_of : (level : ℕ) (tables : List TableFile) (p : PlacedTable) → Among (map (at_level level) tables) p → (t : TableFile) × Among tables t × (p ≡ at_level level t)
 table_of level [] p i = absurd i
 table_of level (t ∷ tables) p (inl e) = (t, inl refl, e)
 table_of level (t ∷ tables) p (inr i) = let r = table_of level tables p i in (r.0, inr r.1, r.2)

@@ -5,6 +5,7 @@ pub mod FlushEdits
 pub mod JobFolds
 pub mod JobOutputs
 pub mod JobTables
+pub mod JobsDone
 pub mod Made
 pub mod Meaning
 pub mod NewLogFiles
