@@ -1,6 +1,7 @@
 pub mod Choices
 pub mod Keeping
 pub mod Merges
+pub mod Numbered
 pub mod Parts
 pub mod Tables
 pub mod Writing

@@ -53,7 +53,7 @@ impl<K: KeyOrder, C: Drop> Job<K, C> {
     ghost use Rattle.cursor.specs.Places.{Listed};
     ghost use Rattle.ikey.specs.Entries.{InternalEntry};
     ghost use Rattle.compact.specs.Merging.{IsBetween, IsMerging, IsSlice, IsFinished, KeepsMine, ReadsApart, HaveOwnSequences};
-    ghost use Rattle.compact.specs.Outputs.{IsMine, IsNumberAtHand, IsOwn, WritesTables, RefusesEntry};
+    ghost use Rattle.compact.specs.Outputs.{IsMine, IsNumberAtHand, IsOwn, NumbersOn, WritesTables, RefusesEntry};
     ghost use Rattle.table.specs.Reading.{Reads};
 
     /// A job that has merged nothing. Its cursor lists the entries of the plan's inputs, and `snapshots` are the sequence
@@ -114,6 +114,7 @@ impl<K: KeyOrder, C: Drop> Job<K, C> {
         ensures plan { self.new.plan ≡ self.old.plan }
         ensures snapshots { self.new.selection.snapshots ≡ self.old.selection.snapshots }
         ensures mine { OnOk result (KeepsMine self.old.outputs numbers.old.next self.new.outputs numbers.new.next) }
+        ensures numbered { OnOk result (NumbersOn self.old.outputs numbers.old.next self.new.outputs numbers.new.next) }
         ensures writes { WritesTables (S.facts (H.store_of source.old)) (S.facts (H.store_of source.new)) (IsMine self.old.outputs numbers.old.next) }
         ensures refused { IfErr result (λ e. RefusesEntry e (S.facts (H.store_of source.old)) (S.facts (H.store_of source.new))
             (IsTrue (S.facts (H.store_of source.new)).faithful → (came : List InternalEntry) (rest : List InternalEntry)
@@ -190,6 +191,7 @@ impl<K: KeyOrder, C: Drop> Job<K, C> {
         ensures plan { self.new.plan ≡ self.old.plan }
         ensures snapshots { self.new.selection.snapshots ≡ self.old.selection.snapshots }
         ensures mine { OnOk result (KeepsMine self.old.outputs numbers.old.next self.new.outputs numbers.new.next) }
+        ensures numbered { OnOk result (NumbersOn self.old.outputs numbers.old.next self.new.outputs numbers.new.next) }
         ensures writes { WritesTables (S.facts (H.store_of source.old)) (S.facts (H.store_of source.new)) (IsMine self.old.outputs numbers.old.next) }
         ensures refused { IfErr result (λ e. RefusesEntry e (S.facts (H.store_of source.old)) (S.facts (H.store_of source.new))
             (IsTrue (S.facts (H.store_of source.new)).faithful → (came : List InternalEntry) (entry : InternalEntry) (rest : List InternalEntry)
