@@ -1,4 +1,5 @@
 pub mod Choices
+pub mod Editing
 pub mod Keeping
 pub mod Merges
 pub mod Numbered

@@ -1,12 +1,12 @@
 -- What an edit can say of the tables that are written.
-use Rattle.std.proofs.Common.{◌≡◌, ◌⊎◌, ◌<◌, ◌≤◌, ◌+◌, ◌^◌, ℕ, zero, suc, Option, Some, None, List, [], ◌∷◌, ◌++◌, length, inl, inr, refl, sym, ap, subst, ◌∙◌, arith}
+use Rattle.std.proofs.Common.{◌≡◌, ◌⊎◌, ◌<◌, ◌≤◌, ◌+◌, ◌^◌, ℕ, zero, suc, Option, Some, None, List, [], ◌∷◌, ◌++◌, length, inl, inr, sym, ap, subst, ◌∙◌, arith}
 use Rattle.std.proofs.lemmas.List.{append-nil}
 use Rattle.std.specs.Prelude.{IfSome, Any, MatchOption}
 use Rattle.std.specs.List.{AllByRecursion}
 use Rattle.std.specs.Option.{option_to_list}
 use Rattle.edits.specs.declared.field.TableFile.{TableFile}
 use Rattle.edits.specs.Edit.{IsTableProper}
-use Rattle.compact.specs.Outputs.{Filling, Written, IsNumber, IsNumberAtHand, IsOwn, NumbersRise, IsNext, AreNumbered, NumbersOn, IsSaidOf}
+use Rattle.compact.specs.Outputs.{Filling, Written, IsNumber, NumbersRise, IsNext, AreNumbered, NumbersOn, IsSaidOf}
 
 pub numbers-same : (w : Written) (next : ℕ) → NumbersOn w next w next
 numbers-same w next = record { keeps = λ h. h; owns = λ n is. inl is }
@@ -113,4 +113,18 @@ numbers-added cs t u next key number smallest largest short = record {
     | inl at ↦ inl (inl (at ∙ number))
     | inr closed ↦ inl (inr closed)
   ];
+}
+
+-- ---- others draw numbers
+
+next-later : (closed : List TableFile) (next more : ℕ) (o : Option Filling) → next ≤ more → MatchOption o (Unit {0}) (IsNext closed next) → MatchOption o (Unit {0}) (IsNext closed more)
+next-later closed next more None le h = tt
+next-later closed next more (Some t) le h = record { number = (h.number.0, omega (arith, h.number.1, le)); above = h.above; smallest = h.smallest; largest = h.largest }
+
+pub numbered-later : (w : Written) (next more : ℕ) → next ≤ more → AreNumbered w next → AreNumbered w more
+numbered-later w next more le h = record {
+  proper = h.proper;
+  rise = h.rise;
+  below = all-weaker (λ (other : TableFile). other.number < next) (λ (other : TableFile). other.number < more) (λ other lt. omega (arith, lt, le)) w.closed h.below;
+  at_hand = next-later w.closed next more w.at_hand le h.at_hand;
 }
