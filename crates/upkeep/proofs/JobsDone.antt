@@ -43,9 +43,6 @@ same_tables ts us e = cc
 
 module _ (order : Order) (deep : List ℕ → Bool) (plan : JobPlan) (last : List ℕ) (c : Choosing) (facts : Facts) (number : ℕ) (came : List InternalEntry) (edit : List Field) (d : Directory) (inputs rest : List TableContent)
     (h : IsJobDone order deep plan last c facts number came edit d inputs rest) where
-  kept : List InternalEntry
-  kept = h.finished.2.kept
-
   needed : AreNeeded (map entry_of came) c.snapshots deep (map entry_of h.finished.2.kept)
   needed = h.finished.2.chooses.chosen_is.needed
 

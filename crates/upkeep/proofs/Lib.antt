@@ -6,6 +6,7 @@ pub mod JobFolds
 pub mod JobOutputs
 pub mod JobTables
 pub mod JobsDone
+pub mod JobsPut
 pub mod Made
 pub mod Meaning
 pub mod NewLogFiles

@@ -1,10 +1,16 @@
 -- What a finished compaction leaves of a directory (LevelDB's db/db_impl.cc, InstallCompactionResults).
-use Rattle.std.specs.Prelude.{◌≡◌, ◌<◌, ◌≤◌, ◌^◌, ℕ, Bool, false, Some, None, Option, List, [], ◌∷◌, ◌++◌, map}
+use Rattle.std.specs.Prelude.{◌≡◌, ◌<◌, ◌+◌, ◌^◌, ℕ, Bool, IsTrue, false, Some, None, Option, List, [], ◌∷◌, ◌++◌, map}
 use Rattle.std.specs.List.{AllByRecursion}
 use Rattle.std.specs.List.Sorted.{IsPermutation}
 use Rattle.ikey.specs.Entries.{InternalEntry, Pair, entry_of}
 use Rattle.ikey.specs.Orders.{Order}
 use Rattle.ikey.specs.Sources.{AreSorted, SameEntries}
+use Rattle.ikey.specs.Views.{Among, Contents, IsView}
+use Rattle.ikey.specs.declared.entry.Entry.{Entry}
+use Rattle.std.specs.Cmp.{IsTotalOrder}
+use Rattle.edits.specs.Names.{name_of}
+use Rattle.edits.specs.declared.names.FileName.TheVariants.{Manifest}
+use Rattle.table.specs.Writing.{KeepsOthers}
 use Rattle.store.specs.Files.{Files, Facts}
 use Rattle.table.specs.Table.{ArePairs}
 use Rattle.edits.specs.declared.field.Field.{Field}
@@ -19,13 +25,15 @@ use Rattle.versions.specs.declared.plan.JobPlan.{JobPlan}
 use Rattle.versions.specs.Levels.{pointers_after}
 use Rattle.recover.specs.Tables.{TableContent, HasTable, InTables, tabled}
 use Rattle.recover.specs.Report.{IsLongTable, HasBytes}
-use Rattle.recover.specs.Directory.{Directory, IsConsistent, used_in}
-use Rattle.recover.specs.Changes.{AreParted, MayReplace, IsCompaction}
+use Rattle.recover.specs.Directory.{Directory, IsConsistent, HasManifest, entries_in, used_in}
+use Rattle.recover.specs.Changes.{AreParted, MayReplace, IsClosed, IsCompaction, compacted}
+use Rattle.recover.specs.Logs.{logged}
 use Rattle.compact.specs.Choosing.{Choosing}
-use Rattle.compact.specs.JobEdits.{IsEditOf}
+use Rattle.compact.specs.JobEdits.{IsEditOf, IsOwnIn}
+use Rattle.compact.specs.Laws.{AreApart, SeesAsOne}
 use Rattle.compact.specs.Merging.{IsFinished}
 use Rattle.compact.specs.Needed.{AreNeeded}
-use Rattle.compact.specs.Outputs.{HasWritten}
+use Rattle.compact.specs.Outputs.{Written, HasWritten, IsOwn}
 
 -- ---- the tables that were written
 
@@ -110,3 +118,32 @@ abbrev pub JobDoneLaw : Type 0
 JobDoneLaw = (order : Order) (deep : List ℕ → Bool) (plan : JobPlan) (last : List ℕ) (c : Choosing) (facts : Facts) (number : ℕ) (came : List InternalEntry) (edit : List Field) (d : Directory) (inputs rest : List TableContent)
     → IsJobDone order deep plan last c facts number came edit d inputs rest
     → (outputs contents : List TableContent) × IsJobPut order deep plan.output_level c.snapshots facts.files came edit d inputs rest outputs contents
+
+-- Tables that a job wrote are unused where no table has a number that is the job's.
+abbrev pub UnusedLaw : Type 0
+UnusedLaw = (w : Written) (edit : List Field) (tables : List PlacedTable)
+    → AllByRecursion (IsOwnIn w) edit → ((number : ℕ) → IsOwn w number → is_used number tables ≡ false) → AllByRecursion (IsUnused tables) edit
+
+-- ---- behind the MANIFEST
+
+-- A reader at a sequence that sees what one of the snapshots sees, sees the same.
+abbrev pub AreSeenAlike : List Entry → List ℕ → Directory → Directory → Type 0
+AreSeenAlike merged snapshots before after = (p : ℕ) (map : Contents) → SeesAsOne merged snapshots p → IsView (entries_in before) p map → IsView (entries_in after) p map
+
+-- Once the edit stands behind the MANIFEST, and no other file has changed, the directory is consistent with the outputs
+-- in the place of the inputs. Where of each key of the inputs all else is newer, or the job has kept deletes of it, the
+-- views of the snapshots are as they were.
+abbrev pub JobPutLaw : Type 0
+JobPutLaw = (order : Order) (deep : List ℕ → Bool) (level : ℕ) (snapshots : List ℕ) (old new : Files) (came : List InternalEntry) (edit : List Field) (d : Directory) (next : Layout) (inputs rest outputs contents : List TableContent)
+    → IsConsistent order old d → IsJobPut order deep level snapshots old came edit d inputs rest outputs contents → SameEntries (map entry_of came) (tabled inputs)
+    → HasManifest order new d.manifest (d.edits ++ edit ∷ []) next → KeepsOthers old new (name_of (Manifest d.manifest))
+    → IsConsistent order new (compacted d (d.edits ++ edit ∷ []) next contents)
+    × (used_in (compacted d (d.edits ++ edit ∷ []) next contents) ≡ used_in d)
+    × (AreApart (tabled inputs) (tabled rest ++ logged d.logs) deep → AreSeenAlike (tabled inputs) snapshots d (compacted d (d.edits ++ edit ∷ []) next contents))
+
+-- So it is where the inputs are closed, and `deep` has the keys of all tables below the level that is written.
+abbrev pub JobApartLaw : Type 0
+JobApartLaw = (order : Order) (files : Files) (d : Directory) (inputs rest : List TableContent) (level : ℕ) (deep : List ℕ → Bool) → IsTotalOrder order.cmp
+    → IsConsistent order files d → AreParted d.tables inputs rest → IsClosed order inputs rest level
+    → ((stays : TableContent) (entry : Entry) → InTables rest stays → level + 1 < stays.placed.level → Among stays.entries entry → IsTrue (deep entry.key))
+    → AreApart (tabled inputs) (tabled rest ++ logged d.logs) deep

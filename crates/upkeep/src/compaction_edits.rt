@@ -1,6 +1,6 @@
 //! What the edit of a finished compaction leaves of a directory (LevelDB's db/db_impl.cc, InstallCompactionResults).
 
-ghost use Rattle.upkeep.specs.Compactions.{OutputsLaw, ReplacesLaw, JobFoldsLaw, JobDoneLaw};
+ghost use Rattle.upkeep.specs.Compactions.{OutputsLaw, ReplacesLaw, JobFoldsLaw, JobDoneLaw, UnusedLaw, JobPutLaw, JobApartLaw};
 
 /// What a job has written are tables of its level, which have what it kept.
 pub fn outputs_law()
@@ -21,4 +21,19 @@ pub fn job_folds_law()
 /// in the place of these.
 pub fn job_done_law()
     ensures { JobDoneLaw }
+{}
+
+/// Tables that a job wrote are new to a layout that has none of the job's numbers.
+pub fn unused_law()
+    ensures { UnusedLaw }
+{}
+
+/// With the edit behind the MANIFEST the directory is consistent, and readers see what they saw.
+pub fn job_put_law()
+    ensures { JobPutLaw }
+{}
+
+/// What is no input of a job is newer than its inputs, or the job knows of its keys.
+pub fn job_apart_law()
+    ensures { JobApartLaw }
 {}
