@@ -1,5 +1,5 @@
 -- What the edit of a flush is, and what it leaves.
-use Rattle.std.proofs.Common.{◌≡◌, ◌==◌, ◌<◌, ◌≤◌, ◌^◌, ◌||◌, ℕ, zero, suc, Bool, true, false, cond, Option, Some, None, option_and_then, List, [], ◌∷◌, ◌++◌, map, unwrap_or, inl, inr, refl, sym, ap, subst, ◌∙◌, arith, append_assoc, append-nil}
+use Rattle.std.proofs.Common.{◌≡◌, ◌==◌, ℕ, Bool, false, cond, Option, Some, None, option_and_then, List, [], ◌∷◌, ◌++◌, unwrap_or, inl, refl, sym, ap, subst, ◌∙◌, arith, append_assoc, append-nil}
 use Rattle.std.proofs.lemmas.Bool.{cond_both, eqb-true}
 use Rattle.std.specs.List.{AllByRecursion}
 use Rattle.std.specs.Option.{option_or}
@@ -8,8 +8,8 @@ use Rattle.edits.specs.declared.field.Field.TheVariants.{LogNumber, NextFileNumb
 use Rattle.edits.specs.declared.field.PlacedTable.{PlacedTable}
 use Rattle.edits.specs.declared.field.TableFile.{TableFile}
 use Rattle.edits.specs.declared.layout.Layout.{Layout}
-use Rattle.edits.specs.Edit.{IsProper, IsInOrder, IsTableProper, HasPastLimit}
-use Rattle.edits.specs.Layout.{IsLayout, IsComparator, fields_of, last_said, log_number_in, next_file_number_in, last_sequence_in, previous_log_number_in, compact_pointer_in, is_used, inserted, with_table, after_deleted, after_new, after_edit, after_edits, levels}
+use Rattle.edits.specs.Edit.{IsInOrder}
+use Rattle.edits.specs.Layout.{IsLayout, IsComparator, fields_of, last_said, log_number_in, next_file_number_in, last_sequence_in, previous_log_number_in, compact_pointer_in, is_used, inserted, with_table, after_deleted, after_new, after_edit, after_edits}
 use Rattle.edits.proofs.Folds.{last_said-append}
 use Rattle.upkeep.specs.FlushEdits.{IsAfterFlush, flush_fields, previous_gone}
 

@@ -1,16 +1,16 @@
 -- What the edit of a job leaves of a layout.
-use Rattle.std.proofs.Common.{◌≡◌, ◌==◌, ◌&&◌, ◌||◌, ◌<◌, ◌≤◌, ◌⊎◌, ◌-◌, ℕ, Bool, true, false, cond, Option, Some, None, option_and_then, option_map, List, [], ◌∷◌, ◌++◌, map, unwrap_or, inl, inr, refl, sym, ap, subst, ◌∙◌, arith}
+use Rattle.std.proofs.Common.{◌≡◌, ◌-◌, ℕ, Option, Some, None, option_and_then, List, [], ◌∷◌, ◌++◌, map, unwrap_or, refl, sym, ap, subst, ◌∙◌}
 use Rattle.std.specs.List.{AllByRecursion}
 use Rattle.std.specs.Option.{option_or}
 use Rattle.edits.specs.declared.field.Field.{Field}
-use Rattle.edits.specs.declared.field.Field.TheVariants.{NextFileNumber, LastSequence, CompactPointer, DeletedFile, NewFile}
+use Rattle.edits.specs.declared.field.Field.TheVariants.{NextFileNumber, LastSequence, CompactPointer}
 use Rattle.edits.specs.declared.field.PlacedTable.{PlacedTable}
 use Rattle.edits.specs.declared.field.TableFile.{TableFile}
 use Rattle.edits.specs.declared.layout.Layout.{Layout}
-use Rattle.edits.specs.Layout.{IsLayout, IsComparator, fields_of, last_said, log_number_in, next_file_number_in, last_sequence_in, previous_log_number_in, compact_pointer_in, after_deleted, after_new, after_edit, after_edits, levels, without, with_table}
+use Rattle.edits.specs.Layout.{IsLayout, IsComparator, fields_of, last_said, log_number_in, next_file_number_in, last_sequence_in, previous_log_number_in, compact_pointer_in, after_edit, after_edits, levels}
 use Rattle.edits.proofs.Folds.{last_said-append}
 use Rattle.versions.specs.Levels.{pointers_after}
-use Rattle.compact.specs.JobEdits.{IsEditOf, gone, placed_at, pointer_fields}
+use Rattle.compact.specs.JobEdits.{gone, placed_at, pointer_fields}
 use Rattle.upkeep.specs.Compactions.{IsAfterJob, JobFoldsLaw}
 use Rattle.upkeep.proofs.FlushEdits.{after_last, fields_last, all_fields, said_last}
 

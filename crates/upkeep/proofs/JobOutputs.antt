@@ -1,5 +1,5 @@
 -- What a job has written, as tables of a directory.
-use Rattle.std.proofs.Common.{◌≡◌, ◌⊎◌, ◌<◌, ◌^◌, ℕ, Option, Some, None, List, [], ◌∷◌, ◌++◌, length, map, inl, inr, refl, sym, ap, subst, ◌∙◌, arith}
+use Rattle.std.proofs.Common.{◌≡◌, ◌⊎◌, ◌<◌, ◌^◌, ℕ, Option, Some, None, List, [], ◌∷◌, ◌++◌, map, inl, inr, refl, sym, ap, subst, ◌∙◌, arith}
 use Rattle.std.proofs.lemmas.List.{map-append, append-nil}
 use Rattle.std.specs.FinMap.{get}
 use Rattle.std.specs.List.{AllByRecursion, flat_map}
@@ -20,13 +20,13 @@ use Rattle.coding.specs.Fixed.{fixed64}
 use Rattle.ikey.specs.Orders.{Order}
 use Rattle.ikey.specs.Sources.{ComesBefore, AreSorted}
 use Rattle.ikey.specs.Views.{Among}
-use Rattle.store.specs.Files.{Files, Facts}
+use Rattle.store.specs.Files.{Facts}
 use Rattle.table.specs.Table.{ArePairs}
 use Rattle.recover.specs.Report.{IsLongTable, HasBytes}
-use Rattle.recover.specs.Tables.{TableContent, HasTable, InTables, table_at, tabled, internal_key}
-use Rattle.recover.proofs.Memberships.{among_front, among_back}
-use Rattle.compact.specs.Outputs.{IsClosed, AreClosed, IsNumber, HasWritten, first_key}
-use Rattle.upkeep.specs.Compactions.{at_level, placed_in, AreOutputs, OutputsLaw}
+use Rattle.recover.specs.Tables.{TableContent, HasTable, table_at, internal_key}
+use Rattle.recover.proofs.Memberships.{among_front}
+use Rattle.compact.specs.Outputs.{IsClosed, AreClosed, IsNumber, first_key}
+use Rattle.upkeep.specs.Compactions.{at_level, AreOutputs, OutputsLaw}
 use Rattle.upkeep.proofs.Made.{not_long}
 
 -- ---- pairs and entries

@@ -1,5 +1,5 @@
 -- The tables of a directory with the outputs of a job in the place of its inputs.
-use Rattle.std.proofs.Common.{◌≡◌, ◌≢◌, ◌==◌, ◌&&◌, ◌||◌, nat_lt, ◌⊎◌, ◌<◌, ◌≤◌, ℕ, zero, suc, Bool, true, false, cond, Option, Some, None, option_and_then, option_map, List, [], ◌∷◌, ◌++◌, map, inl, inr, refl, sym, ap, subst, ◌∙◌, arith, append_assoc, append-nil}
+use Rattle.std.proofs.Common.{◌≡◌, ◌≢◌, ◌==◌, ◌&&◌, ◌⊎◌, ◌<◌, ℕ, zero, suc, Bool, true, false, cond, Option, Some, None, option_and_then, option_map, List, [], ◌∷◌, ◌++◌, map, inl, inr, refl, sym, ap, subst, ◌∙◌, arith, append_assoc, append-nil}
 use Rattle.std.proofs.lemmas.Bool.{and_right, ne_eqb}
 use Rattle.std.proofs.lemmas.Bool.Decides.{nat_tests}
 use Rattle.std.proofs.lemmas.List.Sorted.{Contains-permutation, IsPermutation-sym}
@@ -9,16 +9,16 @@ use Rattle.edits.specs.declared.field.Field.{Field}
 use Rattle.edits.specs.declared.field.PlacedTable.{PlacedTable}
 use Rattle.edits.specs.declared.field.TableFile.{TableFile}
 use Rattle.edits.specs.Edit.{IsInOrder, IsWrittenBefore, IsPlacedBefore, tag_of, place_of}
-use Rattle.edits.specs.Layout.{is_at, is_before, is_used, without, inserted, with_table, after_deleted, after_new, after_edit}
+use Rattle.edits.specs.Layout.{is_before, is_used, without, inserted, with_table, after_deleted, after_new, after_edit}
 use Rattle.edits.specs.Snapshot.{IsFollowedBy, AreInPlace}
 use Rattle.edits.proofs.Orders.{before_true, before_false, before_trans, unused, unused_from}
 use Rattle.ikey.specs.Views.{Among}
 use Rattle.recover.specs.Tables.{TableContent, InTables}
 use Rattle.recover.specs.Changes.{AreParted, with_content}
 use Rattle.recover.proofs.Memberships.{in_with, from_chosen, from_rest, placed_with}
-use Rattle.compact.specs.JobEdits.{IsEditOf, gone, placed_at, pointer_fields}
+use Rattle.compact.specs.JobEdits.{gone, placed_at}
 use Rattle.upkeep.specs.Compactions.{at_level, placed_in, IsUnused, ReplacesLaw}
-use Rattle.upkeep.proofs.JobFolds.{front_of, files_of, by_pointer}
+use Rattle.upkeep.proofs.JobFolds.{front_of, files_of}
 
 -- ---- fields in order
 

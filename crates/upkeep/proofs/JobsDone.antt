@@ -1,11 +1,10 @@
 -- The edit of a job that is done, as a compaction of its directory.
-use Rattle.std.proofs.Common.{◌≡◌, ℕ, Bool, Option, Some, List, [], ◌∷◌, ◌++◌, map, inl, inr, refl, sym, ap, subst, ◌∙◌}
+use Rattle.std.proofs.Common.{◌≡◌, ℕ, Bool, Some, List, [], ◌∷◌, map, inl, inr, sym, ap, subst, ◌∙◌}
 use Rattle.std.specs.List.{AllByRecursion}
 use Rattle.edits.specs.declared.field.Field.{Field}
 use Rattle.edits.specs.declared.field.PlacedTable.{PlacedTable}
 use Rattle.edits.specs.declared.field.TableFile.{TableFile}
-use Rattle.edits.specs.declared.layout.Layout.{Layout}
-use Rattle.edits.specs.Layout.{IsLayout, after_edit}
+use Rattle.edits.specs.Layout.{after_edit}
 use Rattle.edits.specs.Snapshot.{AreInPlace}
 use Rattle.versions.specs.declared.plan.JobPlan.{JobPlan}
 use Rattle.ikey.specs.declared.entry.Entry.{Entry}
@@ -16,13 +15,12 @@ use Rattle.ikey.specs.Views.{Among}
 use Rattle.store.specs.Files.{Facts}
 use Rattle.recover.specs.Tables.{TableContent, InTables, tabled}
 use Rattle.recover.specs.Directory.{Directory, used_in}
-use Rattle.recover.specs.Changes.{AreParted, IsCompaction}
 use Rattle.recover.proofs.Flushing.{kept_by}
 use Rattle.compact.specs.Choosing.{Choosing}
 use Rattle.compact.specs.Lists.{IsPartWith}
 use Rattle.compact.specs.Needed.{IsNeeded, AreNeeded}
 use Rattle.compact.proofs.Parts.{part-members}
-use Rattle.upkeep.specs.Compactions.{at_level, placed_in, IsUnused, IsAfterJob, IsJobDone, IsJobPut, JobDoneLaw}
+use Rattle.upkeep.specs.Compactions.{at_level, placed_in, IsUnused, IsJobDone, IsJobPut}
 use Rattle.upkeep.proofs.JobFolds.{job_folds}
 use Rattle.upkeep.proofs.JobOutputs.{outputs_are}
 use Rattle.upkeep.proofs.JobTables.{among_placed, table_of, replaces}

@@ -1,14 +1,12 @@
 -- A directory with the outputs of a job in the place of its inputs.
-use Rattle.std.proofs.Common.{◌≡◌, ◌≢◌, ◌⊎◌, ◌+◌, ◌<◌, ◌≤◌, ℕ, Bool, false, IsTrue, List, [], ◌∷◌, ◌++◌, map, inl, inr, refl, sym, ap, subst, ◌∙◌, arith}
+use Rattle.std.proofs.Common.{◌≡◌, ◌⊎◌, ◌+◌, ◌<◌, ℕ, Bool, false, IsTrue, List, [], ◌∷◌, ◌++◌, map, inl, inr, refl, sym, subst, arith}
 use Rattle.std.proofs.lemmas.Bool.{cases_lt}
 use Rattle.std.specs.Cmp.{IsTotalOrder}
 use Rattle.std.specs.FinMap.{get}
-use Rattle.std.specs.List.{AllByRecursion}
 use Rattle.std.specs.Option.{option_or}
 use Rattle.edits.specs.declared.field.Field.{Field}
 use Rattle.edits.specs.declared.field.Field.TheVariants.{NewFile}
 use Rattle.edits.specs.declared.field.PlacedTable.{PlacedTable}
-use Rattle.edits.specs.declared.layout.Layout.{Layout}
 use Rattle.edits.specs.declared.names.FileName.{FileName}
 use Rattle.edits.specs.declared.names.FileName.TheVariants.{Log, Manifest, Table, OldTable}
 use Rattle.edits.specs.Layout.{is_used}
@@ -23,7 +21,7 @@ use Rattle.store.specs.Files.{Files}
 use Rattle.table.specs.Writing.{KeepsOthers}
 use Rattle.recover.specs.Tables.{TableContent, HasTable, InTables, table_at, tabled}
 use Rattle.recover.specs.Logs.{logged}
-use Rattle.recover.specs.Directory.{Directory, IsConsistent, HasManifest, entries_in, used_in}
+use Rattle.recover.specs.Directory.{Directory, IsConsistent, entries_in}
 use Rattle.recover.specs.Changes.{AgreeBeside, AreParted, IsClosed, compacted}
 use Rattle.recover.proofs.Adding.{among_split}
 use Rattle.recover.proofs.Keeping.{keep_tables}
@@ -34,7 +32,7 @@ use Rattle.compact.specs.JobEdits.{IsOwnIn}
 use Rattle.compact.specs.Laws.{AreApart, SeesAsOne}
 use Rattle.compact.specs.Outputs.{Written, IsOwn}
 use Rattle.compact.proofs.Keeping.{keeps_views, views_are_of_sets}
-use Rattle.upkeep.specs.Compactions.{IsUnused, IsJobPut, AreSeenAlike, UnusedLaw, JobPutLaw, JobApartLaw}
+use Rattle.upkeep.specs.Compactions.{IsUnused, UnusedLaw, JobPutLaw}
 
 -- ---- numbers that are the job's
 

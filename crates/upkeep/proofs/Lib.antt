@@ -5,6 +5,7 @@ pub mod FlushEdits
 pub mod JobFolds
 pub mod JobOutputs
 pub mod JobTables
+pub mod JobsDeep
 pub mod JobsDone
 pub mod JobsPut
 pub mod Made

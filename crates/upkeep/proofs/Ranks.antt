@@ -1,5 +1,5 @@
 -- The entries of a memory table in internal order.
-use Rattle.std.proofs.Common.{◌≡◌, ◌⊎◌, ◌<◌, ◌^◌, ℕ, true, false, Option, Some, None, List, [], ◌∷◌, ◌++◌, length, map, nat_lt, inl, inr, refl, sym, ap, subst, ◌∙◌, arith}
+use Rattle.std.proofs.Common.{◌≡◌, ◌⊎◌, ℕ, true, false, Some, None, List, [], ◌∷◌, ◌++◌, map, nat_lt, inl, inr, refl, sym, ap, subst, ◌∙◌}
 use Rattle.std.proofs.lemmas.Bool.{ltb-true}
 use Rattle.std.proofs.lemmas.List.{reverse-append}
 use Rattle.std.specs.List.{AllByRecursion}
@@ -13,7 +13,7 @@ use Rattle.ikey.specs.Sources.{ComesBefore, AreSorted, SameEntries}
 use Rattle.ikey.specs.Views.{Among}
 use Rattle.memtable.specs.Contents.{entry_at}
 use Rattle.memtable.specs.Order.{Placed, is_before, ordered, Rises}
-use Rattle.memtable.specs.Places.{IsPlace, Stands, first_of, last_of}
+use Rattle.memtable.specs.Places.{first_of, last_of}
 use Rattle.memtable.proofs.Orders.{all-map, all-among, among-all, all-ordered, ordered-all, stands-insert}
 
 abbrev pub entries_in : List Placed → List Entry

@@ -1,6 +1,6 @@
 -- What a finished compaction leaves of a directory (LevelDB's db/db_impl.cc, InstallCompactionResults).
 use Rattle.std.specs.Prelude.{◌≡◌, ◌<◌, ◌+◌, ◌^◌, ℕ, Bool, IsTrue, false, Some, None, Option, List, [], ◌∷◌, ◌++◌, map}
-use Rattle.std.specs.List.{AllByRecursion}
+use Rattle.std.specs.List.{AllByRecursion, Contains}
 use Rattle.std.specs.List.Sorted.{IsPermutation}
 use Rattle.ikey.specs.Entries.{InternalEntry, Pair, entry_of}
 use Rattle.ikey.specs.Orders.{Order}
@@ -29,6 +29,7 @@ use Rattle.recover.specs.Directory.{Directory, IsConsistent, HasManifest, entrie
 use Rattle.recover.specs.Changes.{AreParted, MayReplace, IsClosed, IsCompaction, compacted}
 use Rattle.recover.specs.Logs.{logged}
 use Rattle.compact.specs.Choosing.{Choosing}
+use Rattle.compact.specs.Deeper.{is_covered_below}
 use Rattle.compact.specs.JobEdits.{IsEditOf, IsOwnIn}
 use Rattle.compact.specs.Laws.{AreApart, SeesAsOne}
 use Rattle.compact.specs.Merging.{IsFinished}
@@ -147,3 +148,8 @@ JobApartLaw = (order : Order) (files : Files) (d : Directory) (inputs rest : Lis
     → IsConsistent order files d → AreParted d.tables inputs rest → IsClosed order inputs rest level
     → ((stays : TableContent) (entry : Entry) → InTables rest stays → level + 1 < stays.placed.level → Among stays.entries entry → IsTrue (deep entry.key))
     → AreApart (tabled inputs) (tabled rest ++ logged d.logs) deep
+
+-- A table of a version that lies below the level covers the keys of its entries.
+abbrev pub DeepLaw : Type 0
+DeepLaw = (order : Order) (files : Files) (content : TableContent) (entry : Entry) (level : ℕ) (tables : List PlacedTable) → IsTotalOrder order.cmp
+    → HasTable order files content → Among content.entries entry → level < content.placed.level → Contains tables content.placed → IsTrue (is_covered_below order.cmp level tables entry.key)

@@ -1,6 +1,6 @@
 //! What the edit of a finished compaction leaves of a directory (LevelDB's db/db_impl.cc, InstallCompactionResults).
 
-ghost use Rattle.upkeep.specs.Compactions.{OutputsLaw, ReplacesLaw, JobFoldsLaw, JobDoneLaw, UnusedLaw, JobPutLaw, JobApartLaw};
+ghost use Rattle.upkeep.specs.Compactions.{OutputsLaw, ReplacesLaw, JobFoldsLaw, JobDoneLaw, UnusedLaw, JobPutLaw, JobApartLaw, DeepLaw};
 
 /// What a job has written are tables of its level, which have what it kept.
 pub fn outputs_law()
@@ -36,4 +36,9 @@ pub fn job_put_law()
 /// What is no input of a job is newer than its inputs, or the job knows of its keys.
 pub fn job_apart_law()
     ensures { JobApartLaw }
+{}
+
+/// A table below the level that a job writes covers the keys that it has.
+pub fn deep_law()
+    ensures { DeepLaw }
 {}

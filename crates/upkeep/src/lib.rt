@@ -11,7 +11,8 @@ mod manifest;
 mod removal;
 
 pub use compaction_edits::{
-    job_apart_law, job_done_law, job_folds_law, job_put_law, outputs_law, replaces_law, unused_law,
+    deep_law, job_apart_law, job_done_law, job_folds_law, job_put_law, outputs_law, replaces_law,
+    unused_law,
 };
 pub use flush_edits::flush_edit;
 pub use level0::write_level0;
