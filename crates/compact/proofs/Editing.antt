@@ -67,8 +67,7 @@ gone_order (y ∷ z ∷ ys) h range once =
     let n : ℕ = y.table.number in
     let apart : y.table.number ≡ z.table.number → ⊥ = λ e.
     (let two = once n in let first = one_here n y refl in let second = one_here n z (sym e) in
-    let a = sum_by-cons (one_if n) y (z ∷ ys) in let b = sum_by-cons (one_if n) z ys in omega (arith, two, first, second, a, b)) in
-    (
+    let a = sum_by-cons (one_if n) y (z ∷ ys) in let b = sum_by-cons (one_if n) z ys in omega (arith, two, first, second, a, b)) in (
       inr (refl, rank_before y.level y.table.number z.level z.table.number (h 0 1 y (omega arith) (omega arith)) (range 0 y (omega arith)).1 (range 1 y (omega arith)).1 apart),
       gone_order (z ∷ ys) (λ i j d le lt. h (suc i) (suc j) d (omega (arith, le)) (omega (arith, lt))) (λ k d lt. range (suc k) d (omega (arith, lt)))
           (λ m. let all = sum_by-cons (one_if m) y (z ∷ ys) in let most = once m in omega (arith, all, most)),
