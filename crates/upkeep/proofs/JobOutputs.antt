@@ -86,11 +86,15 @@ last_from order p k [] [] key is are sorted e =
 last_from order p k [] (l ∷ kept) key is are sorted e = absurd are
 last_from order p k (q ∷ pairs) [] key is are sorted e = absurd are
 last_from order p k (q ∷ pairs) (l ∷ kept) key is are sorted e =
-    let h = last_from order q l pairs kept key are.0 are.1 sorted.1 e in
-    (h.0, inr h.1, h.2, λ other i. elim i [
-      | inl s ↦ inr (let P : Entry → Type 0 = λ a. ComesBefore order a h.0 in subst P (sym s) (sorted.0 h.0 h.1))
-      | inr j ↦ h.3 other j
-    ])
+    let h = last_from order q l pairs kept key are.0 are.1 sorted.1 e in (
+      h.0,
+      inr h.1,
+      h.2,
+      λ other i. elim i [
+        | inl s ↦ inr (let P : Entry → Type 0 = λ a. ComesBefore order a h.0 in subst P (sym s) (sorted.0 h.0 h.1))
+        | inr j ↦ h.3 other j
+      ],
+    )
 
 last_is : (order : Order) (pairs : List Pair) (kept : List InternalEntry) (key : List ℕ) → ArePairs pairs kept → AreSorted order (map entry_of kept) → last_key pairs ≡ Some key → IsLast order (map entry_of kept) key
 last_is order [] kept key are sorted e = (let t : None ≡ Some key = e in absurd cc)
@@ -160,19 +164,21 @@ outputs_of order facts level next (table ∷ tables) (pairs ∷ lists) fits numb
     let parts : AreSorted order (map entry_of here ++ map entry_of later) = subst (AreSorted order) (map-append entry_of here later) sorted in
     let rest = outputs_of order facts level next tables lists fits numbers.1 h.1 (sorted_back order (map entry_of here) (map entry_of later) parts) in
     let content : TableContent = record { placed = at_level level table; entries = map entry_of here } in
-    let has : HasTable order facts.files content = output_of order facts level next table pairs fits numbers.0 h.0 (sorted_front order (map entry_of here) (map entry_of later) parts) in
-    (content ∷ rest.0, record {
-      placed = ap (λ (ps : List PlacedTable). at_level level table ∷ ps) rest.1.placed;
-      entries = ap (λ (es : List Entry). map entry_of here ++ es) rest.1.entries ∙ sym (map-append entry_of here later);
-      has = λ o i. elim i [
-        | inl same ↦ let P : TableContent → Type 0 = λ t. HasTable order facts.files t in subst P (sym same) has
-        | inr j ↦ rest.1.has o j
-      ];
-      short = λ o i. elim i [
-        | inl same ↦ let P : TableContent → Type 0 = λ t. HasBytes (IsLongTable order) facts.files t → ⊥ in subst P (sym same) (output_short order facts level table pairs (map entry_of here) h.0)
-        | inr j ↦ rest.1.short o j
-      ];
-    })
+    let has : HasTable order facts.files content = output_of order facts level next table pairs fits numbers.0 h.0 (sorted_front order (map entry_of here) (map entry_of later) parts) in (
+      content ∷ rest.0,
+      record {
+        placed = ap (λ (ps : List PlacedTable). at_level level table ∷ ps) rest.1.placed;
+        entries = ap (λ (es : List Entry). map entry_of here ++ es) rest.1.entries ∙ sym (map-append entry_of here later);
+        has = λ o i. elim i [
+          | inl same ↦ let P : TableContent → Type 0 = λ t. HasTable order facts.files t in subst P (sym same) has
+          | inr j ↦ rest.1.has o j
+        ];
+        short = λ o i. elim i [
+          | inl same ↦ let P : TableContent → Type 0 = λ t. HasBytes (IsLongTable order) facts.files t → ⊥ in subst P (sym same) (output_short order facts level table pairs (map entry_of here) h.0)
+          | inr j ↦ rest.1.short o j
+        ];
+      },
+    )
 
 pub outputs_are : OutputsLaw
 outputs_are order facts level next tables pairs kept fits h are sorted =

@@ -50,6 +50,11 @@ deep order files content entry level tables o h i below there =
     ap (λ (k : List ℕ). is_le (order.cmp k entry.key)) (user_is first placed.table.smallest h.smallest.2) ∙ le_before order o first entry (turned order first entry (h.smallest.3 entry i)) in
     let high : is_le (order.cmp entry.key (user_of placed.table.largest)) ≡ true =
     ap (λ (k : List ℕ). is_le (order.cmp entry.key k)) (user_is last placed.table.largest h.largest.2) ∙ le_before order o entry last (h.largest.3 entry i) in
-    list_any-from_Any (λ (p : PlacedTable). nat_lt level p.level && covers order.cmp p entry.key) tables
-    (there.0, placed, there.1, there.2, all_true (nat_lt level placed.level) (is_le (order.cmp (user_of placed.table.smallest) entry.key)) (is_le (order.cmp entry.key (user_of placed.table.largest)))
-    (lt-ltb level placed.level below) low high)
+    list_any-from_Any (λ (p : PlacedTable). nat_lt level p.level && covers order.cmp p entry.key) tables (
+      there.0,
+      placed,
+      there.1,
+      there.2,
+      all_true (nat_lt level placed.level) (is_le (order.cmp (user_of placed.table.smallest) entry.key)) (is_le (order.cmp entry.key (user_of placed.table.largest)))
+          (lt-ltb level placed.level below) low high,
+    )

@@ -61,25 +61,28 @@ module _ (order : Order) (deep : List ℕ → Bool) (plan : JobPlan) (last : Lis
       let put = replaces level number (used_in d) plan.inputs.items plan.compact_pointer tables edit d.tables inputs rest out.0 h.finished.1 h.in_order unused in_place h.parted h.planned out.1.placed in
       let After : List PlacedTable → Type 0 = λ ts. after_edit edit ts ≡ Some (placed_in put.0) in
       let after : after_edit edit d.layout.tables.items ≡ Some (placed_in put.0) = subst After h.consistent.placed put.2 in
-      let needs : AreNeeded (map entry_of came) c.snapshots deep (tabled out.0) = subst (AreNeeded (map entry_of came) c.snapshots deep) (sym out.1.entries) needed in
-      (out.0, put.0, record {
-        after = after;
-        compaction = λ next layout.
-            let left = (job_folds order.name d.edits level number (used_in d) plan.inputs.items plan.compact_pointer tables edit d.layout next h.consistent.manifest.spelled.folded h.finished.1).1 layout in
-            record {
-              old_tables = h.parted;
-              replaceable = h.replaceable;
-              positive = h.positive;
-              levels = level_is level tables out.0 out.1.placed;
-              taken = λ entry i. (h.all_came entry).0 (part-members (IsNeeded (map entry_of came) c.snapshots deep) (map entry_of came) (tabled out.0) entry needs i).0;
-              sorted = subst (AreSorted order) (sym out.1.entries) sorted;
-              new_tables = put.1;
-              tables = same_tables (placed_in put.0) next.tables.items (sym after ∙ left.tables);
-              log_number = left.log_number;
-              previous_log_number = left.previous_log_number;
-              last_sequence = left.last_sequence;
-            };
-        has = out.1.has;
-        short = out.1.short;
-        needed = needs;
-      })
+      let needs : AreNeeded (map entry_of came) c.snapshots deep (tabled out.0) = subst (AreNeeded (map entry_of came) c.snapshots deep) (sym out.1.entries) needed in (
+        out.0,
+        put.0,
+        record {
+          after = after;
+          compaction = λ next layout.
+              let left = (job_folds order.name d.edits level number (used_in d) plan.inputs.items plan.compact_pointer tables edit d.layout next h.consistent.manifest.spelled.folded h.finished.1).1 layout in
+              record {
+                old_tables = h.parted;
+                replaceable = h.replaceable;
+                positive = h.positive;
+                levels = level_is level tables out.0 out.1.placed;
+                taken = λ entry i. (h.all_came entry).0 (part-members (IsNeeded (map entry_of came) c.snapshots deep) (map entry_of came) (tabled out.0) entry needs i).0;
+                sorted = subst (AreSorted order) (sym out.1.entries) sorted;
+                new_tables = put.1;
+                tables = same_tables (placed_in put.0) next.tables.items (sym after ∙ left.tables);
+                log_number = left.log_number;
+                previous_log_number = left.previous_log_number;
+                last_sequence = left.last_sequence;
+              };
+          has = out.1.has;
+          short = out.1.short;
+          needed = needs;
+        },
+      )
