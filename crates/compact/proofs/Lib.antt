@@ -1,6 +1,8 @@
 pub mod Choices
+pub mod Editing
 pub mod Keeping
 pub mod Merges
+pub mod Numbered
 pub mod Parts
 pub mod Tables
 pub mod Writing

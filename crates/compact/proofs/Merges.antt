@@ -8,6 +8,8 @@ use Rattle.std.proofs.lemmas.List.{append_assoc, map-append, take_more}
 use mathlib.Core.Bool.{true≢false}
 use Rattle.ikey.specs.declared.entry.Entry.{Entry}
 use Rattle.ikey.specs.Keys.{Key, IsKey}
+use Rattle.ikey.specs.Orders.{Order, order_of}
+use Rattle.ikey.specs.Sources.{ComesBefore, AreSorted}
 use Rattle.ikey.specs.Below.{same_key}
 use Rattle.ikey.specs.declared.internal_key.Kind.{Kind}
 use Rattle.ikey.specs.declared.internal_key.Kind.TheVariants.{Delete, Put}
@@ -128,6 +130,16 @@ among-last : (came : List InternalEntry) (entry : InternalEntry) → Among (came
 among-last [] entry = inl refl
 among-last (first ∷ came) entry = inr (among-last came entry)
 
+sorted-push : (order : Order) (xs : List Entry) (x : Entry) → AreSorted order xs → ComesBehind order.cmp xs x → AreSorted order (xs ++ x ∷ [])
+sorted-push order [] x h behind = ((λ other m. absurd m), tt)
+sorted-push order (y ∷ xs) x h behind = (
+  λ other m. elim (Among-push xs x other m) [
+    | inl n ↦ h.0 other n
+    | inr same ↦ subst (λ (v : Entry). ComesBefore order y v) (sym same) (behind y (inl refl))
+  ],
+  sorted-push order xs x h.1 (λ entry m. behind entry (inr m)),
+)
+
 pub merge-step : (cmp : List ℕ → List ℕ → Ordering) (deep : List ℕ → Bool) (a b d : Facts) (last over : List ℕ) (c e : Choosing) (w u : Written) (next more : ℕ) (came : List InternalEntry) (entry : InternalEntry) (choice : Choice)
     → IsKey over entry.key → d.files ≡ b.files
     → ((last_key : Key) (x : Entry) → IsKey last last_key → IsUpTo cmp x last_key → Precedes cmp x (entry_of entry))
@@ -157,6 +169,7 @@ merge-step cmp deep a b d last over c e w u next more came entry choice over_is 
           | inr same ↦ inr (ap (λ (o : Entry). o.key) same, let at : x.sequence ≡ entry.key.sequence = ap (λ (o : Entry). o.sequence) same in omega (arith, at))
         ],
       );
+      sorted = λ name. subst (AreSorted (order_of name cmp)) all (sorted-push (order_of name cmp) (map entry_of came) (entry_of entry) (h.sorted name) behind);
     }
 
 -- ---- before the first entry, and behind the last
@@ -171,6 +184,7 @@ merging-none cmp deep last c w facts next empty chooses written = record {
   chooses = chooses;
   last_is = inl (refl, empty);
   bound = λ x m. absurd m;
+  sorted = λ name. tt;
 }
 
 pub merging-closed : (cmp : List ℕ → List ℕ → Ordering) (deep : List ℕ → Bool) (last : List ℕ) (c : Choosing) (w u : Written) (a b : Facts) (next : ℕ) (came : List InternalEntry)
@@ -183,4 +197,5 @@ merging-closed cmp deep last c w u a b next came closes h = record {
   chooses = h.chooses;
   last_is = h.last_is;
   bound = h.bound;
+  sorted = h.sorted;
 }

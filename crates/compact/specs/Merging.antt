@@ -13,6 +13,8 @@ use Rattle.ikey.specs.declared.entry.Entry.{Entry}
 use Rattle.ikey.specs.declared.internal_key.Kind.TheVariants.{Delete}
 use Rattle.ikey.specs.Entries.{InternalEntry, Pair, entry_of}
 use Rattle.ikey.specs.Keys.{Key, IsKey}
+use Rattle.ikey.specs.Orders.{order_of}
+use Rattle.ikey.specs.Sources.{AreSorted}
 use Rattle.store.specs.Files.{Facts}
 use Rattle.table.specs.Table.{ArePairs}
 use Rattle.ikey.specs.Views.{Among}
@@ -30,7 +32,7 @@ abbrev pub kept_delete : List ℕ → ℕ → InternalEntry
 kept_delete user sequence = record { key = record { user = user; sequence = sequence; kind = Delete }; value = [] }
 
 -- These entries of the inputs came, and of them those were written that are needed. The last has this key, and none comes
--- behind it.
+-- behind it. Each came before all that came later, whatever the name of the order is.
 pub record IsMerging (cmp : Cmp) (deep : List ℕ → Bool) (last : List ℕ) (c : Choosing) (w : Written) (facts : Facts) (next : ℕ) (came : List InternalEntry) : Type 0 where
   pub written : List Pair
   pub kept : List InternalEntry
@@ -39,6 +41,7 @@ pub record IsMerging (cmp : Cmp) (deep : List ℕ → Bool) (last : List ℕ) (c
   pub chooses : Chooses cmp deep c (map entry_of came) (map entry_of kept)
   pub last_is : ((came ≡ []) × (last ≡ [])) ⊎ ((entry : InternalEntry) × Among came entry × IsKey last entry.key)
   pub bound : (entry : Entry) → Among (map entry_of came) entry → (key : Key) × IsKey last key × IsUpTo cmp entry key
+  pub sorted : (name : List ℕ) → AreSorted (order_of name cmp) (map entry_of came)
 
 -- each entry of a user key has a sequence of its own: no two differ in their kind alone
 abbrev pub HaveOwnSequences : List InternalEntry → Type 0

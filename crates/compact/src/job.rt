@@ -48,12 +48,15 @@ pub struct Job<K: KeyOrder, C> {
 }
 
 impl<K: KeyOrder, C: Drop> Job<K, C> {
-    ghost use Rattle.std.specs.Prelude.{◌≡◌, ◌≤◌, ◌⊎◌, ◌+◌, ◌^◌, max, ◌∷◌, ◌++◌, [], ℕ, Bool, List, None, IsTrue, IfOk, IfErr, OnOk, MatchBool};
+    ghost use Rattle.std.specs.Prelude.{◌≡◌, ◌<◌, ◌≤◌, ◌⊎◌, ◌+◌, ◌^◌, All, max, ◌∷◌, ◌++◌, [], ℕ, Bool, List, None, IsTrue, IfOk, IfErr, OnOk, MatchBool};
+    ghost use Rattle.std.specs.List.{AllByRecursion};
     ghost use Rattle.cursor.specs.Moves.{ListsNone};
+    ghost use Rattle.edits.specs.Edit.{IsProper, IsInOrder};
     ghost use Rattle.cursor.specs.Places.{Listed};
     ghost use Rattle.ikey.specs.Entries.{InternalEntry};
     ghost use Rattle.compact.specs.Merging.{IsBetween, IsMerging, IsSlice, IsFinished, KeepsMine, ReadsApart, HaveOwnSequences};
-    ghost use Rattle.compact.specs.Outputs.{IsMine, IsNumberAtHand, IsOwn, WritesTables, RefusesEntry};
+    ghost use Rattle.compact.specs.JobEdits.{IsPlanProper, IsOwnIn};
+    ghost use Rattle.compact.specs.Outputs.{AreNumbered, IsMine, IsNumberAtHand, IsOwn, NumbersOn, WritesTables, RefusesEntry};
     ghost use Rattle.table.specs.Reading.{Reads};
 
     /// A job that has merged nothing. Its cursor lists the entries of the plan's inputs, and `snapshots` are the sequence
@@ -114,6 +117,7 @@ impl<K: KeyOrder, C: Drop> Job<K, C> {
         ensures plan { self.new.plan ≡ self.old.plan }
         ensures snapshots { self.new.selection.snapshots ≡ self.old.selection.snapshots }
         ensures mine { OnOk result (KeepsMine self.old.outputs numbers.old.next self.new.outputs numbers.new.next) }
+        ensures numbered { OnOk result (NumbersOn self.old.outputs numbers.old.next self.new.outputs numbers.new.next) }
         ensures writes { WritesTables (S.facts (H.store_of source.old)) (S.facts (H.store_of source.new)) (IsMine self.old.outputs numbers.old.next) }
         ensures refused { IfErr result (λ e. RefusesEntry e (S.facts (H.store_of source.old)) (S.facts (H.store_of source.new))
             (IsTrue (S.facts (H.store_of source.new)).faithful → (came : List InternalEntry) (rest : List InternalEntry)
@@ -151,6 +155,10 @@ impl<K: KeyOrder, C: Drop> Job<K, C> {
         ensures finished { IfOk result (λ edit. (deep : List ℕ → Bool) (came : List InternalEntry) → IsTrue (S.facts store.new).faithful
             → IsMerging K.cmp deep self.last.items self.selection self.outputs (S.facts store.old) numbers.now.next came
             → IsFinished K.cmp deep self.plan self.last.items self.selection (S.facts store.new) numbers.now.next last_sequence came edit) }
+        ensures proper { IfOk result (λ edit. last_sequence < 2 ^ 56 → IsPlanProper self.plan → AreNumbered self.outputs numbers.now.next → All IsProper edit) }
+        ensures order { IfOk result (λ edit. IsPlanProper self.plan → AreNumbered self.outputs numbers.now.next → IsInOrder edit) }
+        // What it puts in are tables that the job wrote.
+        ensures own { IfOk result (λ edit. AllByRecursion (IsOwnIn self.outputs) edit) }
         ensures refused { IfErr result (λ e. RefusesEntry e (S.facts store.old) (S.facts store.new) ⊥ (Unit {0}) ⊥) }
     {
         let Job { plan, outputs, .. } = self;
@@ -190,6 +198,7 @@ impl<K: KeyOrder, C: Drop> Job<K, C> {
         ensures plan { self.new.plan ≡ self.old.plan }
         ensures snapshots { self.new.selection.snapshots ≡ self.old.selection.snapshots }
         ensures mine { OnOk result (KeepsMine self.old.outputs numbers.old.next self.new.outputs numbers.new.next) }
+        ensures numbered { OnOk result (NumbersOn self.old.outputs numbers.old.next self.new.outputs numbers.new.next) }
         ensures writes { WritesTables (S.facts (H.store_of source.old)) (S.facts (H.store_of source.new)) (IsMine self.old.outputs numbers.old.next) }
         ensures refused { IfErr result (λ e. RefusesEntry e (S.facts (H.store_of source.old)) (S.facts (H.store_of source.new))
             (IsTrue (S.facts (H.store_of source.new)).faithful → (came : List InternalEntry) (entry : InternalEntry) (rest : List InternalEntry)

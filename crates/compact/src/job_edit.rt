@@ -1,9 +1,9 @@
 //! The edit of a compaction.
 
-ghost use Rattle.std.specs.Prelude.{◌≡◌, ◌++◌, List, map, IfOk, OnOk};
-ghost use Rattle.std.specs.List.Sorted.{IsPermutation};
+ghost use Rattle.std.specs.Prelude.{◌≡◌, ◌+◌, ◌*◌, ◌^◌, ◌++◌, List, map, IfOk, OnOk};
+ghost use Rattle.std.specs.List.Sorted.{IsPermutation, IsNonDecreasingBy};
 ghost use Rattle.edits.specs.declared.field.PlacedTable.{PlacedTable as PlacedTableValue};
-ghost use Rattle.compact.specs.JobEdits.{IsEditOf, gone, placed_at, pointer_fields};
+ghost use Rattle.compact.specs.JobEdits.{IsEditOf, gone, placed_at, pointer_fields, rank_of};
 
 use coding::Bytes;
 use edits::{Edit, Field, PlacedTable, TableFile};
@@ -53,12 +53,19 @@ fn push_pointer(
 
 // Takes the inputs away, by level, then by number.
 fn push_inputs(edit: &mut Edit, inputs: Vec<PlacedTable>) -> Result<(), AllocError>
-    ensures { OnOk result ((sorted : List PlacedTableValue) × IsPermutation inputs.items sorted × (edit.new ≡ edit.old ++ map gone sorted)) }
+    ensures { OnOk result ((sorted : List PlacedTableValue) × IsPermutation inputs.items sorted × IsNonDecreasingBy rank_of sorted × (edit.new ≡ edit.old ++ map gone sorted)) }
 {
     let mut inputs = inputs;
-    inputs.sort_by_key(|placed| (placed.level, placed.table.number))?;
+    inputs.sort_by_key(|placed| rank(placed.level, placed.table.number))?;
     push_gone(edit, &inputs)?;
     Ok(())
+}
+
+// The level and the number in one.
+fn rank(level: u32, number: u64) -> u128
+    ensures { result ≡ level * 2 ^ 64 + number }
+{
+    u128::from(level) * (1 << 64) + u128::from(number)
 }
 
 fn push_gone(edit: &mut Edit, inputs: &[PlacedTable]) -> Result<(), AllocError>

@@ -15,7 +15,9 @@ mod source;
 
 pub use deeper::{DeeperFiles, FilesBelow};
 pub use job::{Job, Progress};
-pub use laws::{needed_is_needed, one_choice, pairs_are_left, views_are_kept, views_are_of_sets};
+pub use laws::{
+    needed_is_needed, one_choice, pairs_are_left, still_numbered, views_are_kept, views_are_of_sets,
+};
 pub use numbers::FileNumbers;
 pub use selection::{Choice, Selection};
 pub use source::HasStore;

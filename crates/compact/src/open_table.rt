@@ -45,13 +45,13 @@ impl<K: KeyOrder> Model for OpenTable<K> {
 }
 
 impl<K: KeyOrder> OpenTable<K> {
-    ghost use Rattle.std.specs.Prelude.{◌≡◌, ◌≢◌, ◌<◌, ◌≤◌, ◌∷◌, ◌++◌, [], ℕ, List, IsTrue, IfOk, IfErr, OnOk, MatchBool};
+    ghost use Rattle.std.specs.Prelude.{◌≡◌, ◌≢◌, ◌<◌, ◌≤◌, ◌∷◌, ◌++◌, [], ℕ, List, IsTrue, IfSome, IfOk, IfErr, OnOk, MatchBool};
     ghost use Rattle.ikey.specs.Keys.{Key, IsKey};
     ghost use Rattle.ikey.specs.Entries.{Pair};
     ghost use Rattle.store.specs.Files.{Facts};
     ghost use Rattle.table.specs.Building.{MayFollow, Builds, data_size};
     ghost use Rattle.table.specs.Writing.{Writes, NeedsLongBlock, NeedsLongEnds};
-    ghost use Rattle.compact.specs.Outputs.{table_name, IsFilling, Closes, RefusesEntry};
+    ghost use Rattle.compact.specs.Outputs.{table_name, IsFilling, IsSaidOf, Closes, RefusesEntry};
 
     /// A table of this number without entries, of which nothing is written yet. The first entry is to have the smallest
     /// key.
@@ -86,6 +86,7 @@ impl<K: KeyOrder> OpenTable<K> {
     /// use.
     pub fn add<S: Store>(&mut self, store: &mut S, key: &[u8], value: &[u8]) -> Result<(), DbError>
         ensures number { self.new.number ≡ self.old.number }
+        ensures smallest { self.new.smallest ≡ self.old.smallest }
         ensures largest { OnOk result (self.new.largest ≡ key.now) }
         ensures writes { Writes (S.facts store.old) (S.facts store.new) (table_name self.old.number) }
         ensures added { OnOk result ((pairs : List Pair) → IsTrue (S.facts store.new).faithful → (pairs ≡ [] → key.now ≡ self.old.smallest)
@@ -125,6 +126,7 @@ impl<K: KeyOrder> OpenTable<K> {
         ensures writes { Writes (S.facts store.old) (S.facts store.new) (table_name self.number) }
         ensures closed { IfOk result (λ closed. (pairs : List Pair) → IsTrue (S.facts store.new).faithful → IsFilling K.cmp self (S.facts store.old) pairs
             → Closes K.cmp (S.facts store.new) self.number pairs closed) }
+        ensures said { IfOk result (λ closed. IfSome closed (IsSaidOf self)) }
         ensures refused { IfErr result (λ e. RefusesEntry e (S.facts store.old) (S.facts store.new)
             ⊥ (NeedsLongEnds self.building) ⊥) }
     {

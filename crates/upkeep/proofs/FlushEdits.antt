@@ -24,7 +24,7 @@ then_last : (es : List (List Field)) (e : List Field) → ((ts : List PlacedTabl
 then_last es e h None = refl
 then_last es e h (Some ts) = h ts
 
-after_last : (es : List (List Field)) (e : List Field) (ts : List PlacedTable) → after_edits (es ++ e ∷ []) ts ≡ option_and_then (after_edit e) (after_edits es ts)
+pub after_last : (es : List (List Field)) (e : List Field) (ts : List PlacedTable) → after_edits (es ++ e ∷ []) ts ≡ option_and_then (after_edit e) (after_edits es ts)
 after_last [] e ts = then_some (after_edit e ts)
 after_last (d ∷ es) e ts = then_last es e (after_last es e) (after_edit d ts)
 
@@ -36,7 +36,7 @@ pub all_fields : (P : Field → Type 0) (fs gs : List Field) → AllByRecursion 
 all_fields P [] gs h k = k
 all_fields P (f ∷ fs) gs h k = (h.0, all_fields P fs gs h.1 k)
 
-said_last : {V : Type 0} (said : Field → Option V) (es : List (List Field)) (e : List Field) → last_said said (fields_of (es ++ e ∷ [])) ≡ option_or (last_said said e) (last_said said (fields_of es))
+pub said_last : {V : Type 0} (said : Field → Option V) (es : List (List Field)) (e : List Field) → last_said said (fields_of (es ++ e ∷ [])) ≡ option_or (last_said said e) (last_said said (fields_of es))
 said_last said es e = ap (last_said said) (fields_last es e) ∙ last_said-append said (fields_of es) e
 
 -- ---- the fields

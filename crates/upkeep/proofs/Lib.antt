@@ -3,6 +3,12 @@ pub mod EditSteps
 pub mod Filled
 pub mod FlushEdits
 pub mod Flushes
+pub mod JobFolds
+pub mod JobOutputs
+pub mod JobTables
+pub mod JobsDeep
+pub mod JobsDone
+pub mod JobsPut
 pub mod KeyEnds
 pub mod Made
 pub mod Meaning

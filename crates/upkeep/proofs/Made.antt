@@ -1,31 +1,29 @@
 -- The table file that was made of a memory table.
-use Rattle.std.proofs.Common.{◌≡◌, ◌⊎◌, ◌<◌, ◌^◌, ℕ, Option, Some, None, List, [], ◌∷◌, ◌++◌, length, map, inl, inr, refl, sym, ap, subst, ◌∙◌}
+use Rattle.std.proofs.Common.{◌≡◌, ◌<◌, ◌^◌, ℕ, Option, Some, None, List, [], ◌∷◌, length, map, inl, inr, refl, sym, ap, subst, ◌∙◌}
 use Rattle.std.specs.FinMap.{get, IsAntisymmetric}
 use Rattle.std.specs.List.{AllByRecursion}
 use Rattle.std.specs.Option.{option_or}
-use Rattle.std.specs.declared.cmp.Ordering.{Ordering}
-use Rattle.edits.specs.declared.field.PlacedTable.{PlacedTable}
 use Rattle.edits.specs.declared.field.TableFile.{TableFile}
 use Rattle.edits.specs.declared.names.FileName.TheVariants.{Table, OldTable}
 use Rattle.edits.specs.Names.{name_of, IsNumbered}
 use Rattle.ikey.specs.declared.entry.Entry.{Entry}
 use Rattle.ikey.specs.Below.{same_key}
-use Rattle.ikey.specs.Entries.{InternalEntry, internal_entry_of, internal_key_of, entry_of, value_of, value_kept, kind_of}
-use Rattle.ikey.specs.Keys.{Key, IsKey}
+use Rattle.ikey.specs.Entries.{InternalEntry, Pair, internal_entry_of, internal_key_of, entry_of, value_of, value_kept, kind_of}
+use Rattle.ikey.specs.Keys.{IsKey}
 use Rattle.ikey.specs.Orders.{Order}
 use Rattle.memtable.specs.Contents.{entry_at}
 use Rattle.memtable.specs.Order.{Placed, ordered, Rises}
 use Rattle.memtable.specs.Places.{first_of, last_of}
-use Rattle.recover.specs.Report.{IsLongTable, HasBytes}
-use Rattle.recover.specs.Tables.{TableContent, HasTable, IsTableFile, table_at, internal_key}
+use Rattle.recover.specs.Report.{IsLongTable}
+use Rattle.recover.specs.Tables.{HasTable, table_at, internal_key}
 use Rattle.store.specs.Files.{Files}
 use Rattle.table.specs.declared.handle.Handle.{Handle}
-use Rattle.table.specs.Frame.{Frame, IsFrame, IsOversized, AnyLong, HasMetaindex, handles, handles_of}
+use Rattle.table.specs.Frame.{Frame, AnyLong, HasMetaindex, handles, handles_of}
 use Rattle.table.specs.Table.{ArePairs}
 use Rattle.table.specs.Writing.{IsTableOf}
 use Rattle.table.proofs.Footers.{one_footer}
 use Rattle.table.proofs.FrameParts.{one_frame, one_metaindex}
-use Rattle.upkeep.specs.Level0.{HaveSequences, IsLevel0, pair_of, pairs_of}
+use Rattle.upkeep.specs.Level0.{HaveSequences, IsLevel0, pairs_of}
 use Rattle.upkeep.proofs.Ranks.{entries_in, same_entries, each_placed, sorted_entries, first_entry, last_entry}
 
 -- ---- the entries of the pairs
@@ -55,11 +53,11 @@ kept_entries (one ∷ placed) (k ∷ kept) fits h =
 
 -- ---- no block is too long
 
-pub not_long : (order : Order) (file : List ℕ) (placed : List Placed) → IsTableOf order.cmp file (pairs_of placed) → IsLongTable order file → ⊥
-not_long order file placed t (frame, (is, inr long)) =
+pub not_long : (order : Order) (file : List ℕ) (pairs : List Pair) → IsTableOf order.cmp file pairs → IsLongTable order file → ⊥
+not_long order file pairs t (frame, (is, inr long)) =
     let same : frame ≡ t.frame = one_frame order.cmp file frame t.frame is t.frame_is in
     t.data_short (subst (λ (f : Frame). AnyLong (handles f)) same long)
-not_long order file placed t (frame, (is, inl over)) =
+not_long order file pairs t (frame, (is, inl over)) =
     let a = t.frame_is in
     let ends = one_footer file is.before a.before is.metaindex is.index a.metaindex a.index is.footer a.footer in
     let named : is.filter_handle ≡ a.filter_handle = one_metaindex file a.metaindex is.filter_handle a.filter_handle
@@ -102,5 +100,5 @@ module _ (order : Order) (exact : IsAntisymmetric order.cmp) (files : Files) (in
     has = has_table;
     short = λ long.
         let same : long.0 ≡ file = (let t : Some long.0 ≡ Some file = sym long.1 ∙ there in cc) in
-        not_long order file (ordered order.cmp inserts) is (subst (IsLongTable order) same long.2);
+        not_long order file (pairs_of (ordered order.cmp inserts)) is (subst (IsLongTable order) same long.2);
   }

@@ -1,15 +1,15 @@
 -- How many bytes the parts of a table file take, at most.
-use Rattle.std.proofs.Common.{◌≡◌, ◌<◌, ◌≤◌, ◌+◌, ◌-◌, ◌*◌, ◌/◌, ◌%◌, ◌==◌, ◌^◌, ◌⊎◌, ℕ, zero, suc, Bool, true, false, cond, max, nat_lt, Option, Some, None, List, [], ◌∷◌, ◌++◌, length, take, replicate, get_or, set, flat_map, inl, inr, refl, sym, ap, subst, ◌∙◌, arith, length-append, length-take}
+use Rattle.std.proofs.Common.{◌≡◌, ◌<◌, ◌≤◌, ◌+◌, ◌-◌, ◌*◌, ◌/◌, ◌%◌, ◌==◌, ◌^◌, ◌⊎◌, ℕ, zero, suc, Bool, true, false, cond, nat_lt, Option, Some, None, List, [], ◌∷◌, ◌++◌, length, take, replicate, get_or, set, flat_map, inl, inr, refl, ap, ◌∙◌, arith, length-append}
 use Rattle.std.proofs.lemmas.Bool.{cond_both}
 use Rattle.std.specs.List.{concat}
 use Rattle.std.specs.declared.cmp.Ordering.{Ordering}
 use Rattle.block.specs.Block.{IsEntry, IsKeyBehind, AreEntries, IsBlock, TakesRestart, trailer}
-use Rattle.block.specs.Built.{entry_length, entries_length, restart_count, at_least_one, written_length}
+use Rattle.block.specs.Built.{entry_length, entries_length, restart_count, at_least_one}
 use Rattle.block.specs.Written.{last_key, last_key_from, shared_at}
 use Rattle.coding.specs.Fixed.{fixed32}
 use Rattle.coding.specs.Varint.{IsVarint, varint_length}
 use Rattle.coding.proofs.Varints.{length-varint}
-use Rattle.filter.specs.Bloom.{IsArray, IsFilter, array_length}
+use Rattle.filter.specs.Bloom.{IsFilter}
 use Rattle.filter.specs.Blocks.{filter_index}
 use Rattle.filter.specs.Builder.{IsWritten, AreFilters, with_empty, with_hash, starts_of}
 use Rattle.filter.specs.Hash.{hash_of}
@@ -17,18 +17,17 @@ use Rattle.coding.specs.Fixed.{fixed64}
 use Rattle.ikey.specs.declared.entry.Entry.{Entry}
 use Rattle.ikey.specs.Below.{IsBelowInternal}
 use Rattle.ikey.specs.Entries.{Pair, internal_key_of}
-use Rattle.ikey.specs.Keys.{Key, IsKey, tag_of}
+use Rattle.ikey.specs.Keys.{IsKey, tag_of}
 use Rattle.ikey.specs.Views.{Among}
 use Rattle.memtable.specs.Contents.{byte_length}
 use Rattle.memtable.specs.Order.{Placed, is_before, put_in, put_all, ordered}
 use Rattle.recover.specs.Tables.{internal_key}
 use Rattle.upkeep.specs.Level0.{pair_of, pairs_of, room_of}
 use Rattle.store.specs.Files.{Facts}
-use Rattle.table.specs.declared.handle.Handle.{Handle}
 use Rattle.table.specs.declared.handle.Place.{Place}
-use Rattle.table.specs.Building.{Building, Builds, IsPart, AreInLine, AreEnded, AddsHashes, AddsAllHashes, data_length, index_length}
+use Rattle.table.specs.Building.{Building, Builds, AreInLine, AreEnded, AddsHashes, AddsAllHashes, data_length, index_length}
 use Rattle.table.specs.Frame.{ArePlaces}
-use Rattle.table.specs.Stored.{IsHandle, end_of}
+use Rattle.table.specs.Stored.{end_of}
 use Rattle.table.specs.Table.{AreData}
 use Rattle.table.specs.Writing.{NeedsLongIndex, NeedsLongBlock, NeedsLongEnds}
 use Rattle.table.proofs.Footers.{short_handle}

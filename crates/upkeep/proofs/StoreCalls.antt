@@ -1,5 +1,5 @@
 -- Calls of the store, and what is synced by them.
-use Rattle.std.proofs.Common.{Bool, true, false, cond, ◌≡◌, ◌≢◌, ◌⊎◌, ℕ, List, [], ◌++◌, length, take, Option, None, Result, Ok, Err, IsTrue, inl, inr, refl, sym, ap, ◌∙◌, arith}
+use Rattle.std.proofs.Common.{Bool, true, false, cond, ◌≡◌, ◌≢◌, ◌⊎◌, ℕ, List, [], ◌++◌, length, take, Option, None, Ok, Err, IsTrue, inl, inr, refl, sym, ap, ◌∙◌, arith}
 use Rattle.std.specs.Cmp.{tied_itself}
 use Rattle.std.specs.Cmp.Lexicographic.{slice_cmp, nat_list_cmp_total}
 use Rattle.std.specs.Ordering.{is_eq, nat_cmp, eq_by_cmp}
@@ -7,7 +7,7 @@ use Rattle.std.specs.FinMap.{get, insert}
 use Rattle.std.proofs.lemmas.List.{take_all}
 use Rattle.coding.specs.declared.error.DbError.{DbError}
 use Rattle.store.specs.Files.{Facts, Files, Synced, Appends, AppendsBeginning, with_synced}
-use Rattle.store.specs.Calls.{Counts, Keeps, KeepsSynced, Changes, ChangesSynced}
+use Rattle.store.specs.Calls.{Keeps, KeepsSynced, Changes, ChangesSynced}
 use Rattle.store.specs.declared.error.StoreError.{StoreError}
 use Rattle.store.specs.declared.error.StoreError.TheVariants as store_error
 use Rattle.recover.proofs.NamedFiles.{same_name}

@@ -1,4 +1,5 @@
 pub mod Calls
+pub mod Compactions
 pub mod Flush
 pub mod FlushEdits
 pub mod Level0

@@ -3,6 +3,7 @@
 #![tactic(auto)]
 
 mod calls;
+mod compaction_edits;
 mod flush;
 mod flush_edits;
 mod level0;
@@ -10,6 +11,10 @@ mod log_file;
 mod manifest;
 mod removal;
 
+pub use compaction_edits::{
+    deep_law, job_apart_law, job_done_law, job_folds_law, job_put_law, outputs_law, replaces_law,
+    unused_law,
+};
 pub use flush::{FlushError, FlushPlan, Flushed, flush_memory};
 pub use flush_edits::flush_edit;
 pub use level0::write_level0;

@@ -1,4 +1,4 @@
-use Rattle.std.proofs.Common.{◌≡◌, ◌≤◌, ◌-◌, ℕ, List, [], Option, IsTrue, length, inl, inr, refl, subst, arith}
+use Rattle.std.proofs.Common.{◌≤◌, ◌-◌, ℕ, [], Option, length, inl, inr, refl, subst, arith}
 use Rattle.std.specs.Prelude.{IfSome}
 use Rattle.std.proofs.lemmas.Result.{err_from_is_err_and}
 use Rattle.ikey.specs.declared.entry.Entry.{Entry}

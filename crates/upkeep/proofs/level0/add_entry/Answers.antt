@@ -1,4 +1,4 @@
-use Rattle.std.proofs.Common.{List, [], ◌∷◌, ◌++◌, ◌∙◌, subst}
+use Rattle.std.proofs.Common.{[], ◌∷◌, ◌++◌, ◌∙◌, subst}
 use Rattle.ikey.specs.Entries.{Pair}
 use Rattle.memtable.specs.Slots.{entry_seen}
 use Rattle.table.specs.Building.{Builds}

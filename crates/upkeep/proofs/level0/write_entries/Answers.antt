@@ -1,11 +1,9 @@
-use Rattle.std.proofs.Common.{◌≡◌, List, ℕ, [], Some, refl, sym, ap, subst, ◌∙◌}
+use Rattle.std.proofs.Common.{◌≡◌, List, ℕ, Some, refl, ap, subst, ◌∙◌}
 use Rattle.std.proofs.lemmas.Result.{err_from_is_err_and}
 use Rattle.std.specs.FinMap.{get}
-use Rattle.ikey.specs.Entries.{Pair}
 use Rattle.memtable.specs.Order.{ordered}
 use Rattle.store.specs.Files.{Facts, Files}
 use Rattle.table.proofs.Storing.{refuses_later}
-use Rattle.table.specs.Building.{Builds}
 use Rattle.table.specs.Writing.{NeedsLongEnds}
 use Rattle.upkeep.specs.Level0.{IsTooLarge, pairs_of}
 use Rattle.upkeep.proofs.Filled.{writes_by, some_pairs}

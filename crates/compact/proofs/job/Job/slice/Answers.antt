@@ -11,6 +11,7 @@ use Rattle.compact.proofs.Jobs.{job-more, job-all}
 use Rattle.compact.proofs.Merges.{writes-on}
 use Rattle.compact.proofs.Passing.{some-left, none-left, not-ended, front-more, longer, not-true, not-false}
 use Rattle.compact.proofs.Writing.{refuses-as, writes-nothing}
+use Rattle.compact.proofs.Numbered.{numbers-same, numbers-then}
 use Rattle.compact.proofs.job.Job.slice.Goals as goal
 
 pub loop-merged-preserved : goal.loop-merged-preserved
@@ -41,6 +42,7 @@ loop-merged-preserved g c =
       writes-on a b d c.args.self.now.outputs c.loop-merged.self.outputs c.args.numbers.now.next c.loop-merged.numbers.next inv.3 inv.4 c.in_ok-merge_one.ensures.writes,
       c.in_ok-merge_one.ensures.plan ∙ inv.5,
       omega (arith, inv.6, c.in_ok-merge_one.ensures.drawn),
+      numbers-then c.args.self.now.outputs c.loop-merged.self.outputs c.merge_one.new.self.outputs c.args.numbers.now.next c.loop-merged.numbers.next c.merge_one.new.numbers.next inv.0 inv.7 c.in_ok-merge_one.ensures.numbered,
     )
 
 pub loop-merged-init : goal.loop-merged-init
@@ -60,6 +62,7 @@ loop-merged-init g c =
       writes-nothing a (IsMine c.args.self.now.outputs c.args.numbers.now.next),
       refl,
       omega arith,
+      numbers-same c.args.self.now.outputs c.args.numbers.now.next,
     )
 
 pub returns-in_err-merge_one-clause-writes : goal.returns-in_err-merge_one-clause-writes

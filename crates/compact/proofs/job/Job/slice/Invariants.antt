@@ -1,7 +1,7 @@
 use Rattle.std.proofs.Common.{◌≡◌, ◌≤◌, ◌+◌, ◌++◌, List, IsTrue, length}
 use Rattle.ikey.specs.Entries.{InternalEntry}
 use Rattle.compact.specs.Merging.{IsBetween, KeepsMine}
-use Rattle.compact.specs.Outputs.{IsMine, WritesTables}
+use Rattle.compact.specs.Outputs.{IsMine, NumbersOn, WritesTables}
 use Rattle.compact.proofs.job.Job.slice.Given as goal
 
 abbrev pub invariant-loop-merged : goal.invariant-loop-merged
@@ -18,3 +18,4 @@ invariant-loop-merged g l =
     × WritesTables (g.S.Store.facts (g.H.HasStore.store_of l.initial.source)) (g.S.Store.facts (g.H.HasStore.store_of l.source)) (IsMine l.initial.self.outputs l.initial.numbers.next)
     × (l.self.plan ≡ l.initial.self.plan)
     × (l.numbers.next ≤ l.initial.numbers.next + l.merged)
+    × NumbersOn l.initial.self.outputs l.initial.numbers.next l.self.outputs l.numbers.next
