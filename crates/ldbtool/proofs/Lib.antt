@@ -1,3 +1,4 @@
 pub mod Commands
+pub mod Dumping
 pub mod Found
 pub mod Texts

@@ -67,8 +67,3 @@ entry_line_of origin entry =
 abbrev pub origins_of_summary : Summary → List Origin
 origins_of_summary summary =
     map (λ (table : TableSummary). Table table.level table.number) summary.tables.items ++ map (λ (log : LogSummary). Log log.number) summary.logs.items
-
--- the lines of these files' entries
-abbrev pub dump_text_of : List Origin → List (List Entry) → List ℕ
-dump_text_of (origin ∷ origins) (entries ∷ files) = texts (entry_line_of origin) entries ++ dump_text_of origins files
-dump_text_of _ _ = []

@@ -5,7 +5,7 @@ ghost use Rattle.std.specs.Io.KnownBytes.{Appends};
 ghost use Rattle.ikey.specs.Orders.{order_of};
 ghost use Rattle.script.specs.Drive.{Shows};
 ghost use Rattle.ldbtool.specs.Reports.{check_text_of, entry_line_of, texts, origins_of_summary, status_of_answer};
-ghost use Rattle.ldbtool.specs.Inspecting.{Checks};
+ghost use Rattle.ldbtool.specs.Inspecting.{Checks, Dumps, PrintsFile, PrintsFiles};
 
 use crate::report::{check_text, entry_line, refusal_text};
 use crate::status::{DONE, FAILED};
@@ -50,7 +50,9 @@ pub fn dump<K: KeyOrder, S: Store, W: Write>(
     alloc: Global,
     store: &mut S,
     writer: &mut W,
-) -> Result<u8, Fault> {
+) -> Result<u8, Fault>
+    ensures { IfOk result (Dumps (order_of K.name K.cmp) (S.facts store.old) (S.facts store.new) (W.contents writer.old) (W.contents writer.new)) }
+{
     match recover::check::<K, S>(alloc, store) {
         Ok(Report::Empty) => Ok(DONE),
         Ok(Report::Good(summary)) => {
@@ -81,15 +83,32 @@ fn print_files<K: KeyOrder, S: Store, W: Write>(
     store: &mut S,
     writer: &mut W,
     origins: &[Origin],
-) -> Result<u8, Fault> {
+) -> Result<u8, Fault>
+    ensures { IfOk result (PrintsFiles (order_of K.name K.cmp) origins.now (S.facts store.old) (S.facts store.new) (W.contents writer.old) (W.contents writer.new)) }
+{
     for origin in origins {
-        let entries = match file_entries::<K, S>(alloc, store, *origin) {
-            Ok(entries) => entries,
-            Err(error) => return print_refusal(alloc, writer, error),
-        };
-        print_entries(alloc, writer, *origin, &entries)?;
+        if let Some(status) = print_file::<K, S, W>(alloc, store, writer, origin)? {
+            return Ok(status);
+        }
     }
     Ok(DONE)
+}
+
+// Prints the entries of a file, or its refusal, with which the dump ends: then the status is answered.
+fn print_file<K: KeyOrder, S: Store, W: Write>(
+    alloc: Global,
+    store: &mut S,
+    writer: &mut W,
+    origin: &Origin,
+) -> Result<Option<u8>, Fault>
+    ensures { IfOk result (PrintsFile (order_of K.name K.cmp) origin.now (S.facts store.old) (S.facts store.new) (W.contents writer.old) (W.contents writer.new)) }
+{
+    let entries = match file_entries::<K, S>(alloc, store, *origin) {
+        Ok(entries) => entries,
+        Err(error) => return Ok(Some(print_refusal(alloc, writer, error)?)),
+    };
+    print_entries(alloc, writer, *origin, &entries)?;
+    Ok(None)
 }
 
 // Prints the entries of one file.

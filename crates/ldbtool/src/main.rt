@@ -5,12 +5,14 @@
 mod command_line;
 mod help;
 mod inspect;
+mod progress;
 mod report;
 mod settings;
 mod start;
 mod status;
 
 use std::alloc::AllocGlobal;
+use std::io::IsTerminal;
 use std::process::ExitCode;
 use std::rt::Env;
 use std::{env, io};
@@ -22,7 +24,15 @@ fn main(rt: HostRuntime) -> ExitCode {
         Err(error) => return ExitCode::from(start::refuse_words(&mut faults, &error)),
     };
     let mut answers = rt.stdout();
-    ExitCode::from(start::start(&rt, words.as_slice(), rt.stdin(), &mut answers, &mut faults))
+    let watched = faults.is_terminal();
+    ExitCode::from(start::start(
+        &rt,
+        words.as_slice(),
+        watched,
+        rt.stdin(),
+        &mut answers,
+        &mut faults,
+    ))
 }
 
 fn arguments(rt: &(impl Env + AllocGlobal)) -> io::Result<Vec<String>> {

@@ -3,6 +3,7 @@
 ghost use Rattle.std.specs.Prelude.{◌≡◌, ◌⊎◌};
 
 use crate::inspect::{check, dump};
+use crate::progress::{Meter, Watched, bytes_of};
 use crate::settings::{Numbers, Task, settings};
 use crate::status::{DONE, FAILED, MISUSED};
 use clap::error::ErrorKind;
@@ -15,10 +16,12 @@ use std::io::{self, Read, Write};
 use store::{FileStore, StoreError};
 
 /// Does what the words ask for, of which the first is the program's name, and answers the exit status. What has no place
-/// on `writer` is said on `faults`.
+/// on `writer` is said on `faults`; where somebody watches, a check or a dump that takes longer than a second says on standard
+/// error how far it is.
 pub fn start<R: Read + Drop, W: Write, F: Write>(
     rt: &HostRuntime,
     words: &[String],
+    watched: bool,
     reader: R,
     writer: &mut W,
     faults: &mut F,
@@ -28,25 +31,38 @@ pub fn start<R: Read + Drop, W: Write, F: Write>(
         Err(error) => return refuse(&error, writer, faults),
     };
     let folder = folder_of(&task);
-    let mut store = match FileStore::open(rt, folder) {
+    let store = match FileStore::open(rt, folder) {
         Ok(store) => store,
         Err(error) => return folder_fault(faults, folder, error),
     };
     match task {
         Task::Run(numbers, _) => run(rt, store, numbers, reader, writer, faults),
         Task::Check(_) => {
-            status_of(
-                check::<Bytewise, FileStore, W>(rt.alloc(), &mut store, writer),
-                faults,
-            )
-        },
+            let mut store = watched_store(rt, store, watched, 1);
+            let done = check::<Bytewise, Watched<FileStore>, W>(rt.alloc(), &mut store, writer);
+            status_of(done, faults)
+        }
         Task::Dump(_) => {
-            status_of(
-                dump::<Bytewise, FileStore, W>(rt.alloc(), &mut store, writer),
-                faults,
-            )
-        },
+            let mut store = watched_store(rt, store, watched, 2);
+            let done = dump::<Bytewise, Watched<FileStore>, W>(rt.alloc(), &mut store, writer);
+            status_of(done, faults)
+        }
     }
+}
+
+// The files, read from end to end so many times, and where somebody watches a meter beside them.
+fn watched_store(
+    rt: &HostRuntime,
+    store: FileStore,
+    watched: bool,
+    times: u64,
+) -> Watched<FileStore> {
+    if !watched {
+        return Watched::over(store, None);
+    }
+    let mut store = store;
+    let total = bytes_of(rt.alloc(), &mut store).saturating_mul(times);
+    Watched::over(store, Meter::new(rt, total))
 }
 
 fn folder_of<'a>(task: &Task<'a>) -> &'a str {

@@ -30,7 +30,14 @@ fn ran(rt: &HostRuntime, words: &[&str], script: &str) -> Result<Outcome, AllocE
     let owned = owned(rt.alloc(), words)?;
     let mut answers = Vec::new(rt.alloc());
     let mut faults = Vec::new(rt.alloc());
-    let status = start(rt, &owned, script.as_bytes(), &mut answers, &mut faults);
+    let status = start(
+        rt,
+        &owned,
+        false,
+        script.as_bytes(),
+        &mut answers,
+        &mut faults,
+    );
     Ok(Outcome {
         answers,
         faults,
