@@ -5,8 +5,8 @@ use std::io::Write;
 use std::time::Instant;
 use store::{Store, StoreError};
 
-/// The files of a store, of which it is said on `faults`, at a terminal, how much was read: after a second, and then whenever as
-/// much time again has passed. Each call is the store's own.
+/// The files of a store. With a meter, standard error says how much of them was read: after a second, and then whenever as much
+/// time again has passed. Each call is the store's own.
 #[derive(Drop)]
 pub struct Watched<S> {
     inner: S,
