@@ -25,7 +25,9 @@ writes-more a b first mine within_mine w = record {
   faithful = w.faithful;
   failures = w.failures;
   denials = w.denials;
+  held = w.held;
   others = λ t name apart. w.others t name (λ n is. apart n (within_mine n is));
+  synced = λ t name apart. w.synced t name (λ n is. apart n (within_mine n is));
 }
 
 pub apart-on : {C H S : Type 0} (facts : S → Facts) (store_of : H → S) (with_store : H → S → H) (keeps : C → H → H → Type 0) (cursor other : C) (mine less : ℕ → Type 0)

@@ -2,7 +2,6 @@
 
 ghost use Rattle.std.specs.Prelude.{◌≡◌, ◌<◌, ◌^◌, ℕ, List, length, IsTrue, IfOk, IfErr, OnOk};
 ghost use Rattle.store.specs.Files.{Facts};
-ghost use Rattle.coding.specs.declared.error.DbError.TheVariants.{Io};
 ghost use Rattle.std.specs.Option.{IsSome};
 ghost use Rattle.ikey.specs.Entries.{Pair};
 ghost use Rattle.table.specs.Building.{Builds, last_added};
@@ -16,8 +15,8 @@ use edits::{FileName, TableFile, print_name};
 use ikey::{KeyOrder, unpack};
 use std::alloc::{AllocError, Global};
 use std::marker::Model;
-use store::{Store, StoreError};
-use table::TableBuilder;
+use store::Store;
+use table::{TableBuilder, sync};
 
 /// A table that is being written, and what an edit will say of it.
 #[derive(Drop)]
@@ -169,17 +168,4 @@ fn finish_file<K: KeyOrder, S: Store>(
     let size = builder.finish(alloc, store)?;
     sync(store, &name)?;
     Ok(size)
-}
-
-fn sync<S: Store>(store: &mut S, name: &str) -> Result<(), DbError>
-    ensures writes { Writes (S.facts store.old) (S.facts store.new) name.now }
-    ensures files { IsTrue (S.facts store.new).faithful → (S.facts store.new).files ≡ (S.facts store.old).files }
-    ensures refused { IfErr result (λ e. (e ≡ Io) × ((S.facts store.old).failures < (S.facts store.new).failures)) }
-{
-    match store.sync(name) {
-        Ok(()) => Ok(()),
-        Err(StoreError::Memory) => unreachable!(),
-        Err(StoreError::Missing) => unreachable!(),
-        Err(StoreError::Device) => Err(DbError::Io),
-    }
 }

@@ -1,5 +1,5 @@
 -- What the calls that write a table do to the files of a store.
-use Rattle.std.proofs.Common.{Bool, true, false, cond, ◌≡◌, ◌≢◌, ◌⊎◌, ℕ, List, [], ◌++◌, take, Option, Some, Result, Ok, Err, IsTrue, inl, inr, refl, sym, ap, ◌∙◌, arith}
+use Rattle.std.proofs.Common.{Bool, true, false, cond, ◌≡◌, ◌≢◌, ◌⊎◌, ℕ, List, [], ◌++◌, take, Option, Some, None, Result, Ok, Err, IsTrue, inl, inr, refl, sym, ap, ◌∙◌, arith}
 use Rattle.std.specs.Cmp.{tied_itself}
 use Rattle.std.specs.Cmp.Lexicographic.{slice_cmp, nat_list_cmp_total}
 use Rattle.std.specs.Ordering.{is_eq, nat_cmp, eq_by_cmp}
@@ -9,13 +9,13 @@ use Rattle.std.specs.FinMap.{get, insert, get-insert, slice_cmp-IsAntisymmetric,
 use Rattle.coding.specs.declared.error.DbError.{DbError}
 use Rattle.coding.specs.declared.error.DbError.TheVariants.{OutOfMemory, Io, Unsupported}
 use Rattle.filter.specs.Builder.{GivesUpOnly}
-use Rattle.store.specs.Files.{Facts, Files, Appends, AppendsBeginning}
-use Rattle.store.specs.Calls.{Counts, Changes}
+use Rattle.store.specs.Files.{Facts, Files, Synced, Appends, AppendsBeginning, with_synced}
+use Rattle.store.specs.Calls.{Counts, Changes, ChangesSynced, Keeps, KeepsSynced}
 use Rattle.store.specs.declared.error.StoreError.{StoreError}
 use Rattle.store.specs.declared.error.StoreError.TheVariants as store_error
 use Rattle.table.specs.Reading.{HasFile}
 use Rattle.table.specs.Steps.{Appended}
-use Rattle.table.specs.Writing.{KeepsOthers, Writes, WriteRefuses}
+use Rattle.table.specs.Writing.{KeepsOthers, SyncsOnly, Writes, WriteRefuses}
 
 -- ---- look-ups
 
@@ -42,10 +42,25 @@ same_others old new name is other apart = ap (λ (f : Files). get f other) is
 put_others : (old new : Files) (name bytes : List ℕ) → new ≡ insert old name bytes → KeepsOthers old new name
 put_others old new name bytes is other apart = ap (λ (f : Files). get f other) is ∙ get_other old name bytes other apart
 
+-- ---- what is synced
+
+same_synced : (old new : Synced) (name : List ℕ) → new ≡ old → SyncsOnly old new name
+same_synced old new name is other apart = ap (λ (s : Synced). s other) is
+
+synced_one : (old new : Synced) (name : List ℕ) (content : Option (List ℕ)) → new ≡ with_synced old name content → SyncsOnly old new name
+synced_one old new name content is other apart =
+    ap (λ (s : Synced). s other) is
+    ∙ other_at (eq_by_cmp (slice_cmp nat_cmp) other name) content (old other) (λ same. apart (slice_cmp-IsAntisymmetric nat_cmp-IsAntisymmetric other name (equal_of (slice_cmp nat_cmp other name) same)))
+
 -- ---- the store's calls
 
-writes : {T : Type 0} (old new : Facts) (name : List ℕ) (result : Result T StoreError) → Counts old new result → new.denials ≡ old.denials → (IsTrue new.faithful → KeepsOthers old.files new.files name) → Writes old new name
-writes old new name result counts undenied others = record { faithful = counts.faithful; failures = counts.failures; denials = undenied; others = others }
+-- what a call leaves beside the files: the denials, and the lock
+abbrev Undenied : Facts → Facts → Type 0
+Undenied old new = (new.denials ≡ old.denials) × (new.held ≡ old.held)
+
+writes : {T : Type 0} (old new : Facts) (name : List ℕ) (result : Result T StoreError) → Counts old new result → Undenied old new → (IsTrue new.faithful → KeepsOthers old.files new.files name)
+    → (IsTrue new.faithful → SyncsOnly old.synced new.synced name) → Writes old new name
+writes old new name result counts undenied others synced = record { faithful = counts.faithful; failures = counts.failures; denials = undenied.0; held = undenied.1; others = others; synced = synced }
 
 abbrev Made : List ℕ → Files → Files → Type 0
 Made name old new = new ≡ insert old name []
@@ -59,6 +74,9 @@ Longer name bytes old new = Appends old new name bytes
 abbrev MayBeLonger : List ℕ → List ℕ → Files → Files → Type 0
 MayBeLonger name bytes old new = AppendsBeginning old new name bytes
 
+abbrev Unsynced : List ℕ → Synced → Synced
+Unsynced name synced = with_synced synced name None
+
 abbrev done : Result (Unit {0}) StoreError
 done = Ok tt
 
@@ -70,19 +88,28 @@ longer_others : (old new : Files) (name bytes : List ℕ) → MayBeLonger name b
 longer_others old new name bytes (inl is) = same_others old new name is
 longer_others old new name bytes (inr some) = put_others old new name (some.1.0 ++ take some.0 bytes) some.1.2
 
-pub create_writes : (old new : Facts) (name : List ℕ) → Counts old new done → new.denials ≡ old.denials → Changes old new done (Made name) (MayBeMade name) → Writes old new name
-create_writes old new name counts undenied files = writes old new name done counts undenied (λ t. put_others old.files new.files name [] (files.ok t))
+pub create_writes : (old new : Facts) (name : List ℕ) → Counts old new done → Undenied old new → Changes old new done (Made name) (MayBeMade name)
+    → ChangesSynced old new done (Unsynced name) (Made name) → Writes old new name
+create_writes old new name counts undenied files synced =
+    writes old new name done counts undenied (λ t. put_others old.files new.files name [] (files.ok t)) (λ t. synced_one old.synced new.synced name None (synced.ok t))
 
 pub create_makes : (old new : Facts) (name : List ℕ) → Changes old new done (Made name) (MayBeMade name) → IsTrue new.faithful → HasFile new name []
 create_makes old new name files t = ap (λ (f : Files). get f name) (files.ok t) ∙ get_same old.files name []
 
-pub create_refused : (old new : Facts) (name : List ℕ) (e : StoreError) → Counts {T = Unit {0}} old new (Err e) → new.denials ≡ old.denials → Changes {T = Unit {0}} old new (Err e) (Made name) (MayBeMade name) → (e ≡ store_error.Missing → ⊥) → Writes old new name
-create_refused old new name store_error.Memory counts undenied files there = writes old new name _ counts undenied (λ t. same_others old.files new.files name (files.memory t refl))
-create_refused old new name store_error.Missing counts undenied files there = absurd (there refl)
-create_refused old new name store_error.Device counts undenied files there = writes old new name _ counts undenied (λ t. made_others old.files new.files name (files.device t refl))
+pub create_refused : (old new : Facts) (name : List ℕ) (e : StoreError) → Counts {T = Unit {0}} old new (Err e) → Undenied old new → Changes {T = Unit {0}} old new (Err e) (Made name) (MayBeMade name)
+    → ChangesSynced {T = Unit {0}} old new (Err e) (Unsynced name) (Made name) → (e ≡ store_error.Missing → ⊥) → Writes old new name
+create_refused old new name store_error.Memory counts undenied files synced there =
+    writes old new name _ counts undenied (λ t. same_others old.files new.files name (files.memory t refl)) (λ t. same_synced old.synced new.synced name (synced.memory t refl))
+create_refused old new name store_error.Missing counts undenied files synced there = absurd (there refl)
+create_refused old new name store_error.Device counts undenied files synced there =
+    writes old new name _ counts undenied (λ t. made_others old.files new.files name (files.device t refl)) (λ t. elim (synced.device t refl) [
+      | inl same ↦ same_synced old.synced new.synced name same.1
+      | inr made ↦ synced_one old.synced new.synced name None made.1
+    ])
 
-pub append_writes : (old new : Facts) (name bytes : List ℕ) → Counts old new done → new.denials ≡ old.denials → Changes old new done (Longer name bytes) (MayBeLonger name bytes) → Writes old new name
-append_writes old new name bytes counts undenied files = writes old new name done counts undenied (λ t. let a = files.ok t in put_others old.files new.files name (a.0 ++ bytes) a.2)
+pub append_writes : (old new : Facts) (name bytes : List ℕ) → Counts old new done → Undenied old new → Changes old new done (Longer name bytes) (MayBeLonger name bytes) → KeepsSynced old new → Writes old new name
+append_writes old new name bytes counts undenied files synced =
+    writes old new name done counts undenied (λ t. let a = files.ok t in put_others old.files new.files name (a.0 ++ bytes) a.2) (λ t. same_synced old.synced new.synced name (synced t))
 
 pub append_appends : (old new : Facts) (name bytes : List ℕ) → Changes old new done (Longer name bytes) (MayBeLonger name bytes) → Appended old new name bytes
 append_appends old new name bytes files t before there =
@@ -90,22 +117,41 @@ append_appends old new name bytes files t before there =
     let same : a.0 ≡ before = let e : Some a.0 ≡ Some before = sym a.1 ∙ there in cc in
     ap (λ (f : Files). get f name) a.2 ∙ get_same old.files name (a.0 ++ bytes) ∙ ap (λ (v : List ℕ). Some (v ++ bytes)) same
 
-pub append_refused : (old new : Facts) (name bytes : List ℕ) (e : StoreError) → Counts {T = Unit {0}} old new (Err e) → new.denials ≡ old.denials → Changes {T = Unit {0}} old new (Err e) (Longer name bytes) (MayBeLonger name bytes) → (e ≡ store_error.Missing → ⊥) → Writes old new name
-append_refused old new name bytes store_error.Memory counts undenied files there = writes old new name _ counts undenied (λ t. same_others old.files new.files name (files.memory t refl))
-append_refused old new name bytes store_error.Missing counts undenied files there = absurd (there refl)
-append_refused old new name bytes store_error.Device counts undenied files there = writes old new name _ counts undenied (λ t. longer_others old.files new.files name bytes (files.device t refl))
+pub append_refused : (old new : Facts) (name bytes : List ℕ) (e : StoreError) → Counts {T = Unit {0}} old new (Err e) → Undenied old new → Changes {T = Unit {0}} old new (Err e) (Longer name bytes) (MayBeLonger name bytes)
+    → KeepsSynced old new → (e ≡ store_error.Missing → ⊥) → Writes old new name
+append_refused old new name bytes store_error.Memory counts undenied files synced there =
+    writes old new name _ counts undenied (λ t. same_others old.files new.files name (files.memory t refl)) (λ t. same_synced old.synced new.synced name (synced t))
+append_refused old new name bytes store_error.Missing counts undenied files synced there = absurd (there refl)
+append_refused old new name bytes store_error.Device counts undenied files synced there =
+    writes old new name _ counts undenied (λ t. longer_others old.files new.files name bytes (files.device t refl)) (λ t. same_synced old.synced new.synced name (synced t))
+
+pub sync_writes : (old new : Facts) (name : List ℕ) → Counts old new done → Undenied old new → Keeps old new → (IsTrue new.faithful → new.synced ≡ with_synced old.synced name (get old.files name)) → Writes old new name
+sync_writes old new name counts undenied same synced =
+    writes old new name done counts undenied (λ t. same_others old.files new.files name (same t)) (λ t. synced_one old.synced new.synced name (get old.files name) (synced t))
+
+pub sync_keeps : (old new : Facts) (name : List ℕ) → Keeps old new → (IsTrue new.faithful → new.synced ≡ with_synced old.synced name (get old.files name)) → IsTrue new.faithful → new.synced name ≡ get new.files name
+sync_keeps old new name same synced t =
+    ap (λ (s : Synced). s name) (synced t)
+    ∙ ap (λ (b : Bool). cond b (get old.files name) (old.synced name)) (ap is_eq (tied_itself nat_list_cmp_total name))
+    ∙ ap (λ (f : Files). get f name) (sym (same t))
+
+pub sync_refused : (old new : Facts) (name : List ℕ) (e : StoreError) → Counts {T = Unit {0}} old new (Err e) → Undenied old new → Keeps old new → (IsTrue new.faithful → new.synced ≡ old.synced) → Writes old new name
+sync_refused old new name e counts undenied same synced =
+    writes old new name _ counts undenied (λ t. same_others old.files new.files name (same t)) (λ t. same_synced old.synced new.synced name (synced t))
 
 -- ---- one call after another
 
 pub writes_none : (old : Facts) (name : List ℕ) → Writes old old name
-writes_none old name = record { faithful = λ t. t; failures = omega arith; denials = refl; others = λ t other apart. refl }
+writes_none old name = record { faithful = λ t. t; failures = omega arith; denials = refl; held = refl; others = λ t other apart. refl; synced = λ t other apart. refl }
 
 pub writes_then : (a b c : Facts) (name : List ℕ) → Writes a b name → Writes b c name → Writes a c name
 writes_then a b c name h k = record {
   faithful = λ t. h.faithful (k.faithful t);
   failures = omega (arith, h.failures, k.failures);
   denials = k.denials ∙ h.denials;
+  held = k.held ∙ h.held;
   others = λ t other apart. k.others t other apart ∙ h.others (k.faithful t) other apart;
+  synced = λ t other apart. k.synced t other apart ∙ h.synced (k.faithful t) other apart;
 }
 
 pub refuses_more : (e : DbError) (old new : Facts) (P Q : Type 0) → (P → Q) → WriteRefuses e old new P → WriteRefuses e old new Q

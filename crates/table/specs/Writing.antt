@@ -9,7 +9,7 @@ use Rattle.coding.specs.declared.error.DbError.TheVariants.{OutOfMemory, Io, Uns
 use Rattle.filter.specs.Builder.{IsWritten}
 use Rattle.ikey.specs.Below.{IsBelowPlain}
 use Rattle.ikey.specs.Entries.{InternalEntry, Pair}
-use Rattle.store.specs.Files.{Files, Facts}
+use Rattle.store.specs.Files.{Files, Synced, Facts}
 use Rattle.table.specs.Building.{Building, AddsAllHashes, data_length, index_length}
 use Rattle.table.specs.Frame.{Frame, IsFrame, IsFooter, IsOversized, AnyLong, filter_name, handles}
 use Rattle.table.specs.Stored.{IsHandle, stored}
@@ -21,13 +21,19 @@ use Rattle.table.specs.Table.{IsFilled, ArePairs}
 abbrev pub KeepsOthers : Files → Files → List ℕ → Type 0
 KeepsOthers old new name = (other : List ℕ) → other ≢ name → get new other ≡ get old other
 
+-- but for the file of this name, what is synced is as before
+abbrev pub SyncsOnly : Synced → Synced → List ℕ → Type 0
+SyncsOnly old new name = (other : List ℕ) → other ≢ name → new other ≡ old other
+
 -- A call that writes this file alone: once a store has returned something else than what was written, that is so for
--- good; the failures don't fall, and the lock isn't asked for.
+-- good; the failures don't fall, and the lock is left alone.
 pub record Writes (old new : Facts) (name : List ℕ) : Type 0 where
   pub faithful : IsTrue new.faithful → IsTrue old.faithful
   pub failures : old.failures ≤ new.failures
   pub denials : new.denials ≡ old.denials
+  pub held : new.held ≡ old.held
   pub others : IsTrue new.faithful → KeepsOthers old.files new.files name
+  pub synced : IsTrue new.faithful → SyncsOnly old.synced new.synced name
 
 -- ---- refusals
 

@@ -1,13 +1,15 @@
 //! Writing a table file to a store.
 
-ghost use Rattle.std.specs.Prelude.{◌≡◌, [], List, IsTrue, IfErr, OnOk};
+ghost use Rattle.std.specs.Prelude.{◌≡◌, ◌<◌, [], List, IsTrue, IfErr, OnOk};
+ghost use Rattle.std.specs.FinMap.{get};
+ghost use Rattle.coding.specs.declared.error.DbError.TheVariants.{Io};
 ghost use Rattle.table.specs.Reading.{HasFile};
 ghost use Rattle.table.specs.Steps.{Appended};
 ghost use Rattle.table.specs.Writing.{Writes, WriteRefuses};
 
 use crate::reading::refusal;
 use coding::DbError;
-use store::Store;
+use store::{Store, StoreError};
 
 /// Creates the file, or empties the one that is there.
 pub fn create<S: Store>(store: &mut S, name: &str) -> Result<(), DbError>
@@ -32,5 +34,21 @@ pub fn append<S: Store>(store: &mut S, name: &str, bytes: &[u8]) -> Result<(), D
     match store.append(name, bytes) {
         Ok(()) => Ok(()),
         Err(e) => Err(refusal(e)),
+    }
+}
+
+/// Has the device keep the file of a table as it is now. Io where it fails.
+pub fn sync<S: Store>(store: &mut S, name: &str) -> Result<(), DbError>
+    ensures writes { Writes (S.facts store.old) (S.facts store.new) name.now }
+    ensures files { IsTrue (S.facts store.new).faithful → (S.facts store.new).files ≡ (S.facts store.old).files }
+    ensures synced { OnOk result (IsTrue (S.facts store.new).faithful → (S.facts store.new).synced name.now ≡ get (S.facts store.new).files name.now) }
+    ensures stood { OnOk result ((S.facts store.new).failures ≡ (S.facts store.old).failures) }
+    ensures refused { IfErr result (λ e. (e ≡ Io) × ((S.facts store.old).failures < (S.facts store.new).failures)) }
+{
+    match store.sync(name) {
+        Ok(()) => Ok(()),
+        Err(StoreError::Memory) => unreachable!(),
+        Err(StoreError::Missing) => unreachable!(),
+        Err(StoreError::Device) => Err(DbError::Io),
     }
 }

@@ -9,7 +9,7 @@ use Rattle.ikey.specs.Orders.{Order}
 use Rattle.edits.specs.Names.{name_of, IsNumbered}
 use Rattle.edits.specs.declared.field.PlacedTable.{PlacedTable}
 use Rattle.edits.specs.declared.names.FileName.TheVariants.{Table}
-use Rattle.table.specs.Writing.{KeepsOthers, Writes}
+use Rattle.table.specs.Writing.{KeepsOthers, SyncsOnly, Writes}
 use Rattle.versions.specs.Levels.{Placement}
 use Rattle.recover.specs.Logs.{LogContent}
 use Rattle.recover.specs.Directory.{Directory}
@@ -28,14 +28,24 @@ use Rattle.upkeep.proofs.TableFiles.{not_corrupt, unflushed, unflushed_yet}
 -- ---- which files change
 
 pub touches_table : (old new : Facts) (table manifest : List ℕ) → Writes old new table → FlushTouches old new table manifest
-touches_table old new table manifest w = record { faithful = w.faithful; failures = w.failures; denials = w.denials; others = λ f name apart other. w.others f name apart }
+touches_table old new table manifest w = record {
+  faithful = w.faithful;
+  failures = w.failures;
+  denials = w.denials;
+  held = w.held;
+  others = λ f name apart other. w.others f name apart;
+  synced = λ f name apart other. w.synced f name apart;
+}
 
-pub touches_both : (old mid new : Facts) (table manifest : List ℕ) → Writes old mid table → Touches mid new → (IsTrue new.faithful → KeepsOthers mid.files new.files manifest) → FlushTouches old new table manifest
-touches_both old mid new table manifest w t others = record {
+pub touches_both : (old mid new : Facts) (table manifest : List ℕ) → Writes old mid table → Touches mid new → (IsTrue new.faithful → KeepsOthers mid.files new.files manifest)
+    → (IsTrue new.faithful → SyncsOnly mid.synced new.synced manifest) → FlushTouches old new table manifest
+touches_both old mid new table manifest w t others synced = record {
   faithful = λ f. w.faithful (t.faithful f);
   failures = omega (arith, w.failures, t.failures);
   denials = t.denials ∙ w.denials;
+  held = t.held ∙ w.held;
   others = λ f name apart other. others f name other ∙ w.others (t.faithful f) name apart;
+  synced = λ f name apart other. synced f name other ∙ w.synced (t.faithful f) name apart;
 }
 
 pub syncs_both : {T E : Type 0} (mid new : Facts) (number n : ℕ) (manifest : List ℕ) (value : T) → number ≡ n → (IsTrue new.faithful → IsTrue mid.faithful)

@@ -11,7 +11,8 @@ use Rattle.store.specs.Calls.{Keeps, KeepsSynced, Changes, ChangesSynced}
 use Rattle.store.specs.declared.error.StoreError.{StoreError}
 use Rattle.store.specs.declared.error.StoreError.TheVariants as store_error
 use Rattle.recover.proofs.NamedFiles.{same_name}
-use Rattle.upkeep.specs.Calls.{Touches, SyncsOnly, IsRefusalOf, Creates, AppendsSynced}
+use Rattle.table.specs.Writing.{SyncsOnly}
+use Rattle.upkeep.specs.Calls.{Touches, IsRefusalOf, Creates, AppendsSynced}
 
 -- ---- what is known of any store
 

@@ -3,8 +3,9 @@ use Rattle.std.specs.Prelude.{◌≡◌, ◌≢◌, ◌⊎◌, ◌≤◌, ℕ, I
 use Rattle.std.specs.FinMap.{get, insert}
 use Rattle.coding.specs.declared.error.DbError.{DbError}
 use Rattle.coding.specs.declared.error.DbError.TheVariants.{OutOfMemory, Io}
-use Rattle.store.specs.Files.{Facts, Synced, Appends, AppendsBeginning}
+use Rattle.store.specs.Files.{Facts, Appends, AppendsBeginning}
 use Rattle.store.specs.declared.error.StoreError.{StoreError}
+use Rattle.table.specs.Writing.{SyncsOnly}
 use Rattle.store.specs.declared.error.StoreError.TheVariants as store_error
 
 -- Once a store has returned something else than what was written, that is so for good. The failures don't fall, and the
@@ -14,10 +15,6 @@ pub record Touches (old new : Facts) : Type 0 where
   pub failures : old.failures ≤ new.failures
   pub denials : new.denials ≡ old.denials
   pub held : new.held ≡ old.held
-
--- but for the file of this name, what is synced is as before
-abbrev pub SyncsOnly : Synced → Synced → List ℕ → Type 0
-SyncsOnly old new name = (other : List ℕ) → other ≢ name → new other ≡ old other
 
 -- The file of this name is as before, and what of it is synced.
 abbrev pub LeavesFile : Facts → Facts → List ℕ → Type 0

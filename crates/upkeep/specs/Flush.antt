@@ -41,12 +41,14 @@ abbrev pub DrawsTable : Facts → Facts → ℕ → ℕ → Type 0
 DrawsTable old new next after = ((after ≡ next) × (new ≡ old)) ⊎ ((after ≡ next + 1) × (0 < next) × (next < 2 ^ 62))
 
 -- Once a store has returned something else than what was written, that is so for good. The failures don't fall, and the
--- lock isn't asked for. But for the files of these names, all are as before.
+-- lock is left alone. But for the files of these names, all are as before, and what is synced of them.
 pub record FlushTouches (old new : Facts) (table manifest : List ℕ) : Type 0 where
   pub faithful : IsTrue new.faithful → IsTrue old.faithful
   pub failures : old.failures ≤ new.failures
   pub denials : new.denials ≡ old.denials
+  pub held : new.held ≡ old.held
   pub others : IsTrue new.faithful → (name : List ℕ) → name ≢ table → name ≢ manifest → get new.files name ≡ get old.files name
+  pub synced : IsTrue new.faithful → (name : List ℕ) → name ≢ table → name ≢ manifest → new.synced name ≡ old.synced name
 
 -- Why there is no version after an edit: out of memory, or since its tables don't fit in.
 abbrev pub RefusesVersion : DbError → Type 0 → Type 0

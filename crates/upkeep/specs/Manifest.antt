@@ -11,11 +11,10 @@ use Rattle.edits.specs.Names.{name_of}
 use Rattle.edits.specs.declared.field.Field.{Field}
 use Rattle.edits.specs.declared.layout.Layout.{Layout}
 use Rattle.edits.specs.declared.names.FileName.TheVariants.{Manifest}
-use Rattle.table.specs.Writing.{KeepsOthers}
+use Rattle.table.specs.Writing.{KeepsOthers, SyncsOnly}
 use Rattle.recover.specs.Directory.{HasManifest}
 use Rattle.recover.specs.Changes.{ManifestEndsAt}
 use Rattle.recover.specs.Numbers.{NamesBelow, IsFree}
-use Rattle.upkeep.specs.Calls.{SyncsOnly}
 
 -- The file of this name is the current MANIFEST, and ends at this position behind these edits. With one more they leave
 -- the layout `next`.

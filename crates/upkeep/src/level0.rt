@@ -2,7 +2,6 @@
 
 ghost use Rattle.std.specs.Prelude.{◌≡◌, ◌<◌, ◌≤◌, ◌^◌, ◌++◌, ◌∷◌, [], ℕ, List, Some, None, IsTrue, IsSome, IfOk, IfErr, OnOk, length};
 ghost use Rattle.std.specs.FinMap.{get};
-ghost use Rattle.coding.specs.declared.error.DbError.TheVariants.{Io};
 ghost use Rattle.edits.specs.Edit.{IsTableProper};
 ghost use Rattle.filter.specs.Builder.{GivesUpOnly};
 ghost use Rattle.ikey.specs.declared.entry.Entry.{Entry};
@@ -28,8 +27,8 @@ use edits::{FileName, TableFile, print_name};
 use ikey::KeyOrder;
 use memtable::{EntryRef, MemTable, Node, each_insert_stands};
 use std::alloc::{AllocError, Global};
-use store::{Store, StoreError};
-use table::TableBuilder;
+use store::Store;
+use table::{TableBuilder, sync};
 
 /// Writes all entries of a memory table, which has some, in internal order into the table file of this number, and has the
 /// device keep it. The answer is what an edit says of the table. A data block is ended by the entry with which it has
@@ -189,21 +188,5 @@ fn value_of(value: Option<&[u8]>) -> &[u8]
     match value {
         None => b"",
         Some(bytes) => bytes,
-    }
-}
-
-// Has the device keep the file.
-fn sync<S: Store>(store: &mut S, name: &str) -> Result<(), DbError>
-    ensures writes { Writes (S.facts store.old) (S.facts store.new) name.now }
-    ensures files { IsTrue (S.facts store.new).faithful → (S.facts store.new).files ≡ (S.facts store.old).files }
-    ensures synced { OnOk result (IsTrue (S.facts store.new).faithful → (S.facts store.new).synced name.now ≡ get (S.facts store.new).files name.now) }
-    ensures stood { OnOk result ((S.facts store.new).failures ≡ (S.facts store.old).failures) }
-    ensures refused { IfErr result (λ e. (e ≡ Io) × ((S.facts store.old).failures < (S.facts store.new).failures)) }
-{
-    match store.sync(name) {
-        Ok(()) => Ok(()),
-        Err(StoreError::Memory) => unreachable!(),
-        Err(StoreError::Missing) => unreachable!(),
-        Err(StoreError::Device) => Err(DbError::Io),
     }
 }

@@ -5,7 +5,8 @@ ghost use Rattle.ikey.specs.Orders.{Order};
 ghost use Rattle.edits.specs.Names.{name_of};
 ghost use Rattle.edits.specs.declared.names.FileName.TheVariants.{Log};
 ghost use Rattle.recover.specs.Reading.{IsCounted};
-ghost use Rattle.upkeep.specs.Calls.{Touches, SyncsOnly};
+ghost use Rattle.table.specs.Writing.{SyncsOnly};
+ghost use Rattle.upkeep.specs.Calls.{Touches};
 ghost use Rattle.upkeep.specs.LogFile.{DrawsLog, RefusesLog, BeginsLog};
 
 use crate::calls::create_file;

@@ -20,7 +20,7 @@ returns-in-Err-clause-leaves g c =
 pub returns-in-Ok-append_edit-clause-call : goal.returns-in-Ok-append_edit-clause-call
 returns-in-Ok-append_edit-clause-call g c =
     touches_both (g.S.Store.facts c.args.store.now) (g.S.Store.facts c.prepare.new.store) (g.S.Store.facts c.append_edit.new.store) (name_of (Table c.args.numbers.now.next)) (string_bytes c.args.manifest.now.name)
-    c.in-Ok.ensures.writes c.in-Ok-append_edit.ensures.call (c.in-Ok-append_edit.ensures.appends (order_of g.K.KeyOrder.name g.K.KeyOrder.cmp)).others
+    c.in-Ok.ensures.writes c.in-Ok-append_edit.ensures.call (c.in-Ok-append_edit.ensures.appends (order_of g.K.KeyOrder.name g.K.KeyOrder.cmp)).others c.in-Ok-append_edit.ensures.syncs.others
 
 pub returns-in-Ok-append_edit-clause-syncs : goal.returns-in-Ok-append_edit-clause-syncs
 returns-in-Ok-append_edit-clause-syncs g c =
@@ -39,7 +39,7 @@ returns-in-Ok-append_edit-clause-leaves g c =
 pub returns-in-Err-append_edit-clause-call : goal.returns-in-Err-append_edit-clause-call
 returns-in-Err-append_edit-clause-call g c =
     touches_both (g.S.Store.facts c.args.store.now) (g.S.Store.facts c.prepare.new.store) (g.S.Store.facts c.append_edit.new.store) (name_of (Table c.args.numbers.now.next)) (string_bytes c.args.manifest.now.name)
-    c.in-Ok.ensures.writes c.in-Err-append_edit.ensures.call (c.in-Err-append_edit.ensures.appends (order_of g.K.KeyOrder.name g.K.KeyOrder.cmp)).others
+    c.in-Ok.ensures.writes c.in-Err-append_edit.ensures.call (c.in-Err-append_edit.ensures.appends (order_of g.K.KeyOrder.name g.K.KeyOrder.cmp)).others c.in-Err-append_edit.ensures.syncs.others
 
 pub returns-in-Err-append_edit-clause-leaves : goal.returns-in-Err-append_edit-clause-leaves
 returns-in-Err-append_edit-clause-leaves g c =
