@@ -1,4 +1,5 @@
 mod Arriving
+mod Knowing
 mod Seeking
 mod Seen
 mod Views
