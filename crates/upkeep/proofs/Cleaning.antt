@@ -73,6 +73,7 @@ module _ (old new : Facts) (live : FileName → Type 0) (name : List ℕ) where
     files = λ f q. dead_or_same dead (files.ok f).1 (synced.ok f) q;
     all = λ f whole file is i. inr (ap (get new.files) (sym (named_here file i)) ∙ ap (λ (fs : Files). get fs name) (files.ok f).1 ∙ gone_from old.files name);
     unfailed = λ still. refl;
+    stood = λ whole. counts.unfailed (λ e. cc);
   }
   asked (Err store_error.Missing) dead counts files synced missing memory = absurd (missing refl)
   asked (Err store_error.Memory) dead counts files synced missing memory = absurd (memory refl)
@@ -83,6 +84,7 @@ module _ (old new : Facts) (live : FileName → Type 0) (name : List ℕ) where
     ];
     all = λ f whole. absurd (let clash : false ≡ true = whole in cc);
     unfailed = λ still. (let rise : old.failures < new.failures = counts.device refl in absurd (omega (arith, rise, still)));
+    stood = λ whole. absurd (let clash : false ≡ true = whole in cc);
   }
 
 module _ (facts : Facts) (live : FileName → Type 0) (name : List ℕ) where
@@ -94,6 +96,7 @@ module _ (facts : Facts) (live : FileName → Type 0) (name : List ℕ) where
     files = λ f. same_all;
     all = λ f whole other num i. inl (subst live (one_file file other is num (sym e ∙ named_here facts facts live name other i)) alive);
     unfailed = λ still. refl;
+    stood = λ whole. refl;
   }
 
 -- ---- one name after another
@@ -103,6 +106,7 @@ removes_none facts live = record {
   files = λ f q. inl (refl, refl);
   all = λ f whole file is i. absurd (in_none (name_of file) i);
   unfailed = λ still. refl;
+  stood = λ whole. refl;
 }
 
 both_true : (a b : Bool) → (a && b) ≡ true → (a ≡ true) × (b ≡ true)
@@ -139,6 +143,7 @@ module _ (old mid new : Facts) (live : FileName → Type 0) (before : Touches ol
         let early : mid.failures ≡ old.failures = omega (arith, before.failures, behind.failures, still) in
         let late : new.failures ≡ mid.failures = omega (arith, before.failures, behind.failures, still) in
         are_both a b (first.unfailed early) (next.unfailed late);
+    stood = λ whole. let both = both_true a b whole in next.stood both.1 ∙ first.stood both.0;
   }
 
 -- ---- the turns
@@ -170,6 +175,7 @@ module _ (live : FileName → Type 0) (has_older : ℕ → Type 0) where
     files = λ f q. gone_of old new false q (r.files f q);
     all = λ f whole. absurd (let clash : false ≡ true = whole in cc);
     unfailed = λ still. sym failed ∙ r.unfailed still;
+    stood = λ whole. absurd (let clash : false ≡ true = whole in cc);
   }
 
   module _ (old mid new : Facts) (names : List (List ℕ)) (before : Touches old mid) (behind : Touches mid new) (a b : Bool) (whole : a ≡ true)
@@ -200,6 +206,7 @@ module _ (live : FileName → Type 0) (has_older : ℕ → Type 0) where
         | inr gone ↦ inr (gone_later mid new (IsLeft live has_older true) (name_of file) (next.files f (name_of file)) gone)
       ];
       unfailed = λ still. next.unfailed (omega (arith, before.failures, behind.failures, still));
+      stood = λ done. next.stood done ∙ first.stood whole;
     }
 
 -- ---- what becomes of a table
@@ -441,6 +448,7 @@ module _ (live : FileName → Type 0) (old mid new : Facts) (names : List (List 
           | inr gone ↦ (let clash : false ≡ true = ap is_some (sym gone) ∙ there in absurd (cc))
         ];
     unfailed = λ still. r.unfailed (still ∙ sym unfailed);
+    stood = λ whole. r.stood whole ∙ unfailed;
     err = λ f. tt;
   }
 
@@ -449,6 +457,7 @@ removes_refused old new live e files synced = record {
   files = λ f q. inl (leaves old new q (files f) (synced f));
   all = λ f. tt;
   unfailed = tt;
+  stood = tt;
   err = λ f. (files f, synced f);
 }
 

@@ -34,17 +34,19 @@ abbrev pub IsDead : (FileName → Type 0) → List ℕ → Type 0
 IsDead live name = (file : FileName) × IsFileName file × (name ≡ name_of file) × (live file → ⊥)
 
 -- A file is as before, or isn't live and is gone. Where the removal is complete, none of these names is that of a file that is
--- there and isn't live; and it is complete where the store didn't fail.
+-- there and isn't live; and it is complete exactly where the store didn't fail.
 pub record Removes (old new : Facts) (live : FileName → Type 0) (names : List (List ℕ)) (complete : Bool) : Type 0 where
   pub files : IsTrue new.faithful → (name : List ℕ) → LeavesFile old new name ⊎ (IsDead live name × (get new.files name ≡ None))
   pub all : IsTrue new.faithful → IsTrue complete → (file : FileName) → IsFileName file → Contains names (name_of file) → live file ⊎ (get new.files (name_of file) ≡ None)
   pub unfailed : new.failures ≡ old.failures → IsTrue complete
+  pub stood : IsTrue complete → new.failures ≡ old.failures
 
 -- The same of all names of a directory. A refusal leaves all files.
 pub record RemovesDead (old new : Facts) (live : FileName → Type 0) (result : Result Removal DbError) : Type 0 where
   pub files : IsTrue new.faithful → (name : List ℕ) → LeavesFile old new name ⊎ (IsDead live name × (get new.files name ≡ None))
   pub all : IsTrue new.faithful → IfOk result (λ removal. IsTrue removal.complete → (file : FileName) → IsFileName file → contains_key new.files (name_of file) ≡ true → live file)
   pub unfailed : IfOk result (λ removal. new.failures ≡ old.failures → IsTrue removal.complete)
+  pub stood : IfOk result (λ removal. IsTrue removal.complete → new.failures ≡ old.failures)
   pub err : IsTrue new.faithful → OnErr result ((new.files ≡ old.files) × (new.synced ≡ old.synced))
 
 -- The files of a table, by both names, are as before; or it isn't in use, and reads as before or is gone.
