@@ -60,6 +60,12 @@ pub record ListsUnused (old new : Facts) (in_use : ℕ → Type 0) (numbers : Li
   pub unused : (n : ℕ) → Contains numbers n → in_use n → ⊥
   pub all : IsTrue new.faithful → (n : ℕ) → IsNumbered n → (in_use n → ⊥) → IsSome (table_at old.files n) → Contains numbers n
 
+-- Why the files aren't listed.
+abbrev pub RefusesList : DbError → Facts → Facts → Type 0
+RefusesList OutOfMemory old new = new.failures ≡ old.failures
+RefusesList Io old new = old.failures < new.failures
+RefusesList e old new = ⊥
+
 -- ---- by the names that are listed
 
 -- the number of a table, by its older name
@@ -93,20 +99,14 @@ abbrev pub HasTwo : (ℕ → Type 0) → FileName → Type 0
 HasTwo has_older (Table n) = has_older n
 HasTwo has_older file = ⊥
 
--- such a file has the last turn, and all others the first
+-- the file has the other turn than this: such files have the last one, and all others the first
 abbrev pub HasOtherTurn : (ℕ → Type 0) → Bool → FileName → Type 0
 HasOtherTurn has_older true file = HasTwo has_older file → ⊥
 HasOtherTurn has_older false file = HasTwo has_older file
 
--- what stays at a turn: what is live, and what has the other one
+-- what stays in a turn: what is live, and what has the other one
 abbrev pub IsLeft : (FileName → Type 0) → (ℕ → Type 0) → Bool → FileName → Type 0
 IsLeft live has_older last file = live file ⊎ HasOtherTurn has_older last file
-
--- Why the files aren't listed.
-abbrev pub RefusesList : DbError → Facts → Facts → Type 0
-RefusesList OutOfMemory old new = new.failures ≡ old.failures
-RefusesList Io old new = old.failures < new.failures
-RefusesList e old new = ⊥
 
 -- ---- what it leaves of the meaning
 
