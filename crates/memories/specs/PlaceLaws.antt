@@ -74,11 +74,13 @@ sealed_kept : (old new : Memories) (sealed : Option ℕ) → ((generation : ℕ)
 sealed_kept old new None same = refl
 sealed_kept old new (Some generation) same = inserts_kept (older_at old.older generation) (older_at new.older generation) (same generation)
 
--- and the entries of the logs are the same
+-- the entries of the sealed table are the same
+pub left_sealed : (old new : Memories) → LeavesMemories old new → sealed_inserts new ≡ sealed_inserts old
+left_sealed old new left = ap (λ (o : Option ℕ). inserts_of (option_and_then (older_at new.older) o)) left.sealed ∙ sealed_kept old new old.sealed left.older
+
+-- and so are those of the logs
 pub left_logged : (old new : Memories) → LeavesMemories old new → logged_in new ≡ logged_in old
-left_logged old new left =
-    let sealed : sealed_inserts new ≡ sealed_inserts old = ap (λ (o : Option ℕ). inserts_of (option_and_then (older_at new.older) o)) left.sealed ∙ sealed_kept old new old.sealed left.older in
-    λ i. sealed i ++ left.inserts i
+left_logged old new left = λ i. left_sealed old new left i ++ left.inserts i
 
 -- A batch is added behind them.
 pub written_logged : (old new : Memories) (more : List Entry) → IsWritten old new more → logged_in new ≡ logged_in old ++ more

@@ -146,6 +146,7 @@ module _ {K : Type 0} {g : Ghosts K} {S : Type 0} (cmp : Cmp) (whole_of : S → 
       };
       memory = stays.left.memory;
       reads = stays.reads;
+      carries = stays.left.carries;
       still = still;
       stayed = stayed;
       left = left;

@@ -16,7 +16,7 @@ use Rattle.scans.specs.declared.scan.Scan.{Scan}
 use Rattle.scans.specs.Places.{source_stands}
 use Rattle.scans.specs.Scans.{IsScan, IsScanLimited, IsOnePastLimit, KeepsScan, KeepsUpTo, tables_of}
 use Rattle.scans.specs.Whole.{Whole}
-use Rattle.sources.specs.Tables.{IsSound}
+use Rattle.sources.specs.Tables.{Carries, IsSound}
 use Rattle.table.specs.Reading.{Reads, IsStill}
 
 -- the pair on which it stands is at hand
@@ -39,6 +39,7 @@ pub record IsScanned {K : Type 0} {g : _} (cmp : Cmp) (to : Walked → Option �
   pub keeps : IsTrue after.seen.facts.faithful → (sequence : ℕ) → KeepsUpTo cmp sequence before after
   pub memory : LeavesMemories before.memory after.memory
   pub reads : Reads before.seen.facts after.seen.facts
+  pub carries : Carries cmp before.seen after.seen
   pub still : IsStill before.seen.facts after.seen.facts result
   -- whatever it was
   pub stayed : OnErr result ((new.walk.stands ≡ old.walk.stands) × (new.walk.here.key.items ≡ old.walk.here.key.items))
