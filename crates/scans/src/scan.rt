@@ -32,6 +32,7 @@ impl<K: KeyOrder> Scan<K> {
     ghost use Rattle.scans.specs.Scanning.{IsScanned, ReadsAs, ScanIsKept, ScanPastLimit, TakesBack, has_pair};
     ghost use Rattle.scans.specs.Scans.{BeginsScan, IsScan, reads_memory, tables_of};
     ghost use Rattle.scans.specs.Whole.{whole};
+    ghost use Rattle.versions.specs.Keeping as versions;
 
     /// A scan over what the entries of the memory tables and of a version's tables put up to a sequence, up to the last one
     /// that is used. It stands nowhere; nothing is read, and no table is opened.
@@ -169,6 +170,13 @@ impl<K: KeyOrder> Scan<K> {
         ensures { MatchBool result (reads_memory self.now generation) (reads_memory self.now generation → ⊥) }
     {
         generation == self.generation || self.sealed == Some(generation)
+    }
+
+    /// Whether its version has the table of this number.
+    pub fn has_table(&self, number: u64) -> bool
+        ensures { MatchBool result (versions.HasNumber number (tables_of self.now)) (versions.HasNumber number (tables_of self.now) → ⊥) }
+    {
+        self.version.has_number(number)
     }
 
     /// A scan stays where it is while what it reads is kept.
