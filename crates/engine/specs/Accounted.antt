@@ -8,8 +8,8 @@ abbrev pub entry_weight : Entry → ℕ
 entry_weight entry = length entry.key + length (unwrap_or entry.value []) + 64
 
 -- The entries are some of at most so many, which weigh no more than this.
-pub record AreAccounted (entries : List Entry) (count weight : ℕ) : Type 0 where
+pub record AreAccounted (entries : List Entry) (most_entries most_weight : ℕ) : Type 0 where
   pub all : List Entry
   pub within : (entry : Entry) → Among entries entry → Among all entry
-  pub count : length all ≤ count
-  pub weight : sum_by entry_weight all ≤ weight
+  pub count : length all ≤ most_entries
+  pub weight : sum_by entry_weight all ≤ most_weight
