@@ -1,5 +1,5 @@
 -- What an open has before its database is made, and what it leaves of the directory (LevelDB's db/db_impl.cc, DB::Open).
-use Rattle.std.specs.Prelude.{◌≡◌, ◌⊎◌, ◌<◌, ◌≤◌, ◌+◌, ◌^◌, ℕ, true, IsTrue, List, [], map, string_bytes}
+use Rattle.std.specs.Prelude.{◌≡◌, ◌⊎◌, ◌<◌, ◌≤◌, ◌+◌, ◌^◌, ℕ, true, IsTrue, None, List, [], map, string_bytes}
 use Rattle.std.specs.FinMap.{contains_key}
 use Rattle.coding.specs.declared.error.DbError.{DbError}
 use Rattle.coding.specs.declared.error.DbError.TheVariants.{OutOfMemory, Io}
@@ -8,15 +8,22 @@ use Rattle.ikey.specs.Orders.{Order}
 use Rattle.ikey.specs.declared.entry.Entry.{Entry}
 use Rattle.edits.specs.Names.{name_of}
 use Rattle.edits.specs.declared.names.FileName.TheVariants.{Current, Log}
-use Rattle.memories.specs.Memories.{logged_in}
+use Rattle.memories.specs.Memories.{Memories, logged_in, sealed_inserts}
+use Rattle.recover.specs.Numbers.{IsFree}
 use Rattle.recover.specs.Tables.{TableContent}
 use Rattle.versions.specs.Levels.{Lists, AreInOrder}
 use Rattle.engine.specs.declared.command.Mode.{Mode}
 use Rattle.engine.specs.declared.opening.Begun.{Begun}
-use Rattle.recover.specs.Numbers.{IsFree}
 use Rattle.engine.specs.Directory.{IsDirectoryOf, CanAppend}
 use Rattle.engine.specs.Knowing.{HasLogs, KnowsDirectory}
 use Rattle.engine.specs.Opening.{AllowsFiles}
+
+-- The memory has these entries, sealed where there are some, and this last sequence.
+pub record IsSealedOf (memory : Memories) (entries : List Entry) (used : ℕ) : Type 0 where
+  pub sealed : sealed_inserts memory ≡ entries
+  pub unsealed : entries ≡ [] → memory.sealed ≡ None
+  pub current : memory.current.inserts ≡ []
+  pub last : memory.last ≡ used
 
 -- Over any store: the log is an empty one under its name, the tables are in order, and the sequences fit.
 pub record IsBegun {K : Type 0} (order : Order) (begun : Begun K) : Type 0 where
