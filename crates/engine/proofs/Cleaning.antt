@@ -17,7 +17,8 @@ use Rattle.recover.specs.Directory.{Directory, IsConsistent}
 use Rattle.recover.specs.Laws.{OneDirectoryLaw}
 use Rattle.recover.specs.Tables.{InTables, TableContent}
 use Rattle.recover.proofs.Adding.{table_of}
-use Rattle.scans.specs.Scans.{HasNumber, KeepsScan, tables_of}
+use Rattle.rows.specs.InRows.{HasNumber}
+use Rattle.scans.specs.Scans.{KeepsScan, tables_of}
 use Rattle.scans.specs.Scanning.{ScanIsKept}
 use Rattle.scans.specs.Whole.{Whole}
 use Rattle.scans.specs.declared.scan.Scan.{Scan}

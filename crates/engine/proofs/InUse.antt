@@ -4,7 +4,7 @@ use Rattle.std.specs.Prelude.{Any}
 use Rattle.std.specs.BTreeMap.{BTreeMap}
 use Rattle.std.specs.Map.{lookup}
 use Rattle.edits.specs.declared.field.PlacedTable.{PlacedTable}
-use Rattle.scans.specs.Scans as scans
+use Rattle.rows.specs.InRows as rows
 use Rattle.scans.specs.Scans.{reads_memory, tables_of}
 use Rattle.scans.specs.declared.scan.Scan.{Scan}
 use Rattle.versions.specs.Keeping as versions
@@ -26,13 +26,13 @@ module _ {K : Type 0} {g : _} (tables : List PlacedTable) (iterators : BTreeMap 
   pub any_iterator : (P : Scan K g → Type 0) (id : ℕ) (scan : Scan K g) → kept_at iterators id ≡ Some scan → P scan → AnyIterator iterators P
   any_iterator P id scan there h = any_found _ (λ entry. P entry.1) iterators.entries scan there (λ key. h)
 
-  as_used : (placed_in : List PlacedTable) (number : ℕ) → scans.HasNumber placed_in number → versions.HasNumber number placed_in
+  as_used : (placed_in : List PlacedTable) (number : ℕ) → rows.HasNumber placed_in number → versions.HasNumber number placed_in
   as_used placed_in number (placed, (k, lt, e), is) = (k, placed, lt, e, is)
 
-  pub table_used : (number : ℕ) → scans.HasNumber tables number → IsTableUsed tables iterators number
+  pub table_used : (number : ℕ) → rows.HasNumber tables number → IsTableUsed tables iterators number
   table_used number has = inl (as_used tables number has)
 
-  pub read_used : (id : ℕ) (scan : Scan K g) (number : ℕ) → kept_at iterators id ≡ Some scan → scans.HasNumber (tables_of scan) number → IsTableUsed tables iterators number
+  pub read_used : (id : ℕ) (scan : Scan K g) (number : ℕ) → kept_at iterators id ≡ Some scan → rows.HasNumber (tables_of scan) number → IsTableUsed tables iterators number
   read_used id scan number there has = inr (any_iterator (λ one. versions.HasNumber number (tables_of one)) id scan there (as_used (tables_of scan) number has))
 
   pub memory_used : (id : ℕ) (scan : Scan K g) (generation : ℕ) → kept_at iterators id ≡ Some scan → reads_memory scan generation → IsMemoryUsed iterators generation

@@ -10,7 +10,8 @@ use Rattle.cursor.specs.Views.{Walked}
 use Rattle.cursor.specs.Walks.{key_before}
 use Rattle.scans.specs.Pairs.{pair_on}
 use Rattle.scans.specs.Scanning.{IsScanned, ReadsAs, TakesBack}
-use Rattle.scans.specs.Scans.{HasNumber, IsOnePastLimit, IsScan, IsScanLimited, reads_table, tables_of}
+use Rattle.rows.specs.InRows.{HasNumber}
+use Rattle.scans.specs.Scans.{IsOnePastLimit, IsScan, IsScanLimited, reads_table, tables_of}
 use Rattle.scans.specs.Whole.{Whole}
 use Rattle.scans.specs.declared.scan.Scan.{Scan}
 use Rattle.store.specs.Files.{Facts}

@@ -14,7 +14,8 @@ use Rattle.reads.specs.Gets.{IsTooLong}
 use Rattle.cache.specs.Tables.{table_at}
 use Rattle.recover.proofs.Memberships.{one_of_tables}
 use Rattle.recover.specs.Tables.{HasTable, InTables, TableContent, tabled}
-use Rattle.scans.specs.Scans.{BeginsScan, HasNumber, reads_table, tables_of}
+use Rattle.rows.specs.InRows.{HasNumber}
+use Rattle.scans.specs.Scans.{BeginsScan, reads_table, tables_of}
 use Rattle.scans.specs.declared.scan.Scan.{Scan}
 use Rattle.search.specs.Laws.{VersionLaw}
 use Rattle.search.specs.Places.{table_sources}

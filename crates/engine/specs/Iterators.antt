@@ -6,7 +6,8 @@ use Rattle.cursor.specs.Views.{Walked, walk_first, walk_last, walk_to, walk_next
 use Rattle.scans.specs.Pairs.{ArePairs, listed_pair}
 use Rattle.cache.specs.Tables.{table_at}
 use Rattle.edits.specs.Names.{IsNumbered}
-use Rattle.scans.specs.Scans.{HasNumber, IsOnePastLimit, IsScan, reads_table, tables_of}
+use Rattle.rows.specs.InRows.{HasNumber}
+use Rattle.scans.specs.Scans.{IsOnePastLimit, IsScan, reads_table, tables_of}
 use Rattle.scans.specs.Whole.{Whole}
 use Rattle.scans.specs.declared.scan.Scan.{Scan}
 use Rattle.engine.specs.Machine.{Walk}
