@@ -57,13 +57,13 @@ abbrev pub moved_on : Result (Unit {0}) DbError
 moved_on = Ok tt
 
 module _ {C H S : Type 0} (cmp : Cmp) (deep : List ℕ → Bool) (facts : S → Facts) (store_of : H → S) (with_store : H → S → H) (facts_of : H → Facts)
-    (lists : C → H → Listed → Type 0) (keeps : C → H → H → Type 0) (limited : C → H → Type 0) (leaves : H → H → Type 0)
+    (lists : C → H → Listed → Type 0) (keeps : C → H → H → Type 0) (limited : C → H → Type 0) (leaves : H → H → Type 0) (goes_over : C → ℕ → Type 0)
     (are : (h : H) → facts_of h ≡ facts (store_of h)) (replaced : (h : H) (s : S) → store_of (with_store h s) ≡ s)
     (kept : (cursor : C) (old new : H) (at : Listed) → keeps cursor old new → lists cursor old at → lists cursor new at) where
   -- after the outputs were written, the cursor lists what it listed
   pub still-lists : (cursor moved : C) (source : H) (held store : S) (after : H) (mine : ℕ → Type 0) (at : Listed)
       → held ≡ store_of source → WritesTables (facts held) (facts store) mine → ReadsApart facts store_of with_store keeps cursor mine
-      → Stays facts_of keeps limited leaves cursor moved (with_store source store) after
+      → Stays facts_of keeps limited leaves goes_over cursor moved (with_store source store) after
       → IsTrue (facts (store_of after)).faithful → lists cursor source at → lists cursor (with_store source store) at
   still-lists cursor moved source held store after mine at is writes apart stays t h =
       let t_after : IsTrue (facts_of after).faithful = subst (λ (f : Facts). IsTrue f.faithful) (sym (are after)) t in
@@ -74,7 +74,7 @@ module _ {C H S : Type 0} (cmp : Cmp) (deep : List ℕ → Bool) (facts : S → 
   pub moves-on : (cursor moved : C) (source : H) (held store : S) (after : H) (mine : ℕ → Type 0) (came : List InternalEntry) (entry : InternalEntry) (rest : List InternalEntry)
       → held ≡ store_of source → WritesTables (facts held) (facts store) mine → ReadsApart facts store_of with_store keeps cursor mine
       → Moves facts_of lists cursor moved (with_store source store) after moved_on to_next
-      → Stays facts_of keeps limited leaves cursor moved (with_store source store) after
+      → Stays facts_of keeps limited leaves goes_over cursor moved (with_store source store) after
       → IsTrue (facts (store_of after)).faithful → HasPassed lists cursor source came (entry ∷ rest) → HasPassed lists moved after (came ++ entry ∷ []) rest
   moves-on cursor moved source held store after mine came entry rest is writes apart moves stays t h =
       let t_after : IsTrue (facts_of after).faithful = subst (λ (f : Facts). IsTrue f.faithful) (sym (are after)) t in
@@ -84,14 +84,14 @@ module _ {C H S : Type 0} (cmp : Cmp) (deep : List ℕ → Bool) (facts : S → 
       passed-more lists moved after came entry rest (moves t_after at (kept cursor source (with_store source store) at (apart source store t_store writes_held) h))
 
   pub writes-move : (cursor moved : C) (source : H) (held store : S) (after : H) (mine : ℕ → Type 0) → held ≡ store_of source → WritesTables (facts held) (facts store) mine
-      → Stays facts_of keeps limited leaves cursor moved (with_store source store) after → Reads (facts store) (facts (store_of after))
+      → Stays facts_of keeps limited leaves goes_over cursor moved (with_store source store) after → Reads (facts store) (facts (store_of after))
   writes-move cursor moved source held store after mine is writes stays =
       subst (λ (s : S). Reads (facts s) (facts (store_of after))) (replaced source store) (reads-held facts store_of facts_of are (with_store source store) after stays.reads)
 
   pub job-step : (last over : List ℕ) (cursor moved : C) (c e : Choosing) (w u : Written) (source : H) (held store : S) (after : H) (next more : ℕ) (came : List InternalEntry) (entry : InternalEntry) (rest : List InternalEntry) (choice : Choice)
       → held ≡ store_of source → WritesTables (facts held) (facts store) (IsMine w next) → KeepsMine w next u more
       → Moves facts_of lists cursor moved (with_store source store) after moved_on to_next
-      → Stays facts_of keeps limited leaves cursor moved (with_store source store) after
+      → Stays facts_of keeps limited leaves goes_over cursor moved (with_store source store) after
       → IsTrue (facts (store_of after)).faithful
       → IsKey over entry.key
       → ((last_key : Key) (x : Entry) → IsKey last last_key → IsUpTo cmp x last_key → Precedes cmp x (entry_of entry))
@@ -123,14 +123,14 @@ module _ {K C H S : Type 0} (cmp : Cmp) (deep : List ℕ → Bool) (facts : S �
 
 -- ---- a job begins
 
-pub starts : {C H S : Type 0} (cmp : Cmp) (deep : List ℕ → Bool) (facts : S → Facts) (store_of : H → S) (with_store : H → S → H) (facts_of : H → Facts) (lists : C → H → Listed → Type 0) (keeps : C → H → H → Type 0) (limited : C → H → Type 0) (leaves : H → H → Type 0)
+pub starts : {C H S : Type 0} (cmp : Cmp) (deep : List ℕ → Bool) (facts : S → Facts) (store_of : H → S) (with_store : H → S → H) (facts_of : H → Facts) (lists : C → H → Listed → Type 0) (keeps : C → H → H → Type 0) (limited : C → H → Type 0) (leaves : H → H → Type 0) (goes_over : C → ℕ → Type 0)
     → ((h : H) → facts_of h ≡ facts (store_of h)) → (last : List ℕ) (cursor moved : C) (c : Choosing) (w : Written) (source after : H) (next : ℕ) (at : Listed)
     → w ≡ record { closed = []; at_hand = None } → last ≡ []
     → Chooses cmp deep c [] [] → HasWritten cmp w (facts (store_of after)) next []
-    → Moves facts_of lists cursor moved source after moved_on to_first → Stays facts_of keeps limited leaves cursor moved source after
+    → Moves facts_of lists cursor moved source after moved_on to_first → Stays facts_of keeps limited leaves goes_over cursor moved source after
     → IsTrue (facts (store_of after)).faithful → lists cursor source at → ReadsApart facts store_of with_store keeps cursor (λ number. next ≤ number)
     → IsJob cmp deep facts store_of with_store lists keeps last moved c w after next [] at.entries
-starts cmp deep facts store_of with_store facts_of lists keeps limited leaves are last cursor moved c w source after next at none empty chooses written moves stays t h apart = record {
+starts cmp deep facts store_of with_store facts_of lists keeps limited leaves goes_over are last cursor moved c w source after next at none empty chooses written moves stays t h apart = record {
   merging = merging-none cmp deep last c w (facts (store_of after)) next empty chooses written;
   left = moves (subst (λ (f : Facts). IsTrue f.faithful) (sym (are after)) t) at h;
   apart = apart-on facts store_of with_store keeps cursor moved (λ number. next ≤ number) (IsMine w next) (λ n is. mine-next w next n none is) stays.same apart;

@@ -56,6 +56,8 @@ impl<K: KeyOrder, S: Store> Cursor<K, Alone<S>> for InMemory<K> {
 
     ghost leaves = { λ old new. old ≡ new };
 
+    ghost over = { λ cursor number. ⊥ };
+
     fn first(&mut self, alloc: Global, source: &mut Alone<S>) -> Result<(), DbError> {
         self.list.first(alloc, &mut source.store)
     }

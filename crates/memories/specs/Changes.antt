@@ -13,7 +13,9 @@ pub record IsSealed (old new : Memories) : Type 0 where
   pub current : new.current ≡ record { inserts = []; entry_room = 0; byte_room = 0 }
   pub last : new.last ≡ old.last
   pub generation : new.generation ≡ old.generation + 1
+  pub unsealed : old.sealed ≡ None
   pub sealed : new.sealed ≡ Some old.generation
+  pub vacant : older_at old.older old.generation ≡ None
   pub kept : older_at new.older old.generation ≡ Some old.current
   pub others : (generation : ℕ) → generation ≢ old.generation → older_at new.older generation ≡ older_at old.older generation
   pub fresh : table_in old new.generation ≡ None

@@ -52,7 +52,7 @@ impl<K: KeyOrder> MemoryTables<K> {
     ghost use Rattle.ikey.specs.Keys.{Key, IsKey};
     ghost use Rattle.ikey.specs.Sources.{IsAnswer};
     ghost use Rattle.memories.specs.Changes.{IsFlushed, IsRemembered, IsSealed, IsUsed, IsWritten, KeepsUsed};
-    ghost use Rattle.memories.specs.Memories.{AreMemories, HasRoom, IsAlone, logged_in, operation_bytes, sealed_in, sealed_inserts, table_in};
+    ghost use Rattle.memories.specs.Memories.{AreMemories, HasRoom, IsAlone, Memories, logged_in, operation_bytes, sealed_in, sealed_inserts, table_in};
     ghost use Rattle.memories.specs.Places.{LeavesMemories, ListsTable, StaysInMemories};
     ghost use Rattle.memtable.specs.Contents.{size_of};
     ghost use Rattle.recover.specs.Entries.{RiseAbove, greatest, entry_of, entries_of};
@@ -211,6 +211,29 @@ impl<K: KeyOrder> MemoryTables<K> {
                 self.current = table;
                 Err(AllocError)
             }
+        }
+    }
+
+    /// Takes a seal back, behind which nothing was written: the sealed table is the current one again. It takes no memory.
+    /// Where something was written behind it, or no table is sealed, nothing happens.
+    pub fn unseal(&mut self)
+        ensures left { (before : Memories) → IsSealed before self.old → LeavesMemories before self.new }
+        ensures last { self.new.last ≡ self.old.last }
+        ensures logged { logged_in self.new ≡ logged_in self.old }
+    {
+        let Some(generation) = self.sealed else {
+            return;
+        };
+        if generation.checked_add(1) != Some(self.generation) {
+            return;
+        }
+        if !self.is_empty() {
+            return;
+        }
+        if let Some(table) = self.older.remove(&generation) {
+            self.current = table;
+            self.generation = generation;
+            let _ = self.sealed.take();
         }
     }
 

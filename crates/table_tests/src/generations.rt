@@ -263,6 +263,34 @@ fn a_sealed_table_leaves_an_empty_one(rt: HostRuntime) {
     assert_eq!(rt; counts(rt.alloc()), Ok(true));
 }
 
+// Whether a cursor reads on through a seal that is taken back, and another seal, behind which something is written, stays.
+fn takes_a_seal_back(alloc: Global) -> Result<bool, DbError> {
+    let mut memories = MemoryTables::empty(alloc);
+    write(&mut memories, alloc, &FIRST)?;
+    let mut cursor = MemoriesCursor::new(alloc, 0, 2);
+    cursor.begins(&memories);
+    cursor.first(alloc, &mut memories)?;
+    seal(&mut memories, alloc)?;
+    memories.unseal();
+    let back = memories.generation() == 0 && memories.sealed_generation().is_none();
+    if !back || !shows(&mut cursor, alloc, &mut memories, &FIRST_PAIRS)? {
+        return Ok(false);
+    }
+    seal(&mut memories, alloc)?;
+    write(&mut memories, alloc, &SECOND)?;
+    memories.unseal();
+    Ok(
+        finds(&memories, alloc, &WHILE_SEALED)?
+            && walks(&mut memories, alloc, 0, 2, &FIRST_PAIRS)?
+            && walks(&mut memories, alloc, 1, 5, &SECOND_PAIRS)?,
+    )
+}
+
+#[test]
+fn a_seal_is_taken_back(rt: HostRuntime) {
+    assert_eq!(rt; takes_a_seal_back(rt.alloc()), Ok(true));
+}
+
 #[test]
 fn laws_hold(rt: HostRuntime) {
     changes_are_kept::<Bytewise>();

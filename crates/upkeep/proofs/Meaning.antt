@@ -1,5 +1,5 @@
 -- What the removal of files that aren't live leaves of the meaning.
-use Rattle.std.proofs.Common.{◌≡◌, ◌⊎◌, ℕ, Bool, true, false, List, Option, Some, None, is_some, Result, IsTrue, inl, inr, refl, sym, ap, subst, ◌∙◌, arith}
+use Rattle.std.proofs.Common.{◌≡◌, ◌⊎◌, ℕ, true, false, List, Some, None, is_some, Result, IsTrue, inl, inr, sym, ap, subst, ◌∙◌, arith}
 use Rattle.std.specs.Option.{option_or}
 use Rattle.std.specs.FinMap.{get, contains_key}
 use Rattle.ikey.specs.Orders.{Order}
@@ -22,36 +22,25 @@ use Rattle.recover.proofs.Adding.{last_in, table_of}
 use Rattle.recover.proofs.Keeping.{keep_manifest, live_of}
 use Rattle.recover.proofs.NewLogs.{log_there}
 use Rattle.upkeep.specs.Calls.{LeavesFile}
-use Rattle.upkeep.specs.Removal.{IsLiveIn, IsDead, RemovesDead, AreNumbersOf, KeepsParts}
-
-first_there : (a b x y : Option (List ℕ)) → a ≡ b → is_some b ≡ true → option_or a x ≡ option_or b y
-first_there (Some v) (Some w) x y e some = e
-first_there (Some v) None x y e some = cc
-first_there None (Some w) x y e some = cc
-first_there None None x y e some = cc
+use Rattle.upkeep.specs.Removal.{IsLiveFile, IsDead, RemovesDead, AreNumbersOf, KeepsParts}
+use Rattle.upkeep.specs.declared.removal.Removal.{Removal}
 
 -- each file is as before, or isn't live and is gone
 abbrev pub StaysOrGoes : Files → Files → (FileName → Type 0) → Type 0
 StaysOrGoes old new live = (name : List ℕ) → (get new name ≡ get old name) ⊎ (IsDead live name × (get new name ≡ None))
 
-module _ (order : Order) (numbers : LiveNumbers) (in_use : ℕ → Type 0) (old new : Files) (change : StaysOrGoes old new (IsLiveIn numbers in_use old)) where
-  live_kept : (file : FileName) → IsFileName file → IsLiveIn numbers in_use old file → get new (name_of file) ≡ get old (name_of file)
+module _ (order : Order) (numbers : LiveNumbers) (in_use : ℕ → Type 0) (old new : Files) (change : StaysOrGoes old new (IsLiveFile numbers in_use)) where
+  live_kept : (file : FileName) → IsFileName file → IsLiveFile numbers in_use file → get new (name_of file) ≡ get old (name_of file)
   live_kept file is alive = elim (change (name_of file)) [
     | inl same ↦ same
-    | inr dead ↦ absurd (dead.0.3 (subst (IsLiveIn numbers in_use old) (one_file file dead.0.0 is dead.0.1 dead.0.2) alive))
+    | inr dead ↦ absurd (dead.0.3 (subst (IsLiveFile numbers in_use) (one_file file dead.0.0 is dead.0.1 dead.0.2) alive))
   ]
 
   table_kept : (n : ℕ) → IsNumbered n → in_use n → table_at new n ≡ table_at old n
-  table_kept n num used = by (contains_key old (name_of (Table n))) refl
-    where
-      newer : get new (name_of (Table n)) ≡ get old (name_of (Table n))
-      newer = live_kept (Table n) num used
-
-      by : (b : Bool) → contains_key old (name_of (Table n)) ≡ b → table_at new n ≡ table_at old n
-      by true there = first_there (get new (name_of (Table n))) (get old (name_of (Table n))) (get new (name_of (OldTable n))) (get old (name_of (OldTable n))) newer there
-      by false absent =
-          let older : get new (name_of (OldTable n)) ≡ get old (name_of (OldTable n)) = live_kept (OldTable n) num (used, λ there. (let clash : true ≡ false = sym there ∙ absent in absurd (cc))) in
-          λ i. option_or (newer i) (older i)
+  table_kept n num used =
+      let newer = live_kept (Table n) num used in
+      let older = live_kept (OldTable n) num used in
+      λ i. option_or (newer i) (older i)
 
   there_before : (q : List ℕ) → contains_key new q ≡ true → contains_key old q ≡ true
   there_before q there = elim (change q) [
@@ -123,7 +112,7 @@ stays_or_goes old new live files q = elim (files q) [
 ]
 
 -- what is left of the files keeps the parts
-pub keeps_meaning : (numbers : LiveNumbers) (in_use : ℕ → Type 0) (old new : Facts) (r : Result (Unit {0}) DbError) → RemovesDead old new (IsLiveIn numbers in_use old.files) r → FreeChangeLaw → IsTrue new.faithful
+pub keeps_meaning : (numbers : LiveNumbers) (in_use : ℕ → Type 0) (old new : Facts) (r : Result Removal DbError) → RemovesDead old new (IsLiveFile numbers in_use) r → FreeChangeLaw → IsTrue new.faithful
     → (order : Order) (d : Directory) → IsConsistent order old.files d → AreNumbersOf numbers in_use d → KeepsParts order old.files new.files in_use d
 keeps_meaning numbers in_use old new r removes law f order d h are =
-    keeps_parts order numbers in_use old.files new.files (stays_or_goes old new (IsLiveIn numbers in_use old.files) (removes.files f)) d h are law
+    keeps_parts order numbers in_use old.files new.files (stays_or_goes old new (IsLiveFile numbers in_use) (removes.files f)) d h are law

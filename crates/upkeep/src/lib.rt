@@ -20,4 +20,4 @@ pub use flush_edits::flush_edit;
 pub use level0::write_level0;
 pub use log_file::begin_log;
 pub use manifest::{CurrentManifest, append_edit};
-pub use removal::{LiveTables, remove_files};
+pub use removal::{LiveTables, Removal, remove_files};

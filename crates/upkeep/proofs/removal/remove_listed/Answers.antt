@@ -1,37 +1,32 @@
-use Rattle.std.proofs.Common.{ℕ, List, String, map, take, subst, string_bytes}
+use Rattle.std.proofs.Common.{map, string_bytes}
 use Rattle.std.specs.Prelude.{Contains}
-use Rattle.std.specs.declared.alloc.Global.{Global}
-use Rattle.std.proofs.lemmas.List.{take_all}
 use Rattle.edits.specs.declared.names.FileName.{FileName}
-use Rattle.upkeep.specs.Removal.{IsLiveFile, Removes}
-use Rattle.upkeep.proofs.StoreCalls.{touches_none, touches_both}
-use Rattle.upkeep.proofs.Cleaning.{removes_none, removes_more, names_more}
+use Rattle.upkeep.specs.Removal.{IsLiveFile}
+use Rattle.upkeep.proofs.Cleaning.{both_turns, first_turn, table_both, table_first}
 use Rattle.upkeep.proofs.removal.remove_listed.Goals as goal
 
-pub loop-name-init : goal.loop-name-init
-loop-name-init g c =
-    let live : FileName → Type 0 = IsLiveFile c.args.numbers.now (g.L.LiveTables.has c.args.live.now) (λ n. Contains c.args.newer.now n) in
-    record { call = touches_none (g.S.Store.facts c.args.store.now); removes = removes_none (g.S.Store.facts c.args.store.now) live }
+pub returns-then-not-remove_turn-clause-removes : goal.returns-then-not-remove_turn-clause-removes
+returns-then-not-remove_turn-clause-removes g c =
+    let live : FileName → Type 0 = IsLiveFile c.args.numbers.now (g.L.LiveTables.has c.args.live.now) in
+    first_turn live (λ n. Contains c.args.older.now n) (g.S.Store.facts c.args.store.now) (g.S.Store.facts c.remove_turn.new.store) (map string_bytes c.args.names.now) c.remove_turn.result
+    c.if-not-remove_turn.true c.remove_turn.ensures.removes
 
-pub loop-name-preserved : goal.loop-name-preserved
-loop-name-preserved g c =
-    let old = g.S.Store.facts c.args.store.now in
-    let mid = g.S.Store.facts c.loop-name.store in
-    let new = g.S.Store.facts c.remove_dead.new.store in
-    let live : FileName → Type 0 = IsLiveFile c.args.numbers.now (g.L.LiveTables.has c.args.live.now) (λ n. Contains c.args.newer.now n) in
-    let done : List (List ℕ) = map string_bytes (take c.loop-name.name-index c.args.names.now) in
-    record {
-      call = touches_both old mid new c.loop-name.invariant.call c.remove_dead.ensures.call;
-      removes = subst (λ (names : List (List ℕ)). Removes old new live names)
-          (names_more c.args.names.now c.loop-name.name-index c.name-item.result c.as_str.result.now c.loop-name-test.true c.name-item.is c.as_str.ensures.value)
-          (removes_more old mid new live done c.as_str.result.now c.loop-name.invariant.call c.remove_dead.ensures.call c.loop-name.invariant.removes c.remove_dead.ensures.removes);
-    }
-
-pub returns-clause-call : goal.returns-clause-call
-returns-clause-call g c = c.loop-name.invariant.call
+pub returns-then-not-remove_turn-clause-tables : goal.returns-then-not-remove_turn-clause-tables
+returns-then-not-remove_turn-clause-tables g c are lists f n num =
+    table_first c.args.numbers.now (g.L.LiveTables.has c.args.live.now) (map string_bytes c.args.names.now) c.args.older.now n num
+    (g.S.Store.facts c.args.store.now) (g.S.Store.facts c.remove_turn.new.store) c.remove_turn.result c.remove_turn.ensures.removes are lists f
 
 pub returns-clause-removes : goal.returns-clause-removes
 returns-clause-removes g c =
-    let live : FileName → Type 0 = IsLiveFile c.args.numbers.now (g.L.LiveTables.has c.args.live.now) (λ n. Contains c.args.newer.now n) in
-    subst (λ (names : List (String Global)). Removes (g.S.Store.facts c.args.store.now) (g.S.Store.facts c.loop-name.store) live (map string_bytes names))
-    (take_all c.loop-name.name-index c.args.names.now c.loop-name-test.false) c.loop-name.invariant.removes
+    let live : FileName → Type 0 = IsLiveFile c.args.numbers.now (g.L.LiveTables.has c.args.live.now) in
+    both_turns live (λ n. Contains c.args.older.now n) (g.S.Store.facts c.args.store.now) (g.S.Store.facts c.remove_turn.new.store) (g.S.Store.facts c.remove_turn-2.new.store) (map string_bytes c.args.names.now)
+    c.remove_turn.ensures.call c.remove_turn-2.ensures.call c.remove_turn.result c.remove_turn-2.result c.if-not-remove_turn.false c.remove_turn.ensures.removes c.remove_turn-2.ensures.removes
+
+pub returns-clause-tables : goal.returns-clause-tables
+returns-clause-tables g c are lists f n num =
+    let old = g.S.Store.facts c.args.store.now in
+    let mid = g.S.Store.facts c.remove_turn.new.store in
+    let new = g.S.Store.facts c.remove_turn-2.new.store in
+    let removes = returns-clause-removes g c in
+    table_both c.args.numbers.now (g.L.LiveTables.has c.args.live.now) (map string_bytes c.args.names.now) c.args.older.now n num old mid new
+    c.remove_turn-2.ensures.call c.remove_turn.result c.remove_turn-2.result c.if-not-remove_turn.false c.remove_turn.ensures.removes c.remove_turn-2.ensures.removes removes.files lists f
