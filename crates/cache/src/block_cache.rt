@@ -125,6 +125,8 @@ impl<K: KeyOrder> BlockCache<K> {
             → IsTrue (S.facts store.new).faithful → IfOk (answer_of result) (λ pairs. IsBlockOf K.cmp content file handle pairs) }
         ensures holds { (content : ℕ → Option (List ℕ)) → HoldsBlocks K.cmp content self.old.blocks → IsContent content file (S.facts store.old) table.now.name
             → IsTrue (S.facts store.new).faithful → HoldsBlocks K.cmp content self.new.blocks }
+        // What is kept was kept before, or is of this table.
+        ensures kept { (kept : KeptBlock) → Contains self.new.blocks kept → Contains self.old.blocks kept ⊎ (kept.file ≡ file) }
         ensures stood { OnOk result ((S.facts store.new).failures ≡ (S.facts store.old).failures) }
         ensures refused { IfErr (answer_of result) (λ e. Refuses e (S.facts store.old) (S.facts store.new) table.now.name
             (λ bytes. IsDamaged K.cmp bytes handle) (λ bytes. IsUnsupported bytes handle)) }

@@ -91,6 +91,10 @@ KeepsAll {C} keeps children old new = (i : ℕ) (child : Child C) → slice_get 
 abbrev pub AnyLimited : {C S : Type 0} → (C → S → Type 0) → List (Child C) → S → Type 0
 AnyLimited {C} limited children source = (i : ℕ) × (child : Child C) × (slice_get children i ≡ Some child) × limited child.cursor source
 
+-- a merge goes over the tables that its children go over
+abbrev pub GoesOverAny : {C : Type 0} → (C → ℕ → Type 0) → List (Child C) → ℕ → Type 0
+GoesOverAny {C} over children number = (i : ℕ) × (child : Child C) × (slice_get children i ≡ Some child) × over child.cursor number
+
 abbrev pub child_stands : {C : Type 0} → (C → Bool) → List (Child C) → Option ℕ → Bool
 child_stands stands children None = false
 child_stands stands children (Some index) = option_map_or (λ child. stands child.cursor) (slice_get children index) false

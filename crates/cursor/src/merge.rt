@@ -7,7 +7,7 @@ ghost use Rattle.ikey.specs.Keys.{Key, IsKey};
 ghost use Rattle.table.specs.Reading.{IsStill};
 ghost use Rattle.cursor.specs.Places.{Listed};
 ghost use Rattle.cursor.specs.Moves.{Stays, Refuses, after_move};
-ghost use Rattle.cursor.specs.Merging.{IsMerge, IsUnion, Each, KeepsAll, AnyLimited, child_stands, listed};
+ghost use Rattle.cursor.specs.Merging.{IsMerge, IsUnion, Each, KeepsAll, AnyLimited, GoesOverAny, child_stands, listed};
 ghost use Rattle.cursor.specs.Motions.{AimsJump, IsJump, end_of, place_of};
 
 use crate::child::{Child, Motion, Side};
@@ -74,7 +74,7 @@ pub fn merge_begins<K: KeyOrder, S, C: Cursor<K, S>>(merge: &Merge<K, C>, source
 }
 
 impl<K: KeyOrder, S, C: Cursor<K, S>> Cursor<K, S> for Merge<K, C> {
-    ghost use Rattle.cursor.specs.Merging.{IsMerge, KeepsAll, child_stands, AnyLimited};
+    ghost use Rattle.cursor.specs.Merging.{IsMerge, KeepsAll, child_stands, AnyLimited, GoesOverAny};
     ghost use Rattle.cursor.specs.MergeLaws.{merge_rises, merge_placed, merge_inside, merge_kept, all_still, all_onward, any_limited_kept};
 
     ghost facts = { C.facts };
@@ -88,6 +88,8 @@ impl<K: KeyOrder, S, C: Cursor<K, S>> Cursor<K, S> for Merge<K, C> {
     ghost limited = { λ merge source. AnyLimited C.limited merge.children.items source };
 
     ghost leaves = { C.leaves };
+
+    ghost over = { λ merge number. GoesOverAny C.over merge.children.items number };
 
     fn first(&mut self, alloc: Global, source: &mut S) -> Result<(), DbError> {
         jump(self, alloc, source, Motion::First, End::Least)?;
@@ -180,7 +182,7 @@ fn jump<K: KeyOrder, S, C: Cursor<K, S>>(
     ensures moves { IsTrue (C.facts source.new).faithful → (at : Listed) (goal : Key) → AimsJump motion.entry goal
         → IsMerge K.cmp C.lists merge.old.children.items merge.old.current merge.old.target.items source.old at
         → IsMerge K.cmp C.lists merge.new.children.items merge.new.current merge.new.target.items source.new (after_move result (λ from. place_of K.cmp motion.entry goal from.entries) at) }
-    ensures stays { Stays C.facts (KeepsAll C.keeps) (AnyLimited C.limited) C.leaves merge.old.children.items merge.new.children.items source.old source.new }
+    ensures stays { Stays C.facts (KeepsAll C.keeps) (AnyLimited C.limited) C.leaves (GoesOverAny C.over) merge.old.children.items merge.new.children.items source.old source.new }
     ensures still { IsStill (C.facts source.old) (C.facts source.new) result }
     ensures refused { IfErr result (λ e. Refuses e (C.facts source.old) (C.facts source.new)
         ((at : Listed) (goal : Key) → AimsJump motion.entry goal → IsMerge K.cmp C.lists merge.old.children.items merge.old.current merge.old.target.items source.old at → ⊥) (AnyLimited C.limited merge.old.children.items source.old)) }

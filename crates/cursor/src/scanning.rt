@@ -49,7 +49,7 @@ pub fn find_on<K: KeyOrder, S, C: Cursor<K, S>>(
     ensures found { IsTrue (C.facts source.new).faithful → IfOk result (λ found. (entries : List InternalEntry) (test : List ℕ → Bool) (index : ℕ) → C.lists cursor.old source.old (listed entries (within entries index))
         → SearchesOn K.cmp entries sequence test index hides hidden.old.items → AnswersOn K.cmp C.lists cursor.new source.new entries sequence test hidden.new.items found) }
     ensures stands { IfOk result (λ found. found ≡ true → C.stands cursor.new ≡ true) }
-    ensures wanders { Wanders C.facts C.lists C.keeps C.limited C.leaves cursor.old cursor.new source.old source.new }
+    ensures wanders { Wanders C.facts C.lists C.keeps C.limited C.leaves C.over cursor.old cursor.new source.old source.new }
     ensures still { IsStill (C.facts source.old) (C.facts source.new) result }
     ensures refused { IfErr result (λ e. Refuses e (C.facts source.old) (C.facts source.new) (ListsNone C.lists cursor.old source.old) (C.limited cursor.old source.old)) }
 {
@@ -114,7 +114,7 @@ pub fn find_back<K: KeyOrder, S, C: Cursor<K, S>>(
 ) -> Result<bool, DbError>
     ensures found { IsTrue (C.facts source.new).faithful → IfOk result (λ has. (entries : List InternalEntry) (index : ℕ) → C.lists cursor.old source.old (listed entries (index_before index))
         → HasPassedNone entries sequence (below_bound K.cmp (option_copied bound.entry)) index → AnswersBack K.cmp C.lists cursor.new source.new entries sequence (below_bound K.cmp (option_copied bound.entry)) found.new.key.items found.new.value.items has) }
-    ensures wanders { Wanders C.facts C.lists C.keeps C.limited C.leaves cursor.old cursor.new source.old source.new }
+    ensures wanders { Wanders C.facts C.lists C.keeps C.limited C.leaves C.over cursor.old cursor.new source.old source.new }
     ensures still { IsStill (C.facts source.old) (C.facts source.new) result }
     ensures refused { IfErr result (λ e. Refuses e (C.facts source.old) (C.facts source.new) (ListsNone C.lists cursor.old source.old) (C.limited cursor.old source.old)) }
 {

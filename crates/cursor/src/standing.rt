@@ -41,7 +41,7 @@ pub fn stand_ahead<K: KeyOrder, S, C: Cursor<K, S>>(
     ensures stands { IsTrue (C.facts source.new).faithful → OnOk result ((entries : List InternalEntry) (entry : InternalEntry) (value : List ℕ) → IsVisible entries sequence entry → user.now ≡ entry.key.user
         → StandsAt K.cmp C.lists position cursor.old source.old entries entry value
         → (index : ℕ) × C.lists cursor.new source.new (listed entries (within entries index)) × IsBetween K.cmp entries index user.now) }
-    ensures wanders { Wanders C.facts C.lists C.keeps C.limited C.leaves cursor.old cursor.new source.old source.new }
+    ensures wanders { Wanders C.facts C.lists C.keeps C.limited C.leaves C.over cursor.old cursor.new source.old source.new }
     ensures still { IsStill (C.facts source.old) (C.facts source.new) result }
     ensures refused { IfErr result (λ e. Refuses e (C.facts source.old) (C.facts source.new) (ListsNone C.lists cursor.old source.old) (C.limited cursor.old source.old)) }
 {
@@ -71,7 +71,7 @@ pub fn stand_behind<K: KeyOrder, S, C: Cursor<K, S>>(
     ensures stands { IsTrue (C.facts source.new).faithful → OnOk result ((entries : List InternalEntry) (entry : InternalEntry) (value : List ℕ) → IsVisible entries sequence entry → user.now ≡ entry.key.user
         → StandsAt K.cmp C.lists position cursor.old source.old entries entry value
         → (index : ℕ) × C.lists cursor.new source.new (listed entries (index_before index)) × FromOn entries index (λ other. is_less (K.cmp other.key.user user.now) ≡ false)) }
-    ensures wanders { Wanders C.facts C.lists C.keeps C.limited C.leaves cursor.old cursor.new source.old source.new }
+    ensures wanders { Wanders C.facts C.lists C.keeps C.limited C.leaves C.over cursor.old cursor.new source.old source.new }
     ensures still { IsStill (C.facts source.old) (C.facts source.new) result }
     ensures refused { IfErr result (λ e. Refuses e (C.facts source.old) (C.facts source.new) (ListsNone C.lists cursor.old source.old) (C.limited cursor.old source.old)) }
 {
@@ -93,7 +93,7 @@ fn step_on<K: KeyOrder, S, C: Cursor<K, S>>(
 ) -> Result<(), DbError>
     ensures steps { IsTrue (C.facts source.new).faithful → OnOk result ((entries : List InternalEntry) (test : InternalEntry → Bool) → C.lists cursor.old source.old (listed entries (behind test entries))
         → C.lists cursor.new source.new (listed entries (ahead test entries))) }
-    ensures wanders { Wanders C.facts C.lists C.keeps C.limited C.leaves cursor.old cursor.new source.old source.new }
+    ensures wanders { Wanders C.facts C.lists C.keeps C.limited C.leaves C.over cursor.old cursor.new source.old source.new }
     ensures still { IsStill (C.facts source.old) (C.facts source.new) result }
     ensures refused { IfErr result (λ e. Refuses e (C.facts source.old) (C.facts source.new) (ListsNone C.lists cursor.old source.old) (C.limited cursor.old source.old)) }
 {
@@ -116,7 +116,7 @@ fn find_again<K: KeyOrder, S, C: Cursor<K, S>>(
     requires { sequence < 2 ^ 56 }
     ensures finds { IsTrue (C.facts source.new).faithful → OnOk result ((entries : List InternalEntry) (entry : InternalEntry) (index : ℕ) (place : Option ℕ) → IsVisible entries sequence entry → user.now ≡ entry.key.user
         → slice_get entries index ≡ Some entry → C.lists cursor.old source.old (listed entries place) → C.lists cursor.new source.new (listed entries (Some index))) }
-    ensures wanders { Wanders C.facts C.lists C.keeps C.limited C.leaves cursor.old cursor.new source.old source.new }
+    ensures wanders { Wanders C.facts C.lists C.keeps C.limited C.leaves C.over cursor.old cursor.new source.old source.new }
     ensures still { IsStill (C.facts source.old) (C.facts source.new) result }
     ensures refused { IfErr result (λ e. Refuses e (C.facts source.old) (C.facts source.new) (ListsNone C.lists cursor.old source.old) (C.limited cursor.old source.old)) }
 {

@@ -77,7 +77,7 @@ impl<K: KeyOrder, C> Visible<K, C> {
         C: Cursor<K, S>,
         ensures moves { IsTrue (C.facts source.new).faithful → (at : Walked) → IsWalk K.cmp C.lists self.old source.old at → IsWalk K.cmp C.lists self.new source.new (walk_after result (walk_first at) at) }
         ensures at_hand { OnOk result (self.new.stands ≡ true → value_at_hand C.stands self.new ≡ true) }
-        ensures stays { Stays C.facts C.keeps C.limited C.leaves self.old.cursor self.new.cursor source.old source.new }
+        ensures stays { Stays C.facts C.keeps C.limited C.leaves C.over self.old.cursor self.new.cursor source.old source.new }
         ensures still { IsStill (C.facts source.old) (C.facts source.new) result }
         ensures refused { IfErr result (λ e. Refuses e (C.facts source.old) (C.facts source.new) ((at : Walked) → IsWalk K.cmp C.lists self.old source.old at → ⊥) (C.limited self.old.cursor source.old)) }
         ensures sequence { self.new.sequence ≡ self.old.sequence }
@@ -96,7 +96,7 @@ impl<K: KeyOrder, C> Visible<K, C> {
         C: Cursor<K, S>,
         ensures moves { IsTrue (C.facts source.new).faithful → (at : Walked) → IsWalk K.cmp C.lists self.old source.old at → IsWalk K.cmp C.lists self.new source.new (walk_after result (walk_last at) at) }
         ensures at_hand { OnOk result (self.new.stands ≡ true → value_at_hand C.stands self.new ≡ true) }
-        ensures stays { Stays C.facts C.keeps C.limited C.leaves self.old.cursor self.new.cursor source.old source.new }
+        ensures stays { Stays C.facts C.keeps C.limited C.leaves C.over self.old.cursor self.new.cursor source.old source.new }
         ensures still { IsStill (C.facts source.old) (C.facts source.new) result }
         ensures refused { IfErr result (λ e. Refuses e (C.facts source.old) (C.facts source.new) ((at : Walked) → IsWalk K.cmp C.lists self.old source.old at → ⊥) (C.limited self.old.cursor source.old)) }
         ensures sequence { self.new.sequence ≡ self.old.sequence }
@@ -115,7 +115,7 @@ impl<K: KeyOrder, C> Visible<K, C> {
         C: Cursor<K, S>,
         ensures moves { IsTrue (C.facts source.new).faithful → (at : Walked) → IsWalk K.cmp C.lists self.old source.old at → IsWalk K.cmp C.lists self.new source.new (walk_after result (walk_to K.cmp target.now at) at) }
         ensures at_hand { OnOk result (self.new.stands ≡ true → value_at_hand C.stands self.new ≡ true) }
-        ensures stays { Stays C.facts C.keeps C.limited C.leaves self.old.cursor self.new.cursor source.old source.new }
+        ensures stays { Stays C.facts C.keeps C.limited C.leaves C.over self.old.cursor self.new.cursor source.old source.new }
         ensures still { IsStill (C.facts source.old) (C.facts source.new) result }
         ensures refused { IfErr result (λ e. Refuses e (C.facts source.old) (C.facts source.new) ((at : Walked) → IsWalk K.cmp C.lists self.old source.old at → ⊥) (C.limited self.old.cursor source.old)) }
         ensures sequence { self.new.sequence ≡ self.old.sequence }
@@ -136,7 +136,7 @@ impl<K: KeyOrder, C> Visible<K, C> {
         requires { self.old.stands ≡ true }
         ensures moves { IsTrue (C.facts source.new).faithful → (at : Walked) → IsWalk K.cmp C.lists self.old source.old at → IsWalk K.cmp C.lists self.new source.new (walk_after result (walk_next at) at) }
         ensures at_hand { OnOk result (self.new.stands ≡ true → value_at_hand C.stands self.new ≡ true) }
-        ensures stays { Stays C.facts C.keeps C.limited C.leaves self.old.cursor self.new.cursor source.old source.new }
+        ensures stays { Stays C.facts C.keeps C.limited C.leaves C.over self.old.cursor self.new.cursor source.old source.new }
         ensures still { IsStill (C.facts source.old) (C.facts source.new) result }
         ensures refused { IfErr result (λ e. Refuses e (C.facts source.old) (C.facts source.new) ((at : Walked) → IsWalk K.cmp C.lists self.old source.old at → ⊥) (C.limited self.old.cursor source.old)) }
         ensures sequence { self.new.sequence ≡ self.old.sequence }
@@ -164,7 +164,7 @@ impl<K: KeyOrder, C> Visible<K, C> {
         requires { self.old.stands ≡ true }
         ensures moves { IsTrue (C.facts source.new).faithful → (at : Walked) → IsWalk K.cmp C.lists self.old source.old at → IsWalk K.cmp C.lists self.new source.new (walk_after result (walk_prev at) at) }
         ensures at_hand { OnOk result (self.new.stands ≡ true → value_at_hand C.stands self.new ≡ true) }
-        ensures stays { Stays C.facts C.keeps C.limited C.leaves self.old.cursor self.new.cursor source.old source.new }
+        ensures stays { Stays C.facts C.keeps C.limited C.leaves C.over self.old.cursor self.new.cursor source.old source.new }
         ensures still { IsStill (C.facts source.old) (C.facts source.new) result }
         ensures refused { IfErr result (λ e. Refuses e (C.facts source.old) (C.facts source.new) ((at : Walked) → IsWalk K.cmp C.lists self.old source.old at → ⊥) (C.limited self.old.cursor source.old)) }
         ensures sequence { self.new.sequence ≡ self.old.sequence }
@@ -242,7 +242,7 @@ impl<K: KeyOrder, C> Visible<K, C> {
         ensures sequence { self.new.sequence ≡ self.old.sequence }
         ensures stayed { OnErr result (HasStayed self.old self.new) }
         ensures left { OnOk result (key_before self.new ≡ self.old.here.key.items) }
-        ensures wanders { Wanders C.facts C.lists C.keeps C.limited C.leaves self.old.cursor self.new.cursor source.old source.new }
+        ensures wanders { Wanders C.facts C.lists C.keeps C.limited C.leaves C.over self.old.cursor self.new.cursor source.old source.new }
         ensures still { IsStill (C.facts source.old) (C.facts source.new) result }
         ensures refused { IfErr result (λ e. Refuses e (C.facts source.old) (C.facts source.new) (ListsNone C.lists self.old.cursor source.old) (C.limited self.old.cursor source.old)) }
     {
@@ -276,7 +276,7 @@ impl<K: KeyOrder, C> Visible<K, C> {
         ensures sequence { self.new.sequence ≡ self.old.sequence }
         ensures stayed { OnErr result (HasStayed self.old self.new) }
         ensures left { OnOk result (key_before self.new ≡ self.old.here.key.items) }
-        ensures wanders { Wanders C.facts C.lists C.keeps C.limited C.leaves self.old.cursor self.new.cursor source.old source.new }
+        ensures wanders { Wanders C.facts C.lists C.keeps C.limited C.leaves C.over self.old.cursor self.new.cursor source.old source.new }
         ensures still { IsStill (C.facts source.old) (C.facts source.new) result }
         ensures refused { IfErr result (λ e. Refuses e (C.facts source.old) (C.facts source.new) (ListsNone C.lists self.old.cursor source.old) (C.limited self.old.cursor source.old)) }
     {

@@ -3,13 +3,15 @@ use Rattle.std.proofs.Common.{◌≡◌, ◌⊎◌, ℕ, ◌≤◌, Bool, true, 
 use Rattle.std.specs.declared.cmp.Ordering.{Ordering}
 use Rattle.cache.specs.Tables.{table_at}
 use Rattle.coding.specs.declared.error.DbError.{DbError}
+use Rattle.edits.specs.Names.{IsNumbered}
 use Rattle.coding.specs.declared.error.DbError.TheVariants as error
 use Rattle.cursor.specs.Moves.{Refuses}
 use Rattle.cursor.specs.Views.{Walked}
 use Rattle.cursor.specs.Walks.{key_before}
 use Rattle.scans.specs.Pairs.{pair_on}
 use Rattle.scans.specs.Scanning.{IsScanned, ReadsAs, TakesBack}
-use Rattle.scans.specs.Scans.{HasNumber, IsOnePastLimit, IsScan, IsScanLimited, reads_table, tables_of}
+use Rattle.rows.specs.InRows.{HasNumber}
+use Rattle.scans.specs.Scans.{IsOnePastLimit, IsScan, IsScanLimited, reads_table, tables_of}
 use Rattle.scans.specs.Whole.{Whole}
 use Rattle.scans.specs.declared.scan.Scan.{Scan}
 use Rattle.store.specs.Files.{Facts}
@@ -84,12 +86,13 @@ module _ {K : Type 0} {g : _} (cmp : Order) (motion : Motion) (before after : Wh
 
   -- it reads no other tables, and they are still there
   tables_on : (result : Result (Unit {0}) DbError) (scan : Scan K g) → IsScanned cmp (destination cmp motion) before after old new result → ReadsAs old scan → ((number : ℕ) → reads_table scan number → reads_table new number) → IsTrue after.seen.facts.faithful
-      → ((number : ℕ) → reads_table old number → HasNumber (tables_of old) number × IsSome (table_at before.seen.facts.files number))
-      → (number : ℕ) → reads_table scan number → HasNumber (tables_of scan) number × IsSome (table_at after.seen.facts.files number)
+      → ((number : ℕ) → reads_table old number → HasNumber (tables_of old) number × IsNumbered number × IsSome (table_at before.seen.facts.files number))
+      → (number : ℕ) → reads_table scan number → HasNumber (tables_of scan) number × IsNumbered number × IsSome (table_at after.seen.facts.files number)
   tables_on result scan w alike within f tables number read =
       let there = tables number (w.tables number (within number read)) in (
         subst (λ (v : _). HasNumber v.value.tables number) (sym alike.version) there.0,
-        subst (λ files. IsSome (table_at files number)) (sym (w.reads.files f)) there.1,
+        there.1,
+        subst (λ files. IsSome (table_at files number)) (sym (w.reads.files f)) there.2,
       )
 
   pub moved_err : (e : DbError) → IsScanned cmp (destination cmp motion) before after old new (Err e) → IsMoved cmp motion before after old new (Err e)

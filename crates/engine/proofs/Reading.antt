@@ -110,7 +110,7 @@ below_next order files n number free numbered there = elim (either_there (get fi
 
 -- what is kept of tables was kept, or is of one that is there
 abbrev pub KeepsThere : Seen → Seen → Type 0
-KeepsThere old new = (number : ℕ) → KeepsOf new number → KeepsOf old number ⊎ IsSome (table_at old.facts.files number)
+KeepsThere old new = (number : ℕ) → KeepsOf new number → KeepsOf old number ⊎ (IsNumbered number × IsSome (table_at old.facts.files number))
 
 -- ---- calls that only read
 
@@ -139,7 +139,7 @@ module _ {K : Type 0} {g : _} (order : Order) (kept : (scan : Scan K g) → Scan
     bound = (let within : iterator.walk.sequence ≤ old.memory.last = h.bound in omega (arith, within, last));
     scan = kept iterator old new (walked_of walk) keeps h.scan;
     limits = λ is past. h.limits is (limits_kept order.cmp iterator old new keeps past);
-    tables = λ number read. let there = h.tables number read in (there.0, subst (λ (file : Option (List ℕ)). IsSome file) (sym (keeps.files number read)) there.1);
+    tables = λ number read. let there = h.tables number read in (there.0, there.1, subst (λ (file : Option (List ℕ)). IsSome file) (sym (keeps.files number read)) there.2);
   }
 
   pub walks_kept : (old new : Whole) (iterators : BTreeMap ℕ (Scan K g)) (m : Machine) → ((sequence : ℕ) → sequence ≤ old.memory.last → KeepsUpTo order.cmp sequence old new) → old.memory.last ≤ new.memory.last
@@ -182,10 +182,10 @@ module _ {K : Type 0} {g : _} (order : Order) (kept : (scan : Scan K g) → Scan
         }
 
     -- what is kept is of tables that are there, or was kept before
-    drawn_read : (contents : List TableContent) → HasLog order old.facts.files contents db → HasTables order old contents db → (number : ℕ) → IsNumbered number → KeepsOf new number → number < db.directory.numbers.next
-    drawn_read contents log tables number numbered kept = elim (keeps number kept) [
-      | inl before ↦ tables.drawn number numbered before
-      | inr there ↦ below_next order old.facts.files db.directory.numbers.next number log.knows.free numbered there
+    drawn_read : (contents : List TableContent) → HasLog order old.facts.files contents db → HasTables order old contents db → (number : ℕ) → KeepsOf new number → IsNumbered number × (number < db.directory.numbers.next)
+    drawn_read contents log tables number kept = elim (keeps number kept) [
+      | inl before ↦ tables.drawn number before
+      | inr there ↦ (there.0, below_next order old.facts.files db.directory.numbers.next number log.knows.free there.0 there.1)
     ]
 
     serving_read : IsServing order old db m → IsServing order new after (read_by new.facts m)

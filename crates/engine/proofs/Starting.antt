@@ -7,13 +7,15 @@ use Rattle.ikey.specs.Sources.{IsNewerThan, SameEntries, SameViewLaw, joined}
 use Rattle.ikey.specs.Views.{Contents, IsView}
 use Rattle.ikey.specs.declared.entry.Entry.{Entry}
 use Rattle.ikey.proofs.SearchedSources.{among_split, among_front, among_back}
+use Rattle.edits.specs.Names.{IsNumbered}
 use Rattle.edits.specs.declared.field.PlacedTable.{PlacedTable}
 use Rattle.memories.specs.Memories.{logged_in}
 use Rattle.reads.specs.Gets.{IsTooLong}
 use Rattle.cache.specs.Tables.{table_at}
 use Rattle.recover.proofs.Memberships.{one_of_tables}
 use Rattle.recover.specs.Tables.{HasTable, InTables, TableContent, tabled}
-use Rattle.scans.specs.Scans.{BeginsScan, HasNumber, reads_table, tables_of}
+use Rattle.rows.specs.InRows.{HasNumber}
+use Rattle.scans.specs.Scans.{BeginsScan, reads_table, tables_of}
 use Rattle.scans.specs.declared.scan.Scan.{Scan}
 use Rattle.search.specs.Laws.{VersionLaw}
 use Rattle.search.specs.Places.{table_sources}
@@ -74,6 +76,7 @@ starts_walk order limited source db scan contents sequence view_map same version
             let has : HasTable order source.facts.files content.0 = one_of_tables order source.facts.files found.0 content.0 found.1.1.are content.1 in
             let is : content.0.placed.table.number ≡ number = ap (λ (p : PlacedTable). p.table.number) content.2 ∙ one.2 in (
               subst (λ (ps : List PlacedTable). HasNumber ps number) (sym over) one,
+              subst IsNumbered is has.numbered,
               subst (λ (k : ℕ). IsSome (table_at source.facts.files k)) is (some_of (table_at source.facts.files content.0.placed.table.number) has.bytes has.there),
             );
       },

@@ -5,7 +5,9 @@ use Rattle.ikey.specs.Views.{Contents as View}
 use Rattle.cursor.specs.Views.{Walked, walk_first, walk_last, walk_to, walk_next, walk_prev}
 use Rattle.scans.specs.Pairs.{ArePairs, listed_pair}
 use Rattle.cache.specs.Tables.{table_at}
-use Rattle.scans.specs.Scans.{HasNumber, IsOnePastLimit, IsScan, reads_table, tables_of}
+use Rattle.edits.specs.Names.{IsNumbered}
+use Rattle.rows.specs.InRows.{HasNumber}
+use Rattle.scans.specs.Scans.{IsOnePastLimit, IsScan, reads_table, tables_of}
 use Rattle.scans.specs.Whole.{Whole}
 use Rattle.scans.specs.declared.scan.Scan.{Scan}
 use Rattle.engine.specs.Machine.{Walk}
@@ -24,7 +26,7 @@ pub record IsWalk {K : Type 0} {g : _} (cmp : List ℕ → List ℕ → Ordering
   pub bound : iterator.walk.sequence ≤ whole.memory.last
   pub scan : IsScan cmp iterator whole (walked_of walk)
   pub limits : limited ≡ false → IsOnePastLimit cmp (tables_of iterator) whole → ⊥
-  pub tables : (number : ℕ) → reads_table iterator number → HasNumber (tables_of iterator) number × IsSome (table_at whole.seen.facts.files number)
+  pub tables : (number : ℕ) → reads_table iterator number → HasNumber (tables_of iterator) number × IsNumbered number × IsSome (table_at whole.seen.facts.files number)
 
 -- where a motion leads a walk
 abbrev pub destination : (List ℕ → List ℕ → Ordering) → Motion → Walked → Option ℕ

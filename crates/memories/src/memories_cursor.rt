@@ -77,6 +77,8 @@ impl<K: KeyOrder> Cursor<K, MemoryTables<K>> for MemoriesCursor<K> {
 
     ghost leaves = { λ old new. LeavesMemories old new };
 
+    ghost over = { λ cursor number. ⊥ };
+
     fn first(&mut self, alloc: Global, source: &mut MemoryTables<K>) -> Result<(), DbError> {
         source.cursor_first(alloc, self.generation, &mut self.cursor)
     }

@@ -1,5 +1,5 @@
 -- What the moves of a cursor over a row keep, and which limits they pass.
-use Rattle.std.proofs.Common.{◌≡◌, ◌⊎◌, ◌∙◌, ap, length, List, Option, Some, None, IsTrue, IfSome, inl, inr}
+use Rattle.std.proofs.Common.{◌≡◌, ◌⊎◌, ◌∙◌, ℕ, ap, sym, length, List, Option, Some, None, IsTrue, IfSome, inl, inr}
 use Rattle.coding.specs.declared.error.DbError.{DbError}
 use Rattle.coding.specs.declared.error.DbError.TheVariants.{OutOfMemory, Io, Corrupt, Unsupported}
 use Rattle.cursor.specs.Moves.{Refuses}
@@ -7,7 +7,7 @@ use Rattle.cursor.specs.Places.{Cmp, Listed}
 use Rattle.edits.specs.declared.field.PlacedTable.{PlacedTable}
 use Rattle.rows.specs.declared.in_table.InTable.{InTable}
 use Rattle.ikey.specs.Entries.{InternalEntry}
-use Rattle.rows.specs.InRows.{HaveLists, IsOneLimited, IsOpenLimited, KeepsTables, ListsTables}
+use Rattle.rows.specs.InRows.{HasNumber, HaveLists, IsOneLimited, IsOpenLimited, IsOpenNumber, KeepsTables, ListsTables}
 use Rattle.rows.specs.RowLaws.{lists_kept}
 use Rattle.rows.specs.Searches.{IsOneOf, IsSameTable}
 use Rattle.rows.proofs.Having.{have_length}
@@ -41,6 +41,12 @@ module _ {K : Type 0} {g : _} (cmp : Cmp) (row : List PlacedTable) where
   found_limited old new here None opened carries t (inr long) = absurd long
   found_limited old new here (Some one) opened carries t (inr long) = inl (opened_limited cmp old new row one.cursor.number one.cursor.table.value.frame opened t long)
 
+  pub found_within : (old new : Seen) (here found : Option (InTable K g)) → IfSome found (λ (one : InTable K g). IsOneOf cmp old new row one.cursor.number one.cursor.table.value.frame) → (number : ℕ)
+      → HasNumber row number ⊎ IsOpenNumber found number → HasNumber row number ⊎ IsOpenNumber here number
+  found_within old new here found opened number (inl has) = inl has
+  found_within old new here None opened number (inr is) = absurd is
+  found_within old new here (Some one) opened number (inr is) = inl (opened.placed, opened.there, sym opened.number_is ∙ is)
+
   -- ---- a step within a table
 
   pub step_kept : (first second : Seen) (here stepped : Option (InTable K g)) → IsSameTable here stepped → KeepsTables cmp row here first second → KeepsTables cmp row stepped first second
@@ -50,6 +56,13 @@ module _ {K : Type 0} {g : _} (cmp : Cmp) (row : List PlacedTable) where
       → IsOneLimited cmp old row ⊎ IsOpenLimited here
   step_limited old new here stepped same carries t (inl one) = inl (limited_before cmp old new row carries t one)
   step_limited old new here stepped same carries t (inr long) = inr (same_limited here stepped same long)
+
+  pub step_within : (here stepped : Option (InTable K g)) → IsSameTable here stepped → (number : ℕ) → HasNumber row number ⊎ IsOpenNumber stepped number → HasNumber row number ⊎ IsOpenNumber here number
+  step_within here stepped same number (inl has) = inl has
+  step_within None None same number (inr is) = absurd is
+  step_within None (Some new) same number (inr is) = absurd same
+  step_within (Some old) None same number (inr is) = absurd same
+  step_within (Some old) (Some new) same number (inr is) = inr (sym same.0 ∙ is)
 
   -- where nothing moved
   pub still_limited : (old new : Seen) (here : Option (InTable K g)) → Carries cmp old new → IsTrue new.facts.faithful → IsOneLimited cmp new row ⊎ IsOpenLimited here → IsOneLimited cmp old row ⊎ IsOpenLimited here

@@ -92,6 +92,15 @@ pub record KeepsTables {K : Type 0} {g : _} (cmp : Cmp) (row : List PlacedTable)
 abbrev pub IsOneLimited : Cmp → Seen → List PlacedTable → Type 0
 IsOneLimited cmp source row = (placed : PlacedTable) × Contains row placed × ((file : List ℕ) → HasTable cmp source placed.table.number file → IsPastLimit cmp file)
 
+-- one of these tables has this number
+abbrev pub HasNumber : List PlacedTable → ℕ → Type 0
+HasNumber tables number = (placed : PlacedTable) × Contains tables placed × (placed.table.number ≡ number)
+
+-- the table that is open has it
+abbrev pub IsOpenNumber : {K : Type 0} {g : _} → Option (InTable K g) → ℕ → Type 0
+IsOpenNumber None number = ⊥
+IsOpenNumber (Some here) number = here.cursor.number ≡ number
+
 abbrev pub IsOpenLimited : {K : Type 0} {g : _} → Option (InTable K g) → Type 0
 IsOpenLimited None = ⊥
 IsOpenLimited (Some here) = AnyLong (handles here.cursor.table.value.frame)

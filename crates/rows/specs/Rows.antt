@@ -3,7 +3,7 @@ use Rattle.std.specs.Prelude.{◌⊎◌, ◌-◌, ℕ, Bool, List, take, drop}
 use Rattle.cursor.specs.Places.{Cmp, Listed}
 use Rattle.edits.specs.declared.field.PlacedTable.{PlacedTable}
 use Rattle.rows.specs.declared.row_cursor.RowCursor.{RowCursor}
-use Rattle.rows.specs.InRows.{IsOneLimited, IsOpenLimited, KeepsTables, ListsTables, table_stands}
+use Rattle.rows.specs.InRows.{HasNumber, IsOneLimited, IsOpenLimited, IsOpenNumber, KeepsTables, ListsTables, table_stands}
 use Rattle.sources.specs.Tables.{Seen}
 
 -- the tables of a row: those of the version from one index on, up to another
@@ -24,3 +24,7 @@ row_stands cursor = table_stands cursor.here
 
 abbrev pub IsRowLimited : {K : Type 0} {g : _} → Cmp → Seen → RowCursor K g → Type 0
 IsRowLimited cmp source cursor = IsOneLimited cmp source (rows_tables cursor) ⊎ IsOpenLimited cursor.here
+
+-- it goes over a table of this number, or has it open
+abbrev pub GoesOverRow : {K : Type 0} {g : _} → RowCursor K g → ℕ → Type 0
+GoesOverRow cursor number = HasNumber (rows_tables cursor) number ⊎ IsOpenNumber cursor.here number

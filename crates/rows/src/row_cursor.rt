@@ -63,7 +63,7 @@ impl<K: KeyOrder> RowCursor<K> {
 
 impl<K: KeyOrder, S: Store> Cursor<K, Tables<K, S>> for RowCursor<K> {
     ghost use Rattle.rows.specs.RowLaws.{limits_kept, lists_kept, placed_in, row_onward, row_still};
-    ghost use Rattle.rows.specs.Rows.{IsRowLimited, KeepsRow, ListsRow, row_stands};
+    ghost use Rattle.rows.specs.Rows.{GoesOverRow, IsRowLimited, KeepsRow, ListsRow, row_stands};
     ghost use Rattle.sources.specs.Tables.{seen};
 
     ghost facts = { λ source. S.facts source.store };
@@ -77,6 +77,8 @@ impl<K: KeyOrder, S: Store> Cursor<K, Tables<K, S>> for RowCursor<K> {
     ghost limited = { λ cursor source. IsRowLimited K.cmp (seen (S.facts source.store) source.tables source.blocks) cursor };
 
     ghost leaves = { λ old new. Unit {0} };
+
+    ghost over = { λ cursor number. GoesOverRow cursor number };
 
     fn first(&mut self, alloc: Global, source: &mut Tables<K, S>) -> Result<(), DbError> {
         self.here = search_on(alloc, source, self.row(), 0, Aim::First)?;

@@ -17,16 +17,16 @@ use Rattle.ikey.specs.Sources.{AreInRow, joined}
 use Rattle.recover.specs.Tables.{TableContent, HasTables}
 use Rattle.recover.proofs.NameScan.{in_cons, in_none}
 use Rattle.rows.specs.declared.row_cursor.RowCursor.{RowCursor}
-use Rattle.rows.specs.InRows.{HaveLists, IsOpenLimited}
+use Rattle.rows.specs.InRows.{HasNumber, HaveLists, IsOpenLimited, IsOpenNumber}
 use Rattle.rows.specs.Rows.{ListsRow, rows_tables}
 use Rattle.scans.specs.declared.source_cursor.SourceCursor.{SourceCursor}
 use Rattle.scans.specs.declared.source_cursor.SourceCursor.TheVariants.{Memory, Row}
-use Rattle.scans.specs.Places.{ListsSource, KeepsSource, LimitedSource}
+use Rattle.scans.specs.Places.{GoesOver, ListsSource, KeepsSource, LimitedSource, OneGoesOver}
 use Rattle.memories.specs.Memories.{AreMemories, Memories, sealed_inserts, table_in}
 use Rattle.memories.specs.Places.{ListsMemories, MemoriesPlace}
 use Rattle.memtable.specs.Contents.{Contents as MemoryContents}
 use Rattle.scans.specs.Rows.{IsOneOf, OfMemory, OfRow, memory_spots, place_in, spot_of, spots_of}
-use Rattle.scans.specs.Scans.{GoesOver, IsOnePastLimit, KeepsWhole}
+use Rattle.scans.specs.Scans.{IsOnePastLimit, KeepsWhole}
 use Rattle.scans.specs.SourceLaws.{source_rises}
 use Rattle.scans.specs.Whole.{Whole}
 use Rattle.scans.proofs.Joining.{all_entries, entries_of}
@@ -108,6 +108,11 @@ contains_rest zero (t ∷ tables) placed i = i
 contains_rest (suc n) [] placed i = i
 contains_rest (suc n) (t ∷ tables) placed i = contains_more t tables placed (contains_rest n tables placed i)
 
+-- a table of a row is one of its version
+row_within : {K : Type 0} {g : _} (cursor : RowCursor K g) (placed : PlacedTable) → Contains (rows_tables cursor) placed → Contains cursor.version.value.tables placed
+row_within cursor placed i =
+    contains_rest cursor.from cursor.version.value.tables placed (contains_front (cursor.end - cursor.from) (drop cursor.from cursor.version.value.tables) placed i)
+
 -- a table of a row has its file
 has_file : (cmp : Cmp) (source : Seen) (tables : List PlacedTable) (lists : List (List InternalEntry)) (placed : PlacedTable) → HaveLists cmp source tables lists → Contains tables placed → (file : List ℕ) × HasTable cmp source placed.table.number file
 has_file cmp source [] lists placed h i = absurd (in_none placed i)
@@ -172,12 +177,25 @@ module _ {K : Type 0} {g : _} (generation : ℕ) (sealed : Option ℕ) (sequence
   keeps_new cmp numbers (Memory cursor) old new over h k = k.memory cursor h.0 h.1
   keeps_new cmp numbers (Row cursor) old new over h k = row_kept cmp (IsOneOf generation sealed) numbers sequence old new cursor over k
 
+  over_new : (cursor : SourceCursor K g) (number : ℕ) → New cursor → GoesOver cursor number → HasNumber tables number
+  over_new (Memory cursor) number h over = absurd over
+  over_new (Row cursor) number h (inl has) = (has.0, subst (λ (ts : List PlacedTable). Contains ts has.0) h.1 (row_within cursor has.0 has.1), has.2)
+  over_new (Row cursor) number h (inr is) = absurd (subst (λ o. IsOpenNumber o number) h.0 is)
+
+  -- new cursors go over no other tables than these
+  pub all_over : (ranges : List (ℕ × ℕ)) (children : List (Child (SourceCursor K g))) (number : ℕ)
+      → map spot_of (map (λ (child : Child (SourceCursor K g)). child.cursor) children) ≡ memory_spots sequence generation sealed ++ spots_of tables ranges
+      → OneGoesOver children number → HasNumber tables number
+  all_over ranges children number e over =
+      let cursors = map (λ (child : Child (SourceCursor K g)). child.cursor) children in
+      let there = slice_get-map (λ (child : Child (SourceCursor K g)). child.cursor) children over.0 ∙ ap (option_map (λ (child : Child (SourceCursor K g)). child.cursor)) over.2 in
+      over_new over.1.cursor number (all_at New cursors over.0 over.1.cursor (all_new ranges cursors e) there) over.3
+
   pub limited_new : (cmp : Cmp) (cursor : SourceCursor K g) (whole : Whole) (list : List InternalEntry) → New cursor → ListsSource cmp cursor whole (listed list None) → LimitedSource cmp cursor whole → IsOnePastLimit cmp tables whole
   limited_new cmp (Memory cursor) whole list h lists l = absurd l
   limited_new cmp (Row cursor) whole list h lists (inl l) =
       let file = has_file cmp whole.seen (rows_tables cursor) lists.lists l.0 lists.tables l.1 in
-      let within = contains_rest cursor.from cursor.version.value.tables l.0 (contains_front (cursor.end - cursor.from) (drop cursor.from cursor.version.value.tables) l.0 l.1) in
-      (l.0, subst (λ (ts : List PlacedTable). Contains ts l.0) h.1 within, file.0, file.1.file_is, l.2 file.0 file.1)
+      (l.0, subst (λ (ts : List PlacedTable). Contains ts l.0) h.1 (row_within cursor l.0 l.1), file.0, file.1.file_is, l.2 file.0 file.1)
   limited_new cmp (Row cursor) whole list h lists (inr l) = absurd (subst (λ o. IsOpenLimited o) h.0 l)
 
 -- ---- what they list

@@ -1,20 +1,22 @@
--- Which memory tables a scan reads.
-use Rattle.std.proofs.Common.{◌≡◌, ◌<◌, ℕ, Bool, true, false, cond, [], Option, Some, None, inl, inr, refl, sym, ap, ◌∙◌, subst, arith}
+-- Which memory tables and which tables a scan reads.
+use Rattle.std.proofs.Common.{◌≡◌, ◌<◌, ℕ, Bool, true, false, cond, List, [], Option, Some, None, inl, inr, refl, sym, ap, ◌∙◌, subst, arith}
 use Rattle.std.specs.Prelude.{IsSome, IfSome, nat_eq}
 use Rattle.std.specs.Option.{option_map, option_and_then}
 use Rattle.std.proofs.lemmas.Bool.{eq-eqb, eqb-true}
 use Rattle.cursor.specs.Places.{Cmp}
+use Rattle.edits.specs.declared.field.PlacedTable.{PlacedTable}
 use Rattle.memtable.specs.Contents.{Contents}
 use Rattle.memories.specs.Memories.{AreMemories, Memories, inserts_of, older_at, sealed_inserts, table_in}
 use Rattle.memories.specs.Places.{LeavesMemories, seen_by}
 use Rattle.scans.specs.declared.scan.Scan.{Scan}
+use Rattle.scans.specs.Places.{GoesOver, OneGoesOver}
 use Rattle.scans.specs.Rows.{IsOneOf, place_in}
 use Rattle.scans.specs.Scanning.{ReadsAs}
-use Rattle.scans.specs.Scans.{GoesOver, IsOpenNumber, KeepsWhole, reads_memory, tables_of}
+use Rattle.scans.specs.Scans.{KeepsWhole, reads_memory, reads_table, tables_of}
 use Rattle.scans.specs.declared.source_cursor.SourceCursor.TheVariants.{Row}
 use Rattle.rows.specs.declared.in_table.InTable.{InTable}
 use Rattle.rows.specs.declared.row_cursor.RowCursor.{RowCursor}
-use Rattle.rows.specs.InRows.{KeepsOpen}
+use Rattle.rows.specs.InRows.{HasNumber, IsOpenNumber, KeepsOpen}
 use Rattle.rows.specs.Rows.{KeepsRow}
 use Rattle.scans.specs.Whole.{Whole}
 
@@ -28,6 +30,15 @@ read_after old new same generation (inr e) = inr (same.sealed ∙ e)
 
 pub tables_as : {K : Type 0} {g : _} (old new : Scan K g) → ReadsAs old new → tables_of new ≡ tables_of old
 tables_as old new same = ap (λ (v : _). v.value.tables) same.version
+
+-- ---- tables
+
+-- what reads the tables of the same version reads no others, where its cursors go over no others
+pub table_before : {K : Type 0} {g : _} (old new : Scan K g) → ReadsAs old new
+    → ((number : ℕ) → OneGoesOver new.walk.cursor.children.items number → OneGoesOver old.walk.cursor.children.items number)
+    → (number : ℕ) → reads_table new number → reads_table old number
+table_before old new same within number (inl has) = inl (subst (λ (tables : List PlacedTable). HasNumber tables number) (tables_as old new same) has)
+table_before old new same within number (inr over) = inr (within number over)
 
 -- ---- rows
 

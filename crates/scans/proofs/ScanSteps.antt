@@ -17,13 +17,13 @@ use Rattle.memories.specs.Places.{MemoriesPlace, KeepsMemories, LeavesMemories}
 use Rattle.scans.specs.declared.scan.Scan.{Scan}
 use Rattle.scans.specs.declared.source_cursor.SourceCursor.{SourceCursor}
 use Rattle.scans.specs.declared.source_cursor.SourceCursor.TheVariants.{Memory, Row}
-use Rattle.scans.specs.Places.{KeepsSource, LeavesSource, LimitedSource, ListsSource}
+use Rattle.scans.specs.Places.{GoesOver, KeepsSource, LeavesSource, LimitedSource, ListsSource, OneGoesOver}
 use Rattle.scans.specs.Scanning.{IsScanned, ReadsAs, ScanIsKept, ScanPastLimit, has_pair}
-use Rattle.scans.specs.Scans.{GoesOver, IsOnePastLimit, KeepsScan, ListsMerged, reads_memory, reads_table, tables_of}
+use Rattle.scans.specs.Scans.{IsOnePastLimit, KeepsScan, ListsMerged, reads_memory, reads_table, tables_of}
 use Rattle.scans.specs.SourceLaws.{source_kept, source_limits}
 use Rattle.scans.specs.Whole.{Whole}
 use Rattle.store.specs.Files.{Facts}
-use Rattle.scans.proofs.ReadTables.{read_after, read_before, row_kept, tables_as, there_kept, there_left}
+use Rattle.scans.proofs.ReadTables.{read_after, read_before, row_kept, table_before, tables_as, there_kept, there_left}
 use Rattle.scans.proofs.Sights.{merged_as, placed_as}
 use Rattle.table.specs.Reading.{IsStill}
 
@@ -93,11 +93,14 @@ module _ {K : Type 0} {g : Ghosts K} {S : Type 0} (cmp : Cmp) (whole_of : S → 
   abbrev Limited : Merge K (SourceCursor K g) → S → Type 0
   Limited merge s = AnyLimited (λ cursor s. LimitedSource cmp cursor (whole_of s)) merge.children.items s
 
+  abbrev Over : Merge K (SourceCursor K g) → ℕ → Type 0
+  Over merge number = OneGoesOver merge.children.items number
+
   module _ (with : S → Memories → S) (with_is : (s : S) (w : Memories) → whole_of (with s w) ≡ record { seen = (whole_of s).seen; memory = w })
       (to : Walked → Option ℕ) (before after : S) (old new : Scan K g) (result : Result (Unit {0}) DbError)
       (moves : IsTrue (whole_of after).seen.facts.faithful → (at : Walked) → IsWalk cmp ListsOver old.walk before at → IsWalk cmp ListsOver new.walk after (walk_after result (to at) at))
       (sequence : new.walk.sequence ≡ old.walk.sequence) (reads : ReadsAs old new)
-      (stays : Stays (λ s. (whole_of s).seen.facts) Keeps Limited (λ s t. LeavesSource cmp (whole_of s) (whole_of t)) old.walk.cursor new.walk.cursor before after) where
+      (stays : Stays (λ s. (whole_of s).seen.facts) Keeps Limited (λ s t. LeavesSource cmp (whole_of s) (whole_of t)) Over old.walk.cursor new.walk.cursor before after) where
     bound_new : ((s t : Whole) → KeepsScan cmp old s t → KeepsAll (KeepsSource cmp) old.walk.cursor.children.items s t) → (s t : Whole) → KeepsScan cmp new s t → KeepsAll (KeepsSource cmp) new.walk.cursor.children.items s t
     bound_new bound s t k i child is = at child.cursor refl
       where
@@ -139,6 +142,7 @@ module _ {K : Type 0} {g : Ghosts K} {S : Type 0} (cmp : Cmp) (whole_of : S → 
       at_hand = at_hand;
       sequence = sequence;
       reads_as = reads;
+      tables = table_before old new reads stays.within;
       keeps = λ t n. record {
         memory = λ place le. stays_left place stays.left.memory;
         files = λ number. ap (λ files. table_at files number) (stays.reads.files t);

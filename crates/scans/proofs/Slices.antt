@@ -1,5 +1,5 @@
 -- The rows of tables that cursors are over, and the sources in which a version is searched.
-use Rattle.std.proofs.Common.{◌≡◌, ◌⊎◌, inl, inr, ◌+◌, ◌-◌, ◌++◌, ◌<◌, ◌≤◌, ◌==◌, ℕ, zero, suc, Bool, true, false, cond, List, [], ◌∷◌, drop, length, map, reverse, take, refl, sym, ap, ◌∙◌, subst, arith}
+use Rattle.std.proofs.Common.{◌≡◌, ◌⊎◌, inl, inr, ◌+◌, ◌-◌, ◌++◌, ◌<◌, ◌≤◌, ◌==◌, ℕ, zero, suc, Bool, true, false, cond, List, [], ◌∷◌, drop, length, map, reverse, take, refl, sym, ap, ◌∙◌, subst, arith, append_assoc}
 use Rattle.std.specs.Prelude.{nat_lt}
 use Rattle.std.specs.List.{AllByRecursion}
 use Rattle.std.proofs.lemmas.Bool.{cases_lt}
@@ -10,7 +10,7 @@ use Rattle.ikey.specs.declared.entry.Entry.{Entry}
 use Rattle.ikey.specs.Orders.{Order}
 use Rattle.ikey.specs.Sources.{AreInRow, AreSearched, IsNewerThan, joined}
 use Rattle.recover.specs.Tables.{TableContent, HasTables}
-use Rattle.scans.specs.Rows.{below, deeper_ranges, newest_ranges, range_kept}
+use Rattle.scans.specs.Rows.{OfRow, Spot, below, deeper_ranges, newest_ranges, range_kept, spots_of}
 use Rattle.scans.proofs.Ranges.{level_fits}
 use Rattle.search.specs.Places.{contents_at, lists_of, table_sources}
 use Rattle.store.specs.Files.{Files}
@@ -179,6 +179,17 @@ few_newest contents = let few = level_fits 0 (placed_of contents) in let long = 
 
 abbrev pub all_ranges : List PlacedTable → List (ℕ × ℕ)
 all_ranges tables = newest_ranges (length (tables_at 0 tables)) ++ deeper_ranges tables 6
+
+-- spots that are added one after another: some, those of the newest tables, and those of the deeper levels
+pub spots_together : (tables : List PlacedTable) (front begun added all : List Spot) → begun ≡ front → added ≡ begun ++ spots_of tables (newest_ranges (length (tables_at 0 tables)))
+    → all ≡ added ++ spots_of tables (deeper_ranges tables 6) → all ≡ front ++ spots_of tables (all_ranges tables)
+spots_together tables front begun added all first second third =
+    let newest = newest_ranges (length (tables_at 0 tables)) in
+    let deeper = deeper_ranges tables 6 in
+    third
+    ∙ ap (λ (spots : List Spot). spots ++ spots_of tables deeper) (second ∙ ap (λ (spots : List Spot). spots ++ spots_of tables newest) first)
+    ∙ append_assoc front (spots_of tables newest) (spots_of tables deeper)
+    ∙ ap (λ (spots : List Spot). front ++ spots) (sym (map-append (λ (range : ℕ × ℕ). OfRow tables range.0 range.1 false) newest deeper))
 
 -- over these ranges lie the sources of a search, but for empty levels
 pub kept_sources : (contents : List TableContent) → LevelsRise contents → Kept (map (entries_in contents) (all_ranges (placed_of contents))) (table_sources contents)

@@ -8,10 +8,10 @@ use Rattle.memories.specs.PlaceLaws.{left_there}
 use Rattle.memories.specs.Places.{KeepsMemories, LeavesMemories, MemoriesPlace}
 use Rattle.rows.specs.declared.row_cursor.RowCursor.{RowCursor}
 use Rattle.rows.specs.RowLaws.{row_still}
-use Rattle.rows.specs.Rows.{KeepsRow, IsRowLimited, rows_tables}
+use Rattle.rows.specs.Rows.{GoesOverRow, KeepsRow, IsRowLimited, rows_tables}
 use Rattle.scans.specs.declared.source_cursor.SourceCursor.{SourceCursor}
 use Rattle.scans.specs.declared.source_cursor.SourceCursor.TheVariants.{Memory, Row}
-use Rattle.scans.specs.Places.{KeepsSource, LeavesSource, LimitedSource}
+use Rattle.scans.specs.Places.{GoesOver, KeepsSource, LeavesSource, LimitedSource}
 use Rattle.scans.specs.Whole.{Whole}
 use Rattle.sources.specs.Memory.{memory_facts}
 use Rattle.sources.specs.Tables.{Seen, Carries}
@@ -23,11 +23,11 @@ whole_of seen_of tables_of memory_of source = record { seen = seen_of (tables_of
 module _ {K : Type 0} {g : Ghosts K} {S T : Type 0} (cmp : Cmp) (seen_of : T → Seen) (tables_of : S → T) (memory_of : S → Memories) where
   abbrev pub StaysSource : SourceCursor K g → SourceCursor K g → S → S → Type 0
   StaysSource old new before after = Stays (λ source. (whole_of seen_of tables_of memory_of source).seen.facts) (λ cursor s t. KeepsSource cmp cursor (whole_of seen_of tables_of memory_of s) (whole_of seen_of tables_of memory_of t)) (λ cursor source. LimitedSource cmp cursor (whole_of seen_of tables_of memory_of source))
-      (λ s t. LeavesSource cmp (whole_of seen_of tables_of memory_of s) (whole_of seen_of tables_of memory_of t)) old new before after
+      (λ s t. LeavesSource cmp (whole_of seen_of tables_of memory_of s) (whole_of seen_of tables_of memory_of t)) (λ cursor number. GoesOver cursor number) old new before after
 
   -- a move over a memory table
   pub stays_memory : (old new : MemoriesPlace) (before after : S) → seen_of (tables_of after) ≡ seen_of (tables_of before)
-      → Stays (λ memories. memory_facts) (λ cursor s t. KeepsMemories cmp cursor s t) (λ cursor memories. ⊥) (λ s t. LeavesMemories s t) old new (memory_of before) (memory_of after) → StaysSource (Memory old) (Memory new) before after
+      → Stays (λ memories. memory_facts) (λ cursor s t. KeepsMemories cmp cursor s t) (λ cursor memories. ⊥) (λ s t. LeavesMemories s t) (λ cursor number. ⊥) old new (memory_of before) (memory_of after) → StaysSource (Memory old) (Memory new) before after
   stays_memory old new before after is h =
       let carries = subst (λ (s : Seen). Carries cmp (seen_of (tables_of before)) s) (sym is) (carries_itself cmp (seen_of (tables_of before))) in
       record {
@@ -36,6 +36,7 @@ module _ {K : Type 0} {g : Ghosts K} {S T : Type 0} (cmp : Cmp) (seen_of : T →
         others = λ t other. rest other;
         same = λ s t k. h.same (memory_of s) (memory_of t) k;
         limit = λ t l. l;
+        within = λ number o. o;
       }
     where
       rest : (other : SourceCursor K g) → KeepsSource cmp other (whole_of seen_of tables_of memory_of before) (whole_of seen_of tables_of memory_of after)
@@ -44,7 +45,7 @@ module _ {K : Type 0} {g : Ghosts K} {S T : Type 0} (cmp : Cmp) (seen_of : T →
 
   -- a move over a row of tables
   pub stays_row : (leaves : T → T → Type 0) (old new : RowCursor K g) (before after : S) → memory_of after ≡ memory_of before
-      → Stays (λ tables. (seen_of tables).facts) (λ cursor s t. KeepsRow cmp cursor (seen_of s) (seen_of t)) (λ cursor tables. IsRowLimited cmp (seen_of tables) cursor) leaves old new (tables_of before) (tables_of after)
+      → Stays (λ tables. (seen_of tables).facts) (λ cursor s t. KeepsRow cmp cursor (seen_of s) (seen_of t)) (λ cursor tables. IsRowLimited cmp (seen_of tables) cursor) leaves (λ cursor number. GoesOverRow cursor number) old new (tables_of before) (tables_of after)
       → StaysSource (Row old) (Row new) before after
   stays_row leaves old new before after is h = record {
     reads = h.reads;
@@ -55,6 +56,7 @@ module _ {K : Type 0} {g : Ghosts K} {S T : Type 0} (cmp : Cmp) (seen_of : T →
     others = λ t other. rest t other;
     same = λ s t k. h.same (tables_of s) (tables_of t) k;
     limit = h.limit;
+    within = h.within;
   }
     where
       rest : IsTrue (seen_of (tables_of after)).facts.faithful → (other : SourceCursor K g) → KeepsSource cmp other (whole_of seen_of tables_of memory_of before) (whole_of seen_of tables_of memory_of after)

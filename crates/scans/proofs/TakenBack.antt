@@ -9,14 +9,15 @@ use Rattle.cursor.specs.Places.{Cmp}
 use Rattle.cursor.specs.Views.{IsViewList}
 use Rattle.cursor.specs.Walks.{IsPlacedWalk, key_before, walked}
 use Rattle.ikey.specs.declared.key_order.KeyOrder.{Ghosts}
+use Rattle.rows.specs.InRows.{HasNumber}
 use Rattle.scans.specs.declared.scan.Scan.{Scan}
 use Rattle.scans.specs.declared.source_cursor.SourceCursor.{SourceCursor}
-use Rattle.scans.specs.Places.{KeepsSource}
+use Rattle.scans.specs.Places.{KeepsSource, OneGoesOver}
 use Rattle.scans.specs.Scanning.{TakesBack}
 use Rattle.scans.specs.Scanning.{ReadsAs}
-use Rattle.scans.specs.Scans.{HasNumber, IsOnePastLimit, KeepsScan, ListsMerged, reads_table}
+use Rattle.scans.specs.Scans.{IsOnePastLimit, KeepsScan, ListsMerged, reads_table}
 use Rattle.scans.specs.Whole.{Whole}
-use Rattle.scans.proofs.ReadTables.{read_after, read_before}
+use Rattle.scans.proofs.ReadTables.{read_after, read_before, table_before}
 use Rattle.scans.proofs.Sights.{walks_again}
 
 pub taken_back : {K : Type 0} {g : Ghosts K} (cmp : Cmp) (stood : Bool) (old new : Scan K g) → new.walk.cursor ≡ old.walk.cursor → new.walk.sequence ≡ old.walk.sequence → new.walk.stands ≡ stood → new.walk.position ≡ Astray
@@ -52,3 +53,8 @@ taken_back {K} {g} cmp stood old new cursor sequence stands position key reads f
       files = λ number is. w.files number (used number is);
       sound = w.sound;
     }
+
+-- it goes over no other tables than before
+pub tables_back : {K : Type 0} {g : Ghosts K} (old new : Scan K g) → new.walk.cursor ≡ old.walk.cursor → ReadsAs old new → (number : ℕ) → reads_table new number → reads_table old number
+tables_back {K} {g} old new cursor reads =
+    table_before old new reads (λ number over. subst (λ (m : Merge K (SourceCursor K g)). OneGoesOver m.children.items number) cursor over)

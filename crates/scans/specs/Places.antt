@@ -1,9 +1,11 @@
 -- Where one of the cursors that a scan merges stands.
-use Rattle.std.specs.Prelude.{Bool, is_some}
+use Rattle.std.specs.Prelude.{ℕ, Bool, List, is_some}
+use Rattle.cursor.specs.declared.child.Child.{Child}
+use Rattle.cursor.specs.Merging.{GoesOverAny}
 use Rattle.cursor.specs.Places.{Cmp, Listed}
 use Rattle.memories.specs.Places.{ListsMemories, KeepsMemories, LeavesMemories}
 use Rattle.sources.specs.Tables.{Carries}
-use Rattle.rows.specs.Rows.{ListsRow, KeepsRow, row_stands, IsRowLimited}
+use Rattle.rows.specs.Rows.{GoesOverRow, ListsRow, KeepsRow, row_stands, IsRowLimited}
 use Rattle.scans.specs.declared.source_cursor.SourceCursor.{SourceCursor}
 use Rattle.scans.specs.declared.source_cursor.SourceCursor.TheVariants.{Memory, Row}
 use Rattle.scans.specs.Whole.{Whole}
@@ -26,6 +28,15 @@ source_stands (Row cursor) = row_stands cursor
 abbrev pub LimitedSource : {K : Type 0} {g : _} → Cmp → SourceCursor K g → Whole → Type 0
 LimitedSource cmp (Memory cursor) whole = ⊥
 LimitedSource cmp (Row cursor) whole = IsRowLimited cmp whole.seen cursor
+
+-- it goes over the table of this number
+abbrev pub GoesOver : {K : Type 0} {g : _} → SourceCursor K g → ℕ → Type 0
+GoesOver (Memory cursor) number = ⊥
+GoesOver (Row cursor) number = GoesOverRow cursor number
+
+-- one of these does
+abbrev pub OneGoesOver : {K : Type 0} {g : _} → List (Child (SourceCursor K g)) → ℕ → Type 0
+OneGoesOver {K} {g} children number = GoesOverAny (λ (cursor : SourceCursor K g) n. GoesOver cursor n) children number
 
 -- What a move of one of them leaves, whatever the store returns: the entries of the memory tables, and what is known of the tables.
 pub record LeavesSource (cmp : Cmp) (old new : Whole) : Type 0 where

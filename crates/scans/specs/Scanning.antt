@@ -14,7 +14,7 @@ use Rattle.memories.specs.Changes.{IsWritten}
 use Rattle.memories.specs.Places.{LeavesMemories}
 use Rattle.scans.specs.declared.scan.Scan.{Scan}
 use Rattle.scans.specs.Places.{source_stands}
-use Rattle.scans.specs.Scans.{IsScan, IsScanLimited, IsOnePastLimit, KeepsScan, KeepsUpTo, tables_of}
+use Rattle.scans.specs.Scans.{IsScan, IsScanLimited, IsOnePastLimit, KeepsScan, KeepsUpTo, reads_table, tables_of}
 use Rattle.scans.specs.Whole.{Whole}
 use Rattle.sources.specs.Tables.{Carries, IsSound}
 use Rattle.table.specs.Reading.{Reads, IsStill}
@@ -35,6 +35,8 @@ pub record IsScanned {K : Type 0} {g : _} (cmp : Cmp) (to : Walked → Option �
   pub at_hand : OnOk result (new.walk.stands ≡ true → has_pair new ≡ true)
   pub sequence : new.walk.sequence ≡ old.walk.sequence
   pub reads_as : ReadsAs old new
+  -- it reads no other tables, whatever the store returns
+  pub tables : (number : ℕ) → reads_table new number → reads_table old number
   -- what it leaves of the source
   pub keeps : IsTrue after.seen.facts.faithful → (sequence : ℕ) → KeepsUpTo cmp sequence before after
   pub memory : LeavesMemories before.memory after.memory

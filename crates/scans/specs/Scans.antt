@@ -1,5 +1,5 @@
 -- What a scan over an open database stands for (LevelDB's include/leveldb/iterator.h).
-use Rattle.std.specs.Prelude.{◌≡◌, ◌≤◌, ◌++◌, ◌⊎◌, ℕ, List, Option, Some, None, IsSome, Contains, map, slice_get}
+use Rattle.std.specs.Prelude.{◌≡◌, ◌≤◌, ◌++◌, ◌⊎◌, ℕ, List, Some, None, IsSome, Contains, map, slice_get}
 use Rattle.cache.specs.Tables.{table_at}
 use Rattle.cursor.specs.declared.child.Child.{Child}
 use Rattle.cursor.specs.declared.merge.Merge.{Merge}
@@ -15,12 +15,10 @@ use Rattle.memories.specs.Memories.{logged_in, table_in}
 use Rattle.memories.specs.Places.{MemoriesPlace, KeepsMemories}
 use Rattle.recover.specs.Tables.{TableContent}
 use Rattle.scans.specs.declared.scan.Scan.{Scan}
-use Rattle.rows.specs.declared.in_table.InTable.{InTable}
-use Rattle.rows.specs.Rows.{rows_tables}
+use Rattle.rows.specs.InRows.{HasNumber}
 use Rattle.scans.specs.declared.source_cursor.SourceCursor.{SourceCursor}
-use Rattle.scans.specs.declared.source_cursor.SourceCursor.TheVariants.{Memory, Row}
 use Rattle.scans.specs.Pairs.{ArePairs, listed_pair}
-use Rattle.scans.specs.Places.{ListsSource, KeepsSource, LimitedSource}
+use Rattle.scans.specs.Places.{ListsSource, KeepsSource, LimitedSource, OneGoesOver}
 use Rattle.scans.specs.Rows.{IsOneOf}
 use Rattle.scans.specs.Whole.{Whole}
 use Rattle.search.specs.Places.{table_sources, HasVersion}
@@ -41,24 +39,9 @@ reads_memory scan generation = IsOneOf scan.generation scan.sealed generation
 abbrev pub tables_of : {K : Type 0} {g : _} → Scan K g → List PlacedTable
 tables_of scan = scan.version.value.tables
 
--- one of these tables has this number
-abbrev pub HasNumber : List PlacedTable → ℕ → Type 0
-HasNumber tables number = (placed : PlacedTable) × Contains tables placed × (placed.table.number ≡ number)
-
-abbrev pub IsOpenNumber : {K : Type 0} {g : _} → Option (InTable K g) → ℕ → Type 0
-IsOpenNumber None number = ⊥
-IsOpenNumber (Some here) number = here.cursor.number ≡ number
-
--- the cursor goes over a table of this number, or has opened it
-abbrev pub GoesOver : {K : Type 0} {g : _} → SourceCursor K g → ℕ → Type 0
-GoesOver (Memory cursor) number = ⊥
-GoesOver (Row cursor) number = HasNumber (rows_tables cursor) number ⊎ IsOpenNumber cursor.here number
-
 -- the table of this number is one of its version, or of those that its cursors go over
 abbrev pub reads_table : {K : Type 0} {g : _} → Scan K g → ℕ → Type 0
-reads_table {K} {g} scan number =
-    HasNumber (tables_of scan) number
-    ⊎ ((i : ℕ) × (child : Child (SourceCursor K g)) × (slice_get scan.walk.cursor.children.items i ≡ Some child) × GoesOver child.cursor number)
+reads_table scan number = HasNumber (tables_of scan) number ⊎ OneGoesOver scan.walk.cursor.children.items number
 
 -- What a scan at the sequence, over memory tables of these generations and tables of these numbers, reads of the first source is the
 -- same in the second.

@@ -24,17 +24,19 @@ pub struct Scan<K: KeyOrder> {
 }
 
 impl<K: KeyOrder> Scan<K> {
-    ghost use Rattle.std.specs.Prelude.{◌≡◌, ◌<◌, ◌^◌, List, false, min, true, IfOk, MatchBool};
+    ghost use Rattle.std.specs.Prelude.{◌≡◌, ◌<◌, ◌^◌, ℕ, List, false, min, true, IfOk, MatchBool};
     ghost use Rattle.cursor.specs.Views.{Walked, walk_first, walk_last, walk_next, walk_prev, walk_to};
     ghost use Rattle.cursor.specs.Walks.{key_before};
     ghost use Rattle.ikey.specs.Orders.{order_of};
+    ghost use Rattle.rows.specs.InRows.{HasNumber};
     ghost use Rattle.scans.specs.Pairs.{pair_on};
     ghost use Rattle.scans.specs.Scanning.{IsScanned, ReadsAs, ScanIsKept, ScanPastLimit, TakesBack, has_pair};
-    ghost use Rattle.scans.specs.Scans.{BeginsScan, IsScan, reads_memory, tables_of};
+    ghost use Rattle.scans.specs.Scans.{BeginsScan, IsScan, reads_memory, reads_table, tables_of};
     ghost use Rattle.scans.specs.Whole.{whole};
+    ghost use Rattle.versions.specs.Keeping as versions;
 
     /// A scan over what the entries of the memory tables and of a version's tables put up to a sequence, up to the last one
-    /// that is used. It stands nowhere; nothing is read, and no table is opened.
+    /// that is used. It stands nowhere; nothing is read, and no table is opened. It reads no other tables than the version's.
     pub fn over<S: Store>(
         alloc: Global,
         source: &Sources<K, S>,
@@ -44,6 +46,7 @@ impl<K: KeyOrder> Scan<K> {
         ensures nowhere { IfOk result (λ scan. scan.walk.stands ≡ false) }
         ensures sequence { IfOk result (λ scan. scan.walk.sequence ≡ min sequence source.now.memory.last) }
         ensures tables { IfOk result (λ scan. tables_of scan ≡ version.now.value.tables) }
+        ensures within { IfOk result (λ scan. (number : ℕ) → reads_table scan number → HasNumber version.now.value.tables number) }
         ensures begins { IfOk result (λ scan. BeginsScan (order_of K.name K.cmp) version.now.value.tables sequence
             (whole (S.facts source.now.tables.store) source.now.tables.tables source.now.tables.blocks source.now.memory) scan) }
     {
@@ -133,6 +136,7 @@ impl<K: KeyOrder> Scan<K> {
         ensures cursor { self.new.walk.cursor ≡ self.old.walk.cursor }
         ensures sequence { self.new.walk.sequence ≡ self.old.walk.sequence }
         ensures reads_as { ReadsAs self.old self.new }
+        ensures within { (number : ℕ) → reads_table self.new number → reads_table self.old number }
         ensures stands { self.new.walk.stands ≡ stood }
         ensures key { self.new.walk.here.key.items ≡ key_before self.old.walk }
         ensures back { TakesBack K.cmp stood self.old self.new }
@@ -169,6 +173,13 @@ impl<K: KeyOrder> Scan<K> {
         ensures { MatchBool result (reads_memory self.now generation) (reads_memory self.now generation → ⊥) }
     {
         generation == self.generation || self.sealed == Some(generation)
+    }
+
+    /// Whether its version has the table of this number.
+    pub fn has_table(&self, number: u64) -> bool
+        ensures { MatchBool result (versions.HasNumber number (tables_of self.now)) (versions.HasNumber number (tables_of self.now) → ⊥) }
+    {
+        self.version.has_number(number)
     }
 
     /// A scan stays where it is while what it reads is kept.

@@ -18,7 +18,7 @@ pub enum SourceCursor<K: KeyOrder> {
 }
 
 impl<K: KeyOrder, S: Store> Cursor<K, Sources<K, S>> for SourceCursor<K> {
-    ghost use Rattle.scans.specs.Places.{ListsSource, KeepsSource, LimitedSource, LeavesSource, source_stands};
+    ghost use Rattle.scans.specs.Places.{GoesOver, ListsSource, KeepsSource, LimitedSource, LeavesSource, source_stands};
     ghost use Rattle.scans.specs.SourceLaws.{source_rises, source_placed, source_inside, source_kept, source_still, source_onward, source_limits, source_left, source_left_on};
     ghost use Rattle.scans.specs.Whole.{whole};
 
@@ -33,6 +33,8 @@ impl<K: KeyOrder, S: Store> Cursor<K, Sources<K, S>> for SourceCursor<K> {
     ghost limited = { λ cursor source. LimitedSource K.cmp cursor (whole (S.facts source.tables.store) source.tables.tables source.tables.blocks source.memory) };
 
     ghost leaves = { λ old new. LeavesSource K.cmp (whole (S.facts old.tables.store) old.tables.tables old.tables.blocks old.memory) (whole (S.facts new.tables.store) new.tables.tables new.tables.blocks new.memory) };
+
+    ghost over = { λ cursor number. GoesOver cursor number };
 
     fn first(&mut self, alloc: Global, source: &mut Sources<K, S>) -> Result<(), DbError> {
         match self {

@@ -1,9 +1,9 @@
 -- Calls that only read tables, one after another.
-use Rattle.std.proofs.Common.{◌≡◌, ℕ, List, IsTrue, refl, ap, ◌∙◌, arith}
+use Rattle.std.proofs.Common.{◌≡◌, ◌⊎◌, ℕ, List, IsSome, IsTrue, refl, ap, ◌∙◌, arith, inl}
 use Rattle.cache.specs.Tables.{table_at}
 use Rattle.cursor.specs.Places.{Cmp}
 use Rattle.ikey.specs.Entries.{Pair}
-use Rattle.sources.specs.Tables.{Seen, Carries, HasTable, HasData}
+use Rattle.sources.specs.Tables.{Seen, Carries, HasTable, HasData, KeepsOf, Knows}
 use Rattle.store.specs.Files.{Facts}
 use Rattle.table.specs.Frame.{Frame}
 use Rattle.table.specs.Reading.{Reads}
@@ -25,13 +25,19 @@ reads_both old mid new first second =
     }
 
 pub carries_itself : (cmp : Cmp) (source : Seen) → Carries cmp source source
-carries_itself cmp source = record { reads = reads_itself source.facts; sound = λ t h. h }
+carries_itself cmp source = record { reads = reads_itself source.facts; sound = λ t h. h; kept = λ t number k. k }
 
 pub carries_both : (cmp : Cmp) (old mid new : Seen) → Carries cmp old mid → Carries cmp mid new → Carries cmp old new
 carries_both cmp old mid new first second = record {
   reads = reads_both old.facts mid.facts new.facts first.reads second.reads;
   sound = λ t h. second.sound t (first.sound (second.reads.faithful t) h);
+  kept = λ t number k. first.kept (second.reads.faithful t) number (second.kept t number k);
 }
+
+-- what is kept afterwards is of tables of which something was kept before, or that are there
+pub kept_anew : (cmp : Cmp) (old new : Seen) (number : ℕ) → Carries cmp old new → IsTrue new.facts.faithful → KeepsOf new number → KeepsOf old number ⊎ IsSome (table_at old.facts.files number)
+unfolding Knows
+kept_anew cmp old new number carries t kept = carries.kept t number (inl kept)
 
 -- a source has the same tables afterwards
 pub same_table_at : (cmp : Cmp) (old new : Seen) (number : ℕ) → Carries cmp old new → IsTrue new.facts.faithful → table_at new.facts.files number ≡ table_at old.facts.files number

@@ -1,7 +1,9 @@
 -- That a table's filter and index rule out a user key.
-use Rattle.std.proofs.Common.{◌≡◌, ◌≤◌, ◌+◌, ◌-◌, ◌++◌, ℕ, zero, suc, List, [], ◌∷◌, Option, Some, None, length, sym, ap, ◌∙◌, subst, arith}
+use Rattle.std.proofs.Common.{◌≡◌, ◌<◌, ◌≤◌, ◌+◌, ◌-◌, ◌++◌, ℕ, zero, suc, List, [], ◌∷◌, Option, Some, None, length, sym, ap, ◌∙◌, subst, arith, inl, inr}
 use Rattle.std.specs.Cmp.{IsTotalOrder}
 use Rattle.std.specs.List.{slice_get, AllByRecursion}
+use Rattle.std.proofs.lemmas.Bool.{cases_lt}
+use Rattle.std.proofs.lemmas.Option.{get_or_from_slice_get}
 use Rattle.block.specs.Block.{AreAbove}
 use Rattle.cursor.specs.Places.{Cmp}
 use Rattle.filter.specs.Hash.{hash_of}
@@ -9,15 +11,16 @@ use Rattle.ikey.specs.Below.{IsBelowInternal, internal_transitive}
 use Rattle.ikey.specs.Entries.{Pair}
 use Rattle.ikey.specs.Keys.{Key, IsKey}
 use Rattle.sources.specs.TablePlaces.{joined, pairs_before}
-use Rattle.sources.proofs.Placing.{behind, before_zero}
+use Rattle.sources.proofs.Placing.{behind, before_zero, some_at}
 use Rattle.table.specs.declared.handle.Place.{Place}
 use Rattle.table.specs.Frame.{ArePlaces, TableAdmits}
+use Rattle.table.specs.Refusals.{IsFirstPlace}
 use Rattle.table.specs.Table.{AreAdmitted, AreBounds, IsBound}
 
-all_at : (P : Pair → Type 0) (pairs : List Pair) (n : ℕ) (pair : Pair) → AllByRecursion P pairs → slice_get pairs n ≡ Some pair → P pair
-all_at P [] n pair h e = absurd (let bad : None ≡ Some pair = e in cc)
-all_at P (x ∷ pairs) zero pair h e = let s : x ≡ pair = let t : Some x ≡ Some pair = e in cc in subst P s h.0
-all_at P (x ∷ pairs) (suc n) pair h e = all_at P pairs n pair h.1 e
+all_at : {X : Type 0} (P : X → Type 0) (xs : List X) (n : ℕ) (x : X) → AllByRecursion P xs → slice_get xs n ≡ Some x → P x
+all_at P [] n x h e = absurd (let bad : None ≡ Some x = e in cc)
+all_at P (y ∷ xs) zero x h e = let s : y ≡ x = let t : Some y ≡ Some x = e in cc in subst P s h.0
+all_at P (y ∷ xs) (suc n) x h e = all_at P xs n x h.1 e
 
 all_both : (P : Pair → Type 0) (xs ys : List Pair) → AllByRecursion P xs → AllByRecursion P ys → AllByRecursion P (xs ++ ys)
 all_both P [] ys h k = k
@@ -77,6 +80,39 @@ module _ (cmp : Cmp) (total : IsTotalOrder cmp) where
   bounds_rise (x ∷ pairs) (p ∷ places) up are =
       let rest = rise_behind x.key pairs places up are.2 in
       (subst (λ (k : List ℕ). AllByRecursion (λ (later : Place). IsBelowInternal cmp k later.key) places) are.0 rest.0, rest.1)
+
+  later_above : (places : List Place) (i j : ℕ) (a b : Place) → BoundsRise places → i < j → slice_get places i ≡ Some a → slice_get places j ≡ Some b → IsBelowInternal cmp a.key b.key
+  unfolding BoundsRise
+  later_above [] i j a b rise less e f = absurd (let bad : None ≡ Some a = e in cc)
+  later_above (p ∷ places) i zero a b rise less e f = absurd (omega (arith, less))
+  later_above (p ∷ places) zero (suc j) a b rise less e f =
+      let s : p ≡ a = let t : Some p ≡ Some a = e in cc in
+      subst (λ (q : Place). IsBelowInternal cmp q.key b.key) s (all_at (λ (later : Place). IsBelowInternal cmp p.key later.key) places j b rise.0 f)
+  later_above (p ∷ places) (suc i) (suc j) a b rise less e f = later_above places i j a b rise.1 (omega (arith, less)) e f
+
+  -- the first block that can have a key is one
+  no_later : (target : List ℕ) (places : List Place) (i j : ℕ) → BoundsRise places → IsFirstPlace cmp target places i → IsFirstPlace cmp target places j → i < j → ⊥
+  no_later target places i j rise first later less =
+      let inside = later.inside in
+      let within : i < length places = omega (arith, less, inside) in
+      let a = some_at places i within in
+      let b = some_at places (j - 1) (omega (arith, less, inside)) in
+      elim (cases_lt i (j - 1)) [
+        | inl l ↦
+            let below = subst (λ (q : Place). IsBelowInternal cmp q.key target) (get_or_from_slice_get places (j - 1) b.0 b.0 b.1) (later.front (j - 1) b.0 (omega (arith, less))) in
+            let under = internal_transitive cmp total a.0.key b.0.key target (later_above places i (j - 1) a.0 b.0 rise l a.1 b.1) below in
+            first.found a.0 within (subst (λ (q : Place). IsBelowInternal cmp q.key target) (sym (get_or_from_slice_get places i a.0 a.0 a.1)) under)
+        | inr ge ↦ first.found a.0 within (later.front i a.0 (omega (arith, ge, less)))
+      ]
+
+  pub one_first_place : (target : List ℕ) (places : List Place) (i j : ℕ) → BoundsRise places → IsFirstPlace cmp target places i → IsFirstPlace cmp target places j → i ≡ j
+  one_first_place target places i j rise first other = elim (cases_lt i j) [
+    | inl l ↦ absurd (no_later target places i j rise first other l)
+    | inr ge ↦ elim (cases_lt j i) [
+      | inl l ↦ absurd (no_later target places j i rise other first l)
+      | inr le ↦ omega (arith, ge, le)
+    ]
+  ]
 
   -- the first of these blocks is above
   FirstAbove : List ℕ → List (List Pair) → Type 0

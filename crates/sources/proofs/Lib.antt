@@ -1,4 +1,6 @@
 mod Arriving
+mod Knowing
+mod Ruling
 mod Seeking
 mod Seen
 mod Views

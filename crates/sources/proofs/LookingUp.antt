@@ -1,5 +1,5 @@
 -- What the first entry that isn't below a user key at a sequence says of that key.
-use Rattle.std.proofs.Common.{◌≡◌, ◌<◌, ◌≤◌, ℕ, List, [], ◌∷◌, Option, Some, None, length, map, refl, sym, ap, ◌∙◌, subst, arith, inl, inr}
+use Rattle.std.proofs.Common.{◌≡◌, ◌<◌, ◌≤◌, ℕ, List, [], ◌∷◌, ◌++◌, Option, Some, None, length, map, refl, sym, ap, ◌∙◌, subst, arith, inl, inr}
 use Rattle.std.specs.Cmp.{IsTotalOrder, tied_itself, nat_cmp_is}
 use Rattle.std.specs.FinMap.{IsAntisymmetric}
 use Rattle.std.specs.List.{slice_get}
@@ -8,6 +8,7 @@ use Rattle.std.specs.declared.cmp.Ordering.{Ordering}
 use Rattle.std.specs.declared.cmp.Ordering.TheVariants.{Less}
 use Rattle.std.proofs.lemmas.Bool.{cases_lt}
 use Rattle.std.proofs.lemmas.Option.{slice_get_within}
+use Rattle.coding.specs.Fixed.{fixed64}
 use Rattle.cursor.specs.Places.{Cmp, Rises}
 use Rattle.cursor.proofs.Befores.{before_cases, get_among, later_older, rises_get, same_get}
 use Rattle.cursor.proofs.Fronts.{among_get}
@@ -123,3 +124,16 @@ module _ (cmp : Cmp) (total : IsTotalOrder cmp) (exact : IsAntisymmetric cmp) wh
           pub found_there : (value : Option (Option (List ℕ))) → SaysOfEntry entry user value → IsLookUp (map entry_of entries) sequence user value
           found_there None says = other_there says
           found_there (Some value) says = (entry_of entry, newest says.0, says.0, says.1)
+
+-- the first internal key of a user key up to a sequence is one
+pub one_first_key : (cmp : Cmp) → IsTotalOrder cmp → IsAntisymmetric cmp → (user : List ℕ) (sequence : ℕ) (a b : List ℕ) → IsFirstKey user sequence a → IsFirstKey user sequence b → a ≡ b
+one_first_key cmp total exact user sequence a b h k =
+    let same : h.key.user ≡ k.key.user = h.user_is ∙ sym k.user_is in
+    let tags : tag_of h.key ≡ tag_of k.key = elim (cases_lt (tag_of h.key) (tag_of k.key)) [
+      | inl l ↦ absurd (seen_not_below cmp total exact user sequence a h k.key k.user_is k.visible (less_by_tag cmp total k.key h.key (sym same) l))
+      | inr ge ↦ elim (cases_lt (tag_of k.key) (tag_of h.key)) [
+        | inl l ↦ absurd (seen_not_below cmp total exact user sequence b k h.key h.user_is h.visible (less_by_tag cmp total h.key k.key same l))
+        | inr le ↦ omega (arith, ge, le)
+      ]
+    ] in
+    h.encoded.parts ∙ (λ i. same i ++ fixed64 (tags i)) ∙ sym k.encoded.parts

@@ -1,5 +1,5 @@
 -- Where a step over a table leads, and where it stays.
-use Rattle.std.proofs.Common.{◌≡◌, ℕ, true, List, Option, Some, None, is_some, IsTrue, sym, ap, ◌∙◌}
+use Rattle.std.proofs.Common.{◌≡◌, ℕ, List, Option, Some, None, is_some, IsTrue, sym, ap, ◌∙◌}
 use Rattle.std.specs.Option.{option_and_then}
 use Rattle.block.specs.Places.{Placed}
 use Rattle.cursor.specs.Places.{Cmp, Listed, index_before, index_behind, to_next, to_prev, within}

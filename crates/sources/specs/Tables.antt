@@ -1,6 +1,6 @@
 -- A store whose tables are read through caches.
 use Rattle.std.specs.FinMap.{get}
-use Rattle.std.specs.Prelude.{◌≡◌, ◌⊎◌, ℕ, List, Some, [], IsTrue, Contains}
+use Rattle.std.specs.Prelude.{◌≡◌, ◌⊎◌, ℕ, List, Some, [], IsSome, IsTrue, Contains}
 use Rattle.cache.specs.Blocks.{BlockCache, KeptBlock}
 use Rattle.cache.specs.Holding.{HoldsBlocks, HoldsTables}
 use Rattle.cache.specs.Tables.{TableCache, KeptTable, table_at}
@@ -33,10 +33,21 @@ pub record IsSound (cmp : Cmp) (source : Seen) : Type 0 where
   pub tables : HoldsTables cmp (table_at source.facts.files) source.facts source.tables
   pub blocks : HoldsBlocks cmp (table_at source.facts.files) source.blocks
 
--- A call that reads tables only reads the store, and leaves what is kept right.
+-- something is kept of the table of this number
+abbrev pub KeepsOf : Seen → ℕ → Type 0
+KeepsOf source number =
+    ((kept : KeptTable) × Contains source.tables kept × (kept.number ≡ number)) ⊎ ((kept : KeptBlock) × Contains source.blocks kept × (kept.file ≡ number))
+
+-- something is, or the store has this table
+unfoldable pub Knows : Seen → ℕ → Type 0
+Knows source number = KeepsOf source number ⊎ IsSome (table_at source.facts.files number)
+
+-- A call that reads tables only reads the store, and leaves what is kept right. What it keeps anew is of tables that are
+-- there: of what it knows afterwards, it knew before.
 pub record Carries (cmp : Cmp) (old new : Seen) : Type 0 where
   pub reads : Reads old.facts new.facts
   pub sound : IsTrue new.facts.faithful → IsSound cmp old → IsSound cmp new
+  pub kept : IsTrue new.facts.faithful → (number : ℕ) → Knows new number → Knows old number
 
 -- the store has this file as the table of this number, and what is kept is right
 pub record HasTable (cmp : Cmp) (source : Seen) (number : ℕ) (file : List ℕ) : Type 0 where

@@ -4,11 +4,11 @@ use Rattle.cursor.specs.Places.{Cmp}
 use Rattle.filter.specs.Hash.{hash_of}
 use Rattle.ikey.specs.declared.entry.Entry.{Entry}
 use Rattle.ikey.specs.Entries.{InternalEntry, entry_of, value_of}
-use Rattle.ikey.specs.Keys.{Key, IsKey}
+use Rattle.ikey.specs.Keys.{Key, IsKey, IsFirstKey}
 use Rattle.ikey.specs.Views.{IsNewest, IsUnseen}
 use Rattle.table.specs.declared.handle.Place.{Place}
 use Rattle.table.specs.Frame.{AnyLong, Frame, IsFrame, TableDenies, handles}
-use Rattle.table.specs.Refusals.{IsFrameUnsupported}
+use Rattle.table.specs.Refusals.{IsFirstPlace, IsFrameUnsupported}
 use Rattle.table.specs.Table.{IsTable}
 
 -- what a search for a user key has found: nothing where none of its entries is seen, and else what the newest one put
@@ -36,6 +36,14 @@ pub record DeniesKey (frame : Frame) (start : ℕ) (key : List ℕ) : Type 0 whe
   pub bound_is : IsKey place.key bound
   pub other : bound.user ≡ key → ⊥
   pub denied : TableDenies frame.filter place.handle.offset (hash_of key)
+
+-- it says so of the first block that can have an entry of the user key up to this sequence
+pub record IsDenied (cmp : Cmp) (frame : Frame) (key : List ℕ) (sequence : ℕ) : Type 0 where
+  pub target : List ℕ
+  pub start : ℕ
+  pub target_is : IsFirstKey key sequence target
+  pub start_is : IsFirstPlace cmp target frame.places start
+  pub denies : DeniesKey frame start key
 
 -- ---- refusals
 

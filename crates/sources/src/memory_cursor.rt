@@ -153,6 +153,8 @@ impl<K: KeyOrder> Cursor<K, MemTable<K>> for MemoryCursor<K> {
 
     ghost leaves = { λ old new. old.inserts ≡ new.inserts };
 
+    ghost over = { λ cursor number. ⊥ };
+
     fn first(&mut self, alloc: Global, source: &mut MemTable<K>) -> Result<(), DbError> {
         let node = source.first();
         self.stand_from(source, node)

@@ -1,10 +1,12 @@
 //! The newest entry of a user key in a table (LevelDB's table/table.cc, Table::InternalGet).
 
-ghost use Rattle.std.specs.Prelude.{◌≡◌, ◌<◌, ◌^◌, ⊤, ℕ, List, Some, IsSome, IfOk, IfErr, MatchBool, slice_get};
+ghost use Rattle.std.specs.Prelude.{◌≡◌, ◌<◌, ◌^◌, ℕ, List, Some, IsSome, IfOk, IfErr, MatchBool, slice_get};
+ghost use Rattle.cache.specs.Tables.{kept_table_at};
 ghost use Rattle.cursor.specs.Moves.{Refuses};
 ghost use Rattle.ikey.specs.Entries.{InternalEntry, Pair, IsPair};
 ghost use Rattle.sources.specs.Tables.{Carries, HasTable, SaysOf, seen};
-ghost use Rattle.sources.specs.Values.{DeniesKey, HasValue, IsNoTable, IsPastLimit, SaysOfEntry};
+ghost use Rattle.sources.specs.Values.{DeniesKey, HasValue, IsDenied, IsNoTable, IsPastLimit, SaysOfEntry};
+ghost use Rattle.table.specs.Frame.{IsFrame, Opened};
 ghost use Rattle.table.specs.Reading.{IsStill};
 
 use crate::table_search::{Aim, search_on};
@@ -33,6 +35,9 @@ pub fn table_value<K: KeyOrder, S: Store>(
     ensures found { IfOk result (λ value. SaysOf K.cmp (seen (S.facts source.old.store) source.old.tables source.old.blocks) (seen (S.facts source.new.store) source.new.tables source.new.blocks)
         number (λ file. HasValue K.cmp file key.now sequence value)) }
     ensures still { IsStill (S.facts source.old.store) (S.facts source.new.store) result }
+    // Where the table is open and its filter denies the key, no block is asked for.
+    ensures denied { (table : Opened) (file : List ℕ) → kept_table_at source.old.tables.tables number ≡ Some table → IsFrame K.cmp file table.frame → IsDenied K.cmp table.frame key.now sequence
+        → (source.new.store ≡ source.old.store) × (source.new.blocks ≡ source.old.blocks) }
     ensures refused { IfErr result (λ e. Refuses e (S.facts source.old.store) (S.facts source.new.store)
         ((file : List ℕ) → HasTable K.cmp (seen (S.facts source.old.store) source.old.tables source.old.blocks) number file → IsNoTable K.cmp file)
         ((file : List ℕ) → HasTable K.cmp (seen (S.facts source.old.store) source.old.tables source.old.blocks) number file → IsPastLimit K.cmp file)) }
@@ -56,7 +61,7 @@ pub fn table_value<K: KeyOrder, S: Store>(
 // Whether no block from this one on has an entry of the user key: its filter says so of the block, and its bound, which
 // the key isn't above, of those behind.
 fn is_denied<K: KeyOrder>(table: &Table<K>, start: usize, key: &[u8]) -> bool
-    ensures { MatchBool result (DeniesKey table.now.frame start key.now) ⊤ }
+    ensures { MatchBool result (DeniesKey table.now.frame start key.now) (DeniesKey table.now.frame start key.now → ⊥) }
 {
     let Some(place) = table.places().get(start) else {
         return false;

@@ -195,6 +195,7 @@ impl<K: KeyOrder> TableCursor<K> {
 }
 
 impl<K: KeyOrder, S: Store> Cursor<K, Tables<K, S>> for TableCursor<K> {
+    ghost use Rattle.std.specs.Prelude.{◌≡◌};
     ghost use Rattle.sources.specs.TableLaws.{lists_kept, placed_in, table_onward, table_still};
     ghost use Rattle.sources.specs.TablePlaces.{KeepsTable, ListsTable};
     ghost use Rattle.sources.specs.Tables.{seen};
@@ -211,6 +212,8 @@ impl<K: KeyOrder, S: Store> Cursor<K, Tables<K, S>> for TableCursor<K> {
     ghost limited = { λ cursor source. AnyLong (handles cursor.table.value.frame) };
 
     ghost leaves = { λ old new. Unit {0} };
+
+    ghost over = { λ cursor number. number ≡ cursor.number };
 
     fn first(&mut self, alloc: Global, source: &mut Tables<K, S>) -> Result<(), DbError> {
         self.to_first(alloc, source)?;

@@ -25,11 +25,11 @@ pub struct Tables<K: KeyOrder, S> {
 }
 
 impl<K: KeyOrder, S: Store> Tables<K, S> {
-    ghost use Rattle.std.specs.Prelude.{◌≡◌, ◌<◌, [], IsTrue, IfOk, IfErr, OnOk, OnErr};
+    ghost use Rattle.std.specs.Prelude.{◌≡◌, ◌<◌, [], IsTrue, IfSome, IfOk, IfErr, OnOk, OnErr};
     ghost use Rattle.std.specs.NonZero.{non_zero_usize_get};
     ghost use Rattle.cache.specs.Blocks.{answer_of};
-    ghost use Rattle.cache.specs.Tables.{RefusesTable, table_answer_of};
-    ghost use Rattle.sources.specs.Tables.{Carries, HasTable, IsBlockDamaged, IsBlockUnsupported, IsOpen, SaysOf, open_tables, seen};
+    ghost use Rattle.cache.specs.Tables.{HitsTable, RefusesTable, kept_table_at, table_answer_of};
+    ghost use Rattle.sources.specs.Tables.{Carries, HasTable, IsBlockDamaged, IsBlockUnsupported, IsOpen, Knows, SaysOf, open_tables, seen};
     ghost use Rattle.table.specs.Reading.{HasFile};
     ghost use Rattle.table.specs.Refusals.{IsFrameDamaged, IsFrameUnsupported};
     ghost use Rattle.table.specs.Table.{HasBlock};
@@ -83,6 +83,10 @@ impl<K: KeyOrder, S: Store> Tables<K, S> {
         ensures carries { Carries K.cmp (seen (S.facts self.old.store) self.old.tables self.old.blocks) (seen (S.facts self.new.store) self.new.tables self.new.blocks) }
         ensures found { IfOk (table_answer_of result) (λ table. SaysOf K.cmp (seen (S.facts self.old.store) self.old.tables self.old.blocks) (seen (S.facts self.new.store) self.new.tables self.new.blocks)
             number (λ file. HasFile (S.facts self.new.store) table.name file × IsOpen K.cmp file table.frame)) }
+        // Where the table is kept it is answered, and the store isn't asked.
+        ensures hit { IfSome (kept_table_at self.old.tables.tables number) (λ table. HitsTable table (table_answer_of result) × (self.new.store ≡ self.old.store)) }
+        ensures blocks { self.new.blocks ≡ self.old.blocks }
+        ensures known { OnOk result (IsTrue (S.facts self.new.store).faithful → Knows (seen (S.facts self.old.store) self.old.tables self.old.blocks) number) }
         ensures stood { OnOk result ((S.facts self.new.store).failures ≡ (S.facts self.old.store).failures) }
         ensures refused { IfErr (table_answer_of result) (λ e. RefusesTable e (S.facts self.old.store) (S.facts self.new.store) number (IsFrameDamaged K.cmp) IsFrameUnsupported) }
     {

@@ -8,15 +8,15 @@ use Rattle.cursor.proofs.scanning.find_on.Goals as goal
 
 pub search-init : goal.search-init
 search-init g c = record {
-  wanders = wanders_still g.C.Cursor.facts g.C.Cursor.lists g.C.Cursor.keeps g.C.Cursor.limited g.C.Cursor.leaves g.met.C.Cursor.still g.met.C.Cursor.leaves_still c.args.cursor.now c.args.source.now;
+  wanders = wanders_still g.C.Cursor.facts g.C.Cursor.lists g.C.Cursor.keeps g.C.Cursor.limited g.C.Cursor.leaves g.C.Cursor.over g.met.C.Cursor.still g.met.C.Cursor.leaves_still c.args.cursor.now c.args.source.now;
   comes = λ t entries test index l h. (index, l, h);
   still = refl;
 }
 
 pub search-preserved : goal.search-preserved
 search-preserved g c = record {
-  wanders = wanders_then g.C.Cursor.facts g.C.Cursor.lists g.C.Cursor.keeps g.C.Cursor.limited g.C.Cursor.leaves g.met.C.Cursor.onward g.met.C.Cursor.leaves_onward _ _ _ _ _ _ c.search.invariant.wanders
-      (move_wanders g.C.Cursor.facts g.C.Cursor.lists g.C.Cursor.keeps g.C.Cursor.limited g.C.Cursor.leaves c.search.cursor c.next.new.self c.search.source c.next.new.source c.next.result _ c.next.ensures.moves c.next.ensures.stays);
+  wanders = wanders_then g.C.Cursor.facts g.C.Cursor.lists g.C.Cursor.keeps g.C.Cursor.limited g.C.Cursor.leaves g.C.Cursor.over g.met.C.Cursor.onward g.met.C.Cursor.leaves_onward _ _ _ _ _ _ c.search.invariant.wanders
+      (move_wanders g.C.Cursor.facts g.C.Cursor.lists g.C.Cursor.keeps g.C.Cursor.limited g.C.Cursor.leaves g.C.Cursor.over c.search.cursor c.next.new.self c.search.source c.next.new.source c.next.result _ c.next.ensures.moves c.next.ensures.stays);
   comes = λ t entries test index l h.
       let at = c.search.invariant.comes (c.next.ensures.stays.reads.faithful t) entries test index l h in
       let looks = subst (λ (b : Bool). (k : Key) → IsKey c.key.result.now k → LooksOn k c.args.sequence c.search.hiding c.search.hidden.items c.look_on.new.hides c.look_on.new.hidden.items b) c.if-branch.false c.in_ok-look_on.ensures.looks in
@@ -41,21 +41,21 @@ returns-then-branch-clause-found g c = λ t entries test index l h.
 
 pub returns-in_err-next-clause-wanders : goal.returns-in_err-next-clause-wanders
 returns-in_err-next-clause-wanders g c =
-    wanders_then g.C.Cursor.facts g.C.Cursor.lists g.C.Cursor.keeps g.C.Cursor.limited g.C.Cursor.leaves g.met.C.Cursor.onward g.met.C.Cursor.leaves_onward _ _ _ _ _ _ c.search.invariant.wanders
-    (move_wanders g.C.Cursor.facts g.C.Cursor.lists g.C.Cursor.keeps g.C.Cursor.limited g.C.Cursor.leaves c.search.cursor c.next.new.self c.search.source c.next.new.source c.next.result _ c.next.ensures.moves c.next.ensures.stays)
+    wanders_then g.C.Cursor.facts g.C.Cursor.lists g.C.Cursor.keeps g.C.Cursor.limited g.C.Cursor.leaves g.C.Cursor.over g.met.C.Cursor.onward g.met.C.Cursor.leaves_onward _ _ _ _ _ _ c.search.invariant.wanders
+    (move_wanders g.C.Cursor.facts g.C.Cursor.lists g.C.Cursor.keeps g.C.Cursor.limited g.C.Cursor.leaves g.C.Cursor.over c.search.cursor c.next.new.self c.search.source c.next.new.source c.next.result _ c.next.ensures.moves c.next.ensures.stays)
 
 pub returns-in_err-next-clause-refused : goal.returns-in_err-next-clause-refused
 returns-in_err-next-clause-refused g c =
     let p = err_from_is_err_and c.from_residual-in_err-next.result c.from_residual-in_err-next.ensures.1 in
     rw (p.1, p.2)
-    (refused_then g.C.Cursor.facts g.C.Cursor.lists g.C.Cursor.keeps g.C.Cursor.limited g.C.Cursor.leaves _ c.args.cursor.now c.search.cursor c.args.source.now c.search.source (g.C.Cursor.facts c.next.new.source) c.search.invariant.wanders
+    (refused_then g.C.Cursor.facts g.C.Cursor.lists g.C.Cursor.keeps g.C.Cursor.limited g.C.Cursor.leaves g.C.Cursor.over _ c.args.cursor.now c.search.cursor c.args.source.now c.search.source (g.C.Cursor.facts c.next.new.source) c.search.invariant.wanders
     c.next.ensures.stays.reads c.in_err-next.ensures.refused)
 
 pub returns-in_err-look_on-clause-refused : goal.returns-in_err-look_on-clause-refused
 returns-in_err-look_on-clause-refused g c =
     let p = err_from_is_err_and c.from_residual.result c.from_residual.ensures.1 in
     rw (p.1, p.2)
-    (refused_key g.K.KeyOrder.cmp g.met.K.KeyOrder.total g.met.K.KeyOrder.exact g.C.Cursor.lists g.C.Cursor.stands g.met.C.Cursor.rises g.met.C.Cursor.placed g.met.C.Cursor.inside _ g.C.Cursor.facts g.C.Cursor.keeps g.C.Cursor.limited g.C.Cursor.leaves
+    (refused_key g.K.KeyOrder.cmp g.met.K.KeyOrder.total g.met.K.KeyOrder.exact g.C.Cursor.lists g.C.Cursor.stands g.met.C.Cursor.rises g.met.C.Cursor.placed g.met.C.Cursor.inside _ g.C.Cursor.facts g.C.Cursor.keeps g.C.Cursor.limited g.C.Cursor.leaves g.C.Cursor.over
     c.args.cursor.now c.search.cursor c.args.source.now c.search.source c.key.result.now (g.C.Cursor.limited c.args.cursor.now c.args.source.now) c.search.invariant.wanders (sym c.stands.ensures ∙ c.if-not-stands.false) c.key.ensures c.in_err-look_on.ensures.refused)
 
 pub returns-in_err-next-clause-still : goal.returns-in_err-next-clause-still

@@ -5,18 +5,18 @@ use Rattle.cursor.proofs.Standings.{sought_again}
 use Rattle.cursor.proofs.standing.find_again.Goals as goal
 
 pub returns-in_err-key-clause-wanders : goal.returns-in_err-key-clause-wanders
-returns-in_err-key-clause-wanders g c = wanders_still g.C.Cursor.facts g.C.Cursor.lists g.C.Cursor.keeps g.C.Cursor.limited g.C.Cursor.leaves g.met.C.Cursor.still g.met.C.Cursor.leaves_still c.args.cursor.now c.args.source.now
+returns-in_err-key-clause-wanders g c = wanders_still g.C.Cursor.facts g.C.Cursor.lists g.C.Cursor.keeps g.C.Cursor.limited g.C.Cursor.leaves g.C.Cursor.over g.met.C.Cursor.still g.met.C.Cursor.leaves_still c.args.cursor.now c.args.source.now
 
 pub returns-in_err-seek-clause-wanders : goal.returns-in_err-seek-clause-wanders
 returns-in_err-seek-clause-wanders g c =
     let h = c.in_ok-key.ensures in
-    move_wanders g.C.Cursor.facts g.C.Cursor.lists g.C.Cursor.keeps g.C.Cursor.limited g.C.Cursor.leaves c.args.cursor.now c.seek.new.self c.args.source.now c.seek.new.source c.seek.result _
+    move_wanders g.C.Cursor.facts g.C.Cursor.lists g.C.Cursor.keeps g.C.Cursor.limited g.C.Cursor.leaves g.C.Cursor.over c.args.cursor.now c.seek.new.self c.args.source.now c.seek.new.source c.seek.result _
     (c.seek.ensures.moves h.key (subst (λ (b : List ℕ). IsKey b h.key) (sym c.deref.ensures.value) h.encoded)) c.seek.ensures.stays
 
 pub returns-clause-wanders : goal.returns-clause-wanders
 returns-clause-wanders g c =
     let h = c.in_ok-key.ensures in
-    move_wanders g.C.Cursor.facts g.C.Cursor.lists g.C.Cursor.keeps g.C.Cursor.limited g.C.Cursor.leaves c.args.cursor.now c.seek.new.self c.args.source.now c.seek.new.source c.seek.result _
+    move_wanders g.C.Cursor.facts g.C.Cursor.lists g.C.Cursor.keeps g.C.Cursor.limited g.C.Cursor.leaves g.C.Cursor.over c.args.cursor.now c.seek.new.self c.args.source.now c.seek.new.source c.seek.result _
     (c.seek.ensures.moves h.key (subst (λ (b : List ℕ). IsKey b h.key) (sym c.deref.ensures.value) h.encoded)) c.seek.ensures.stays
 
 pub returns-clause-finds : goal.returns-clause-finds

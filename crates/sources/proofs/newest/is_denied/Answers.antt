@@ -1,21 +1,33 @@
-use Rattle.std.proofs.Common.{List, length, not, refl, sym, ap, subst, ◌∙◌}
-use Rattle.std.specs.List.{slice_get}
+use Rattle.std.proofs.Common.{List, length, not, sym, ap, subst}
 use Rattle.std.proofs.lemmas.Bool.{ltb-true}
-use Rattle.std.proofs.lemmas.Option.{slice_get_read}
 use Rattle.ikey.specs.KeyViews.{key_of}
 use Rattle.ikey.specs.Keys.{IsKey}
-use Rattle.table.specs.declared.handle.Place.{Place}
-use Rattle.table.proofs.Comparing.{ne_lists}
+use Rattle.sources.proofs.Ruling.{not_admitted, not_bounded, place_there}
+use Rattle.table.proofs.Comparing.{ne_lists, same_lists}
 use Rattle.sources.proofs.newest.is_denied.Goals as goal
+
+pub returns-then-eq : goal.returns-then-eq
+returns-then-eq g c =
+    let frame = c.args.table.now.frame in
+    let l = c.in-Some.ensures.lookup in
+    let there = place_there c.places.result.now frame.places c.args.start c.in-Some.place.now c.places.ensures (ltb-true c.args.start (length c.places.result.now) (sym l.0)) l.1 in
+    let bound = subst (λ (bytes : List _). IsKey bytes (key_of c.in-Some-unpack.bound)) c.as_slice.ensures c.in-Some-unpack.ensures.found in
+    not_bounded frame c.args.start c.args.key.now c.in-Some.place.now there (key_of c.in-Some-unpack.bound) bound (same_lists c.in-Some-unpack.bound.user.now c.args.key.now c.if-eq.ensures)
+
+pub returns-then-admits : goal.returns-then-admits
+returns-then-admits g c =
+    let frame = c.args.table.now.frame in
+    let l = c.in-Some.ensures.lookup in
+    let there = place_there c.places.result.now frame.places c.args.start c.in-Some.place.now c.places.ensures (ltb-true c.args.start (length c.places.result.now) (sym l.0)) l.1 in
+    not_admitted frame c.args.start c.args.key.now c.in-Some.place.now there c.if-admits.ensures
 
 pub returns : goal.returns
 returns g c =
     let l = c.in-Some.ensures.lookup in
-    let there = slice_get_read c.places.result.now (length c.places.result.now) c.args.start c.in-Some.place.now refl (ltb-true c.args.start (length c.places.result.now) (sym l.0)) l.1 in
     record {
       place = c.in-Some.place.now;
       bound = key_of c.in-Some-unpack.bound;
-      place_is = ap (λ (ps : List Place). slice_get ps c.args.start) (sym c.places.ensures) ∙ there;
+      place_is = place_there c.places.result.now c.args.table.now.frame.places c.args.start c.in-Some.place.now c.places.ensures (ltb-true c.args.start (length c.places.result.now) (sym l.0)) l.1;
       bound_is = subst (λ (bytes : List _). IsKey bytes (key_of c.in-Some-unpack.bound)) c.as_slice.ensures c.in-Some-unpack.ensures.found;
       other = ne_lists c.in-Some-unpack.bound.user.now c.args.key.now (ap not c.if-eq.ensures);
       denied = c.if-admits.ensures;

@@ -1,6 +1,7 @@
 use Rattle.std.proofs.lemmas.Result.{err_from_is_err_and}
 use Rattle.sources.specs.Tables.{seen}
 use Rattle.sources.proofs.Declining.{data_of, filled_of, not_opened, not_searched, starts_inside}
+use Rattle.sources.proofs.Ruling.{undenied}
 use Rattle.sources.proofs.Standing.{still_later, table_still}
 use Rattle.sources.proofs.Valuing.{denied_unseen, none_found, one_found}
 use Rattle.sources.proofs.newest.table_value.Goals as goal
@@ -73,3 +74,31 @@ pub returns-in_err-found-clause-still : goal.returns-in_err-found-clause-still
 returns-in_err-found-clause-still g c =
     let p = err_from_is_err_and c.from_residual-in_err-found.result c.from_residual-in_err-found.ensures.1 in
     rw (p.1, p.2) (still_later c.in_err-found.field-0.0 (g.S.Store.facts c.args.source.now.store) (g.S.Store.facts c.get_table.new.self.store) (g.S.Store.facts c.search_on.new.source.store) c.in_ok-table.ensures.stood c.in_err-found.ensures.still)
+
+pub returns-in_err-found-clause-denied : goal.returns-in_err-found-clause-denied
+returns-in_err-found-clause-denied g c = λ table file kept is denies.
+    let first = rw (c.deref.ensures, c.deref-2.ensures.value) at c.first_place-start.ensures in
+    let admitted = rw c.deref-3.ensures at c.if-is_denied.ensures in
+    absurd (undenied g.K.KeyOrder.cmp g.met.K.KeyOrder.total g.met.K.KeyOrder.exact c.args.key.now c.args.sequence _ _ c.in_ok-table.table.value c.in_ok-table.ensures.hit c.in_ok-target.target.items
+    c.in_ok-target.ensures c.first_place-start.result first admitted table file kept is denies)
+
+pub returns-in_err-value-in-Some-clause-denied : goal.returns-in_err-value-in-Some-clause-denied
+returns-in_err-value-in-Some-clause-denied g c = λ table file kept is denies.
+    let first = rw (c.deref.ensures, c.deref-2.ensures.value) at c.first_place-start.ensures in
+    let admitted = rw c.deref-3.ensures at c.if-is_denied.ensures in
+    absurd (undenied g.K.KeyOrder.cmp g.met.K.KeyOrder.total g.met.K.KeyOrder.exact c.args.key.now c.args.sequence _ _ c.in_ok-table.table.value c.in_ok-table.ensures.hit c.in_ok-target.target.items
+    c.in_ok-target.ensures c.first_place-start.result first admitted table file kept is denies)
+
+pub returns-in-Some-clause-denied : goal.returns-in-Some-clause-denied
+returns-in-Some-clause-denied g c = λ table file kept is denies.
+    let first = rw (c.deref.ensures, c.deref-2.ensures.value) at c.first_place-start.ensures in
+    let admitted = rw c.deref-3.ensures at c.if-is_denied.ensures in
+    absurd (undenied g.K.KeyOrder.cmp g.met.K.KeyOrder.total g.met.K.KeyOrder.exact c.args.key.now c.args.sequence _ _ c.in_ok-table.table.value c.in_ok-table.ensures.hit c.in_ok-target.target.items
+    c.in_ok-target.ensures c.first_place-start.result first admitted table file kept is denies)
+
+pub returns-clause-denied : goal.returns-clause-denied
+returns-clause-denied g c = λ table file kept is denies.
+    let first = rw (c.deref.ensures, c.deref-2.ensures.value) at c.first_place-start.ensures in
+    let admitted = rw c.deref-3.ensures at c.if-is_denied.ensures in
+    absurd (undenied g.K.KeyOrder.cmp g.met.K.KeyOrder.total g.met.K.KeyOrder.exact c.args.key.now c.args.sequence _ _ c.in_ok-table.table.value c.in_ok-table.ensures.hit c.in_ok-target.target.items
+    c.in_ok-target.ensures c.first_place-start.result first admitted table file kept is denies)

@@ -1,4 +1,4 @@
-use Rattle.std.proofs.Common.{refl, ap}
+use Rattle.std.proofs.Common.{refl, ap, inl, inr}
 use Rattle.cache.proofs.Holding.{answered, answered_if, holds_more, reads_any, refused_any}
 use Rattle.cache.proofs.block_cache.BlockCache.read_block.Goals as goal
 
@@ -15,3 +15,9 @@ returns-clause-reads g c = reads_any g.K.KeyOrder.cmp c.args.handle c.args.table
 
 pub returns-clause-refused : goal.returns-clause-refused
 returns-clause-refused g c = refused_any g.K.KeyOrder.cmp c.args.handle c.args.table.now (g.S.Store.facts c.args.store.now) (g.S.Store.facts c.fetch.new.source) _ _ (ap g.S.Store.facts) _ c.fetch.ensures.answer
+
+pub returns-clause-kept : goal.returns-clause-kept
+returns-clause-kept g c = λ kept h. elim (c.fetch.ensures.kept kept h) [
+  | inl was ↦ inl was
+  | inr new ↦ inr new.0
+]

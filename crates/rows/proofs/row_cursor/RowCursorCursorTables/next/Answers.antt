@@ -3,7 +3,7 @@ use Rattle.std.proofs.lemmas.Result.{err_from_is_err_and}
 use Rattle.cursor.proofs.Turns.{still_later}
 use Rattle.rows.specs.Rows.{rows_tables}
 use Rattle.rows.proofs.Having.{carried_lists}
-use Rattle.rows.proofs.Keeping.{found_kept, found_limited, refused_as, step_kept, step_limited, unmoved}
+use Rattle.rows.proofs.Keeping.{found_kept, found_limited, found_within, refused_as, step_kept, step_limited, step_within, unmoved}
 use Rattle.rows.proofs.Moving.{next_here, next_moved, row_carried, stayed}
 use Rattle.rows.proofs.Refusing.{limited_before, refused_later}
 use Rattle.sources.specs.Tables.{seen}
@@ -22,6 +22,7 @@ returns-in_err-start-clause-stays g c = record {
   others = λ t other. row_carried g.K.KeyOrder.cmp (rows_tables other) other.here (seen (g.S.Store.facts c.args.source.now.store) c.args.source.now.tables c.args.source.now.blocks) (seen (g.S.Store.facts c.step_on.new.source.store) c.step_on.new.source.tables c.step_on.new.source.blocks) c.step_on.ensures.carries t;
   same = λ s t k. step_kept g.K.KeyOrder.cmp (rows_tables c.args.self.now) (seen (g.S.Store.facts s.store) s.tables s.blocks) (seen (g.S.Store.facts t.store) t.tables t.blocks) c.args.self.now.here c.step_on.new.here c.step_on.ensures.same k;
   limit = λ t l. step_limited g.K.KeyOrder.cmp (rows_tables c.args.self.now) (seen (g.S.Store.facts c.args.source.now.store) c.args.source.now.tables c.args.source.now.blocks) (seen (g.S.Store.facts c.step_on.new.source.store) c.step_on.new.source.tables c.step_on.new.source.blocks) c.args.self.now.here c.step_on.new.here c.step_on.ensures.same c.step_on.ensures.carries t l;
+  within = λ number o. step_within g.K.KeyOrder.cmp (rows_tables c.args.self.now) c.args.self.now.here c.step_on.new.here c.step_on.ensures.same number o;
 }
 
 pub returns-in_err-start-clause-still : goal.returns-in_err-start-clause-still
@@ -44,6 +45,7 @@ returns-in-None-clause-stays g c = record {
   others = λ t other. row_carried g.K.KeyOrder.cmp (rows_tables other) other.here (seen (g.S.Store.facts c.args.source.now.store) c.args.source.now.tables c.args.source.now.blocks) (seen (g.S.Store.facts c.step_on.new.source.store) c.step_on.new.source.tables c.step_on.new.source.blocks) c.step_on.ensures.carries t;
   same = λ s t k. step_kept g.K.KeyOrder.cmp (rows_tables c.args.self.now) (seen (g.S.Store.facts s.store) s.tables s.blocks) (seen (g.S.Store.facts t.store) t.tables t.blocks) c.args.self.now.here c.step_on.new.here c.step_on.ensures.same k;
   limit = λ t l. step_limited g.K.KeyOrder.cmp (rows_tables c.args.self.now) (seen (g.S.Store.facts c.args.source.now.store) c.args.source.now.tables c.args.source.now.blocks) (seen (g.S.Store.facts c.step_on.new.source.store) c.step_on.new.source.tables c.step_on.new.source.blocks) c.args.self.now.here c.step_on.new.here c.step_on.ensures.same c.step_on.ensures.carries t l;
+  within = λ number o. step_within g.K.KeyOrder.cmp (rows_tables c.args.self.now) c.args.self.now.here c.step_on.new.here c.step_on.ensures.same number o;
 }
 
 pub returns-in-None-clause-still : goal.returns-in-None-clause-still
@@ -61,6 +63,7 @@ returns-in_err-self-clause-stays g c = record {
   others = λ t other. row_carried g.K.KeyOrder.cmp (rows_tables other) other.here (seen (g.S.Store.facts c.args.source.now.store) c.args.source.now.tables c.args.source.now.blocks) (seen (g.S.Store.facts c.search_on.new.source.store) c.search_on.new.source.tables c.search_on.new.source.blocks) (carries_both g.K.KeyOrder.cmp (seen (g.S.Store.facts c.args.source.now.store) c.args.source.now.tables c.args.source.now.blocks) (seen (g.S.Store.facts c.step_on.new.source.store) c.step_on.new.source.tables c.step_on.new.source.blocks) (seen (g.S.Store.facts c.search_on.new.source.store) c.search_on.new.source.tables c.search_on.new.source.blocks) c.step_on.ensures.carries c.search_on.ensures.carries) t;
   same = λ s t k. step_kept g.K.KeyOrder.cmp (rows_tables c.args.self.now) (seen (g.S.Store.facts s.store) s.tables s.blocks) (seen (g.S.Store.facts t.store) t.tables t.blocks) c.args.self.now.here c.step_on.new.here c.step_on.ensures.same k;
   limit = λ t l. step_limited g.K.KeyOrder.cmp (rows_tables c.args.self.now) (seen (g.S.Store.facts c.args.source.now.store) c.args.source.now.tables c.args.source.now.blocks) (seen (g.S.Store.facts c.search_on.new.source.store) c.search_on.new.source.tables c.search_on.new.source.blocks) c.args.self.now.here c.step_on.new.here c.step_on.ensures.same (carries_both g.K.KeyOrder.cmp (seen (g.S.Store.facts c.args.source.now.store) c.args.source.now.tables c.args.source.now.blocks) (seen (g.S.Store.facts c.step_on.new.source.store) c.step_on.new.source.tables c.step_on.new.source.blocks) (seen (g.S.Store.facts c.search_on.new.source.store) c.search_on.new.source.tables c.search_on.new.source.blocks) c.step_on.ensures.carries c.search_on.ensures.carries) t l;
+  within = λ number o. step_within g.K.KeyOrder.cmp (rows_tables c.args.self.now) c.args.self.now.here c.step_on.new.here c.step_on.ensures.same number o;
 }
 
 pub returns-in_err-self-clause-still : goal.returns-in_err-self-clause-still
@@ -87,6 +90,7 @@ returns-clause-stays g c = record {
   others = λ t other. row_carried g.K.KeyOrder.cmp (rows_tables other) other.here (seen (g.S.Store.facts c.args.source.now.store) c.args.source.now.tables c.args.source.now.blocks) (seen (g.S.Store.facts c.search_on.new.source.store) c.search_on.new.source.tables c.search_on.new.source.blocks) (carries_both g.K.KeyOrder.cmp (seen (g.S.Store.facts c.args.source.now.store) c.args.source.now.tables c.args.source.now.blocks) (seen (g.S.Store.facts c.step_on.new.source.store) c.step_on.new.source.tables c.step_on.new.source.blocks) (seen (g.S.Store.facts c.search_on.new.source.store) c.search_on.new.source.tables c.search_on.new.source.blocks) c.step_on.ensures.carries c.search_on.ensures.carries) t;
   same = λ s t k. found_kept g.K.KeyOrder.cmp (rows_tables c.args.self.now) (seen (g.S.Store.facts c.step_on.new.source.store) c.step_on.new.source.tables c.step_on.new.source.blocks) (seen (g.S.Store.facts c.search_on.new.source.store) c.search_on.new.source.tables c.search_on.new.source.blocks) (seen (g.S.Store.facts s.store) s.tables s.blocks) (seen (g.S.Store.facts t.store) t.tables t.blocks) c.args.self.now.here c.in_ok-self.field-0 (rw c.row.ensures at c.in_ok-self.ensures.opened) k;
   limit = λ t l. step_limited g.K.KeyOrder.cmp (rows_tables c.args.self.now) (seen (g.S.Store.facts c.args.source.now.store) c.args.source.now.tables c.args.source.now.blocks) (seen (g.S.Store.facts c.step_on.new.source.store) c.step_on.new.source.tables c.step_on.new.source.blocks) c.args.self.now.here c.step_on.new.here c.step_on.ensures.same c.step_on.ensures.carries (c.search_on.ensures.carries.reads.faithful t) (found_limited g.K.KeyOrder.cmp (rows_tables c.args.self.now) (seen (g.S.Store.facts c.step_on.new.source.store) c.step_on.new.source.tables c.step_on.new.source.blocks) (seen (g.S.Store.facts c.search_on.new.source.store) c.search_on.new.source.tables c.search_on.new.source.blocks) c.step_on.new.here c.in_ok-self.field-0 (rw c.row.ensures at c.in_ok-self.ensures.opened) c.search_on.ensures.carries t l);
+  within = λ number o. step_within g.K.KeyOrder.cmp (rows_tables c.args.self.now) c.args.self.now.here c.step_on.new.here c.step_on.ensures.same number (found_within g.K.KeyOrder.cmp (rows_tables c.args.self.now) (seen (g.S.Store.facts c.step_on.new.source.store) c.step_on.new.source.tables c.step_on.new.source.blocks) (seen (g.S.Store.facts c.search_on.new.source.store) c.search_on.new.source.tables c.search_on.new.source.blocks) c.step_on.new.here c.in_ok-self.field-0 (rw c.row.ensures at c.in_ok-self.ensures.opened) number o);
 }
 
 pub returns-clause-still : goal.returns-clause-still

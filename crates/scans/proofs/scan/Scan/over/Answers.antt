@@ -1,14 +1,27 @@
-use Rattle.std.proofs.Common.{◌≡◌, ◌++◌, ℕ, false, List, length, map, sym, ap, ◌∙◌, subst, arith, append_assoc}
+use Rattle.std.proofs.Common.{◌≡◌, ◌++◌, List, map, sym, ap, ◌∙◌, subst, arith, inl, inr}
 use Rattle.std.specs.List.{AllByRecursion}
-use Rattle.std.proofs.lemmas.List.{map-append}
 use Rattle.cursor.specs.declared.child.Side.TheVariants.{Astray}
+use Rattle.edits.specs.declared.field.PlacedTable.{PlacedTable}
 use Rattle.ikey.specs.Orders.{order_of}
-use Rattle.scans.specs.Rows.{Spot, OfRow, deeper_ranges, memory_spots, newest_ranges, spot_of, spots_of}
+use Rattle.rows.specs.InRows.{HasNumber}
+use Rattle.scans.specs.Rows.{memory_spots, spot_of, spots_of}
 use Rattle.scans.specs.Whole.{whole}
 use Rattle.scans.proofs.FirstPlaces.{begins_scan}
-use Rattle.scans.proofs.Slices.{all_ranges}
-use Rattle.versions.specs.Levels.{AreInOrder, Placement, tables_at}
+use Rattle.scans.proofs.NewScans.{all_over}
+use Rattle.scans.proofs.Slices.{all_ranges, spots_together}
+use Rattle.versions.specs.Levels.{AreInOrder, Placement}
+use Rattle.scans.proofs.scan.Scan.over.Given.{Over}
 use Rattle.scans.proofs.scan.Scan.over.Goals as goal
+
+-- the spots of what it merges
+spots_are : (g : Over) (c : goal.After-sealed_generation g) → map spot_of (map (λ child. child.cursor) c.new-2.result.cursor.children.items)
+    ≡ memory_spots c.min-sequence.result c.args.source.now.memory.generation c.args.source.now.memory.sealed ++ spots_of c.args.version.now.value.tables (all_ranges c.args.version.now.value.tables)
+spots_are g c =
+    let memory = memory_spots c.min-sequence.result c.args.source.now.memory.generation c.args.source.now.memory.sealed in
+    ap (λ m. map spot_of (map (λ child. child.cursor) m.children.items)) c.new-2.ensures.cursor
+    ∙ ap (map spot_of) c.in_ok-merge.ensures.children
+    ∙ spots_together c.args.version.now.value.tables memory (map spot_of c.add_memory.new.cursors.items) (map spot_of c.add_newest.new.cursors.items) (map spot_of c.add_levels.new.cursors.items)
+    (c.in_ok-add_memory.ensures.spots ∙ ap (λ xs. map spot_of xs ++ memory) c.new-cursors.ensures.items) c.in_ok-add_newest.ensures c.in_ok-add_levels.ensures
 
 pub returns-clause-begins : goal.returns-clause-begins
 returns-clause-begins g c =
@@ -18,16 +31,6 @@ returns-clause-begins g c =
     let up_to = c.min-sequence.result in
     let is = c.new-2.ensures.cursor in
     let in_order = subst (λ (v : Placement). AreInOrder cmp v.tables) c.deref.ensures c.tables-tables.ensures.order in
-    let newest = newest_ranges (length (tables_at 0 tables)) in
-    let deeper = deeper_ranges tables 6 in
-    let memory = memory_spots up_to s.memory.generation s.memory.sealed in
-    let begun : map spot_of c.add_memory.new.cursors.items ≡ memory = c.in_ok-add_memory.ensures.spots ∙ ap (λ xs. map spot_of xs ++ memory) c.new-cursors.ensures.items in
-    let added : map spot_of c.add_newest.new.cursors.items ≡ memory ++ spots_of tables newest = c.in_ok-add_newest.ensures ∙ ap (λ (ss : List Spot). ss ++ spots_of tables newest) begun in
-    let all : map spot_of c.add_levels.new.cursors.items ≡ memory ++ spots_of tables (all_ranges tables) =
-    c.in_ok-add_levels.ensures
-    ∙ ap (λ (ss : List Spot). ss ++ spots_of tables deeper) added
-    ∙ append_assoc memory (spots_of tables newest) (spots_of tables deeper)
-    ∙ ap (λ (ss : List Spot). memory ++ ss) (sym (map-append (λ (range : ℕ × ℕ). OfRow tables range.0 range.1 false) newest deeper)) in
     begins_scan (order_of g.K.KeyOrder.name cmp) g.met.K.KeyOrder.total c.lists_have_a_union.ensures c.each_list_has_a_view.ensures c.views_agree.ensures
     c.row_begins.ensures
     (whole (g.S.Store.facts s.tables.store) s.tables.tables s.tables.blocks s.memory) tables in_order _ up_to c.args.sequence
@@ -38,7 +41,16 @@ returns-clause-begins g c =
     c.generation.ensures.is
     c.sealed_generation.ensures
     (ap (λ (v : Placement). v.tables) c.in_ok-clone.ensures.cases)
-    (ap (λ m. map spot_of (map (λ child. child.cursor) m.children.items)) is ∙ ap (map spot_of) c.in_ok-merge.ensures.children ∙ all)
+    (spots_are g c)
     c.are_bounded.ensures
     c.in_ok-add_memory.ensures.lists
     (λ below. omega (arith, c.min-sequence.ensures, c.last.ensures.is, below))
+
+pub returns-clause-within : goal.returns-clause-within
+returns-clause-within g c = λ number reads.
+    let tables = c.args.version.now.value.tables in
+    let same : c.in_ok-clone.field-0.value.tables ≡ tables = ap (λ (v : Placement). v.tables) c.in_ok-clone.ensures.cases in
+    elim reads [
+      | inl has ↦ subst (λ (ts : List PlacedTable). HasNumber ts number) same has
+      | inr over ↦ all_over c.args.source.now.memory.generation c.args.source.now.memory.sealed c.min-sequence.result tables (all_ranges tables) c.new-2.result.cursor.children.items number (spots_are g c) over
+    ]

@@ -1,5 +1,7 @@
+use Rattle.std.proofs.Common.{refl}
 use Rattle.cache.specs.Tables.{table_at}
 use Rattle.sources.specs.Tables.{seen}
+use Rattle.sources.proofs.Knowing.{hit_opened, kept_opened, known_if}
 use Rattle.sources.proofs.Sounding.{sound_opened, says_open}
 use Rattle.sources.proofs.tables.Tables.get_table.Goals as goal
 
@@ -10,6 +12,7 @@ returns-clause-carries g c =
       reads = c.get_table.ensures.reads;
       sound = λ t h. sound_opened g.K.KeyOrder.cmp old (g.S.Store.facts c.get_table.new.store) c.get_table.new.self.tables c.get_table.ensures.reads t
           (c.get_table.ensures.holds (table_at old.facts.files) h.tables (λ file there. there) t) h;
+      kept = kept_opened g.K.KeyOrder.cmp old (g.S.Store.facts c.get_table.new.store) c.args.number _ _ c.get_table.ensures.answer c.get_table.new.self.tables c.get_table.ensures.kept c.get_table.ensures.reads;
     }
 
 pub returns-clause-found : goal.returns-clause-found
@@ -17,3 +20,13 @@ returns-clause-found g c =
     let old = seen (g.S.Store.facts c.args.self.now.store) c.args.self.now.tables c.args.self.now.blocks in
     let new = seen (g.S.Store.facts c.get_table.new.store) c.get_table.new.self c.args.self.now.blocks in
     says_open g.K.KeyOrder.cmp old new c.args.number _ (λ sound t. c.get_table.ensures.found (table_at old.facts.files) sound.tables (λ file there. there) t)
+
+pub returns-clause-known : goal.returns-clause-known
+returns-clause-known g c =
+    let old = seen (g.S.Store.facts c.args.self.now.store) c.args.self.now.tables c.args.self.now.blocks in
+    known_if g.K.KeyOrder.cmp old (g.S.Store.facts c.get_table.new.store) c.args.number _ _ c.get_table.result refl c.get_table.ensures.answer
+
+pub returns-clause-hit : goal.returns-clause-hit
+returns-clause-hit g c =
+    let old = seen (g.S.Store.facts c.args.self.now.store) c.args.self.now.tables c.args.self.now.blocks in
+    hit_opened g.K.KeyOrder.cmp old (g.S.Store.facts c.get_table.new.store) c.args.number _ _ _ c.get_table.ensures.answer
