@@ -1,8 +1,14 @@
 -- What a piece of work does to the machine.
-use Rattle.std.specs.Prelude.{◌≡◌, ◌≤◌, ℕ, true, List, Contains, Result, Ok, Err, MatchResult}
+use Rattle.std.specs.Prelude.{◌≡◌, ◌⊎◌, ◌<◌, ◌≤◌, ℕ, true, None, IsSome, List, [], Contains, Result, Ok, Err, MatchResult}
 use Rattle.cache.specs.Tables.{KeptTable}
 use Rattle.coding.specs.declared.error.DbError.{DbError}
 use Rattle.coding.specs.declared.error.DbError.TheVariants.{Io}
+use Rattle.edits.specs.Layout.{inserted}
+use Rattle.edits.specs.declared.field.TableFile.{TableFile}
+use Rattle.memories.specs.Memories.{sealed_inserts}
+use Rattle.memtable.specs.Contents.{size_of}
+use Rattle.versions.specs.Levels.{Lists}
+use Rattle.engine.specs.Held.{Held}
 use Rattle.upkeep.specs.declared.flush.FlushError.{FlushError}
 use Rattle.upkeep.specs.declared.flush.FlushError.TheVariants.{Before, Edit}
 use Rattle.engine.specs.declared.command.Answer.{Answer}
@@ -18,6 +24,33 @@ pub record IsPiece {T : Type 0} (old : Machine) (most : ℕ) (result : Result T 
   pub failures : old.failures ≤ new.failures
   pub denials : new.denials ≡ old.denials
   pub what : MatchResult result (λ done. Draws old most new) (λ e. UpkeepRefused old most e new)
+
+-- ---- which piece it is
+
+-- The sealed memory table has become a table of level 0, unless it was empty.
+pub record WritesTable {I : Type 0} (before after : Held I) : Type 0 where
+  pub was : IsSome before.memory.sealed
+  pub gone : after.memory.sealed ≡ None
+  pub table : (sealed_inserts before.memory ≡ []) ⊎ ((table : TableFile) × Lists (inserted (record { level = 0; table = table }) before.tables) after.tables)
+
+-- The memory table is sealed, and an empty one has taken its place, with a log of its own.
+pub record SealsMemory {I : Type 0} (before after : Held I) : Type 0 where
+  pub none : before.memory.sealed ≡ None
+  pub sealed : sealed_inserts after.memory ≡ before.memory.current.inserts
+  pub empty : after.memory.current.inserts ≡ []
+  pub log : after.log.number ≡ before.directory.numbers.next
+  pub begins : after.log.end ≡ 0
+
+-- Nothing is sealed, and the memory table has fewer than so many bytes.
+pub record HasNoWork {I : Type 0} (most : ℕ) (db : Held I) : Type 0 where
+  pub none : db.memory.sealed ≡ None
+  pub small : size_of db.memory.current.inserts < most
+
+-- Work writes a table where one is sealed, seals the memory table where that has so many bytes, and else there is none.
+abbrev pub DoesWork : {I : Type 0} → ℕ → Held I → Held I → Result Progress DbError → Type 0
+DoesWork most before after (Ok progress.Worked) = WritesTable before after ⊎ ((most ≤ size_of before.memory.current.inserts) × SealsMemory before after)
+DoesWork most before after (Ok progress.Idle) = HasNoWork most before × HasNoWork most after
+DoesWork most before after (Err e) = Unit {0}
 
 -- ---- answers
 

@@ -1,7 +1,7 @@
 //! What an open database does beside its commands: the removal of files, flushes, and new logs (LevelDB's db/db_impl.cc,
 //! DBImpl::RemoveObsoleteFiles, CompactMemTable and MakeRoomForWrite).
 
-ghost use Rattle.std.specs.Prelude.{◌≡◌, ℕ, None, false, if◌then◌else◌, IsTrue, IfOk};
+ghost use Rattle.std.specs.Prelude.{◌≡◌, ℕ, None, IsSome, false, if◌then◌else◌, IsTrue, IfOk, OnOk};
 ghost use Rattle.coding.specs.declared.error.DbError.TheVariants.{OutOfMemory, Io};
 ghost use Rattle.engine.specs.Working.{ClosesTables};
 ghost use Rattle.ikey.specs.Orders.{order_of};
@@ -15,7 +15,7 @@ use ikey::{KeyOrder, same_view};
 use memories::changes_are_kept;
 use recover::one_directory;
 use scans::Sources;
-use sources::{sound_lasts, sound_stays};
+use sources::sound_lasts;
 use std::alloc::Global;
 use store::Store;
 use upkeep::{FlushError, FlushPlan, Flushed, begin_log, flush_memory, remove_files};
@@ -37,7 +37,7 @@ impl<K: KeyOrder> DbState<K> {
     ghost use Rattle.engine.specs.Held.{held, seen_of};
     ghost use Rattle.engine.specs.Outcomes.{DbOutcome, IsSame, MayRefuseWork};
     ghost use Rattle.engine.specs.Upkeep.{Works};
-    ghost use Rattle.engine.specs.Working.{IsPiece, broken_by, flush_answer, work_answer};
+    ghost use Rattle.engine.specs.Working.{DoesWork, IsPiece, SealsMemory, WritesTable, broken_by, flush_answer, work_answer};
 
     /// Removes the files that aren't live, and then does the first of these that there is to do: writes the sealed memory table into
     /// a table file; or seals the memory table, where it has `write_buffer` bytes, and begins a log.
@@ -50,6 +50,7 @@ impl<K: KeyOrder> DbState<K> {
         ensures step { (ids : Ids) (budget : ℕ) → LeadsOpen (order_of K.name K.cmp) (seen_of S.facts source.old) (seen_of S.facts source.new) ids (held source.old.memory self.old) (held source.new.memory self.new) (λ m n. Works m budget (work_answer result) n) }
         ensures outcome { DbOutcome MayRefuseWork (S.facts source.old.tables.store) (S.facts source.new.tables.store) (held source.old.memory self.old) (held source.new.memory self.new) result }
         ensures caused { IsCausedIn (broken_in (held source.old.memory self.old)) source.old.tables.store source.new.tables.store result }
+        ensures does { DoesWork options.now.write_buffer (held source.old.memory self.old) (held source.new.memory self.new) result }
         ensures lock { (S.facts source.new.tables.store).held ≡ (S.facts source.old.tables.store).held }
     {
         if self.broken {
@@ -97,6 +98,7 @@ impl<K: KeyOrder> DbState<K> {
         requires whole { self.old.broken ≡ false }
         ensures step { (ids : Ids) → LeadsOpen (order_of K.name K.cmp) (seen_of S.facts source.old) (seen_of S.facts source.new) ids (held source.old.memory self.old) (held source.new.memory self.new) (λ m n. IsPiece m 1 result n) }
         ensures outcome { DbOutcome MayRefuseWork (S.facts source.old.tables.store) (S.facts source.new.tables.store) (held source.old.memory self.old) (held source.new.memory self.new) result }
+        ensures does { DoesWork options.now.write_buffer (held source.old.memory self.old) (held source.new.memory self.new) result }
         ensures lock { (S.facts source.new.tables.store).held ≡ (S.facts source.old.tables.store).held }
     {
         if source.memory.sealed_generation().is_some() {
@@ -110,7 +112,7 @@ impl<K: KeyOrder> DbState<K> {
         Ok(Progress::Worked)
     }
 
-    // Writes the sealed memory table, if there is one, into a table file. An empty one needs none. Where the store fails, the
+    // Writes the sealed memory table into a table file. An empty one needs none. Where the store fails, the
     // database is broken.
     fn flush<S: Store>(
         &mut self,
@@ -119,8 +121,10 @@ impl<K: KeyOrder> DbState<K> {
         options: &Options,
     ) -> Result<(), DbError>
         requires whole { self.old.broken ≡ false }
+        requires sealed { IsSome source.old.memory.sealed }
         ensures step { (ids : Ids) → LeadsOpen (order_of K.name K.cmp) (seen_of S.facts source.old) (seen_of S.facts source.new) ids (held source.old.memory self.old) (held source.new.memory self.new) (λ m n. IsPiece m 1 result n) }
         ensures outcome { DbOutcome MayRefuseWork (S.facts source.old.tables.store) (S.facts source.new.tables.store) (held source.old.memory self.old) (held source.new.memory self.new) result }
+        ensures does { OnOk result (WritesTable (held source.old.memory self.old) (held source.new.memory self.new)) }
         ensures lock { (S.facts source.new.tables.store).held ≡ (S.facts source.old.tables.store).held }
     {
         sound_lasts();
@@ -130,7 +134,7 @@ impl<K: KeyOrder> DbState<K> {
         source.memory.are_bounded();
         let last_sequence = source.memory.last();
         let Some(table) = source.memory.sealed() else {
-            return Ok(());
+            unreachable!()
         };
         if table.is_empty() {
             source.memory.flushed();
@@ -170,11 +174,13 @@ impl<K: KeyOrder> DbState<K> {
         requires unsealed { source.old.memory.sealed ≡ None }
         ensures step { (ids : Ids) → LeadsOpen (order_of K.name K.cmp) (seen_of S.facts source.old) (seen_of S.facts source.new) ids (held source.old.memory self.old) (held source.new.memory self.new) (λ m n. IsPiece m 1 result n) }
         ensures outcome { DbOutcome MayRefuseWork (S.facts source.old.tables.store) (S.facts source.new.tables.store) (held source.old.memory self.old) (held source.new.memory self.new) result }
+        ensures does { OnOk result (SealsMemory (held source.old.memory self.old) (held source.new.memory self.new)) }
         ensures lock { (S.facts source.new.tables.store).held ≡ (S.facts source.old.tables.store).held }
     {
-        sound_stays();
+        sound_lasts();
         changes_are_kept::<K>();
         one_directory();
+        same_view();
         source.memory.seal(alloc)?;
         match begin_log(alloc, &mut source.tables.store, &mut self.directory.numbers) {
             Ok((number, name)) => {
