@@ -37,14 +37,10 @@ use Rattle.engine.specs.Knowing.{HasLogs, KnowsDirectory}
 use Rattle.engine.specs.Live.{kept_at}
 use Rattle.engine.specs.Machine.{Machine, Walk}
 use Rattle.engine.specs.Stands.{HasLog, HasTables, IsServing}
-use Rattle.engine.specs.Working.{ClosesTables}
+use Rattle.engine.specs.Working.{ClosesTables, numbers_of}
 use Rattle.engine.proofs.InUse.{memory_used, read_used, table_used}
 use Rattle.engine.proofs.Pieces.{limits_stay, made_still, walks_each}
 use Rattle.engine.proofs.Reading.{has_placed, read_by}
-
--- the numbers of the files that are live
-abbrev pub numbers_of : DirectoryState → LiveNumbers
-numbers_of state = record { manifest_number = state.manifest.number; log_number = state.first_log; previous_log_number = state.previous_log }
 
 -- a cursor over a memory table that isn't dropped
 abbrev DropsKept : (List ℕ → List ℕ → _) → Type 0

@@ -1,5 +1,5 @@
 -- All that is said of a command in a session, and of a list of commands.
-use Rattle.std.specs.Prelude.{◌≡◌, ℕ, Bool, false, string_bytes, Option, Some, None, List, [], ◌∷◌, Result, Ok, Err}
+use Rattle.std.specs.Prelude.{◌≡◌, ℕ, Bool, false, IsTrue, string_bytes, Option, Some, None, List, [], ◌∷◌, Result, Ok, Err}
 use Rattle.std.specs.Option.{option_or}
 use Rattle.batch.specs.Batch.{first_refusal}
 use Rattle.batch.specs.declared.operation.Operation.{Operation}
@@ -14,6 +14,9 @@ use Rattle.engine.specs.declared.ids.Ids.{Ids}
 use Rattle.engine.specs.Held.{Held}
 use Rattle.engine.specs.Stands.{store_of, held_in}
 use Rattle.engine.specs.StandsDb.{db_store_of, held_by}
+use Rattle.engine.specs.declared.work.Progress.{Progress}
+use Rattle.engine.specs.declared.work.Progress.TheVariants.{Idle}
+use Rattle.engine.specs.Working.{DoesWork, HasLiveOnly}
 use Rattle.scans.specs.declared.scan.Scan.{Scan}
 use Rattle.engine.specs.declared.session.Session.{Session}
 use Rattle.engine.specs.declared.db.Db.{Db}
@@ -122,3 +125,11 @@ IsReadBy key snapshot db (Err e) = Unit {0}
 -- A value that it answers is what the newest entry of the key in memory put, as far as the read sees.
 abbrev pub DbRead : {S K : Type 0} {g : _} → List ℕ → Option ℕ → Db S K g → Result (Option (List ℕ)) DbError → Type 0
 DbRead key snapshot db result = IsReadBy key snapshot (held_by db) result
+
+-- which piece of work it did
+abbrev pub DbWorks : {S K : Type 0} {g : _} → Db S K g → Db S K g → Result Progress DbError → Type 0
+DbWorks old new result = DoesWork old.options.write_buffer (held_by old) (held_by new) result
+
+-- Where there was none, all files are live, unless one couldn't be removed.
+abbrev pub DbTidies : {S K : Type 0} {g : _} → (S → Facts) → Db S K g → Db S K g → Result Progress DbError → Type 0
+DbTidies facts old new result = result ≡ Ok Idle → IsTrue (facts (db_store_of new)).faithful → (facts (db_store_of new)).failures ≡ (facts (db_store_of old)).failures → HasLiveOnly (facts (db_store_of new)).files (held_by new)

@@ -8,7 +8,16 @@ use Rattle.edits.specs.declared.field.TableFile.{TableFile}
 use Rattle.memories.specs.Memories.{sealed_inserts}
 use Rattle.memtable.specs.Contents.{size_of}
 use Rattle.versions.specs.Levels.{Lists}
+use Rattle.std.specs.FinMap.{contains_key}
+use Rattle.edits.specs.Names.{IsFileName, name_of}
+use Rattle.edits.specs.declared.names.FileName.{FileName}
+use Rattle.scans.specs.declared.scan.Scan.{Scan}
+use Rattle.store.specs.Files.{Files}
+use Rattle.upkeep.specs.Removal.{IsLiveFile}
+use Rattle.versions.specs.declared.live.LiveNumbers.{LiveNumbers}
+use Rattle.engine.specs.declared.directory.DirectoryState.{DirectoryState}
 use Rattle.engine.specs.Held.{Held}
+use Rattle.engine.specs.InUse.{IsTableUsed}
 use Rattle.upkeep.specs.declared.flush.FlushError.{FlushError}
 use Rattle.upkeep.specs.declared.flush.FlushError.TheVariants.{Before, Edit}
 use Rattle.engine.specs.declared.command.Answer.{Answer}
@@ -51,6 +60,17 @@ abbrev pub DoesWork : {I : Type 0} → ℕ → Held I → Held I → Result Prog
 DoesWork most before after (Ok progress.Worked) = WritesTable before after ⊎ ((most ≤ size_of before.memory.current.inserts) × SealsMemory before after)
 DoesWork most before after (Ok progress.Idle) = HasNoWork most before × HasNoWork most after
 DoesWork most before after (Err e) = Unit {0}
+
+-- ---- files
+
+-- the numbers of the files that are live
+abbrev pub numbers_of : DirectoryState → LiveNumbers
+numbers_of state = record { manifest_number = state.manifest.number; log_number = state.first_log; previous_log_number = state.previous_log }
+
+-- Each file of a known shape is live: `CURRENT`, the lock, the MANIFEST, a log that the directory reads, or a table of the version or of
+-- that of an open iterator.
+abbrev pub HasLiveOnly : {K : Type 0} {g : _} → Files → Held (Scan K g) → Type 0
+HasLiveOnly files db = (file : FileName) → IsFileName file → contains_key files (name_of file) ≡ true → IsLiveFile (numbers_of db.directory) (λ number. IsTableUsed db.tables db.iterators number) file
 
 -- ---- answers
 

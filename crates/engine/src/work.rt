@@ -1,7 +1,7 @@
 //! What an open database does beside its commands: the removal of files, flushes, and new logs (LevelDB's db/db_impl.cc,
 //! DBImpl::RemoveObsoleteFiles, CompactMemTable and MakeRoomForWrite).
 
-ghost use Rattle.std.specs.Prelude.{◌≡◌, ℕ, None, IsSome, false, if◌then◌else◌, IsTrue, IfOk, OnOk};
+ghost use Rattle.std.specs.Prelude.{◌≡◌, ℕ, None, IsSome, false, if◌then◌else◌, IsTrue, IfOk, Ok, OnOk};
 ghost use Rattle.coding.specs.declared.error.DbError.TheVariants.{OutOfMemory, Io};
 ghost use Rattle.engine.specs.Working.{ClosesTables};
 ghost use Rattle.ikey.specs.Orders.{order_of};
@@ -32,12 +32,13 @@ pub enum Progress {
 
 impl<K: KeyOrder> DbState<K> {
     ghost use Rattle.engine.specs.declared.ids.Ids.{Ids};
+    ghost use Rattle.engine.specs.declared.work.Progress.TheVariants.{Idle};
     ghost use Rattle.engine.specs.Causes.{IsCausedIn, broken_in};
     ghost use Rattle.engine.specs.Follows.{LeadsOpen};
     ghost use Rattle.engine.specs.Held.{held, seen_of};
     ghost use Rattle.engine.specs.Outcomes.{DbOutcome, IsSame, MayRefuseWork};
     ghost use Rattle.engine.specs.Upkeep.{Works};
-    ghost use Rattle.engine.specs.Working.{DoesWork, IsPiece, SealsMemory, WritesTable, broken_by, flush_answer, work_answer};
+    ghost use Rattle.engine.specs.Working.{DoesWork, HasLiveOnly, IsPiece, SealsMemory, WritesTable, broken_by, flush_answer, work_answer};
 
     /// Removes the files that aren't live, and then does the first of these that there is to do: writes the sealed memory table into
     /// a table file; or seals the memory table, where it has `write_buffer` bytes, and begins a log.
@@ -51,6 +52,8 @@ impl<K: KeyOrder> DbState<K> {
         ensures outcome { DbOutcome MayRefuseWork (S.facts source.old.tables.store) (S.facts source.new.tables.store) (held source.old.memory self.old) (held source.new.memory self.new) result }
         ensures caused { IsCausedIn (broken_in (held source.old.memory self.old)) source.old.tables.store source.new.tables.store result }
         ensures does { DoesWork options.now.write_buffer (held source.old.memory self.old) (held source.new.memory self.new) result }
+        // Where there is none, all files are live, unless one couldn't be removed.
+        ensures tidy { result ≡ Ok Idle → IsTrue (S.facts source.new.tables.store).faithful → (S.facts source.new.tables.store).failures ≡ (S.facts source.old.tables.store).failures → HasLiveOnly (S.facts source.new.tables.store).files (held source.new.memory self.new) }
         ensures lock { (S.facts source.new.tables.store).held ≡ (S.facts source.old.tables.store).held }
     {
         if self.broken {
@@ -72,6 +75,8 @@ impl<K: KeyOrder> DbState<K> {
         ensures outcome { DbOutcome MayRefuseWork (S.facts source.old.tables.store) (S.facts source.new.tables.store) (held source.old.memory self.now) (held source.new.memory self.now) result }
         ensures same { IsSame (held source.old.memory self.now) (held source.new.memory self.now) }
         ensures complete { IfOk result (λ complete. IsTrue complete → (S.facts source.new.tables.store).failures ≡ (S.facts source.old.tables.store).failures) }
+        ensures unfailed { IfOk result (λ complete. (S.facts source.new.tables.store).failures ≡ (S.facts source.old.tables.store).failures → IsTrue complete) }
+        ensures tidy { IsTrue (S.facts source.new.tables.store).faithful → IfOk result (λ complete. IsTrue complete → HasLiveOnly (S.facts source.new.tables.store).files (held source.new.memory self.now)) }
         ensures lock { (S.facts source.new.tables.store).held ≡ (S.facts source.old.tables.store).held }
     {
         sound_lasts();
@@ -99,6 +104,7 @@ impl<K: KeyOrder> DbState<K> {
         ensures step { (ids : Ids) → LeadsOpen (order_of K.name K.cmp) (seen_of S.facts source.old) (seen_of S.facts source.new) ids (held source.old.memory self.old) (held source.new.memory self.new) (λ m n. IsPiece m 1 result n) }
         ensures outcome { DbOutcome MayRefuseWork (S.facts source.old.tables.store) (S.facts source.new.tables.store) (held source.old.memory self.old) (held source.new.memory self.new) result }
         ensures does { DoesWork options.now.write_buffer (held source.old.memory self.old) (held source.new.memory self.new) result }
+        ensures idle { result ≡ Ok Idle → (source.new ≡ source.old) × (self.new ≡ self.old) }
         ensures lock { (S.facts source.new.tables.store).held ≡ (S.facts source.old.tables.store).held }
     {
         if source.memory.sealed_generation().is_some() {
