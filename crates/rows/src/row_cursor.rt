@@ -62,9 +62,9 @@ impl<K: KeyOrder> RowCursor<K> {
 }
 
 impl<K: KeyOrder, S: Store> Cursor<K, Tables<K, S>> for RowCursor<K> {
-    ghost use Rattle.rows.specs.RowLaws.{limits_kept, lists_kept, placed_in, row_onward, row_still};
+    ghost use Rattle.rows.specs.RowLaws.{limits_kept, lists_kept, placed_in, row_left, row_left_on, row_onward, row_still};
     ghost use Rattle.rows.specs.Rows.{GoesOverRow, IsRowLimited, KeepsRow, ListsRow, row_stands};
-    ghost use Rattle.sources.specs.Tables.{seen};
+    ghost use Rattle.sources.specs.Tables.{Carries, seen};
 
     ghost facts = { λ source. S.facts source.store };
 
@@ -76,7 +76,7 @@ impl<K: KeyOrder, S: Store> Cursor<K, Tables<K, S>> for RowCursor<K> {
 
     ghost limited = { λ cursor source. IsRowLimited K.cmp (seen (S.facts source.store) source.tables source.blocks) cursor };
 
-    ghost leaves = { λ old new. Unit {0} };
+    ghost leaves = { λ old new. Carries K.cmp (seen (S.facts old.store) old.tables old.blocks) (seen (S.facts new.store) new.tables new.blocks) };
 
     ghost over = { λ cursor number. GoesOverRow cursor number };
 
@@ -155,9 +155,9 @@ impl<K: KeyOrder, S: Store> Cursor<K, Tables<K, S>> for RowCursor<K> {
 
     ghost limits_kept = { λ cursor old new k l. limits_kept K.cmp _ cursor.here _ _ k l };
 
-    ghost leaves_still = { λ source. tt };
+    ghost leaves_still = { λ source. row_left K.cmp _ };
 
-    ghost leaves_onward = { λ first second third k l. tt };
+    ghost leaves_onward = { λ first second third k l. row_left_on K.cmp _ _ _ k l };
 }
 
 // One step on within the table. On its last entry nothing moves, and the answer is the index of the table behind.

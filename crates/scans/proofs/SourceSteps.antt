@@ -44,14 +44,14 @@ module _ {K : Type 0} {g : Ghosts K} {S T : Type 0} (cmp : Cmp) (seen_of : T →
       rest (Row row) = subst (λ (s : Seen). KeepsRow cmp row (seen_of (tables_of before)) s) (sym is) (row_still cmp (rows_tables row) row.here (seen_of (tables_of before)))
 
   -- a move over a row of tables
-  pub stays_row : (leaves : T → T → Type 0) (old new : RowCursor K g) (before after : S) → memory_of after ≡ memory_of before
-      → Stays (λ tables. (seen_of tables).facts) (λ cursor s t. KeepsRow cmp cursor (seen_of s) (seen_of t)) (λ cursor tables. IsRowLimited cmp (seen_of tables) cursor) leaves (λ cursor number. GoesOverRow cursor number) old new (tables_of before) (tables_of after)
+  pub stays_row : (old new : RowCursor K g) (before after : S) → memory_of after ≡ memory_of before
+      → Stays (λ tables. (seen_of tables).facts) (λ cursor s t. KeepsRow cmp cursor (seen_of s) (seen_of t)) (λ cursor tables. IsRowLimited cmp (seen_of tables) cursor) (λ s t. Carries cmp (seen_of s) (seen_of t)) (λ cursor number. GoesOverRow cursor number) old new (tables_of before) (tables_of after)
       → StaysSource (Row old) (Row new) before after
-  stays_row leaves old new before after is h = record {
+  stays_row old new before after is h = record {
     reads = h.reads;
     left = record {
       memory = subst (λ (m : Memories). LeavesMemories (memory_of before) m) (sym is) (left_there (memory_of before));
-      carries = record { reads = h.reads; sound = λ t. (h.others t old).sound };
+      carries = h.left;
     };
     others = λ t other. rest t other;
     same = λ s t k. h.same (tables_of s) (tables_of t) k;

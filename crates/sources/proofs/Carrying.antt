@@ -2,6 +2,7 @@
 use Rattle.std.proofs.Common.{◌≡◌, ◌⊎◌, ℕ, List, IsSome, IsTrue, refl, ap, ◌∙◌, arith, inl}
 use Rattle.cache.specs.Tables.{table_at}
 use Rattle.cursor.specs.Places.{Cmp}
+use Rattle.edits.specs.Names.{IsNumbered}
 use Rattle.ikey.specs.Entries.{Pair}
 use Rattle.sources.specs.Tables.{Seen, Carries, HasTable, HasData, KeepsOf, Knows}
 use Rattle.store.specs.Files.{Facts}
@@ -35,7 +36,7 @@ carries_both cmp old mid new first second = record {
 }
 
 -- what is kept afterwards is of tables of which something was kept before, or that are there
-pub kept_anew : (cmp : Cmp) (old new : Seen) (number : ℕ) → Carries cmp old new → IsTrue new.facts.faithful → KeepsOf new number → KeepsOf old number ⊎ IsSome (table_at old.facts.files number)
+pub kept_anew : (cmp : Cmp) (old new : Seen) (number : ℕ) → Carries cmp old new → IsTrue new.facts.faithful → KeepsOf new number → KeepsOf old number ⊎ (IsNumbered number × IsSome (table_at old.facts.files number))
 unfolding Knows
 kept_anew cmp old new number carries t kept = carries.kept t number (inl kept)
 

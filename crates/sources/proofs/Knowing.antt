@@ -7,6 +7,7 @@ use Rattle.cache.specs.Tables.{HitsTable, IsAnsweredTable, KeptTable, OpensTable
 use Rattle.cache.proofs.HoldingTables.{Contains-kept_table_at}
 use Rattle.coding.specs.declared.error.DbError.{DbError}
 use Rattle.cursor.specs.Places.{Cmp}
+use Rattle.edits.specs.Names.{IsNumbered}
 use Rattle.sources.specs.Tables.{Seen, Carries, KeepsOf, Knows}
 use Rattle.sources.proofs.Carrying.{reads_both}
 use Rattle.store.specs.Files.{Facts, Files}
@@ -17,11 +18,11 @@ use Rattle.table.specs.Reading.{Reads}
 known_before : (old new : Seen) (number : ℕ) → Reads old.facts new.facts → IsTrue new.facts.faithful → (KeepsOf new number → Knows old number) → Knows new number → Knows old number
 unfolding Knows
 known_before old new number reads t before (inl kept) = before kept
-known_before old new number reads t before (inr there) = inr (subst (λ (files : Files). IsSome (table_at files number)) (reads.files t) there)
+known_before old new number reads t before (inr there) = inr (there.0, subst (λ (files : Files). IsSome (table_at files number)) (reads.files t) there.1)
 
 -- ---- a table is opened
 
-module _ (cmp : Cmp) (old : Seen) (facts : Facts) (number : ℕ) (answer : Result Opened DbError) (X : Type 0) where
+module _ (cmp : Cmp) (old : Seen) (facts : Facts) (number : ℕ) (numbered : IsNumbered number) (answer : Result Opened DbError) (X : Type 0) where
   -- a table is kept, or it is opened
   abbrev Fetched : Option Opened → Type 0
   Fetched o = MatchOption o (OpensTable cmp old.facts facts number answer) (λ table. HitsTable table answer × X)
@@ -30,7 +31,7 @@ module _ (cmp : Cmp) (old : Seen) (facts : Facts) (number : ℕ) (answer : Resul
   unfolding Knows
   known_of None e h t table ok =
       let found = subst (λ a. IfOk a (λ opened. IsTrue facts.faithful → OpensFile cmp old.facts.files number opened)) ok h.found in
-      inr (subst IsSome (sym (found t).1) refl)
+      inr (numbered, subst IsSome (sym (found t).1) refl)
   known_of (Some kept) e h t table ok = inl (inl (record { number = number; table = kept }, Contains-kept_table_at old.tables number kept e, refl))
 
   pub known_opened : Fetched (kept_table_at old.tables number) → IsTrue facts.faithful → (table : Opened) → answer ≡ Ok table → Knows old number

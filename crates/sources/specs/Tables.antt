@@ -5,7 +5,7 @@ use Rattle.cache.specs.Blocks.{BlockCache, KeptBlock}
 use Rattle.cache.specs.Holding.{HoldsBlocks, HoldsTables}
 use Rattle.cache.specs.Tables.{TableCache, KeptTable, table_at}
 use Rattle.cursor.specs.Places.{Cmp}
-use Rattle.edits.specs.Names.{name_of}
+use Rattle.edits.specs.Names.{IsNumbered, name_of}
 use Rattle.edits.specs.declared.names.FileName.TheVariants.{Table, OldTable}
 use Rattle.ikey.specs.Entries.{Pair}
 use Rattle.store.specs.Files.{Facts}
@@ -40,7 +40,7 @@ KeepsOf source number =
 
 -- something is, or the store has this table
 unfoldable pub Knows : Seen → ℕ → Type 0
-Knows source number = KeepsOf source number ⊎ IsSome (table_at source.facts.files number)
+Knows source number = KeepsOf source number ⊎ (IsNumbered number × IsSome (table_at source.facts.files number))
 
 -- A call that reads tables only reads the store, and leaves what is kept right. What it keeps anew is of tables that are
 -- there: of what it knows afterwards, it knew before.

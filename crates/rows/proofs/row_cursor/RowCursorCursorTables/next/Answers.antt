@@ -18,7 +18,7 @@ returns-in_err-start-clause-moves g c =
 pub returns-in_err-start-clause-stays : goal.returns-in_err-start-clause-stays
 returns-in_err-start-clause-stays g c = record {
   reads = c.step_on.ensures.carries.reads;
-  left = tt;
+  left = c.step_on.ensures.carries;
   others = λ t other. row_carried g.K.KeyOrder.cmp (rows_tables other) other.here (seen (g.S.Store.facts c.args.source.now.store) c.args.source.now.tables c.args.source.now.blocks) (seen (g.S.Store.facts c.step_on.new.source.store) c.step_on.new.source.tables c.step_on.new.source.blocks) c.step_on.ensures.carries t;
   same = λ s t k. step_kept g.K.KeyOrder.cmp (rows_tables c.args.self.now) (seen (g.S.Store.facts s.store) s.tables s.blocks) (seen (g.S.Store.facts t.store) t.tables t.blocks) c.args.self.now.here c.step_on.new.here c.step_on.ensures.same k;
   limit = λ t l. step_limited g.K.KeyOrder.cmp (rows_tables c.args.self.now) (seen (g.S.Store.facts c.args.source.now.store) c.args.source.now.tables c.args.source.now.blocks) (seen (g.S.Store.facts c.step_on.new.source.store) c.step_on.new.source.tables c.step_on.new.source.blocks) c.args.self.now.here c.step_on.new.here c.step_on.ensures.same c.step_on.ensures.carries t l;
@@ -41,7 +41,7 @@ returns-in-None-clause-moves g c = λ t at h. next_here g.K.KeyOrder.cmp (seen (
 pub returns-in-None-clause-stays : goal.returns-in-None-clause-stays
 returns-in-None-clause-stays g c = record {
   reads = c.step_on.ensures.carries.reads;
-  left = tt;
+  left = c.step_on.ensures.carries;
   others = λ t other. row_carried g.K.KeyOrder.cmp (rows_tables other) other.here (seen (g.S.Store.facts c.args.source.now.store) c.args.source.now.tables c.args.source.now.blocks) (seen (g.S.Store.facts c.step_on.new.source.store) c.step_on.new.source.tables c.step_on.new.source.blocks) c.step_on.ensures.carries t;
   same = λ s t k. step_kept g.K.KeyOrder.cmp (rows_tables c.args.self.now) (seen (g.S.Store.facts s.store) s.tables s.blocks) (seen (g.S.Store.facts t.store) t.tables t.blocks) c.args.self.now.here c.step_on.new.here c.step_on.ensures.same k;
   limit = λ t l. step_limited g.K.KeyOrder.cmp (rows_tables c.args.self.now) (seen (g.S.Store.facts c.args.source.now.store) c.args.source.now.tables c.args.source.now.blocks) (seen (g.S.Store.facts c.step_on.new.source.store) c.step_on.new.source.tables c.step_on.new.source.blocks) c.args.self.now.here c.step_on.new.here c.step_on.ensures.same c.step_on.ensures.carries t l;
@@ -59,7 +59,7 @@ returns-in_err-self-clause-moves g c =
 pub returns-in_err-self-clause-stays : goal.returns-in_err-self-clause-stays
 returns-in_err-self-clause-stays g c = record {
   reads = (carries_both g.K.KeyOrder.cmp (seen (g.S.Store.facts c.args.source.now.store) c.args.source.now.tables c.args.source.now.blocks) (seen (g.S.Store.facts c.step_on.new.source.store) c.step_on.new.source.tables c.step_on.new.source.blocks) (seen (g.S.Store.facts c.search_on.new.source.store) c.search_on.new.source.tables c.search_on.new.source.blocks) c.step_on.ensures.carries c.search_on.ensures.carries).reads;
-  left = tt;
+  left = carries_both g.K.KeyOrder.cmp (seen (g.S.Store.facts c.args.source.now.store) c.args.source.now.tables c.args.source.now.blocks) (seen (g.S.Store.facts c.step_on.new.source.store) c.step_on.new.source.tables c.step_on.new.source.blocks) (seen (g.S.Store.facts c.search_on.new.source.store) c.search_on.new.source.tables c.search_on.new.source.blocks) c.step_on.ensures.carries c.search_on.ensures.carries;
   others = λ t other. row_carried g.K.KeyOrder.cmp (rows_tables other) other.here (seen (g.S.Store.facts c.args.source.now.store) c.args.source.now.tables c.args.source.now.blocks) (seen (g.S.Store.facts c.search_on.new.source.store) c.search_on.new.source.tables c.search_on.new.source.blocks) (carries_both g.K.KeyOrder.cmp (seen (g.S.Store.facts c.args.source.now.store) c.args.source.now.tables c.args.source.now.blocks) (seen (g.S.Store.facts c.step_on.new.source.store) c.step_on.new.source.tables c.step_on.new.source.blocks) (seen (g.S.Store.facts c.search_on.new.source.store) c.search_on.new.source.tables c.search_on.new.source.blocks) c.step_on.ensures.carries c.search_on.ensures.carries) t;
   same = λ s t k. step_kept g.K.KeyOrder.cmp (rows_tables c.args.self.now) (seen (g.S.Store.facts s.store) s.tables s.blocks) (seen (g.S.Store.facts t.store) t.tables t.blocks) c.args.self.now.here c.step_on.new.here c.step_on.ensures.same k;
   limit = λ t l. step_limited g.K.KeyOrder.cmp (rows_tables c.args.self.now) (seen (g.S.Store.facts c.args.source.now.store) c.args.source.now.tables c.args.source.now.blocks) (seen (g.S.Store.facts c.search_on.new.source.store) c.search_on.new.source.tables c.search_on.new.source.blocks) c.args.self.now.here c.step_on.new.here c.step_on.ensures.same (carries_both g.K.KeyOrder.cmp (seen (g.S.Store.facts c.args.source.now.store) c.args.source.now.tables c.args.source.now.blocks) (seen (g.S.Store.facts c.step_on.new.source.store) c.step_on.new.source.tables c.step_on.new.source.blocks) (seen (g.S.Store.facts c.search_on.new.source.store) c.search_on.new.source.tables c.search_on.new.source.blocks) c.step_on.ensures.carries c.search_on.ensures.carries) t l;
@@ -86,7 +86,7 @@ returns-clause-moves g c = λ t at h.
 pub returns-clause-stays : goal.returns-clause-stays
 returns-clause-stays g c = record {
   reads = (carries_both g.K.KeyOrder.cmp (seen (g.S.Store.facts c.args.source.now.store) c.args.source.now.tables c.args.source.now.blocks) (seen (g.S.Store.facts c.step_on.new.source.store) c.step_on.new.source.tables c.step_on.new.source.blocks) (seen (g.S.Store.facts c.search_on.new.source.store) c.search_on.new.source.tables c.search_on.new.source.blocks) c.step_on.ensures.carries c.search_on.ensures.carries).reads;
-  left = tt;
+  left = carries_both g.K.KeyOrder.cmp (seen (g.S.Store.facts c.args.source.now.store) c.args.source.now.tables c.args.source.now.blocks) (seen (g.S.Store.facts c.step_on.new.source.store) c.step_on.new.source.tables c.step_on.new.source.blocks) (seen (g.S.Store.facts c.search_on.new.source.store) c.search_on.new.source.tables c.search_on.new.source.blocks) c.step_on.ensures.carries c.search_on.ensures.carries;
   others = λ t other. row_carried g.K.KeyOrder.cmp (rows_tables other) other.here (seen (g.S.Store.facts c.args.source.now.store) c.args.source.now.tables c.args.source.now.blocks) (seen (g.S.Store.facts c.search_on.new.source.store) c.search_on.new.source.tables c.search_on.new.source.blocks) (carries_both g.K.KeyOrder.cmp (seen (g.S.Store.facts c.args.source.now.store) c.args.source.now.tables c.args.source.now.blocks) (seen (g.S.Store.facts c.step_on.new.source.store) c.step_on.new.source.tables c.step_on.new.source.blocks) (seen (g.S.Store.facts c.search_on.new.source.store) c.search_on.new.source.tables c.search_on.new.source.blocks) c.step_on.ensures.carries c.search_on.ensures.carries) t;
   same = λ s t k. found_kept g.K.KeyOrder.cmp (rows_tables c.args.self.now) (seen (g.S.Store.facts c.step_on.new.source.store) c.step_on.new.source.tables c.step_on.new.source.blocks) (seen (g.S.Store.facts c.search_on.new.source.store) c.search_on.new.source.tables c.search_on.new.source.blocks) (seen (g.S.Store.facts s.store) s.tables s.blocks) (seen (g.S.Store.facts t.store) t.tables t.blocks) c.args.self.now.here c.in_ok-self.field-0 (rw c.row.ensures at c.in_ok-self.ensures.opened) k;
   limit = λ t l. step_limited g.K.KeyOrder.cmp (rows_tables c.args.self.now) (seen (g.S.Store.facts c.args.source.now.store) c.args.source.now.tables c.args.source.now.blocks) (seen (g.S.Store.facts c.step_on.new.source.store) c.step_on.new.source.tables c.step_on.new.source.blocks) c.args.self.now.here c.step_on.new.here c.step_on.ensures.same c.step_on.ensures.carries (c.search_on.ensures.carries.reads.faithful t) (found_limited g.K.KeyOrder.cmp (rows_tables c.args.self.now) (seen (g.S.Store.facts c.step_on.new.source.store) c.step_on.new.source.tables c.step_on.new.source.blocks) (seen (g.S.Store.facts c.search_on.new.source.store) c.search_on.new.source.tables c.search_on.new.source.blocks) c.step_on.new.here c.in_ok-self.field-0 (rw c.row.ensures at c.in_ok-self.ensures.opened) c.search_on.ensures.carries t l);

@@ -14,7 +14,7 @@ returns-in-Memory-clause-stays g c =
 pub returns-in-Row-clause-stays : goal.returns-in-Row-clause-stays
 returns-in-Row-clause-stays g c =
     subst (λ cursor. StaysSource g.K.KeyOrder.cmp (λ tables. seen (g.S.Store.facts tables.store) tables.tables tables.blocks) (λ source. source.tables) (λ source. source.memory) cursor (Row c.seek-in-Row.new.self) c.args.source.now (record c.args.source.now { tables = c.seek-in-Row.new.source })) (sym c.in-Row.is)
-    (stays_row g.K.KeyOrder.cmp (λ tables. seen (g.S.Store.facts tables.store) tables.tables tables.blocks) (λ source. source.tables) (λ source. source.memory) (λ s t. Unit {0}) c.in-Row.cursor c.seek-in-Row.new.self c.args.source.now (record c.args.source.now { tables = c.seek-in-Row.new.source }) refl
+    (stays_row g.K.KeyOrder.cmp (λ tables. seen (g.S.Store.facts tables.store) tables.tables tables.blocks) (λ source. source.tables) (λ source. source.memory) c.in-Row.cursor c.seek-in-Row.new.self c.args.source.now (record c.args.source.now { tables = c.seek-in-Row.new.source }) refl
     c.seek-in-Row.ensures.stays)
 
 pub returns-in-Memory-clause-still : goal.returns-in-Memory-clause-still

@@ -1,4 +1,4 @@
-use Rattle.std.proofs.Common.{refl}
+use Rattle.std.proofs.Common.{refl, arith}
 use Rattle.cache.specs.Tables.{table_at}
 use Rattle.sources.specs.Tables.{seen}
 use Rattle.sources.proofs.Knowing.{hit_opened, kept_opened, known_if}
@@ -12,7 +12,7 @@ returns-clause-carries g c =
       reads = c.get_table.ensures.reads;
       sound = λ t h. sound_opened g.K.KeyOrder.cmp old (g.S.Store.facts c.get_table.new.store) c.get_table.new.self.tables c.get_table.ensures.reads t
           (c.get_table.ensures.holds (table_at old.facts.files) h.tables (λ file there. there) t) h;
-      kept = kept_opened g.K.KeyOrder.cmp old (g.S.Store.facts c.get_table.new.store) c.args.number _ _ c.get_table.ensures.answer c.get_table.new.self.tables c.get_table.ensures.kept c.get_table.ensures.reads;
+      kept = kept_opened g.K.KeyOrder.cmp old (g.S.Store.facts c.get_table.new.store) c.args.number (c.requires, omega arith) _ _ c.get_table.ensures.answer c.get_table.new.self.tables c.get_table.ensures.kept c.get_table.ensures.reads;
     }
 
 pub returns-clause-found : goal.returns-clause-found
@@ -24,9 +24,9 @@ returns-clause-found g c =
 pub returns-clause-known : goal.returns-clause-known
 returns-clause-known g c =
     let old = seen (g.S.Store.facts c.args.self.now.store) c.args.self.now.tables c.args.self.now.blocks in
-    known_if g.K.KeyOrder.cmp old (g.S.Store.facts c.get_table.new.store) c.args.number _ _ c.get_table.result refl c.get_table.ensures.answer
+    known_if g.K.KeyOrder.cmp old (g.S.Store.facts c.get_table.new.store) c.args.number (c.requires, omega arith) _ _ c.get_table.result refl c.get_table.ensures.answer
 
 pub returns-clause-hit : goal.returns-clause-hit
 returns-clause-hit g c =
     let old = seen (g.S.Store.facts c.args.self.now.store) c.args.self.now.tables c.args.self.now.blocks in
-    hit_opened g.K.KeyOrder.cmp old (g.S.Store.facts c.get_table.new.store) c.args.number _ _ _ c.get_table.ensures.answer
+    hit_opened g.K.KeyOrder.cmp old (g.S.Store.facts c.get_table.new.store) c.args.number (c.requires, omega arith) _ _ _ c.get_table.ensures.answer
