@@ -35,12 +35,22 @@ impl<K: KeyOrder> Users for DbState<K> {
 fn is_table_read<K: KeyOrder>(iterators: &BTreeMap<u64, Scan<K>>, number: u64) -> bool
     ensures { MatchBool result (AnyIterator iterators.now (λ scan. HasNumber number (tables_of scan))) (AnyIterator iterators.now (λ scan. HasNumber number (tables_of scan)) → ⊥) }
 {
-    iterators.values().any(|scan| scan.has_table(number))
+    for scan in iterators.values() {
+        if scan.has_table(number) {
+            return true;
+        }
+    }
+    false
 }
 
 // Whether an open iterator reads the memory table of this generation.
 fn is_memory_read<K: KeyOrder>(iterators: &BTreeMap<u64, Scan<K>>, generation: u64) -> bool
     ensures { MatchBool result (IsMemoryUsed iterators.now generation) (IsMemoryUsed iterators.now generation → ⊥) }
 {
-    iterators.values().any(|scan| scan.reads(generation))
+    for scan in iterators.values() {
+        if scan.reads(generation) {
+            return true;
+        }
+    }
+    false
 }
