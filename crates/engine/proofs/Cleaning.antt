@@ -2,6 +2,7 @@
 use Rattle.std.proofs.Common.{◌≡◌, ◌⊎◌, ℕ, ◌+◌, ◌≤◌, ◌<◌, List, [], ◌∷◌, ◌++◌, map, Option, Some, None, IsTrue, IsSome, Contains, Result, Ok, inl, inr, refl, sym, ap, subst, ◌∙◌, arith}
 use Rattle.std.specs.BTreeMap.{BTreeMap}
 use Rattle.std.specs.FinMap.{get}
+use Rattle.std.specs.declared.cmp.Ordering.{Ordering}
 use Rattle.std.specs.Option.{option_or, option_and_then}
 use Rattle.cache.specs.Blocks.{KeptBlock}
 use Rattle.cache.specs.Holding.{HoldsTables}
@@ -11,7 +12,7 @@ use Rattle.edits.specs.declared.field.PlacedTable.{PlacedTable}
 use Rattle.edits.specs.declared.names.FileName.TheVariants.{Table, OldTable}
 use Rattle.ikey.specs.Orders.{Order}
 use Rattle.memories.specs.Changes.{IsUsed, KeepsUsed}
-use Rattle.memories.specs.Memories.{Contents, Memories, inserts_of, logged_in, older_at, sealed_inserts}
+use Rattle.memories.specs.Memories.{Memories, inserts_of, logged_in, older_at, sealed_inserts}
 use Rattle.memories.specs.Places.{MemoriesPlace, KeepsMemories}
 use Rattle.recover.specs.Directory.{Directory, IsConsistent}
 use Rattle.recover.specs.Laws.{OneDirectoryLaw}
@@ -43,7 +44,7 @@ use Rattle.engine.proofs.Pieces.{limits_stay, made_still, walks_each}
 use Rattle.engine.proofs.Reading.{has_placed, read_by}
 
 -- a cursor over a memory table that isn't dropped
-abbrev DropsKept : (List ℕ → List ℕ → _) → Type 0
+abbrev pub DropsKept : (List ℕ → List ℕ → Ordering) → Type 0
 DropsKept cmp = (cursor : MemoriesPlace) (old new : Memories) → new ≡ record old { older = new.older } → older_at new.older cursor.generation ≡ older_at old.older cursor.generation → KeepsMemories cmp cursor old new
 
 module _ {K : Type 0} {g : _} (order : Order) (kept : (scan : Scan K g) → ScanIsKept order.cmp scan) (one : OneDirectoryLaw) (lasts : SoundLasts) (drops : DropsKept order.cmp)
@@ -127,7 +128,7 @@ module _ {K : Type 0} {g : _} (order : Order) (kept : (scan : Scan K g) → Scan
         listed : (content : TableContent) → InTables d.tables content → in_use content.placed.table.number
         listed content is =
             let here = has_placed serving.contents content (subst (λ (contents : List TableContent). InTables contents content) (sym a.in_tables) is) in
-            let at = serving.tables.version.all here.0 content.placed here.1 in
+            let at = subst (λ (p : PlacedTable). Contains db.tables p) here.2 (serving.tables.version.all here.0 content.placed here.1) in
             table_used db.tables db.iterators content.placed.table.number (content.placed, at, refl)
 
         numbers : AreNumbersOf (numbers_of db.directory) in_use d

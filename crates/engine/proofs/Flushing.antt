@@ -1,8 +1,9 @@
 -- What a flush leaves of an open database.
-use Rattle.std.proofs.Common.{◌≡◌, ◌≢◌, ◌⊎◌, ℕ, ◌+◌, ◌≤◌, ◌<◌, ◌^◌, List, [], ◌∷◌, ◌++◌, map, Option, Some, None, IsTrue, IsSome, Contains, Result, Ok, Err, inl, inr, refl, sym, ap, subst, ◌∙◌, arith, string_bytes}
+use Rattle.std.proofs.Common.{true, ◌≡◌, ◌≢◌, ◌⊎◌, ℕ, ◌+◌, ◌≤◌, ◌<◌, ◌^◌, List, [], ◌∷◌, ◌++◌, map, Option, Some, None, IsTrue, IsSome, Contains, Result, Ok, Err, inl, inr, refl, sym, ap, subst, ◌∙◌, arith, string_bytes}
 use Rattle.std.proofs.lemmas.List.{append-nil}
 use Rattle.std.specs.BTreeMap.{BTreeMap}
 use Rattle.std.specs.FinMap.{get}
+use Rattle.std.specs.declared.cmp.Ordering.{Ordering}
 use Rattle.std.specs.Option.{option_or}
 use Rattle.cache.specs.Tables.{KeptTable, IsNameOf, table_at}
 use Rattle.edits.specs.Edit.{HasPastLimit}
@@ -45,7 +46,7 @@ use Rattle.engine.proofs.Reading.{below_next}
 use Rattle.engine.proofs.Reopening.{files_apart, long_back}
 
 -- a cursor over a memory table reads on where none is sealed any more
-abbrev FlushKept : (List ℕ → List ℕ → _) → Type 0
+abbrev pub FlushKept : (List ℕ → List ℕ → Ordering) → Type 0
 FlushKept cmp = (cursor : MemoriesPlace) (old new : Memories) → new ≡ record old { sealed = None } → KeepsMemories cmp cursor old new
 
 module _ {K : Type 0} {g : _} (order : Order) (kept : (scan : Scan K g) → ScanIsKept order.cmp scan) (one : OneDirectoryLaw) (lasts : SoundLasts) (law : SameViewLaw) (flushes : FlushKept order.cmp)

@@ -52,7 +52,7 @@ find_placed [] p (k, lt, e) = absurd (omega (arith, lt))
 find_placed (c ∷ contents) p (zero, lt, e) = (c, inl refl, e)
 find_placed (c ∷ contents) p (suc k, lt, e) = let rest = find_placed contents p (k, omega (arith, lt), e) in (rest.0, inr rest.1, rest.2)
 
-has_placed : (contents : List TableContent) (c : TableContent) → InTables contents c → Contains (placed_of contents) c.placed
+pub has_placed : (contents : List TableContent) (c : TableContent) → InTables contents c → Contains (placed_of contents) c.placed
 has_placed [] c i = absurd i
 has_placed (x ∷ contents) c (inl e) = (0, omega arith, ap (λ (t : TableContent). t.placed) (sym e))
 has_placed (x ∷ contents) c (inr i) = let rest = has_placed contents c i in (suc rest.0, omega (arith, rest.1), rest.2)
@@ -192,7 +192,7 @@ module _ {K : Type 0} {g : _} (order : Order) (kept : (scan : Scan K g) → Scan
       | inr there ↦ (there.0, below_next order old.facts.files db.directory.numbers.next number log.knows.free there.0 there.1)
     ]
 
-    serving_read : IsServing order old db m → IsServing order new after (read_by new.facts m)
+    pub serving_read : IsServing order old db m → IsServing order new after (read_by new.facts m)
     serving_read h = record {
       whole = h.whole;
       certain = h.certain;

@@ -1,5 +1,5 @@
 -- What the sealing of the memory table and a new log leave of an open database.
-use Rattle.std.proofs.Common.{◌≡◌, ◌≢◌, ◌⊎◌, ℕ, ◌+◌, ◌≤◌, ◌<◌, ◌^◌, List, [], ◌∷◌, ◌++◌, max, Option, Some, None, IsTrue, IsSome, Contains, inl, inr, refl, sym, ap, subst, ◌∙◌, arith, string_bytes}
+use Rattle.std.proofs.Common.{true, ◌≡◌, ◌≢◌, ◌⊎◌, ℕ, ◌+◌, ◌≤◌, ◌<◌, ◌^◌, List, [], ◌∷◌, ◌++◌, max, Option, Some, None, IsTrue, IsSome, Contains, inl, inr, refl, sym, ap, subst, ◌∙◌, arith, string_bytes}
 use Rattle.std.proofs.lemmas.List.{append-nil}
 use Rattle.std.specs.FinMap.{get}
 use Rattle.cache.specs.Tables.{table_at}
@@ -28,6 +28,7 @@ use Rattle.scans.specs.Scanning.{ScanIsKept}
 use Rattle.scans.specs.declared.scan.Scan.{Scan}
 use Rattle.sources.specs.Tables.{Seen, IsSound, SoundLasts}
 use Rattle.sources.proofs.Sounding.{same_file, same_table}
+use Rattle.std.specs.declared.cmp.Ordering.{Ordering}
 use Rattle.std.specs.Option.{option_and_then}
 use Rattle.store.specs.Files.{Files, Facts}
 use Rattle.table.specs.Writing.{KeepsOthers}
@@ -86,7 +87,7 @@ module _ {K : Type 0} {g : _} (order : Order) (source : Seen) (db : Held (Scan K
 -- ---- a new log
 
 -- a cursor over a memory table reads on where that is sealed
-abbrev SealKept : (List ℕ → List ℕ → _) → Type 0
+abbrev pub SealKept : (List ℕ → List ℕ → Ordering) → Type 0
 SealKept cmp = (cursor : MemoriesPlace) (old new : Memories) → IsSome (table_in old cursor.generation) → IsSealed old new → KeepsMemories cmp cursor old new
 
 module _ {K : Type 0} {g : _} (order : Order) (kept : (scan : Scan K g) → ScanIsKept order.cmp scan) (one : OneDirectoryLaw) (lasts : SoundLasts) (law : SameViewLaw) (seals : SealKept order.cmp)

@@ -1,5 +1,5 @@
 -- A new iterator over the memory tables and the tables of a directory.
-use Rattle.std.proofs.Common.{◌≡◌, inl, inr, ℕ, zero, suc, Bool, false, Option, Some, IsSome, ◌≤◌, ◌++◌, List, [], ◌∷◌, Contains, map, refl, sym, subst, arith}
+use Rattle.std.proofs.Common.{ap, ◌∙◌, ◌≡◌, inl, inr, ℕ, zero, suc, Bool, false, Option, Some, IsSome, ◌≤◌, ◌++◌, List, [], ◌∷◌, Contains, map, refl, sym, subst, arith}
 use Rattle.std.specs.Cmp.{IsTotalOrder}
 use Rattle.std.specs.FinMap.{IsAntisymmetric}
 use Rattle.ikey.specs.Orders.{Order}

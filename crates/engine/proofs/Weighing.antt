@@ -1,5 +1,6 @@
 -- Entries whose sequences rise weigh no more than those among which they are.
 use Rattle.std.proofs.Common.{◌≡◌, ◌⊎◌, ℕ, ◌+◌, ◌≤◌, ◌<◌, List, [], ◌∷◌, Option, Some, None, length, unwrap_or, inl, inr, refl, sym, ap, subst, ◌∙◌, arith, sum_by}
+use Rattle.std.proofs.lemmas.List.Sums.{sum_by-cons}
 use Rattle.ikey.specs.declared.entry.Entry.{Entry}
 use Rattle.ikey.specs.Views.{Among}
 use Rattle.memtable.specs.Contents.{byte_length}
@@ -18,7 +19,7 @@ without_one entry (x ∷ all) (inl is) = (
   all,
   record {
     others = λ other i. elim i [ inl same ↦ inl (same ∙ sym is) | inr later ↦ inr later ];
-    weight = ap (λ (e : Entry). entry_weight e + sum_by entry_weight all) (sym is);
+    weight = sum_by-cons entry_weight x all ∙ ap (λ (e : Entry). entry_weight e + sum_by entry_weight all) (sym is);
   },
 )
 without_one entry (x ∷ all) (inr i) =
@@ -29,7 +30,7 @@ without_one entry (x ∷ all) (inr i) =
           | inl same ↦ inr (inl same)
           | inr later ↦ elim (found.1.others other later) [ inl is ↦ inl is | inr there ↦ inr (inr there) ]
         ];
-        weight = (let rest = found.1.weight in omega (arith, rest));
+        weight = (let rest = found.1.weight in let before = sum_by-cons entry_weight x all in let after = sum_by-cons entry_weight x found.0 in omega (arith, rest, before, after));
       },
     )
 
@@ -48,12 +49,13 @@ weighs_less least (x ∷ entries) all rises within =
       | inr there ↦ there
     ]) in
     let weight = found.1.weight in
-    omega (arith, rest, weight)
+    let whole = sum_by-cons entry_weight x entries in
+    omega (arith, rest, weight, whole)
 
 -- what entries need in a table is what they weigh
 room_is : (entries : List Entry) → room_of entries ≡ sum_by entry_weight entries
 room_is [] = refl
-room_is (entry ∷ entries) = (let rest = room_is entries in let one = weight_is entry.value in omega (arith, rest, one))
+room_is (entry ∷ entries) = (let rest = room_is entries in let one = weight_is entry.value in let whole = sum_by-cons entry_weight entry entries in omega (arith, rest, one, whole))
   where
     weight_is : (value : Option (List ℕ)) → byte_length entry.key value + 64 ≡ length entry.key + length (unwrap_or value []) + 64
     weight_is None = omega arith

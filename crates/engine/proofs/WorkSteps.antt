@@ -115,13 +115,13 @@ refused_on m mid n k most (error.Unsupported limit) first rise h = (
 refused_on m mid n k most _ first rise h = absurd h
 
 pub pieces_on : {T U : Type 0} (m mid n : Machine) (k most : ℕ) (done : T) (result : Result U DbError) → IsPiece m k (Ok done) mid → IsPiece mid most result n → IsPiece m (k + most) result n
-pieces_on m mid n k most done result first next = record {
+pieces_on {U = U} m mid n k most done result first next = record {
   failures = (let a = first.failures in let b = next.failures in omega (arith, a, b));
   denials = next.denials ∙ first.denials;
   what = at result next.what;
 }
   where
-    at : (r : Result _ DbError) → MatchResult r (λ x. Draws mid most n) (λ e. UpkeepRefused mid most e n) → MatchResult r (λ x. Draws m (k + most) n) (λ e. UpkeepRefused m (k + most) e n)
+    at : (r : Result U DbError) → MatchResult r (λ x. Draws mid most n) (λ e. UpkeepRefused mid most e n) → MatchResult r (λ x. Draws m (k + most) n) (λ e. UpkeepRefused m (k + most) e n)
     at (Ok x) h = draws_on m mid n k most first.what h
     at (Err e) h = refused_on m mid n k most e first.what first.failures h
 
@@ -129,8 +129,8 @@ pieces_on m mid n k most done result first next = record {
 refused_more : (m n : Machine) (most more : ℕ) (e : DbError) → most ≤ more → UpkeepRefused m most e n → UpkeepRefused m more e n
 refused_more m n most more error.OutOfMemory le h = ((h.0.0, (let upto = h.0.1 in omega (arith, upto, le))), h.1)
 refused_more m n most more error.Io le h = (h.0, (h.1.0, (let upto = h.1.1 in omega (arith, upto, le))), h.2)
-refused_more m n most more error.NumbersSpent le h = (h.0, (h.1.0.0, (let upto = h.1.0.1 in omega (arith, upto, le))), h.1.1)
-refused_more m n most more (error.Unsupported limit) le h = (h.0, (h.1.0.0, (let upto = h.1.0.1 in omega (arith, upto, le))), h.1.1)
+refused_more m n most more error.NumbersSpent le h = (h.0, ((h.1.0.0, (let upto = h.1.0.1 in omega (arith, upto, le))), h.1.1))
+refused_more m n most more (error.Unsupported limit) le h = (h.0, ((h.1.0.0, (let upto = h.1.0.1 in omega (arith, upto, le))), h.1.1))
 refused_more m n most more _ le h = absurd h
 
 -- ---- an answer
@@ -146,3 +146,17 @@ works_as m n budget most result free le piece =
     at (Ok progress.Worked) h = draws_more h
     at (Ok progress.Idle) h = draws_more h
     at (Err e) h = refused_more m n most (max budget 1) e le h
+
+module _ {K : Type 0} {g : _} (order : Order) (old new : Seen) (ids : Ids) (before after : Held (Scan K g)) where
+  -- what a piece answers is what is answered
+  pub piece_failed : {T U : Type 0} (most : ℕ) (e : DbError) → LeadsOpen order old new ids before after (λ m n. IsPiece {T = T} m most (Err e) n) → LeadsOpen order old new ids before after (λ m n. IsPiece {T = U} m most (Err e) n)
+  piece_failed most e step = record {
+    faithful = step.faithful;
+    moved = λ f m s. let one = step.moved f m s in (one.0, record { failures = one.1.failures; denials = one.1.denials; what = one.1.what }, one.2);
+  }
+
+  pub piece_done : {T U : Type 0} (most : ℕ) (x : T) (y : U) → LeadsOpen order old new ids before after (λ m n. IsPiece m most (Ok x) n) → LeadsOpen order old new ids before after (λ m n. IsPiece m most (Ok y) n)
+  piece_done most x y step = record {
+    faithful = step.faithful;
+    moved = λ f m s. let one = step.moved f m s in (one.0, record { failures = one.1.failures; denials = one.1.denials; what = one.1.what }, one.2);
+  }

@@ -107,6 +107,7 @@ impl<K: KeyOrder> DbState<K> {
         ensures idle { result ≡ Ok Idle → (source.new ≡ source.old) × (self.new ≡ self.old) }
         ensures lock { (S.facts source.new.tables.store).held ≡ (S.facts source.old.tables.store).held }
     {
+        sound_lasts();
         if source.memory.sealed_generation().is_some() {
             self.flush(alloc, source, options)?;
             return Ok(Progress::Worked);
