@@ -32,9 +32,9 @@ use Rattle.engine.specs.Held.{Held, held}
 use Rattle.engine.specs.Machine.{Machine}
 use Rattle.engine.specs.Stands.{IsBroken, IsServing}
 use Rattle.engine.specs.Upkeep.{UpkeepRefused}
-use Rattle.engine.specs.Working.{ClosesTables, IsPiece, broken_by, numbers_of}
+use Rattle.engine.specs.Working.{ClosesTables, IsPiece, IsSameMemory, broken_by, numbers_of}
 use Rattle.engine.specs.InUse.{IsMemoryUsed, IsTableUsed}
-use Rattle.engine.proofs.Cleaning.{DropsKept, serving_cleaned}
+use Rattle.engine.proofs.Cleaning.{DropsKept, sealed_same, serving_cleaned}
 use Rattle.engine.proofs.Reading.{read_by, serving_read}
 use Rattle.engine.proofs.Sealing.{SealKept, broken_seal, serving_drawn, serving_sealed}
 use Rattle.engine.proofs.WorkSteps.{breaks, drawing, draws, serves_on}
@@ -166,3 +166,10 @@ module _ {K : Type 0} {g : _} (order : Order) (kept : (scan : Scan K g) → Scan
   ends_cleaned done whole touches used each unused closes parts =
       serves_on order old (record { facts = facts; tables = tables; blocks = old.blocks }) ids db (record db { memory = memory }) 0 (Ok done) whole whole touches.faithful touches.failures touches.denials
       (λ m f same serving. (draws m 0 facts, undrawn order (record { facts = facts; tables = tables; blocks = old.blocks }) (record db { memory = memory }) m facts (serving_cleaned order kept one lasts drops old facts tables db memory gone used f (each f) unused closes m serving (parts f))))
+
+  pub memory_cleaned : KeepsUsed (IsUsed (λ generation. IsMemoryUsed db.iterators generation) db.memory) db.memory memory → IsSameMemory db.memory memory
+  memory_cleaned used = record {
+    current = ap (λ (m : Memories). m.current) used.others;
+    sealed = ap (λ (m : Memories). m.sealed) used.others;
+    sealed_are = sealed_same order kept one lasts drops old facts tables db memory gone used;
+  }

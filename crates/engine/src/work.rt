@@ -2,8 +2,7 @@
 //! DBImpl::RemoveObsoleteFiles, CompactMemTable and MakeRoomForWrite).
 
 ghost use Rattle.std.specs.Prelude.{◌≡◌, ℕ, None, IsSome, false, if◌then◌else◌, IsTrue, IfOk, Ok, OnOk};
-ghost use Rattle.coding.specs.declared.error.DbError.TheVariants.{OutOfMemory, Io};
-ghost use Rattle.engine.specs.Working.{ClosesTables};
+ghost use Rattle.engine.specs.Working.{ClosesTables, refused_as};
 ghost use Rattle.ikey.specs.Orders.{order_of};
 
 use crate::log::CurrentLog;
@@ -38,7 +37,7 @@ impl<K: KeyOrder> DbState<K> {
     ghost use Rattle.engine.specs.Held.{held, seen_of};
     ghost use Rattle.engine.specs.Outcomes.{DbOutcome, IsSame, MayRefuseWork};
     ghost use Rattle.engine.specs.Upkeep.{Works};
-    ghost use Rattle.engine.specs.Working.{DoesWork, HasLiveOnly, IsPiece, SealsMemory, WritesTable, broken_by, flush_answer, work_answer};
+    ghost use Rattle.engine.specs.Working.{DoesWork, HasLiveOnly, IsPiece, IsSameMemory, MayRefusePiece, SealsMemory, WritesTable, broken_by, flush_answer, work_answer};
 
     /// Removes the files that aren't live, and then does the first of these that there is to do: writes the sealed memory table into
     /// a table file; or seals the memory table, where it has `write_buffer` bytes, and begins a log.
@@ -62,8 +61,7 @@ impl<K: KeyOrder> DbState<K> {
         let complete = self.clean(alloc, source)?;
         match self.do_piece(alloc, source, options) {
             Ok(progress) => Ok(progress),
-            Err(DbError::OutOfMemory) => Err(memory_refusal(complete)),
-            Err(error) => Err(error),
+            Err(error) => Err(refusal(complete, error)),
         }
     }
 
@@ -72,8 +70,9 @@ impl<K: KeyOrder> DbState<K> {
     fn clean<S: Store>(&self, alloc: Global, source: &mut Sources<K, S>) -> Result<bool, DbError>
         requires whole { self.now.broken ≡ false }
         ensures step { (ids : Ids) → LeadsOpen (order_of K.name K.cmp) (seen_of S.facts source.old) (seen_of S.facts source.new) ids (held source.old.memory self.now) (held source.new.memory self.now) (λ m n. IsPiece m 0 result n) }
-        ensures outcome { DbOutcome MayRefuseWork (S.facts source.old.tables.store) (S.facts source.new.tables.store) (held source.old.memory self.now) (held source.new.memory self.now) result }
+        ensures outcome { DbOutcome MayRefusePiece (S.facts source.old.tables.store) (S.facts source.new.tables.store) (held source.old.memory self.now) (held source.new.memory self.now) result }
         ensures same { IsSame (held source.old.memory self.now) (held source.new.memory self.now) }
+        ensures memory { IsSameMemory source.old.memory source.new.memory }
         ensures complete { IfOk result (λ complete. IsTrue complete → (S.facts source.new.tables.store).failures ≡ (S.facts source.old.tables.store).failures) }
         ensures unfailed { IfOk result (λ complete. (S.facts source.new.tables.store).failures ≡ (S.facts source.old.tables.store).failures → IsTrue complete) }
         ensures tidy { IsTrue (S.facts source.new.tables.store).faithful → IfOk result (λ complete. IsTrue complete → HasLiveOnly (S.facts source.new.tables.store).files (held source.new.memory self.now)) }
@@ -102,7 +101,7 @@ impl<K: KeyOrder> DbState<K> {
     ) -> Result<Progress, DbError>
         requires whole { self.old.broken ≡ false }
         ensures step { (ids : Ids) → LeadsOpen (order_of K.name K.cmp) (seen_of S.facts source.old) (seen_of S.facts source.new) ids (held source.old.memory self.old) (held source.new.memory self.new) (λ m n. IsPiece m 1 result n) }
-        ensures outcome { DbOutcome MayRefuseWork (S.facts source.old.tables.store) (S.facts source.new.tables.store) (held source.old.memory self.old) (held source.new.memory self.new) result }
+        ensures outcome { DbOutcome MayRefusePiece (S.facts source.old.tables.store) (S.facts source.new.tables.store) (held source.old.memory self.old) (held source.new.memory self.new) result }
         ensures does { DoesWork options.now.write_buffer (held source.old.memory self.old) (held source.new.memory self.new) result }
         ensures idle { result ≡ Ok Idle → (source.new ≡ source.old) × (self.new ≡ self.old) }
         ensures lock { (S.facts source.new.tables.store).held ≡ (S.facts source.old.tables.store).held }
@@ -130,7 +129,7 @@ impl<K: KeyOrder> DbState<K> {
         requires whole { self.old.broken ≡ false }
         requires sealed { IsSome source.old.memory.sealed }
         ensures step { (ids : Ids) → LeadsOpen (order_of K.name K.cmp) (seen_of S.facts source.old) (seen_of S.facts source.new) ids (held source.old.memory self.old) (held source.new.memory self.new) (λ m n. IsPiece m 1 result n) }
-        ensures outcome { DbOutcome MayRefuseWork (S.facts source.old.tables.store) (S.facts source.new.tables.store) (held source.old.memory self.old) (held source.new.memory self.new) result }
+        ensures outcome { DbOutcome MayRefusePiece (S.facts source.old.tables.store) (S.facts source.new.tables.store) (held source.old.memory self.old) (held source.new.memory self.new) result }
         ensures does { OnOk result (WritesTable (held source.old.memory self.old) (held source.new.memory self.new)) }
         ensures lock { (S.facts source.new.tables.store).held ≡ (S.facts source.old.tables.store).held }
     {
@@ -180,7 +179,7 @@ impl<K: KeyOrder> DbState<K> {
         requires whole { self.old.broken ≡ false }
         requires unsealed { source.old.memory.sealed ≡ None }
         ensures step { (ids : Ids) → LeadsOpen (order_of K.name K.cmp) (seen_of S.facts source.old) (seen_of S.facts source.new) ids (held source.old.memory self.old) (held source.new.memory self.new) (λ m n. IsPiece m 1 result n) }
-        ensures outcome { DbOutcome MayRefuseWork (S.facts source.old.tables.store) (S.facts source.new.tables.store) (held source.old.memory self.old) (held source.new.memory self.new) result }
+        ensures outcome { DbOutcome MayRefusePiece (S.facts source.old.tables.store) (S.facts source.new.tables.store) (held source.old.memory self.old) (held source.new.memory self.new) result }
         ensures does { OnOk result (SealsMemory (held source.old.memory self.old) (held source.new.memory self.new)) }
         ensures lock { (S.facts source.new.tables.store).held ≡ (S.facts source.old.tables.store).held }
     {
@@ -241,11 +240,14 @@ impl<K: KeyOrder> DbState<K> {
     }
 }
 
-// How want of memory is answered: where a file couldn't be removed either, as a failure of the store.
-fn memory_refusal(complete: bool) -> DbError
-    ensures { result ≡ (if complete then OutOfMemory else Io) }
+// How the refusal of a piece is answered: want of memory, where a file couldn't be removed either, as a failure of the store.
+fn refusal(complete: bool, error: DbError) -> DbError
+    ensures { result ≡ refused_as complete error }
 {
-    if complete { DbError::OutOfMemory } else { DbError::Io }
+    match error {
+        DbError::OutOfMemory if !complete => DbError::Io,
+        other => other,
+    }
 }
 
 // Closes the tables of these numbers.
