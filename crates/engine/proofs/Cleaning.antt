@@ -1,15 +1,10 @@
 -- What the removal of files leaves of an open database.
-use Rattle.std.proofs.Common.{◌≡◌, ◌⊎◌, ℕ, ◌+◌, ◌≤◌, ◌<◌, List, [], ◌∷◌, ◌++◌, map, Option, Some, None, IsTrue, IsSome, Contains, Result, Ok, inl, inr, refl, sym, ap, subst, ◌∙◌, arith}
-use Rattle.std.specs.BTreeMap.{BTreeMap}
-use Rattle.std.specs.FinMap.{get}
+use Rattle.std.proofs.Common.{◌≡◌, ℕ, ◌<◌, List, ◌++◌, Option, Some, None, IsTrue, IsSome, Contains, inl, inr, refl, sym, ap, subst, ◌∙◌, arith}
 use Rattle.std.specs.declared.cmp.Ordering.{Ordering}
-use Rattle.std.specs.Option.{option_or, option_and_then}
-use Rattle.cache.specs.Blocks.{KeptBlock}
-use Rattle.cache.specs.Holding.{HoldsTables}
+use Rattle.std.specs.Option.{option_and_then}
 use Rattle.cache.specs.Tables.{KeptTable, IsNameOf, table_at}
-use Rattle.edits.specs.Names.{name_of, IsNumbered}
+use Rattle.edits.specs.Names.{IsNumbered}
 use Rattle.edits.specs.declared.field.PlacedTable.{PlacedTable}
-use Rattle.edits.specs.declared.names.FileName.TheVariants.{Table, OldTable}
 use Rattle.ikey.specs.Orders.{Order}
 use Rattle.memories.specs.Changes.{IsUsed, KeepsUsed}
 use Rattle.memories.specs.Memories.{Memories, inserts_of, logged_in, older_at, sealed_inserts}
@@ -18,23 +13,18 @@ use Rattle.recover.specs.Directory.{Directory, IsConsistent}
 use Rattle.recover.specs.Laws.{OneDirectoryLaw}
 use Rattle.recover.specs.Tables.{InTables, TableContent}
 use Rattle.recover.proofs.Adding.{table_of}
-use Rattle.rows.specs.InRows.{HasNumber}
-use Rattle.scans.specs.Scans.{KeepsScan, tables_of}
+use Rattle.scans.specs.Scans.{KeepsScan}
 use Rattle.scans.specs.Scanning.{ScanIsKept}
-use Rattle.scans.specs.Whole.{Whole}
 use Rattle.scans.specs.declared.scan.Scan.{Scan}
 use Rattle.sources.specs.Tables.{Seen, IsSound, KeepsOf, SoundLasts}
 use Rattle.sources.proofs.Sounding.{same_file, same_table}
-use Rattle.store.specs.Files.{Files, Facts}
+use Rattle.store.specs.Files.{Facts}
 use Rattle.table.specs.Reading.{HasFile}
-use Rattle.versions.specs.declared.live.LiveNumbers.{LiveNumbers}
 use Rattle.upkeep.specs.Removal.{AreNumbersOf, KeepsParts, KeepsTable, ListsUnused}
-use Rattle.engine.specs.declared.directory.DirectoryState.{DirectoryState}
 use Rattle.engine.specs.Directory.{CanAppend}
-use Rattle.engine.specs.Held.{Held, entries_of, whole_of}
+use Rattle.engine.specs.Held.{Held, whole_of}
 use Rattle.engine.specs.InUse.{IsMemoryUsed, IsTableUsed}
 use Rattle.engine.specs.Iterators.{IsWalk}
-use Rattle.engine.specs.Knowing.{HasLogs, KnowsDirectory}
 use Rattle.engine.specs.Live.{kept_at}
 use Rattle.engine.specs.Machine.{Machine, Walk}
 use Rattle.engine.specs.Stands.{HasLog, HasTables, IsServing}
@@ -107,8 +97,8 @@ module _ {K : Type 0} {g : _} (order : Order) (kept : (scan : Scan K g) → Scan
           let fewer : IsSound order.cmp (record old { tables = tables }) = record { tables = λ kept is. has.sound.tables kept (closes.kept kept is); blocks = has.sound.blocks } in
           lasts order.cmp (record old { tables = tables }) facts
           (λ kept file is there.
-            let numbered = (has.drawn kept.number (kept_of kept is)).0 in
-            (same_at kept.number file numbered there, λ h. named_at kept.number kept.table.name file numbered (fewer.tables kept is).0 (closes.closed kept is) there h))
+          let numbered = (has.drawn kept.number (kept_of kept is)).0 in
+          (same_at kept.number file numbered there, λ h. named_at kept.number kept.table.name file numbered (fewer.tables kept is).0 (closes.closed kept is) there h))
           (λ block file is there. same_at block.file file (has.drawn block.file (inr (block, is, refl))).0 there) fewer
 
       drawn_cleaned : (contents : List TableContent) → HasTables order old contents db → (number : ℕ) → KeepsOf new number → IsNumbered number × (number < db.directory.numbers.next)

@@ -1,5 +1,5 @@
 -- What an open database is, and the machine, after a flush, however that ends.
-use Rattle.std.proofs.Common.{length, ◌≡◌, ◌⊎◌, ℕ, ◌+◌, ◌≤◌, ◌<◌, ◌^◌, true, false, List, [], ◌∷◌, ◌++◌, Option, Some, None, Result, Ok, Err, IsTrue, inl, inr, refl, sym, ap, subst, ◌∙◌, arith, string_bytes}
+use Rattle.std.proofs.Common.{length, ◌≡◌, ℕ, ◌+◌, ◌≤◌, ◌<◌, ◌^◌, true, false, List, [], ◌∷◌, ◌++◌, None, Ok, Err, IsTrue, inl, inr, refl, sym, ap, subst, ◌∙◌, arith, string_bytes}
 use Rattle.std.specs.declared.alloc.Global.{Global}
 use Rattle.std.specs.declared.rc.Rc.{Rc}
 use Rattle.coding.specs.declared.error.DbError.{DbError}
@@ -16,26 +16,24 @@ use Rattle.memories.specs.Memories.{Memories, logged_in, sealed_inserts}
 use Rattle.recover.specs.Directory.{Directory}
 use Rattle.recover.specs.Entries.{RiseAbove}
 use Rattle.recover.specs.Laws.{OneDirectoryLaw}
-use Rattle.recover.specs.Logs.{LogContent, logged}
-use Rattle.recover.specs.Numbers.{IsFree}
+use Rattle.recover.specs.Logs.{LogContent}
 use Rattle.recover.specs.Tables.{tabled}
 use Rattle.scans.specs.Scanning.{ScanIsKept}
 use Rattle.scans.specs.declared.scan.Scan.{Scan}
 use Rattle.sources.specs.Tables.{Seen, IsSound, SoundLasts}
 use Rattle.store.specs.Files.{Facts}
-use Rattle.upkeep.specs.Flush.{CanFlush, DrawsTable, FlushMeans, FlushTouches, IsCorrupt, IsFlushed, IsUnflushed, MayBeFlushed, RefusesFlush, RefusesTable}
+use Rattle.upkeep.specs.Flush.{CanFlush, DrawsTable, FlushMeans, FlushTouches, IsCorrupt, IsFlushed, MayBeFlushed, RefusesFlush, RefusesTable}
 use Rattle.upkeep.specs.Level0.{IsTooLarge, room_of}
 use Rattle.upkeep.specs.declared.flush.FlushError.{FlushError}
 use Rattle.upkeep.specs.declared.flush.FlushError.TheVariants.{Before, Edit}
 use Rattle.upkeep.specs.declared.flush.FlushPlan.{FlushPlan}
 use Rattle.versions.specs.Levels.{AreInOrder, Placement}
-use Rattle.engine.specs.declared.directory.DirectoryState.{DirectoryState}
 use Rattle.engine.specs.declared.ids.Ids.{Ids}
 use Rattle.engine.specs.declared.state.DbState.{DbState}
 use Rattle.engine.specs.Follows.{LeadsOpen}
 use Rattle.engine.specs.Held.{Held, entries_of, held, whole_of}
 use Rattle.engine.specs.Machine.{Machine, entry_count, weight}
-use Rattle.engine.specs.Stands.{IsBroken, IsServing}
+use Rattle.engine.specs.Stands.{IsServing}
 use Rattle.engine.specs.Upkeep.{UpkeepRefused}
 use Rattle.engine.specs.Working.{IsPiece, broken_by, flush_answer}
 use Rattle.engine.proofs.Flushing.{FlushKept, StaysBelow, broken_flush, can_flush, serving_flushed, serving_unflushed, sound_beside, sound_unchanged, table_same, table_unchanged}
@@ -93,7 +91,7 @@ module _ {K : Type 0} {g : _} (order : Order) (kept : (scan : Scan K g) → Scan
         let rises : RiseAbove 0 (logged_in memory) = subst (λ (es : List Entry). RiseAbove 0 es) (sym a.in_logs) a.consistent.sequences in
         let front : RiseAbove 0 (sealed_inserts memory) = rises_front 0 (sealed_inserts memory) memory.current.inserts rises in
         let within = room_within 0 (entry_count m) (weight m) (sealed_inserts memory) (entries_of serving.contents before) front
-            (λ e i. among_back (tabled serving.contents) (logged_in memory) e (among_front (sealed_inserts memory) memory.current.inserts e i)) serving.accounted in
+        (λ e i. among_back (tabled serving.contents) (logged_in memory) e (among_front (sealed_inserts memory) memory.current.inserts e i)) serving.accounted in
         let least = large f in
         let is = ap room_of entries_are in
         omega (arith, least, within, is)
@@ -114,9 +112,10 @@ module _ {K : Type 0} {g : _} (order : Order) (kept : (scan : Scan K g) → Scan
   unflushed e refuses leaves other =
       serves_on order old new ids before (held memory drawn) 1 (Err e) whole whole touches.faithful touches.failures touches.denials
       (λ m f same serving.
-        let left = leaves f m serving in
-        (refused m serving e f refuses left.0 same other,
-        serving_unflushed order kept one lasts law flushes old facts before m serving plan numbers.next (stays_below m serving f) (sound_still m serving f) left.1.can.free upto.1 drawn.directory entries left.1 refl refl refl refl refl refl upto.0))
+      let left = leaves f m serving in (
+        refused m serving e f refuses left.0 same other,
+        serving_unflushed order kept one lasts law flushes old facts before m serving plan numbers.next (stays_below m serving f) (sound_still m serving f) left.1.can.free upto.1 drawn.directory entries left.1 refl refl refl refl refl refl upto.0,
+      ))
 
   -- the device failed
   failed : {T : Type 0} → old.facts.failures < facts.failures
@@ -125,8 +124,8 @@ module _ {K : Type 0} {g : _} (order : Order) (kept : (scan : Scan K g) → Scan
   failed rise may =
       breaks order old new ids before (held memory (record drawn { broken = true })) 1 (Err error.Io) refl whole refl touches.faithful rise touches.denials
       (λ m f serving.
-        let either = may f m serving in
-        broken_flush order kept one lasts law flushes old facts before m serving plan numbers.next (stays_below m serving f) (sound_still m serving f) either.free upto.1 entries either)
+      let either = may f m serving in
+      broken_flush order kept one lasts law flushes old facts before m serving plan numbers.next (stays_below m serving f) (sound_still m serving f) either.free upto.1 entries either)
 
   unflushed_by : {T : Type 0} (e : FlushError) → RefusesFlush e old.facts facts entries before.tables next numbers.next → Leaves e → LeadsOpen order old new ids before (held memory (broken_by drawn (flush_answer e))) (λ m n. IsPiece {T = T} m 1 (Err (flush_answer e)) n)
   unflushed_by (Before error.OutOfMemory) refuses leaves = unflushed error.OutOfMemory refuses leaves (λ e. cc)
@@ -145,11 +144,11 @@ module _ {K : Type 0} {g : _} (order : Order) (kept : (scan : Scan K g) → Scan
   ends_unflushed tables are e refuses leaves =
       unflushed_by e (subst (λ (ts : List PlacedTable). RefusesFlush e old.facts facts entries ts next numbers.next) are refuses)
       (λ f m serving.
-        let d = serving.log.directory.directory in
-        let sealed = serving.log.logs.sealed in
-        let current = serving.log.logs.current in
-        subst (λ (ts : List PlacedTable). FlushMeans {K = K} order old.facts.files facts.files next numbers.next plan state.directory.manifest entries ts d sealed current (Err e)) are
-        (leaves f d sealed current (subst (λ (ts : List PlacedTable). CanFlush order old.facts.files next plan state.directory.manifest entries ts d sealed current) (sym are) (can m serving))))
+      let d = serving.log.directory.directory in
+      let sealed = serving.log.logs.sealed in
+      let current = serving.log.logs.current in
+      subst (λ (ts : List PlacedTable). FlushMeans {K = K} order old.facts.files facts.files next numbers.next plan state.directory.manifest entries ts d sealed current (Err e)) are
+      (leaves f d sealed current (subst (λ (ts : List PlacedTable). CanFlush order old.facts.files next plan state.directory.manifest entries ts d sealed current) (sym are) (can m serving))))
 
   abbrev with_table : ℕ → Rc Placement Global → DbState K g
   with_table end version = record state { version = version; directory = record state.directory { numbers = numbers; manifest = record state.directory.manifest { end = end }; first_log = state.log.number; previous_log = 0 } }
@@ -163,9 +162,10 @@ module _ {K : Type 0} {g : _} (order : Order) (kept : (scan : Scan K g) → Scan
       subst (λ (s : DbState K g). LeadsOpen order old new ids before (held (record memory { sealed = None }) s) (λ m n. IsPiece m 1 (Ok (tt {0})) n)) (sym is)
       (serves_on order old new ids before (held (record memory { sealed = None }) (with_table end version)) 1 (Ok (tt {0})) whole whole touches.faithful touches.failures touches.denials
       (λ m f same serving.
-        let done = has f m serving in
-        (draws m 1 facts,
-        serving_flushed order kept one lasts law flushes old facts before m serving plan numbers.next (stays_below m serving f) (sound_still m serving f) done.free upto.1 end version.value.tables (with_table end version).directory entries in_order done refl refl refl refl refl refl upto.0)))
+      let done = has f m serving in (
+        draws m 1 facts,
+        serving_flushed order kept one lasts law flushes old facts before m serving plan numbers.next (stays_below m serving f) (sound_still m serving f) done.free upto.1 end version.value.tables (with_table end version).directory entries in_order done refl refl refl refl refl refl upto.0,
+      )))
 
 -- ---- an empty sealed table
 

@@ -1,11 +1,9 @@
 -- What a flush leaves of an open database.
-use Rattle.std.proofs.Common.{true, ◌≡◌, ◌≢◌, ◌⊎◌, ℕ, ◌+◌, ◌≤◌, ◌<◌, ◌^◌, List, [], ◌∷◌, ◌++◌, map, Option, Some, None, IsTrue, IsSome, Contains, Result, Ok, Err, inl, inr, refl, sym, ap, subst, ◌∙◌, arith, string_bytes}
+use Rattle.std.proofs.Common.{true, ◌≡◌, ◌≢◌, ℕ, ◌+◌, ◌≤◌, ◌<◌, ◌^◌, List, [], ◌∷◌, ◌++◌, map, Some, None, IsTrue, inl, inr, refl, sym, ap, subst, ◌∙◌, arith, string_bytes}
 use Rattle.std.proofs.lemmas.List.{append-nil}
-use Rattle.std.specs.BTreeMap.{BTreeMap}
 use Rattle.std.specs.FinMap.{get}
 use Rattle.std.specs.declared.cmp.Ordering.{Ordering}
-use Rattle.std.specs.Option.{option_or}
-use Rattle.cache.specs.Tables.{KeptTable, IsNameOf, table_at}
+use Rattle.cache.specs.Tables.{table_at}
 use Rattle.edits.specs.Edit.{HasPastLimit}
 use Rattle.edits.specs.Layout.{fields_of}
 use Rattle.edits.specs.Names.{name_of, IsNumbered}
@@ -29,18 +27,18 @@ use Rattle.scans.specs.Scanning.{ScanIsKept}
 use Rattle.scans.specs.declared.scan.Scan.{Scan}
 use Rattle.sources.specs.Tables.{Seen, IsSound, KeepsOf, SoundLasts}
 use Rattle.sources.proofs.Sounding.{same_file, same_table}
-use Rattle.store.specs.Files.{Files, Facts}
-use Rattle.upkeep.specs.Flush.{CanFlush, FlushTouches, HasFlushed, IsFlushed, IsUnflushed, KeepsParts, MayBeFlushed, PassesNoLimit}
+use Rattle.store.specs.Files.{Facts}
+use Rattle.upkeep.specs.Flush.{CanFlush, FlushTouches, HasFlushed, IsFlushed, IsUnflushed, MayBeFlushed, PassesNoLimit}
 use Rattle.upkeep.specs.declared.flush.FlushPlan.{FlushPlan}
 use Rattle.versions.specs.Levels.{AreInOrder, Lists}
 use Rattle.engine.specs.declared.directory.DirectoryState.{DirectoryState}
-use Rattle.engine.specs.Directory.{CanAppend, IsReadable, IsWithinLimits}
+use Rattle.engine.specs.Directory.{CanAppend, IsReadable}
 use Rattle.engine.specs.Held.{Held, entries_of, whole_of}
 use Rattle.engine.specs.Iterators.{IsWalk}
 use Rattle.engine.specs.Live.{kept_at}
 use Rattle.engine.specs.Machine as machine
 use Rattle.engine.specs.Machine.{Machine, Walk, entry_count, weight}
-use Rattle.engine.specs.Stands.{HasLog, HasTables, IsBroken, IsServing}
+use Rattle.engine.specs.Stands.{HasLog, IsBroken, IsServing}
 use Rattle.engine.proofs.Pieces.{accounted_same, bounded_same, free_up, made_still, rests_as, same_back, same_by, snapshots_same, walks_each}
 use Rattle.engine.proofs.Reading.{below_next}
 use Rattle.engine.proofs.Reopening.{files_apart, long_back}
@@ -130,9 +128,10 @@ module _ {K : Type 0} {g : _} (order : Order) (kept : (scan : Scan K g) → Scan
     sound_beside sound =
         lasts order.cmp old facts
         (λ kept_one file is there.
-          let known = serving.tables.drawn kept_one.number (inl (kept_one, is, refl)) in
-          (sym (table_same kept_one.number known.0 known.1) ∙ there,
-          λ has. same_file old.facts.files facts.files kept_one.number kept_one.table.name (sound.tables kept_one is).0 (newer_same kept_one.number known.0 (apart_next kept_one.number known.1)) (older_same kept_one.number known.0) ∙ has))
+        let known = serving.tables.drawn kept_one.number (inl (kept_one, is, refl)) in (
+          sym (table_same kept_one.number known.0 known.1) ∙ there,
+          λ has. same_file old.facts.files facts.files kept_one.number kept_one.table.name (sound.tables kept_one is).0 (newer_same kept_one.number known.0 (apart_next kept_one.number known.1)) (older_same kept_one.number known.0) ∙ has,
+        ))
         (λ block file is there. let known = serving.tables.drawn block.file (inr (block, is, refl)) in sym (table_same block.file known.0 known.1) ∙ there) sound
 
   -- where nothing was done, too

@@ -1,5 +1,5 @@
 -- Which tables and memory tables the open iterators of a database use.
-use Rattle.std.proofs.Common.{◌≡◌, ◌⊎◌, ℕ, zero, suc, Bool, true, false, cond, List, [], ◌∷◌, length, Option, Some, None, Contains, inl, inr, refl, sym, subst, arith, ◌++◌, All, Any, Bor, map, ◌<◌}
+use Rattle.std.proofs.Common.{◌≡◌, ℕ, suc, Bool, true, false, cond, List, [], ◌∷◌, length, Option, Some, None, inl, inr, refl, sym, subst, arith, ◌++◌, All, Any, Bor}
 use Rattle.std.specs.BTreeMap.{BTreeMap}
 use Rattle.std.specs.Map.{lookup, values_of}
 use Rattle.std.specs.Map.Iter.{TakesFirst, deref}

@@ -1,11 +1,10 @@
 -- What stands when a piece of work has changed the files, the memory tables and what is kept of tables.
-use Rattle.std.proofs.Common.{◌≡◌, ◌⊎◌, ℕ, ◌+◌, ◌≤◌, Bool, true, false, List, [], ◌∷◌, length, Option, Some, None, is_some, MatchOption, inl, inr, refl, sym, ap, subst, ◌∙◌, arith, sum_by}
+use Rattle.std.proofs.Common.{◌≡◌, ◌⊎◌, ℕ, ◌+◌, ◌≤◌, true, List, [], ◌∷◌, length, Option, Some, None, is_some, MatchOption, inl, inr, refl, sym, ap, subst, ◌∙◌, arith, sum_by}
 use Rattle.std.specs.List.{AllByRecursion}
 use Rattle.std.specs.BTreeMap.{BTreeMap}
-use Rattle.std.specs.FinMap.{get, contains_key}
+use Rattle.std.specs.FinMap.{contains_key}
 use Rattle.std.specs.Bool.{nat_eq}
 use Rattle.std.specs.Map.{lookup}
-use Rattle.cache.specs.Tables.{table_at}
 use Rattle.edits.specs.Layout.{fields_of}
 use Rattle.edits.specs.Edit.{HasPastLimit}
 use Rattle.edits.specs.Names.{name_of}
@@ -15,13 +14,13 @@ use Rattle.edits.specs.declared.names.FileName.TheVariants.{Current}
 use Rattle.batch.specs.declared.operation.Operation.{Operation}
 use Rattle.ikey.specs.Orders.{Order}
 use Rattle.ikey.specs.Sources.{SameEntries, SameViewLaw}
-use Rattle.ikey.specs.Views.{AllUpTo, Among, IsView}
+use Rattle.ikey.specs.Views.{AllUpTo, IsView}
 use Rattle.ikey.specs.declared.entry.Entry.{Entry}
 use Rattle.recover.specs.Directory.{Directory, IsConsistent, entries_in, used_in}
 use Rattle.recover.specs.Laws.{OneDirectoryLaw}
 use Rattle.recover.specs.Numbers.{IsFree, NamesBelow}
 use Rattle.recover.specs.Report.{IsLongTable, AnyHasBytes}
-use Rattle.recover.specs.Tables.{InTables, TableContent}
+use Rattle.recover.specs.Tables.{TableContent}
 use Rattle.scans.specs.Scans.{KeepsScan}
 use Rattle.scans.specs.Scanning.{ScanIsKept}
 use Rattle.scans.specs.Whole.{Whole}
@@ -142,6 +141,6 @@ rests_as order law source db m serving files e good same used =
       accounted = accounted_same (entries_of serving.contents db) (entries_in e) (entry_count m) (weight m) same serving.accounted;
     } in
     let Accepted : Option (List Operation) → Type 0 = λ o. MatchOption o (Means order files (current m) m.used (entry_count m) (weight m)) (λ operations.
-      Means order files (current m) m.used (entry_count m) (weight m)
-      ⊎ Means order files (after_batch (current m) operations) (m.used + length operations) (entry_count m + length operations) (weight m + sum_by operation_weight operations)) in
+    Means order files (current m) m.used (entry_count m) (weight m)
+    ⊎ Means order files (after_batch (current m) operations) (m.used + length operations) (entry_count m + length operations) (weight m + sum_by operation_weight operations)) in
     subst Accepted (sym serving.certain) means

@@ -1,12 +1,12 @@
 -- What the sealing of the memory table and a new log leave of an open database.
-use Rattle.std.proofs.Common.{true, ◌≡◌, ◌≢◌, ◌⊎◌, ℕ, ◌+◌, ◌≤◌, ◌<◌, ◌^◌, List, [], ◌∷◌, ◌++◌, max, Option, Some, None, IsTrue, IsSome, Contains, inl, inr, refl, sym, ap, subst, ◌∙◌, arith, string_bytes}
+use Rattle.std.proofs.Common.{true, ◌≡◌, ◌⊎◌, ℕ, ◌+◌, ◌≤◌, ◌<◌, ◌^◌, List, [], ◌++◌, max, Option, Some, None, IsTrue, IsSome, inl, inr, refl, sym, ap, subst, ◌∙◌, arith, string_bytes}
 use Rattle.std.proofs.lemmas.List.{append-nil}
 use Rattle.std.specs.FinMap.{get}
 use Rattle.cache.specs.Tables.{table_at}
 use Rattle.edits.specs.Names.{name_of, IsNumbered}
 use Rattle.edits.specs.declared.names.FileName.TheVariants.{Log, Table, OldTable}
 use Rattle.ikey.specs.Orders.{Order}
-use Rattle.ikey.specs.Sources.{SameEntries, SameViewLaw}
+use Rattle.ikey.specs.Sources.{SameViewLaw}
 use Rattle.ikey.specs.declared.entry.Entry.{Entry}
 use Rattle.memories.specs.Changes.{IsSealed}
 use Rattle.memories.specs.Memories.{Memories, inserts_of, logged_in, older_at, sealed_inserts, table_in}
@@ -21,7 +21,7 @@ use Rattle.edits.specs.declared.field.Field.{Field}
 use Rattle.recover.specs.Laws.{OneDirectoryLaw}
 use Rattle.recover.specs.Logs.{logged}
 use Rattle.recover.specs.Numbers.{IsFree}
-use Rattle.recover.specs.Tables.{InTables, TableContent, tabled}
+use Rattle.recover.specs.Tables.{TableContent, tabled}
 use Rattle.recover.proofs.Adding.{table_of}
 use Rattle.scans.specs.Scans.{KeepsScan}
 use Rattle.scans.specs.Scanning.{ScanIsKept}
@@ -30,7 +30,7 @@ use Rattle.sources.specs.Tables.{Seen, IsSound, SoundLasts}
 use Rattle.sources.proofs.Sounding.{same_file, same_table}
 use Rattle.std.specs.declared.cmp.Ordering.{Ordering}
 use Rattle.std.specs.Option.{option_and_then}
-use Rattle.store.specs.Files.{Files, Facts}
+use Rattle.store.specs.Files.{Facts}
 use Rattle.table.specs.Writing.{KeepsOthers}
 use Rattle.upkeep.specs.LogFile.{HasNewLog}
 use Rattle.engine.specs.declared.directory.DirectoryState.{DirectoryState}
@@ -41,7 +41,7 @@ use Rattle.engine.specs.Iterators.{IsWalk}
 use Rattle.engine.specs.Live.{kept_at}
 use Rattle.engine.specs.Machine.{Machine, Walk}
 use Rattle.engine.specs.Stands.{HasLog, IsBroken, IsServing}
-use Rattle.engine.proofs.Pieces.{free_up, limits_stay, made_still, rests_as, same_by, walks_each}
+use Rattle.engine.proofs.Pieces.{free_up, made_still, rests_as, same_by, walks_each}
 use Rattle.engine.proofs.Reopening.{files_apart, long_back}
 
 -- ---- a number is drawn, or none
@@ -121,9 +121,10 @@ module _ {K : Type 0} {g : _} (order : Order) (kept : (scan : Scan K g) → Scan
   sound_still sound =
       lasts order.cmp old facts
       (λ one_kept file is there.
-        let known = serving.tables.drawn one_kept.number (inl (one_kept, is, refl)) in
-        (sym (table_still one_kept.number known.0) ∙ there,
-        λ has. same_file old.facts.files facts.files one_kept.number one_kept.table.name (sound.tables one_kept is).0 (newer_same one_kept.number known.0) (older_same one_kept.number known.0) ∙ has))
+      let known = serving.tables.drawn one_kept.number (inl (one_kept, is, refl)) in (
+        sym (table_still one_kept.number known.0) ∙ there,
+        λ has. same_file old.facts.files facts.files one_kept.number one_kept.table.name (sound.tables one_kept is).0 (newer_same one_kept.number known.0) (older_same one_kept.number known.0) ∙ has,
+      ))
       (λ block file is there. sym (table_still block.file (serving.tables.drawn block.file (inr (block, is, refl))).0) ∙ there) sound
 
   -- the machine behind it

@@ -1,10 +1,10 @@
 -- What work answers, of what its pieces do.
-use Rattle.std.proofs.Common.{◌≡◌, ◌≢◌, ◌⊎◌, ℕ, ◌+◌, ◌≤◌, ◌<◌, Bool, true, false, cond, if◌then◌else◌, List, [], max, Option, Some, None, Result, Ok, Err, IfOk, MatchResult, MatchOption, IsTrue, IsSome, inl, inr, refl, sym, ap, subst, ◌∙◌, arith}
+use Rattle.std.proofs.Common.{◌≡◌, ℕ, ◌≤◌, ◌<◌, Bool, true, false, if◌then◌else◌, Option, Some, None, Result, Ok, Err, IsTrue, IsSome, inl, inr, refl, sym, ap, subst, ◌∙◌, arith}
 use Rattle.std.proofs.lemmas.Bool.{cases_order}
 use Rattle.coding.specs.declared.error.DbError.{DbError}
 use Rattle.coding.specs.declared.error.DbError.TheVariants as error
 use Rattle.ikey.specs.Orders.{Order}
-use Rattle.memories.specs.Memories.{Memories, sealed_inserts}
+use Rattle.memories.specs.Memories.{Memories}
 use Rattle.memtable.specs.Contents.{size_of}
 use Rattle.scans.specs.declared.scan.Scan.{Scan}
 use Rattle.sources.specs.Tables.{Seen}
@@ -16,11 +16,10 @@ use Rattle.engine.specs.Causes.{IsCausedIn, IsMet, broken_in}
 use Rattle.engine.specs.Follows.{LeadsOpen}
 use Rattle.engine.specs.Held.{Held}
 use Rattle.engine.specs.Machine.{Machine}
-use Rattle.engine.specs.Outcomes.{DbOutcome, IsSame, Keeps, MayRefuseWork}
 use Rattle.engine.specs.Serving.{not_serving}
-use Rattle.engine.specs.Stands.{StandsClosed, StandsOpen}
-use Rattle.engine.specs.Upkeep.{Draws, UpkeepRefused, Works}
-use Rattle.engine.specs.Working.{DoesWork, HasNoWork, IsPiece, IsSameMemory, MayRefusePiece, SealsMemory, WritesTable, refused_as, work_answer}
+use Rattle.engine.specs.Stands.{StandsClosed}
+use Rattle.engine.specs.Upkeep.{UpkeepRefused, Works}
+use Rattle.engine.specs.Working.{DoesWork, IsPiece, IsSameMemory, MayRefusePiece, refused_as, work_answer}
 use Rattle.engine.proofs.Steps.{broken_cause, broken_of, by_cause, closed_cause, no_cause, serving_of}
 use Rattle.engine.proofs.WorkSteps.{piece_failed, pieces_on, works_as}
 use Rattle.engine.proofs.WriteSteps.{stays_open}

@@ -1,5 +1,5 @@
 -- What an open database is, and the machine, when files were removed or a new log was begun, however that ends.
-use Rattle.std.proofs.Common.{◌≡◌, ◌⊎◌, ℕ, ◌+◌, ◌≤◌, ◌<◌, ◌^◌, true, false, List, [], ◌++◌, Option, Some, None, Contains, Result, Ok, Err, IsTrue, IfOk, inl, inr, refl, sym, ap, subst, ◌∙◌, arith, String}
+use Rattle.std.proofs.Common.{◌≡◌, ℕ, ◌+◌, ◌≤◌, ◌<◌, true, false, List, Some, None, Ok, Err, IsTrue, inl, inr, refl, ap, subst, ◌∙◌, arith, String}
 use Rattle.std.specs.FinMap.{get}
 use Rattle.std.specs.declared.alloc.Global.{Global}
 use Rattle.cache.specs.Tables.{KeptTable, table_at}
@@ -19,18 +19,15 @@ use Rattle.scans.specs.Scanning.{ScanIsKept}
 use Rattle.scans.specs.declared.scan.Scan.{Scan}
 use Rattle.sources.specs.Tables.{Seen, IsSound, SoundLasts}
 use Rattle.store.specs.Files.{Files, Facts}
-use Rattle.table.specs.Reading.{HasFile}
 use Rattle.upkeep.specs.Calls.{Touches}
 use Rattle.upkeep.specs.LogFile.{BeginsLog, DrawsLog, RefusesLog}
 use Rattle.upkeep.specs.Removal.{AreNumbersOf, KeepsParts, KeepsTable, ListsUnused, RefusesList}
-use Rattle.engine.specs.declared.directory.DirectoryState.{DirectoryState}
 use Rattle.engine.specs.declared.ids.Ids.{Ids}
-use Rattle.engine.specs.declared.log.CurrentLog.{CurrentLog}
 use Rattle.engine.specs.declared.state.DbState.{DbState}
 use Rattle.engine.specs.Follows.{LeadsOpen}
 use Rattle.engine.specs.Held.{Held, held}
 use Rattle.engine.specs.Machine.{Machine}
-use Rattle.engine.specs.Stands.{IsBroken, IsServing}
+use Rattle.engine.specs.Stands.{IsServing}
 use Rattle.engine.specs.Upkeep.{UpkeepRefused}
 use Rattle.engine.specs.Working.{ClosesTables, IsPiece, IsSameMemory, broken_by, numbers_of}
 use Rattle.engine.specs.InUse.{IsMemoryUsed, IsTableUsed}
@@ -109,12 +106,13 @@ module _ {K : Type 0} {g : _} (order : Order) (kept : (scan : Scan K g) → Scan
   ends_sealed number name sealed unsealed is inserts draws_log begins =
       serves_on order old (record old { facts = facts }) ids (held memory state) (held sealed (record drawn { log = record { number = number; name = name; end = 0 } })) 1 (Ok (tt {0})) whole whole touches.faithful touches.failures touches.denials
       (λ m f same serving.
-        let knows = serving.log.knows in
-        let d = serving.log.directory.directory in
-        (draws m 1 facts,
+      let knows = serving.log.knows in
+      let d = serving.log.directory.directory in (
+        draws m 1 facts,
         serving_sealed order kept one lasts law seals old facts (held memory state) m serving f draws_log.3 (begins.others f) sealed (record { number = number; name = name; end = 0 }) (record state.directory { numbers = numbers }) unsealed is inserts
-        (begins.ok f d serving.log.directory.consistent knows.free) (begins.manifest f d.manifest state.directory.manifest.end d.edits d.layout knows.ends) (subst (λ (n : ℕ). IsFree order facts.files n) draws_log.2 (begins.free f knows.free))
-        draws_log.0 draws_log.1 refl refl refl refl refl refl draws_log.2))
+            (begins.ok f d serving.log.directory.consistent knows.free) (begins.manifest f d.manifest state.directory.manifest.end d.edits d.layout knows.ends) (subst (λ (n : ℕ). IsFree order facts.files n) draws_log.2 (begins.free f knows.free))
+            draws_log.0 draws_log.1 refl refl refl refl refl refl draws_log.2,
+      ))
 
   log_refused : (m : Machine) (e : DbError) → RefusesLog e old.facts facts next numbers.next → m.failures ≡ old.facts.failures → next ≤ m.numbers → (e ≡ error.Io → ⊥) → UpkeepRefused m 1 e (drawing m 1 facts)
   log_refused m error.OutOfMemory h same below other = draws m 1 facts
@@ -128,13 +126,13 @@ module _ {K : Type 0} {g : _} (order : Order) (kept : (scan : Scan K g) → Scan
   log_failed back rise draws_log begins =
       breaks order old (record old { facts = facts }) ids (held memory state) (held back (record drawn { broken = true })) 1 (Err error.Io) refl whole refl touches.faithful rise touches.denials
       (λ m f serving.
-        let knows = serving.log.knows in
-        let d = serving.log.directory.directory in
-        elim draws_log [
-          | inl none ↦ absurd (let same : facts.failures ≡ old.facts.failures = ap (λ (x : Facts). x.failures) none.1 in omega (arith, rise, same))
-          | inr more ↦ broken_seal order kept one lasts law seals old facts (held memory state) m serving f more.1 (begins.others f) (begins.err f d serving.log.directory.consistent knows.free)
-              (subst (λ (n : ℕ). IsFree order facts.files n) more.0 (begins.free f knows.free))
-        ])
+      let knows = serving.log.knows in
+      let d = serving.log.directory.directory in
+      elim draws_log [
+        | inl none ↦ absurd (let same : facts.failures ≡ old.facts.failures = ap (λ (x : Facts). x.failures) none.1 in omega (arith, rise, same))
+        | inr more ↦ broken_seal order kept one lasts law seals old facts (held memory state) m serving f more.1 (begins.others f) (begins.err f d serving.log.directory.consistent knows.free)
+            (subst (λ (n : ℕ). IsFree order facts.files n) more.0 (begins.free f knows.free))
+      ])
 
   -- the files are as before
   log_unbegun : {T : Type 0} (e : DbError) (back : Memories) → (e ≡ error.Io → ⊥) → (IsTrue facts.faithful → facts.files ≡ old.facts.files) → RefusesLog e old.facts facts next numbers.next → DrawsLog old.facts facts next numbers.next (Err e) → LeavesMemories memory back
@@ -142,9 +140,9 @@ module _ {K : Type 0} {g : _} (order : Order) (kept : (scan : Scan K g) → Scan
   log_unbegun e back other files refused draws_log left =
       serves_on order old (record old { facts = facts }) ids (held memory state) (held back drawn) 1 (Err e) whole whole touches.faithful touches.failures touches.denials
       (λ m f same serving.
-        let below : next ≤ m.numbers = serving.numbers in
-        let upto : (next ≤ numbers.next) × (numbers.next ≤ next + 1) = elim draws_log [ inl none ↦ (let is = none.0 in (omega (arith, is), omega (arith, is))) | inr more ↦ (let is = more.0 in (omega (arith, is), omega (arith, is))) ] in
-        (log_refused m e refused same below other, serving_numbered order kept lasts old facts (held memory state) back numbers m (files f) left upto.0 upto.1 serving))
+      let below : next ≤ m.numbers = serving.numbers in
+      let upto : (next ≤ numbers.next) × (numbers.next ≤ next + 1) = elim draws_log [ inl none ↦ (let is = none.0 in (omega (arith, is), omega (arith, is))) | inr more ↦ (let is = more.0 in (omega (arith, is), omega (arith, is))) ] in
+      (log_refused m e refused same below other, serving_numbered order kept lasts old facts (held memory state) back numbers m (files f) left upto.0 upto.1 serving))
 
   -- however it isn't
   pub ends_unsealed : {T : Type 0} (e : DbError) (back : Memories) → RefusesLog e old.facts facts next numbers.next → DrawsLog old.facts facts next numbers.next (Err e) → BeginsLog {T = ℕ × String Global} order old.facts facts next numbers.next (Err e) → LeavesMemories memory back

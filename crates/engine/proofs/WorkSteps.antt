@@ -1,26 +1,22 @@
 -- What pieces of work do to the machine.
-use Rattle.std.proofs.Common.{◌≡◌, ◌≢◌, ◌⊎◌, ℕ, ◌+◌, ◌≤◌, ◌<◌, ◌^◌, Bool, true, false, cond, List, [], ◌∷◌, max, Option, Some, None, Result, Ok, Err, MatchResult, MatchBool, MatchOption, IsTrue, inl, inr, refl, sym, ap, subst, ◌∙◌, arith}
+use Rattle.std.proofs.Common.{◌≡◌, ℕ, ◌+◌, ◌≤◌, ◌<◌, Bool, true, false, max, None, Result, Ok, Err, MatchResult, MatchBool, IsTrue, inl, inr, refl, sym, ap, subst, ◌∙◌, arith}
 use Rattle.coding.specs.declared.error.DbError.{DbError}
 use Rattle.coding.specs.declared.error.DbError.TheVariants as error
 use Rattle.ikey.specs.Orders.{Order}
-use Rattle.ikey.specs.declared.entry.Entry.{Entry}
 use Rattle.scans.specs.declared.scan.Scan.{Scan}
 use Rattle.sources.specs.Tables.{Seen}
 use Rattle.store.specs.Files.{Facts}
-use Rattle.engine.specs.declared.command.Answer.{Answer}
-use Rattle.engine.specs.declared.command.Answer.TheVariants.{Refused}
 use Rattle.engine.specs.declared.ids.Ids.{Ids}
 use Rattle.engine.specs.declared.work.Progress.{Progress}
 use Rattle.engine.specs.declared.work.Progress.TheVariants as progress
-use Rattle.engine.specs.Follows.{Leads, LeadsOpen}
+use Rattle.engine.specs.Follows.{LeadsOpen}
 use Rattle.engine.specs.Held.{Held}
 use Rattle.engine.specs.Machine.{Machine, weight}
-use Rattle.engine.specs.Outcomes.{DbOutcome, IsSame, Keeps, MayRefuseWork}
-use Rattle.engine.specs.Serving.{not_serving, Becomes}
-use Rattle.engine.specs.Stands.{HasCounts, HasIds, IsBroken, IsServing, StandsOpen}
+use Rattle.engine.specs.Serving.{not_serving}
+use Rattle.engine.specs.Stands.{HasCounts, IsBroken, IsServing}
 use Rattle.engine.specs.Upkeep.{Draws, UpkeepRefused, WorkDone, Works}
 use Rattle.engine.specs.Working.{IsPiece, work_answer}
-use Rattle.engine.proofs.Steps.{by_cause, no_cause, serving_of, broken_of, broken_cause, denies_none, without_cause}
+use Rattle.engine.proofs.Steps.{serving_of, denies_none, without_cause}
 
 -- ---- a piece
 

@@ -171,11 +171,7 @@ impl<K: KeyOrder> DbState<K> {
     }
 
     // Seals the memory table, and begins a log for what is written from now on. Where the store fails, the database is broken.
-    fn seal<S: Store>(
-        &mut self,
-        alloc: Global,
-        source: &mut Sources<K, S>,
-    ) -> Result<(), DbError>
+    fn seal<S: Store>(&mut self, alloc: Global, source: &mut Sources<K, S>) -> Result<(), DbError>
         requires whole { self.old.broken ≡ false }
         requires unsealed { source.old.memory.sealed ≡ None }
         ensures step { (ids : Ids) → LeadsOpen (order_of K.name K.cmp) (seen_of S.facts source.old) (seen_of S.facts source.new) ids (held source.old.memory self.old) (held source.new.memory self.new) (λ m n. IsPiece m 1 result n) }

@@ -1,4 +1,4 @@
-use Rattle.std.proofs.Common.{◌≡◌, All}
+use Rattle.std.proofs.Common.{All}
 use Rattle.scans.specs.Scans.{reads_memory}
 use Rattle.engine.proofs.readers.is_memory_read.Given as goal
 

@@ -1,4 +1,4 @@
-use Rattle.std.proofs.Common.{◌≡◌, All}
+use Rattle.std.proofs.Common.{All}
 use Rattle.scans.specs.Scans.{tables_of}
 use Rattle.versions.specs.Keeping.{HasNumber}
 use Rattle.engine.proofs.readers.is_table_read.Given as goal

@@ -1,5 +1,3 @@
-use Rattle.std.proofs.Common.{◌≡◌, ℕ, ◌+◌, ◌<◌, List, [], ◌∷◌, ◌++◌, Contains, inl, inr, sym, subst, take, get_or, arith}
-use Rattle.cache.specs.Tables.{KeptTable}
 use Rattle.engine.proofs.Closing.{closed_more}
 use Rattle.engine.proofs.work.close_tables.Goals as goal
 

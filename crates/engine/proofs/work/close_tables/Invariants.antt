@@ -1,4 +1,4 @@
-use Rattle.std.proofs.Common.{◌≡◌, take}
+use Rattle.std.proofs.Common.{take}
 use Rattle.engine.specs.Working.{ClosesTables}
 use Rattle.engine.proofs.work.close_tables.Given as goal
 

@@ -1,4 +1,4 @@
-use Rattle.std.proofs.Common.{◌≡◌, ℕ, List, [], Option, Some, None, length, Result, Ok, Err, IsTrue, inl, inr, refl, sym, ap, subst, ◌∙◌, arith, rules}
+use Rattle.std.proofs.Common.{◌≡◌, [], length, Ok, Err, refl, sym, ap, subst, ◌∙◌}
 use Rattle.std.proofs.lemmas.Bool.{eqb-true}
 use Rattle.coding.specs.declared.error.DbError.{DbError}
 use Rattle.ikey.specs.Orders.{order_of}
@@ -37,9 +37,9 @@ returns-in-Ok-clause-step g c ids =
     (ends_flushed order (λ scan. scan_kept order.cmp scan) c.one_directory.ensures c.sound_lasts.ensures c.same_view.ensures c.changes_are_kept.ensures.flushed source facts ids state memory numbers plan entries
     c.requires.whole ensures.call ensures.drawn refl refl c.last-last_sequence.ensures.is (ap inserts_of c.in-Some.ensures) flushed.manifest_end flushed.version c.take_flushed.new.self c.take_flushed.ensures ensures.version.2.in_order
     (λ f m serving.
-      ensures.leaves f serving.log.directory.directory serving.log.logs.sealed serving.log.logs.current
-      (can order (λ scan. scan_kept order.cmp scan) c.one_directory.ensures c.sound_lasts.ensures c.same_view.ensures c.changes_are_kept.ensures.flushed source facts ids state memory numbers plan entries
-      c.requires.whole ensures.call ensures.drawn refl refl c.last-last_sequence.ensures.is (ap inserts_of c.in-Some.ensures) m serving)))
+    ensures.leaves f serving.log.directory.directory serving.log.logs.sealed serving.log.logs.current
+    (can order (λ scan. scan_kept order.cmp scan) c.one_directory.ensures c.sound_lasts.ensures c.same_view.ensures c.changes_are_kept.ensures.flushed source facts ids state memory numbers plan entries
+    c.requires.whole ensures.call ensures.drawn refl refl c.last-last_sequence.ensures.is (ap inserts_of c.in-Some.ensures) m serving)))
 
 pub returns-in-Err-clause-step : goal.returns-in-Err-clause-step
 returns-in-Err-clause-step g c ids =
@@ -57,5 +57,5 @@ returns-in-Err-clause-step g c ids =
     let after : _ → DbError → Type 0 = λ s r. LeadsOpen order source (record source { facts = facts }) ids (held memory state) (held memory s) (λ m n. IsPiece m 1 (Err r) n) in
     subst (after c.flush_refusal.new.self) (sym c.flush_refusal.ensures.answer)
     (subst (λ (s : DbState _ _). after s (flush_answer e)) (sym c.flush_refusal.ensures.broken)
-      (ends_unflushed order (λ scan. scan_kept order.cmp scan) c.one_directory.ensures c.sound_lasts.ensures c.same_view.ensures law source facts ids state memory numbers plan entries
-      c.requires.whole ensures.call ensures.drawn refl refl c.last-last_sequence.ensures.is (ap inserts_of c.in-Some.ensures) c.deref.result.now.tables (ap (λ (p : Placement). p.tables) c.deref.ensures) e ensures.refused ensures.leaves))
+    (ends_unflushed order (λ scan. scan_kept order.cmp scan) c.one_directory.ensures c.sound_lasts.ensures c.same_view.ensures law source facts ids state memory numbers plan entries
+    c.requires.whole ensures.call ensures.drawn refl refl c.last-last_sequence.ensures.is (ap inserts_of c.in-Some.ensures) c.deref.result.now.tables (ap (λ (p : Placement). p.tables) c.deref.ensures) e ensures.refused ensures.leaves))

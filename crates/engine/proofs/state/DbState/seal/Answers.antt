@@ -1,4 +1,4 @@
-use Rattle.std.proofs.Common.{◌≡◌, ℕ, List, Result, Ok, Err, inl, inr, refl, sym, ap, subst, ◌∙◌, arith, rules}
+use Rattle.std.proofs.Common.{◌≡◌, Result, Err, sym, subst, rules}
 use Rattle.coding.specs.declared.error.DbError.{DbError}
 use Rattle.coding.specs.declared.error.DbError.TheVariants.{OutOfMemory}
 use Rattle.ikey.specs.Orders.{order_of}
@@ -18,7 +18,7 @@ returns-in_err-seal-clause-step g c ids =
     let memory : c.from_residual.result ≡ Err OutOfMemory = search rules in
     subst (λ (r : Result _ DbError). LeadsOpen order source source ids (held c.args.source.now.memory c.args.self.now) (held c.seal.new.self c.args.self.now) (λ m n. IsPiece m 1 r n)) (sym memory)
     (subst (λ (mem : Memories). LeadsOpen order source source ids (held c.args.source.now.memory c.args.self.now) (held mem c.args.self.now) (λ m n. IsPiece m 1 (Err OutOfMemory) n)) (sym c.in_err-seal.ensures.err)
-      (ends_full order (λ scan. scan_kept order.cmp scan) c.sound_lasts.ensures source ids (held c.args.source.now.memory c.args.self.now) c.requires.whole))
+    (ends_full order (λ scan. scan_kept order.cmp scan) c.sound_lasts.ensures source ids (held c.args.source.now.memory c.args.self.now) c.requires.whole))
 
 pub returns-in-Ok-clause-step : goal.returns-in-Ok-clause-step
 returns-in-Ok-clause-step g c ids =
@@ -39,5 +39,5 @@ returns-in-Err-clause-step g c ids =
     let left = c.unseal.ensures.left c.args.source.now.memory c.in_ok-seal.ensures.ok in
     subst (after c.refuse.new.self) (sym c.refuse.ensures.answer)
     (subst (λ (s : DbState _ _). after s e) (sym c.refuse.ensures.broken)
-      (ends_unsealed order (λ scan. scan_kept order.cmp scan) c.one_directory.ensures c.sound_lasts.ensures c.same_view.ensures c.changes_are_kept.ensures.sealed source facts ids c.args.self.now c.args.source.now.memory c.begin_log.new.numbers
-      c.requires.whole ensures.call e c.unseal.new.self ensures.refused ensures.drawn (ensures.begins order) left))
+    (ends_unsealed order (λ scan. scan_kept order.cmp scan) c.one_directory.ensures c.sound_lasts.ensures c.same_view.ensures c.changes_are_kept.ensures.sealed source facts ids c.args.self.now c.args.source.now.memory c.begin_log.new.numbers
+    c.requires.whole ensures.call e c.unseal.new.self ensures.refused ensures.drawn (ensures.begins order) left))

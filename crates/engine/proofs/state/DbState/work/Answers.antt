@@ -1,4 +1,4 @@
-use Rattle.std.proofs.Common.{◌≡◌, ◌<◌, ℕ, Bool, true, false, Result, Ok, Err, IsTrue, sym, ap, subst, ◌∙◌, arith, rules}
+use Rattle.std.proofs.Common.{◌≡◌, ◌<◌, false, Result, Ok, Err, sym, subst, arith, rules}
 use Rattle.coding.specs.declared.error.DbError.{DbError}
 use Rattle.ikey.specs.Orders.{order_of}
 use Rattle.engine.specs.declared.work.Progress.{Progress}
@@ -62,4 +62,4 @@ returns-in-Err-clause-step g c ids budget =
     let rose : complete ≡ false → old.facts.failures < mid.facts.failures = failures_rose old.facts.failures mid.facts.failures complete cleaned.outcome.failures cleaned.unfailed in
     subst (λ (r : DbError). LeadsOpen order old new ids before after (λ m n. Works m budget (work_answer (Err r)) n)) (sym c.refusal.ensures)
     (works order old new ids before after budget 1 (Err (refused_as complete e)) (omega arith) c.if-self.false
-      (then_refused order old mid new ids before between after complete e rose c.in-Err.ensures.outcome.failures (cleaned.step ids) (c.in-Err.ensures.step ids)))
+    (then_refused order old mid new ids before between after complete e rose c.in-Err.ensures.outcome.failures (cleaned.step ids) (c.in-Err.ensures.step ids)))
