@@ -1,22 +1,27 @@
 -- An open up to where its database is made, step by step.
-use Rattle.std.proofs.Common.{◌≡◌, ℕ, ◌+◌, List, map, Result, Ok, IsTrue, inl, inr, sym, ap, subst, ◌∙◌, arith}
+use Rattle.std.proofs.Common.{◌≡◌, ℕ, ◌+◌, List, ◌++◌, map, Result, Ok, IsTrue, inl, inr, refl, sym, ap, subst, ◌∙◌, arith, append-nil}
 use Rattle.coding.specs.declared.error.DbError.{DbError}
 use Rattle.store.specs.Files.{Facts, Files}
 use Rattle.ikey.specs.Orders.{Order}
 use Rattle.ikey.specs.declared.entry.Entry.{Entry}
 use Rattle.edits.specs.Layout.{fields_of}
+use Rattle.edits.specs.Names.{name_of}
 use Rattle.edits.specs.declared.field.PlacedTable.{PlacedTable}
-use Rattle.memories.specs.Memories.{logged_in}
-use Rattle.recover.specs.Changes.{RecoveredLaw}
+use Rattle.edits.specs.declared.names.FileName.TheVariants.{Manifest}
+use Rattle.memories.specs.Memories.{Memories, logged_in}
+use Rattle.recover.specs.Changes.{RecoveredLaw, ManifestEndsAt, empty_log}
+use Rattle.recover.specs.Directory.{EndsAt}
 use Rattle.recover.specs.Numbers.{IsFree}
 use Rattle.recover.specs.Tables.{TableContent}
 use Rattle.versions.specs.Levels.{Lists}
 use Rattle.engine.specs.declared.command.Mode.{Mode}
+use Rattle.engine.specs.declared.directory.DirectoryState.{DirectoryState}
 use Rattle.engine.specs.declared.finding.Found.{Found}
 use Rattle.engine.specs.declared.opening.Begun.{Begun}
-use Rattle.engine.specs.Begun.{Begins}
-use Rattle.engine.specs.Directory.{IsDirectoryOf, CanAppend}
-use Rattle.engine.specs.Opening.{Finds, AllowsFiles, IsContinued, IsReady, Rewrites}
+use Rattle.engine.specs.Begun.{IsSealedOf, HasBegun, Begins}
+use Rattle.engine.specs.Directory.{IsDirectoryOf}
+use Rattle.engine.specs.Knowing.{HasLogs, KnowsDirectory}
+use Rattle.engine.specs.Opening.{Finds, AllowsFiles, KeepsLogs, IsKnownAfter, HasRewritten, IsContinued, IsReady, Rewrites}
 use Rattle.engine.proofs.FoundSteps.{parts_found}
 use Rattle.engine.proofs.Reopening.{no_current, all_names_more}
 
@@ -44,9 +49,9 @@ pub continued_same : (order : Order) (old new : Files) → new ≡ old → IsCon
 continued_same order old new same = subst (λ (fs : Files). IsContinued order old fs) (sym same) (continued_itself order old)
 
 -- behind what was read
-pub continued_behind : {T : Type 0} (order : Order) (old mid new : Facts) (found : Found) (r : Result T DbError) → (IsTrue mid.faithful → mid.files ≡ old.files) → (IsTrue mid.faithful → Finds order old.files found)
-    → Rewrites order mid new found r → IsTrue new.faithful → IsContinued order old.files new.files
-continued_behind order old mid new found r same finds w f =
+pub continued_behind : {T : Type 0} (order : Order) (old mid new : Facts) (found : Found) (end : ℕ) (r : Result T DbError) → (IsTrue mid.faithful → mid.files ≡ old.files) → (IsTrue mid.faithful → Finds order old.files found)
+    → Rewrites order mid new found end r → IsTrue new.faithful → IsContinued order old.files new.files
+continued_behind order old mid new found end r same finds w f =
     let g = w.call.faithful f in
     let there : Finds order mid.files found = subst (λ (fs : Files). Finds order fs found) (sym (same g)) (finds g) in
     subst (λ (fs : Files). IsContinued order fs new.files) (same g) (w.continued f there)
@@ -70,24 +75,104 @@ found_says order files found law h tables entries used (inr there) = elim h.what
       )
 ]
 
-pub begins : {K : Type 0} (order : Order) (mode : Mode) (old mid new : Facts) (found : Found) (begun : Begun K) → RecoveredLaw → (IsTrue mid.faithful → mid.files ≡ old.files) → (IsTrue mid.faithful → Finds order old.files found)
-    → (IsTrue mid.faithful → AllowsFiles mode old.files) → Rewrites {T = Unit {0}} order mid new found (Ok tt) → (logged_in begun.memory) ≡ found.entries.items → begun.memory.last ≡ found.used
-    → Lists found.layout.tables.items begun.version.value.tables → begun.log.number ≡ found.number + 1 → begun.log.end ≡ 0 → IsTrue new.faithful → Begins order mode old.files new.files begun
-begins order mode old mid new found begun law same finds allowed w inserts last lists number end f =
+-- ---- the memory
+
+-- as the directory says it
+sealed_says : (memory : Memories) (found others : List Entry) (a b : ℕ) → others ≡ found → b ≡ a → IsSealedOf memory found a → IsSealedOf memory others b
+sealed_says memory found others a b entries used s = record {
+  sealed = s.sealed ∙ sym entries;
+  unsealed = λ none. s.unsealed (sym entries ∙ none);
+  current = s.current;
+  last = s.last ∙ sym used;
+}
+
+sealed_logged : (memory : Memories) (entries : List Entry) (used : ℕ) → IsSealedOf memory entries used → logged_in memory ≡ entries
+sealed_logged memory entries used s = let front = s.sealed in let back = s.current in (λ i. front i ++ back i) ∙ append-nil entries
+
+-- ---- what is known of the directory
+
+-- both say which logs are live, and so the same
+same_logs : (found : Found) (a b c d : ℕ) → KeepsLogs found a b → KeepsLogs found c d → (a ≡ c) × (b ≡ d)
+same_logs found a b c d (inl k) (inl l) = (k.1 ∙ sym l.1, k.2 ∙ sym l.2)
+same_logs found a b c d (inr k) (inr l) = (k.1 ∙ sym l.1, k.2 ∙ sym l.2)
+same_logs found a b c d (inl k) (inr l) = absurd (k.0 l.0)
+same_logs found a b c d (inr k) (inl l) = absurd (l.0 k.0)
+
+module _ (order : Order) (files : Files) (found : Found) (end : ℕ) (tables : List TableContent) (entries : List Entry) (used : ℕ) (r : HasRewritten order files found end tables entries used) where
+  -- what was found is sealed, and nothing else is in memory
+  logs_begun : (memory : Memories) → IsSealedOf memory entries used → HasLogs r.log.directory (found.number + 1) memory
+  logs_begun memory s = record {
+    sealed = r.before;
+    current = empty_log (found.number + 1);
+    logs = r.logs;
+    number = refl;
+    sealed_are = s.sealed ∙ r.in_front;
+    current_are = s.current;
+  }
+
+  known_begun : (name : List ℕ) (state : DirectoryState) → name ≡ name_of (Manifest found.number) → IsKnownAfter found name end state → IsFree order files (found.number + 2)
+      → KnowsDirectory order files r.log.directory (found.number + 1) state
+  known_begun name state is k free =
+      let d = r.log.directory in
+      let logs = same_logs found d.layout.log_number d.layout.previous_log_number state.first_log state.previous_log r.live k.logs in
+      record {
+        first_log = logs.0;
+        forward = (let forward = r.forward in omega (arith, forward, logs.0));
+        previous_log = logs.1;
+        number = k.number ∙ sym r.number;
+        named = k.named ∙ is ∙ ap (λ (n : ℕ). name_of (Manifest n)) (sym r.number);
+        ends = subst (λ (n : ℕ). ManifestEndsAt order files d.manifest n d.edits d.layout) (sym k.ends) r.manifest;
+        free = subst (λ (n : ℕ). IsFree order files n) (sym k.next) free;
+      }
+
+-- what an open has where its directory was rewritten
+pub record IsMadeOf {K : Type 0} (found : Found) (name : List ℕ) (end : ℕ) (begun : Begun K) : Type 0 where
+  pub memory : IsSealedOf begun.memory found.entries.items found.used
+  pub lists : Lists found.layout.tables.items begun.version.value.tables
+  pub number : begun.log.number ≡ found.number + 1
+  pub empty : begun.log.end ≡ 0
+  pub named : name ≡ name_of (Manifest found.number)
+  pub known : IsKnownAfter found name end begun.directory
+
+begun_has : {K : Type 0} (order : Order) (files : Files) (found : Found) (end : ℕ) (tables : List TableContent) (entries : List Entry) (used : ℕ) → HasRewritten order files found end tables entries used
+    → (name : List ℕ) (begun : Begun K) → IsSealedOf begun.memory entries used → Lists (map (λ (content : TableContent). content.placed) tables) begun.version.value.tables
+    → IsMadeOf found name end begun → IsFree order files (found.number + 2) → HasBegun order files begun tables entries used
+begun_has order files found end tables entries used r name begun memory lists made free =
+    let d = r.log.directory in
+    let log = begun.log.number in
+    let N : ℕ → Type 0 = λ n. EndsAt files d n begun.log.end in
+    let E : ℕ → Type 0 = λ n. EndsAt files d (found.number + 1) n in
+    record {
+      inserts = sealed_logged begun.memory entries used memory;
+      last = memory.last;
+      version = lists;
+      log = record {
+        directory = d;
+        consistent = r.log.consistent;
+        ends = subst N (sym made.number) (subst E (sym made.empty) r.log.ends);
+        in_tables = r.log.in_tables;
+        in_logs = r.log.in_logs;
+        spent = r.log.spent;
+      };
+      logs = subst (λ (n : ℕ). HasLogs d n begun.memory) (sym made.number) (logs_begun order files found end tables entries used r begun.memory memory);
+      knows = subst (λ (n : ℕ). KnowsDirectory order files d n begun.directory) (sym made.number)
+          (known_begun order files found end tables entries used r name begun.directory made.named made.known free);
+    }
+
+pub begins : {K : Type 0} (order : Order) (mode : Mode) (old mid new : Facts) (found : Found) (name : List ℕ) (end : ℕ) (begun : Begun K) → RecoveredLaw → (IsTrue mid.faithful → mid.files ≡ old.files) → (IsTrue mid.faithful → Finds order old.files found)
+    → (IsTrue mid.faithful → AllowsFiles mode old.files) → Rewrites {T = Unit {0}} order mid new found end (Ok tt) → IsMadeOf found name end begun → IsTrue new.faithful → Begins order mode old.files new.files begun
+begins order mode old mid new found name end begun law same finds allowed w made f =
     let g = w.call.faithful f in
     let there : Finds order mid.files found = subst (λ (fs : Files). Finds order fs found) (sym (same g)) (finds g) in
-    let ready : IsReady order old.files new.files (found.number + 1) = subst (λ (fs : Files). IsReady order fs new.files (found.number + 1)) (same g) (w.ok f there) in
+    let ready : IsReady order old.files new.files found end = subst (λ (fs : Files). IsReady order fs new.files found end) (same g) (w.ok f there) in
     record {
       allowed = allowed g;
       made = ready.made;
       has = λ tables entries used of.
           let says = found_says order old.files found law (finds g) tables entries used of in
-          let N : ℕ → Type 0 = λ n. CanAppend order new.files n begun.log.end tables entries used in
-          let E : ℕ → Type 0 = λ n. CanAppend order new.files (found.number + 1) n tables entries used in
-          record {
-            inserts = inserts ∙ sym says.1;
-            last = last ∙ sym says.2;
-            version = subst (λ (ts : List PlacedTable). Lists ts begun.version.value.tables) (sym says.0) lists;
-            log = subst N (sym number) (subst E (sym end) (ready.ends tables entries used of));
-          };
+          let r = ready.ends tables entries used of in
+          let memory = sealed_says begun.memory found.entries.items entries found.used used says.1 says.2 made.memory in
+          begun_has order new.files found end tables entries used r name begun memory
+          (subst (λ (ts : List PlacedTable). Lists ts begun.version.value.tables) (sym says.0) made.lists) made ready.free;
+      least = λ n free. (let low = (finds g).number.1 n free in let next = made.known.next in omega (arith, low, next));
     }

@@ -124,7 +124,7 @@ module _ {K : Type 0} {g : _} (order : Order) (kept : (scan : Scan K g) → Scan
       ∙ lacks_same order m.over_limit before was (walk_under m id) motion (walk_known m s) ∙ known
 
   stands_on : (result : Result (Option (List ℕ × List ℕ)) DbError) → IsMoved order.cmp motion before after was now result → IsTrue new.facts.faithful → (m : Machine) → StandsOpen order source ids db m → StandsOpen order new ids read_db (read_by new.facts m)
-  stands_on result h f m s = stands_read order kept source new ids db memory m (record { reads = h.reads; sound = λ faithful. (h.keeps faithful 0).sound }) f h.memory s
+  stands_on result h f m s = stands_read order kept source new ids db memory m h.carries f h.memory s
 
   counts_on : (result : Result (Option (List ℕ × List ℕ)) DbError) (answer : Answer) (place : Option ℕ) → IsMoved order.cmp motion before after was now result → (m : Machine) → StandsOpen order source ids db m → Counted m answer (read_by new.facts m)
   counts_on result answer place h m s = denies_none m (read_by new.facts m) answer (let same : m.failures ≡ source.facts.failures = s.counts.failures in let rise : source.facts.failures ≤ new.facts.failures = h.reads.failures in omega (arith, same, rise)) (h.reads.denials ∙ sym s.counts.denials)

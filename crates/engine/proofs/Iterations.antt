@@ -1,15 +1,17 @@
 -- An iterator through a move of its scan.
-use Rattle.std.proofs.Common.{◌≡◌, ◌⊎◌, ℕ, ◌≤◌, Bool, true, false, cond, List, Option, Some, None, Result, Ok, Err, MatchOption, IsTrue, inl, inr, refl, sym, ap, subst, ◌∙◌, arith}
+use Rattle.std.proofs.Common.{◌≡◌, ◌⊎◌, ℕ, ◌≤◌, Bool, true, false, cond, List, Option, Some, None, Result, Ok, Err, MatchOption, IsTrue, IsSome, inl, inr, refl, sym, ap, subst, ◌∙◌, arith}
 use Rattle.std.specs.declared.cmp.Ordering.{Ordering}
 use Rattle.cache.specs.Tables.{table_at}
 use Rattle.coding.specs.declared.error.DbError.{DbError}
+use Rattle.edits.specs.Names.{IsNumbered}
 use Rattle.coding.specs.declared.error.DbError.TheVariants as error
 use Rattle.cursor.specs.Moves.{Refuses}
 use Rattle.cursor.specs.Views.{Walked}
 use Rattle.cursor.specs.Walks.{key_before}
 use Rattle.scans.specs.Pairs.{pair_on}
 use Rattle.scans.specs.Scanning.{IsScanned, ReadsAs, TakesBack}
-use Rattle.scans.specs.Scans.{IsOnePastLimit, IsScan, IsScanLimited, tables_of}
+use Rattle.rows.specs.InRows.{HasNumber}
+use Rattle.scans.specs.Scans.{IsOnePastLimit, IsScan, IsScanLimited, reads_table, tables_of}
 use Rattle.scans.specs.Whole.{Whole}
 use Rattle.scans.specs.declared.scan.Scan.{Scan}
 use Rattle.store.specs.Files.{Facts}
@@ -82,10 +84,22 @@ module _ {K : Type 0} {g : _} (cmp : Order) (motion : Motion) (before after : Wh
       let there : IsOnePastLimit cmp (tables_of old) after = subst (λ (v : _). IsOnePastLimit cmp v.value.tables after) alike.version past in
       (there.0, there.1, there.2, ap (λ files. table_at files there.0.table.number) (sym (w.reads.files f)) ∙ there.3, there.4)
 
+  -- it reads no other tables, and they are still there
+  tables_on : (result : Result (Unit {0}) DbError) (scan : Scan K g) → IsScanned cmp (destination cmp motion) before after old new result → ReadsAs old scan → ((number : ℕ) → reads_table scan number → reads_table new number) → IsTrue after.seen.facts.faithful
+      → ((number : ℕ) → reads_table old number → HasNumber (tables_of old) number × IsNumbered number × IsSome (table_at before.seen.facts.files number))
+      → (number : ℕ) → reads_table scan number → HasNumber (tables_of scan) number × IsNumbered number × IsSome (table_at after.seen.facts.files number)
+  tables_on result scan w alike within f tables number read =
+      let there = tables number (w.tables number (within number read)) in (
+        subst (λ (v : _). HasNumber v.value.tables number) (sym alike.version) there.0,
+        there.1,
+        subst (λ files. IsSome (table_at files number)) (sym (w.reads.files f)) there.2,
+      )
+
   pub moved_err : (e : DbError) → IsScanned cmp (destination cmp motion) before after old new (Err e) → IsMoved cmp motion before after old new (Err e)
   moved_err e w = record {
     memory = w.memory;
     reads = w.reads;
+    carries = w.carries;
     still = w.still;
     stayed = same_standing new.walk.sequence old.walk.sequence new.walk.stands old.walk.stands new.walk.here.key.items old.walk.here.key.items w.sequence w.stayed.0 w.stayed.1;
     allowed = may_refuse motion e before.seen.facts after.seen.facts _ _ w.refused;
@@ -94,7 +108,7 @@ module _ {K : Type 0} {g : _} (cmp : Order) (motion : Motion) (before after : Wh
     refused = λ none. refuses_as e before.seen.facts after.seen.facts ((at : Walked) → IsScan cmp old before at → ⊥) (IsNoWalk cmp before old) (IsScanLimited cmp old before)
         (λ none_is limited walk is. none_is (walked_of walk) is.scan) w.refused;
     keeps = w.keeps;
-    moves = λ f none limited m h. record { bound = bound_on (Err e) new w refl h.bound; scan = w.moves f (walked_of m) h.scan; limits = λ is past. h.limits is (past_before (Err e) new w w.reads_as f past) };
+    moves = λ f none limited m h. record { bound = bound_on (Err e) new w refl h.bound; scan = w.moves f (walked_of m) h.scan; limits = λ is past. h.limits is (past_before (Err e) new w w.reads_as f past); tables = tables_on (Err e) new w w.reads_as (λ number read. read) f h.tables };
   }
 
   pub moved_ok : (pair : Option (List ℕ × List ℕ)) → ((at : Walked) → IsScan cmp new after at → pair ≡ pair_on at) → IsScanned cmp (destination cmp motion) before after old new (Ok tt)
@@ -102,6 +116,7 @@ module _ {K : Type 0} {g : _} (cmp : Order) (motion : Motion) (before after : Wh
   moved_ok pair reads w = record {
     memory = w.memory;
     reads = w.reads;
+    carries = w.carries;
     still = w.still;
     stayed = tt;
     allowed = tt;
@@ -113,15 +128,16 @@ module _ {K : Type 0} {g : _} (cmp : Order) (motion : Motion) (before after : Wh
         let there : Walk = record m { place = place_after cmp motion m } in
         let on : IsScan cmp new after (walked_of there) =
         subst (λ (place : Option ℕ). IsScan cmp new after (record (walked_of m) { place = place })) (destination_is cmp motion m) (w.moves f (walked_of m) h.scan) in
-        (record { bound = bound_on (Ok tt) new w refl h.bound; scan = on; limits = λ is past. h.limits is (past_before (Ok tt) new w w.reads_as f past) }, reads (walked_of there) on ∙ pair_is there);
+        (record { bound = bound_on (Ok tt) new w refl h.bound; scan = on; limits = λ is past. h.limits is (past_before (Ok tt) new w w.reads_as f past); tables = tables_on (Ok tt) new w w.reads_as (λ number read. read) f h.tables }, reads (walked_of there) on ∙ pair_is there);
   }
 
   -- the pair found no memory, and the move was taken back
   pub taken_back : (stood : Bool) (back : Scan K g) → stood ≡ old.walk.stands → TakesBack cmp stood new back → back.walk.sequence ≡ new.walk.sequence → back.walk.stands ≡ stood → back.walk.here.key.items ≡ key_before new.walk → ReadsAs new back
-      → IsScanned cmp (destination cmp motion) before after old new (Ok tt) → IsMoved cmp motion before after old back (Err error.OutOfMemory)
-  taken_back stood back was again sequence stands key alike w = record {
+      → ((number : ℕ) → reads_table back number → reads_table new number) → IsScanned cmp (destination cmp motion) before after old new (Ok tt) → IsMoved cmp motion before after old back (Err error.OutOfMemory)
+  taken_back stood back was again sequence stands key alike fewer w = record {
     memory = w.memory;
     reads = w.reads;
+    carries = w.carries;
     still = w.still;
     stayed = same_standing back.walk.sequence old.walk.sequence back.walk.stands old.walk.stands back.walk.here.key.items old.walk.here.key.items (sequence ∙ w.sequence) (stands ∙ was) (key ∙ w.left);
     allowed = tt;
@@ -132,6 +148,10 @@ module _ {K : Type 0} {g : _} (cmp : Order) (motion : Motion) (before after : Wh
     moves = λ f none limited m h. record {
       bound = bound_on (Ok tt) back w sequence h.bound;
       scan = again old before after (walked_of m).pairs m.place (destination cmp motion (walked_of m)) h.scan (w.moves f (walked_of m) h.scan) (sym was) w.sequence w.left;
-      limits = λ is past. h.limits is (past_before (Ok tt) back w (record { generation = alike.generation ∙ w.reads_as.generation; sealed = alike.sealed ∙ w.reads_as.sealed; version = alike.version ∙ w.reads_as.version }) f past);
+      limits = λ is past. h.limits is (past_before (Ok tt) back w both f past);
+      tables = tables_on (Ok tt) back w both fewer f h.tables;
     };
   }
+    where
+      both : ReadsAs old back
+      both = record { generation = alike.generation ∙ w.reads_as.generation; sealed = alike.sealed ∙ w.reads_as.sealed; version = alike.version ∙ w.reads_as.version }

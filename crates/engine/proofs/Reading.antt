@@ -1,5 +1,10 @@
 -- What the directory of an open database says of its tables, and what calls that only read leave of an open database.
-use Rattle.std.proofs.Common.{◌≡◌, inl, inr, ℕ, zero, suc, ◌≤◌, Bool, true, false, IsTrue, Some, List, [], ◌∷◌, map, MatchBool, refl, sym, ap, subst, ◌∙◌, arith, Contains}
+use Rattle.std.proofs.Common.{◌≡◌, ◌⊎◌, ◌<◌, inl, inr, ℕ, zero, suc, ◌≤◌, Bool, true, false, is_some, IsTrue, IsSome, Option, None, Some, List, [], ◌∷◌, map, MatchBool, refl, sym, ap, subst, ◌∙◌, arith, Contains}
+use Rattle.std.specs.FinMap.{get}
+use Rattle.std.specs.Option.{option_or}
+use Rattle.edits.specs.Names.{IsNumbered, name_of}
+use Rattle.edits.specs.declared.names.FileName.TheVariants.{Table, OldTable}
+use Rattle.recover.specs.Numbers.{IsFree}
 use Rattle.std.specs.Cmp.{IsTotalOrder}
 use Rattle.std.specs.FinMap.{IsAntisymmetric}
 use Rattle.std.specs.declared.cmp.Ordering.{Ordering}
@@ -18,18 +23,18 @@ use Rattle.scans.specs.Scans.{IsOnePastLimit, KeepsScan, KeepsUpTo, reads_memory
 use Rattle.scans.specs.Scanning.{ScanIsKept}
 use Rattle.scans.specs.Whole.{Whole}
 use Rattle.memories.specs.Memories.{Memories, logged_in}
-use Rattle.memories.specs.PlaceLaws.{left_kept, left_logged}
+use Rattle.memories.specs.PlaceLaws.{left_kept, left_logged, left_sealed}
 use Rattle.memories.specs.Places.{LeavesMemories}
 use Rattle.scans.specs.declared.scan.Scan.{Scan}
 use Rattle.search.specs.Laws.{VersionLaw}
 use Rattle.search.specs.Places.{table_sources, HasVersion}
-use Rattle.sources.specs.Tables.{Seen, IsSound, Carries}
+use Rattle.sources.specs.Tables.{Seen, IsSound, Carries, KeepsOf, Knows}
 use Rattle.sources.specs.Values.{IsPastLimit}
 use Rattle.store.specs.Files.{Files, Facts}
 use Rattle.table.proofs.FrameParts.{long_frame}
 use Rattle.versions.specs.Levels.{Lists}
 use Rattle.engine.specs.declared.ids.Ids.{Ids}
-use Rattle.engine.specs.Directory.{CanAppend, IsAtRest, IsReadable, IsWithinLimits}
+use Rattle.engine.specs.Directory.{IsAtRest, IsReadable, IsWithinLimits}
 use Rattle.engine.specs.Held.{Held, whole_of}
 use Rattle.engine.specs.Iterators.{IsWalk, walked_of}
 use Rattle.engine.specs.Live.{AreWalks}
@@ -47,7 +52,7 @@ find_placed [] p (k, lt, e) = absurd (omega (arith, lt))
 find_placed (c ∷ contents) p (zero, lt, e) = (c, inl refl, e)
 find_placed (c ∷ contents) p (suc k, lt, e) = let rest = find_placed contents p (k, omega (arith, lt), e) in (rest.0, inr rest.1, rest.2)
 
-has_placed : (contents : List TableContent) (c : TableContent) → InTables contents c → Contains (placed_of contents) c.placed
+pub has_placed : (contents : List TableContent) (c : TableContent) → InTables contents c → Contains (placed_of contents) c.placed
 has_placed [] c i = absurd i
 has_placed (x ∷ contents) c (inl e) = (0, omega arith, ap (λ (t : TableContent). t.placed) (sym e))
 has_placed (x ∷ contents) c (inr i) = let rest = has_placed contents c i in (suc rest.0, omega (arith, rest.1), rest.2)
@@ -86,6 +91,31 @@ passes_limit order source contents found db content log tables version i long wi
     let same : has.bytes ≡ long.0 = cc in
     within d a.consistent (inr (other.0, other.1, (long.0, there, long_table order long.0 other.0.entries (subst (λ (file : List ℕ). IsTableFile order file other.0.entries) same has.spelled) long.2)))
 
+-- ---- numbers that are taken
+
+is_there : (o : Option (List ℕ)) → IsSome o → is_some o ≡ true
+is_there None some = absurd (let bad : false ≡ true = some in cc)
+is_there (Some file) some = refl
+
+either_there : (a b : Option (List ℕ)) → IsSome (option_or a b) → (is_some a ≡ true) ⊎ (is_some b ≡ true)
+either_there None b some = inr (is_there b some)
+either_there (Some file) b some = inl refl
+
+-- a table that is there has a number below those that are free
+pub below_next : (order : Order) (files : Files) (n number : ℕ) → IsFree order files n → IsNumbered number → IsSome (table_at files number) → number < n
+below_next order files n number free numbered there = elim (either_there (get files (name_of (Table number))) (get files (name_of (OldTable number))) there) [
+  | inl newer ↦ free.listed (Table number) numbered newer
+  | inr older ↦ free.listed (OldTable number) numbered older
+]
+
+-- what is kept of tables was kept, or is of one that is there
+abbrev pub KeepsThere : Seen → Seen → Type 0
+KeepsThere old new = (number : ℕ) → KeepsOf new number → KeepsOf old number ⊎ (IsNumbered number × IsSome (table_at old.facts.files number))
+
+carried_there : (cmp : List ℕ → List ℕ → Ordering) (old new : Seen) → Carries cmp old new → IsTrue new.facts.faithful → KeepsThere old new
+unfolding Knows
+carried_there cmp old new carries f number is = carries.kept f number (inl is)
+
 -- ---- calls that only read
 
 -- the machine after them
@@ -113,6 +143,7 @@ module _ {K : Type 0} {g : _} (order : Order) (kept : (scan : Scan K g) → Scan
     bound = (let within : iterator.walk.sequence ≤ old.memory.last = h.bound in omega (arith, within, last));
     scan = kept iterator old new (walked_of walk) keeps h.scan;
     limits = λ is past. h.limits is (limits_kept order.cmp iterator old new keeps past);
+    tables = λ number read. let there = h.tables number read in (there.0, there.1, subst (λ (file : Option (List ℕ)). IsSome file) (sym (keeps.files number read)) there.2);
   }
 
   pub walks_kept : (old new : Whole) (iterators : BTreeMap ℕ (Scan K g)) (m : Machine) → ((sequence : ℕ) → sequence ≤ old.memory.last → KeepsUpTo order.cmp sequence old new) → old.memory.last ≤ new.memory.last
@@ -123,7 +154,7 @@ module _ {K : Type 0} {g : _} (order : Order) (kept : (scan : Scan K g) → Scan
 
   -- files and memory are the same, whatever else the calls did
   module _ (old new : Seen) (db : Held (Scan K g)) (memory : Memories) (m : Machine) (files : new.facts.files ≡ old.facts.files) (sound : IsSound order.cmp old → IsSound order.cmp new)
-      (left : LeavesMemories db.memory memory) where
+      (keeps : KeepsThere old new) (left : LeavesMemories db.memory memory) where
     inserts : logged_in memory ≡ logged_in db.memory
     inserts = left_logged db.memory memory left
 
@@ -137,18 +168,37 @@ module _ {K : Type 0} {g : _} (order : Order) (kept : (scan : Scan K g) → Scan
     readable_read h = subst (λ (fs : Files). IsReadable order fs (read_by new.facts m)) (sym files) (record { made = h.made; numbers = h.numbers; limits = h.limits })
 
     log_read : (contents : List TableContent) → HasLog order old.facts.files contents db → HasLog order new.facts.files contents after
-    log_read contents h = record {
-      named = h.named;
-      directory = rw (inserts, last) (subst (λ (fs : Files). CanAppend order fs db.log.number db.log.end contents (logged_in db.memory) db.memory.last) (sym files) h.directory);
-    }
+    log_read contents h =
+        let g : HasLog order new.facts.files contents db = subst (λ (fs : Files). HasLog order fs contents db) (sym files) h in
+        let a = g.directory in
+        record {
+          named = g.named;
+          directory = record { directory = a.directory; consistent = a.consistent; ends = a.ends; in_tables = a.in_tables; in_logs = inserts ∙ a.in_logs; spent = last ∙ a.spent };
+          logs = record {
+            sealed = g.logs.sealed;
+            current = g.logs.current;
+            logs = g.logs.logs;
+            number = g.logs.number;
+            sealed_are = left_sealed db.memory memory left ∙ g.logs.sealed_are;
+            current_are = left.inserts ∙ g.logs.current_are;
+          };
+          knows = record { first_log = g.knows.first_log; forward = g.knows.forward; previous_log = g.knows.previous_log; number = g.knows.number; named = g.knows.named; ends = g.knows.ends; free = g.knows.free };
+        }
 
-    serving_read : IsServing order old db m → IsServing order new after (read_by new.facts m)
+    -- what is kept is of tables that are there, or was kept before
+    drawn_read : (contents : List TableContent) → HasLog order old.facts.files contents db → HasTables order old contents db → (number : ℕ) → KeepsOf new number → IsNumbered number × (number < db.directory.numbers.next)
+    drawn_read contents log tables number kept = elim (keeps number kept) [
+      | inl before ↦ tables.drawn number before
+      | inr there ↦ (there.0, below_next order old.facts.files db.directory.numbers.next number log.knows.free there.0 there.1)
+    ]
+
+    pub serving_read : IsServing order old db m → IsServing order new after (read_by new.facts m)
     serving_read h = record {
       whole = h.whole;
       certain = h.certain;
       contents = h.contents;
       log = log_read h.contents h.log;
-      tables = record { version = h.tables.version; in_order = h.tables.in_order; sound = sound h.tables.sound };
+      tables = record { version = h.tables.version; in_order = h.tables.in_order; sound = sound h.tables.sound; drawn = drawn_read h.contents h.log h.tables };
       entries = record {
         used = h.entries.used ∙ sym last;
         fits = (let fits = h.entries.fits in omega (arith, fits, last));
@@ -157,7 +207,9 @@ module _ {K : Type 0} {g : _} (order : Order) (kept : (scan : Scan K g) → Scan
       };
       snapshots = rw (inserts, last) h.snapshots;
       iterators = walks_kept (whole_of old db) (whole_of new after) db.iterators m (λ sequence within. whole_kept order.cmp (whole_of old db) (whole_of new after) sequence left files sound) (omega (arith, last)) h.iterators;
+      accounted = rw (inserts) h.accounted;
       readable = readable_read h.readable;
+      numbers = h.numbers;
     }
 
     rest_read : (b : Bool) → MatchBool b (IsBroken order old.facts.files m) (IsServing order old db m) → MatchBool b (IsBroken order new.facts.files (read_by new.facts m)) (IsServing order new after (read_by new.facts m))
@@ -177,4 +229,4 @@ module _ {K : Type 0} {g : _} (order : Order) (kept : (scan : Scan K g) → Scan
   -- Calls of a faithful store that only read it leave all but the counts.
   pub stands_read : (old new : Seen) (ids : Ids) (db : Held (Scan K g)) (memory : Memories) (m : Machine) → Carries order.cmp old new → IsTrue new.facts.faithful
       → LeavesMemories db.memory memory → StandsOpen order old ids db m → StandsOpen order new ids (record db { memory = memory }) (read_by new.facts m)
-  stands_read old new ids db memory m carries f left s = stands_kept old new db memory m (carries.reads.files f) (carries.sound f) left ids s
+  stands_read old new ids db memory m carries f left s = stands_kept old new db memory m (carries.reads.files f) (carries.sound f) (carried_there order.cmp old new carries f) left ids s

@@ -1,5 +1,5 @@
 -- All that is said of a command in a session, and of a list of commands.
-use Rattle.std.specs.Prelude.{◌≡◌, ℕ, Bool, false, string_bytes, Option, Some, None, List, [], ◌∷◌, Result, Ok, Err}
+use Rattle.std.specs.Prelude.{◌≡◌, ◌⊎◌, ◌≤◌, ℕ, Bool, false, IsTrue, IsSome, string_bytes, Option, Some, None, List, [], ◌∷◌, Result, Ok, Err}
 use Rattle.std.specs.Option.{option_or}
 use Rattle.batch.specs.Batch.{first_refusal}
 use Rattle.batch.specs.declared.operation.Operation.{Operation}
@@ -7,13 +7,18 @@ use Rattle.coding.specs.declared.error.DbError.{DbError}
 use Rattle.store.specs.Files.{Facts}
 use Rattle.ikey.specs.Orders.{Order}
 use Rattle.engine.specs.declared.command.Op.{Op}
-use Rattle.engine.specs.declared.command.Op.TheVariants.{Get, Close}
+use Rattle.engine.specs.declared.command.Op.TheVariants.{Get, Work, Close}
 use Rattle.engine.specs.declared.command.Answer.{Answer}
-use Rattle.engine.specs.declared.command.Answer.TheVariants.{Value}
+use Rattle.engine.specs.declared.command.Answer.TheVariants.{Value, Worked}
+use Rattle.engine.specs.declared.command.Answer.TheVariants as answer
+use Rattle.memtable.specs.Contents.{size_of}
 use Rattle.engine.specs.declared.ids.Ids.{Ids}
 use Rattle.engine.specs.Held.{Held}
 use Rattle.engine.specs.Stands.{store_of, held_in}
 use Rattle.engine.specs.StandsDb.{db_store_of, held_by}
+use Rattle.engine.specs.declared.work.Progress.{Progress}
+use Rattle.engine.specs.declared.work.Progress.TheVariants.{Idle}
+use Rattle.engine.specs.Working.{DoesWork, HasLiveOnly, HasNoWork}
 use Rattle.scans.specs.declared.scan.Scan.{Scan}
 use Rattle.engine.specs.declared.session.Session.{Session}
 use Rattle.engine.specs.declared.db.Db.{Db}
@@ -33,9 +38,16 @@ IsRead key snapshot None (Value value) = ⊥
 IsRead key snapshot (Some db) (Value value) = (sequence : ℕ) × (sequence_at db snapshot ≡ Some sequence) × ReadsMemory db sequence key value
 IsRead key snapshot state _ = Unit {0}
 
-abbrev pub Shows : {I : Type 0} → Op → Option (Held I) → Answer → Type 0
-Shows (Get key snapshot) state answer = IsRead key snapshot state answer
-Shows _ state answer = Unit {0}
+-- Work is done where a memory table is sealed or has so many bytes, and else there is none.
+abbrev pub ShowsWork : {I : Type 0} → ℕ → Option (Held I) → Answer → Type 0
+ShowsWork most (Some db) Worked = IsSome db.memory.sealed ⊎ (most ≤ size_of db.memory.current.inserts)
+ShowsWork most (Some db) answer.Idle = HasNoWork most db
+ShowsWork most state _ = Unit {0}
+
+abbrev pub Shows : {I : Type 0} → ℕ → Op → Option (Held I) → Answer → Type 0
+Shows most (Get key snapshot) state answer = IsRead key snapshot state answer
+Shows most (Work budget) state answer = ShowsWork most state answer
+Shows most _ state answer = Unit {0}
 
 -- No database is open behind a close.
 abbrev pub Shuts : {I : Type 0} → Op → Option (Held I) → Type 0
@@ -66,8 +78,11 @@ OpenTold order facts old new answer = OpenTells order (held_in old) (facts (stor
 abbrev pub ReadBy : {S K : Type 0} {g : _} → List ℕ → Option ℕ → Session S K g → Answer → Type 0
 ReadBy key snapshot old answer = IsRead key snapshot (held_in old) answer
 
+abbrev pub WorkShown : {S K : Type 0} {g : _} → Session S K g → Answer → Type 0
+WorkShown old answer = ShowsWork old.options.write_buffer (held_in old) answer
+
 abbrev pub ShownBy : {S K : Type 0} {g : _} → Op → Session S K g → Answer → Type 0
-ShownBy op old answer = Shows op (held_in old) answer
+ShownBy op old answer = Shows old.options.write_buffer op (held_in old) answer
 
 abbrev pub IsShut : {S K : Type 0} {g : _} → Session S K g → Type 0
 IsShut session = held_in session ≡ None
@@ -122,3 +137,11 @@ IsReadBy key snapshot db (Err e) = Unit {0}
 -- A value that it answers is what the newest entry of the key in memory put, as far as the read sees.
 abbrev pub DbRead : {S K : Type 0} {g : _} → List ℕ → Option ℕ → Db S K g → Result (Option (List ℕ)) DbError → Type 0
 DbRead key snapshot db result = IsReadBy key snapshot (held_by db) result
+
+-- which piece of work it did
+abbrev pub DbWorks : {S K : Type 0} {g : _} → Db S K g → Db S K g → Result Progress DbError → Type 0
+DbWorks old new result = DoesWork old.options.write_buffer (held_by old) (held_by new) result
+
+-- Where there was none, all files are live, unless one couldn't be removed.
+abbrev pub DbTidies : {S K : Type 0} {g : _} → (S → Facts) → Db S K g → Db S K g → Result Progress DbError → Type 0
+DbTidies facts old new result = result ≡ Ok Idle → IsTrue (facts (db_store_of new)).faithful → (facts (db_store_of new)).failures ≡ (facts (db_store_of old)).failures → HasLiveOnly (facts (db_store_of new)).files (held_by new)

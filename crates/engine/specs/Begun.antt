@@ -1,5 +1,5 @@
 -- What an open has before its database is made, and what it leaves of the directory (LevelDB's db/db_impl.cc, DB::Open).
-use Rattle.std.specs.Prelude.{◌≡◌, ◌⊎◌, ◌<◌, ◌^◌, ℕ, true, IsTrue, List, map, string_bytes}
+use Rattle.std.specs.Prelude.{◌≡◌, ◌⊎◌, ◌<◌, ◌≤◌, ◌+◌, ◌^◌, ℕ, true, IsTrue, None, List, [], map, string_bytes}
 use Rattle.std.specs.FinMap.{contains_key}
 use Rattle.coding.specs.declared.error.DbError.{DbError}
 use Rattle.coding.specs.declared.error.DbError.TheVariants.{OutOfMemory, Io}
@@ -8,13 +8,22 @@ use Rattle.ikey.specs.Orders.{Order}
 use Rattle.ikey.specs.declared.entry.Entry.{Entry}
 use Rattle.edits.specs.Names.{name_of}
 use Rattle.edits.specs.declared.names.FileName.TheVariants.{Current, Log}
-use Rattle.memories.specs.Memories.{logged_in}
+use Rattle.memories.specs.Memories.{Memories, logged_in, sealed_inserts}
+use Rattle.recover.specs.Numbers.{IsFree}
 use Rattle.recover.specs.Tables.{TableContent}
 use Rattle.versions.specs.Levels.{Lists, AreInOrder}
 use Rattle.engine.specs.declared.command.Mode.{Mode}
 use Rattle.engine.specs.declared.opening.Begun.{Begun}
 use Rattle.engine.specs.Directory.{IsDirectoryOf, CanAppend}
+use Rattle.engine.specs.Knowing.{HasLogs, KnowsDirectory}
 use Rattle.engine.specs.Opening.{AllowsFiles}
+
+-- The memory has these entries, sealed where there are some, and this last sequence.
+pub record IsSealedOf (memory : Memories) (entries : List Entry) (used : ℕ) : Type 0 where
+  pub sealed : sealed_inserts memory ≡ entries
+  pub unsealed : entries ≡ [] → memory.sealed ≡ None
+  pub current : memory.current.inserts ≡ []
+  pub last : memory.last ≡ used
 
 -- Over any store: the log is an empty one under its name, the tables are in order, and the sequences fit.
 pub record IsBegun {K : Type 0} (order : Order) (begun : Begun K) : Type 0 where
@@ -22,6 +31,8 @@ pub record IsBegun {K : Type 0} (order : Order) (begun : Begun K) : Type 0 where
   pub empty : begun.log.end ≡ 0
   pub in_order : AreInOrder order.cmp begun.version.value.tables
   pub fits : begun.memory.last < 2 ^ 56
+  -- nothing is read beside what the logs have
+  pub written : begun.memory.current.inserts ≡ []
 
 -- What a directory says is in memory: the entries of its logs, the last sequence and the tables. A record can be put behind
 -- the new log.
@@ -30,12 +41,15 @@ pub record HasBegun {K : Type 0} (order : Order) (files : Files) (begun : Begun 
   pub last : begun.memory.last ≡ used
   pub version : Lists (map (λ (content : TableContent). content.placed) tables) begun.version.value.tables
   pub log : CanAppend order files begun.log.number begun.log.end tables entries used
+  pub logs : HasLogs log.directory begun.log.number begun.memory
+  pub knows : KnowsDirectory order files log.directory begun.log.number begun.directory
 
 -- So it is for what the directory says, wherever it is empty or consistent.
 pub record Begins {K : Type 0} (order : Order) (mode : Mode) (old new : Files) (begun : Begun K) : Type 0 where
   pub allowed : AllowsFiles mode old
   pub made : contains_key new (name_of Current) ≡ true
   pub has : (tables : List TableContent) (entries : List Entry) (used : ℕ) → IsDirectoryOf order old tables entries used → HasBegun order new begun tables entries used
+  pub least : (n : ℕ) → IsFree order old n → begun.directory.numbers.next ≤ n + 2
 
 -- A refusal came before anything was written, or for want of memory, or since the store failed.
 abbrev pub IsUnwritten : DbError → Facts → Facts → Type 0

@@ -8,7 +8,7 @@ use Rattle.coding.specs.declared.error.DbError.{DbError}
 use Rattle.coding.specs.declared.error.DbError.TheVariants as error
 use Rattle.engine.specs.declared.command.Op.{Op}
 use Rattle.engine.specs.declared.command.Op.TheVariants as op
-use Rattle.engine.specs.declared.command.Op.TheVariants.{Open, Write, Get, Release, Iterate, First, Last, Seek, Next, Prev, DropIterator, Close}
+use Rattle.engine.specs.declared.command.Op.TheVariants.{Open, Write, Get, Release, Iterate, First, Last, Seek, Next, Prev, DropIterator, Work, Close}
 use Rattle.engine.specs.declared.command.Answer.{Answer}
 use Rattle.engine.specs.declared.command.Answer.TheVariants.{Refused}
 use Rattle.engine.specs.declared.ids.Ids.{Ids}
@@ -79,6 +79,7 @@ cause_of (Seek id key) state ids = where_open (λ s. move_refusal s id (ToKey ke
 cause_of (Next id) state ids = where_open (λ s. move_refusal s id ToNext) state
 cause_of (Prev id) state ids = where_open (λ s. move_refusal s id ToPrev) state
 cause_of (DropIterator id) state ids = where_open (λ s. drop_refusal s id) state
+cause_of (Work budget) state ids = where_open broken_in state
 cause_of Close state ids = where_open (λ s. None) state
 
 -- ---- what follows

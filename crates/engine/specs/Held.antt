@@ -10,15 +10,17 @@ use Rattle.scans.specs.declared.scan.Scan.{Scan}
 use Rattle.scans.specs.declared.source.Sources.{Sources}
 use Rattle.sources.specs.Tables.{Seen, seen}
 use Rattle.store.specs.Files.{Facts}
+use Rattle.engine.specs.declared.directory.DirectoryState.{DirectoryState}
 use Rattle.engine.specs.declared.log.CurrentLog.{CurrentLog}
 use Rattle.engine.specs.declared.state.DbState.{DbState}
 
--- Its memory tables, the tables of its version, the log that writes go to, the last sequence that each live snapshot sees,
--- the open iterators, and whether it is broken.
+-- Its memory tables, the tables of its version, the log that writes go to, what it knows of its directory beside, the last sequence that
+-- each live snapshot sees, the open iterators, and whether it is broken.
 pub record Held (I : Type 0) : Type 0 where
   pub memory : Memories
   pub tables : List PlacedTable
   pub log : CurrentLog
+  pub directory : DirectoryState
   pub snapshots : BTreeMap ℕ ℕ
   pub iterators : BTreeMap ℕ I
   pub broken : Bool
@@ -29,6 +31,7 @@ held memory state = record {
   memory = memory;
   tables = state.version.value.tables;
   log = state.log;
+  directory = state.directory;
   snapshots = state.snapshots;
   iterators = state.iterators;
   broken = state.broken;

@@ -1,10 +1,13 @@
 -- What an open iterator stands for (LevelDB's include/leveldb/iterator.h).
-use Rattle.std.specs.Prelude.{◌≡◌, ◌≤◌, ℕ, Bool, false, Option, Some, None, List, map, if◌then◌else◌}
+use Rattle.std.specs.Prelude.{◌≡◌, ◌≤◌, ℕ, Bool, false, Option, Some, None, IsSome, List, map, if◌then◌else◌}
 use Rattle.std.specs.declared.cmp.Ordering.{Ordering}
 use Rattle.ikey.specs.Views.{Contents as View}
 use Rattle.cursor.specs.Views.{Walked, walk_first, walk_last, walk_to, walk_next, walk_prev}
 use Rattle.scans.specs.Pairs.{ArePairs, listed_pair}
-use Rattle.scans.specs.Scans.{IsOnePastLimit, IsScan, tables_of}
+use Rattle.cache.specs.Tables.{table_at}
+use Rattle.edits.specs.Names.{IsNumbered}
+use Rattle.rows.specs.InRows.{HasNumber}
+use Rattle.scans.specs.Scans.{IsOnePastLimit, IsScan, reads_table, tables_of}
 use Rattle.scans.specs.Whole.{Whole}
 use Rattle.scans.specs.declared.scan.Scan.{Scan}
 use Rattle.engine.specs.Machine.{Walk}
@@ -18,11 +21,12 @@ abbrev pub walked_of : Walk → Walked
 walked_of walk = record { pairs = map listed_pair walk.pairs; place = walk.place }
 
 -- Over what the database reads, up to the last sequence, the iterator goes over the pairs of the machine's, and stands at its place.
--- Where nothing passes a limit of reading, none of its tables does.
+-- Where nothing passes a limit of reading, none of its tables does. It reads tables of its version alone, and they are there.
 pub record IsWalk {K : Type 0} {g : _} (cmp : List ℕ → List ℕ → Ordering) (limited : Bool) (whole : Whole) (iterator : Scan K g) (walk : Walk) : Type 0 where
   pub bound : iterator.walk.sequence ≤ whole.memory.last
   pub scan : IsScan cmp iterator whole (walked_of walk)
   pub limits : limited ≡ false → IsOnePastLimit cmp (tables_of iterator) whole → ⊥
+  pub tables : (number : ℕ) → reads_table iterator number → HasNumber (tables_of iterator) number × IsNumbered number × IsSome (table_at whole.seen.facts.files number)
 
 -- where a motion leads a walk
 abbrev pub destination : (List ℕ → List ℕ → Ordering) → Motion → Walked → Option ℕ

@@ -7,6 +7,7 @@ use Rattle.memories.specs.Places.{LeavesMemories}
 use Rattle.scans.specs.Scans.{IsScanLimited, KeepsUpTo}
 use Rattle.scans.specs.Whole.{Whole}
 use Rattle.scans.specs.declared.scan.Scan.{Scan}
+use Rattle.sources.specs.Tables.{Carries}
 use Rattle.table.specs.Reading.{IsStill, Reads}
 use Rattle.engine.specs.Causes.{IsMet}
 use Rattle.engine.specs.Iterators.{IsWalk, standing}
@@ -30,6 +31,7 @@ pub record IsMoved {K : Type 0} {g : _} (cmp : List ℕ → List ℕ → Orderin
   -- whatever the store returns
   pub memory : LeavesMemories before.memory after.memory
   pub reads : Reads before.seen.facts after.seen.facts
+  pub carries : Carries cmp before.seen after.seen
   pub still : IsStill before.seen.facts after.seen.facts result
   pub stayed : OnErr result (standing new ≡ standing old)
   pub allowed : IfErr result (MayRefuseMove motion)

@@ -4,7 +4,7 @@ use Rattle.batch.specs.declared.operation.Operation.{Operation}
 use Rattle.coding.specs.declared.error.DbError.{DbError}
 use Rattle.store.specs.Files.{Facts}
 use Rattle.engine.specs.declared.command.Op.{Op}
-use Rattle.engine.specs.declared.command.Op.TheVariants.{Open, Write, Close}
+use Rattle.engine.specs.declared.command.Op.TheVariants.{Open, Write, Work, Close}
 use Rattle.engine.specs.declared.command.Answer.{Answer}
 use Rattle.engine.specs.declared.command.Answer.TheVariants.{Refused}
 use Rattle.engine.specs.Held.{Held}
@@ -79,8 +79,13 @@ CloseTouches (Some state) old new = ClosesStore old new
 abbrev pub WriteTouches : {I : Type 0} → List Operation → Bool → Option (Held I) → Facts → Facts → Answer → Type 0
 WriteTouches operations sync state old new answer = SyncsLog (AsksSync operations sync) sync (log_of state) old new (unit_result answer)
 
+-- work leaves the lock
+abbrev pub WorkTouches : {I : Type 0} → Option (Held I) → Facts → Facts → Answer → Type 0
+WorkTouches state old new answer = new.held ≡ old.held
+
 abbrev pub Touches : {I : Type 0} → Op → Option (Held I) → Facts → Facts → Answer → Type 0
 Touches (Open mode) state old new answer = OpenTouches state old new answer
 Touches (Write operations sync) state old new answer = WriteTouches operations.items sync state old new answer
+Touches (Work budget) state old new answer = WorkTouches state old new answer
 Touches Close state old new answer = CloseTouches state old new
 Touches _ state old new answer = LeavesStore old new

@@ -23,7 +23,7 @@ pub const RUN: &str =
 
 pub const SCRIPT: &str = "\
 Each line of the script is one command, and has one line of answer. K and V are bytes in hexadecimal, as 6b6579, or - for
-none; N is the number of a snapshot or of an iterator, as it was answered.
+none; N is the number of a snapshot or of an iterator, as it was answered, or how many entries a piece of work may have.
 
   line                                          answer
   open | open new | open any                    ok            a database that is there, a new one, or either
@@ -35,6 +35,7 @@ none; N is the number of a snapshot or of an iterator, as it was answered.
   iter | iter N                                 iter N        over what is there now, or as snapshot N saw it
   first N | last N | seek N K | next N | prev N at K V | end  moves iterator N; seek to the first key not before K
   drop N                                        ok            lets iterator N go
+  work N                                        worked | idle removes files of no use, and does a piece of work
   close                                         ok
 
 The words of a line are parted by single spaces; numbers are decimal. A script may end without a newline. At its end the

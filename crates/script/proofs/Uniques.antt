@@ -27,7 +27,7 @@ mark : List ℕ → ℕ
 mark name = get_or name 0 0 * 1000 + get_or name 2 0
 
 marked : ℕ → Verb
-marked n = cond (eqb n 112116) verb.Put (cond (eqb n 100108) verb.Del (cond (eqb n 119105) verb.Write (cond (eqb n 103116) verb.Get (cond (eqb n 115097) verb.Snapshot (cond (eqb n 114108) verb.Release (cond (eqb n 105101) verb.Iter (cond (eqb n 102114) verb.First (cond (eqb n 108115) verb.Last (cond (eqb n 115101) verb.Seek (cond (eqb n 110120) verb.Next (cond (eqb n 112101) verb.Prev (cond (eqb n 100111) verb.Drop (cond (eqb n 99111) verb.Close verb.Open)))))))))))))
+marked n = cond (eqb n 112116) verb.Put (cond (eqb n 100108) verb.Del (cond (eqb n 119105) verb.Write (cond (eqb n 103116) verb.Get (cond (eqb n 115097) verb.Snapshot (cond (eqb n 114108) verb.Release (cond (eqb n 105101) verb.Iter (cond (eqb n 102114) verb.First (cond (eqb n 108115) verb.Last (cond (eqb n 115101) verb.Seek (cond (eqb n 110120) verb.Next (cond (eqb n 112101) verb.Prev (cond (eqb n 100111) verb.Drop (cond (eqb n 119114) verb.Work (cond (eqb n 99111) verb.Close verb.Open))))))))))))))
 
 marked-mark : (v : Verb) → marked (mark (name_of v)) ≡ v
 unfolding mark marked
@@ -45,6 +45,7 @@ marked-mark verb.Seek = refl
 marked-mark verb.Next = refl
 marked-mark verb.Prev = refl
 marked-mark verb.Drop = refl
+marked-mark verb.Work = refl
 marked-mark verb.Close = refl
 
 pub one_verb : (v w : Verb) → name_of v ≡ name_of w → v ≡ w
@@ -149,6 +150,7 @@ one_spelling verb.Seek words a b h g = one_seek words a b h g
 one_spelling verb.Next words a b h g = one_of_number 64 words op.Next a b (omega arith) h g
 one_spelling verb.Prev words a b h g = one_of_number 64 words op.Prev a b (omega arith) h g
 one_spelling verb.Drop words a b h g = one_of_number 64 words op.DropIterator a b (omega arith) h g
+one_spelling verb.Work words a b h g = one_of_number 32 words op.Work a b (omega arith) h g
 one_spelling verb.Close words a b h g = same a b (h.1 ∙ sym g.1)
 
 pub says_one : (line : List ℕ) (a b : Op) → Says line a → Says line b → IsSame a b

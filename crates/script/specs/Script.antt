@@ -92,6 +92,7 @@ Spells verb.Seek words command =
 Spells verb.Next words command = TakesNumber 64 words op.Next command
 Spells verb.Prev words command = TakesNumber 64 words op.Prev command
 Spells verb.Drop words command = TakesNumber 64 words op.DropIterator command
+Spells verb.Work words command = TakesNumber 32 words op.Work command
 Spells verb.Close words command = (words ≡ []) × (command ≡ op.Close)
 
 -- a line says a command: its words are a verb's name and what that verb takes

@@ -7,7 +7,7 @@ ghost use Rattle.script.specs.declared.verb.Verb.TheVariants as verb;
 ghost use Rattle.script.specs.Words.{texts_of, Reads};
 ghost use Rattle.script.specs.Script.{Spells, IsNumberAlone, AreSnapshot, mode_words};
 
-use crate::word::{read_bytes, read_number};
+use crate::word::{read_bytes, read_number, read_small_number};
 use engine::{Mode, Op};
 use std::alloc::{AllocError, Global};
 
@@ -38,6 +38,16 @@ pub fn read_number_alone(words: &[&[u8]]) -> Option<u64>
 {
     match words {
         [word] => read_number(word),
+        _ => None,
+    }
+}
+
+/// The same of a number below 2^32.
+pub fn read_small_number_alone(words: &[&[u8]]) -> Option<u32>
+    ensures { Reads (IsNumberAlone 32 (texts_of words.now)) result }
+{
+    match words {
+        [word] => read_small_number(word),
         _ => None,
     }
 }

@@ -22,6 +22,7 @@ pub enum Verb {
     Next,
     Prev,
     Drop,
+    Work,
     Close,
 }
 
@@ -44,6 +45,7 @@ pub fn read_verb(word: &[u8]) -> Option<Verb>
         b"next" => Some(Verb::Next),
         b"prev" => Some(Verb::Prev),
         b"drop" => Some(Verb::Drop),
+        b"work" => Some(Verb::Work),
         b"close" => Some(Verb::Close),
         _ => None,
     }

@@ -30,6 +30,17 @@ pub fn read_number(word: &[u8]) -> Option<u64>
     }
 }
 
+/// The same of a number below 2^32.
+pub fn read_small_number(word: &[u8]) -> Option<u32>
+    ensures { Reads (IsNumber 32 word.now) result }
+{
+    let number = read_number(word)?;
+    if number >= 1 << 32 {
+        return None;
+    }
+    Some(number as u32)
+}
+
 // Whether a number would have a sign, or a zero in front of other digits.
 fn has_needless_front(word: &[u8]) -> bool
     ensures number { result ≡ true → (number : ℕ) → IsNumber 64 word.now number → ⊥ }

@@ -15,10 +15,11 @@ use Rattle.recover.specs.Directory.{Directory, IsConsistent, EndsAt}
 use Rattle.recover.specs.Changes.{ManifestEndsAt, with_log}
 use Rattle.recover.specs.Numbers.{IsFree}
 
--- The log has the number that is next, and its name. However it ends, at most that number is drawn.
-abbrev pub DrawsLog : ℕ → ℕ → Result (ℕ × String Global) DbError → Type 0
-DrawsLog next after result =
-    MatchResult result (λ log. (log.0 ≡ next) × (string_bytes log.1 ≡ name_of (Log next)) × (after ≡ next + 1)) (λ e. (after ≡ next) ⊎ (after ≡ next + 1))
+-- The log has the number that is next, and its name. However it ends, at most that number is drawn, or nothing was done.
+abbrev pub DrawsLog : Facts → Facts → ℕ → ℕ → Result (ℕ × String Global) DbError → Type 0
+DrawsLog old new next after result =
+    MatchResult result (λ log. (log.0 ≡ next) × (string_bytes log.1 ≡ name_of (Log next)) × (after ≡ next + 1) × (next < 2 ^ 62))
+    (λ e. ((after ≡ next) × (new ≡ old)) ⊎ ((after ≡ next + 1) × (next < 2 ^ 62)))
 
 -- Why there is no new log. Without memory or a number the files are as before.
 abbrev pub RefusesLog : DbError → Facts → Facts → ℕ → ℕ → Type 0

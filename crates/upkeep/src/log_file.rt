@@ -27,7 +27,7 @@ pub fn begin_log<S: Store>(
 ) -> Result<(u64, String), DbError>
     ensures call { Touches (S.facts store.old) (S.facts store.new) }
     ensures counted { IsCounted (S.facts store.old) (S.facts store.new) result }
-    ensures drawn { DrawsLog numbers.old.next numbers.new.next result }
+    ensures drawn { DrawsLog (S.facts store.old) (S.facts store.new) numbers.old.next numbers.new.next result }
     ensures refused { IfErr result (λ error. RefusesLog error (S.facts store.old) (S.facts store.new) numbers.old.next numbers.new.next) }
     ensures begins { (order : Order) → BeginsLog order (S.facts store.old) (S.facts store.new) numbers.old.next numbers.new.next result }
     ensures synced { IsTrue (S.facts store.new).faithful → SyncsOnly (S.facts store.old).synced (S.facts store.new).synced (name_of (Log numbers.old.next)) }

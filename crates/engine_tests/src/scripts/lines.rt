@@ -5,7 +5,7 @@ use engine::{Answer, Mode, Op};
 use script::{answer_line, read_line};
 use std::alloc::{AllocGlobal, Global};
 
-const SAID: [(&str, Command); 25] = [
+const SAID: [(&str, Command); 27] = [
     ("open", Command::Open(Mode::Existing)),
     ("open new", Command::Open(Mode::New)),
     ("open any", Command::Open(Mode::Any)),
@@ -39,6 +39,8 @@ const SAID: [(&str, Command); 25] = [
     ("next 10", Command::Next(10)),
     ("prev 100", Command::Prev(100)),
     ("drop 7", Command::DropIterator(7)),
+    ("work 0", Command::Work(0)),
+    ("work 4294967295", Command::Work(4_294_967_295)),
     ("close", Command::Close),
 ];
 
@@ -89,6 +91,7 @@ fn is(op: &Op, wanted: Command<'_>) -> bool {
         Op::Next(id) => matches!(wanted, Command::Next(other) if other == *id),
         Op::Prev(id) => matches!(wanted, Command::Prev(other) if other == *id),
         Op::DropIterator(id) => matches!(wanted, Command::DropIterator(other) if other == *id),
+        Op::Work(budget) => matches!(wanted, Command::Work(other) if other == *budget),
         Op::Close => matches!(wanted, Command::Close),
     }
 }
@@ -105,7 +108,7 @@ fn lines_say_commands(rt: HostRuntime) {
 }
 
 // Each says no command.
-const BAD_LINES: [&[u8]; 61] = [
+const BAD_LINES: [&[u8]; 65] = [
     b"",
     b" ",
     b"  ",
@@ -160,7 +163,11 @@ const BAD_LINES: [&[u8]; 61] = [
     b"next",
     b"prev  1",
     b"drop",
-    b"work 1",
+    b"work",
+    b"work 07",
+    b"work 1 2",
+    b"work 4294967296",
+    b"work -1",
     b"compact all",
     b"\xff",
     b"get \xc3\x28",
@@ -180,7 +187,7 @@ fn other_lines_say_nothing(rt: HostRuntime) {
     }
 }
 
-const ANSWERS: [(Wanted, &str); 11] = [
+const ANSWERS: [(Wanted, &str); 13] = [
     (Wanted::Done, "ok"),
     (Wanted::Absent, "none"),
     (Wanted::Value(b"\x0a\xbc"), "value 0abc"),
@@ -193,6 +200,8 @@ const ANSWERS: [(Wanted, &str); 11] = [
     (Wanted::At(b"a", b""), "at 61 -"),
     (Wanted::At(b"", b"\x00"), "at - 00"),
     (Wanted::End, "end"),
+    (Wanted::Worked, "worked"),
+    (Wanted::Idle, "idle"),
     (Wanted::Refused(DbError::BadLine), "refused 20 BadLine"),
     (
         Wanted::Refused(DbError::Corrupt(FileKind::Table, Damage::Order)),
@@ -216,6 +225,4 @@ fn answers_are_lines(rt: HostRuntime) {
     for (wanted, line) in ANSWERS {
         assert!(rt; is_written(rt.alloc(), wanted, line), "{line}");
     }
-    assert!(rt; has_line(rt.alloc(), &Answer::Worked, "worked"));
-    assert!(rt; has_line(rt.alloc(), &Answer::Idle, "idle"));
 }

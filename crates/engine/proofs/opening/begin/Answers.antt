@@ -1,9 +1,8 @@
 use Rattle.ikey.specs.Orders.{order_of}
-use Rattle.std.proofs.Common.{◌≡◌, Result, Err, refl, sym, subst, ◌∙◌, rules}
+use Rattle.std.proofs.Common.{◌≡◌, length, string_bytes, Result, Err, refl, sym, subst, arith, rules}
 use Rattle.coding.specs.declared.error.DbError.{DbError}
 use Rattle.engine.specs.Durable.{LeavesDurable}
 use Rattle.engine.specs.declared.opening.Begun.{Begun}
-use Rattle.memories.specs.PlaceLaws.{alone_logged}
 use Rattle.engine.proofs.BegunSteps.{continued_same, continued_behind, begins}
 use Rattle.engine.proofs.Telling.{found_openable}
 use Rattle.engine.proofs.Locking.{behind_read}
@@ -37,18 +36,25 @@ returns-in_err-rewrite_directory-clause-durable g c =
 
 pub returns-in_err-rewrite_directory-clause-continued : goal.returns-in_err-rewrite_directory-clause-continued
 returns-in_err-rewrite_directory-clause-continued g c =
-    continued_behind (order_of g.K.KeyOrder.name g.K.KeyOrder.cmp) (g.S.Store.facts c.args.store.now) (g.S.Store.facts c.find.new.store) (g.S.Store.facts c.rewrite_directory.new.store) c.in_ok-found.found _
+    continued_behind (order_of g.K.KeyOrder.name g.K.KeyOrder.cmp) (g.S.Store.facts c.args.store.now) (g.S.Store.facts c.find.new.store) (g.S.Store.facts c.rewrite_directory.new.store) c.in_ok-found.found (length c.in_ok-rewrite.rewrite.manifest.items) _
     c.in_ok-found.ensures.store.same c.in_ok-found.ensures.found c.in_err-rewrite_directory.ensures.files
 
 pub returns-clause-begun : goal.returns-clause-begun
 returns-clause-begun g c =
-    begins (order_of g.K.KeyOrder.name g.K.KeyOrder.cmp) c.args.mode (g.S.Store.facts c.args.store.now) (g.S.Store.facts c.find.new.store) (g.S.Store.facts c.rewrite_directory.new.store) c.in_ok-found.found _
-    c.recovered_law.ensures c.in_ok-found.ensures.store.same c.in_ok-found.ensures.found c.in_ok-found.ensures.allowed c.in_ok-rewrite_directory.ensures.files
-    (alone_logged c.in_ok-memory.memory c.in_ok-memory.ensures.2 ∙ c.in_ok-memory.ensures.0 ∙ c.deref.ensures.value) c.in_ok-memory.ensures.1 c.in_ok-version.ensures.found.tables refl refl
+    begins (order_of g.K.KeyOrder.name g.K.KeyOrder.cmp) c.args.mode (g.S.Store.facts c.args.store.now) (g.S.Store.facts c.find.new.store) (g.S.Store.facts c.rewrite_directory.new.store) c.in_ok-found.found
+    (string_bytes c.in_ok-rewrite.rewrite.manifest_name) (length c.in_ok-rewrite.rewrite.manifest.items) _
+    c.recovered_law.ensures c.in_ok-found.ensures.store.same c.in_ok-found.ensures.found c.in_ok-found.ensures.allowed c.in_ok-rewrite_directory.ensures.files (record {
+      memory = c.in_ok-memory.ensures;
+      lists = c.in_ok-version.ensures.found.tables;
+      number = refl;
+      empty = refl;
+      named = c.in_ok-rewrite.ensures.planned.manifest_name;
+      known = let k = c.known_after.ensures in record { number = k.number; named = k.named; ends = omega (arith, k.ends, c.len-end.ensures, c.in_ok-rewrite.rewrite.manifest.ok.0); next = k.next; logs = k.logs };
+    })
 
 pub returns-clause-continued : goal.returns-clause-continued
 returns-clause-continued g c =
-    continued_behind (order_of g.K.KeyOrder.name g.K.KeyOrder.cmp) (g.S.Store.facts c.args.store.now) (g.S.Store.facts c.find.new.store) (g.S.Store.facts c.rewrite_directory.new.store) c.in_ok-found.found _
+    continued_behind (order_of g.K.KeyOrder.name g.K.KeyOrder.cmp) (g.S.Store.facts c.args.store.now) (g.S.Store.facts c.find.new.store) (g.S.Store.facts c.rewrite_directory.new.store) c.in_ok-found.found (length c.in_ok-rewrite.rewrite.manifest.items) _
     c.in_ok-found.ensures.store.same c.in_ok-found.ensures.found c.in_ok-rewrite_directory.ensures.files
 
 pub returns-clause-tells : goal.returns-clause-tells

@@ -21,5 +21,8 @@ returns-in-Prev c = rw c.in-Prev.is (made_of_number 64 op.Prev (texts_of c.args.
 pub returns-in-Drop : goal.returns-in-Drop
 returns-in-Drop c = rw c.in-Drop.is (made_of_number 64 op.DropIterator (texts_of c.args.words.now) c.read_number_alone-in-Drop.result c.map-in-Drop.result c.read_number_alone-in-Drop.ensures c.map-in-Drop.ensures.cases)
 
+pub returns-in-Work : goal.returns-in-Work
+returns-in-Work c = rw c.in-Work.is (made_of_number 32 op.Work (texts_of c.args.words.now) c.read_small_number_alone.result c.map-in-Work.result c.read_small_number_alone.ensures c.map-in-Work.ensures.cases)
+
 pub returns-in-Iter : goal.returns-in-Iter
 returns-in-Iter c = rw c.in-Iter.is (made_of_snapshot (texts_of c.args.words.now) c.read_snapshot.result c.map-in-Iter.result c.read_snapshot.ensures c.map-in-Iter.ensures.cases)

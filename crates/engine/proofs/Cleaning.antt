@@ -1,0 +1,188 @@
+-- What the removal of files leaves of an open database.
+use Rattle.std.proofs.Common.{◌≡◌, ℕ, ◌<◌, List, ◌++◌, Option, Some, None, IsTrue, IsSome, Contains, inl, inr, refl, sym, ap, subst, ◌∙◌, arith}
+use Rattle.std.specs.declared.cmp.Ordering.{Ordering}
+use Rattle.std.specs.Option.{option_and_then}
+use Rattle.cache.specs.Tables.{KeptTable, IsNameOf, table_at}
+use Rattle.edits.specs.Names.{IsNumbered}
+use Rattle.edits.specs.declared.field.PlacedTable.{PlacedTable}
+use Rattle.ikey.specs.Orders.{Order}
+use Rattle.memories.specs.Changes.{IsUsed, KeepsUsed}
+use Rattle.memories.specs.Memories.{Memories, inserts_of, logged_in, older_at, sealed_inserts}
+use Rattle.memories.specs.Places.{MemoriesPlace, KeepsMemories}
+use Rattle.recover.specs.Directory.{Directory, IsConsistent}
+use Rattle.recover.specs.Laws.{OneDirectoryLaw}
+use Rattle.recover.specs.Tables.{InTables, TableContent}
+use Rattle.recover.proofs.Adding.{table_of}
+use Rattle.scans.specs.Scans.{KeepsScan}
+use Rattle.scans.specs.Scanning.{ScanIsKept}
+use Rattle.scans.specs.declared.scan.Scan.{Scan}
+use Rattle.sources.specs.Tables.{Seen, IsSound, KeepsOf, SoundLasts}
+use Rattle.sources.proofs.Sounding.{same_file, same_table}
+use Rattle.store.specs.Files.{Facts}
+use Rattle.table.specs.Reading.{HasFile}
+use Rattle.upkeep.specs.Removal.{AreNumbersOf, KeepsParts, KeepsTable, ListsUnused}
+use Rattle.engine.specs.Directory.{CanAppend}
+use Rattle.engine.specs.Held.{Held, whole_of}
+use Rattle.engine.specs.InUse.{IsMemoryUsed, IsTableUsed}
+use Rattle.engine.specs.Iterators.{IsWalk}
+use Rattle.engine.specs.Live.{kept_at}
+use Rattle.engine.specs.Machine.{Machine, Walk}
+use Rattle.engine.specs.Stands.{HasLog, HasTables, IsServing}
+use Rattle.engine.specs.Working.{ClosesTables, numbers_of}
+use Rattle.engine.proofs.InUse.{memory_used, read_used, table_used}
+use Rattle.engine.proofs.Pieces.{limits_stay, made_still, walks_each}
+use Rattle.engine.proofs.Reading.{has_placed, read_by}
+
+-- a cursor over a memory table that isn't dropped
+abbrev pub DropsKept : (List ℕ → List ℕ → Ordering) → Type 0
+DropsKept cmp = (cursor : MemoriesPlace) (old new : Memories) → new ≡ record old { older = new.older } → older_at new.older cursor.generation ≡ older_at old.older cursor.generation → KeepsMemories cmp cursor old new
+
+module _ {K : Type 0} {g : _} (order : Order) (kept : (scan : Scan K g) → ScanIsKept order.cmp scan) (one : OneDirectoryLaw) (lasts : SoundLasts) (drops : DropsKept order.cmp)
+    (old : Seen) (facts : Facts) (tables : List KeptTable) (db : Held (Scan K g)) (memory : Memories) (gone : List ℕ) where
+  abbrev in_use : ℕ → Type 0
+  in_use number = IsTableUsed db.tables db.iterators number
+
+  abbrev new : Seen
+  new = record { facts = facts; tables = tables; blocks = old.blocks }
+
+  abbrev after : Held (Scan K g)
+  after = record db { memory = memory }
+
+  -- ---- the memory tables
+
+  module _ (used : KeepsUsed (IsUsed (λ generation. IsMemoryUsed db.iterators generation) db.memory) db.memory memory) where
+    current_same : memory.current.inserts ≡ db.memory.current.inserts
+    current_same = ap (λ (m : Memories). m.current.inserts) used.others
+
+    last_same : memory.last ≡ db.memory.last
+    last_same = ap (λ (m : Memories). m.last) used.others
+
+    sealed_at : (sealed : Option ℕ) → db.memory.sealed ≡ sealed → inserts_of (option_and_then (older_at memory.older) sealed) ≡ inserts_of (option_and_then (older_at db.memory.older) sealed)
+    sealed_at None is = refl
+    sealed_at (Some generation) is = ap inserts_of (used.kept generation (inl is))
+
+    pub sealed_same : sealed_inserts memory ≡ sealed_inserts db.memory
+    sealed_same = ap (λ (sealed : Option ℕ). inserts_of (option_and_then (older_at memory.older) sealed)) (ap (λ (m : Memories). m.sealed) used.others) ∙ sealed_at db.memory.sealed refl
+
+    pub logged_same : logged_in memory ≡ logged_in db.memory
+    logged_same = λ i. sealed_same i ++ current_same i
+
+    -- ---- the files
+
+    module _ (t : IsTrue facts.faithful) (each : (n : ℕ) → IsNumbered n → KeepsTable old.facts facts in_use n) (unused : ListsUnused old.facts facts in_use gone) (closes : ClosesTables old.tables tables gone) where
+      -- a table of which something is kept is as before, or gone
+      same_at : (n : ℕ) (file : List ℕ) → IsNumbered n → table_at facts.files n ≡ Some file → table_at old.facts.files n ≡ Some file
+      same_at n file numbered there = elim (each n numbered) [
+        | inl both ↦ sym (same_table old.facts.files facts.files n both.0.0 both.1.0) ∙ there
+        | inr other ↦ elim other.1 [
+          | inl same ↦ sym same ∙ there
+          | inr none ↦ absurd (let bad : None ≡ Some file = sym none ∙ there in cc)
+        ]
+      ]
+
+      some_file : (o : Option (List ℕ)) (file : List ℕ) → o ≡ Some file → IsSome o
+      some_file o file is = subst (λ (x : Option (List ℕ)). IsSome x) (sym is) refl
+
+      named_at : (n : ℕ) (name file : List ℕ) → IsNumbered n → IsNameOf n name → (Contains gone n → ⊥) → table_at facts.files n ≡ Some file → HasFile old.facts name file → HasFile facts name file
+      named_at n name file numbered named stays there has = elim (each n numbered) [
+        | inl both ↦ same_file old.facts.files facts.files n name named both.0.0 both.1.0 ∙ has
+        | inr other ↦ absurd (stays (unused.all t n numbered other.0 (some_file (table_at old.facts.files n) file (same_at n file numbered there))))
+      ]
+
+      kept_of : (kept : KeptTable) → Contains tables kept → KeepsOf old kept.number
+      kept_of kept is = inl (kept, closes.kept kept is, refl)
+
+      sound_cleaned : (contents : List TableContent) → HasTables order old contents db → IsSound order.cmp new
+      sound_cleaned contents has =
+          let fewer : IsSound order.cmp (record old { tables = tables }) = record { tables = λ kept is. has.sound.tables kept (closes.kept kept is); blocks = has.sound.blocks } in
+          lasts order.cmp (record old { tables = tables }) facts
+          (λ kept file is there.
+          let numbered = (has.drawn kept.number (kept_of kept is)).0 in
+          (same_at kept.number file numbered there, λ h. named_at kept.number kept.table.name file numbered (fewer.tables kept is).0 (closes.closed kept is) there h))
+          (λ block file is there. same_at block.file file (has.drawn block.file (inr (block, is, refl))).0 there) fewer
+
+      drawn_cleaned : (contents : List TableContent) → HasTables order old contents db → (number : ℕ) → KeepsOf new number → IsNumbered number × (number < db.directory.numbers.next)
+      drawn_cleaned contents has number (inl (kept, is, same)) = has.drawn number (inl (kept, closes.kept kept is, same))
+      drawn_cleaned contents has number (inr block) = has.drawn number (inr block)
+
+      -- ---- what stands
+
+      module _ (m : Machine) (serving : IsServing order old db m)
+          (parts : (d : Directory) → IsConsistent order old.facts.files d → AreNumbersOf (numbers_of db.directory) in_use d → KeepsParts order old.facts.files facts.files in_use d) where
+        abbrev a : CanAppend order old.facts.files db.log.number db.log.end serving.contents (logged_in db.memory) db.memory.last
+        a = serving.log.directory
+
+        abbrev d : Directory
+        d = a.directory
+
+        listed : (content : TableContent) → InTables d.tables content → in_use content.placed.table.number
+        listed content is =
+            let here = has_placed serving.contents content (subst (λ (contents : List TableContent). InTables contents content) (sym a.in_tables) is) in
+            let at = subst (λ (p : PlacedTable). Contains db.tables p) here.2 (serving.tables.version.all here.0 content.placed here.1) in
+            table_used db.tables db.iterators content.placed.table.number (content.placed, at, refl)
+
+        numbers : AreNumbersOf (numbers_of db.directory) in_use d
+        numbers = record { manifest = serving.log.knows.number; log_number = sym serving.log.knows.first_log; previous_log_number = sym serving.log.knows.previous_log; tables = listed }
+
+        kept_parts : KeepsParts order old.facts.files facts.files in_use d
+        kept_parts = parts d a.consistent numbers
+
+        keeps_each : (id : ℕ) (scan : Scan K g) (walk : Walk) → kept_at db.iterators id ≡ Some scan → IsWalk order.cmp m.over_limit (whole_of old db) scan walk → KeepsScan order.cmp scan (whole_of old db) (whole_of new after)
+        keeps_each id scan walk there is = record {
+          memory = λ cursor reads within. drops cursor db.memory memory used.others (used.kept cursor.generation (inr (memory_used db.tables db.iterators id scan cursor.generation there reads)));
+          files = λ number reads.
+              let table = is.tables number reads in
+              kept_parts.tables number table.1 (read_used db.tables db.iterators id scan number there table.0);
+          sound = λ h. sound_cleaned serving.contents serving.tables;
+        }
+
+        log_cleaned : HasLog order facts.files serving.contents after
+        log_cleaned =
+            let logs = serving.log.logs in
+            let knows = serving.log.knows in
+            record {
+              named = serving.log.named;
+              directory = record {
+                directory = d;
+                consistent = kept_parts.consistent;
+                ends = kept_parts.log db.log.number db.log.end a.ends;
+                in_tables = a.in_tables;
+                in_logs = logged_same ∙ a.in_logs;
+                spent = last_same ∙ a.spent;
+              };
+              logs = record { sealed = logs.sealed; current = logs.current; logs = logs.logs; number = logs.number; sealed_are = sealed_same ∙ logs.sealed_are; current_are = current_same ∙ logs.current_are };
+              knows = record {
+                first_log = knows.first_log;
+                forward = knows.forward;
+                previous_log = knows.previous_log;
+                number = knows.number;
+                named = knows.named;
+                ends = kept_parts.manifest db.directory.manifest.end d.edits d.layout knows.ends;
+                free = kept_parts.free db.directory.numbers.next knows.free;
+              };
+            }
+
+        pub serving_cleaned : IsServing order new after (read_by facts m)
+        serving_cleaned = record {
+          whole = serving.whole;
+          certain = serving.certain;
+          contents = serving.contents;
+          log = log_cleaned;
+          tables = record { version = serving.tables.version; in_order = serving.tables.in_order; sound = sound_cleaned serving.contents serving.tables; drawn = drawn_cleaned serving.contents serving.tables };
+          entries = record {
+            used = serving.entries.used ∙ sym last_same;
+            fits = (let fits = serving.entries.fits in omega (arith, fits, last_same));
+            view = rw (logged_same, last_same) serving.entries.view;
+            bounded = rw (logged_same, last_same) serving.entries.bounded;
+          };
+          snapshots = rw (logged_same, last_same) serving.snapshots;
+          iterators = walks_each order kept (whole_of old db) (whole_of new after) db.iterators m keeps_each (omega (arith, last_same)) serving.iterators;
+          accounted = rw (logged_same) serving.accounted;
+          readable = record {
+            made = made_still order old.facts.files facts.files d d m a.consistent kept_parts.consistent serving.readable.made;
+            numbers = kept_parts.free m.numbers serving.readable.numbers;
+            limits = λ is. limits_stay order old.facts.files facts.files d one a.consistent kept_parts.consistent
+                (λ content i. kept_parts.tables content.placed.table.number (table_of order old.facts.files d.tables content a.consistent.tables i) (listed content i)) (serving.readable.limits is);
+          };
+          numbers = serving.numbers;
+        }

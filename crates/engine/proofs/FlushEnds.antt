@@ -1,0 +1,208 @@
+-- What an open database is, and the machine, after a flush, however that ends.
+use Rattle.std.proofs.Common.{length, ◌≡◌, ℕ, ◌+◌, ◌≤◌, ◌<◌, ◌^◌, true, false, List, [], ◌∷◌, ◌++◌, None, Ok, Err, IsTrue, inl, inr, refl, sym, ap, subst, ◌∙◌, arith, string_bytes}
+use Rattle.std.specs.declared.alloc.Global.{Global}
+use Rattle.std.specs.declared.rc.Rc.{Rc}
+use Rattle.coding.specs.declared.error.DbError.{DbError}
+use Rattle.coding.specs.declared.error.DbError.TheVariants as error
+use Rattle.compact.specs.declared.numbers.FileNumbers.{FileNumbers}
+use Rattle.edits.specs.Names.{name_of}
+use Rattle.edits.specs.declared.field.PlacedTable.{PlacedTable}
+use Rattle.edits.specs.declared.names.FileName.TheVariants.{Table}
+use Rattle.ikey.specs.Orders.{Order}
+use Rattle.ikey.specs.Sources.{SameViewLaw}
+use Rattle.ikey.specs.declared.entry.Entry.{Entry}
+use Rattle.ikey.proofs.SearchedSources.{among_back, among_front}
+use Rattle.memories.specs.Memories.{Memories, logged_in, sealed_inserts}
+use Rattle.recover.specs.Directory.{Directory}
+use Rattle.recover.specs.Entries.{RiseAbove}
+use Rattle.recover.specs.Laws.{OneDirectoryLaw}
+use Rattle.recover.specs.Logs.{LogContent}
+use Rattle.recover.specs.Tables.{tabled}
+use Rattle.scans.specs.Scanning.{ScanIsKept}
+use Rattle.scans.specs.declared.scan.Scan.{Scan}
+use Rattle.sources.specs.Tables.{Seen, IsSound, SoundLasts}
+use Rattle.store.specs.Files.{Facts}
+use Rattle.upkeep.specs.Flush.{CanFlush, DrawsTable, FlushMeans, FlushTouches, IsCorrupt, IsFlushed, MayBeFlushed, RefusesFlush, RefusesTable}
+use Rattle.upkeep.specs.Level0.{IsTooLarge, room_of}
+use Rattle.upkeep.specs.declared.flush.FlushError.{FlushError}
+use Rattle.upkeep.specs.declared.flush.FlushError.TheVariants.{Before, Edit}
+use Rattle.upkeep.specs.declared.flush.FlushPlan.{FlushPlan}
+use Rattle.versions.specs.Levels.{AreInOrder, Placement}
+use Rattle.engine.specs.declared.ids.Ids.{Ids}
+use Rattle.engine.specs.declared.state.DbState.{DbState}
+use Rattle.engine.specs.Follows.{LeadsOpen}
+use Rattle.engine.specs.Held.{Held, entries_of, held, whole_of}
+use Rattle.engine.specs.Machine.{Machine, entry_count, weight}
+use Rattle.engine.specs.Stands.{IsServing}
+use Rattle.engine.specs.Upkeep.{UpkeepRefused}
+use Rattle.engine.specs.Working.{IsPiece, broken_by, flush_answer}
+use Rattle.engine.proofs.Flushing.{FlushKept, StaysBelow, broken_flush, can_flush, serving_flushed, serving_unflushed, sound_beside, sound_unchanged, table_same, table_unchanged}
+use Rattle.engine.proofs.Pieces.{free_up, walks_each}
+use Rattle.engine.proofs.Weighing.{room_within}
+use Rattle.engine.proofs.WorkSteps.{breaks, drawing, draws, serves_on}
+
+pub no_entries : (entries : List Entry) → length entries ≡ 0 → entries ≡ []
+no_entries [] is = refl
+no_entries (x ∷ entries) is = absurd (omega (arith, is))
+
+rises_front : (least : ℕ) (xs ys : List Entry) → RiseAbove least (xs ++ ys) → RiseAbove least xs
+rises_front least [] ys h = tt
+rises_front least (x ∷ xs) ys h = (h.0, rises_front x.sequence xs ys h.1)
+
+module _ {K : Type 0} {g : _} (order : Order) (kept : (scan : Scan K g) → ScanIsKept order.cmp scan) (one : OneDirectoryLaw) (lasts : SoundLasts) (law : SameViewLaw) (flushes : FlushKept order.cmp)
+    (old : Seen) (facts : Facts) (ids : Ids) (state : DbState K g) (memory : Memories) (numbers : FileNumbers) (plan : FlushPlan) (entries : List Entry) (whole : state.broken ≡ false)
+    (touches : FlushTouches old.facts facts (name_of (Table state.directory.numbers.next)) (string_bytes state.directory.manifest.name)) (draws_number : DrawsTable old.facts facts state.directory.numbers.next numbers.next)
+    (log_number : plan.log_number ≡ state.log.number) (previous : plan.previous_log_number ≡ state.directory.previous_log) (sequence : plan.last_sequence ≡ memory.last) (entries_are : entries ≡ sealed_inserts memory) where
+  abbrev next : ℕ
+  next = state.directory.numbers.next
+
+  abbrev before : Held (Scan K g)
+  before = held memory state
+
+  abbrev new : Seen
+  new = record old { facts = facts }
+
+  abbrev drawn : DbState K g
+  drawn = record state { directory = record state.directory { numbers = numbers } }
+
+  upto : (next ≤ numbers.next) × (numbers.next ≤ next + 1)
+  upto = elim draws_number [ inl none ↦ (let is = none.0 in (omega (arith, is), omega (arith, is))) | inr more ↦ (let is = more.0 in (omega (arith, is), omega (arith, is))) ]
+
+  module _ (m : Machine) (serving : IsServing order old before m) where
+    pub can : CanFlush order old.facts.files next plan state.directory.manifest entries before.tables serving.log.directory.directory serving.log.logs.sealed serving.log.logs.current
+    can = can_flush order kept one lasts law flushes old facts before m serving plan numbers.next log_number previous sequence entries entries_are
+
+    stays_below : IsTrue facts.faithful → StaysBelow order kept one lasts law flushes old facts before m serving plan numbers.next
+    stays_below f = elim draws_number [
+      | inl none ↦ table_unchanged order kept one lasts law flushes old facts before m serving plan numbers.next none.1
+      | inr more ↦ table_same order kept one lasts law flushes old facts before m serving plan numbers.next f more.1 more.2 touches
+    ]
+
+    sound_still : IsTrue facts.faithful → IsSound order.cmp old → IsSound order.cmp new
+    sound_still f = elim draws_number [
+      | inl none ↦ sound_unchanged order kept one lasts law flushes old facts before m serving plan numbers.next none.1
+      | inr more ↦ sound_beside order kept one lasts law flushes old facts before m serving plan numbers.next f more.1 more.2 touches
+    ]
+
+    -- what is too large for a block is as heavy
+    heavy : IsTrue facts.faithful → IsTooLarge facts entries → 2 ^ 29 ≤ weight m
+    heavy f large =
+        let a = serving.log.directory in
+        let rises : RiseAbove 0 (logged_in memory) = subst (λ (es : List Entry). RiseAbove 0 es) (sym a.in_logs) a.consistent.sequences in
+        let front : RiseAbove 0 (sealed_inserts memory) = rises_front 0 (sealed_inserts memory) memory.current.inserts rises in
+        let within = room_within 0 (entry_count m) (weight m) (sealed_inserts memory) (entries_of serving.contents before) front
+        (λ e i. among_back (tabled serving.contents) (logged_in memory) e (among_front (sealed_inserts memory) memory.current.inserts e i)) serving.accounted in
+        let least = large f in
+        let is = ap room_of entries_are in
+        omega (arith, least, within, is)
+
+    refused : (e : DbError) → IsTrue facts.faithful → RefusesTable e old.facts facts entries before.tables next numbers.next → (IsCorrupt e → ⊥) → m.failures ≡ old.facts.failures → (e ≡ error.Io → ⊥) → UpkeepRefused m 1 e (drawing m 1 facts)
+    refused error.OutOfMemory f h sound same other = draws m 1 facts
+    refused error.Io f h sound same other = absurd (other refl)
+    refused (error.Unsupported what) f h sound same other = (inr (heavy f h), draws m 1 facts)
+    refused (error.Corrupt file what) f h sound same other = absurd (sound tt)
+    refused error.NumbersSpent f h sound same other = ((let most = h.0 in let below : next ≤ m.numbers = serving.numbers in omega (arith, most, below)), draws m 1 facts)
+    refused _ f h sound same other = absurd h
+
+  abbrev Leaves : FlushError → Type 0
+  Leaves e = IsTrue facts.faithful → (m : Machine) (serving : IsServing order old before m) → FlushMeans {K = K} order old.facts.files facts.files next numbers.next plan state.directory.manifest entries before.tables serving.log.directory.directory serving.log.logs.sealed serving.log.logs.current (Err e)
+
+  -- nothing of the directory was changed
+  unflushed : {T : Type 0} (e : DbError) → RefusesTable e old.facts facts entries before.tables next numbers.next → Leaves (Before e) → (e ≡ error.Io → ⊥) → LeadsOpen order old new ids before (held memory drawn) (λ m n. IsPiece {T = T} m 1 (Err e) n)
+  unflushed e refuses leaves other =
+      serves_on order old new ids before (held memory drawn) 1 (Err e) whole whole touches.faithful touches.failures touches.denials
+      (λ m f same serving.
+      let left = leaves f m serving in (
+        refused m serving e f refuses left.0 same other,
+        serving_unflushed order kept one lasts law flushes old facts before m serving plan numbers.next (stays_below m serving f) (sound_still m serving f) left.1.can.free upto.1 drawn.directory entries left.1 refl refl refl refl refl refl upto.0,
+      ))
+
+  -- the device failed
+  failed : {T : Type 0} → old.facts.failures < facts.failures
+      → (IsTrue facts.faithful → (m : Machine) (serving : IsServing order old before m) → MayBeFlushed order old.facts.files facts.files next numbers.next entries serving.log.directory.directory serving.log.logs.sealed serving.log.logs.current)
+      → LeadsOpen order old new ids before (held memory (record drawn { broken = true })) (λ m n. IsPiece {T = T} m 1 (Err error.Io) n)
+  failed rise may =
+      breaks order old new ids before (held memory (record drawn { broken = true })) 1 (Err error.Io) refl whole refl touches.faithful rise touches.denials
+      (λ m f serving.
+      let either = may f m serving in
+      broken_flush order kept one lasts law flushes old facts before m serving plan numbers.next (stays_below m serving f) (sound_still m serving f) either.free upto.1 entries either)
+
+  unflushed_by : {T : Type 0} (e : FlushError) → RefusesFlush e old.facts facts entries before.tables next numbers.next → Leaves e → LeadsOpen order old new ids before (held memory (broken_by drawn (flush_answer e))) (λ m n. IsPiece {T = T} m 1 (Err (flush_answer e)) n)
+  unflushed_by (Before error.OutOfMemory) refuses leaves = unflushed error.OutOfMemory refuses leaves (λ e. cc)
+  unflushed_by (Before error.Io) refuses leaves = failed refuses (λ f m serving. let left = (leaves f m serving).1 in record { either = inl (left.can.consistent, left.kept); free = left.can.free })
+  unflushed_by (Before (error.Unsupported what)) refuses leaves = unflushed (error.Unsupported what) refuses leaves (λ e. cc)
+  unflushed_by (Before (error.Corrupt file what)) refuses leaves = unflushed (error.Corrupt file what) refuses leaves (λ e. cc)
+  unflushed_by (Before error.NumbersSpent) refuses leaves = unflushed error.NumbersSpent refuses leaves (λ e. cc)
+  unflushed_by (Before _) refuses leaves = absurd refuses
+  unflushed_by Edit refuses leaves = failed refuses (λ f m serving. leaves f m serving)
+
+  -- however it isn't flushed, where these are the tables of the version
+  pub ends_unflushed : {T : Type 0} (tables : List PlacedTable) → tables ≡ before.tables → (e : FlushError) → RefusesFlush e old.facts facts entries tables next numbers.next
+      → (IsTrue facts.faithful → (d : Directory) (sealed : List LogContent) (current : LogContent) → CanFlush order old.facts.files next plan state.directory.manifest entries tables d sealed current
+      → FlushMeans {K = K} order old.facts.files facts.files next numbers.next plan state.directory.manifest entries tables d sealed current (Err e))
+      → LeadsOpen order old new ids before (held memory (broken_by drawn (flush_answer e))) (λ m n. IsPiece {T = T} m 1 (Err (flush_answer e)) n)
+  ends_unflushed tables are e refuses leaves =
+      unflushed_by e (subst (λ (ts : List PlacedTable). RefusesFlush e old.facts facts entries ts next numbers.next) are refuses)
+      (λ f m serving.
+      let d = serving.log.directory.directory in
+      let sealed = serving.log.logs.sealed in
+      let current = serving.log.logs.current in
+      subst (λ (ts : List PlacedTable). FlushMeans {K = K} order old.facts.files facts.files next numbers.next plan state.directory.manifest entries ts d sealed current (Err e)) are
+      (leaves f d sealed current (subst (λ (ts : List PlacedTable). CanFlush order old.facts.files next plan state.directory.manifest entries ts d sealed current) (sym are) (can m serving))))
+
+  abbrev with_table : ℕ → Rc Placement Global → DbState K g
+  with_table end version = record state { version = version; directory = record state.directory { numbers = numbers; manifest = record state.directory.manifest { end = end }; first_log = state.log.number; previous_log = 0 } }
+
+  -- the table is in the directory
+  pub ends_flushed : (end : ℕ) (version : Rc Placement Global) (after : DbState K g) → after ≡ with_table end version
+      → AreInOrder order.cmp version.value.tables
+      → (IsTrue facts.faithful → (m : Machine) (serving : IsServing order old before m) → IsFlushed order old.facts.files facts.files next numbers.next end entries version.value.tables serving.log.directory.directory serving.log.logs.sealed serving.log.logs.current)
+      → LeadsOpen order old new ids before (held (record memory { sealed = None }) after) (λ m n. IsPiece m 1 (Ok (tt {0})) n)
+  ends_flushed end version after is in_order has =
+      subst (λ (s : DbState K g). LeadsOpen order old new ids before (held (record memory { sealed = None }) s) (λ m n. IsPiece m 1 (Ok (tt {0})) n)) (sym is)
+      (serves_on order old new ids before (held (record memory { sealed = None }) (with_table end version)) 1 (Ok (tt {0})) whole whole touches.faithful touches.failures touches.denials
+      (λ m f same serving.
+      let done = has f m serving in (
+        draws m 1 facts,
+        serving_flushed order kept one lasts law flushes old facts before m serving plan numbers.next (stays_below m serving f) (sound_still m serving f) done.free upto.1 end version.value.tables (with_table end version).directory entries in_order done refl refl refl refl refl refl upto.0,
+      )))
+
+-- ---- an empty sealed table
+
+module _ {K : Type 0} {g : _} (order : Order) (kept : (scan : Scan K g) → ScanIsKept order.cmp scan) (flushes : FlushKept order.cmp) (source : Seen) (ids : Ids) (state : DbState K g) (memory : Memories) (whole : state.broken ≡ false)
+    (none : sealed_inserts memory ≡ []) where
+  abbrev let_go : Memories
+  let_go = record memory { sealed = None }
+
+  logged_same : logged_in let_go ≡ logged_in memory
+  logged_same = ap (λ (es : List Entry). es ++ memory.current.inserts) (sym none)
+
+  serving_let_go : (m : Machine) → IsServing order source (held memory state) m → IsServing order source (held let_go state) (drawing m 1 source.facts)
+  serving_let_go m h =
+      let knows = h.log.knows in
+      let logs = h.log.logs in
+      let a = h.log.directory in
+      record {
+        whole = h.whole;
+        certain = h.certain;
+        contents = h.contents;
+        log = record {
+          named = h.log.named;
+          directory = record { directory = a.directory; consistent = a.consistent; ends = a.ends; in_tables = a.in_tables; in_logs = logged_same ∙ a.in_logs; spent = a.spent };
+          logs = record { sealed = logs.sealed; current = logs.current; logs = logs.logs; number = logs.number; sealed_are = sym none ∙ logs.sealed_are; current_are = logs.current_are };
+          knows = record { first_log = knows.first_log; forward = knows.forward; previous_log = knows.previous_log; number = knows.number; named = knows.named; ends = knows.ends; free = knows.free };
+        };
+        tables = record { version = h.tables.version; in_order = h.tables.in_order; sound = h.tables.sound; drawn = h.tables.drawn };
+        entries = record { used = h.entries.used; fits = h.entries.fits; view = rw (logged_same) h.entries.view; bounded = rw (logged_same) h.entries.bounded };
+        snapshots = rw (logged_same) h.snapshots;
+        iterators = walks_each order kept (whole_of source (held memory state)) (whole_of source (held let_go state)) state.iterators m
+            (λ id scan walk there is. record { memory = λ cursor reads within. flushes cursor memory let_go refl; files = λ number reads. refl; sound = λ sound. sound }) (omega arith) h.iterators;
+        accounted = rw (logged_same) h.accounted;
+        readable = record { made = h.readable.made; numbers = free_up order source.facts.files m.numbers (m.numbers + 1) (omega arith) h.readable.numbers; limits = h.readable.limits };
+        numbers = (let below = h.numbers in omega (arith, below));
+      }
+
+  pub ends_let_go : LeadsOpen order source source ids (held memory state) (held let_go state) (λ m n. IsPiece m 1 (Ok (tt {0})) n)
+  ends_let_go =
+      serves_on order source source ids (held memory state) (held let_go state) 1 (Ok (tt {0})) whole whole (λ f. f) (omega arith) refl
+      (λ m f same serving. (draws m 1 source.facts, serving_let_go m serving))

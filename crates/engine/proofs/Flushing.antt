@@ -1,0 +1,331 @@
+-- What a flush leaves of an open database.
+use Rattle.std.proofs.Common.{true, ◌≡◌, ◌≢◌, ℕ, ◌+◌, ◌≤◌, ◌<◌, ◌^◌, List, [], ◌∷◌, ◌++◌, map, Some, None, IsTrue, inl, inr, refl, sym, ap, subst, ◌∙◌, arith, string_bytes}
+use Rattle.std.proofs.lemmas.List.{append-nil}
+use Rattle.std.specs.FinMap.{get}
+use Rattle.std.specs.declared.cmp.Ordering.{Ordering}
+use Rattle.cache.specs.Tables.{table_at}
+use Rattle.edits.specs.Edit.{HasPastLimit}
+use Rattle.edits.specs.Layout.{fields_of}
+use Rattle.edits.specs.Names.{name_of, IsNumbered}
+use Rattle.edits.specs.declared.field.Field.{Field}
+use Rattle.edits.specs.declared.field.PlacedTable.{PlacedTable}
+use Rattle.edits.specs.declared.names.FileName.TheVariants.{Manifest, Table, OldTable}
+use Rattle.ikey.specs.Orders.{Order}
+use Rattle.ikey.specs.Sources.{SameEntries, SameViewLaw}
+use Rattle.ikey.specs.declared.entry.Entry.{Entry}
+use Rattle.memories.specs.Memories.{Memories, logged_in, sealed_inserts}
+use Rattle.memories.specs.Places.{MemoriesPlace, KeepsMemories}
+use Rattle.recover.specs.Changes.{ManifestEndsAt, flushed}
+use Rattle.recover.specs.Numbers.{IsFree}
+use Rattle.recover.specs.Directory.{Directory, IsConsistent, entries_in, used_in}
+use Rattle.recover.specs.Laws.{OneDirectoryLaw}
+use Rattle.recover.specs.Logs.{LogContent, batch_entries, logged}
+use Rattle.recover.specs.Report.{IsLongTable, AnyHasBytes}
+use Rattle.recover.specs.Tables.{TableContent, tabled}
+use Rattle.scans.specs.Scans.{KeepsScan}
+use Rattle.scans.specs.Scanning.{ScanIsKept}
+use Rattle.scans.specs.declared.scan.Scan.{Scan}
+use Rattle.sources.specs.Tables.{Seen, IsSound, KeepsOf, SoundLasts}
+use Rattle.sources.proofs.Sounding.{same_file, same_table}
+use Rattle.store.specs.Files.{Facts}
+use Rattle.upkeep.specs.Flush.{CanFlush, FlushTouches, HasFlushed, IsFlushed, IsUnflushed, MayBeFlushed, PassesNoLimit}
+use Rattle.upkeep.specs.declared.flush.FlushPlan.{FlushPlan}
+use Rattle.versions.specs.Levels.{AreInOrder, Lists}
+use Rattle.engine.specs.declared.directory.DirectoryState.{DirectoryState}
+use Rattle.engine.specs.Directory.{CanAppend, IsReadable}
+use Rattle.engine.specs.Held.{Held, entries_of, whole_of}
+use Rattle.engine.specs.Iterators.{IsWalk}
+use Rattle.engine.specs.Live.{kept_at}
+use Rattle.engine.specs.Machine as machine
+use Rattle.engine.specs.Machine.{Machine, Walk, entry_count, weight}
+use Rattle.engine.specs.Stands.{HasLog, IsBroken, IsServing}
+use Rattle.engine.proofs.Pieces.{accounted_same, bounded_same, free_up, made_still, rests_as, same_back, same_by, snapshots_same, walks_each}
+use Rattle.engine.proofs.Reading.{below_next}
+use Rattle.engine.proofs.Reopening.{files_apart, long_back}
+
+-- a cursor over a memory table reads on where none is sealed any more
+abbrev pub FlushKept : (List ℕ → List ℕ → Ordering) → Type 0
+FlushKept cmp = (cursor : MemoriesPlace) (old new : Memories) → new ≡ record old { sealed = None } → KeepsMemories cmp cursor old new
+
+module _ {K : Type 0} {g : _} (order : Order) (kept : (scan : Scan K g) → ScanIsKept order.cmp scan) (one : OneDirectoryLaw) (lasts : SoundLasts) (law : SameViewLaw) (flushes : FlushKept order.cmp)
+    (old : Seen) (facts : Facts) (db : Held (Scan K g)) (m : Machine) (serving : IsServing order old db m) (plan : FlushPlan) (after : ℕ) where
+  abbrev next : ℕ
+  next = db.directory.numbers.next
+
+  abbrev new : Seen
+  new = record old { facts = facts }
+
+  abbrev a : CanAppend order old.facts.files db.log.number db.log.end serving.contents (logged_in db.memory) db.memory.last
+  a = serving.log.directory
+
+  abbrev d : Directory
+  d = a.directory
+
+  abbrev sealed : List LogContent
+  sealed = serving.log.logs.sealed
+
+  abbrev current : LogContent
+  current = serving.log.logs.current
+
+  -- the machine behind it
+  abbrev pub drawn_by : Machine
+  drawn_by = record m { numbers = m.numbers + 1; failures = facts.failures; denials = facts.denials }
+
+  entries_are : entries_of serving.contents db ≡ entries_in d
+  entries_are = λ i. tabled (a.in_tables i) ++ a.in_logs i
+
+  -- the sealed table can be flushed
+  pub can_flush : plan.log_number ≡ db.log.number → plan.previous_log_number ≡ db.directory.previous_log → plan.last_sequence ≡ db.memory.last → (entries : List Entry) → entries ≡ sealed_inserts db.memory
+      → CanFlush order old.facts.files next plan db.directory.manifest entries db.tables d sealed current
+  can_flush log previous sequence entries is =
+      let knows = serving.log.knows in
+      let logs = serving.log.logs in
+      record {
+        consistent = a.consistent;
+        logs = logs.logs;
+        entries_are = subst (λ (es : List Entry). SameEntries entries es) (is ∙ logs.sealed_are) (λ e. (λ i. i, λ i. i));
+        log_number = logs.number ∙ sym log;
+        forward = omega (arith, knows.first_log, knows.forward, log);
+        previous = knows.previous_log ∙ sym previous;
+        used = sequence ∙ a.spent;
+        number = knows.number;
+        named = knows.named;
+        ends = knows.ends;
+        free = knows.free;
+        listed = subst (λ (contents : List TableContent). Lists (map (λ (content : TableContent). content.placed) contents) db.tables) a.in_tables serving.tables.version;
+      }
+
+  -- ---- other tables
+
+  -- the tables that were there before the flush read the same
+  abbrev pub StaysBelow : Type 0
+  StaysBelow = (n : ℕ) → IsNumbered n → n < next → table_at facts.files n ≡ table_at old.facts.files n
+
+  module _ (t : IsTrue facts.faithful) (drawn : 0 < next) (few : next < 2 ^ 62) (touches : FlushTouches old.facts facts (name_of (Table next)) (string_bytes db.directory.manifest.name)) where
+    numbered_next : IsNumbered next
+    numbered_next = (drawn, omega (arith, few))
+
+    other_file : (name : List ℕ) → name ≢ name_of (Table next) → name ≢ name_of (Manifest d.manifest) → get facts.files name ≡ get old.facts.files name
+    other_file name apart other = touches.others t name apart (λ e. other (e ∙ serving.log.knows.named))
+
+    newer_same : (n : ℕ) → IsNumbered n → n ≢ next → get facts.files (name_of (Table n)) ≡ get old.facts.files (name_of (Table n))
+    newer_same n numbered apart =
+        other_file (name_of (Table n)) (files_apart (Table n) (Table next) numbered numbered_next (λ e. apart (let is : n ≡ next = cc in is)))
+        (files_apart (Table n) (Manifest d.manifest) numbered a.consistent.manifest.numbered (λ e. cc))
+
+    older_same : (n : ℕ) → IsNumbered n → get facts.files (name_of (OldTable n)) ≡ get old.facts.files (name_of (OldTable n))
+    older_same n numbered =
+        other_file (name_of (OldTable n)) (files_apart (OldTable n) (Table next) numbered numbered_next (λ e. cc))
+        (files_apart (OldTable n) (Manifest d.manifest) numbered a.consistent.manifest.numbered (λ e. cc))
+
+    apart_next : (n : ℕ) → n < next → n ≢ next
+    apart_next n less e = absurd (omega (arith, less, e))
+
+    pub table_same : StaysBelow
+    table_same n numbered less = same_table old.facts.files facts.files n (newer_same n numbered (apart_next n less)) (older_same n numbered)
+
+    pub sound_beside : IsSound order.cmp old → IsSound order.cmp new
+    sound_beside sound =
+        lasts order.cmp old facts
+        (λ kept_one file is there.
+        let known = serving.tables.drawn kept_one.number (inl (kept_one, is, refl)) in (
+          sym (table_same kept_one.number known.0 known.1) ∙ there,
+          λ has. same_file old.facts.files facts.files kept_one.number kept_one.table.name (sound.tables kept_one is).0 (newer_same kept_one.number known.0 (apart_next kept_one.number known.1)) (older_same kept_one.number known.0) ∙ has,
+        ))
+        (λ block file is there. let known = serving.tables.drawn block.file (inr (block, is, refl)) in sym (table_same block.file known.0 known.1) ∙ there) sound
+
+  -- where nothing was done, too
+  pub table_unchanged : facts ≡ old.facts → StaysBelow
+  table_unchanged same n numbered less = ap (λ (f : Facts). table_at f.files n) same
+
+  pub sound_unchanged : facts ≡ old.facts → IsSound order.cmp old → IsSound order.cmp new
+  sound_unchanged same sound = subst (λ (f : Facts). IsSound order.cmp (record old { facts = f })) (sym same) sound
+
+  -- ---- what stands then
+
+  module _ (stays : StaysBelow) (sound_still : IsSound order.cmp old → IsSound order.cmp new) (freed : IsFree order facts.files after) (upto : after ≤ next + 1) where
+    keeps_each : (memory : Memories) → ((cursor : MemoriesPlace) → KeepsMemories order.cmp cursor db.memory memory)
+        → (id : ℕ) (scan : Scan K g) (walk : Walk) → kept_at db.iterators id ≡ Some scan → IsWalk order.cmp m.over_limit (whole_of old db) scan walk
+        → KeepsScan order.cmp scan (whole_of old db) (record { seen = new; memory = memory })
+    keeps_each memory keeps id scan walk there is = record {
+      memory = λ cursor reads within. keeps cursor;
+      files = λ number reads.
+          let table = is.tables number reads in
+          stays number table.1 (below_next order old.facts.files next number serving.log.knows.free table.1 table.2);
+      sound = sound_still;
+    }
+
+    readable_as : (e : Directory) → IsConsistent order facts.files e → (PassesNoLimit order old.facts.files d → PassesNoLimit order facts.files e) → IsReadable order facts.files drawn_by
+    readable_as e good passes = record {
+      made = made_still order old.facts.files facts.files d e m a.consistent good serving.readable.made;
+      numbers = (let below : next ≤ m.numbers = serving.numbers in free_up order facts.files after (m.numbers + 1) (omega (arith, upto, below)) freed);
+      limits = λ is f good_f past.
+          let none = passes (λ old_past. serving.readable.limits is d a.consistent old_past) in
+          let same = one order facts.files f e good_f good in
+          none (elim past [
+            | inl numbers ↦ inl (subst (λ (edits : List (List Field)). HasPastLimit (fields_of edits)) same.1 numbers)
+            | inr long ↦ inr (subst (λ (tables : List TableContent). AnyHasBytes (IsLongTable order) facts.files tables) same.3 long)
+          ]);
+    }
+
+    drawn_after : (n : ℕ) → next ≤ after → KeepsOf new n → IsNumbered n × (n < after)
+    drawn_after n le is = let known = serving.tables.drawn n is in (known.0, (let less = known.1 in omega (arith, less, le)))
+
+    -- ---- the table is in the directory
+
+    module _ (end : ℕ) (tables : List PlacedTable) (state : DirectoryState) (entries : List Entry) (in_order : AreInOrder order.cmp tables) (has : IsFlushed order old.facts.files facts.files next after end entries tables d sealed current)
+        (number : state.manifest.number ≡ db.directory.manifest.number) (name : state.manifest.name ≡ db.directory.manifest.name) (ends : state.manifest.end ≡ end) (first_log : state.first_log ≡ db.log.number) (previous_log : state.previous_log ≡ 0)
+        (next_is : state.numbers.next ≡ after) (le : next ≤ after) where
+      abbrev f : HasFlushed order old.facts.files facts.files next after entries d sealed current
+      f = has.has
+
+      abbrev e : Directory
+      e = flushed d (d.edits ++ f.edit ∷ []) f.next f.content current
+
+      abbrev memory : Memories
+      memory = record db.memory { sealed = None }
+
+      abbrev pub flushed_db : Held (Scan K g)
+      flushed_db = record db { memory = memory; tables = tables; directory = state }
+
+      in_current : db.memory.current.inserts ≡ logged (current ∷ [])
+      in_current = serving.log.logs.current_are ∙ sym (append-nil (batch_entries current.batches))
+
+      same : SameEntries (entries_of serving.contents db) (entries_of e.tables flushed_db)
+      same = same_back (entries_of e.tables flushed_db) (entries_of serving.contents db)
+          (same_by (entries_of e.tables flushed_db) (entries_in e) (entries_in d) (entries_of serving.contents db) (ap (λ (es : List Entry). tabled e.tables ++ es) in_current) f.same (sym entries_are))
+
+      log_flushed : HasLog order facts.files e.tables flushed_db
+      log_flushed =
+          let knows = serving.log.knows in
+          record {
+            named = serving.log.named;
+            directory = record {
+              directory = e;
+              consistent = f.consistent;
+              ends = f.kept.ends db.log.number db.log.end a.ends;
+              in_tables = refl;
+              in_logs = in_current;
+              spent = a.spent ∙ sym f.used;
+            };
+            logs = record { sealed = []; current = current; logs = refl; number = serving.log.logs.number; sealed_are = refl; current_are = serving.log.logs.current_are };
+            knows = record {
+              first_log = f.flush.log_number ∙ serving.log.logs.number ∙ sym first_log;
+              forward = omega (arith, first_log);
+              previous_log = f.flush.previous_log_number ∙ sym previous_log;
+              number = number ∙ knows.number;
+              named = ap string_bytes name ∙ knows.named;
+              ends = subst (λ (k : ℕ). ManifestEndsAt order facts.files d.manifest k (d.edits ++ f.edit ∷ []) f.next) (sym ends) has.ends;
+              free = subst (λ (k : ℕ). IsFree order facts.files k) (sym next_is) has.free;
+            };
+          }
+
+      pub serving_flushed : IsServing order new flushed_db drawn_by
+      serving_flushed = record {
+        whole = serving.whole;
+        certain = serving.certain;
+        contents = e.tables;
+        log = log_flushed;
+        tables = record {
+          version = has.listed;
+          in_order = in_order;
+          sound = sound_still serving.tables.sound;
+          drawn = λ n is. let known = drawn_after n le is in (known.0, (let less = known.1 in omega (arith, less, next_is)));
+        };
+        entries = record {
+          used = serving.entries.used;
+          fits = serving.entries.fits;
+          view = (law (entries_of serving.contents db) (entries_of e.tables flushed_db) db.memory.last same).0 (machine.current m) serving.entries.view;
+          bounded = bounded_same (entries_of serving.contents db) (entries_of e.tables flushed_db) db.memory.last same serving.entries.bounded;
+        };
+        snapshots = snapshots_same law (entries_of serving.contents db) (entries_of e.tables flushed_db) db.memory.last m db.snapshots same serving.snapshots;
+        iterators = walks_each order kept (whole_of old db) (whole_of new flushed_db) db.iterators m (keeps_each memory (λ cursor. flushes cursor db.memory memory refl)) (omega arith) serving.iterators;
+        accounted = accounted_same (entries_of serving.contents db) (entries_of e.tables flushed_db) (entry_count m) (weight m) same serving.accounted;
+        readable = readable_as e f.consistent f.limits;
+        numbers = (let below : next ≤ m.numbers = serving.numbers in omega (arith, next_is, upto, below));
+      }
+
+    -- ---- it isn't, and nothing was lost
+
+    module _ (state : DirectoryState) (entries : List Entry) (has : IsUnflushed order old.facts.files facts.files after plan db.directory.manifest entries db.tables d sealed current)
+        (number : state.manifest.number ≡ db.directory.manifest.number) (name : state.manifest.name ≡ db.directory.manifest.name) (ends : state.manifest.end ≡ db.directory.manifest.end) (first_log : state.first_log ≡ db.directory.first_log)
+        (previous_log : state.previous_log ≡ db.directory.previous_log) (next_is : state.numbers.next ≡ after) (le : next ≤ after) where
+      abbrev pub unflushed_db : Held (Scan K g)
+      unflushed_db = record db { directory = state }
+
+      log_unflushed : HasLog order facts.files serving.contents unflushed_db
+      log_unflushed =
+          let knows = serving.log.knows in
+          record {
+            named = serving.log.named;
+            directory = record {
+              directory = d;
+              consistent = has.can.consistent;
+              ends = has.kept.ends db.log.number db.log.end a.ends;
+              in_tables = a.in_tables;
+              in_logs = a.in_logs;
+              spent = a.spent;
+            };
+            logs = serving.log.logs;
+            knows = record {
+              first_log = knows.first_log ∙ sym first_log;
+              forward = (let forward = knows.forward in omega (arith, forward, first_log));
+              previous_log = knows.previous_log ∙ sym previous_log;
+              number = number ∙ knows.number;
+              named = ap string_bytes name ∙ knows.named;
+              ends = subst (λ (k : ℕ). ManifestEndsAt order facts.files d.manifest k d.edits d.layout) (sym ends) has.can.ends;
+              free = subst (λ (k : ℕ). IsFree order facts.files k) (sym next_is) has.can.free;
+            };
+          }
+
+      passes_still : PassesNoLimit order old.facts.files d → PassesNoLimit order facts.files d
+      passes_still none past = none (elim past [
+        | inl numbers ↦ inl numbers
+        | inr long ↦ inr (long_back order old.facts.files facts.files d.tables has.kept.beside.tables long)
+      ])
+
+      pub serving_unflushed : IsServing order new unflushed_db drawn_by
+      serving_unflushed = record {
+        whole = serving.whole;
+        certain = serving.certain;
+        contents = serving.contents;
+        log = log_unflushed;
+        tables = record {
+          version = serving.tables.version;
+          in_order = serving.tables.in_order;
+          sound = sound_still serving.tables.sound;
+          drawn = λ n is. let known = drawn_after n le is in (known.0, (let less = known.1 in omega (arith, less, next_is)));
+        };
+        entries = serving.entries;
+        snapshots = serving.snapshots;
+        iterators = walks_each order kept (whole_of old db) (whole_of new unflushed_db) db.iterators m (keeps_each db.memory (λ cursor. refl)) (omega arith) serving.iterators;
+        accounted = serving.accounted;
+        readable = readable_as d has.can.consistent passes_still;
+        numbers = (let below : next ≤ m.numbers = serving.numbers in omega (arith, next_is, upto, below));
+      }
+
+    -- ---- it is or isn't
+
+    pub broken_flush : (entries : List Entry) → MayBeFlushed order old.facts.files facts.files next after entries d sealed current → IsBroken order facts.files (record drawn_by { broken = true })
+    broken_flush entries may = elim may.either [
+      | inl still ↦ broken_as d still.0 (λ none past. none (elim past [
+        | inl numbers ↦ inl numbers
+        | inr long ↦ inr (long_back order old.facts.files facts.files d.tables still.1.beside.tables long)
+      ])) (same_by (entries_of serving.contents db) (entries_of serving.contents db) (entries_of serving.contents db) (entries_in d) refl (λ e. (λ i. i, λ i. i)) entries_are) refl
+      | inr done ↦
+          let e = flushed d (d.edits ++ done.edit ∷ []) done.next done.content current in
+          broken_as e done.consistent done.limits
+          (same_by (entries_of serving.contents db) (entries_in d) (entries_in e) (entries_in e) entries_are (same_back (entries_in e) (entries_in d) done.same) refl) done.used
+    ]
+      where
+        broken_as : (e : Directory) → IsConsistent order facts.files e → (PassesNoLimit order old.facts.files d → PassesNoLimit order facts.files e) → SameEntries (entries_of serving.contents db) (entries_in e) → used_in e ≡ used_in d
+            → IsBroken order facts.files (record drawn_by { broken = true })
+        broken_as e good passes same used =
+            let readable = readable_as e good passes in
+            record {
+              broken = refl;
+              rest = record {
+                meaning = rests_as order law old db m serving facts.files e good same (used ∙ sym a.spent);
+                readable = record { made = readable.made; numbers = readable.numbers; limits = readable.limits };
+              };
+            }

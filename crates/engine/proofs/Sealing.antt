@@ -1,0 +1,258 @@
+-- What the sealing of the memory table and a new log leave of an open database.
+use Rattle.std.proofs.Common.{true, ◌≡◌, ◌⊎◌, ℕ, ◌+◌, ◌≤◌, ◌<◌, ◌^◌, List, [], ◌++◌, max, Option, Some, None, IsTrue, IsSome, inl, inr, refl, sym, ap, subst, ◌∙◌, arith, string_bytes}
+use Rattle.std.proofs.lemmas.List.{append-nil}
+use Rattle.std.specs.FinMap.{get}
+use Rattle.cache.specs.Tables.{table_at}
+use Rattle.edits.specs.Names.{name_of, IsNumbered}
+use Rattle.edits.specs.declared.names.FileName.TheVariants.{Log, Table, OldTable}
+use Rattle.ikey.specs.Orders.{Order}
+use Rattle.ikey.specs.Sources.{SameViewLaw}
+use Rattle.ikey.specs.declared.entry.Entry.{Entry}
+use Rattle.memories.specs.Changes.{IsSealed}
+use Rattle.memories.specs.Memories.{Memories, inserts_of, logged_in, older_at, sealed_inserts, table_in}
+use Rattle.memories.specs.Places.{MemoriesPlace, KeepsMemories}
+use Rattle.recover.specs.Changes.{ManifestEndsAt, empty_log, with_log}
+use Rattle.recover.specs.Directory.{Directory, EndsAt, IsConsistent, entries_in, used_in}
+use Rattle.recover.specs.Entries.{greatest}
+use Rattle.recover.specs.Report.{IsLongTable, AnyHasBytes}
+use Rattle.edits.specs.Edit.{HasPastLimit}
+use Rattle.edits.specs.Layout.{fields_of}
+use Rattle.edits.specs.declared.field.Field.{Field}
+use Rattle.recover.specs.Laws.{OneDirectoryLaw}
+use Rattle.recover.specs.Logs.{logged}
+use Rattle.recover.specs.Numbers.{IsFree}
+use Rattle.recover.specs.Tables.{TableContent, tabled}
+use Rattle.recover.proofs.Adding.{table_of}
+use Rattle.scans.specs.Scans.{KeepsScan}
+use Rattle.scans.specs.Scanning.{ScanIsKept}
+use Rattle.scans.specs.declared.scan.Scan.{Scan}
+use Rattle.sources.specs.Tables.{Seen, IsSound, SoundLasts}
+use Rattle.sources.proofs.Sounding.{same_file, same_table}
+use Rattle.std.specs.declared.cmp.Ordering.{Ordering}
+use Rattle.std.specs.Option.{option_and_then}
+use Rattle.store.specs.Files.{Facts}
+use Rattle.table.specs.Writing.{KeepsOthers}
+use Rattle.upkeep.specs.LogFile.{HasNewLog}
+use Rattle.engine.specs.declared.directory.DirectoryState.{DirectoryState}
+use Rattle.engine.specs.declared.log.CurrentLog.{CurrentLog}
+use Rattle.engine.specs.Directory.{CanAppend, IsReadable}
+use Rattle.engine.specs.Held.{Held, entries_of, whole_of}
+use Rattle.engine.specs.Iterators.{IsWalk}
+use Rattle.engine.specs.Live.{kept_at}
+use Rattle.engine.specs.Machine.{Machine, Walk}
+use Rattle.engine.specs.Stands.{HasLog, IsBroken, IsServing}
+use Rattle.engine.proofs.Pieces.{free_up, made_still, rests_as, same_by, walks_each}
+use Rattle.engine.proofs.Reopening.{files_apart, long_back}
+
+-- ---- a number is drawn, or none
+
+module _ {K : Type 0} {g : _} (order : Order) (source : Seen) (db : Held (Scan K g)) (m : Machine) (state : DirectoryState) where
+  pub serving_drawn : IsServing order source db m → state.manifest.number ≡ db.directory.manifest.number → state.manifest.name ≡ db.directory.manifest.name → state.manifest.end ≡ db.directory.manifest.end → state.first_log ≡ db.directory.first_log
+      → state.previous_log ≡ db.directory.previous_log → db.directory.numbers.next ≤ state.numbers.next → state.numbers.next ≤ db.directory.numbers.next + 1 → IsServing order source (record db { directory = state }) (record m { numbers = m.numbers + 1 })
+  serving_drawn h number name ends first_log previous_log le upto =
+      let knows = h.log.knows in
+      let d = h.log.directory.directory in
+      record {
+        whole = h.whole;
+        certain = h.certain;
+        contents = h.contents;
+        log = record {
+          named = h.log.named;
+          directory = h.log.directory;
+          logs = h.log.logs;
+          knows = record {
+            first_log = knows.first_log ∙ sym first_log;
+            forward = (let forward = knows.forward in omega (arith, forward, first_log));
+            previous_log = knows.previous_log ∙ sym previous_log;
+            number = number ∙ knows.number;
+            named = ap string_bytes name ∙ knows.named;
+            ends = subst (λ (k : ℕ). ManifestEndsAt order source.facts.files d.manifest k d.edits d.layout) (sym ends) knows.ends;
+            free = free_up order source.facts.files db.directory.numbers.next state.numbers.next le knows.free;
+          };
+        };
+        tables = record {
+          version = h.tables.version;
+          in_order = h.tables.in_order;
+          sound = h.tables.sound;
+          drawn = λ n is. let known = h.tables.drawn n is in (known.0, (let less = known.1 in omega (arith, less, le)));
+        };
+        entries = h.entries;
+        snapshots = h.snapshots;
+        iterators = h.iterators;
+        accounted = h.accounted;
+        readable = record { made = h.readable.made; numbers = free_up order source.facts.files m.numbers (m.numbers + 1) (omega arith) h.readable.numbers; limits = h.readable.limits };
+        numbers = (let below = h.numbers in omega (arith, below, upto));
+      }
+
+-- ---- a new log
+
+-- a cursor over a memory table reads on where that is sealed
+abbrev pub SealKept : (List ℕ → List ℕ → Ordering) → Type 0
+SealKept cmp = (cursor : MemoriesPlace) (old new : Memories) → IsSome (table_in old cursor.generation) → IsSealed old new → KeepsMemories cmp cursor old new
+
+module _ {K : Type 0} {g : _} (order : Order) (kept : (scan : Scan K g) → ScanIsKept order.cmp scan) (one : OneDirectoryLaw) (lasts : SoundLasts) (law : SameViewLaw) (seals : SealKept order.cmp)
+    (old : Seen) (facts : Facts) (db : Held (Scan K g)) (m : Machine) (serving : IsServing order old db m) (t : IsTrue facts.faithful) (few : db.directory.numbers.next < 2 ^ 62)
+    (others : KeepsOthers old.facts.files facts.files (name_of (Log db.directory.numbers.next))) where
+  abbrev next : ℕ
+  next = db.directory.numbers.next
+
+  abbrev new : Seen
+  new = record old { facts = facts }
+
+  abbrev a : CanAppend order old.facts.files db.log.number db.log.end serving.contents (logged_in db.memory) db.memory.last
+  a = serving.log.directory
+
+  abbrev d : Directory
+  d = a.directory
+
+  numbered_next : IsNumbered next
+  numbered_next = (let some = serving.log.knows.free.some in omega (arith, some), omega (arith, few))
+
+  newer_same : (n : ℕ) → IsNumbered n → get facts.files (name_of (Table n)) ≡ get old.facts.files (name_of (Table n))
+  newer_same n numbered = others (name_of (Table n)) (files_apart (Table n) (Log next) numbered numbered_next (λ e. cc))
+
+  older_same : (n : ℕ) → IsNumbered n → get facts.files (name_of (OldTable n)) ≡ get old.facts.files (name_of (OldTable n))
+  older_same n numbered = others (name_of (OldTable n)) (files_apart (OldTable n) (Log next) numbered numbered_next (λ e. cc))
+
+  table_still : (n : ℕ) → IsNumbered n → table_at facts.files n ≡ table_at old.facts.files n
+  table_still n numbered = same_table old.facts.files facts.files n (newer_same n numbered) (older_same n numbered)
+
+  sound_still : IsSound order.cmp old → IsSound order.cmp new
+  sound_still sound =
+      lasts order.cmp old facts
+      (λ one_kept file is there.
+      let known = serving.tables.drawn one_kept.number (inl (one_kept, is, refl)) in (
+        sym (table_still one_kept.number known.0) ∙ there,
+        λ has. same_file old.facts.files facts.files one_kept.number one_kept.table.name (sound.tables one_kept is).0 (newer_same one_kept.number known.0) (older_same one_kept.number known.0) ∙ has,
+      ))
+      (λ block file is there. sym (table_still block.file (serving.tables.drawn block.file (inr (block, is, refl))).0) ∙ there) sound
+
+  -- the machine behind it
+  abbrev pub logged_by : Machine
+  logged_by = record m { numbers = m.numbers + 1; failures = facts.failures; denials = facts.denials }
+
+  readable_as : (e : Directory) → IsConsistent order facts.files e → e.tables ≡ d.tables → e.edits ≡ d.edits → IsFree order facts.files (next + 1) → IsReadable order facts.files logged_by
+  readable_as e good tables edits freed = record {
+    made = made_still order old.facts.files facts.files d e m a.consistent good serving.readable.made;
+    numbers = (let below : next ≤ m.numbers = serving.numbers in free_up order facts.files (next + 1) (m.numbers + 1) (omega (arith, below)) freed);
+    limits = λ is f good_f past.
+        let same = one order facts.files f e good_f good in
+        serving.readable.limits is d a.consistent (elim past [
+          | inl numbers ↦ inl (subst (λ (es : List (List Field)). HasPastLimit (fields_of es)) (same.1 ∙ edits) numbers)
+          | inr long ↦ inr (long_back order old.facts.files facts.files d.tables (λ content i. table_still content.placed.table.number (table_of order old.facts.files d.tables content a.consistent.tables i))
+              (subst (λ (ts : List TableContent). AnyHasBytes (IsLongTable order) facts.files ts) (same.3 ∙ tables) long))
+        ]);
+  }
+
+  used_with : HasNewLog order facts.files d next → used_in (with_log d next) ≡ used_in d
+  used_with has = ap (λ (es : List Entry). max d.layout.last_sequence (greatest es)) has.entries
+
+  -- ---- it is there
+
+  module _ (memory : Memories) (log : CurrentLog) (state : DirectoryState) (unsealed : db.memory.sealed ≡ None) (sealed : IsSealed db.memory memory) (inserts : sealed_inserts memory ≡ db.memory.current.inserts)
+      (has : HasNewLog order facts.files d next) (ends : ManifestEndsAt order facts.files d.manifest db.directory.manifest.end d.edits d.layout) (freed : IsFree order facts.files (next + 1))
+      (log_number : log.number ≡ next) (log_name : string_bytes log.name ≡ name_of (Log next)) (log_end : log.end ≡ 0)
+      (number : state.manifest.number ≡ db.directory.manifest.number) (name : state.manifest.name ≡ db.directory.manifest.name) (end : state.manifest.end ≡ db.directory.manifest.end)
+      (first_log : state.first_log ≡ db.directory.first_log) (previous_log : state.previous_log ≡ db.directory.previous_log) (next_is : state.numbers.next ≡ next + 1) where
+    abbrev pub sealed_db : Held (Scan K g)
+    sealed_db = record db { memory = memory; log = log; directory = state }
+
+    none_sealed : sealed_inserts db.memory ≡ []
+    none_sealed = ap (λ (o : Option ℕ). inserts_of (option_and_then (older_at db.memory.older) o)) unsealed
+
+    current_now : memory.current.inserts ≡ []
+    current_now = ap (λ c. c.inserts) sealed.current
+
+    logged_now : logged_in memory ≡ logged_in db.memory
+    logged_now = (λ i. inserts i ++ current_now i) ∙ append-nil db.memory.current.inserts ∙ sym (ap (λ (es : List Entry). es ++ db.memory.current.inserts) none_sealed)
+
+    in_logs : logged_in memory ≡ logged (with_log d next).logs
+    in_logs = logged_now ∙ a.in_logs ∙ sym has.entries
+
+    entries_now : entries_of serving.contents sealed_db ≡ entries_of serving.contents db
+    entries_now = ap (λ (es : List Entry). tabled serving.contents ++ es) logged_now
+
+    log_sealed : HasLog order facts.files serving.contents sealed_db
+    log_sealed =
+        let knows = serving.log.knows in
+        record {
+          named = log_name ∙ ap (λ (k : ℕ). name_of (Log k)) (sym log_number);
+          directory = record {
+            directory = with_log d next;
+            consistent = has.consistent;
+            ends = subst (λ (k : ℕ). EndsAt facts.files (with_log d next) k log.end) (sym log_number) (subst (λ (k : ℕ). EndsAt facts.files (with_log d next) next k) (sym log_end) has.ends);
+            in_tables = a.in_tables;
+            in_logs = in_logs;
+            spent = sealed.last ∙ a.spent ∙ sym (used_with has);
+          };
+          logs = record {
+            sealed = d.logs;
+            current = empty_log next;
+            logs = refl;
+            number = sym log_number;
+            sealed_are = inserts ∙ sym (ap (λ (es : List Entry). es ++ db.memory.current.inserts) none_sealed) ∙ a.in_logs;
+            current_are = current_now;
+          };
+          knows = record {
+            first_log = knows.first_log ∙ sym first_log;
+            forward = (let below = (knows.free.recorded d.manifest d.edits d.layout a.consistent.manifest).1 in let is = knows.first_log in omega (arith, below, is, first_log, log_number));
+            previous_log = knows.previous_log ∙ sym previous_log;
+            number = number ∙ knows.number;
+            named = ap string_bytes name ∙ knows.named;
+            ends = subst (λ (k : ℕ). ManifestEndsAt order facts.files d.manifest k d.edits d.layout) (sym end) ends;
+            free = subst (λ (k : ℕ). IsFree order facts.files k) (sym next_is) freed;
+          };
+        }
+
+    keeps_each : (id : ℕ) (scan : Scan K g) (walk : Walk) → kept_at db.iterators id ≡ Some scan → IsWalk order.cmp m.over_limit (whole_of old db) scan walk → KeepsScan order.cmp scan (whole_of old db) (whole_of new sealed_db)
+    keeps_each id scan walk there is = record {
+      memory = λ cursor reads within. seals cursor db.memory memory (is.scan.there cursor.generation reads) sealed;
+      files = λ n reads. table_still n (is.tables n reads).1;
+      sound = sound_still;
+    }
+
+    pub serving_sealed : IsServing order new sealed_db logged_by
+    serving_sealed = record {
+      whole = serving.whole;
+      certain = serving.certain;
+      contents = serving.contents;
+      log = log_sealed;
+      tables = record {
+        version = serving.tables.version;
+        in_order = serving.tables.in_order;
+        sound = sound_still serving.tables.sound;
+        drawn = λ n is. let known = serving.tables.drawn n is in (known.0, (let less = known.1 in omega (arith, less, next_is)));
+      };
+      entries = record {
+        used = serving.entries.used ∙ sym sealed.last;
+        fits = (let fits = serving.entries.fits in let last = sealed.last in omega (arith, fits, last));
+        view = (let last = sealed.last in rw (entries_now, last) serving.entries.view);
+        bounded = (let last = sealed.last in rw (entries_now, last) serving.entries.bounded);
+      };
+      snapshots = (let last = sealed.last in rw (entries_now, last) serving.snapshots);
+      iterators = walks_each order kept (whole_of old db) (whole_of new sealed_db) db.iterators m keeps_each (let last = sealed.last in omega (arith, last)) serving.iterators;
+      accounted = rw (entries_now) serving.accounted;
+      readable = readable_as (with_log d next) has.consistent refl refl freed;
+      numbers = (let below : next ≤ m.numbers = serving.numbers in omega (arith, next_is, below));
+    }
+
+  -- ---- the store failed, so that it is there or not
+
+  entries_are : entries_of serving.contents db ≡ entries_in d
+  entries_are = λ i. tabled (a.in_tables i) ++ a.in_logs i
+
+  broken_as : (e : Directory) → IsConsistent order facts.files e → e.tables ≡ d.tables → e.edits ≡ d.edits → entries_of serving.contents db ≡ entries_in e → used_in e ≡ used_in d → IsFree order facts.files (next + 1) → IsBroken order facts.files (record logged_by { broken = true })
+  broken_as e good tables edits same used freed =
+      let readable = readable_as e good tables edits freed in
+      record {
+        broken = refl;
+        rest = record {
+          meaning = rests_as order law old db m serving facts.files e good (same_by (entries_of serving.contents db) (entries_in e) (entries_in e) (entries_in e) same (λ x. (λ i. i, λ i. i)) refl) (used ∙ sym a.spent);
+          readable = record { made = readable.made; numbers = readable.numbers; limits = readable.limits };
+        };
+      }
+
+  pub broken_seal : IsConsistent order facts.files d ⊎ HasNewLog order facts.files d next → IsFree order facts.files (next + 1) → IsBroken order facts.files (record logged_by { broken = true })
+  broken_seal (inl good) freed = broken_as d good refl refl entries_are refl freed
+  broken_seal (inr has) freed =
+      broken_as (with_log d next) has.consistent refl refl (entries_are ∙ ap (λ (es : List Entry). tabled d.tables ++ es) (sym has.entries)) (used_with has) freed

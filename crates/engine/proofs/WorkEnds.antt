@@ -1,0 +1,173 @@
+-- What an open database is, and the machine, when files were removed or a new log was begun, however that ends.
+use Rattle.std.proofs.Common.{◌≡◌, ℕ, ◌+◌, ◌≤◌, ◌<◌, true, false, List, Some, None, Ok, Err, IsTrue, inl, inr, refl, ap, subst, ◌∙◌, arith, String}
+use Rattle.std.specs.FinMap.{get}
+use Rattle.std.specs.declared.alloc.Global.{Global}
+use Rattle.cache.specs.Tables.{KeptTable, table_at}
+use Rattle.coding.specs.declared.error.DbError.{DbError}
+use Rattle.coding.specs.declared.error.DbError.TheVariants as error
+use Rattle.compact.specs.declared.numbers.FileNumbers.{FileNumbers}
+use Rattle.edits.specs.Names.{IsNumbered}
+use Rattle.ikey.specs.Orders.{Order}
+use Rattle.ikey.specs.Sources.{SameViewLaw}
+use Rattle.memories.specs.Changes.{IsSealed, IsUsed, KeepsUsed}
+use Rattle.memories.specs.Memories.{Memories, sealed_inserts}
+use Rattle.memories.specs.Places.{LeavesMemories}
+use Rattle.recover.specs.Directory.{Directory, IsConsistent}
+use Rattle.recover.specs.Laws.{OneDirectoryLaw}
+use Rattle.recover.specs.Numbers.{IsFree}
+use Rattle.scans.specs.Scanning.{ScanIsKept}
+use Rattle.scans.specs.declared.scan.Scan.{Scan}
+use Rattle.sources.specs.Tables.{Seen, IsSound, SoundLasts}
+use Rattle.store.specs.Files.{Files, Facts}
+use Rattle.upkeep.specs.Calls.{Touches}
+use Rattle.upkeep.specs.LogFile.{BeginsLog, DrawsLog, RefusesLog}
+use Rattle.upkeep.specs.Removal.{AreNumbersOf, KeepsParts, KeepsTable, ListsUnused, RefusesList}
+use Rattle.engine.specs.declared.ids.Ids.{Ids}
+use Rattle.engine.specs.declared.state.DbState.{DbState}
+use Rattle.engine.specs.Follows.{LeadsOpen}
+use Rattle.engine.specs.Held.{Held, held}
+use Rattle.engine.specs.Machine.{Machine}
+use Rattle.engine.specs.Stands.{IsServing}
+use Rattle.engine.specs.Upkeep.{UpkeepRefused}
+use Rattle.engine.specs.Working.{ClosesTables, IsPiece, IsSameMemory, broken_by, numbers_of}
+use Rattle.engine.specs.InUse.{IsMemoryUsed, IsTableUsed}
+use Rattle.engine.proofs.Cleaning.{DropsKept, sealed_same, serving_cleaned}
+use Rattle.engine.proofs.Reading.{read_by, serving_read}
+use Rattle.engine.proofs.Sealing.{SealKept, broken_seal, serving_drawn, serving_sealed}
+use Rattle.engine.proofs.WorkSteps.{breaks, drawing, draws, serves_on}
+
+-- what is kept is right where the files are the same
+pub sound_same : (order : Order) (lasts : SoundLasts) (old : Seen) (facts : Facts) → facts.files ≡ old.facts.files → IsSound order.cmp old → IsSound order.cmp (record old { facts = facts })
+sound_same order lasts old facts same =
+    lasts order.cmp old facts (λ kept file is there. (subst (λ (fs : Files). table_at fs kept.number ≡ Some file) same there, λ has. ap (λ (fs : Files). get fs kept.table.name) same ∙ has))
+    (λ block file is there. subst (λ (fs : Files). table_at fs block.file ≡ Some file) same there)
+
+-- none was drawn
+undrawn : {K : Type 0} {g : _} (order : Order) (source : Seen) (db : Held (Scan K g)) (m : Machine) (facts : Facts) → IsServing order source db (read_by facts m) → IsServing order source db (drawing m 0 facts)
+undrawn order source db m facts h = (let is : m.numbers ≡ m.numbers + 0 = omega arith in subst (λ (k : ℕ). IsServing order source db (record m { numbers = k; failures = facts.failures; denials = facts.denials })) is h)
+
+leaves_same : (memory : Memories) → LeavesMemories memory memory
+leaves_same memory = record { inserts = refl; last = refl; generation = refl; sealed = refl; older = λ generation. refl }
+
+module _ {K : Type 0} {g : _} (order : Order) (kept : (scan : Scan K g) → ScanIsKept order.cmp scan) (lasts : SoundLasts) (old : Seen) (facts : Facts) where
+  abbrev new : Seen
+  new = record old { facts = facts }
+
+  -- where the files are the same, and of the memory tables all that is read
+  pub serving_same : (db : Held (Scan K g)) (memory : Memories) (m : Machine) → facts.files ≡ old.facts.files → LeavesMemories db.memory memory → IsServing order old db m → IsServing order new (record db { memory = memory }) (read_by facts m)
+  serving_same db memory m same left h = serving_read order kept old new db memory m same (sound_same order lasts old facts same) (λ number is. inl is) left h
+
+  -- and perhaps a number was drawn
+  pub serving_numbered : (db : Held (Scan K g)) (memory : Memories) (numbers : FileNumbers) (m : Machine) → facts.files ≡ old.facts.files → LeavesMemories db.memory memory → db.directory.numbers.next ≤ numbers.next → numbers.next ≤ db.directory.numbers.next + 1
+      → IsServing order old db m → IsServing order new (record db { memory = memory; directory = record db.directory { numbers = numbers } }) (drawing m 1 facts)
+  serving_numbered db memory numbers m same left le upto h =
+      serving_drawn order new (record db { memory = memory }) (read_by facts m) (record db.directory { numbers = numbers }) (serving_same db memory m same left h) refl refl refl refl refl le upto
+
+-- ---- files that aren't listed
+
+list_refused : (m : Machine) (old facts : Facts) (e : DbError) → RefusesList e old facts → m.failures ≡ old.failures → UpkeepRefused m 0 e (drawing m 0 facts)
+list_refused m old facts error.OutOfMemory h same = draws m 0 facts
+list_refused m old facts error.Io h same = (omega (arith, h, same), (omega arith, omega arith), refl)
+list_refused m old facts _ h same = absurd h
+
+module _ {K : Type 0} {g : _} (order : Order) (kept : (scan : Scan K g) → ScanIsKept order.cmp scan) (lasts : SoundLasts) (old : Seen) (facts : Facts) (ids : Ids) (db : Held (Scan K g)) where
+  pub ends_unlisted : {T : Type 0} (e : DbError) → db.broken ≡ false → Touches old.facts facts → RefusesList e old.facts facts → (IsTrue facts.faithful → facts.files ≡ old.facts.files)
+      → LeadsOpen order old (record old { facts = facts }) ids db db (λ m n. IsPiece {T = T} m 0 (Err e) n)
+  ends_unlisted e whole touches refused files =
+      serves_on order old (record old { facts = facts }) ids db db 0 (Err e) whole whole touches.faithful touches.failures touches.denials
+      (λ m f same serving. (list_refused m old.facts facts e refused same, undrawn order (record old { facts = facts }) db m facts (serving_same order kept lasts old facts db db.memory m (files f) (leaves_same db.memory) serving)))
+
+-- nothing was done
+module _ {K : Type 0} {g : _} (order : Order) (kept : (scan : Scan K g) → ScanIsKept order.cmp scan) (lasts : SoundLasts) (source : Seen) (ids : Ids) (db : Held (Scan K g)) where
+  pub ends_idle : {T : Type 0} (done : T) → db.broken ≡ false → LeadsOpen order source source ids db db (λ m n. IsPiece m 1 (Ok done) n)
+  ends_idle done whole =
+      serves_on order source source ids db db 1 (Ok done) whole whole (λ f. f) (omega arith) refl
+      (λ m f same serving. (draws m 1 source.facts, serving_numbered order kept lasts source source.facts db db.memory db.directory.numbers m refl (leaves_same db.memory) (omega arith) (omega arith) serving))
+
+  -- there was no memory for it
+  pub ends_full : {T : Type 0} → db.broken ≡ false → LeadsOpen order source source ids db db (λ m n. IsPiece {T = T} m 1 (Err error.OutOfMemory) n)
+  ends_full whole =
+      serves_on order source source ids db db 1 (Err error.OutOfMemory) whole whole (λ f. f) (omega arith) refl
+      (λ m f same serving. (draws m 1 source.facts, serving_numbered order kept lasts source source.facts db db.memory db.directory.numbers m refl (leaves_same db.memory) (omega arith) (omega arith) serving))
+
+-- ---- a new log
+
+module _ {K : Type 0} {g : _} (order : Order) (kept : (scan : Scan K g) → ScanIsKept order.cmp scan) (one : OneDirectoryLaw) (lasts : SoundLasts) (law : SameViewLaw) (seals : SealKept order.cmp)
+    (old : Seen) (facts : Facts) (ids : Ids) (state : DbState K g) (memory : Memories) (numbers : FileNumbers) (whole : state.broken ≡ false) (touches : Touches old.facts facts) where
+  abbrev next : ℕ
+  next = state.directory.numbers.next
+
+  abbrev drawn : DbState K g
+  drawn = record state { directory = record state.directory { numbers = numbers } }
+
+  pub ends_sealed : (number : ℕ) (name : String Global) (sealed : Memories) → memory.sealed ≡ None → IsSealed memory sealed → sealed_inserts sealed ≡ memory.current.inserts
+      → DrawsLog old.facts facts next numbers.next (Ok (number, name)) → BeginsLog {T = ℕ × String Global} order old.facts facts next numbers.next (Ok (number, name))
+      → LeadsOpen order old (record old { facts = facts }) ids (held memory state) (held sealed (record drawn { log = record { number = number; name = name; end = 0 } })) (λ m n. IsPiece m 1 (Ok (tt {0})) n)
+  ends_sealed number name sealed unsealed is inserts draws_log begins =
+      serves_on order old (record old { facts = facts }) ids (held memory state) (held sealed (record drawn { log = record { number = number; name = name; end = 0 } })) 1 (Ok (tt {0})) whole whole touches.faithful touches.failures touches.denials
+      (λ m f same serving.
+      let knows = serving.log.knows in
+      let d = serving.log.directory.directory in (
+        draws m 1 facts,
+        serving_sealed order kept one lasts law seals old facts (held memory state) m serving f draws_log.3 (begins.others f) sealed (record { number = number; name = name; end = 0 }) (record state.directory { numbers = numbers }) unsealed is inserts
+            (begins.ok f d serving.log.directory.consistent knows.free) (begins.manifest f d.manifest state.directory.manifest.end d.edits d.layout knows.ends) (subst (λ (n : ℕ). IsFree order facts.files n) draws_log.2 (begins.free f knows.free))
+            draws_log.0 draws_log.1 refl refl refl refl refl refl draws_log.2,
+      ))
+
+  log_refused : (m : Machine) (e : DbError) → RefusesLog e old.facts facts next numbers.next → m.failures ≡ old.facts.failures → next ≤ m.numbers → (e ≡ error.Io → ⊥) → UpkeepRefused m 1 e (drawing m 1 facts)
+  log_refused m error.OutOfMemory h same below other = draws m 1 facts
+  log_refused m error.Io h same below other = absurd (other refl)
+  log_refused m error.NumbersSpent h same below other = ((let most = h.0 in omega (arith, most, below)), draws m 1 facts)
+  log_refused m _ h same below other = absurd h
+
+  -- the device failed: the log is there, or not
+  log_failed : {T : Type 0} (back : Memories) → old.facts.failures < facts.failures → DrawsLog old.facts facts next numbers.next (Err error.Io) → BeginsLog {T = ℕ × String Global} order old.facts facts next numbers.next (Err error.Io)
+      → LeadsOpen order old (record old { facts = facts }) ids (held memory state) (held back (record drawn { broken = true })) (λ m n. IsPiece {T = T} m 1 (Err error.Io) n)
+  log_failed back rise draws_log begins =
+      breaks order old (record old { facts = facts }) ids (held memory state) (held back (record drawn { broken = true })) 1 (Err error.Io) refl whole refl touches.faithful rise touches.denials
+      (λ m f serving.
+      let knows = serving.log.knows in
+      let d = serving.log.directory.directory in
+      elim draws_log [
+        | inl none ↦ absurd (let same : facts.failures ≡ old.facts.failures = ap (λ (x : Facts). x.failures) none.1 in omega (arith, rise, same))
+        | inr more ↦ broken_seal order kept one lasts law seals old facts (held memory state) m serving f more.1 (begins.others f) (begins.err f d serving.log.directory.consistent knows.free)
+            (subst (λ (n : ℕ). IsFree order facts.files n) more.0 (begins.free f knows.free))
+      ])
+
+  -- the files are as before
+  log_unbegun : {T : Type 0} (e : DbError) (back : Memories) → (e ≡ error.Io → ⊥) → (IsTrue facts.faithful → facts.files ≡ old.facts.files) → RefusesLog e old.facts facts next numbers.next → DrawsLog old.facts facts next numbers.next (Err e) → LeavesMemories memory back
+      → LeadsOpen order old (record old { facts = facts }) ids (held memory state) (held back drawn) (λ m n. IsPiece {T = T} m 1 (Err e) n)
+  log_unbegun e back other files refused draws_log left =
+      serves_on order old (record old { facts = facts }) ids (held memory state) (held back drawn) 1 (Err e) whole whole touches.faithful touches.failures touches.denials
+      (λ m f same serving.
+      let below : next ≤ m.numbers = serving.numbers in
+      let upto : (next ≤ numbers.next) × (numbers.next ≤ next + 1) = elim draws_log [ inl none ↦ (let is = none.0 in (omega (arith, is), omega (arith, is))) | inr more ↦ (let is = more.0 in (omega (arith, is), omega (arith, is))) ] in
+      (log_refused m e refused same below other, serving_numbered order kept lasts old facts (held memory state) back numbers m (files f) left upto.0 upto.1 serving))
+
+  -- however it isn't
+  pub ends_unsealed : {T : Type 0} (e : DbError) (back : Memories) → RefusesLog e old.facts facts next numbers.next → DrawsLog old.facts facts next numbers.next (Err e) → BeginsLog {T = ℕ × String Global} order old.facts facts next numbers.next (Err e) → LeavesMemories memory back
+      → LeadsOpen order old (record old { facts = facts }) ids (held memory state) (held back (broken_by drawn e)) (λ m n. IsPiece {T = T} m 1 (Err e) n)
+  ends_unsealed error.OutOfMemory back refused draws_log begins left = log_unbegun error.OutOfMemory back (λ e. cc) (λ f. (refused f).0) refused draws_log left
+  ends_unsealed error.Io back refused draws_log begins left = log_failed back refused draws_log begins
+  ends_unsealed error.NumbersSpent back refused draws_log begins left = log_unbegun error.NumbersSpent back (λ e. cc) (λ f. ap (λ (x : Facts). x.files) refused.2) refused draws_log left
+  ends_unsealed _ back refused draws_log begins left = absurd refused
+
+-- ---- files that are gone
+
+module _ {K : Type 0} {g : _} (order : Order) (kept : (scan : Scan K g) → ScanIsKept order.cmp scan) (one : OneDirectoryLaw) (lasts : SoundLasts) (drops : DropsKept order.cmp)
+    (old : Seen) (facts : Facts) (ids : Ids) (db : Held (Scan K g)) (tables : List KeptTable) (memory : Memories) (gone : List ℕ) where
+  pub ends_cleaned : {T : Type 0} (done : T) → db.broken ≡ false → Touches old.facts facts → KeepsUsed (IsUsed (λ generation. IsMemoryUsed db.iterators generation) db.memory) db.memory memory
+      → (IsTrue facts.faithful → (n : ℕ) → IsNumbered n → KeepsTable old.facts facts (λ number. IsTableUsed db.tables db.iterators number) n) → ListsUnused old.facts facts (λ number. IsTableUsed db.tables db.iterators number) gone → ClosesTables old.tables tables gone
+      → (IsTrue facts.faithful → (d : Directory) → IsConsistent order old.facts.files d → AreNumbersOf (numbers_of db.directory) (λ number. IsTableUsed db.tables db.iterators number) d
+      → KeepsParts order old.facts.files facts.files (λ number. IsTableUsed db.tables db.iterators number) d)
+      → LeadsOpen order old (record { facts = facts; tables = tables; blocks = old.blocks }) ids db (record db { memory = memory }) (λ m n. IsPiece m 0 (Ok done) n)
+  ends_cleaned done whole touches used each unused closes parts =
+      serves_on order old (record { facts = facts; tables = tables; blocks = old.blocks }) ids db (record db { memory = memory }) 0 (Ok done) whole whole touches.faithful touches.failures touches.denials
+      (λ m f same serving. (draws m 0 facts, undrawn order (record { facts = facts; tables = tables; blocks = old.blocks }) (record db { memory = memory }) m facts (serving_cleaned order kept one lasts drops old facts tables db memory gone used f (each f) unused closes m serving (parts f))))
+
+  pub memory_cleaned : KeepsUsed (IsUsed (λ generation. IsMemoryUsed db.iterators generation) db.memory) db.memory memory → IsSameMemory db.memory memory
+  memory_cleaned used = record {
+    current = ap (λ (m : Memories). m.current) used.others;
+    sealed = ap (λ (m : Memories). m.sealed) used.others;
+    sealed_are = sealed_same order kept one lasts drops old facts tables db memory gone used;
+  }

@@ -1,0 +1,18 @@
+use Rattle.std.proofs.Common.{◌∙◌}
+use Rattle.std.specs.Map.{values_of}
+use Rattle.scans.specs.Scans.{reads_memory}
+use Rattle.engine.proofs.InUse.{any_turn, none_end, none_more}
+use Rattle.engine.proofs.readers.is_memory_read.Goals as goal
+
+pub returns-then-reads : goal.returns-then-reads
+returns-then-reads g c =
+    any_turn (λ scan. reads_memory scan c.args.generation) (values_of c.args.iterators.now.entries) c.loop-scan.yielded _ _ _ c.next.result (c.into_iter-scan-iterator.ensures.into_iter_gives ∙ c.values-scan-items.ensures.rest) c.loop-scan.yielded_by c.in-Some.scan c.in-Some.is c.next.ensures.steps
+    c.if-reads.ensures
+
+pub loop-scan-preserved : goal.loop-scan-preserved
+loop-scan-preserved g c = none_more (λ scan. reads_memory scan c.args.generation) c.loop-scan.yielded c.in-Some.scan c.loop-scan.invariant c.if-reads.ensures
+
+pub returns : goal.returns
+returns g c =
+    none_end (λ scan. reads_memory scan c.args.generation) (values_of c.args.iterators.now.entries) c.loop-scan.yielded _ _ _ c.next.result (c.into_iter-scan-iterator.ensures.into_iter_gives ∙ c.values-scan-items.ensures.rest) c.loop-scan.yielded_by c.in-None.is c.next.ensures.steps
+    c.loop-scan.invariant

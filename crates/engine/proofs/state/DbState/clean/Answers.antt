@@ -1,0 +1,36 @@
+use Rattle.std.proofs.Common.{◌≡◌, ℕ, List, Result, Err, sym, subst, rules}
+use Rattle.coding.specs.declared.error.DbError.{DbError}
+use Rattle.ikey.specs.Orders.{order_of}
+use Rattle.scans.proofs.ScanSteps.{scan_kept}
+use Rattle.engine.specs.Follows.{LeadsOpen}
+use Rattle.engine.specs.Held.{held, seen_of}
+use Rattle.engine.specs.Working.{ClosesTables, IsPiece}
+use Rattle.engine.proofs.WorkEnds.{ends_cleaned, ends_unlisted, memory_cleaned}
+use Rattle.engine.proofs.state.DbState.clean.Goals as goal
+
+pub returns-in_err-removal-clause-step : goal.returns-in_err-removal-clause-step
+returns-in_err-removal-clause-step g c ids =
+    let order = order_of g.K.KeyOrder.name g.K.KeyOrder.cmp in
+    let source = seen_of g.S.Store.facts c.args.source.now in
+    let facts = g.S.Store.facts c.remove_files.new.store in
+    let db = held c.args.source.now.memory c.args.self.now in
+    let e = c.in_err-removal.field-0.0 in
+    let is : c.from_residual.result ≡ Err e = search rules in
+    let ensures = c.in_err-removal.ensures in
+    subst (λ (r : Result _ DbError). LeadsOpen order source (record source { facts = facts }) ids db db (λ m n. IsPiece m 0 r n)) (sym is)
+    (ends_unlisted order (λ scan. scan_kept order.cmp scan) c.sound_lasts.ensures source facts ids db e c.requires.whole ensures.call ensures.refused (λ f. (ensures.removes.err f).0))
+
+pub returns-clause-step : goal.returns-clause-step
+returns-clause-step g c ids =
+    let order = order_of g.K.KeyOrder.name g.K.KeyOrder.cmp in
+    let source = seen_of g.S.Store.facts c.args.source.now in
+    let ensures = c.in_ok-removal.ensures in
+    let removal = c.in_ok-removal.removal in
+    let listed : c.deref.result.now ≡ removal.tables.items = c.deref.ensures.value in
+    ends_cleaned order (λ scan. scan_kept order.cmp scan) c.one_directory.ensures c.sound_lasts.ensures c.changes_are_kept.ensures.dropped source (g.S.Store.facts c.remove_files.new.store) ids (held c.args.source.now.memory c.args.self.now) c.close_tables.new.tables.tables
+    c.drop_unused.new.self removal.tables.items removal.complete c.requires.whole ensures.call c.drop_unused.ensures ensures.tables ensures.unused (subst (λ (numbers : List ℕ). ClosesTables source.tables c.close_tables.new.tables.tables numbers) listed c.close_tables.ensures) (λ f d good numbers. ensures.meaning f order d good numbers)
+
+pub returns-clause-memory : goal.returns-clause-memory
+returns-clause-memory g c =
+    memory_cleaned (order_of g.K.KeyOrder.name g.K.KeyOrder.cmp) (λ scan. scan_kept g.K.KeyOrder.cmp scan) c.one_directory.ensures c.sound_lasts.ensures c.changes_are_kept.ensures.dropped (seen_of g.S.Store.facts c.args.source.now) (g.S.Store.facts c.remove_files.new.store)
+    (record { snapshot = 0; iterator = 0 }) (held c.args.source.now.memory c.args.self.now) c.close_tables.new.tables.tables c.drop_unused.new.self c.in_ok-removal.removal.tables.items c.drop_unused.ensures

@@ -1,0 +1,43 @@
+use Rattle.std.proofs.Common.{◌≡◌, Result, Err, sym, subst, rules}
+use Rattle.coding.specs.declared.error.DbError.{DbError}
+use Rattle.coding.specs.declared.error.DbError.TheVariants.{OutOfMemory}
+use Rattle.ikey.specs.Orders.{order_of}
+use Rattle.memories.specs.Memories.{Memories}
+use Rattle.scans.proofs.ScanSteps.{scan_kept}
+use Rattle.engine.specs.declared.state.DbState.{DbState}
+use Rattle.engine.specs.Follows.{LeadsOpen}
+use Rattle.engine.specs.Held.{held, seen_of}
+use Rattle.engine.specs.Working.{IsPiece}
+use Rattle.engine.proofs.WorkEnds.{ends_full, ends_sealed, ends_unsealed}
+use Rattle.engine.proofs.state.DbState.seal.Goals as goal
+
+pub returns-in_err-seal-clause-step : goal.returns-in_err-seal-clause-step
+returns-in_err-seal-clause-step g c ids =
+    let order = order_of g.K.KeyOrder.name g.K.KeyOrder.cmp in
+    let source = seen_of g.S.Store.facts c.args.source.now in
+    let memory : c.from_residual.result ≡ Err OutOfMemory = search rules in
+    subst (λ (r : Result _ DbError). LeadsOpen order source source ids (held c.args.source.now.memory c.args.self.now) (held c.seal.new.self c.args.self.now) (λ m n. IsPiece m 1 r n)) (sym memory)
+    (subst (λ (mem : Memories). LeadsOpen order source source ids (held c.args.source.now.memory c.args.self.now) (held mem c.args.self.now) (λ m n. IsPiece m 1 (Err OutOfMemory) n)) (sym c.in_err-seal.ensures.err)
+    (ends_full order (λ scan. scan_kept order.cmp scan) c.sound_lasts.ensures source ids (held c.args.source.now.memory c.args.self.now) c.requires.whole))
+
+pub returns-in-Ok-clause-step : goal.returns-in-Ok-clause-step
+returns-in-Ok-clause-step g c ids =
+    let order = order_of g.K.KeyOrder.name g.K.KeyOrder.cmp in
+    let source = seen_of g.S.Store.facts c.args.source.now in
+    let ensures = c.in-Ok.ensures in
+    ends_sealed order (λ scan. scan_kept order.cmp scan) c.one_directory.ensures c.sound_lasts.ensures c.same_view.ensures c.changes_are_kept.ensures.sealed source (g.S.Store.facts c.begin_log.new.store) ids c.args.self.now c.args.source.now.memory c.begin_log.new.numbers
+    c.requires.whole ensures.call c.in-Ok.number c.in-Ok.name c.seal.new.self c.requires.unsealed c.in_ok-seal.ensures.ok c.in_ok-seal.ensures.inserts ensures.drawn (ensures.begins order)
+
+pub returns-in-Err-clause-step : goal.returns-in-Err-clause-step
+returns-in-Err-clause-step g c ids =
+    let order = order_of g.K.KeyOrder.name g.K.KeyOrder.cmp in
+    let source = seen_of g.S.Store.facts c.args.source.now in
+    let facts = g.S.Store.facts c.begin_log.new.store in
+    let ensures = c.in-Err.ensures in
+    let e = c.in-Err.error in
+    let after : _ → DbError → Type 0 = λ s r. LeadsOpen order source (record source { facts = facts }) ids (held c.args.source.now.memory c.args.self.now) (held c.unseal.new.self s) (λ m n. IsPiece m 1 (Err r) n) in
+    let left = c.unseal.ensures.left c.args.source.now.memory c.in_ok-seal.ensures.ok in
+    subst (after c.refuse.new.self) (sym c.refuse.ensures.answer)
+    (subst (λ (s : DbState _ _). after s e) (sym c.refuse.ensures.broken)
+    (ends_unsealed order (λ scan. scan_kept order.cmp scan) c.one_directory.ensures c.sound_lasts.ensures c.same_view.ensures c.changes_are_kept.ensures.sealed source facts ids c.args.self.now c.args.source.now.memory c.begin_log.new.numbers
+    c.requires.whole ensures.call e c.unseal.new.self ensures.refused ensures.drawn (ensures.begins order) left))

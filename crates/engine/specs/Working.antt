@@ -1,0 +1,120 @@
+-- What a piece of work does to the machine.
+use Rattle.std.specs.Prelude.{◌≡◌, ◌⊎◌, ◌<◌, ◌≤◌, ℕ, Bool, true, if◌then◌else◌, None, IsSome, List, [], Contains, Result, Ok, Err, MatchResult}
+use Rattle.cache.specs.Tables.{KeptTable}
+use Rattle.coding.specs.declared.error.DbError.{DbError}
+use Rattle.coding.specs.declared.error.DbError.TheVariants as error
+use Rattle.edits.specs.Layout.{inserted}
+use Rattle.edits.specs.declared.field.TableFile.{TableFile}
+use Rattle.memories.specs.Memories.{Memories, sealed_inserts}
+use Rattle.memtable.specs.Contents.{size_of}
+use Rattle.versions.specs.Levels.{Lists}
+use Rattle.std.specs.FinMap.{contains_key}
+use Rattle.edits.specs.Names.{IsFileName, name_of}
+use Rattle.edits.specs.declared.names.FileName.{FileName}
+use Rattle.scans.specs.declared.scan.Scan.{Scan}
+use Rattle.store.specs.Files.{Files}
+use Rattle.upkeep.specs.Removal.{IsLiveFile}
+use Rattle.versions.specs.declared.live.LiveNumbers.{LiveNumbers}
+use Rattle.engine.specs.declared.directory.DirectoryState.{DirectoryState}
+use Rattle.engine.specs.Held.{Held}
+use Rattle.engine.specs.InUse.{IsTableUsed}
+use Rattle.upkeep.specs.declared.flush.FlushError.{FlushError}
+use Rattle.upkeep.specs.declared.flush.FlushError.TheVariants.{Before, Edit}
+use Rattle.engine.specs.declared.command.Answer.{Answer}
+use Rattle.engine.specs.declared.command.Answer.TheVariants.{Worked, Idle, Refused}
+use Rattle.engine.specs.declared.state.DbState.{DbState}
+use Rattle.engine.specs.declared.work.Progress.{Progress}
+use Rattle.engine.specs.declared.work.Progress.TheVariants as progress
+use Rattle.engine.specs.Machine.{Machine}
+use Rattle.engine.specs.Upkeep.{Draws, UpkeepRefused}
+
+-- It draws so many numbers at most, and changes nothing else, or is refused.
+pub record IsPiece {T : Type 0} (old : Machine) (most : ℕ) (result : Result T DbError) (new : Machine) : Type 0 where
+  pub failures : old.failures ≤ new.failures
+  pub denials : new.denials ≡ old.denials
+  pub what : MatchResult result (λ done. Draws old most new) (λ e. UpkeepRefused old most e new)
+
+-- What a piece may be refused with. Corrupt comes only of a store that isn't faithful.
+abbrev pub MayRefusePiece : DbError → Type 0
+MayRefusePiece error.OutOfMemory = Unit {0}
+MayRefusePiece error.Io = Unit {0}
+MayRefusePiece (error.Corrupt file what) = Unit {0}
+MayRefusePiece (error.Unsupported what) = Unit {0}
+MayRefusePiece error.NumbersSpent = Unit {0}
+MayRefusePiece _ = ⊥
+
+-- Want of memory is answered as a failure of the store where a file couldn't be removed either.
+abbrev pub refused_as : Bool → DbError → DbError
+refused_as complete error.OutOfMemory = if complete then error.OutOfMemory else error.Io
+refused_as complete e = e
+
+-- The current and the sealed table have the same entries, and what is sealed is so still.
+pub record IsSameMemory (old new : Memories) : Type 0 where
+  pub current : new.current ≡ old.current
+  pub sealed : new.sealed ≡ old.sealed
+  pub sealed_are : sealed_inserts new ≡ sealed_inserts old
+
+-- ---- which piece it is
+
+-- The sealed memory table has become a table of level 0, unless it was empty.
+pub record WritesTable {I : Type 0} (before after : Held I) : Type 0 where
+  pub was : IsSome before.memory.sealed
+  pub gone : after.memory.sealed ≡ None
+  pub table : (sealed_inserts before.memory ≡ []) ⊎ ((table : TableFile) × Lists (inserted (record { level = 0; table = table }) before.tables) after.tables)
+
+-- The memory table is sealed, and an empty one has taken its place, with a log of its own.
+pub record SealsMemory {I : Type 0} (before after : Held I) : Type 0 where
+  pub none : before.memory.sealed ≡ None
+  pub sealed : sealed_inserts after.memory ≡ before.memory.current.inserts
+  pub empty : after.memory.current.inserts ≡ []
+  pub log : after.log.number ≡ before.directory.numbers.next
+  pub begins : after.log.end ≡ 0
+
+-- Nothing is sealed, and the memory table has fewer than so many bytes.
+pub record HasNoWork {I : Type 0} (most : ℕ) (db : Held I) : Type 0 where
+  pub none : db.memory.sealed ≡ None
+  pub small : size_of db.memory.current.inserts < most
+
+-- Work writes a table where one is sealed, seals the memory table where that has so many bytes, and else there is none.
+abbrev pub DoesWork : {I : Type 0} → ℕ → Held I → Held I → Result Progress DbError → Type 0
+DoesWork most before after (Ok progress.Worked) = WritesTable before after ⊎ ((most ≤ size_of before.memory.current.inserts) × SealsMemory before after)
+DoesWork most before after (Ok progress.Idle) = HasNoWork most before × HasNoWork most after
+DoesWork most before after (Err e) = Unit {0}
+
+-- ---- files
+
+-- the numbers of the files that are live
+abbrev pub numbers_of : DirectoryState → LiveNumbers
+numbers_of state = record { manifest_number = state.manifest.number; log_number = state.first_log; previous_log_number = state.previous_log }
+
+-- Each file of a known shape is live: `CURRENT`, the lock, the MANIFEST, a log that the directory reads, or a table of the version or of
+-- that of an open iterator.
+abbrev pub HasLiveOnly : {K : Type 0} {g : _} → Files → Held (Scan K g) → Type 0
+HasLiveOnly files db = (file : FileName) → IsFileName file → contains_key files (name_of file) ≡ true → IsLiveFile (numbers_of db.directory) (λ number. IsTableUsed db.tables db.iterators number) file
+
+-- ---- answers
+
+abbrev pub progress_answer : Progress → Answer
+progress_answer progress.Worked = Worked
+progress_answer progress.Idle = Idle
+
+abbrev pub work_answer : Result Progress DbError → Answer
+work_answer (Ok done) = progress_answer done
+work_answer (Err e) = Refused e
+
+-- a failure of the store at the edit is one too
+abbrev pub flush_answer : FlushError → DbError
+flush_answer (Before e) = e
+flush_answer Edit = error.Io
+
+-- A failure of the store in a call that changes the directory breaks the database.
+abbrev pub broken_by : {K : Type 0} {g : _} → DbState K g → DbError → DbState K g
+broken_by state error.Io = record state { broken = true }
+broken_by state _ = state
+
+-- ---- what is kept of tables
+
+-- Nothing more is kept, and nothing under these numbers.
+pub record ClosesTables (old new : List KeptTable) (numbers : List ℕ) : Type 0 where
+  pub kept : (kept : KeptTable) → Contains new kept → Contains old kept
+  pub closed : (kept : KeptTable) → Contains new kept → Contains numbers kept.number → ⊥

@@ -1,0 +1,56 @@
+//! Which tables and memory tables an open database still reads.
+
+ghost use Rattle.std.specs.Prelude.{MatchBool};
+ghost use Rattle.engine.specs.InUse.{AnyIterator, IsMemoryUsed, IsTableUsed};
+ghost use Rattle.scans.specs.Scans.{reads_memory, tables_of};
+ghost use Rattle.versions.specs.Keeping.{HasNumber};
+
+use crate::state::DbState;
+use ikey::KeyOrder;
+use memories::Users;
+use scans::Scan;
+use std::collections::BTreeMap;
+use upkeep::LiveTables;
+
+impl<K: KeyOrder> LiveTables for DbState<K> {
+    ghost has = { λ state number. IsTableUsed state.version.value.tables state.iterators number };
+
+    fn has_table(&self, number: u64) -> bool {
+        if self.version.has_number(number) {
+            return true;
+        }
+        is_table_read(&self.iterators, number)
+    }
+}
+
+impl<K: KeyOrder> Users for DbState<K> {
+    ghost names = { λ state generation. IsMemoryUsed state.iterators generation };
+
+    fn names(&self, generation: u64) -> bool {
+        is_memory_read(&self.iterators, generation)
+    }
+}
+
+// Whether the version of an open iterator has the table of this number.
+fn is_table_read<K: KeyOrder>(iterators: &BTreeMap<u64, Scan<K>>, number: u64) -> bool
+    ensures { MatchBool result (AnyIterator iterators.now (λ scan. HasNumber number (tables_of scan))) (AnyIterator iterators.now (λ scan. HasNumber number (tables_of scan)) → ⊥) }
+{
+    for scan in iterators.values() {
+        if scan.has_table(number) {
+            return true;
+        }
+    }
+    false
+}
+
+// Whether an open iterator reads the memory table of this generation.
+fn is_memory_read<K: KeyOrder>(iterators: &BTreeMap<u64, Scan<K>>, generation: u64) -> bool
+    ensures { MatchBool result (IsMemoryUsed iterators.now generation) (IsMemoryUsed iterators.now generation → ⊥) }
+{
+    for scan in iterators.values() {
+        if scan.reads(generation) {
+            return true;
+        }
+    }
+    false
+}

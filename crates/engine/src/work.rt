@@ -1,0 +1,256 @@
+//! What an open database does beside its commands: the removal of files, flushes, and new logs (LevelDB's db/db_impl.cc,
+//! DBImpl::RemoveObsoleteFiles, CompactMemTable and MakeRoomForWrite).
+
+ghost use Rattle.std.specs.Prelude.{◌≡◌, ℕ, None, IsSome, false, if◌then◌else◌, IsTrue, IfOk, Ok, OnOk};
+ghost use Rattle.engine.specs.Working.{ClosesTables, refused_as};
+ghost use Rattle.ikey.specs.Orders.{order_of};
+
+use crate::log::CurrentLog;
+use crate::options::Options;
+use crate::state::DbState;
+use cache::TableCache;
+use coding::DbError;
+use ikey::{KeyOrder, same_view};
+use memories::changes_are_kept;
+use recover::one_directory;
+use scans::Sources;
+use sources::sound_lasts;
+use std::alloc::Global;
+use store::Store;
+use upkeep::{FlushError, FlushPlan, Flushed, begin_log, flush_memory, remove_files};
+use versions::LiveNumbers;
+
+/// Whether there was work to do.
+#[derive(Clone, Copy, Debug, PartialEq, Eq)]
+pub enum Progress {
+    /// A piece of work was done.
+    Worked,
+    /// There was none.
+    Idle,
+}
+
+impl<K: KeyOrder> DbState<K> {
+    ghost use Rattle.engine.specs.declared.ids.Ids.{Ids};
+    ghost use Rattle.engine.specs.declared.work.Progress.TheVariants.{Idle};
+    ghost use Rattle.engine.specs.Causes.{IsCausedIn, broken_in};
+    ghost use Rattle.engine.specs.Follows.{LeadsOpen};
+    ghost use Rattle.engine.specs.Held.{held, seen_of};
+    ghost use Rattle.engine.specs.Outcomes.{DbOutcome, IsSame, MayRefuseWork};
+    ghost use Rattle.engine.specs.Upkeep.{Works};
+    ghost use Rattle.engine.specs.Working.{DoesWork, HasLiveOnly, IsPiece, IsSameMemory, MayRefusePiece, SealsMemory, WritesTable, broken_by, flush_answer, work_answer};
+
+    /// Removes the files that aren't live, and then does the first of these that there is to do: writes the sealed memory table into
+    /// a table file; or seals the memory table, where it has `write_buffer` bytes, and begins a log.
+    pub fn work<S: Store>(
+        &mut self,
+        alloc: Global,
+        source: &mut Sources<K, S>,
+        options: &Options,
+    ) -> Result<Progress, DbError>
+        ensures step { (ids : Ids) (budget : ℕ) → LeadsOpen (order_of K.name K.cmp) (seen_of S.facts source.old) (seen_of S.facts source.new) ids (held source.old.memory self.old) (held source.new.memory self.new) (λ m n. Works m budget (work_answer result) n) }
+        ensures outcome { DbOutcome MayRefuseWork (S.facts source.old.tables.store) (S.facts source.new.tables.store) (held source.old.memory self.old) (held source.new.memory self.new) result }
+        ensures caused { IsCausedIn (broken_in (held source.old.memory self.old)) source.old.tables.store source.new.tables.store result }
+        ensures does { DoesWork options.now.write_buffer (held source.old.memory self.old) (held source.new.memory self.new) result }
+        // Where there is none, all files are live, unless one couldn't be removed.
+        ensures tidy { result ≡ Ok Idle → IsTrue (S.facts source.new.tables.store).faithful → (S.facts source.new.tables.store).failures ≡ (S.facts source.old.tables.store).failures → HasLiveOnly (S.facts source.new.tables.store).files (held source.new.memory self.new) }
+        ensures lock { (S.facts source.new.tables.store).held ≡ (S.facts source.old.tables.store).held }
+    {
+        if self.broken {
+            return Err(DbError::Broken);
+        }
+        let complete = self.clean(alloc, source)?;
+        match self.do_piece(alloc, source, options) {
+            Ok(progress) => Ok(progress),
+            Err(error) => Err(refusal(complete, error)),
+        }
+    }
+
+    // Removes the files that aren't live, and lets go what is kept of them. What can't be removed is left for the next time; the
+    // answer is whether nothing was.
+    fn clean<S: Store>(&self, alloc: Global, source: &mut Sources<K, S>) -> Result<bool, DbError>
+        requires whole { self.now.broken ≡ false }
+        ensures step { (ids : Ids) → LeadsOpen (order_of K.name K.cmp) (seen_of S.facts source.old) (seen_of S.facts source.new) ids (held source.old.memory self.now) (held source.new.memory self.now) (λ m n. IsPiece m 0 result n) }
+        ensures outcome { DbOutcome MayRefusePiece (S.facts source.old.tables.store) (S.facts source.new.tables.store) (held source.old.memory self.now) (held source.new.memory self.now) result }
+        ensures same { IsSame (held source.old.memory self.now) (held source.new.memory self.now) }
+        ensures memory { IsSameMemory source.old.memory source.new.memory }
+        ensures complete { IfOk result (λ complete. IsTrue complete → (S.facts source.new.tables.store).failures ≡ (S.facts source.old.tables.store).failures) }
+        ensures unfailed { IfOk result (λ complete. (S.facts source.new.tables.store).failures ≡ (S.facts source.old.tables.store).failures → IsTrue complete) }
+        ensures tidy { IsTrue (S.facts source.new.tables.store).faithful → IfOk result (λ complete. IsTrue complete → HasLiveOnly (S.facts source.new.tables.store).files (held source.new.memory self.now)) }
+        ensures lock { (S.facts source.new.tables.store).held ≡ (S.facts source.old.tables.store).held }
+    {
+        sound_lasts();
+        changes_are_kept::<K>();
+        one_directory();
+        let numbers = LiveNumbers {
+            manifest_number: self.directory.manifest.number,
+            log_number: self.directory.first_log,
+            previous_log_number: self.directory.previous_log,
+        };
+        let removal = remove_files(alloc, &mut source.tables.store, &numbers, self)?;
+        close_tables(&mut source.tables.tables, &removal.tables);
+        source.memory.drop_unused(self);
+        Ok(removal.complete)
+    }
+
+    // Does the first piece of work that there is to do.
+    fn do_piece<S: Store>(
+        &mut self,
+        alloc: Global,
+        source: &mut Sources<K, S>,
+        options: &Options,
+    ) -> Result<Progress, DbError>
+        requires whole { self.old.broken ≡ false }
+        ensures step { (ids : Ids) → LeadsOpen (order_of K.name K.cmp) (seen_of S.facts source.old) (seen_of S.facts source.new) ids (held source.old.memory self.old) (held source.new.memory self.new) (λ m n. IsPiece m 1 result n) }
+        ensures outcome { DbOutcome MayRefusePiece (S.facts source.old.tables.store) (S.facts source.new.tables.store) (held source.old.memory self.old) (held source.new.memory self.new) result }
+        ensures does { DoesWork options.now.write_buffer (held source.old.memory self.old) (held source.new.memory self.new) result }
+        ensures idle { result ≡ Ok Idle → (source.new ≡ source.old) × (self.new ≡ self.old) }
+        ensures lock { (S.facts source.new.tables.store).held ≡ (S.facts source.old.tables.store).held }
+    {
+        sound_lasts();
+        if source.memory.sealed_generation().is_some() {
+            self.flush(alloc, source, options)?;
+            return Ok(Progress::Worked);
+        }
+        if (source.memory.size() as u64) < options.write_buffer() {
+            return Ok(Progress::Idle);
+        }
+        self.seal(alloc, source)?;
+        Ok(Progress::Worked)
+    }
+
+    // Writes the sealed memory table into a table file. An empty one needs none. Where the store fails, the
+    // database is broken.
+    fn flush<S: Store>(
+        &mut self,
+        alloc: Global,
+        source: &mut Sources<K, S>,
+        options: &Options,
+    ) -> Result<(), DbError>
+        requires whole { self.old.broken ≡ false }
+        requires sealed { IsSome source.old.memory.sealed }
+        ensures step { (ids : Ids) → LeadsOpen (order_of K.name K.cmp) (seen_of S.facts source.old) (seen_of S.facts source.new) ids (held source.old.memory self.old) (held source.new.memory self.new) (λ m n. IsPiece m 1 result n) }
+        ensures outcome { DbOutcome MayRefusePiece (S.facts source.old.tables.store) (S.facts source.new.tables.store) (held source.old.memory self.old) (held source.new.memory self.new) result }
+        ensures does { OnOk result (WritesTable (held source.old.memory self.old) (held source.new.memory self.new)) }
+        ensures lock { (S.facts source.new.tables.store).held ≡ (S.facts source.old.tables.store).held }
+    {
+        sound_lasts();
+        changes_are_kept::<K>();
+        one_directory();
+        same_view();
+        source.memory.are_bounded();
+        let last_sequence = source.memory.last();
+        let Some(table) = source.memory.sealed() else {
+            unreachable!()
+        };
+        if table.is_empty() {
+            source.memory.flushed();
+            return Ok(());
+        }
+        let plan = FlushPlan {
+            log_number: self.log.number,
+            previous_log_number: self.directory.previous_log,
+            last_sequence,
+            block_bytes: options.block_bytes(),
+        };
+        match flush_memory(
+            alloc,
+            &mut source.tables.store,
+            table,
+            &self.version,
+            &self.directory.manifest,
+            &mut self.directory.numbers,
+            plan,
+        ) {
+            Ok(flushed) => {
+                self.take_flushed(flushed);
+                source.memory.flushed();
+                Ok(())
+            }
+            Err(error) => Err(self.flush_refusal(error)),
+        }
+    }
+
+    // Seals the memory table, and begins a log for what is written from now on. Where the store fails, the database is broken.
+    fn seal<S: Store>(&mut self, alloc: Global, source: &mut Sources<K, S>) -> Result<(), DbError>
+        requires whole { self.old.broken ≡ false }
+        requires unsealed { source.old.memory.sealed ≡ None }
+        ensures step { (ids : Ids) → LeadsOpen (order_of K.name K.cmp) (seen_of S.facts source.old) (seen_of S.facts source.new) ids (held source.old.memory self.old) (held source.new.memory self.new) (λ m n. IsPiece m 1 result n) }
+        ensures outcome { DbOutcome MayRefusePiece (S.facts source.old.tables.store) (S.facts source.new.tables.store) (held source.old.memory self.old) (held source.new.memory self.new) result }
+        ensures does { OnOk result (SealsMemory (held source.old.memory self.old) (held source.new.memory self.new)) }
+        ensures lock { (S.facts source.new.tables.store).held ≡ (S.facts source.old.tables.store).held }
+    {
+        sound_lasts();
+        changes_are_kept::<K>();
+        one_directory();
+        same_view();
+        source.memory.seal(alloc)?;
+        match begin_log(alloc, &mut source.tables.store, &mut self.directory.numbers) {
+            Ok((number, name)) => {
+                self.log = CurrentLog {
+                    number,
+                    name,
+                    end: 0,
+                };
+                Ok(())
+            }
+            Err(error) => {
+                source.memory.unseal();
+                Err(self.refuse(error))
+            }
+        }
+    }
+
+    // What is new after a flush.
+    fn take_flushed(&mut self, flushed: Flushed<K>)
+        ensures { self.new ≡ record self.old { version = flushed.version; directory = record self.old.directory { manifest = record self.old.directory.manifest { end = flushed.manifest_end }; first_log = self.old.log.number; previous_log = 0 } } }
+    {
+        self.version = flushed.version;
+        self.directory.manifest.end = flushed.manifest_end;
+        self.directory.first_log = self.log.number;
+        self.directory.previous_log = 0;
+    }
+
+    // How a flush that didn't come about is answered.
+    fn flush_refusal(&mut self, error: FlushError) -> DbError
+        ensures answer { result ≡ flush_answer error }
+        ensures broken { self.new ≡ broken_by self.old (flush_answer error) }
+    {
+        match error {
+            FlushError::Before(error) => self.refuse(error),
+            FlushError::Edit => self.refuse(DbError::Io),
+        }
+    }
+
+    // Where the store failed in a call that changes the directory, the database is broken.
+    fn refuse(&mut self, error: DbError) -> DbError
+        ensures answer { result ≡ error }
+        ensures broken { self.new ≡ broken_by self.old error }
+    {
+        match error {
+            DbError::Io => {
+                self.broken = true;
+                DbError::Io
+            }
+            other => other,
+        }
+    }
+}
+
+// How the refusal of a piece is answered: want of memory, where a file couldn't be removed either, as a failure of the store.
+fn refusal(complete: bool, error: DbError) -> DbError
+    ensures { result ≡ refused_as complete error }
+{
+    match error {
+        DbError::OutOfMemory if !complete => DbError::Io,
+        other => other,
+    }
+}
+
+// Closes the tables of these numbers.
+fn close_tables<K: KeyOrder>(tables: &mut TableCache<K>, numbers: &[u64])
+    ensures { ClosesTables tables.old.tables tables.new.tables numbers.now }
+{
+    for number in numbers {
+        tables.evict(*number);
+    }
+}
