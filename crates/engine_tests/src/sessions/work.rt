@@ -37,13 +37,28 @@ fn a_full_memory_table_becomes_a_table_file(rt: HostRuntime) -> Result<(), Fail>
     let mut session = eager(alloc, MemStore::new(alloc))?;
     assert_script(&rt, &mut session, FLUSHED)?;
     let mut store = session.into_store();
-    assert_names(&rt, &mut store, "000003.log;000004.ldb;CURRENT;LOCK;MANIFEST-000001;")?;
+    assert_names(
+        &rt,
+        &mut store,
+        "000003.log;000004.ldb;CURRENT;LOCK;MANIFEST-000001;",
+    )?;
     assert_file(&rt, &mut store, "000003.log", b"")?;
     assert_eq!(rt; store.len("000004.ldb")?, 176);
-    assert_eq!(rt; store.read_at(alloc, "000004.ldb", 0, 21)?.as_slice(), TABLE);
+    assert_eq!(rt;
+        store.read_at(alloc, "000004.ldb", 0, 21)?.as_slice(),
+        TABLE
+    );
     assert_eq!(rt; store.len("MANIFEST-000001")?, 79);
-    assert_eq!(rt; store.read_at(alloc, "MANIFEST-000001", 48, 31)?.as_slice(), EDIT);
-    assert!(rt; matches!(check::<Bytewise, MemStore>(alloc, &mut store)?, Report::Good(_)));
+    assert_eq!(rt;
+        store.read_at(alloc, "MANIFEST-000001", 48, 31)?.as_slice(),
+        EDIT
+    );
+    assert!(rt;
+        matches!(
+            check::<Bytewise, MemStore>(alloc, &mut store)?,
+            Report::Good(_)
+        )
+    );
     Ok(())
 }
 
@@ -60,7 +75,11 @@ fn a_flushed_directory_is_opened_again(rt: HostRuntime) -> Result<(), Fail> {
     assert_script(&rt, &mut session, FLUSHED)?;
     assert_script(&rt, &mut session, AGAIN)?;
     let mut store = session.into_store();
-    assert_names(&rt, &mut store, "000004.ldb;000006.log;CURRENT;LOCK;MANIFEST-000005;")?;
+    assert_names(
+        &rt,
+        &mut store,
+        "000004.ldb;000006.log;CURRENT;LOCK;MANIFEST-000005;",
+    )?;
     Ok(())
 }
 
@@ -112,7 +131,12 @@ fn work_keeps_what_is_seen(rt: HostRuntime) -> Result<(), Fail> {
     let mut session = eager(alloc, MemStore::new(alloc))?;
     assert_script(&rt, &mut session, VIEWS)?;
     let mut store = session.into_store();
-    assert!(rt; matches!(check::<Bytewise, MemStore>(alloc, &mut store)?, Report::Good(_)));
+    assert!(rt;
+        matches!(
+            check::<Bytewise, MemStore>(alloc, &mut store)?,
+            Report::Good(_)
+        )
+    );
     Ok(())
 }
 
@@ -168,7 +192,10 @@ fn failing(
     fault: Fault,
 ) -> Result<Session<FaultStore, Bytewise>, Fail> {
     let alloc = rt.alloc();
-    let mut counted = eager(alloc, FaultStore::new(MemStore::new(alloc), Vec::new(alloc)))?;
+    let mut counted = eager(
+        alloc,
+        FaultStore::new(MemStore::new(alloc), Vec::new(alloc)),
+    )?;
     assert_script(rt, &mut counted, script)?;
     let mut faults = Vec::new(alloc);
     faults.push((counted.store().calls().saturating_add(later), fault))?;
