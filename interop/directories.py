@@ -20,13 +20,13 @@ CHANGES = 12
 # ---- the program
 
 
-def ldbtool(verb, folder, script=None):
-    return run([LDBTOOL, verb, folder], input=script)
+def ldbtool(verb, folder, script=None, flags=()):
+    return run([LDBTOOL, verb, *flags, folder], input=script)
 
 
-def prints(verb, folder, script=None):
+def prints(verb, folder, script=None, flags=()):
     """What the program prints over a folder that it is to accept."""
-    ran = ldbtool(verb, folder, script)
+    ran = ldbtool(verb, folder, script, flags)
     want(ran.returncode == 0, f"ldbtool {verb} ended with status {ran.returncode}: {short(ran.stdout + ran.stderr)}")
     want(ran.stderr == "", f"ldbtool {verb} complained: {short(ran.stderr)}")
     return ran.stdout
@@ -261,6 +261,25 @@ def read_by_script(_room):
 def written_by_script(_room):
     for seed in SEEDS:
         want_writes(history(seed), random.Random(seed))
+
+
+@check("directories: LevelDB reads the tables that `work` wrote beside its own, and no table is left that isn't live")
+def worked(_room):
+    for seed in SEEDS:
+        chance, pairs = random.Random(seed), leveldb_reads(history(seed))
+        with tempfile.TemporaryDirectory(prefix="interop-") as room:
+            copy = copied(history(seed), room)
+            for _ in range(2):
+                more = {chance.randbytes(2).hex(): chance.randbytes(chance.randrange(1, 300)).hex() for _ in range(60)}
+                pairs.update(more)
+                script = ["open", *[f"put {key} {value}" for key, value in more.items()], *["work 9" for _ in range(5)], "close"]
+                answers = prints("run", copy, "".join(line + "\n" for line in script), ["--write-buffer", "4096"]).splitlines()
+                want(answers[-6:-1].count("worked") >= 2 and answers[-2] == "idle", f"seed {seed}: work answers {answers[-6:-1]}")
+                layout = Layout(copy)
+                want_lines(prints("check", copy), layout.report(), f"seed {seed}")
+                want_dump(layout, prints("dump", copy))
+                want(files_of(copy, ".ldb") == sorted(f"{number:06d}.ldb" for _, number in layout.tables), f"seed {seed}: a table is left")
+                want_map(leveldb_reads(copy), pairs)
 
 
 @check("directories of logs alone: a script reads what LevelDB reads, and LevelDB what it writes; so does a check, before and after")
