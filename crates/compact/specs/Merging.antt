@@ -1,5 +1,6 @@
 -- A compaction that is under way.
 use Rattle.std.specs.Prelude.{◌≡◌, ◌≤◌, ◌⊎◌, ℕ, Bool, true, false, List, [], ◌++◌, None, IsTrue, map, max, length}
+use Rattle.std.specs.List.{AllByRecursion}
 use Rattle.edits.specs.declared.field.Field.{Field}
 use Rattle.edits.specs.declared.field.TableFile.{TableFile}
 use Rattle.versions.specs.declared.plan.JobPlan.{JobPlan}
@@ -11,7 +12,7 @@ use Rattle.cursor.specs.Merging.{listed}
 use Rattle.cursor.specs.Places.{Cmp, Listed, within}
 use Rattle.ikey.specs.declared.entry.Entry.{Entry}
 use Rattle.ikey.specs.declared.internal_key.Kind.TheVariants.{Delete}
-use Rattle.ikey.specs.Entries.{InternalEntry, Pair, entry_of}
+use Rattle.ikey.specs.Entries.{InternalEntry, Pair, entry_of, value_kept, value_of}
 use Rattle.ikey.specs.Keys.{Key, IsKey}
 use Rattle.ikey.specs.Orders.{order_of}
 use Rattle.ikey.specs.Sources.{AreSorted}
@@ -31,12 +32,17 @@ IsUpTo cmp entry key = (cmp entry.key key.user ≡ Less) ⊎ ((entry.key ≡ key
 abbrev pub kept_delete : List ℕ → ℕ → InternalEntry
 kept_delete user sequence = record { key = record { user = user; sequence = sequence; kind = Delete }; value = [] }
 
+-- it has the value that says what it is: none, where it is a delete
+abbrev pub IsWellKept : InternalEntry → Type 0
+IsWellKept entry = entry.value ≡ value_kept (value_of entry.key.kind entry.value)
+
 -- These entries of the inputs came, and of them those were written that are needed. The last has this key, and none comes
 -- behind it. Each came before all that came later, whatever the name of the order is.
 pub record IsMerging (cmp : Cmp) (deep : List ℕ → Bool) (last : List ℕ) (c : Choosing) (w : Written) (facts : Facts) (next : ℕ) (came : List InternalEntry) : Type 0 where
   pub written : List Pair
   pub kept : List InternalEntry
   pub written_are : ArePairs written kept
+  pub well_kept : AllByRecursion IsWellKept kept
   pub has_written : HasWritten cmp w facts next written
   pub chooses : Chooses cmp deep c (map entry_of came) (map entry_of kept)
   pub last_is : ((came ≡ []) × (last ≡ [])) ⊎ ((entry : InternalEntry) × Among came entry × IsKey last entry.key)
@@ -83,6 +89,10 @@ pub record IsSlice (budget : ℕ) (progress : Progress) (front back : List Inter
   pub most : progress.merged ≤ max budget 1
   pub ended : progress.ended ≡ true → back ≡ []
   pub going_on : progress.ended ≡ false → (progress.merged ≡ max budget 1) × (back ≡ [] → ⊥)
+
+-- what it reads of the source passes a limit of reading
+abbrev pub IsLimited : {K C H : Type 0} → (C → H → Type 0) → Job K C → H → Type 0
+IsLimited limited job source = limited job.cursor source
 
 -- All that came was merged into these tables, and the edit puts them in the place of the inputs.
 abbrev pub IsFinished : Cmp → (List ℕ → Bool) → JobPlan → List ℕ → Choosing → Facts → ℕ → ℕ → List InternalEntry → List Field → Type 0
