@@ -1,7 +1,7 @@
 -- How much room what was kept needs, beside what came.
 use Rattle.std.proofs.Common.{◌≡◌, ◌<◌, ◌≤◌, ◌+◌, ◌^◌, ℕ, Bool, Option, Some, List, [], ◌∷◌, ◌++◌, map, take, drop, get_or, length, inl, inr, refl, sym, ap, subst, ◌∙◌, arith}
 use Rattle.std.specs.List.{AllByRecursion, flat_map}
-use Rattle.std.proofs.lemmas.List.{append_assoc, map-append, length-append, take_more, take-append-drop}
+use Rattle.std.proofs.lemmas.List.{map-append, length-append, take_more, take-append-drop}
 use Rattle.std.specs.declared.cmp.Ordering.{Ordering}
 use Rattle.coding.specs.Fixed.{fixed64}
 use Rattle.ikey.specs.declared.entry.Entry.{Entry}

@@ -59,25 +59,33 @@ HaveOwnSequences entries = (entry other : InternalEntry) → Among entries entry
 abbrev pub HasPassed : {C H : Type 0} → (C → H → Listed → Type 0) → C → H → List InternalEntry → List InternalEntry → Type 0
 HasPassed lists cursor source came rest = lists cursor source (listed (came ++ rest) (within (came ++ rest) (length came)))
 
--- what changes no file but those of tables with such numbers keeps what the cursor reads
-abbrev pub ReadsApart : {C H S : Type 0} → (S → Facts) → (H → S) → (H → S → H) → (C → H → H → Type 0) → C → (ℕ → Type 0) → Type 0
-ReadsApart {C} {H} {S} facts store_of with_store keeps cursor mine =
-    (source : H) (store : S) → IsTrue (facts store).faithful → WritesTables (facts (store_of source)) (facts store) mine → keeps cursor source (with_store source store)
+-- no number is both
+abbrev pub AreDisjoint : (ℕ → Type 0) → (ℕ → Type 0) → Type 0
+AreDisjoint first second = (number : ℕ) → first number → second number → ⊥
+
+-- What changes no file but those of tables with such numbers, of which the source keeps nothing beside its store, keeps what
+-- the cursor reads.
+abbrev pub ReadsApart : {C H S : Type 0} → (S → Facts) → (H → S) → (H → S → H) → (H → ℕ → Type 0) → (C → H → H → Type 0) → C → (ℕ → Type 0) → Type 0
+ReadsApart {C} {H} {S} facts store_of with_store gathers keeps cursor mine =
+    (source : H) (store : S) → IsTrue (facts store).faithful
+    → WritesTables (facts (store_of source)) (facts store) (λ (number : ℕ). mine number × (gathers source number → ⊥)) → keeps cursor source (with_store source store)
 
 -- ---- both
 
 -- These entries came to the job, and those are left: what is needed of the former is written, and what is to be written
--- is nothing that is read.
-pub record IsJob {C H S : Type 0} (cmp : Cmp) (deep : List ℕ → Bool) (facts : S → Facts) (store_of : H → S) (with_store : H → S → H) (lists : C → H → Listed → Type 0) (keeps : C → H → H → Type 0)
+-- is nothing that is read, or that is kept of a table beside the store.
+pub record IsJob {C H S : Type 0} (cmp : Cmp) (deep : List ℕ → Bool) (facts : S → Facts) (store_of : H → S) (with_store : H → S → H) (gathers : H → ℕ → Type 0) (lists : C → H → Listed → Type 0) (keeps : C → H → H → Type 0) (over : C → ℕ → Type 0)
     (last : List ℕ) (cursor : C) (c : Choosing) (w : Written) (source : H) (next : ℕ) (came rest : List InternalEntry) : Type 0 where
   pub merging : IsMerging cmp deep last c w (facts (store_of source)) next came
   pub left : HasPassed lists cursor source came rest
-  pub apart : ReadsApart facts store_of with_store keeps cursor (IsMine w next)
+  pub apart : ReadsApart facts store_of with_store gathers keeps cursor (IsMine w next)
+  pub ungathered : AreDisjoint (gathers source) (IsMine w next)
+  pub outside : AreDisjoint (over cursor) (IsMine w next)
 
 -- the same of a job as its fields have it
-abbrev pub IsBetween : {K C H S : Type 0} → Cmp → (List ℕ → Bool) → (S → Facts) → (H → S) → (H → S → H) → (C → H → Listed → Type 0) → (C → H → H → Type 0) → Job K C → H → ℕ → List InternalEntry → List InternalEntry → Type 0
-IsBetween cmp deep facts store_of with_store lists keeps job source next came rest =
-    IsJob cmp deep facts store_of with_store lists keeps job.last.items job.cursor job.selection job.outputs source next came rest
+abbrev pub IsBetween : {K C H S : Type 0} → Cmp → (List ℕ → Bool) → (S → Facts) → (H → S) → (H → S → H) → (H → ℕ → Type 0) → (C → H → Listed → Type 0) → (C → H → H → Type 0) → (C → ℕ → Type 0) → Job K C → H → ℕ → List InternalEntry → List InternalEntry → Type 0
+IsBetween cmp deep facts store_of with_store gathers lists keeps over job source next came rest =
+    IsJob cmp deep facts store_of with_store gathers lists keeps over job.last.items job.cursor job.selection job.outputs source next came rest
 
 -- what a call leaves to be written may have been written before
 abbrev pub KeepsMine : Written → ℕ → Written → ℕ → Type 0

@@ -55,7 +55,7 @@ impl<K: KeyOrder, C: Drop> Job<K, C> {
     ghost use Rattle.edits.specs.Edit.{IsProper, IsInOrder};
     ghost use Rattle.cursor.specs.Places.{Listed};
     ghost use Rattle.ikey.specs.Entries.{InternalEntry, entry_of};
-    ghost use Rattle.compact.specs.Merging.{IsBetween, IsLimited, IsMerging, IsSlice, IsFinished, KeepsMine, ReadsApart, HaveOwnSequences};
+    ghost use Rattle.compact.specs.Merging.{IsBetween, IsLimited, IsMerging, IsSlice, IsFinished, KeepsMine, ReadsApart, AreDisjoint, HaveOwnSequences};
     ghost use Rattle.compact.specs.JobEdits.{IsPlanProper, IsOwnIn};
     ghost use Rattle.compact.specs.Outputs.{AreNumbered, IsMine, IsNumberAtHand, IsOwn, NumbersOn, WritesTables, RefusesEntry};
     ghost use Rattle.compact.specs.Rooms.{AreLarge};
@@ -76,6 +76,7 @@ impl<K: KeyOrder, C: Drop> Job<K, C> {
         C: Cursor<K, H>,
         requires rising { IsNonDecreasing snapshots.now }
         requires facts { (held : H) → C.facts held ≡ S.facts (H.store_of held) }
+        requires gathers { (reader : C) (before after : H) → C.leaves (C.over reader) before after → (number : ℕ) → H.gathers after number → H.gathers before number ⊎ C.over reader number }
         ensures plan { IfOk result (λ job. job.plan ≡ plan) }
         ensures snapshots { IfOk result (λ job. job.selection.snapshots ≡ snapshots.now) }
         ensures written { IfOk result (λ job. job.outputs ≡ record { closed = []; at_hand = None }) }
@@ -85,8 +86,9 @@ impl<K: KeyOrder, C: Drop> Job<K, C> {
         ensures refused { IfErr result (λ e. RefusesEntry e (S.facts (H.store_of source.old)) (S.facts (H.store_of source.new))
             (IsTrue (S.facts (H.store_of source.new)).faithful → ListsNone C.lists cursor source.old) (IsTrue (S.facts (H.store_of source.new)).faithful → ListsNone C.lists cursor source.old ⊎ C.limited cursor source.old) ⊥) }
         ensures started { IfOk result (λ job. (deep : List ℕ → Bool) (next : ℕ) (at : Listed) → IsTrue (S.facts (H.store_of source.new)).faithful
-            → C.lists cursor source.old at → ReadsApart S.facts H.store_of H.with_store C.keeps cursor (λ number. next ≤ number)
-            → IsBetween K.cmp deep S.facts H.store_of H.with_store C.lists C.keeps job source.new next [] at.entries) }
+            → C.lists cursor source.old at → ReadsApart S.facts H.store_of H.with_store H.gathers C.keeps cursor (λ number. next ≤ number)
+            → AreDisjoint (H.gathers source.old) (λ number. next ≤ number) → AreDisjoint (C.over cursor) (λ number. next ≤ number)
+            → IsBetween K.cmp deep S.facts H.store_of H.with_store H.gathers C.lists C.keeps C.over job source.new next [] at.entries) }
     {
         let mut cursor = cursor;
         let selection = Selection::new(alloc, snapshots)?;
@@ -116,6 +118,7 @@ impl<K: KeyOrder, C: Drop> Job<K, C> {
     where
         C: Cursor<K, H>,
         requires facts { (held : H) → C.facts held ≡ S.facts (H.store_of held) }
+        requires gathers { (reader : C) (before after : H) → C.leaves (C.over reader) before after → (number : ℕ) → H.gathers after number → H.gathers before number ⊎ C.over reader number }
         ensures numbers { numbers.old.next ≤ numbers.new.next }
         ensures drawn { numbers.new.next ≤ numbers.old.next + max budget 1 }
         ensures drawn_merged { IfOk result (λ progress. numbers.new.next ≤ numbers.old.next + progress.merged) }
@@ -127,18 +130,18 @@ impl<K: KeyOrder, C: Drop> Job<K, C> {
         ensures stood { OnOk result ((S.facts (H.store_of source.new)).failures ≡ (S.facts (H.store_of source.old)).failures) }
         ensures refused { IfErr result (λ e. RefusesEntry e (S.facts (H.store_of source.old)) (S.facts (H.store_of source.new))
             (IsTrue (S.facts (H.store_of source.new)).faithful → (came : List InternalEntry) (rest : List InternalEntry)
-            → IsBetween K.cmp (D.covers deeper.now) S.facts H.store_of H.with_store C.lists C.keeps self.old source.old numbers.old.next came rest → HaveOwnSequences (came ++ rest) → ⊥)
+            → IsBetween K.cmp (D.covers deeper.now) S.facts H.store_of H.with_store H.gathers C.lists C.keeps C.over self.old source.old numbers.old.next came rest → HaveOwnSequences (came ++ rest) → ⊥)
             (IsTrue (S.facts (H.store_of source.new)).faithful → (came : List InternalEntry) (rest : List InternalEntry)
-            → IsBetween K.cmp (D.covers deeper.now) S.facts H.store_of H.with_store C.lists C.keeps self.old source.old numbers.old.next came rest
+            → IsBetween K.cmp (D.covers deeper.now) S.facts H.store_of H.with_store H.gathers C.lists C.keeps C.over self.old source.old numbers.old.next came rest
             → IsLimited C.limited self.old source.old ⊎ AreLarge (map entry_of (came ++ rest)))
             (2 ^ 62 ≤ numbers.new.next)) }
         ensures limits { OnOk result ((came : List InternalEntry) (rest : List InternalEntry) → IsTrue (S.facts (H.store_of source.new)).faithful
-            → IsBetween K.cmp (D.covers deeper.now) S.facts H.store_of H.with_store C.lists C.keeps self.old source.old numbers.old.next came rest
+            → IsBetween K.cmp (D.covers deeper.now) S.facts H.store_of H.with_store H.gathers C.lists C.keeps C.over self.old source.old numbers.old.next came rest
             → IsLimited C.limited self.new source.new → IsLimited C.limited self.old source.old) }
         ensures sliced { IfOk result (λ progress. (came : List InternalEntry) (rest : List InternalEntry) → IsTrue (S.facts (H.store_of source.new)).faithful
-            → IsBetween K.cmp (D.covers deeper.now) S.facts H.store_of H.with_store C.lists C.keeps self.old source.old numbers.old.next came rest
+            → IsBetween K.cmp (D.covers deeper.now) S.facts H.store_of H.with_store H.gathers C.lists C.keeps C.over self.old source.old numbers.old.next came rest
             → (front : List InternalEntry) × (back : List InternalEntry) × (rest ≡ front ++ back) × IsSlice budget progress front back
-            × IsBetween K.cmp (D.covers deeper.now) S.facts H.store_of H.with_store C.lists C.keeps self.new source.new numbers.new.next (came ++ front) back) }
+            × IsBetween K.cmp (D.covers deeper.now) S.facts H.store_of H.with_store H.gathers C.lists C.keeps C.over self.new source.new numbers.new.next (came ++ front) back) }
     {
         for merged in 0..budget.max(1) {
             if !self.cursor.stands() {
@@ -207,6 +210,7 @@ impl<K: KeyOrder, C: Drop> Job<K, C> {
     where
         C: Cursor<K, H>,
         requires facts { (held : H) → C.facts held ≡ S.facts (H.store_of held) }
+        requires gathers { (reader : C) (before after : H) → C.leaves (C.over reader) before after → (number : ℕ) → H.gathers after number → H.gathers before number ⊎ C.over reader number }
         requires stands { IsTrue (C.stands self.old.cursor) }
         ensures numbers { numbers.old.next ≤ numbers.new.next }
         ensures drawn { numbers.new.next ≤ numbers.old.next + 1 }
@@ -218,17 +222,17 @@ impl<K: KeyOrder, C: Drop> Job<K, C> {
         ensures stood { OnOk result ((S.facts (H.store_of source.new)).failures ≡ (S.facts (H.store_of source.old)).failures) }
         ensures refused { IfErr result (λ e. RefusesEntry e (S.facts (H.store_of source.old)) (S.facts (H.store_of source.new))
             (IsTrue (S.facts (H.store_of source.new)).faithful → (came : List InternalEntry) (entry : InternalEntry) (rest : List InternalEntry)
-            → IsBetween K.cmp (D.covers deeper.now) S.facts H.store_of H.with_store C.lists C.keeps self.old source.old numbers.old.next came (entry ∷ rest) → HaveOwnSequences (came ++ entry ∷ rest) → ⊥)
+            → IsBetween K.cmp (D.covers deeper.now) S.facts H.store_of H.with_store H.gathers C.lists C.keeps C.over self.old source.old numbers.old.next came (entry ∷ rest) → HaveOwnSequences (came ++ entry ∷ rest) → ⊥)
             (IsTrue (S.facts (H.store_of source.new)).faithful → (came : List InternalEntry) (entry : InternalEntry) (rest : List InternalEntry)
-            → IsBetween K.cmp (D.covers deeper.now) S.facts H.store_of H.with_store C.lists C.keeps self.old source.old numbers.old.next came (entry ∷ rest)
+            → IsBetween K.cmp (D.covers deeper.now) S.facts H.store_of H.with_store H.gathers C.lists C.keeps C.over self.old source.old numbers.old.next came (entry ∷ rest)
             → IsLimited C.limited self.old source.old ⊎ AreLarge (map entry_of (came ++ entry ∷ rest)))
             (2 ^ 62 ≤ numbers.new.next)) }
         ensures limits { OnOk result ((came : List InternalEntry) (entry : InternalEntry) (rest : List InternalEntry) → IsTrue (S.facts (H.store_of source.new)).faithful
-            → IsBetween K.cmp (D.covers deeper.now) S.facts H.store_of H.with_store C.lists C.keeps self.old source.old numbers.old.next came (entry ∷ rest)
+            → IsBetween K.cmp (D.covers deeper.now) S.facts H.store_of H.with_store H.gathers C.lists C.keeps C.over self.old source.old numbers.old.next came (entry ∷ rest)
             → IsLimited C.limited self.new source.new → IsLimited C.limited self.old source.old) }
         ensures merged { OnOk result ((came : List InternalEntry) (entry : InternalEntry) (rest : List InternalEntry) → IsTrue (S.facts (H.store_of source.new)).faithful
-            → IsBetween K.cmp (D.covers deeper.now) S.facts H.store_of H.with_store C.lists C.keeps self.old source.old numbers.old.next came (entry ∷ rest)
-            → IsBetween K.cmp (D.covers deeper.now) S.facts H.store_of H.with_store C.lists C.keeps self.new source.new numbers.new.next (came ++ entry ∷ []) rest) }
+            → IsBetween K.cmp (D.covers deeper.now) S.facts H.store_of H.with_store H.gathers C.lists C.keeps C.over self.old source.old numbers.old.next came (entry ∷ rest)
+            → IsBetween K.cmp (D.covers deeper.now) S.facts H.store_of H.with_store H.gathers C.lists C.keeps C.over self.new source.new numbers.new.next (came ++ entry ∷ []) rest) }
     {
         let bytes = self.cursor.key(source);
         if !comes_behind::<K>(self.last.as_slice(), bytes) {

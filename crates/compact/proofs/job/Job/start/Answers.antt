@@ -14,11 +14,11 @@ returns-in_err-first-clause-refused g c =
     (c.requires.facts c.args.source.now) (c.requires.facts c.first.new.source) c.in_err-first.ensures.still c.in_err-first.ensures.refused)
 
 pub returns-clause-started : goal.returns-clause-started
-returns-clause-started g c = λ deep next at t h apart.
-    starts g.K.KeyOrder.cmp deep g.S.Store.facts g.H.HasStore.store_of g.H.HasStore.with_store g.C.Cursor.facts g.C.Cursor.lists g.C.Cursor.keeps g.C.Cursor.limited g.C.Cursor.leaves g.C.Cursor.over
-    c.requires.facts c.new-2.result.items c.args.cursor c.first.new.self c.in_ok-selection.selection c.new-4.result c.args.source.now c.first.new.source next at c.new-4.ensures.empty c.new-2.ensures.items
+returns-clause-started g c = λ deep next at t h apart ungathered outside.
+    starts g.K.KeyOrder.cmp deep g.S.Store.facts g.H.HasStore.store_of g.H.HasStore.with_store g.H.HasStore.gathers g.C.Cursor.facts g.C.Cursor.lists g.C.Cursor.keeps g.C.Cursor.limited g.C.Cursor.leaves g.C.Cursor.over
+    c.requires.facts c.requires.gathers c.new-2.result.items c.args.cursor c.first.new.self c.in_ok-selection.selection c.new-4.result c.args.source.now c.first.new.source next at c.new-4.ensures.empty c.new-2.ensures.items
     (c.in_ok-selection.ensures.none g.K.KeyOrder.cmp deep) (c.new-4.ensures.none (g.S.Store.facts (g.H.HasStore.store_of c.first.new.source)) next)
-    c.in_ok-first.ensures.moves c.in_ok-first.ensures.stays t h apart
+    c.in_ok-first.ensures.moves c.in_ok-first.ensures.stays t h apart ungathered outside
 
 pub returns-clause-stood : goal.returns-clause-stood
 returns-clause-stood g c =
