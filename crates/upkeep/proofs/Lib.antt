@@ -16,6 +16,7 @@ pub mod NewLogFiles
 pub mod NewVersions
 pub mod PlanParts
 pub mod PlansClosed
+pub mod PlansKept
 pub mod PlansMade
 pub mod Ranks
 pub mod Sizes

@@ -1,5 +1,5 @@
 -- The inputs of a plan for a level bring no further table along.
-use Rattle.std.proofs.Common.{◌≡◌, ◌⊎◌, ◌==◌, ◌||◌, inl, inr, ◌+◌, ◌<◌, ℕ, zero, suc, Bool, true, false, List, length, get_or, refl, sym, ap, ◌∙◌, subst, arith, filter, All, AllPairs, Any, Contains}
+use Rattle.std.proofs.Common.{◌≡◌, ◌⊎◌, ◌==◌, ◌||◌, inl, inr, ◌+◌, ◌<◌, ℕ, zero, suc, Bool, true, false, List, get_or, refl, sym, ap, ◌∙◌, subst, arith, filter, All, AllPairs, Any, Contains}
 use Rattle.std.proofs.lemmas.Bool.{cases_lt, or_cases, eq-eqb, eqb-true, false≢true}
 use Rattle.std.proofs.lemmas.List.{get_or_default}
 use Rattle.std.proofs.lemmas.List.Elements.{All-contains}
@@ -20,7 +20,7 @@ use Rattle.ikey.specs.Orders.{Order}
 use Rattle.store.specs.Files.{Files}
 use Rattle.recover.specs.Tables.{TableContent, HasTable, InTables}
 use Rattle.recover.specs.Directory.{Directory, IsConsistent}
-use Rattle.recover.specs.Changes.{AreParted, HasLowerKeys, IsClosed}
+use Rattle.recover.specs.Changes.{AreParted, HasLowerKeys}
 use Rattle.recover.proofs.Flushing.{kept_by}
 use Rattle.recover.proofs.Memberships.{from_chosen, from_rest, one_of_tables}
 use Rattle.recover.proofs.TableFacts.{key_is, fits_of}
@@ -28,7 +28,7 @@ use Rattle.versions.specs.declared.plan.JobPlan.{JobPlan}
 use Rattle.versions.specs.Levels.{Lists, AreInOrder, IsBefore, IsFirstAt, tables_at}
 use Rattle.versions.specs.Plans.{CompactsLevel, IsBrought, IsLeastClosed}
 use Rattle.versions.specs.Plans as plans
-use Rattle.versions.specs.Ranges.{first_user, last_user, is_up_to, SharesBoundary, MeetsAll}
+use Rattle.versions.specs.Ranges.{first_user, last_user, is_up_to, SharesBoundary}
 use Rattle.ikey.specs.Below.{IsBelowInternal}
 use Rattle.versions.proofs.Closures.{of_level}
 use Rattle.versions.proofs.Keys.{true_or_false, up_both, user_of_key, below_up}

@@ -1,5 +1,5 @@
 -- What each plan takes of the tables of a directory.
-use Rattle.std.proofs.Common.{◌≡◌, ◌⊎◌, inl, inr, ◌+◌, ◌<◌, ◌≤◌, ◌^◌, ℕ, zero, suc, Bool, true, false, Option, Some, None, MatchOption, IsTrue, List, [], ◌∷◌, length, refl, sym, ap, ◌∙◌, subst, arith, All, Any, Contains}
+use Rattle.std.proofs.Common.{◌≡◌, inl, inr, ◌+◌, ◌<◌, ◌^◌, ℕ, zero, suc, Bool, true, Option, None, MatchOption, List, [], ◌∷◌, length, refl, sym, ap, ◌∙◌, subst, arith, All, Contains}
 use Rattle.std.proofs.lemmas.List.Elements.{All-contains, All-contains_itself}
 use Rattle.std.specs.Cmp.{IsTotalOrder}
 use Rattle.std.specs.FinMap.{IsAntisymmetric}
@@ -10,7 +10,6 @@ use Rattle.edits.proofs.Orders.{unused}
 use Rattle.edits.specs.Layout.{is_used}
 use Rattle.edits.specs.Snapshot.{AreInPlace, IsKept, IsPlacedProper}
 use Rattle.edits.specs.declared.field.PlacedTable.{PlacedTable}
-use Rattle.ikey.specs.declared.entry.Entry.{Entry}
 use Rattle.ikey.specs.Orders.{Order}
 use Rattle.ikey.specs.Views.{Among}
 use Rattle.store.specs.Files.{Files}

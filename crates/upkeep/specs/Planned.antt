@@ -1,5 +1,5 @@
 -- What a plan takes of the tables of a directory, from its beginning on until its job is done.
-use Rattle.std.specs.Prelude.{◌≡◌, ◌<◌, ℕ, Bool, List, ◌++◌, map}
+use Rattle.std.specs.Prelude.{◌<◌, ℕ, Bool, List, ◌++◌, map}
 use Rattle.std.specs.Cmp.{IsTotalOrder}
 use Rattle.std.specs.FinMap.{IsAntisymmetric}
 use Rattle.std.specs.List.Sorted.{IsPermutation}
@@ -9,13 +9,14 @@ use Rattle.ikey.specs.Orders.{Order}
 use Rattle.ikey.specs.Views.{Among}
 use Rattle.store.specs.Files.{Files}
 use Rattle.edits.specs.declared.field.PlacedTable.{PlacedTable}
+use Rattle.edits.specs.declared.layout.Layout.{Layout}
 use Rattle.versions.specs.declared.plan.JobPlan.{JobPlan}
 use Rattle.versions.specs.Levels.{Lists, AreInOrder}
 use Rattle.versions.specs.Plans.{CompactsLevel, IsPlanOf}
 use Rattle.recover.specs.Tables.{TableContent, tabled}
 use Rattle.recover.specs.Directory.{Directory, IsConsistent}
-use Rattle.recover.specs.Changes.{AreParted, MayReplace, IsClosed, AreDistinct}
-use Rattle.recover.specs.Logs.{logged}
+use Rattle.recover.specs.Changes.{AreParted, MayReplace, IsClosed, IsFlush, AreDistinct, with_content}
+use Rattle.recover.specs.Logs.{LogContent, logged}
 use Rattle.compact.specs.Deeper.{is_covered_below}
 use Rattle.compact.specs.JobEdits.{IsPlanProper}
 use Rattle.compact.specs.Laws.{AreApart}
@@ -46,6 +47,13 @@ abbrev pub ClosedPlanLaw : Type 0
 ClosedPlanLaw = (order : Order) (files : Files) (d : Directory) (tables : List PlacedTable) (plan : JobPlan) (inputs rest : List TableContent) → IsTotalOrder order.cmp → IsAntisymmetric order.cmp
     → IsConsistent order files d → Lists (placed_in d.tables) tables → AreInOrder order.cmp tables → (c : CompactsLevel order.cmp tables plan)
     → AreParted d.tables inputs rest → IsPermutation plan.inputs.items (placed_in inputs) → IsClosed order inputs rest c.level
+
+-- A table that a flush puts in meanwhile is one of the rest. Nothing else that is written while the job is under way changes
+-- the tables.
+abbrev pub FlushedPlanLaw : Type 0
+FlushedPlanLaw = (order : Order) (files : Files) (deep : List ℕ → Bool) (plan : JobPlan) (d : Directory) (next : Layout) (content : TableContent) (sealed : List LogContent) (current : LogContent) (inputs rest : List TableContent)
+    → IsConsistent order files d → IsFlush d next content sealed current → IsPlanned order deep plan d.tables inputs rest
+    → IsPlanned order deep plan (with_content content d.tables) inputs (with_content content rest)
 
 -- Whatever is logged by then, is newer than the inputs.
 abbrev pub PlannedApartLaw : Type 0

@@ -21,5 +21,7 @@ pub use flush_edits::flush_edit;
 pub use level0::write_level0;
 pub use log_file::begin_log;
 pub use manifest::{CurrentManifest, append_edit};
-pub use planned::{closed_plan_law, own_sequences_law, planned_apart_law, planned_law};
+pub use planned::{
+    closed_plan_law, flushed_plan_law, own_sequences_law, planned_apart_law, planned_law,
+};
 pub use removal::{LiveTables, Removal, remove_files};
