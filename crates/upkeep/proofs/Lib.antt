@@ -14,6 +14,10 @@ pub mod Made
 pub mod Meaning
 pub mod NewLogFiles
 pub mod NewVersions
+pub mod PlanParts
+pub mod PlansClosed
+pub mod PlansKept
+pub mod PlansMade
 pub mod Ranks
 pub mod Sizes
 pub mod StoreCalls

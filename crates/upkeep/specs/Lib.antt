@@ -5,4 +5,5 @@ pub mod FlushEdits
 pub mod Level0
 pub mod LogFile
 pub mod Manifest
+pub mod Planned
 pub mod Removal

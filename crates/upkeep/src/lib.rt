@@ -9,6 +9,7 @@ mod flush_edits;
 mod level0;
 mod log_file;
 mod manifest;
+mod planned;
 mod removal;
 
 pub use compaction_edits::{
@@ -20,4 +21,7 @@ pub use flush_edits::flush_edit;
 pub use level0::write_level0;
 pub use log_file::begin_log;
 pub use manifest::{CurrentManifest, append_edit};
+pub use planned::{
+    closed_plan_law, flushed_plan_law, own_sequences_law, planned_apart_law, planned_law,
+};
 pub use removal::{LiveTables, Removal, remove_files};
