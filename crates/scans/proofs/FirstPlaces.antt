@@ -1,28 +1,21 @@
 -- A new scan goes over the pairs of the view.
-use Rattle.std.proofs.Common.{◌≡◌, ◌⊎◌, ◌↔◌, ◌++◌, ◌≤◌, ℕ, Bool, false, Option, Some, None, List, ◌∷◌, map, refl, sym, ap, ◌∙◌, subst, inl, inr, arith}
-use Rattle.std.specs.Prelude.{slice_get}
+use Rattle.std.proofs.Common.{◌≡◌, ◌⊎◌, ◌↔◌, ◌++◌, ◌≤◌, ℕ, Bool, false, Option, Some, None, List, ◌∷◌, map, refl, sym, ◌∙◌, subst, inl, inr, arith}
 use Rattle.std.specs.List.{AllByRecursion}
 use Rattle.std.specs.Cmp.{IsTotalOrder}
 use Rattle.std.specs.FinMap.{get}
-use Rattle.std.specs.Option.{option_map}
-use Rattle.std.proofs.lemmas.Option.{slice_get-map}
 use Rattle.cursor.specs.declared.child.Child.{Child}
 use Rattle.cursor.specs.declared.child.Side.TheVariants.{Astray}
 use Rattle.cursor.specs.Merging.{IsMerge, IsUnion, listed}
 use Rattle.cursor.specs.Places.{Rises}
-use Rattle.cursor.specs.Sharing.{ShareNoKey}
 use Rattle.cursor.specs.Views.{HasPair, IsViewList}
 use Rattle.cursor.specs.Walks.{IsPlacedWalk, walked}
 use Rattle.edits.specs.declared.field.PlacedTable.{PlacedTable}
 use Rattle.ikey.specs.declared.entry.Entry.{Entry}
 use Rattle.ikey.specs.Entries.{InternalEntry, Pair, entry_of}
 use Rattle.ikey.specs.Orders.{Order}
-use Rattle.ikey.specs.Sources.{AreInRow, AreSearched, IsNewerThan, joined}
+use Rattle.ikey.specs.Sources.{AreSearched, IsNewerThan, joined}
 use Rattle.ikey.specs.Views.{Among, Contents, IsView}
 use Rattle.ikey.proofs.SearchedSources as sources
-use Rattle.recover.specs.Tables.{TableContent, HasTables}
-use Rattle.rows.specs.declared.row_cursor.RowCursor.{RowCursor}
-use Rattle.rows.specs.Rows.{ListsRow, rows_tables}
 use Rattle.scans.specs.declared.scan.Scan.{Scan}
 use Rattle.scans.specs.declared.source_cursor.SourceCursor.{SourceCursor}
 use Rattle.scans.specs.Pairs.{listed_pair, tuple_of}
@@ -33,16 +26,14 @@ use Rattle.memtable.specs.Contents.{Contents as MemoryContents}
 use Rattle.scans.specs.Rows.{IsOneOf, memory_spots, place_in, spot_of, spots_of}
 use Rattle.scans.specs.Scans.{BeginsScan, IsOnePastLimit, ListsMerged, reads_memory, reads_table, tables_of}
 use Rattle.scans.specs.Whole.{Whole}
-use Rattle.scans.proofs.Joining.{all_entries, entries_of, seen_from, seen_has, share_none, union_from, union_has, view_up_to}
-use Rattle.scans.proofs.NewScans.{IsNew, all_at, all_listed, all_new, all_rise, in_front, keeps_new, levels_rise, limited_new, merged, seen_current, seen_sealed, two_has}
+use Rattle.scans.proofs.Joining.{all_entries, entries_of, seen_from, seen_has, union_from, union_has, view_up_to}
+use Rattle.scans.proofs.NewScans.{HaveUnions, IsNew, RowsBegin, all_limited, all_listed, all_new, cursors_of, in_front, keeps_new, merge_begun, new_at, seen_current, seen_sealed}
 use Rattle.scans.proofs.ReadTables.{new_there, sealed_none}
-use Rattle.scans.proofs.Slices.{IsRow, Kept, all_ranges, all_rows, entries_in, kept_joined, kept_searched, kept_sources, placed_of}
+use Rattle.scans.proofs.Slices.{all_ranges}
 use Rattle.scans.proofs.ViewPairs.{listed_again, pairs_of_view}
-use Rattle.search.specs.Places.{lists_of, table_sources}
-use Rattle.search.proofs.Orders.{ForTwo, for_two}
+use Rattle.search.specs.Places.{table_sources}
 use Rattle.sources.specs.Memory.{seen_entries}
-use Rattle.sources.specs.Tables.{Seen, IsSound}
-use Rattle.versions.specs.Levels.{AreInOrder, IsBefore}
+use Rattle.versions.specs.Levels.{AreInOrder}
 
 -- of three lists, the one in the middle taken out
 split_three : (xs ys zs : List Entry) (e : Entry) → Among ((xs ++ ys) ++ zs) e → Among ys e ⊎ Among (xs ++ zs) e
@@ -58,11 +49,10 @@ join_three xs ys zs e m = elim (sources.among_split xs zs e m) [
 ]
 
 module _ {K : Type 0} {g : _} (order : Order) (total : IsTotalOrder order.cmp)
-    (unions : (lists : List (List InternalEntry)) → ((i : ℕ) (list : List InternalEntry) → slice_get lists i ≡ Some list → Rises order.cmp list) → ShareNoKey lists → (union : List InternalEntry) × IsUnion order.cmp lists union)
+    (unions : HaveUnions order.cmp)
     (each : (entries : List InternalEntry) (sequence : ℕ) → Rises order.cmp entries → (pairs : List Pair) × IsViewList order.cmp entries sequence pairs)
     (agree : (entries : List InternalEntry) (sequence : ℕ) (pairs : List Pair) (view : Contents) → IsViewList order.cmp entries sequence pairs → IsView (map entry_of entries) sequence view → (pair : Pair) → HasPair pairs pair ↔ (get view pair.key ≡ Some pair.value))
-    (begins : (source : Seen) (row : List TableContent) → IsSound order.cmp source → HasTables order source.facts.files row → AreInRow order (lists_of row)
-    → (entries : List InternalEntry) × (map entry_of entries ≡ joined (lists_of row)) × ((cursor : RowCursor K g) → rows_tables cursor ≡ placed_of row → cursor.here ≡ None → ListsRow order.cmp source cursor (listed entries None)))
+    (begins : RowsBegin K g order)
     (whole : Whole) (tables : List PlacedTable) (in_order : AreInOrder order.cmp tables) (scan : Scan K g) (up_to sequence : ℕ)
     (same : scan.walk.sequence ≡ up_to) (off : scan.walk.stands ≡ false) (nowhere : scan.walk.cursor.current ≡ None)
     (astray : AllByRecursion (λ (child : Child (SourceCursor K g)). child.side ≡ Astray) scan.walk.cursor.children.items)
@@ -75,7 +65,7 @@ module _ {K : Type 0} {g : _} (order : Order) (total : IsTotalOrder order.cmp)
   children = scan.walk.cursor.children.items
 
   abbrev cursors : List (SourceCursor K g)
-  cursors = map (λ (child : Child (SourceCursor K g)). child.cursor) children
+  cursors = cursors_of children
 
   abbrev current : List InternalEntry
   current = seen_current order.cmp whole.memory up_to
@@ -85,9 +75,6 @@ module _ {K : Type 0} {g : _} (order : Order) (total : IsTotalOrder order.cmp)
 
   abbrev behind : Option ℕ → List (List InternalEntry) → List (List InternalEntry)
   behind o lists = in_front order.cmp whole.memory up_to o lists
-
-  cursor_at : (i : ℕ) (child : Child (SourceCursor K g)) → slice_get children i ≡ Some child → slice_get cursors i ≡ Some child.cursor
-  cursor_at i child is = slice_get-map (λ (c : Child (SourceCursor K g)). c.cursor) children i ∙ ap (option_map (λ (c : Child (SourceCursor K g)). c.cursor)) is
 
   news : AllByRecursion (IsNew (reads_memory scan) scan.walk.sequence tables) cursors
   news = all_new scan.generation scan.sealed scan.walk.sequence tables (all_ranges tables) cursors (spots ∙ (λ i. memory_spots (sym same i) (sym generation i) (sym sealed i) ++ spots_of tables (all_ranges tables)))
@@ -157,37 +144,28 @@ module _ {K : Type 0} {g : _} (order : Order) (total : IsTotalOrder order.cmp)
 
   pub begins_scan : (sequence ≤ whole.memory.last → up_to ≡ sequence) → BeginsScan order tables sequence whole scan
   begins_scan least contents view below sound has newer seen_view =
-      let files = whole.seen.facts.files in
       let rest = joined (table_sources contents) in
-      let rise = levels_rise order.cmp contents (subst (λ (ts : List PlacedTable). ForTwo (IsBefore order.cmp) ts) (sym has.placed) (for_two (IsBefore order.cmp) tables in_order.places)) in
-      let rows = subst (λ (ts : List PlacedTable). AllByRecursion (IsRow order files contents) (all_ranges ts)) has.placed (all_rows order files contents rise has.are has.rows) in
-      let listing = all_listed order whole tables contents has.placed sound (λ row has lies. begins whole.seen row sound has lies) up_to are memory cursors spots rows in
-      let lists : List (List InternalEntry) = current ∷ behind whole.memory.sealed listing.0 in
-      let kept = subst (λ (ts : List PlacedTable). Kept (map (entries_in contents) (all_ranges ts)) (table_sources contents)) has.placed (kept_sources contents rise) in
-      let joined_is : joined (all_entries listing.0) ≡ rest = ap joined listing.1 ∙ kept_joined _ _ kept in
-      let rows_searched = subst AreSearched (sym listing.1) (kept_searched _ _ kept has.searched) in
-      let rising = all_rise order whole tables contents has.placed sound (λ row has lies. begins whole.seen row sound has lies) cursors lists listing.2 in
-      let union = unions lists (λ i list is. all_at (Rises order.cmp) lists i list rising is) (share_none lists (all_searched listing.0 rest joined_is (current_newer rest newer) (λ a b i j key. newer a b (sources.among_front (sealed_inserts whole.memory) whole.memory.current.inserts a i) j key) rows_searched)) in
+      let listing = all_listed order whole tables contents has in_order sound begins up_to are memory cursors spots in
+      let rows = listing.1 in
+      let searched = all_searched rows.0 rest rows.2 (current_newer rest newer) (λ a b i j key. newer a b (sources.among_front (sealed_inserts whole.memory) whole.memory.current.inserts a i) j key) rows.3 in
+      let lists : List (List InternalEntry) = current ∷ behind whole.memory.sealed rows.0 in
+      let merge = merge_begun order whole tables contents has in_order sound begins unions children scan.walk.cursor.target.items lists astray listing.2 searched in
+      let union = merge.0 in
       let at = least below in
-      let viewed = each union.0 sequence union.1.rises in
-      let is_view = same_view listing.0 rest joined_is union.0 view at union.1 seen_view in
-      let again = listed_again viewed.0 in
-      let merge = merged order whole tables contents has.placed sound (λ row has lies. begins whole.seen row sound has lies) children scan.walk.cursor.target.items lists union.0 union.1 astray listing.2 in (
+      let viewed = each union sequence merge.1.rises in
+      let is_view = same_view rows.0 rest rows.2 union view at merge.1 seen_view in
+      let again = listed_again viewed.0 in (
         map tuple_of viewed.0,
-        pairs_of_view order.cmp total view viewed.0 viewed.1.rises (agree union.0 sequence viewed.0 view viewed.1 is_view),
+        pairs_of_view order.cmp total view viewed.0 viewed.1.rises (agree union sequence viewed.0 view viewed.1 is_view),
         record {
           there = λ named is. new_there whole.memory are named (one_of named is);
-          bound = λ old new k i child is. keeps_new scan.generation scan.sealed scan.walk.sequence tables order.cmp (reads_table scan) child.cursor old new (λ number over. inr (i, child, is, over))
-              (all_at (IsNew (reads_memory scan) scan.walk.sequence tables) cursors i child.cursor news (cursor_at i child is)) k;
-          limits = λ l.
-              let here = cursor_at l.0 l.1 l.2 in
-              let list = two_has (λ (cursor : SourceCursor K g) (list : List InternalEntry). ListsSource order.cmp cursor whole (listed list None)) cursors lists l.0 l.1.cursor listing.2 here in
-              subst (λ (ts : List PlacedTable). IsOnePastLimit order.cmp ts whole) (sym version)
-              (limited_new scan.generation scan.sealed scan.walk.sequence tables order.cmp l.1.cursor whole list.0 (all_at (IsNew (reads_memory scan) scan.walk.sequence tables) cursors l.0 l.1.cursor news here) list.1 l.3);
+          bound = λ old new k i child is. keeps_new (reads_memory scan) scan.walk.sequence tables order.cmp (reads_table scan) child.cursor old new (λ number over. inr (i, child, is, over))
+              (new_at (reads_memory scan) scan.walk.sequence tables children news i child is) k;
+          limits = λ l. subst (λ (ts : List PlacedTable). IsOnePastLimit order.cmp ts whole) (sym version) (all_limited (reads_memory scan) scan.walk.sequence tables children news order.cmp whole lists listing.2 l);
           walk = (
-            union.0,
-            subst (λ (ps : List Pair). IsViewList order.cmp union.0 scan.walk.sequence ps) (sym again) (subst (λ (n : ℕ). IsViewList order.cmp union.0 n viewed.0) (sym (same ∙ at)) viewed.1),
-            placed_nowhere union.0 (map listed_pair (map tuple_of viewed.0)) merge,
+            union,
+            subst (λ (ps : List Pair). IsViewList order.cmp union scan.walk.sequence ps) (sym again) (subst (λ (n : ℕ). IsViewList order.cmp union n viewed.0) (sym (same ∙ at)) viewed.1),
+            placed_nowhere union (map listed_pair (map tuple_of viewed.0)) merge.2,
           );
         },
       )

@@ -27,7 +27,7 @@ all_entries lists = map entries_of lists
 
 -- ---- lists
 
-among_entries : (list : List InternalEntry) (entry : InternalEntry) → Among list entry → Among (entries_of list) (entry_of entry)
+pub among_entries : (list : List InternalEntry) (entry : InternalEntry) → Among list entry → Among (entries_of list) (entry_of entry)
 among_entries [] entry m = absurd m
 among_entries (x ∷ list) entry (inl is) = inl (ap entry_of is)
 among_entries (x ∷ list) entry (inr m) = inr (among_entries list entry m)

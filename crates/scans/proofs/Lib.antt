@@ -1,12 +1,15 @@
 pub mod AtHand
 pub mod FirstPlaces
 pub mod Joining
+pub mod KeptMerges
 pub mod NewScans
+pub mod OwnSequences
 pub mod Ranges
 pub mod ReadTables
 pub mod ScanSteps
 pub mod Sights
 pub mod Slices
 pub mod SourceSteps
+pub mod TableMerges
 pub mod TakenBack
 pub mod ViewPairs

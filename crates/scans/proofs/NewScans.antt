@@ -7,13 +7,16 @@ use Rattle.std.proofs.lemmas.List.{drop-map, length-map, take-map}
 use Rattle.cursor.specs.declared.child.Child.{Child}
 use Rattle.cursor.specs.declared.child.Side.{Side}
 use Rattle.cursor.specs.declared.child.Side.TheVariants.{Astray}
-use Rattle.cursor.specs.Merging.{IsBeside, IsMerge, IsUnion, listed}
+use Rattle.cursor.specs.Merging.{AnyLimited, IsBeside, IsMerge, IsUnion, listed}
 use Rattle.cursor.specs.Places.{Cmp, Rises}
+use Rattle.cursor.specs.Sharing.{ShareNoKey}
 use Rattle.edits.specs.declared.field.PlacedTable.{PlacedTable}
 use Rattle.ikey.specs.declared.entry.Entry.{Entry}
 use Rattle.ikey.specs.Entries.{InternalEntry, entry_of}
 use Rattle.ikey.specs.Orders.{Order}
-use Rattle.ikey.specs.Sources.{AreInRow, joined}
+use Rattle.ikey.specs.declared.key_order.KeyOrder.{Ghosts}
+use Rattle.ikey.specs.Sources.{AreInRow, AreSearched, AreSorted, joined}
+use Rattle.ikey.proofs.SearchedSources as sources
 use Rattle.recover.specs.Tables.{TableContent, HasTables}
 use Rattle.recover.proofs.NameScan.{in_cons, in_none}
 use Rattle.rows.specs.declared.row_cursor.RowCursor.{RowCursor}
@@ -29,15 +32,16 @@ use Rattle.scans.specs.Rows.{IsOneOf, OfMemory, OfRow, memory_spots, place_in, s
 use Rattle.scans.specs.Scans.{IsOnePastLimit, KeepsWhole}
 use Rattle.scans.specs.SourceLaws.{source_rises}
 use Rattle.scans.specs.Whole.{Whole}
-use Rattle.scans.proofs.Joining.{all_entries, entries_of}
-use Rattle.scans.proofs.Slices.{IsRow, LevelsRise, all_ranges, entries_in, placed_of, slice}
-use Rattle.search.specs.Places.{lists_of}
-use Rattle.search.proofs.Orders.{ForTwo}
-use Rattle.scans.proofs.ReadTables.{current_there, row_kept, sealed_there}
+use Rattle.scans.proofs.Joining.{all_entries, entries_of, share_none}
+use Rattle.scans.proofs.Slices.{IsRow, Kept, LevelsRise, all_ranges, all_rows, entries_in, kept_joined, kept_searched, kept_sources, placed_of, slice}
+use Rattle.search.specs.Places.{HasVersion, lists_of, table_sources}
+use Rattle.search.proofs.Orders.{ForTwo, for_two}
+use Rattle.scans.proofs.ReadTables.{current_there, files_kept, row_kept, sealed_there}
 use Rattle.sources.specs.Memory.{seen_entries}
 use Rattle.sources.specs.Tables.{Seen, HasTable, IsSound}
 use Rattle.std.proofs.lemmas.Option.{slice_get-map}
-use Rattle.versions.specs.Levels.{IsBefore}
+use Rattle.store.specs.Files.{Files}
+use Rattle.versions.specs.Levels.{AreInOrder, IsBefore}
 
 -- ---- two lists, side by side
 
@@ -124,14 +128,20 @@ has_file cmp source (t ∷ tables) (list ∷ lists) placed h i = elim (in_cons t
 
 -- ---- new cursors
 
+abbrev pub cursors_of : {C : Type 0} → List (Child C) → List C
+cursors_of {C} children = map (λ (child : Child C). child.cursor) children
+
+pub cursor_at : {C : Type 0} (children : List (Child C)) (i : ℕ) (child : Child C) → slice_get children i ≡ Some child → slice_get (cursors_of children) i ≡ Some child.cursor
+cursor_at {C} children i child is = slice_get-map (λ (c : Child C). c.cursor) children i ∙ ap (option_map (λ (c : Child C). c.cursor)) is
+
 -- a new cursor over a memory table that is read and no entries above the sequence, or over these tables
 abbrev pub IsNew : {K : Type 0} {g : _} → (ℕ → Type 0) → ℕ → List PlacedTable → SourceCursor K g → Type 0
 IsNew reads sequence tables (Memory cursor) = reads cursor.generation × (cursor.place.sequence ≤ sequence)
 IsNew reads sequence tables (Row cursor) = (cursor.here ≡ None) × (cursor.version.value.tables ≡ tables)
 
-module _ {K : Type 0} {g : _} (generation : ℕ) (sealed : Option ℕ) (sequence : ℕ) (tables : List PlacedTable) where
+module _ {K : Type 0} {g : _} (reads : ℕ → Type 0) (sequence : ℕ) (tables : List PlacedTable) where
   abbrev pub New : SourceCursor K g → Type 0
-  New cursor = IsNew (IsOneOf generation sealed) sequence tables cursor
+  New cursor = IsNew reads sequence tables cursor
 
   new_row : (cursor : SourceCursor K g) (range : ℕ × ℕ) → spot_of cursor ≡ OfRow tables range.0 range.1 false → New cursor
   new_row (Memory cursor) range e = absurd (cc)
@@ -140,7 +150,7 @@ module _ {K : Type 0} {g : _} (generation : ℕ) (sealed : Option ℕ) (sequence
       let same : cursor.version.value.tables ≡ tables = cc in
       (none_of cursor.here none, same)
 
-  new_rows : (ranges : List (ℕ × ℕ)) (cursors : List (SourceCursor K g)) → map spot_of cursors ≡ spots_of tables ranges → AllByRecursion New cursors
+  pub new_rows : (ranges : List (ℕ × ℕ)) (cursors : List (SourceCursor K g)) → map spot_of cursors ≡ spots_of tables ranges → AllByRecursion New cursors
   new_rows [] [] e = tt
   new_rows [] (c ∷ cursors) e = absurd (cc)
   new_rows (r ∷ ranges) [] e = absurd (cc)
@@ -149,54 +159,64 @@ module _ {K : Type 0} {g : _} (generation : ℕ) (sealed : Option ℕ) (sequence
       let rest : map spot_of cursors ≡ spots_of tables ranges = cc in
       (new_row c r first, new_rows ranges cursors rest)
 
-  new_memory : (cursor : SourceCursor K g) (named : ℕ) → IsOneOf generation sealed named → spot_of cursor ≡ OfMemory (place_in sequence named) → New cursor
-  new_memory (Row cursor) named is e = absurd (cc)
-  new_memory (Memory cursor) named is e =
-      let same : place_in sequence named ≡ cursor = cc in
-      subst (λ (p : MemoriesPlace). IsOneOf generation sealed p.generation × (p.place.sequence ≤ sequence)) same (is, omega arith)
-
-  new_all : (o : Option ℕ) (ranges : List (ℕ × ℕ)) (cursors : List (SourceCursor K g)) → sealed ≡ o → map spot_of cursors ≡ memory_spots sequence generation o ++ spots_of tables ranges → AllByRecursion New cursors
-  new_all None ranges [] is e = absurd (cc)
-  new_all None ranges (c ∷ cursors) is e =
-      let first : spot_of c ≡ OfMemory (place_in sequence generation) = cc in
-      let rest : map spot_of cursors ≡ spots_of tables ranges = cc in
-      (new_memory c generation (inl refl) first, new_rows ranges cursors rest)
-  new_all (Some named) ranges [] is e = absurd (cc)
-  new_all (Some named) ranges (c ∷ []) is e = absurd (cc)
-  new_all (Some named) ranges (c ∷ d ∷ cursors) is e =
-      let first : spot_of c ≡ OfMemory (place_in sequence generation) = cc in
-      let second : spot_of d ≡ OfMemory (place_in sequence named) = cc in
-      let rest : map spot_of cursors ≡ spots_of tables ranges = cc in
-      (new_memory c generation (inl refl) first, (new_memory d named (inr is) second, new_rows ranges cursors rest))
-
-  pub all_new : (ranges : List (ℕ × ℕ)) (cursors : List (SourceCursor K g)) → map spot_of cursors ≡ memory_spots sequence generation sealed ++ spots_of tables ranges → AllByRecursion New cursors
-  all_new ranges cursors e = new_all sealed ranges cursors refl e
-
   pub keeps_new : (cmp : Cmp) (numbers : ℕ → Type 0) (cursor : SourceCursor K g) (old new : Whole) → ((number : ℕ) → GoesOver cursor number → numbers number) → New cursor
-      → KeepsWhole cmp (IsOneOf generation sealed) numbers sequence old new → KeepsSource cmp cursor old new
+      → KeepsWhole cmp reads numbers sequence old new → KeepsSource cmp cursor old new
   keeps_new cmp numbers (Memory cursor) old new over h k = k.memory cursor h.0 h.1
-  keeps_new cmp numbers (Row cursor) old new over h k = row_kept cmp (IsOneOf generation sealed) numbers sequence old new cursor over k
+  keeps_new cmp numbers (Row cursor) old new over h k = row_kept cmp numbers old.seen new.seen cursor over (files_kept cmp reads numbers sequence old new k)
 
   over_new : (cursor : SourceCursor K g) (number : ℕ) → New cursor → GoesOver cursor number → HasNumber tables number
   over_new (Memory cursor) number h over = absurd over
   over_new (Row cursor) number h (inl has) = (has.0, subst (λ (ts : List PlacedTable). Contains ts has.0) h.1 (row_within cursor has.0 has.1), has.2)
   over_new (Row cursor) number h (inr is) = absurd (subst (λ o. IsOpenNumber o number) h.0 is)
 
-  -- new cursors go over no other tables than these
-  pub all_over : (ranges : List (ℕ × ℕ)) (children : List (Child (SourceCursor K g))) (number : ℕ)
-      → map spot_of (map (λ (child : Child (SourceCursor K g)). child.cursor) children) ≡ memory_spots sequence generation sealed ++ spots_of tables ranges
-      → OneGoesOver children number → HasNumber tables number
-  all_over ranges children number e over =
-      let cursors = map (λ (child : Child (SourceCursor K g)). child.cursor) children in
-      let there = slice_get-map (λ (child : Child (SourceCursor K g)). child.cursor) children over.0 ∙ ap (option_map (λ (child : Child (SourceCursor K g)). child.cursor)) over.2 in
-      over_new over.1.cursor number (all_at New cursors over.0 over.1.cursor (all_new ranges cursors e) there) over.3
-
-  pub limited_new : (cmp : Cmp) (cursor : SourceCursor K g) (whole : Whole) (list : List InternalEntry) → New cursor → ListsSource cmp cursor whole (listed list None) → LimitedSource cmp cursor whole → IsOnePastLimit cmp tables whole
+  limited_new : (cmp : Cmp) (cursor : SourceCursor K g) (whole : Whole) (list : List InternalEntry) → New cursor → ListsSource cmp cursor whole (listed list None) → LimitedSource cmp cursor whole → IsOnePastLimit cmp tables whole
   limited_new cmp (Memory cursor) whole list h lists l = absurd l
   limited_new cmp (Row cursor) whole list h lists (inl l) =
       let file = has_file cmp whole.seen (rows_tables cursor) lists.lists l.0 lists.tables l.1 in
       (l.0, subst (λ (ts : List PlacedTable). Contains ts l.0) h.1 (row_within cursor l.0 l.1), file.0, file.1.file_is, l.2 file.0 file.1)
   limited_new cmp (Row cursor) whole list h lists (inr l) = absurd (subst (λ o. IsOpenLimited o) h.0 l)
+
+  module _ (children : List (Child (SourceCursor K g))) (news : AllByRecursion New (cursors_of children)) where
+    pub new_at : (i : ℕ) (child : Child (SourceCursor K g)) → slice_get children i ≡ Some child → New child.cursor
+    new_at i child is = all_at New (cursors_of children) i child.cursor news (cursor_at children i child is)
+
+    -- new cursors go over no other tables than these
+    pub all_over : (number : ℕ) → OneGoesOver children number → HasNumber tables number
+    all_over number over = over_new over.1.cursor number (new_at over.0 over.1 over.2) over.3
+
+    -- and pass a limit only where the file of one of these does
+    pub all_limited : (cmp : Cmp) (whole : Whole) (lists : List (List InternalEntry)) → AllTwo (λ (cursor : SourceCursor K g) (list : List InternalEntry). ListsSource cmp cursor whole (listed list None)) (cursors_of children) lists
+        → AnyLimited (LimitedSource cmp) children whole → IsOnePastLimit cmp tables whole
+    all_limited cmp whole lists each l =
+        let list = two_has (λ (cursor : SourceCursor K g) (list : List InternalEntry). ListsSource cmp cursor whole (listed list None)) (cursors_of children) lists l.0 l.1.cursor each (cursor_at children l.0 l.1 l.2) in
+        limited_new cmp l.1.cursor whole list.0 (new_at l.0 l.1 l.2) list.1 l.3
+
+module _ {K : Type 0} {g : _} (generation : ℕ) (sealed : Option ℕ) (sequence : ℕ) (tables : List PlacedTable) where
+  abbrev NewOver : SourceCursor K g → Type 0
+  NewOver cursor = IsNew (IsOneOf generation sealed) sequence tables cursor
+
+  new_memory : (cursor : SourceCursor K g) (named : ℕ) → IsOneOf generation sealed named → spot_of cursor ≡ OfMemory (place_in sequence named) → NewOver cursor
+  new_memory (Row cursor) named is e = absurd (cc)
+  new_memory (Memory cursor) named is e =
+      let same : place_in sequence named ≡ cursor = cc in
+      subst (λ (p : MemoriesPlace). IsOneOf generation sealed p.generation × (p.place.sequence ≤ sequence)) same (is, omega arith)
+
+  new_all : (o : Option ℕ) (ranges : List (ℕ × ℕ)) (cursors : List (SourceCursor K g)) → sealed ≡ o → map spot_of cursors ≡ memory_spots sequence generation o ++ spots_of tables ranges → AllByRecursion NewOver cursors
+  new_all None ranges [] is e = absurd (cc)
+  new_all None ranges (c ∷ cursors) is e =
+      let first : spot_of c ≡ OfMemory (place_in sequence generation) = cc in
+      let rest : map spot_of cursors ≡ spots_of tables ranges = cc in
+      (new_memory c generation (inl refl) first, new_rows (IsOneOf generation sealed) sequence tables ranges cursors rest)
+  new_all (Some named) ranges [] is e = absurd (cc)
+  new_all (Some named) ranges (c ∷ []) is e = absurd (cc)
+  new_all (Some named) ranges (c ∷ d ∷ cursors) is e =
+      let first : spot_of c ≡ OfMemory (place_in sequence generation) = cc in
+      let second : spot_of d ≡ OfMemory (place_in sequence named) = cc in
+      let rest : map spot_of cursors ≡ spots_of tables ranges = cc in
+      (new_memory c generation (inl refl) first, (new_memory d named (inr is) second, new_rows (IsOneOf generation sealed) sequence tables ranges cursors rest))
+
+  pub all_new : (ranges : List (ℕ × ℕ)) (cursors : List (SourceCursor K g)) → map spot_of cursors ≡ memory_spots sequence generation sealed ++ spots_of tables ranges → AllByRecursion NewOver cursors
+  all_new ranges cursors e = new_all sealed ranges cursors refl e
 
 -- ---- what they list
 
@@ -212,9 +232,21 @@ abbrev pub in_front : Cmp → Memories → ℕ → Option ℕ → List (List Int
 in_front cmp memory sequence None lists = lists
 in_front cmp memory sequence (Some named) lists = seen_sealed cmp memory sequence ∷ lists
 
-module _ {K : Type 0} {g : _} (order : Order) (whole : Whole) (tables : List PlacedTable) (contents : List TableContent) (placed : placed_of contents ≡ tables) (sound : IsSound order.cmp whole.seen)
-    (begins : (row : List TableContent) → HasTables order whole.seen.facts.files row → AreInRow order (lists_of row)
-    → (entries : List InternalEntry) × (map entry_of entries ≡ joined (lists_of row)) × ((cursor : RowCursor K g) → rows_tables cursor ≡ placed_of row → cursor.here ≡ None → ListsRow order.cmp whole.seen cursor (listed entries None))) where
+-- each row of tables is a list
+abbrev pub RowsBegin : (K : Type 0) → Ghosts K → Order → Type 0
+RowsBegin K g order = (source : Seen) (row : List TableContent) → IsSound order.cmp source → HasTables order source.facts.files row → AreInRow order (lists_of row)
+    → (entries : List InternalEntry) × (map entry_of entries ≡ joined (lists_of row)) × ((cursor : RowCursor K g) → rows_tables cursor ≡ placed_of row → cursor.here ≡ None → ListsRow order.cmp source cursor (listed entries None))
+
+-- lists that share no key have a union
+abbrev pub HaveUnions : Cmp → Type 0
+HaveUnions cmp = (lists : List (List InternalEntry)) → ((i : ℕ) (list : List InternalEntry) → slice_get lists i ≡ Some list → Rises cmp list) → ShareNoKey lists → (union : List InternalEntry) × IsUnion cmp lists union
+
+rows_sorted : (order : Order) (files : Files) (contents : List TableContent) (ranges : List (ℕ × ℕ)) → AllByRecursion (IsRow order files contents) ranges → AllByRecursion (AreSorted order) (map (entries_in contents) ranges)
+rows_sorted order files contents [] h = tt
+rows_sorted order files contents (range ∷ ranges) h = (sources.in_row order (lists_of (slice range contents)) h.0.1, rows_sorted order files contents ranges h.1)
+
+module _ {K : Type 0} {g : _} (order : Order) (whole : Whole) (tables : List PlacedTable) (contents : List TableContent) (has : HasVersion order whole.seen.facts.files tables contents) (in_order : AreInOrder order.cmp tables)
+    (sound : IsSound order.cmp whole.seen) (begins : RowsBegin K g order) where
   abbrev pub Lists : SourceCursor K g → List InternalEntry → Type 0
   Lists cursor list = ListsSource order.cmp cursor whole (listed list None)
 
@@ -226,10 +258,10 @@ module _ {K : Type 0} {g : _} (order : Order) (whole : Whole) (tables : List Pla
       let same : cursor.version.value.tables ≡ tables = cc in
       let from : cursor.from ≡ range.0 = cc in
       let end : cursor.end ≡ range.1 = cc in
-      let over : rows_tables cursor ≡ slice range (placed_of contents) = λ i. take (end i - from i) (drop (from i) ((same ∙ sym placed) i)) in
+      let over : rows_tables cursor ≡ slice range (placed_of contents) = λ i. take (end i - from i) (drop (from i) ((same ∙ sym has.placed) i)) in
       let mapped : slice range (placed_of contents) ≡ placed_of (slice range contents) =
       ap (take (range.1 - range.0)) (drop-map (λ (t : TableContent). t.placed) range.0 contents) ∙ take-map (λ (t : TableContent). t.placed) (range.1 - range.0) (drop range.0 contents) in
-      let list = begins (slice range contents) row.0 row.1 in
+      let list = begins whole.seen (slice range contents) sound row.0 row.1 in
       (list.0, list.1, list.2 cursor (over ∙ mapped) (none_of cursor.here none))
 
   rows_listed : (ranges : List (ℕ × ℕ)) (cursors : List (SourceCursor K g)) → map spot_of cursors ≡ spots_of tables ranges → AllByRecursion (IsRow order whole.seen.facts.files contents) ranges
@@ -244,6 +276,24 @@ module _ {K : Type 0} {g : _} (order : Order) (whole : Whole) (tables : List Pla
       let others = rows_listed ranges cursors rest rows.1 in
       (here.0 ∷ others.0, (λ i. here.1 i ∷ others.1 i), (here.2, others.2))
 
+  -- The lists of all rows: their entries together are those of the places where the version is searched, in this turn, and each is sorted.
+  abbrev pub Rows : List (SourceCursor K g) → Type 0
+  Rows cursors = (lists : List (List InternalEntry)) × AllTwo Lists cursors lists × (joined (all_entries lists) ≡ joined (table_sources contents)) × AreSearched (all_entries lists) × AllByRecursion (AreSorted order) (all_entries lists)
+
+  pub all_rows_listed : (cursors : List (SourceCursor K g)) → map spot_of cursors ≡ spots_of tables (all_ranges tables) → Rows cursors
+  all_rows_listed cursors e =
+      let files = whole.seen.facts.files in
+      let rise = levels_rise order.cmp contents (subst (λ (ts : List PlacedTable). ForTwo (IsBefore order.cmp) ts) (sym has.placed) (for_two (IsBefore order.cmp) tables in_order.places)) in
+      let rows = subst (λ (ts : List PlacedTable). AllByRecursion (IsRow order files contents) (all_ranges ts)) has.placed (all_rows order files contents rise has.are has.rows) in
+      let kept = subst (λ (ts : List PlacedTable). Kept (map (entries_in contents) (all_ranges ts)) (table_sources contents)) has.placed (kept_sources contents rise) in
+      let listing = rows_listed (all_ranges tables) cursors e rows in (
+        listing.0,
+        listing.2,
+        ap joined listing.1 ∙ kept_joined _ _ kept,
+        subst AreSearched (sym listing.1) (kept_searched _ _ kept has.searched),
+        subst (AllByRecursion (AreSorted order)) (sym listing.1) (rows_sorted order files contents (all_ranges tables) rows),
+      )
+
   module _ (sequence : ℕ) (are : AreMemories whole.memory)
       (memory : (generation : ℕ) (table : MemoryContents) → IsOneOf whole.memory.generation whole.memory.sealed generation → table_in whole.memory generation ≡ Some table
       → ListsMemories order.cmp (place_in sequence generation) whole.memory (listed (seen_entries order.cmp table.inserts sequence) None)) where
@@ -256,45 +306,43 @@ module _ {K : Type 0} {g : _} (order : Order) (whole : Whole) (tables : List Pla
         (subst (λ (es : List Entry). ListsMemories order.cmp (place_in sequence named) whole.memory (listed (seen_entries order.cmp es sequence) None)) equal (memory named table is there))
 
     abbrev Listing : Option ℕ → List (SourceCursor K g) → Type 0
-    Listing o cursors = (lists : List (List InternalEntry)) × (all_entries lists ≡ map (entries_in contents) (all_ranges tables)) × AllTwo Lists cursors (seen_current order.cmp whole.memory sequence ∷ in_front order.cmp whole.memory sequence o lists)
+    Listing o cursors = (behind : List (SourceCursor K g)) × (rows : Rows behind) × AllTwo Lists cursors (seen_current order.cmp whole.memory sequence ∷ in_front order.cmp whole.memory sequence o rows.0)
 
-    listed_with : (o : Option ℕ) (cursors : List (SourceCursor K g)) → whole.memory.sealed ≡ o → map spot_of cursors ≡ memory_spots sequence whole.memory.generation o ++ spots_of tables (all_ranges tables)
-        → AllByRecursion (IsRow order whole.seen.facts.files contents) (all_ranges tables) → Listing o cursors
-    listed_with None [] is e rows = absurd (cc)
-    listed_with None (c ∷ cursors) is e rows =
+    listed_with : (o : Option ℕ) (cursors : List (SourceCursor K g)) → whole.memory.sealed ≡ o → map spot_of cursors ≡ memory_spots sequence whole.memory.generation o ++ spots_of tables (all_ranges tables) → Listing o cursors
+    listed_with None [] is e = absurd (cc)
+    listed_with None (c ∷ cursors) is e =
         let first : spot_of c ≡ OfMemory (place_in sequence whole.memory.generation) = cc in
         let rest : map spot_of cursors ≡ spots_of tables (all_ranges tables) = cc in
-        let others = rows_listed (all_ranges tables) cursors rest rows in
-        (others.0, others.1, (memory_listed c whole.memory.generation whole.memory.current whole.memory.current.inserts refl (inl refl) (current_there whole.memory) first, others.2))
-    listed_with (Some named) [] is e rows = absurd (cc)
-    listed_with (Some named) (c ∷ []) is e rows = absurd (cc)
-    listed_with (Some named) (c ∷ d ∷ cursors) is e rows =
+        let others = all_rows_listed cursors rest in
+        (cursors, others, (memory_listed c whole.memory.generation whole.memory.current whole.memory.current.inserts refl (inl refl) (current_there whole.memory) first, others.1))
+    listed_with (Some named) [] is e = absurd (cc)
+    listed_with (Some named) (c ∷ []) is e = absurd (cc)
+    listed_with (Some named) (c ∷ d ∷ cursors) is e =
         let first : spot_of c ≡ OfMemory (place_in sequence whole.memory.generation) = cc in
         let second : spot_of d ≡ OfMemory (place_in sequence named) = cc in
         let rest : map spot_of cursors ≡ spots_of tables (all_ranges tables) = cc in
-        let others = rows_listed (all_ranges tables) cursors rest rows in
-        let has = sealed_there whole.memory named are is in (
-          others.0,
-          others.1,
+        let others = all_rows_listed cursors rest in
+        let there = sealed_there whole.memory named are is in (
+          cursors,
+          others,
           (
             memory_listed c whole.memory.generation whole.memory.current whole.memory.current.inserts refl (inl refl) (current_there whole.memory) first,
-            (memory_listed d named has.table (sealed_inserts whole.memory) (sym has.inserts) (inr is) has.there second, others.2),
+            (memory_listed d named there.table (sealed_inserts whole.memory) (sym there.inserts) (inr is) there.there second, others.1),
           ),
         )
 
     -- the memory tables' entries in front of those of the tables
-    pub all_listed : (cursors : List (SourceCursor K g)) → map spot_of cursors ≡ memory_spots sequence whole.memory.generation whole.memory.sealed ++ spots_of tables (all_ranges tables)
-        → AllByRecursion (IsRow order whole.seen.facts.files contents) (all_ranges tables) → Listing whole.memory.sealed cursors
-    all_listed cursors e rows = listed_with whole.memory.sealed cursors refl e rows
+    pub all_listed : (cursors : List (SourceCursor K g)) → map spot_of cursors ≡ memory_spots sequence whole.memory.generation whole.memory.sealed ++ spots_of tables (all_ranges tables) → Listing whole.memory.sealed cursors
+    all_listed cursors e = listed_with whole.memory.sealed cursors refl e
 
-  pub all_rise : (cursors : List (SourceCursor K g)) (lists : List (List InternalEntry)) → AllTwo Lists cursors lists → AllByRecursion (Rises order.cmp) lists
+  all_rise : (cursors : List (SourceCursor K g)) (lists : List (List InternalEntry)) → AllTwo Lists cursors lists → AllByRecursion (Rises order.cmp) lists
   all_rise [] [] h = tt
   all_rise [] (l ∷ lists) h = absurd h
   all_rise (c ∷ cursors) [] h = absurd h
   all_rise (c ∷ cursors) (l ∷ lists) h = (source_rises order.cmp c whole (listed l None) h.0, all_rise cursors lists h.1)
 
   -- a merge of them stands nowhere in their union
-  pub merged : (children : List (Child (SourceCursor K g))) (target : List ℕ) (lists : List (List InternalEntry)) (union : List InternalEntry) → IsUnion order.cmp lists union
+  merged : (children : List (Child (SourceCursor K g))) (target : List ℕ) (lists : List (List InternalEntry)) (union : List InternalEntry) → IsUnion order.cmp lists union
       → AllByRecursion (λ (child : Child (SourceCursor K g)). child.side ≡ Astray) children → AllTwo Lists (map (λ (child : Child (SourceCursor K g)). child.cursor) children) lists
       → IsMerge order.cmp (ListsSource order.cmp) children None target whole (listed union None)
   merged children target lists union is astray both = (
@@ -311,3 +359,11 @@ module _ {K : Type 0} {g : _} (order : Order) (whole : Whole) (tables : List Pla
       };
     },
   )
+
+  -- so it is where the lists are searched one after the other, since they have a union
+  pub merge_begun : HaveUnions order.cmp → (children : List (Child (SourceCursor K g))) (target : List ℕ) (lists : List (List InternalEntry)) → AllByRecursion (λ (child : Child (SourceCursor K g)). child.side ≡ Astray) children
+      → AllTwo Lists (cursors_of children) lists → AreSearched (all_entries lists) → (union : List InternalEntry) × IsUnion order.cmp lists union × IsMerge order.cmp (ListsSource order.cmp) children None target whole (listed union None)
+  merge_begun unions children target lists astray both searched =
+      let rising = all_rise (cursors_of children) lists both in
+      let union = unions lists (λ i list is. all_at (Rises order.cmp) lists i list rising is) (share_none lists searched) in
+      (union.0, union.1, merged children target lists union.0 union.1 astray both)

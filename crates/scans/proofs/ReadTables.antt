@@ -9,16 +9,19 @@ use Rattle.memtable.specs.Contents.{Contents}
 use Rattle.memories.specs.Memories.{AreMemories, Memories, inserts_of, older_at, sealed_inserts, table_in}
 use Rattle.memories.specs.Places.{LeavesMemories, seen_by}
 use Rattle.scans.specs.declared.scan.Scan.{Scan}
-use Rattle.scans.specs.Places.{GoesOver, OneGoesOver}
+use Rattle.scans.specs.Inputs.{KeepsFiles}
+use Rattle.scans.specs.Places.{GoesOver, KeepsSource, OneGoesOver}
 use Rattle.scans.specs.Rows.{IsOneOf, place_in}
 use Rattle.scans.specs.Scanning.{ReadsAs}
 use Rattle.scans.specs.Scans.{KeepsWhole, reads_memory, reads_table, tables_of}
-use Rattle.scans.specs.declared.source_cursor.SourceCursor.TheVariants.{Row}
+use Rattle.scans.specs.declared.source_cursor.SourceCursor.{SourceCursor}
+use Rattle.scans.specs.declared.source_cursor.SourceCursor.TheVariants.{Memory, Row}
 use Rattle.rows.specs.declared.in_table.InTable.{InTable}
 use Rattle.rows.specs.declared.row_cursor.RowCursor.{RowCursor}
 use Rattle.rows.specs.InRows.{HasNumber, IsOpenNumber, KeepsOpen}
 use Rattle.rows.specs.Rows.{KeepsRow}
 use Rattle.scans.specs.Whole.{Whole}
+use Rattle.sources.specs.Tables.{Seen}
 
 pub read_before : {K : Type 0} {g : _} (old new : Scan K g) → ReadsAs old new → (generation : ℕ) → reads_memory new generation → reads_memory old generation
 read_before old new same generation (inl e) = inl (e ∙ same.generation)
@@ -42,17 +45,26 @@ table_before old new same within number (inr over) = inr (within number over)
 
 -- ---- rows
 
-open_kept : {K : Type 0} {g : _} (cmp : Cmp) (generations numbers : ℕ → Type 0) (sequence : ℕ) (old new : Whole) (here : Option (InTable K g)) → ((number : ℕ) → IsOpenNumber here number → numbers number) → KeepsWhole cmp generations numbers sequence old new → KeepsOpen cmp here old.seen new.seen
-open_kept cmp generations numbers sequence old new None over k = tt
-open_kept cmp generations numbers sequence old new (Some here) over k = record { same = k.files here.cursor.number (over here.cursor.number refl); sound = k.sound }
+open_kept : {K : Type 0} {g : _} (cmp : Cmp) (numbers : ℕ → Type 0) (old new : Seen) (here : Option (InTable K g)) → ((number : ℕ) → IsOpenNumber here number → numbers number) → KeepsFiles cmp numbers old new → KeepsOpen cmp here old new
+open_kept cmp numbers old new None over k = tt
+open_kept cmp numbers old new (Some here) over k = record { same = k.files here.cursor.number (over here.cursor.number refl); sound = k.sound }
 
 -- a cursor over a row reads what it read where the files of its tables stay
-pub row_kept : {K : Type 0} {g : _} (cmp : Cmp) (generations numbers : ℕ → Type 0) (sequence : ℕ) (old new : Whole) (row : RowCursor K g) → ((number : ℕ) → GoesOver (Row row) number → numbers number) → KeepsWhole cmp generations numbers sequence old new → KeepsRow cmp row old.seen new.seen
-row_kept cmp generations numbers sequence old new row over k = record {
+pub row_kept : {K : Type 0} {g : _} (cmp : Cmp) (numbers : ℕ → Type 0) (old new : Seen) (row : RowCursor K g) → ((number : ℕ) → GoesOver (Row row) number → numbers number) → KeepsFiles cmp numbers old new → KeepsRow cmp row old new
+row_kept cmp numbers old new row over k = record {
   same = λ placed i. k.files placed.table.number (over placed.table.number (inl (placed, i, refl)));
   sound = k.sound;
-  here = open_kept cmp generations numbers sequence old new row.here (λ number is. over number (inr is)) k;
+  here = open_kept cmp numbers old new row.here (λ number is. over number (inr is)) k;
 }
+
+-- and any cursor does, where it reads what it read of the memory tables
+pub source_stays : {K : Type 0} {g : _} (cmp : Cmp) (numbers : ℕ → Type 0) (cursor : SourceCursor K g) (seen : Seen) (old new : Whole) → ((number : ℕ) → GoesOver cursor number → numbers number) → KeepsFiles cmp numbers old.seen new.seen
+    → KeepsSource cmp cursor (record { seen = seen; memory = old.memory }) (record { seen = seen; memory = new.memory }) → KeepsSource cmp cursor old new
+source_stays cmp numbers (Memory cursor) seen old new over k m = m
+source_stays cmp numbers (Row cursor) seen old new over k m = row_kept cmp numbers old.seen new.seen cursor over k
+
+pub files_kept : (cmp : Cmp) (generations numbers : ℕ → Type 0) (sequence : ℕ) (old new : Whole) → KeepsWhole cmp generations numbers sequence old new → KeepsFiles cmp numbers old.seen new.seen
+files_kept cmp generations numbers sequence old new k = record { files = k.files; sound = k.sound }
 
 -- ---- what is there
 

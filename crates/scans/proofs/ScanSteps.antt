@@ -16,14 +16,14 @@ use Rattle.memories.specs.PlaceLaws.{left_kept}
 use Rattle.memories.specs.Places.{MemoriesPlace, KeepsMemories, LeavesMemories}
 use Rattle.scans.specs.declared.scan.Scan.{Scan}
 use Rattle.scans.specs.declared.source_cursor.SourceCursor.{SourceCursor}
-use Rattle.scans.specs.declared.source_cursor.SourceCursor.TheVariants.{Memory, Row}
-use Rattle.scans.specs.Places.{GoesOver, KeepsSource, LeavesSource, LimitedSource, ListsSource, OneGoesOver}
+use Rattle.scans.specs.Places.{KeepsSource, LeavesSource, LimitedSource, ListsSource, OneGoesOver}
 use Rattle.scans.specs.Scanning.{IsScanned, ReadsAs, ScanIsKept, ScanPastLimit, has_pair}
 use Rattle.scans.specs.Scans.{IsOnePastLimit, KeepsScan, ListsMerged, reads_memory, reads_table, tables_of}
 use Rattle.scans.specs.SourceLaws.{source_kept, source_limits}
 use Rattle.scans.specs.Whole.{Whole}
 use Rattle.store.specs.Files.{Facts}
-use Rattle.scans.proofs.ReadTables.{read_after, read_before, row_kept, table_before, tables_as, there_kept, there_left}
+use Rattle.scans.proofs.KeptMerges.{memory_as}
+use Rattle.scans.proofs.ReadTables.{files_kept, read_after, read_before, source_stays, table_before, tables_as, there_kept, there_left}
 use Rattle.scans.proofs.Sights.{merged_as, placed_as}
 use Rattle.sources.specs.TableLaws.{carries_more}
 use Rattle.table.specs.Reading.{IsStill}
@@ -103,7 +103,9 @@ module _ {K : Type 0} {g : Ghosts K} {S : Type 0} (cmp : Cmp) (whole_of : S → 
       (sequence : new.walk.sequence ≡ old.walk.sequence) (reads : ReadsAs old new)
       (stays : Stays (λ s. (whole_of s).seen.facts) Keeps Limited (λ numbers s t. LeavesSource cmp numbers (whole_of s) (whole_of t)) Over old.walk.cursor new.walk.cursor before after) where
     bound_new : ((s t : Whole) → KeepsScan cmp old s t → KeepsAll (KeepsSource cmp) old.walk.cursor.children.items s t) → (s t : Whole) → KeepsScan cmp new s t → KeepsAll (KeepsSource cmp) new.walk.cursor.children.items s t
-    bound_new bound s t k i child is = at child.cursor refl
+    bound_new bound s t k i child is =
+        source_stays cmp (reads_table new) child.cursor (whole_of before).seen s t (λ number over. inr (i, child, is, over)) (files_kept cmp (reads_memory new) (reads_table new) new.walk.sequence s t k)
+        (memory_as cmp whole_of with with_is before old.walk.cursor.children.items new.walk.cursor.children.items s.memory t.memory stays.same (bound first second both) i child is)
       where
         first : Whole
         first = record { seen = (whole_of before).seen; memory = s.memory }
@@ -113,19 +115,6 @@ module _ {K : Type 0} {g : Ghosts K} {S : Type 0} (cmp : Cmp) (whole_of : S → 
 
         both : KeepsScan cmp old first second
         both = record { memory = λ place named le. k.memory place (read_after old new reads place.generation named) (let same = sequence in omega (arith, le, same)); files = λ number named. refl; sound = λ h. h }
-
-        kept : Keeps old.walk.cursor (with before s.memory) (with before t.memory)
-        kept j other there = subst (λ (w : Whole). KeepsSource cmp other.cursor w (whole_of (with before t.memory))) (sym (with_is before s.memory))
-            (subst (λ (w : Whole). KeepsSource cmp other.cursor first w) (sym (with_is before t.memory)) (bound first second both j other there))
-
-        at : (cursor : SourceCursor K g) → child.cursor ≡ cursor → KeepsSource cmp child.cursor s t
-        at (Memory place) same =
-            let now = stays.same (with before s.memory) (with before t.memory) kept i child is in
-            let moved = subst (λ (w : Whole). KeepsSource cmp child.cursor first w) (with_is before t.memory)
-            (subst (λ (w : Whole). KeepsSource cmp child.cursor w (whole_of (with before t.memory))) (with_is before s.memory) now) in
-            subst (λ (c : SourceCursor K g). KeepsSource cmp c s t) (sym same) (subst (λ (c : SourceCursor K g). KeepsSource cmp c first second) same moved)
-        at (Row row) same = subst (λ (c : SourceCursor K g). KeepsSource cmp c s t) (sym same)
-            (row_kept cmp (reads_memory new) (reads_table new) new.walk.sequence s t row (λ number over. inr (i, child, is, subst (λ (c : SourceCursor K g). GoesOver c number) (sym same) over)) k)
 
     pub scanned : IsStill (whole_of before).seen.facts (whole_of after).seen.facts result → OnOk result (new.walk.stands ≡ true → has_pair new ≡ true) → OnErr result ((new.walk.stands ≡ old.walk.stands) × (new.walk.here.key.items ≡ old.walk.here.key.items)) → OnOk result (key_before new.walk ≡ old.walk.here.key.items)
         → IfErr result (λ e. Refuses e (whole_of before).seen.facts (whole_of after).seen.facts ((at : Walked) → IsWalk cmp ListsOver old.walk before at → ⊥) (Limited old.walk.cursor before))

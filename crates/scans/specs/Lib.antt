@@ -1,3 +1,4 @@
+pub mod Inputs
 pub mod Pairs
 pub mod Places
 pub mod Rows

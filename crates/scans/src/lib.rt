@@ -1,12 +1,15 @@
-//! What the iterators of a database go over: its memory tables and the tables of a version, merged into one list.
+//! What the iterators of a database go over: its memory tables and the tables of a version, merged into one list; and what a compaction
+//! goes over: those tables alone.
 #![tactic(auto)]
 
 mod beginning;
+mod inputs;
 mod laws;
 mod scan;
 mod source;
 mod source_cursor;
 
+pub use inputs::{merge_stays, merge_tables, moves_read_no_memory};
 pub use laws::writes_are_kept;
 pub use scan::Scan;
 pub use source::Sources;

@@ -4,10 +4,10 @@ use Rattle.cursor.specs.declared.child.Side.TheVariants.{Astray}
 use Rattle.edits.specs.declared.field.PlacedTable.{PlacedTable}
 use Rattle.ikey.specs.Orders.{order_of}
 use Rattle.rows.specs.InRows.{HasNumber}
-use Rattle.scans.specs.Rows.{memory_spots, spot_of, spots_of}
+use Rattle.scans.specs.Rows.{IsOneOf, memory_spots, spot_of, spots_of}
 use Rattle.scans.specs.Whole.{whole}
 use Rattle.scans.proofs.FirstPlaces.{begins_scan}
-use Rattle.scans.proofs.NewScans.{all_over}
+use Rattle.scans.proofs.NewScans.{all_new, all_over, cursors_of}
 use Rattle.scans.proofs.Slices.{all_ranges, spots_together}
 use Rattle.versions.specs.Levels.{AreInOrder, Placement}
 use Rattle.scans.proofs.scan.Scan.over.Given.{Over}
@@ -52,5 +52,9 @@ returns-clause-within g c = λ number reads.
     let same : c.in_ok-clone.field-0.value.tables ≡ tables = ap (λ (v : Placement). v.tables) c.in_ok-clone.ensures.cases in
     elim reads [
       | inl has ↦ subst (λ (ts : List PlacedTable). HasNumber ts number) same has
-      | inr over ↦ all_over c.args.source.now.memory.generation c.args.source.now.memory.sealed c.min-sequence.result tables (all_ranges tables) c.new-2.result.cursor.children.items number (spots_are g c) over
+      | inr over ↦
+          let memory = c.args.source.now.memory in
+          let children = c.new-2.result.cursor.children.items in
+          all_over (IsOneOf memory.generation memory.sealed) c.min-sequence.result tables children
+          (all_new memory.generation memory.sealed c.min-sequence.result tables (all_ranges tables) (cursors_of children) (spots_are g c)) number over
     ]
