@@ -396,7 +396,7 @@ unused_at contents level [] t h i = absurd i
 unused_at contents level (u ∷ tables) t h (inl e) = let P : TableFile → Type 0 = λ v. is_used v.number (placed_in contents) ≡ false in subst P (sym e) h.0
 unused_at contents level (u ∷ tables) t h (inr i) = unused_at contents level tables t h.1 i
 
-number_apart : (n : ℕ) (contents : List TableContent) (x : TableContent) → AllByRecursion (λ (p : PlacedTable). n ≢ p.table.number) (placed_in contents) → InTables contents x → n ≢ x.placed.table.number
+pub number_apart : (n : ℕ) (contents : List TableContent) (x : TableContent) → AllByRecursion (λ (p : PlacedTable). n ≢ p.table.number) (placed_in contents) → InTables contents x → n ≢ x.placed.table.number
 number_apart n [] x h i = absurd i
 number_apart n (c ∷ contents) x h (inl e) = let P : TableContent → Type 0 = λ t. n ≢ t.placed.table.number in subst P (sym e) h.0
 number_apart n (c ∷ contents) x h (inr i) = number_apart n contents x h.1 i

@@ -6,6 +6,7 @@ pub mod Flushes
 pub mod JobFolds
 pub mod JobOutputs
 pub mod JobTables
+pub mod JobWritten
 pub mod JobsDeep
 pub mod JobsDone
 pub mod JobsPut
