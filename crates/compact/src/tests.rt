@@ -54,7 +54,7 @@ impl<K: KeyOrder, S: Store> Cursor<K, Alone<S>> for InMemory<K> {
 
     ghost limited = { λ cursor source. ⊥ };
 
-    ghost leaves = { λ old new. old ≡ new };
+    ghost leaves = { λ numbers old new. old ≡ new };
 
     ghost over = { λ cursor number. ⊥ };
 
@@ -104,9 +104,11 @@ impl<K: KeyOrder, S: Store> Cursor<K, Alone<S>> for InMemory<K> {
 
     ghost limits_kept = { λ cursor old new k l. l };
 
-    ghost leaves_still = { λ source. refl };
+    ghost leaves_still = { λ numbers source. refl };
 
-    ghost leaves_onward = { λ first second third k l. k ∙ l };
+    ghost leaves_onward = { λ numbers first second third k l. k ∙ l };
+
+    ghost leaves_more = { λ fewer more old new less k. k };
 }
 
 type Entry = (&'static [u8], u64, Kind, &'static [u8]);

@@ -75,7 +75,7 @@ impl<K: KeyOrder> Cursor<K, MemoryTables<K>> for MemoriesCursor<K> {
 
     ghost limited = { λ cursor source. ⊥ };
 
-    ghost leaves = { λ old new. LeavesMemories old new };
+    ghost leaves = { λ numbers old new. LeavesMemories old new };
 
     ghost over = { λ cursor number. ⊥ };
 
@@ -136,7 +136,9 @@ impl<K: KeyOrder> Cursor<K, MemoryTables<K>> for MemoriesCursor<K> {
 
     ghost limits_kept = { λ cursor old new k l. l };
 
-    ghost leaves_still = { λ source. left_there source };
+    ghost leaves_still = { λ numbers source. left_there source };
 
-    ghost leaves_onward = { λ first second third k l. left_onward first second third k l };
+    ghost leaves_onward = { λ numbers first second third k l. left_onward first second third k l };
+
+    ghost leaves_more = { λ fewer more old new less k. k };
 }

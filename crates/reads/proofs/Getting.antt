@@ -1,5 +1,5 @@
 -- What a get through tables has found, and why it was refused.
-use Rattle.std.proofs.Common.{◌≡◌, ◌⊎◌, inl, inr, ◌==◌, ◌+◌, ◌-◌, ◌<◌, ◌≤◌, ℕ, zero, suc, Bool, true, false, cond, IsTrue, Option, Some, None, is_some, List, [], ◌∷◌, map, filter, length, get_or, refl, sym, ap, ◌∙◌, subst, arith}
+use Rattle.std.proofs.Common.{◌≡◌, inl, inr, ◌==◌, ◌+◌, ◌-◌, ◌<◌, ◌≤◌, ℕ, suc, Bool, true, false, cond, IsTrue, Option, Some, None, is_some, List, [], ◌∷◌, map, length, refl, sym, ap, ◌∙◌, subst, arith}
 use Rattle.std.specs.Prelude.{Contains}
 use Rattle.std.specs.Cmp.{IsTotalOrder}
 use Rattle.std.specs.FinMap.{IsAntisymmetric}
@@ -11,20 +11,20 @@ use Rattle.ikey.specs.declared.entry.Entry.{Entry}
 use Rattle.ikey.specs.Entries.{entry_of}
 use Rattle.ikey.specs.Keys.{IsFirstKey}
 use Rattle.ikey.specs.Orders.{Order}
-use Rattle.ikey.specs.Sources.{IsAnswer, joined}
+use Rattle.ikey.specs.Sources.{IsAnswer}
 use Rattle.recover.specs.Checks.{content_of}
-use Rattle.recover.specs.Tables.{TableContent, HasTable, HasTables, InTables}
+use Rattle.recover.specs.Tables.{TableContent, HasTable, InTables}
 use Rattle.recover.proofs.Memberships.{one_of_tables}
 use Rattle.recover.proofs.NameScan.{in_cons, in_none}
 use Rattle.reads.specs.Gets.{HasEntries, HasNoEntries, SaysOfTable, IsTooLong, IsOnlyTooLong, HasTablesOf, HasNoTablesOf, SaysOfAll, IsOneTooLong}
 use Rattle.search.specs.Laws.{IsSearchedUpTo, IsStep}
-use Rattle.search.specs.Places.{table_sources, HasVersion}
+use Rattle.search.specs.Places.{HasVersion}
 use Rattle.search.proofs.Walking.{step, found, ended}
-use Rattle.sources.specs.Tables.{Seen, IsSound, Carries, HasTable as HasFileOf, SaysOf}
+use Rattle.sources.specs.Tables.{Seen, Carries, HasTable as HasFileOf, Only, SaysOf}
 use Rattle.sources.specs.Values.{HasValue, IsLookUp, IsNoTable, IsPastLimit}
-use Rattle.sources.proofs.Carrying.{carries_itself, carries_both}
+use Rattle.sources.specs.TableLaws.{carries_both, carries_itself, carries_more}
 use Rattle.cache.specs.Tables.{table_at}
-use Rattle.store.specs.Files.{Facts}
+use Rattle.versions.specs.Keeping.{HasNumber}
 use Rattle.versions.specs.Levels.{tables_at}
 use Rattle.versions.specs.Searches.{IsSearchedAt, IsSearchedNext, search_length}
 
@@ -113,7 +113,7 @@ none_behind order tables key from end e le place placed low is =
 
 -- So far it has read the tables at the places in front of this one, in which the key isn't seen.
 pub record IsSought (order : Order) (old now : Seen) (tables : List PlacedTable) (key : List ℕ) (sequence from : ℕ) : Type 0 where
-  pub carries : Carries order.cmp old now
+  pub carries : Carries order.cmp (λ number. HasNumber number tables) old now
   pub still : now.facts.failures ≡ old.facts.failures
   pub so_far : IsTrue now.facts.faithful → (contents : List TableContent) → HasTablesOf order old tables contents → IsSearchedUpTo contents key sequence from
 
@@ -145,9 +145,12 @@ module _ (order : Order) (o : IsTotalOrder order.cmp) (exact : IsAntisymmetric o
     is_step : IsTrue now.facts.faithful → (contents : List TableContent) (has : HasTablesOf order old tables contents) → IsStep order old.facts.files tables contents key sequence target from place placed (content_at contents has.1).0.entries
     is_step t contents has = record { total = o; exact = exact; version = has.1; sought = first; so_far = sought.so_far t contents has; next = next; has = has_old contents has.1 }
 
-    module _ (new : Seen) (carries : Carries order.cmp now new) where
-      pub carried : Carries order.cmp old new
-      carried = carries_both order.cmp old now new sought.carries carries
+    its_number : (number : ℕ) → Only placed.table.number number → HasNumber number tables
+    its_number number same = let there = in_version order tables target place placed next.here in (there.0, placed, there.1, there.2, sym same)
+
+    module _ (new : Seen) (carries : Carries order.cmp (Only placed.table.number) now new) where
+      pub carried : Carries order.cmp (λ number. HasNumber number tables) old new
+      carried = carries_both order.cmp old now new sought.carries (carries_more order.cmp now new its_number carries)
 
       -- the key isn't seen in the table
       pub goes_on : new.facts.failures ≡ now.facts.failures → SaysOfTable order now new placed key sequence None → IsSought order old new tables key sequence (place + 1)

@@ -4,8 +4,9 @@ ghost use Rattle.std.specs.Prelude.{◌≡◌, ◌<◌, ◌^◌, ◌+◌, length
 ghost use Rattle.cursor.specs.Moves.{Refuses};
 ghost use Rattle.ikey.specs.Orders.{order_of};
 ghost use Rattle.reads.specs.Gets.{HasNoEntries, HasNoTablesOf, IsOneTooLong, IsOnlyTooLong, SaysOfAll, SaysOfTable};
-ghost use Rattle.sources.specs.Tables.{Carries, seen};
+ghost use Rattle.sources.specs.Tables.{Carries, Only, seen};
 ghost use Rattle.table.specs.Reading.{IsStill};
+ghost use Rattle.versions.specs.Keeping.{HasNumber};
 
 use coding::{Bytes, Damage, DbError, FileKind};
 use edits::{LEVELS, PlacedTable};
@@ -27,7 +28,7 @@ pub fn value_in_tables<K: KeyOrder, S: Store>(
     sequence: u64,
 ) -> Result<Option<Option<Bytes>>, DbError>
     requires { sequence < 2 ^ 56 }
-    ensures carries { Carries K.cmp (seen (S.facts source.old.store) source.old.tables source.old.blocks) (seen (S.facts source.new.store) source.new.tables source.new.blocks) }
+    ensures carries { Carries K.cmp (λ number. HasNumber number version.now.tables) (seen (S.facts source.old.store) source.old.tables source.old.blocks) (seen (S.facts source.new.store) source.new.tables source.new.blocks) }
     ensures found { IfOk result (λ value. SaysOfAll (order_of K.name K.cmp) (seen (S.facts source.old.store) source.old.tables source.old.blocks) (seen (S.facts source.new.store) source.new.tables source.new.blocks)
         version.now.tables key.now sequence value) }
     ensures still { IsStill (S.facts source.old.store) (S.facts source.new.store) result }
@@ -68,7 +69,7 @@ fn value_in_table<K: KeyOrder, S: Store>(
     sequence: u64,
 ) -> Result<Option<Option<Bytes>>, DbError>
     requires { sequence < 2 ^ 56 }
-    ensures carries { Carries K.cmp (seen (S.facts source.old.store) source.old.tables source.old.blocks) (seen (S.facts source.new.store) source.new.tables source.new.blocks) }
+    ensures carries { Carries K.cmp (Only placed.now.table.number) (seen (S.facts source.old.store) source.old.tables source.old.blocks) (seen (S.facts source.new.store) source.new.tables source.new.blocks) }
     ensures found { IfOk result (λ value. SaysOfTable (order_of K.name K.cmp) (seen (S.facts source.old.store) source.old.tables source.old.blocks) (seen (S.facts source.new.store) source.new.tables source.new.blocks)
         placed.now key.now sequence value) }
     ensures still { IsStill (S.facts source.old.store) (S.facts source.new.store) result }

@@ -43,15 +43,15 @@ module _ (cmp : Cmp) where
   list_at source (p ∷ tables) (list ∷ lists) (suc i) placed h e = list_at source tables lists i placed h.1 e
 
   -- the list of one of the tables, as it was before calls that only read
-  pub list_now : (old now : Seen) (tables : List PlacedTable) (lists : List (List InternalEntry)) (i : ℕ) (placed : PlacedTable) → Carries cmp old now → IsTrue now.facts.faithful → HaveLists cmp old tables lists → slice_get tables i ≡ Some placed
+  pub list_now : {numbers : ℕ → Type 0} (old now : Seen) (tables : List PlacedTable) (lists : List (List InternalEntry)) (i : ℕ) (placed : PlacedTable) → Carries cmp numbers old now → IsTrue now.facts.faithful → HaveLists cmp old tables lists → slice_get tables i ≡ Some placed
       → (list : List InternalEntry) × HasList cmp now placed list
   list_now old now tables lists i placed carries t have at =
       let one = list_at old tables lists i placed have at in
       (one.0, (still_lists cmp old now (placed ∷ []) (one.0 ∷ []) (λ other j. same_table_at cmp old now other.table.number carries t) (carries.sound t) (one.2, tt)).0)
 
   -- a call that only reads leaves them
-  pub carried_list : (old new : Seen) (placed : PlacedTable) (list : List InternalEntry) → Carries cmp old new → IsTrue new.facts.faithful → HasList cmp old placed list → HasList cmp new placed list
+  pub carried_list : {numbers : ℕ → Type 0} (old new : Seen) (placed : PlacedTable) (list : List InternalEntry) → Carries cmp numbers old new → IsTrue new.facts.faithful → HasList cmp old placed list → HasList cmp new placed list
   carried_list old new placed list carries t h = (still_lists cmp old new (placed ∷ []) (list ∷ []) (λ other i. same_table_at cmp old new other.table.number carries t) (carries.sound t) (h, tt)).0
 
-  pub carried_lists : (old new : Seen) (tables : List PlacedTable) (lists : List (List InternalEntry)) → Carries cmp old new → IsTrue new.facts.faithful → HaveLists cmp old tables lists → HaveLists cmp new tables lists
+  pub carried_lists : {numbers : ℕ → Type 0} (old new : Seen) (tables : List PlacedTable) (lists : List (List InternalEntry)) → Carries cmp numbers old new → IsTrue new.facts.faithful → HaveLists cmp old tables lists → HaveLists cmp new tables lists
   carried_lists old new tables lists carries t h = still_lists cmp old new tables lists (λ placed i. same_table_at cmp old new placed.table.number carries t) (carries.sound t) h

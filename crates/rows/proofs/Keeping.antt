@@ -1,5 +1,5 @@
 -- What the moves of a cursor over a row keep, and which limits they pass.
-use Rattle.std.proofs.Common.{◌≡◌, ◌⊎◌, ◌∙◌, ℕ, ap, sym, length, List, Option, Some, None, IsTrue, IfSome, inl, inr}
+use Rattle.std.proofs.Common.{◌≡◌, ◌⊎◌, ◌∙◌, ℕ, ap, sym, subst, length, List, Option, Some, None, IsTrue, IfSome, inl, inr}
 use Rattle.coding.specs.declared.error.DbError.{DbError}
 use Rattle.coding.specs.declared.error.DbError.TheVariants.{OutOfMemory, Io, Corrupt, Unsupported}
 use Rattle.cursor.specs.Moves.{Refuses}
@@ -13,6 +13,7 @@ use Rattle.rows.specs.Searches.{IsOneOf, IsSameTable}
 use Rattle.rows.proofs.Having.{have_length}
 use Rattle.rows.proofs.Moving.{nothing_kept, opened_kept, row_carried, same_kept, same_limited}
 use Rattle.rows.proofs.Refusing.{limited_before, opened_limited}
+use Rattle.sources.specs.TableLaws.{carries_more}
 use Rattle.sources.specs.Tables.{Seen, Carries}
 use Rattle.store.specs.Files.{Facts}
 
@@ -25,8 +26,16 @@ refused_as e old new a b limit limited f l h = absurd h
 
 module _ {K : Type 0} {g : _} (cmp : Cmp) (row : List PlacedTable) where
   -- what only read leaves list and place
-  pub unmoved : (old new : Seen) (here : Option (InTable K g)) (at : Listed) → Carries cmp old new → IsTrue new.facts.faithful → ListsTables cmp old row here at → ListsTables cmp new row here at
+  pub unmoved : {numbers : ℕ → Type 0} (old new : Seen) (here : Option (InTable K g)) (at : Listed) → Carries cmp numbers old new → IsTrue new.facts.faithful → ListsTables cmp old row here at → ListsTables cmp new row here at
   unmoved old new here at carries t h = lists_kept cmp row here old new at (row_carried cmp row here old new carries t) h
+
+  -- ---- what is kept anew: of the tables of the row, and of the one that is open
+
+  pub searched : (now : List PlacedTable) (here : Option (InTable K g)) (old new : Seen) → now ≡ row → Carries cmp (HasNumber now) old new → Carries cmp (λ number. HasNumber row number ⊎ IsOpenNumber here number) old new
+  searched now here old new same carries = carries_more cmp old new (λ number has. inl (subst (λ (tables : List PlacedTable). HasNumber tables number) same has)) carries
+
+  pub stepped : (here : Option (InTable K g)) (old new : Seen) → Carries cmp (λ number. IsOpenNumber here number) old new → Carries cmp (λ number. HasNumber row number ⊎ IsOpenNumber here number) old new
+  stepped here old new carries = carries_more cmp old new (λ number is. inr is) carries
 
   -- ---- a search
 
@@ -35,7 +44,7 @@ module _ {K : Type 0} {g : _} (cmp : Cmp) (row : List PlacedTable) where
   found_kept old new first second here None opened k = nothing_kept cmp row here first second k
   found_kept old new first second here (Some one) opened k = opened_kept cmp row here one old new first second opened k
 
-  pub found_limited : (old new : Seen) (here found : Option (InTable K g)) → IfSome found (λ (one : InTable K g). IsOneOf cmp old new row one.cursor.number one.cursor.table.value.frame) → Carries cmp old new → IsTrue new.facts.faithful
+  pub found_limited : {numbers : ℕ → Type 0} (old new : Seen) (here found : Option (InTable K g)) → IfSome found (λ (one : InTable K g). IsOneOf cmp old new row one.cursor.number one.cursor.table.value.frame) → Carries cmp numbers old new → IsTrue new.facts.faithful
       → IsOneLimited cmp new row ⊎ IsOpenLimited found → IsOneLimited cmp old row ⊎ IsOpenLimited here
   found_limited old new here found opened carries t (inl one) = inl (limited_before cmp old new row carries t one)
   found_limited old new here None opened carries t (inr long) = absurd long
@@ -52,7 +61,7 @@ module _ {K : Type 0} {g : _} (cmp : Cmp) (row : List PlacedTable) where
   pub step_kept : (first second : Seen) (here stepped : Option (InTable K g)) → IsSameTable here stepped → KeepsTables cmp row here first second → KeepsTables cmp row stepped first second
   step_kept first second here stepped same k = record { same = k.same; sound = k.sound; here = same_kept cmp here stepped first second same k.here }
 
-  pub step_limited : (old new : Seen) (here stepped : Option (InTable K g)) → IsSameTable here stepped → Carries cmp old new → IsTrue new.facts.faithful → IsOneLimited cmp new row ⊎ IsOpenLimited stepped
+  pub step_limited : {numbers : ℕ → Type 0} (old new : Seen) (here stepped : Option (InTable K g)) → IsSameTable here stepped → Carries cmp numbers old new → IsTrue new.facts.faithful → IsOneLimited cmp new row ⊎ IsOpenLimited stepped
       → IsOneLimited cmp old row ⊎ IsOpenLimited here
   step_limited old new here stepped same carries t (inl one) = inl (limited_before cmp old new row carries t one)
   step_limited old new here stepped same carries t (inr long) = inr (same_limited here stepped same long)
@@ -65,7 +74,7 @@ module _ {K : Type 0} {g : _} (cmp : Cmp) (row : List PlacedTable) where
   step_within (Some old) (Some new) same number (inr is) = inr (sym same.0 ∙ is)
 
   -- where nothing moved
-  pub still_limited : (old new : Seen) (here : Option (InTable K g)) → Carries cmp old new → IsTrue new.facts.faithful → IsOneLimited cmp new row ⊎ IsOpenLimited here → IsOneLimited cmp old row ⊎ IsOpenLimited here
+  pub still_limited : {numbers : ℕ → Type 0} (old new : Seen) (here : Option (InTable K g)) → Carries cmp numbers old new → IsTrue new.facts.faithful → IsOneLimited cmp new row ⊎ IsOpenLimited here → IsOneLimited cmp old row ⊎ IsOpenLimited here
   still_limited old new here carries t (inl one) = inl (limited_before cmp old new row carries t one)
   still_limited old new here carries t (inr long) = inr long
 

@@ -27,11 +27,11 @@ use Rattle.table.specs.Frame.{AnyLong, Frame, handles}
 
 -- ---- what calls that only read keep
 
-pub open_carried : {K : Type 0} {g : _} (cmp : Cmp) (here : Option (InTable K g)) (old new : Seen) → Carries cmp old new → IsTrue new.facts.faithful → KeepsOpen cmp here old new
+pub open_carried : {K : Type 0} {g : _} {numbers : ℕ → Type 0} (cmp : Cmp) (here : Option (InTable K g)) (old new : Seen) → Carries cmp numbers old new → IsTrue new.facts.faithful → KeepsOpen cmp here old new
 open_carried cmp None old new carries t = tt
 open_carried cmp (Some here) old new carries t = record { same = same_table_at cmp old new here.cursor.number carries t; sound = carries.sound t }
 
-pub row_carried : {K : Type 0} {g : _} (cmp : Cmp) (row : List PlacedTable) (here : Option (InTable K g)) (old new : Seen) → Carries cmp old new → IsTrue new.facts.faithful → KeepsTables cmp row here old new
+pub row_carried : {K : Type 0} {g : _} {numbers : ℕ → Type 0} (cmp : Cmp) (row : List PlacedTable) (here : Option (InTable K g)) (old new : Seen) → Carries cmp numbers old new → IsTrue new.facts.faithful → KeepsTables cmp row here old new
 row_carried cmp row here old new carries t = record {
   same = λ placed i. same_table_at cmp old new placed.table.number carries t;
   sound = carries.sound t;
@@ -73,7 +73,7 @@ prev_inside : (entries : List InternalEntry) (place : Option ℕ) (index : ℕ) 
 prev_inside entries None index h e = absurd (let bad : None ≡ Some index = e in cc)
 prev_inside entries (Some n) index h e = let l = h n refl in before_inside n (length entries) index (omega (arith, l)) e
 
-module _ {K : Type 0} {g : _} (cmp : Cmp) (old new : Seen) (row : List PlacedTable) (here to_here : Option (InTable K g)) (at : Listed) (carries : Carries cmp old new) (t : IsTrue new.facts.faithful)
+module _ {K : Type 0} {g : _} {numbers : ℕ → Type 0} (cmp : Cmp) (old new : Seen) (row : List PlacedTable) (here to_here : Option (InTable K g)) (at : Listed) (carries : Carries cmp numbers old new) (t : IsTrue new.facts.faithful)
     (h : ListsTables cmp old row here at) where
   lists_moved : (to : Option ℕ) → IsPlacedRow cmp new h.lists to_here to → ((index : ℕ) → to ≡ Some index → index < length at.entries) → ListsTables cmp new row to_here (record at { place = to })
   lists_moved to placed inside = record {

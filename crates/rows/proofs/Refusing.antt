@@ -59,7 +59,7 @@ module _ (cmp : Cmp) (old new : Seen) (placed : PlacedTable) where
   long_one frame t says long = λ file has. inr (frame, (says t file has).0, long)
 
 -- a table that is past a limit was so before calls that only read
-pub limited_before : (cmp : Cmp) (old now : Seen) (row : List PlacedTable) → Carries cmp old now → IsTrue now.facts.faithful → IsOneLimited cmp now row → IsOneLimited cmp old row
+pub limited_before : {numbers : ℕ → Type 0} (cmp : Cmp) (old now : Seen) (row : List PlacedTable) → Carries cmp numbers old now → IsTrue now.facts.faithful → IsOneLimited cmp now row → IsOneLimited cmp old row
 limited_before cmp old now row carries t one = (one.0, one.1, λ file has. one.2 file (still_has cmp old now one.0.table.number file carries t has))
 
 -- so was that of a cursor that was opened in them
@@ -71,7 +71,7 @@ opened_limited cmp old new row number frame one t long = (
 )
 
 -- a cursor that was opened in one of them behind other reads
-pub one_opened : (cmp : Cmp) (old now new : Seen) (row : List PlacedTable) (placed : PlacedTable) (number : ℕ) (frame : Frame) → Carries cmp old now → Carries cmp now new → Contains row placed → number ≡ placed.table.number
+pub one_opened : {numbers others : ℕ → Type 0} (cmp : Cmp) (old now new : Seen) (row : List PlacedTable) (placed : PlacedTable) (number : ℕ) (frame : Frame) → Carries cmp numbers old now → Carries cmp others now new → Contains row placed → number ≡ placed.table.number
     → SaysOf cmp now new placed.table.number (λ file. IsOpen cmp file frame) → IsOneOf cmp old new row number frame
 one_opened cmp old now new row placed number frame first second there same says = record {
   placed = placed;
@@ -81,7 +81,7 @@ one_opened cmp old now new row placed number frame first second there same says 
 }
 
 -- one of them isn't read
-pub refused_at : (cmp : Cmp) (e : DbError) (old now new : Seen) (row : List PlacedTable) (placed : PlacedTable) (a b : Type 0) → Carries cmp old now → Carries cmp now new → Contains row placed → (IsTrue now.facts.faithful → a → b)
+pub refused_at : {numbers others : ℕ → Type 0} (cmp : Cmp) (e : DbError) (old now new : Seen) (row : List PlacedTable) (placed : PlacedTable) (a b : Type 0) → Carries cmp numbers old now → Carries cmp others now new → Contains row placed → (IsTrue now.facts.faithful → a → b)
     → Refuses e now.facts new.facts a (IsLimited cmp now new placed) → Refuses e old.facts new.facts b (IsOneLimited cmp old row)
 refused_at cmp e old now new row placed a b first second there f h =
     refused_later e old.facts now.facts new.facts a b (IsLimited cmp now new placed) (IsOneLimited cmp old row) first.reads second.reads f (λ t limit. inr (limited_before cmp old now row first t (placed, there, limit))) h

@@ -1,6 +1,7 @@
 -- Searches over the tables of a row, while a source is read.
 use Rattle.std.proofs.Common.{◌≡◌, ◌<◌, ◌≤◌, ◌+◌, ◌-◌, ℕ, suc, Bool, true, false, List, [], ◌∷◌, Option, Some, None, length, drop, is_some, IsTrue, refl, sym, ap, ◌∙◌, subst, arith, inl, inr}
 use Rattle.std.specs.List.{slice_get}
+use Rattle.std.specs.Prelude.{Contains}
 use Rattle.block.specs.Places.{Placed}
 use Rattle.cursor.specs.Merging.{ahead, listed}
 use Rattle.cursor.specs.Places.{Cmp, Listed, index_before, leading, to_first, to_key, within}
@@ -8,18 +9,28 @@ use Rattle.cursor.proofs.Leading.{within_cases, within_none, within_some}
 use Rattle.edits.specs.declared.field.PlacedTable.{PlacedTable}
 use Rattle.ikey.specs.Entries.{InternalEntry}
 use Rattle.ikey.specs.Keys.{Key, IsKey}
-use Rattle.rows.specs.InRows.{HasList, HaveLists, IsInTable, entries_before, joined}
+use Rattle.rows.specs.InRows.{HasList, HasNumber, HaveLists, IsInTable, entries_before, joined}
 use Rattle.rows.specs.Searches.{IsAimed, passes}
 use Rattle.rows.specs.declared.row_search.Aim.{Aim}
 use Rattle.rows.specs.declared.row_search.Aim.TheVariants.{First, From}
-use Rattle.rows.proofs.Having.{carried_list, have_length, list_at}
+use Rattle.rows.proofs.Having.{carried_list, have_length, list_at, member_at}
 use Rattle.rows.proofs.Lists.{before_inside, before_more, before_zero, ended_in, ended_past, passed_list}
 use Rattle.sources.specs.declared.in_block.InBlock.{InBlock}
 use Rattle.sources.specs.TableLaws.{placed_in}
 use Rattle.sources.specs.TablePlaces.{ListsTable, block_stands}
-use Rattle.sources.specs.Tables.{Seen, Carries}
-use Rattle.sources.proofs.Carrying.{carries_both, carries_itself}
+use Rattle.sources.specs.Tables.{Seen, Carries, Only}
+use Rattle.sources.specs.TableLaws.{carries_both, carries_itself, carries_more}
 use Rattle.table.specs.Frame.{Frame}
+
+-- ---- what is kept anew
+
+-- behind tables of the row, one of them is read
+pub read_one : (cmp : Cmp) (old now new : Seen) (row : List PlacedTable) (placed : PlacedTable) → Contains row placed → Carries cmp (HasNumber row) old now → Carries cmp (Only placed.table.number) now new → Carries cmp (HasNumber row) old new
+read_one cmp old now new row placed there first second = carries_both cmp old now new first (carries_more cmp now new (λ number same. (placed, there, sym same)) second)
+
+-- a table is opened, and then read
+pub read_opened : (cmp : Cmp) (old mid new : Seen) (number opened : ℕ) → opened ≡ number → Carries cmp (Only number) old mid → Carries cmp (Only opened) mid new → Carries cmp (Only number) old new
+read_opened cmp old mid new number opened is first second = carries_both cmp old mid new first (carries_more cmp mid new (λ other same. same ∙ is) second)
 
 -- ---- one table
 
@@ -43,7 +54,7 @@ past_if list n nowhere = elim (within_cases list n) [
   | inr h ↦ h.0
 ]
 
-module _ (cmp : Cmp) (old mid new : Seen) (placed : PlacedTable) (number : ℕ) (frame : Frame) (begun here : Option (InBlock Placed)) (carries : Carries cmp mid new)
+module _ {numbers : ℕ → Type 0} (cmp : Cmp) (old mid new : Seen) (placed : PlacedTable) (number : ℕ) (frame : Frame) (begun here : Option (InBlock Placed)) (carries : Carries cmp numbers mid new)
     (begins : IsTrue mid.facts.faithful → (list : List InternalEntry) → HasList cmp old placed list → ListsTable cmp mid number frame begun (listed list None)) (t : IsTrue new.facts.faithful) (list : List InternalEntry)
     (has : HasList cmp old placed list) where
   listed_first : ListsTable cmp mid number frame begun (listed list None)
@@ -76,7 +87,7 @@ key_refused target (Some key) aimed f = f key aimed
 module _ (cmp : Cmp) (aim : Aim) (old now : Seen) (row : List PlacedTable) (start index : ℕ) where
   -- what is sought stands from this table on where it stands from the start on
   pub record IsSearching : Type 0 where
-    pub carries : Carries cmp old now
+    pub carries : Carries cmp (HasNumber row) old now
     pub still : now.facts.failures ≡ old.facts.failures
     pub reached : IsTrue now.facts.faithful → (lists : List (List InternalEntry)) → HaveLists cmp old row lists → (goal : Option Key) → IsAimed aim goal
         → entries_before lists start + leading (passes cmp goal) (joined (drop start lists)) ≡ entries_before lists index + leading (passes cmp goal) (joined (drop index lists))
@@ -84,7 +95,7 @@ module _ (cmp : Cmp) (aim : Aim) (old now : Seen) (row : List PlacedTable) (star
 pub searching_begins : (cmp : Cmp) (aim : Aim) (old : Seen) (row : List PlacedTable) (start : ℕ) → IsSearching cmp aim old old row start start
 searching_begins cmp aim old row start = record { carries = carries_itself cmp old; still = refl; reached = λ t lists have goal aimed. refl }
 
-module _ (cmp : Cmp) (aim : Aim) (old now new : Seen) (row : List PlacedTable) (start index : ℕ) (s : IsSearching cmp aim old now row start index) (carries : Carries cmp now new) (placed : PlacedTable)
+module _ (cmp : Cmp) (aim : Aim) (old now new : Seen) (row : List PlacedTable) (start index : ℕ) (s : IsSearching cmp aim old now row start index) (placed : PlacedTable) (carries : Carries cmp (Only placed.table.number) now new)
     (at : slice_get row index ≡ Some placed) (number : ℕ) (frame : Frame) (here : Option (InBlock Placed))
     (found : IsTrue new.facts.faithful → (list : List InternalEntry) → HasList cmp now placed list → (goal : Option Key) → IsAimed aim goal → ListsTable cmp new number frame here (listed list (ahead (passes cmp goal) list))) where
   its_list : (lists : List (List InternalEntry)) → HaveLists cmp old row lists → (list : List InternalEntry) × (slice_get lists index ≡ Some list) × HasList cmp old placed list
@@ -96,7 +107,7 @@ module _ (cmp : Cmp) (aim : Aim) (old now new : Seen) (row : List PlacedTable) (
 
   pub searching_on : block_stands here ≡ false → new.facts.failures ≡ now.facts.failures → IsSearching cmp aim old new row start (index + 1)
   searching_on nowhere stood = record {
-    carries = carries_both cmp old now new s.carries carries;
+    carries = read_one cmp old now new row placed (member_at row index placed at) s.carries carries;
     still = stood ∙ s.still;
     reached = λ t lists have goal aimed.
         let one = its_list lists have in
@@ -152,15 +163,15 @@ before_of m n e = ap index_before e
 module _ (cmp : Cmp) (old now : Seen) (row : List PlacedTable) (end step : ℕ) where
   -- the tables that were read have no entry
   pub record IsSearchingBack : Type 0 where
-    pub carries : Carries cmp old now
+    pub carries : Carries cmp (HasNumber row) old now
     pub still : now.facts.failures ≡ old.facts.failures
     pub same : IsTrue now.facts.faithful → (lists : List (List InternalEntry)) → HaveLists cmp old row lists → end ≤ length lists → entries_before lists (end - step) ≡ entries_before lists end
 
 pub back_begins : (cmp : Cmp) (old : Seen) (row : List PlacedTable) (end : ℕ) → IsSearchingBack cmp old old row end 0
 back_begins cmp old row end = record { carries = carries_itself cmp old; still = refl; same = λ t lists have fits. let e : end - 0 ≡ end = omega arith in ap (entries_before lists) e }
 
-module _ (cmp : Cmp) (old now new : Seen) (row : List PlacedTable) (end step index : ℕ) (less : step < end) (its_index : index ≡ end - step - 1) (s : IsSearchingBack cmp old now row end step) (carries : Carries cmp now new)
-    (placed : PlacedTable) (at : slice_get row index ≡ Some placed) (number : ℕ) (frame : Frame) (here : Option (InBlock Placed))
+module _ (cmp : Cmp) (old now new : Seen) (row : List PlacedTable) (end step index : ℕ) (less : step < end) (its_index : index ≡ end - step - 1) (s : IsSearchingBack cmp old now row end step) (placed : PlacedTable)
+    (carries : Carries cmp (Only placed.table.number) now new) (at : slice_get row index ≡ Some placed) (number : ℕ) (frame : Frame) (here : Option (InBlock Placed))
     (found : IsTrue new.facts.faithful → (list : List InternalEntry) → HasList cmp now placed list → ListsTable cmp new number frame here (listed list (index_before (length list)))) where
   the_list : (lists : List (List InternalEntry)) → HaveLists cmp old row lists → (list : List InternalEntry) × (slice_get lists index ≡ Some list) × HasList cmp old placed list
   the_list lists have = list_at cmp old row lists index placed have at
@@ -176,7 +187,7 @@ module _ (cmp : Cmp) (old now new : Seen) (row : List PlacedTable) (end step ind
 
   pub back_on : block_stands here ≡ false → new.facts.failures ≡ now.facts.failures → IsSearchingBack cmp old new row end (step + 1)
   back_on nowhere stood = record {
-    carries = carries_both cmp old now new s.carries carries;
+    carries = read_one cmp old now new row placed (member_at row index placed at) s.carries carries;
     still = stood ∙ s.still;
     same = λ t lists have fits.
         let one = the_list lists have in

@@ -9,8 +9,7 @@ use Rattle.ikey.specs.Entries.{InternalEntry}
 use Rattle.rows.specs.declared.in_table.InTable.{InTable}
 use Rattle.rows.specs.InRows.{HasList, HaveLists, IsOneLimited, IsOpenLimited, IsPlacedRow, KeepsOpen, KeepsTables, ListsTables, table_stands}
 use Rattle.sources.specs.TableLaws.{lists_kept as table_kept, placed_in as table_placed, table_onward, table_still}
-use Rattle.sources.specs.Tables.{Seen, Carries, IsSound}
-use Rattle.sources.proofs.Carrying.{carries_both, carries_itself}
+use Rattle.sources.specs.Tables.{Seen, IsSound}
 
 pub placed_in : {K : Type 0} {g : _} (cmp : Cmp) (source : Seen) (lists : List (List InternalEntry)) (here : Option (InTable K g)) (place : Option ℕ) → IsPlacedRow cmp source lists here place → table_stands here ≡ is_some place
 placed_in cmp source lists None place h = sym (ap is_some h)
@@ -84,10 +83,3 @@ pub limits_kept : {K : Type 0} {g : _} (cmp : Cmp) (row : List PlacedTable) (her
     → IsOneLimited cmp old row ⊎ IsOpenLimited here
 limits_kept cmp row here old new k (inl one) = inl (one.0, one.1, λ file has. one.2 file (record { sound = k.sound has.sound; file_is = k.same one.0 one.1 ∙ has.file_is }))
 limits_kept cmp row here old new k (inr open_one) = inr open_one
-
--- a source leaves what it has, and so do two moves in a row
-pub row_left : (cmp : Cmp) (source : Seen) → Carries cmp source source
-row_left cmp source = carries_itself cmp source
-
-pub row_left_on : (cmp : Cmp) (first second third : Seen) → Carries cmp first second → Carries cmp second third → Carries cmp first third
-row_left_on cmp first second third k l = carries_both cmp first second third k l

@@ -3,7 +3,7 @@
 ghost use Rattle.std.specs.Prelude.{◌≤◌, ℕ, List, Option, length, IsTrue, IfErr};
 ghost use Rattle.cursor.specs.Moves.{Refuses};
 ghost use Rattle.ikey.specs.Entries.{InternalEntry};
-ghost use Rattle.rows.specs.InRows.{IsOpenLimited, IsPlacedRow, table_stands};
+ghost use Rattle.rows.specs.InRows.{IsOpenLimited, IsOpenNumber, IsPlacedRow, table_stands};
 ghost use Rattle.rows.specs.Searches.{IsSameTable, StepsBack, StepsOn};
 ghost use Rattle.sources.specs.Tables.{Carries, seen};
 ghost use Rattle.table.specs.Reading.{IsStill};
@@ -62,8 +62,9 @@ impl<K: KeyOrder> RowCursor<K> {
 }
 
 impl<K: KeyOrder, S: Store> Cursor<K, Tables<K, S>> for RowCursor<K> {
-    ghost use Rattle.rows.specs.RowLaws.{limits_kept, lists_kept, placed_in, row_left, row_left_on, row_onward, row_still};
+    ghost use Rattle.rows.specs.RowLaws.{limits_kept, lists_kept, placed_in, row_onward, row_still};
     ghost use Rattle.rows.specs.Rows.{GoesOverRow, IsRowLimited, KeepsRow, ListsRow, row_stands};
+    ghost use Rattle.sources.specs.TableLaws.{carries_both, carries_itself, carries_more};
     ghost use Rattle.sources.specs.Tables.{Carries, seen};
 
     ghost facts = { λ source. S.facts source.store };
@@ -76,7 +77,7 @@ impl<K: KeyOrder, S: Store> Cursor<K, Tables<K, S>> for RowCursor<K> {
 
     ghost limited = { λ cursor source. IsRowLimited K.cmp (seen (S.facts source.store) source.tables source.blocks) cursor };
 
-    ghost leaves = { λ old new. Carries K.cmp (seen (S.facts old.store) old.tables old.blocks) (seen (S.facts new.store) new.tables new.blocks) };
+    ghost leaves = { λ numbers old new. Carries K.cmp numbers (seen (S.facts old.store) old.tables old.blocks) (seen (S.facts new.store) new.tables new.blocks) };
 
     ghost over = { λ cursor number. GoesOverRow cursor number };
 
@@ -155,9 +156,11 @@ impl<K: KeyOrder, S: Store> Cursor<K, Tables<K, S>> for RowCursor<K> {
 
     ghost limits_kept = { λ cursor old new k l. limits_kept K.cmp _ cursor.here _ _ k l };
 
-    ghost leaves_still = { λ source. row_left K.cmp _ };
+    ghost leaves_still = { λ numbers source. carries_itself K.cmp _ };
 
-    ghost leaves_onward = { λ first second third k l. row_left_on K.cmp _ _ _ k l };
+    ghost leaves_onward = { λ numbers first second third k l. carries_both K.cmp _ _ _ k l };
+
+    ghost leaves_more = { λ fewer more old new less k. carries_more K.cmp _ _ less k };
 }
 
 // One step on within the table. On its last entry nothing moves, and the answer is the index of the table behind.
@@ -167,7 +170,7 @@ fn step_on<K: KeyOrder, S: Store>(
     source: &mut Tables<K, S>,
 ) -> Result<Option<usize>, DbError>
     requires { IsTrue (table_stands here.old) }
-    ensures carries { Carries K.cmp (seen (S.facts source.old.store) source.old.tables source.old.blocks) (seen (S.facts source.new.store) source.new.tables source.new.blocks) }
+    ensures carries { Carries K.cmp (λ number. IsOpenNumber here.old number) (seen (S.facts source.old.store) source.old.tables source.old.blocks) (seen (S.facts source.new.store) source.new.tables source.new.blocks) }
     ensures same { IsSameTable here.old here.new }
     ensures steps { IsTrue (S.facts source.new.store).faithful → (lists : List (List InternalEntry)) (place : Option ℕ) → IsPlacedRow K.cmp (seen (S.facts source.old.store) source.old.tables source.old.blocks) lists here.old place
         → StepsOn K.cmp (seen (S.facts source.new.store) source.new.tables source.new.blocks) lists here.new place result }
@@ -191,7 +194,7 @@ fn step_back<K: KeyOrder, S: Store>(
     source: &mut Tables<K, S>,
 ) -> Result<Option<usize>, DbError>
     requires { IsTrue (table_stands here.old) }
-    ensures carries { Carries K.cmp (seen (S.facts source.old.store) source.old.tables source.old.blocks) (seen (S.facts source.new.store) source.new.tables source.new.blocks) }
+    ensures carries { Carries K.cmp (λ number. IsOpenNumber here.old number) (seen (S.facts source.old.store) source.old.tables source.old.blocks) (seen (S.facts source.new.store) source.new.tables source.new.blocks) }
     ensures same { IsSameTable here.old here.new }
     ensures steps { IsTrue (S.facts source.new.store).faithful → (lists : List (List InternalEntry)) (place : Option ℕ) → IsPlacedRow K.cmp (seen (S.facts source.old.store) source.old.tables source.old.blocks) lists here.old place
         → StepsBack K.cmp (seen (S.facts source.new.store) source.new.tables source.new.blocks) lists here.new place result }

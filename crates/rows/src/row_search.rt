@@ -6,10 +6,10 @@ ghost use Rattle.cursor.specs.Moves.{Refuses};
 ghost use Rattle.cursor.specs.Places.{index_before, leading, within};
 ghost use Rattle.ikey.specs.Entries.{InternalEntry};
 ghost use Rattle.ikey.specs.Keys.{Key};
-ghost use Rattle.rows.specs.InRows.{HasList, HaveLists, IsOneLimited, IsPlacedRow, entries_before, joined};
+ghost use Rattle.rows.specs.InRows.{HasList, HasNumber, HaveLists, IsOneLimited, IsPlacedRow, entries_before, joined};
 ghost use Rattle.rows.specs.Searches.{IsAimed, IsFirstTable, IsOneOf, passes};
 ghost use Rattle.sources.specs.TablePlaces.{ListsTable};
-ghost use Rattle.sources.specs.Tables.{Carries, HasTable, IsOpen, SaysOf, seen};
+ghost use Rattle.sources.specs.Tables.{Carries, HasTable, IsOpen, Only, SaysOf, seen};
 ghost use Rattle.sources.specs.Values.{IsPastLimit};
 ghost use Rattle.table.specs.Reading.{IsStill};
 
@@ -40,7 +40,7 @@ pub fn search_on<K: KeyOrder, S: Store>(
     start: usize,
     aim: Aim<'_>,
 ) -> Result<Option<InTable<K>>, DbError>
-    ensures carries { Carries K.cmp (seen (S.facts source.old.store) source.old.tables source.old.blocks) (seen (S.facts source.new.store) source.new.tables source.new.blocks) }
+    ensures carries { Carries K.cmp (HasNumber row.now) (seen (S.facts source.old.store) source.old.tables source.old.blocks) (seen (S.facts source.new.store) source.new.tables source.new.blocks) }
     ensures found { IfOk result (λ here. IsTrue (S.facts source.new.store).faithful → (lists : List (List InternalEntry)) → HaveLists K.cmp (seen (S.facts source.old.store) source.old.tables source.old.blocks) row.now lists
         → (goal : Option Key) → IsAimed aim.entry goal
         → IsPlacedRow K.cmp (seen (S.facts source.new.store) source.new.tables source.new.blocks) lists here (within (joined lists) (entries_before lists start + leading (passes K.cmp goal) (joined (drop start lists))))) }
@@ -66,7 +66,7 @@ pub fn search_back<K: KeyOrder, S: Store>(
     row: &[PlacedTable],
     end: usize,
 ) -> Result<Option<InTable<K>>, DbError>
-    ensures carries { Carries K.cmp (seen (S.facts source.old.store) source.old.tables source.old.blocks) (seen (S.facts source.new.store) source.new.tables source.new.blocks) }
+    ensures carries { Carries K.cmp (HasNumber row.now) (seen (S.facts source.old.store) source.old.tables source.old.blocks) (seen (S.facts source.new.store) source.new.tables source.new.blocks) }
     ensures found { IfOk result (λ here. IsTrue (S.facts source.new.store).faithful → (lists : List (List InternalEntry)) → HaveLists K.cmp (seen (S.facts source.old.store) source.old.tables source.old.blocks) row.now lists
         → end ≤ length lists → IsPlacedRow K.cmp (seen (S.facts source.new.store) source.new.tables source.new.blocks) lists here (index_before (entries_before lists end))) }
     ensures opened { IfOk result (λ here. IfSome here (λ found. IsOneOf K.cmp (seen (S.facts source.old.store) source.old.tables source.old.blocks) (seen (S.facts source.new.store) source.new.tables source.new.blocks) row.now found.cursor.number found.cursor.table.value.frame)) }
@@ -113,7 +113,7 @@ fn enter<K: KeyOrder, S: Store>(
     placed: &PlacedTable,
     aim: Aim<'_>,
 ) -> Result<TableCursor<K>, DbError>
-    ensures carries { Carries K.cmp (seen (S.facts source.old.store) source.old.tables source.old.blocks) (seen (S.facts source.new.store) source.new.tables source.new.blocks) }
+    ensures carries { Carries K.cmp (Only placed.now.table.number) (seen (S.facts source.old.store) source.old.tables source.old.blocks) (seen (S.facts source.new.store) source.new.tables source.new.blocks) }
     ensures number { IfOk result (λ cursor. cursor.number ≡ placed.now.table.number) }
     ensures opened { IfOk result (λ cursor. SaysOf K.cmp (seen (S.facts source.old.store) source.old.tables source.old.blocks) (seen (S.facts source.new.store) source.new.tables source.new.blocks) placed.now.table.number (λ file. IsOpen K.cmp file cursor.table.value.frame)) }
     ensures found { IfOk result (λ cursor. IsTrue (S.facts source.new.store).faithful → (list : List InternalEntry) → HasList K.cmp (seen (S.facts source.old.store) source.old.tables source.old.blocks) placed.now list → (goal : Option Key) → IsAimed aim.entry goal
@@ -142,7 +142,7 @@ fn leave<K: KeyOrder, S: Store>(
     source: &mut Tables<K, S>,
     placed: &PlacedTable,
 ) -> Result<TableCursor<K>, DbError>
-    ensures carries { Carries K.cmp (seen (S.facts source.old.store) source.old.tables source.old.blocks) (seen (S.facts source.new.store) source.new.tables source.new.blocks) }
+    ensures carries { Carries K.cmp (Only placed.now.table.number) (seen (S.facts source.old.store) source.old.tables source.old.blocks) (seen (S.facts source.new.store) source.new.tables source.new.blocks) }
     ensures number { IfOk result (λ cursor. cursor.number ≡ placed.now.table.number) }
     ensures opened { IfOk result (λ cursor. SaysOf K.cmp (seen (S.facts source.old.store) source.old.tables source.old.blocks) (seen (S.facts source.new.store) source.new.tables source.new.blocks) placed.now.table.number (λ file. IsOpen K.cmp file cursor.table.value.frame)) }
     ensures found { IfOk result (λ cursor. IsTrue (S.facts source.new.store).faithful → (list : List InternalEntry) → HasList K.cmp (seen (S.facts source.old.store) source.old.tables source.old.blocks) placed.now list
@@ -163,7 +163,7 @@ fn open<K: KeyOrder, S: Store>(
     source: &mut Tables<K, S>,
     placed: &PlacedTable,
 ) -> Result<TableCursor<K>, DbError>
-    ensures carries { Carries K.cmp (seen (S.facts source.old.store) source.old.tables source.old.blocks) (seen (S.facts source.new.store) source.new.tables source.new.blocks) }
+    ensures carries { Carries K.cmp (Only placed.now.table.number) (seen (S.facts source.old.store) source.old.tables source.old.blocks) (seen (S.facts source.new.store) source.new.tables source.new.blocks) }
     ensures number { IfOk result (λ cursor. cursor.number ≡ placed.now.table.number) }
     ensures opened { IfOk result (λ cursor. SaysOf K.cmp (seen (S.facts source.old.store) source.old.tables source.old.blocks) (seen (S.facts source.new.store) source.new.tables source.new.blocks) placed.now.table.number (λ file. IsOpen K.cmp file cursor.table.value.frame)) }
     ensures found { IfOk result (λ cursor. IsTrue (S.facts source.new.store).faithful → (list : List InternalEntry) → HasList K.cmp (seen (S.facts source.old.store) source.old.tables source.old.blocks) placed.now list

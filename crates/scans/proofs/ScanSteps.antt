@@ -25,6 +25,7 @@ use Rattle.store.specs.Files.{Facts}
 use Rattle.scans.proofs.KeptMerges.{memory_as}
 use Rattle.scans.proofs.ReadTables.{files_kept, read_after, read_before, source_stays, table_before, tables_as, there_kept, there_left}
 use Rattle.scans.proofs.Sights.{merged_as, placed_as}
+use Rattle.sources.specs.TableLaws.{carries_more}
 use Rattle.table.specs.Reading.{IsStill}
 
 -- ---- a source that is kept
@@ -100,7 +101,7 @@ module _ {K : Type 0} {g : Ghosts K} {S : Type 0} (cmp : Cmp) (whole_of : S → 
       (to : Walked → Option ℕ) (before after : S) (old new : Scan K g) (result : Result (Unit {0}) DbError)
       (moves : IsTrue (whole_of after).seen.facts.faithful → (at : Walked) → IsWalk cmp ListsOver old.walk before at → IsWalk cmp ListsOver new.walk after (walk_after result (to at) at))
       (sequence : new.walk.sequence ≡ old.walk.sequence) (reads : ReadsAs old new)
-      (stays : Stays (λ s. (whole_of s).seen.facts) Keeps Limited (λ s t. LeavesSource cmp (whole_of s) (whole_of t)) Over old.walk.cursor new.walk.cursor before after) where
+      (stays : Stays (λ s. (whole_of s).seen.facts) Keeps Limited (λ numbers s t. LeavesSource cmp numbers (whole_of s) (whole_of t)) Over old.walk.cursor new.walk.cursor before after) where
     bound_new : ((s t : Whole) → KeepsScan cmp old s t → KeepsAll (KeepsSource cmp) old.walk.cursor.children.items s t) → (s t : Whole) → KeepsScan cmp new s t → KeepsAll (KeepsSource cmp) new.walk.cursor.children.items s t
     bound_new bound s t k i child is =
         source_stays cmp (reads_table new) child.cursor (whole_of before).seen s t (λ number over. inr (i, child, is, over)) (files_kept cmp (reads_memory new) (reads_table new) new.walk.sequence s t k)
@@ -139,7 +140,7 @@ module _ {K : Type 0} {g : Ghosts K} {S : Type 0} (cmp : Cmp) (whole_of : S → 
       };
       memory = stays.left.memory;
       reads = stays.reads;
-      carries = stays.left.carries;
+      carries = carries_more cmp (whole_of before).seen (whole_of after).seen (λ number over. inr over) stays.left.carries;
       still = still;
       stayed = stayed;
       left = left;

@@ -15,7 +15,7 @@ use Rattle.scans.specs.Places.{GoesOver, KeepsSource, LeavesSource, LimitedSourc
 use Rattle.scans.specs.Whole.{Whole}
 use Rattle.sources.specs.Memory.{memory_facts}
 use Rattle.sources.specs.Tables.{Seen, Carries}
-use Rattle.sources.proofs.Carrying.{carries_itself}
+use Rattle.sources.specs.TableLaws.{carries_itself}
 
 abbrev pub whole_of : {S T : Type 0} → (T → Seen) → (S → T) → (S → Memories) → S → Whole
 whole_of seen_of tables_of memory_of source = record { seen = seen_of (tables_of source); memory = memory_of source }
@@ -23,13 +23,13 @@ whole_of seen_of tables_of memory_of source = record { seen = seen_of (tables_of
 module _ {K : Type 0} {g : Ghosts K} {S T : Type 0} (cmp : Cmp) (seen_of : T → Seen) (tables_of : S → T) (memory_of : S → Memories) where
   abbrev pub StaysSource : SourceCursor K g → SourceCursor K g → S → S → Type 0
   StaysSource old new before after = Stays (λ source. (whole_of seen_of tables_of memory_of source).seen.facts) (λ cursor s t. KeepsSource cmp cursor (whole_of seen_of tables_of memory_of s) (whole_of seen_of tables_of memory_of t)) (λ cursor source. LimitedSource cmp cursor (whole_of seen_of tables_of memory_of source))
-      (λ s t. LeavesSource cmp (whole_of seen_of tables_of memory_of s) (whole_of seen_of tables_of memory_of t)) (λ cursor number. GoesOver cursor number) old new before after
+      (λ numbers s t. LeavesSource cmp numbers (whole_of seen_of tables_of memory_of s) (whole_of seen_of tables_of memory_of t)) (λ cursor number. GoesOver cursor number) old new before after
 
   -- a move over a memory table
   pub stays_memory : (old new : MemoriesPlace) (before after : S) → seen_of (tables_of after) ≡ seen_of (tables_of before)
-      → Stays (λ memories. memory_facts) (λ cursor s t. KeepsMemories cmp cursor s t) (λ cursor memories. ⊥) (λ s t. LeavesMemories s t) (λ cursor number. ⊥) old new (memory_of before) (memory_of after) → StaysSource (Memory old) (Memory new) before after
+      → Stays (λ memories. memory_facts) (λ cursor s t. KeepsMemories cmp cursor s t) (λ cursor memories. ⊥) (λ numbers s t. LeavesMemories s t) (λ cursor number. ⊥) old new (memory_of before) (memory_of after) → StaysSource (Memory old) (Memory new) before after
   stays_memory old new before after is h =
-      let carries = subst (λ (s : Seen). Carries cmp (seen_of (tables_of before)) s) (sym is) (carries_itself cmp (seen_of (tables_of before))) in
+      let carries = subst (λ (s : Seen). Carries cmp (λ number. ⊥) (seen_of (tables_of before)) s) (sym is) (carries_itself cmp (seen_of (tables_of before))) in
       record {
         reads = carries.reads;
         left = record { memory = h.left; carries = carries };
@@ -45,7 +45,7 @@ module _ {K : Type 0} {g : Ghosts K} {S T : Type 0} (cmp : Cmp) (seen_of : T →
 
   -- a move over a row of tables
   pub stays_row : (old new : RowCursor K g) (before after : S) → memory_of after ≡ memory_of before
-      → Stays (λ tables. (seen_of tables).facts) (λ cursor s t. KeepsRow cmp cursor (seen_of s) (seen_of t)) (λ cursor tables. IsRowLimited cmp (seen_of tables) cursor) (λ s t. Carries cmp (seen_of s) (seen_of t)) (λ cursor number. GoesOverRow cursor number) old new (tables_of before) (tables_of after)
+      → Stays (λ tables. (seen_of tables).facts) (λ cursor s t. KeepsRow cmp cursor (seen_of s) (seen_of t)) (λ cursor tables. IsRowLimited cmp (seen_of tables) cursor) (λ numbers s t. Carries cmp numbers (seen_of s) (seen_of t)) (λ cursor number. GoesOverRow cursor number) old new (tables_of before) (tables_of after)
       → StaysSource (Row old) (Row new) before after
   stays_row old new before after is h = record {
     reads = h.reads;

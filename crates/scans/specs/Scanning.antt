@@ -41,7 +41,8 @@ pub record IsScanned {K : Type 0} {g : _} (cmp : Cmp) (to : Walked → Option �
   pub keeps : IsTrue after.seen.facts.faithful → (sequence : ℕ) → KeepsUpTo cmp sequence before after
   pub memory : LeavesMemories before.memory after.memory
   pub reads : Reads before.seen.facts after.seen.facts
-  pub carries : Carries cmp before.seen after.seen
+  -- what it keeps anew is of tables that it reads
+  pub carries : Carries cmp (λ number. reads_table old number) before.seen after.seen
   pub still : IsStill before.seen.facts after.seen.facts result
   -- whatever it was
   pub stayed : OnErr result ((new.walk.stands ≡ old.walk.stands) × (new.walk.here.key.items ≡ old.walk.here.key.items))

@@ -10,7 +10,7 @@ use Rattle.scans.specs.declared.source_cursor.SourceCursor.TheVariants.{Memory, 
 use Rattle.scans.specs.Places.{ListsSource, KeepsSource, LeavesSource, LimitedSource, source_stands}
 use Rattle.scans.specs.Scans.{KeepsUpTo, KeepsWhole}
 use Rattle.scans.specs.Whole.{Whole}
-use Rattle.sources.proofs.Carrying.{carries_itself, carries_both}
+use Rattle.sources.specs.TableLaws.{carries_both, carries_itself, carries_more}
 
 -- what any scan at the sequence reads, one that reads less of it reads
 pub keeps_any : (cmp : Cmp) (generations numbers : ℕ → Type 0) (sequence : ℕ) (old new : Whole) → KeepsUpTo cmp sequence old new → KeepsWhole cmp generations numbers sequence old new
@@ -44,11 +44,14 @@ pub source_limits : {K : Type 0} {g : _} (cmp : Cmp) (cursor : SourceCursor K g)
 source_limits cmp (Memory cursor) old new k l = l
 source_limits cmp (Row cursor) old new k l = limits_kept cmp (rows_tables cursor) cursor.here old.seen new.seen k l
 
-pub source_left : (cmp : Cmp) (whole : Whole) → LeavesSource cmp whole whole
+pub source_left : {numbers : ℕ → Type 0} (cmp : Cmp) (whole : Whole) → LeavesSource cmp numbers whole whole
 source_left cmp whole = record { memory = left_there whole.memory; carries = carries_itself cmp whole.seen }
 
-pub source_left_on : (cmp : Cmp) (first second third : Whole) → LeavesSource cmp first second → LeavesSource cmp second third → LeavesSource cmp first third
+pub source_left_on : {numbers : ℕ → Type 0} (cmp : Cmp) (first second third : Whole) → LeavesSource cmp numbers first second → LeavesSource cmp numbers second third → LeavesSource cmp numbers first third
 source_left_on cmp first second third k l = record {
   memory = left_onward first.memory second.memory third.memory k.memory l.memory;
   carries = carries_both cmp first.seen second.seen third.seen k.carries l.carries;
 }
+
+pub source_left_more : {fewer more : ℕ → Type 0} (cmp : Cmp) (old new : Whole) → ((number : ℕ) → fewer number → more number) → LeavesSource cmp fewer old new → LeavesSource cmp more old new
+source_left_more cmp old new less k = record { memory = k.memory; carries = carries_more cmp old.seen new.seen less k.carries }

@@ -19,7 +19,7 @@ pub enum SourceCursor<K: KeyOrder> {
 
 impl<K: KeyOrder, S: Store> Cursor<K, Sources<K, S>> for SourceCursor<K> {
     ghost use Rattle.scans.specs.Places.{GoesOver, ListsSource, KeepsSource, LimitedSource, LeavesSource, source_stands};
-    ghost use Rattle.scans.specs.SourceLaws.{source_rises, source_placed, source_inside, source_kept, source_still, source_onward, source_limits, source_left, source_left_on};
+    ghost use Rattle.scans.specs.SourceLaws.{source_rises, source_placed, source_inside, source_kept, source_still, source_onward, source_limits, source_left, source_left_more, source_left_on};
     ghost use Rattle.scans.specs.Whole.{whole};
 
     ghost facts = { λ source. S.facts source.tables.store };
@@ -32,7 +32,7 @@ impl<K: KeyOrder, S: Store> Cursor<K, Sources<K, S>> for SourceCursor<K> {
 
     ghost limited = { λ cursor source. LimitedSource K.cmp cursor (whole (S.facts source.tables.store) source.tables.tables source.tables.blocks source.memory) };
 
-    ghost leaves = { λ old new. LeavesSource K.cmp (whole (S.facts old.tables.store) old.tables.tables old.tables.blocks old.memory) (whole (S.facts new.tables.store) new.tables.tables new.tables.blocks new.memory) };
+    ghost leaves = { λ numbers old new. LeavesSource K.cmp numbers (whole (S.facts old.tables.store) old.tables.tables old.tables.blocks old.memory) (whole (S.facts new.tables.store) new.tables.tables new.tables.blocks new.memory) };
 
     ghost over = { λ cursor number. GoesOver cursor number };
 
@@ -111,7 +111,9 @@ impl<K: KeyOrder, S: Store> Cursor<K, Sources<K, S>> for SourceCursor<K> {
 
     ghost limits_kept = { λ cursor old new k l. source_limits K.cmp cursor _ _ k l };
 
-    ghost leaves_still = { λ source. source_left K.cmp _ };
+    ghost leaves_still = { λ numbers source. source_left K.cmp _ };
 
-    ghost leaves_onward = { λ first second third k l. source_left_on K.cmp _ _ _ k l };
+    ghost leaves_onward = { λ numbers first second third k l. source_left_on K.cmp _ _ _ k l };
+
+    ghost leaves_more = { λ fewer more old new less k. source_left_more K.cmp _ _ less k };
 }

@@ -42,7 +42,7 @@ prev_inside : (entries : List InternalEntry) (place : Option ℕ) (index : ℕ) 
 prev_inside entries None index h e = absurd (let bad : None ≡ Some index = e in cc)
 prev_inside entries (Some n) index h e = let l = h n refl in before_inside n (length entries) index (omega (arith, l)) e
 
-module _ (cmp : Cmp) (old new : Seen) (number : ℕ) (frame : Frame) (here to_here : Option (InBlock Placed)) (at : Listed) (carries : Carries cmp old new) (t : IsTrue new.facts.faithful)
+module _ {numbers : ℕ → Type 0} (cmp : Cmp) (old new : Seen) (number : ℕ) (frame : Frame) (here to_here : Option (InBlock Placed)) (at : Listed) (carries : Carries cmp numbers old new) (t : IsTrue new.facts.faithful)
     (h : ListsTable cmp old number frame here at) where
   pub same_count : length (joined h.groups) ≡ length at.entries
   same_count = pairs_length (joined h.groups) at.entries h.entries_are

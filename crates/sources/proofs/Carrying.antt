@@ -1,5 +1,5 @@
 -- Calls that only read tables, one after another.
-use Rattle.std.proofs.Common.{◌≡◌, ◌⊎◌, ℕ, List, IsSome, IsTrue, refl, ap, ◌∙◌, arith, inl}
+use Rattle.std.proofs.Common.{◌≡◌, ◌⊎◌, ℕ, List, IsSome, IsTrue, ap, ◌∙◌, arith, inl}
 use Rattle.cache.specs.Tables.{table_at}
 use Rattle.cursor.specs.Places.{Cmp}
 use Rattle.edits.specs.Names.{IsNumbered}
@@ -8,9 +8,6 @@ use Rattle.sources.specs.Tables.{Seen, Carries, HasTable, HasData, KeepsOf, Know
 use Rattle.store.specs.Files.{Facts}
 use Rattle.table.specs.Frame.{Frame}
 use Rattle.table.specs.Reading.{Reads}
-
-reads_itself : (facts : Facts) → Reads facts facts
-reads_itself facts = record { faithful = λ t. t; files = λ t. refl; failures = omega arith; denials = refl; held = refl; synced = λ t. refl }
 
 pub reads_both : (old mid new : Facts) → Reads old mid → Reads mid new → Reads old new
 reads_both old mid new first second =
@@ -25,29 +22,19 @@ reads_both old mid new first second =
       synced = λ t. second.synced t ∙ first.synced (second.faithful t);
     }
 
-pub carries_itself : (cmp : Cmp) (source : Seen) → Carries cmp source source
-carries_itself cmp source = record { reads = reads_itself source.facts; sound = λ t h. h; kept = λ t number k. k }
-
-pub carries_both : (cmp : Cmp) (old mid new : Seen) → Carries cmp old mid → Carries cmp mid new → Carries cmp old new
-carries_both cmp old mid new first second = record {
-  reads = reads_both old.facts mid.facts new.facts first.reads second.reads;
-  sound = λ t h. second.sound t (first.sound (second.reads.faithful t) h);
-  kept = λ t number k. first.kept (second.reads.faithful t) number (second.kept t number k);
-}
-
 -- what is kept afterwards is of tables of which something was kept before, or that are there
-pub kept_anew : (cmp : Cmp) (old new : Seen) (number : ℕ) → Carries cmp old new → IsTrue new.facts.faithful → KeepsOf new number → KeepsOf old number ⊎ (IsNumbered number × IsSome (table_at old.facts.files number))
+pub kept_anew : {numbers : ℕ → Type 0} (cmp : Cmp) (old new : Seen) (number : ℕ) → Carries cmp numbers old new → IsTrue new.facts.faithful → KeepsOf new number → KeepsOf old number ⊎ (IsNumbered number × IsSome (table_at old.facts.files number))
 unfolding Knows
 kept_anew cmp old new number carries t kept = carries.kept t number (inl kept)
 
 -- a source has the same tables afterwards
-pub same_table_at : (cmp : Cmp) (old new : Seen) (number : ℕ) → Carries cmp old new → IsTrue new.facts.faithful → table_at new.facts.files number ≡ table_at old.facts.files number
+pub same_table_at : {numbers : ℕ → Type 0} (cmp : Cmp) (old new : Seen) (number : ℕ) → Carries cmp numbers old new → IsTrue new.facts.faithful → table_at new.facts.files number ≡ table_at old.facts.files number
 same_table_at cmp old new number carries t = ap (λ files. table_at files number) (carries.reads.files t)
 
-pub still_has : (cmp : Cmp) (old new : Seen) (number : ℕ) (file : List ℕ) → Carries cmp old new → IsTrue new.facts.faithful → HasTable cmp old number file → HasTable cmp new number file
+pub still_has : {numbers : ℕ → Type 0} (cmp : Cmp) (old new : Seen) (number : ℕ) (file : List ℕ) → Carries cmp numbers old new → IsTrue new.facts.faithful → HasTable cmp old number file → HasTable cmp new number file
 still_has cmp old new number file carries t h = record { sound = carries.sound t h.sound; file_is = same_table_at cmp old new number carries t ∙ h.file_is }
 
-pub still_data : (cmp : Cmp) (old new : Seen) (number : ℕ) (frame : Frame) (groups : List (List Pair)) → Carries cmp old new → IsTrue new.facts.faithful → HasData cmp old number frame groups
+pub still_data : {numbers : ℕ → Type 0} (cmp : Cmp) (old new : Seen) (number : ℕ) (frame : Frame) (groups : List (List Pair)) → Carries cmp numbers old new → IsTrue new.facts.faithful → HasData cmp old number frame groups
     → HasData cmp new number frame groups
 still_data cmp old new number frame groups carries t h = record {
   file = h.file;

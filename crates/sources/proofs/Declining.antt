@@ -20,7 +20,7 @@ use Rattle.table.specs.Table.{IsFilled, IsTable}
 pub filled_of : (cmp : Cmp) (file : List ℕ) (frame : Frame) (entries : List InternalEntry) → IsFrame cmp file frame → IsTable cmp file entries → IsFilled cmp file frame entries
 filled_of cmp file frame entries is table = subst (λ (f : Frame). IsFilled cmp file f entries) (one_frame cmp file table.0 frame table.1 is) table.2
 
-pub data_of : (cmp : Cmp) (old mid : Seen) (number : ℕ) (file : List ℕ) (frame : Frame) (entries : List InternalEntry) → Carries cmp old mid → IsTrue mid.facts.faithful → HasTable cmp old number file → IsOpen cmp file frame
+pub data_of : {numbers : ℕ → Type 0} (cmp : Cmp) (old mid : Seen) (number : ℕ) (file : List ℕ) (frame : Frame) (entries : List InternalEntry) → Carries cmp numbers old mid → IsTrue mid.facts.faithful → HasTable cmp old number file → IsOpen cmp file frame
     → (filled : IsFilled cmp file frame entries) → HasData cmp mid number frame filled.blocks
 data_of cmp old mid number file frame entries carries m has open_is filled = record {
   file = file;
@@ -47,7 +47,7 @@ module _ (cmp : Cmp) (old : Seen) (number : ℕ) where
   not_opened (Unsupported what) new h = λ t. inr (λ file has. inl (h t file has.file_is))
   not_opened e new h = absurd h
 
-  module _ (mid new : Seen) (first_reads : Carries cmp old mid) (second : Carries cmp mid new) (target : List ℕ) (frame : Frame) (start : ℕ) (first : IsFirstPlace cmp target frame.places start)
+  module _ {numbers : ℕ → Type 0} (mid new : Seen) (first_reads : Carries cmp numbers old mid) (second : Carries cmp numbers mid new) (target : List ℕ) (frame : Frame) (start : ℕ) (first : IsFirstPlace cmp target frame.places start)
       (says : IsTrue mid.facts.faithful → (file : List ℕ) → HasTable cmp old number file → IsOpen cmp file frame) where
     lacks_table : IsTrue new.facts.faithful → Lacks cmp mid number frame start → NoTableThere
     lacks_table t lacks file has entries table =

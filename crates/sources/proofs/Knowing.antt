@@ -8,7 +8,7 @@ use Rattle.cache.proofs.HoldingTables.{Contains-kept_table_at}
 use Rattle.coding.specs.declared.error.DbError.{DbError}
 use Rattle.cursor.specs.Places.{Cmp}
 use Rattle.edits.specs.Names.{IsNumbered}
-use Rattle.sources.specs.Tables.{Seen, Carries, KeepsOf, Knows}
+use Rattle.sources.specs.Tables.{Seen, Carries, KeepsOf, Knows, Only}
 use Rattle.sources.proofs.Carrying.{reads_both}
 use Rattle.store.specs.Files.{Facts, Files}
 use Rattle.table.specs.Frame.{Opened}
@@ -61,9 +61,28 @@ module _ (cmp : Cmp) (old : Seen) (facts : Facts) (number : ℕ) (numbered : IsN
     pub kept_opened : Knows New n → Knows old n
     kept_opened k = known_before old New n reads t kept_before k
 
+-- what is kept anew is of this table, whatever the store returns
+pub gathered_opened : (old : Seen) (facts : Facts) (number : ℕ) (answer : Result Opened DbError) (tables : List KeptTable)
+    → ((kept : KeptTable) → Contains tables kept → Contains old.tables kept ⊎ IsAnsweredTable kept number answer)
+    → (n : ℕ) → KeepsOf (record { facts = facts; tables = tables; blocks = old.blocks }) n → KeepsOf old n ⊎ Only number n
+gathered_opened old facts number answer tables kept n (inl one) = elim (kept one.0 one.1) [
+  | inl was ↦ inl (inl (one.0, was, one.2))
+  | inr is ↦ inr (sym one.2 ∙ is.0)
+]
+gathered_opened old facts number answer tables kept n (inr one) = inl (inr one)
+
 -- ---- a block is read through an open table
 
-module _ (cmp : Cmp) (old mid : Seen) (facts : Facts) (number : ℕ) (blocks : List KeptBlock) (carries : Carries cmp old mid) (reads : Reads mid.facts facts) (t : IsTrue facts.faithful) (known : Knows old number)
+pub gathered_read : (cmp : Cmp) (old mid : Seen) (facts : Facts) (number : ℕ) (blocks : List KeptBlock) → Carries cmp (Only number) old mid
+    → ((kept : KeptBlock) → Contains blocks kept → Contains mid.blocks kept ⊎ (kept.file ≡ number))
+    → (n : ℕ) → KeepsOf (record { facts = facts; tables = mid.tables; blocks = blocks }) n → KeepsOf old n ⊎ Only number n
+gathered_read cmp old mid facts number blocks carries kept n (inl one) = carries.gathered n (inl one)
+gathered_read cmp old mid facts number blocks carries kept n (inr one) = elim (kept one.0 one.1) [
+  | inl was ↦ carries.gathered n (inr (one.0, was, one.2))
+  | inr is ↦ inr (sym one.2 ∙ is)
+]
+
+module _ {numbers : ℕ → Type 0} (cmp : Cmp) (old mid : Seen) (facts : Facts) (number : ℕ) (blocks : List KeptBlock) (carries : Carries cmp numbers old mid) (reads : Reads mid.facts facts) (t : IsTrue facts.faithful) (known : Knows old number)
     (kept : (kept : KeptBlock) → Contains blocks kept → Contains mid.blocks kept ⊎ (kept.file ≡ number)) (n : ℕ) where
   abbrev Read : Seen
   Read = record { facts = facts; tables = mid.tables; blocks = blocks }

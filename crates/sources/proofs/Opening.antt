@@ -41,7 +41,7 @@ module _ (cmp : Cmp) (total : IsTotalOrder cmp) where
   entries_rise (x ∷ pairs) [] up are = absurd are
   entries_rise (x ∷ pairs) (y ∷ entries) up are = rises_behind x y pairs entries are.0 up are.1
 
-  pub begins : (old new : Seen) (number : ℕ) (frame : Frame) (file : List ℕ) (entries : List InternalEntry) → Carries cmp old new → IsTrue new.facts.faithful → HasTable cmp old number file → IsOpen cmp file frame
+  pub begins : {numbers : ℕ → Type 0} (old new : Seen) (number : ℕ) (frame : Frame) (file : List ℕ) (entries : List InternalEntry) → Carries cmp numbers old new → IsTrue new.facts.faithful → HasTable cmp old number file → IsOpen cmp file frame
       → IsTable cmp file entries → ListsTable cmp new number frame None (listed entries None)
   begins old new number frame file entries carries t has open_is table =
       let filled = subst (λ (f : Frame). IsFilled cmp file f entries) (one_frame cmp file table.0 frame table.1 open_is.0) table.2 in

@@ -11,8 +11,9 @@ use Rattle.cursor.specs.Places.{Cmp, index_before}
 use Rattle.cursor.specs.Places.{within as within_list}
 use Rattle.ikey.specs.Entries.{Pair}
 use Rattle.sources.specs.TablePlaces.{IsInBlock, StopsAt, joined, pairs_before}
-use Rattle.sources.specs.Tables.{Seen, Carries, HasData}
-use Rattle.sources.proofs.Carrying.{carries_itself, carries_both, still_data}
+use Rattle.sources.specs.Tables.{Seen, Carries, HasData, Only}
+use Rattle.sources.specs.TableLaws.{carries_both, carries_itself}
+use Rattle.sources.proofs.Carrying.{still_data}
 use Rattle.sources.proofs.Fetching.{LacksBlock}
 use Rattle.sources.proofs.Placing.{before_inside, before_more, before_zero, data_length}
 use Rattle.sources.proofs.Stopping.{HasPassed, passed_none, passed_block, stops_in, stops_nowhere}
@@ -40,14 +41,14 @@ within_no = within_none
 module _ (cmp : Cmp) (passed : List ℕ → Type 0) (old now : Seen) (number : ℕ) (frame : Frame) (start index : ℕ) where
   -- the blocks in front of this one are passed
   pub record IsSearching : Type 0 where
-    pub carries : Carries cmp old now
+    pub carries : Carries cmp (Only number) old now
     pub still : now.facts.failures ≡ old.facts.failures
     pub passed_all : IsTrue now.facts.faithful → (groups : List (List Pair)) → HasData cmp old number frame groups → HasPassed passed groups start index
 
 pub searching_begins : (cmp : Cmp) (passed : List ℕ → Type 0) (old : Seen) (number : ℕ) (frame : Frame) (start : ℕ) → IsSearching cmp passed old old number frame start start
 searching_begins cmp passed old number frame start = record { carries = carries_itself cmp old; still = refl; passed_all = λ t groups has. passed_none passed groups start }
 
-module _ (cmp : Cmp) (passed : List ℕ → Type 0) (old now new : Seen) (number : ℕ) (frame : Frame) (start index : ℕ) (s : IsSearching cmp passed old now number frame start index) (carries : Carries cmp now new)
+module _ (cmp : Cmp) (passed : List ℕ → Type 0) (old now new : Seen) (number : ℕ) (frame : Frame) (start index : ℕ) (s : IsSearching cmp passed old now number frame start index) (carries : Carries cmp (Only number) now new)
     (pairs : List Pair) (found : IsTrue new.facts.faithful → (groups : List (List Pair)) → HasData cmp now number frame groups → slice_get groups index ≡ Some pairs)
     (cursor : Placed) (its : cursor.pairs ≡ pairs) (stops : (stop : ℕ) × StopsAt passed pairs 0 stop × (cursor.place ≡ within pairs stop)) where
   block_there : IsTrue new.facts.faithful → (groups : List (List Pair)) → HasData cmp old number frame groups → slice_get groups index ≡ Some pairs
@@ -97,7 +98,7 @@ searching_none cmp passed old now number frame start index s end t groups has fi
 abbrev pub Lacks : Cmp → Seen → ℕ → Frame → ℕ → Type 0
 Lacks cmp old number frame start = (groups : List (List Pair)) → HasData cmp old number frame groups → start ≤ length groups → ⊥
 
-pub refused_at : (cmp : Cmp) (e : DbError) (old now new : Seen) (number : ℕ) (frame : Frame) (start index : ℕ) (limited : Type 0) → Carries cmp old now → Carries cmp now new
+pub refused_at : {numbers : ℕ → Type 0} (cmp : Cmp) (e : DbError) (old now new : Seen) (number : ℕ) (frame : Frame) (start index : ℕ) (limited : Type 0) → Carries cmp numbers old now → Carries cmp numbers now new
     → ((groups : List (List Pair)) → HasData cmp old number frame groups → start ≤ length groups → index < length groups)
     → Refuses e now.facts new.facts (LacksBlock cmp now number frame index) limited → Refuses e old.facts new.facts (Lacks cmp old number frame start) limited
 refused_at cmp OutOfMemory old now new number frame start index limited first second less h = tt
@@ -126,7 +127,7 @@ before_of m n e = ap index_before e
 module _ (cmp : Cmp) (old now : Seen) (number : ℕ) (frame : Frame) (end step : ℕ) where
   -- the blocks that were read have no pair
   pub record IsSearchingBack : Type 0 where
-    pub carries : Carries cmp old now
+    pub carries : Carries cmp (Only number) old now
     pub still : now.facts.failures ≡ old.facts.failures
     pub same : IsTrue now.facts.faithful → (groups : List (List Pair)) → HasData cmp old number frame groups → pairs_before groups (end - step) ≡ pairs_before groups end
 
@@ -134,7 +135,7 @@ pub back_begins : (cmp : Cmp) (old : Seen) (number : ℕ) (frame : Frame) (end :
 back_begins cmp old number frame end = record { carries = carries_itself cmp old; still = refl; same = λ t groups has. let e : end - 0 ≡ end = omega arith in ap (pairs_before groups) e }
 
 module _ (cmp : Cmp) (old now new : Seen) (number : ℕ) (frame : Frame) (end step index : ℕ) (less : step < end) (its_index : index ≡ end - step - 1) (s : IsSearchingBack cmp old now number frame end step)
-    (carries : Carries cmp now new) (pairs : List Pair) (found : IsTrue new.facts.faithful → (groups : List (List Pair)) → HasData cmp now number frame groups → slice_get groups index ≡ Some pairs)
+    (carries : Carries cmp (Only number) now new) (pairs : List Pair) (found : IsTrue new.facts.faithful → (groups : List (List Pair)) → HasData cmp now number frame groups → slice_get groups index ≡ Some pairs)
     (cursor : Placed) (its : cursor.pairs ≡ pairs) (last : cursor.place ≡ last_of pairs) where
   ends_here : IsTrue new.facts.faithful → (groups : List (List Pair)) → HasData cmp old number frame groups → (slice_get groups index ≡ Some pairs) × (pairs_before groups end ≡ pairs_before groups index + length pairs)
   ends_here t groups has =

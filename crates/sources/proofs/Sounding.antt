@@ -55,7 +55,7 @@ same_file old new number name is table old_table = elim is [
 -- ---- a block is read through an open table
 
 -- the file of the table is that of its name
-pub content_of : (cmp : Cmp) (old mid : Seen) (number : ℕ) (table : Opened) → IsTrue mid.facts.faithful → IsSound cmp old → Carries cmp old mid
+pub content_of : {numbers : ℕ → Type 0} (cmp : Cmp) (old mid : Seen) (number : ℕ) (table : Opened) → IsTrue mid.facts.faithful → IsSound cmp old → Carries cmp numbers old mid
     → SaysOf cmp old mid number (λ file. HasFile mid.facts table.name file × IsOpen cmp file table.frame) → IsContent (table_at mid.facts.files) number mid.facts table.name
 content_of cmp old mid number table t sound carries says file there =
     (says t file (record { sound = sound; file_is = ap (λ (files : Files). table_at files number) (sym (carries.reads.files t)) ∙ there })).0
@@ -70,7 +70,7 @@ sound_read cmp mid facts blocks reads t holds sound =
       blocks = subst (λ (files : Files). HoldsBlocks cmp (table_at files) blocks) same holds;
     }
 
-pub says_block : (cmp : Cmp) (old mid new : Seen) (number : ℕ) (handle : Handle) (table : Opened) (answer : Result (List Pair) DbError) → Carries cmp old mid → Reads mid.facts new.facts
+pub says_block : {numbers : ℕ → Type 0} (cmp : Cmp) (old mid new : Seen) (number : ℕ) (handle : Handle) (table : Opened) (answer : Result (List Pair) DbError) → Carries cmp numbers old mid → Reads mid.facts new.facts
     → SaysOf cmp old mid number (λ file. HasFile mid.facts table.name file × IsOpen cmp file table.frame)
     → ((content : ℕ → Option (List ℕ)) → HoldsBlocks cmp content mid.blocks → IsContent content number mid.facts table.name → IsTrue new.facts.faithful → IfOk answer (λ pairs. IsBlockOf cmp content number handle pairs))
     → IfOk answer (λ pairs. SaysOf cmp old new number (λ file. HasBlock cmp file handle pairs))
@@ -97,7 +97,7 @@ no_table cmp e old new number handle h =
     refuses_as e old.facts new.facts number (IsFrameDamaged cmp) IsFrameUnsupported (λ file. HasTable cmp old number file → IsBlockDamaged cmp handle file) (λ file. HasTable cmp old number file → IsBlockUnsupported handle file)
     (λ file d has. inl d) (λ file d has. inl d) h
 
-module _ (cmp : Cmp) (old mid new : Seen) (number : ℕ) (handle : Handle) (table : Opened) (carries : Carries cmp old mid) (stood : mid.facts.failures ≡ old.facts.failures) (reads : Reads mid.facts new.facts)
+module _ {numbers : ℕ → Type 0} (cmp : Cmp) (old mid new : Seen) (number : ℕ) (handle : Handle) (table : Opened) (carries : Carries cmp numbers old mid) (stood : mid.facts.failures ≡ old.facts.failures) (reads : Reads mid.facts new.facts)
     (says : SaysOf cmp old mid number (λ file. HasFile mid.facts table.name file × IsOpen cmp file table.frame)) where
   pub no_block : (e : DbError) → Refuses e mid.facts new.facts table.name (λ file. IsDamaged cmp file handle) (λ file. IsUnsupported file handle)
       → RefusesTable e old.facts new.facts number (λ file. HasTable cmp old number file → IsBlockDamaged cmp handle file) (λ file. HasTable cmp old number file → IsBlockUnsupported handle file)

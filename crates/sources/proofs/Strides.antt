@@ -9,7 +9,7 @@ use Rattle.sources.specs.Tables.{Seen, Carries}
 use Rattle.sources.proofs.Arrivals.{next_here, next_moved, prev_here, prev_moved, same_behind, same_count, stayed}
 use Rattle.table.specs.Frame.{Frame}
 
-module _ (cmp : Cmp) (old new : Seen) (number : ℕ) (frame : Frame) (here to_here : Option (InBlock Placed)) (at : Listed) (carries : Carries cmp old new) (t : IsTrue new.facts.faithful)
+module _ {numbers : ℕ → Type 0} (cmp : Cmp) (old new : Seen) (number : ℕ) (frame : Frame) (here to_here : Option (InBlock Placed)) (at : Listed) (carries : Carries cmp numbers old new) (t : IsTrue new.facts.faithful)
     (h : ListsTable cmp old number frame here at) where
   -- within the block
   pub went_on : StepsOn h.groups to_here at.place None → IsTrue (is_some (to_next at)) × ListsTable cmp new number frame to_here (record at { place = to_next at })
@@ -24,7 +24,7 @@ module _ (cmp : Cmp) (old new : Seen) (number : ℕ) (frame : Frame) (here to_he
   pub stays_put : IsPlacedIn h.groups to_here at.place → ListsTable cmp new number frame to_here at
   stays_put placed = stayed cmp old new number frame here to_here at carries t h placed
 
-module _ (cmp : Cmp) (old new : Seen) (number : ℕ) (frame : Frame) (here : Option (InBlock Placed)) (at : Listed) (carries : Carries cmp old new) (t : IsTrue new.facts.faithful) (h : ListsTable cmp old number frame here at) where
+module _ {numbers : ℕ → Type 0} (cmp : Cmp) (old new : Seen) (number : ℕ) (frame : Frame) (here : Option (InBlock Placed)) (at : Listed) (carries : Carries cmp numbers old new) (t : IsTrue new.facts.faithful) (h : ListsTable cmp old number frame here at) where
   -- to another block
   pub reached_on : (found : InBlock Placed) (start : ℕ) → within (joined h.groups) (pairs_before h.groups start) ≡ option_and_then (index_behind (joined h.groups)) at.place
       → ((place : ℕ) × StopsAt (λ (key : List ℕ). ⊥) (joined h.groups) (pairs_before h.groups start) place × IsPlacedIn h.groups (Some found) (within (joined h.groups) place))

@@ -77,7 +77,7 @@ module _ (cmp : Cmp) (total : IsTotalOrder cmp) (target file : List ℕ) (frame 
       sym (below_is cmp x.0.key target entry.key key false (stops.stop x.0 x.1) p.key is_key))
       (omega (arith, inside, count))
 
-pub seek_moved : (cmp : Cmp) → IsTotalOrder cmp → (old new : Seen) (number : ℕ) (frame : Frame) (here to_here : Option (InBlock Placed)) (at : Listed) → Carries cmp old new → IsTrue new.facts.faithful
+pub seek_moved : {numbers : ℕ → Type 0} (cmp : Cmp) → IsTotalOrder cmp → (old new : Seen) (number : ℕ) (frame : Frame) (here to_here : Option (InBlock Placed)) (at : Listed) → Carries cmp numbers old new → IsTrue new.facts.faithful
     → (h : ListsTable cmp old number frame here at) (target : List ℕ) (start : ℕ) (key : Key) → IsFirstPlace cmp target frame.places start → IsKey target key
     → ((place : ℕ) × StopsAt (λ (other : List ℕ). IsBelowInternal cmp other target) (joined h.groups) (pairs_before h.groups start) place × IsPlacedIn h.groups to_here (within (joined h.groups) place))
     → ListsTable cmp new number frame to_here (record at { place = to_key cmp key at })

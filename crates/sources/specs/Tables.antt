@@ -42,12 +42,18 @@ KeepsOf source number =
 unfoldable pub Knows : Seen → ℕ → Type 0
 Knows source number = KeepsOf source number ⊎ (IsNumbered number × IsSome (table_at source.facts.files number))
 
--- A call that reads tables only reads the store, and leaves what is kept right. What it keeps anew is of tables that are
--- there: of what it knows afterwards, it knew before.
-pub record Carries (cmp : Cmp) (old new : Seen) : Type 0 where
+-- the table of this number alone
+abbrev pub Only : ℕ → ℕ → Type 0
+Only number other = other ≡ number
+
+-- A call that reads tables of such numbers only reads the store, and leaves what is kept right. What it keeps anew is of
+-- tables that are there: of what it knows afterwards, it knew before. And it is of tables of such numbers, whatever the
+-- store returns.
+pub record Carries (cmp : Cmp) (numbers : ℕ → Type 0) (old new : Seen) : Type 0 where
   pub reads : Reads old.facts new.facts
   pub sound : IsTrue new.facts.faithful → IsSound cmp old → IsSound cmp new
   pub kept : IsTrue new.facts.faithful → (number : ℕ) → Knows new number → Knows old number
+  pub gathered : (number : ℕ) → KeepsOf new number → KeepsOf old number ⊎ numbers number
 
 -- the store has this file as the table of this number, and what is kept is right
 pub record HasTable (cmp : Cmp) (source : Seen) (number : ℕ) (file : List ℕ) : Type 0 where

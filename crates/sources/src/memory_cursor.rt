@@ -151,7 +151,7 @@ impl<K: KeyOrder> Cursor<K, MemTable<K>> for MemoryCursor<K> {
 
     ghost limited = { λ cursor source. ⊥ };
 
-    ghost leaves = { λ old new. old.inserts ≡ new.inserts };
+    ghost leaves = { λ numbers old new. old.inserts ≡ new.inserts };
 
     ghost over = { λ cursor number. ⊥ };
 
@@ -226,9 +226,11 @@ impl<K: KeyOrder> Cursor<K, MemTable<K>> for MemoryCursor<K> {
 
     ghost limits_kept = { λ cursor old new k l. l };
 
-    ghost leaves_still = { λ source. refl };
+    ghost leaves_still = { λ numbers source. refl };
 
-    ghost leaves_onward = { λ first second third k l. k ∙ l };
+    ghost leaves_onward = { λ numbers first second third k l. k ∙ l };
+
+    ghost leaves_more = { λ fewer more old new less k. k };
 }
 
 // The first node from this one on whose entry is up to the sequence.

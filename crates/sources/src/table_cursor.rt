@@ -35,7 +35,7 @@ impl<K: KeyOrder> TableCursor<K> {
     ghost use Rattle.ikey.specs.Entries.{InternalEntry};
     ghost use Rattle.ikey.specs.Keys.{Key, IsKey};
     ghost use Rattle.sources.specs.TablePlaces.{ListsTable, StepsTo, block_stands};
-    ghost use Rattle.sources.specs.Tables.{Carries, HasTable, IsOpen, SaysOf, seen};
+    ghost use Rattle.sources.specs.Tables.{Carries, HasTable, IsOpen, Only, SaysOf, seen};
     ghost use Rattle.table.specs.Frame.{AnyLong, handles};
     ghost use Rattle.table.specs.Reading.{IsStill};
     ghost use Rattle.table.specs.Refusals.{IsFrameDamaged, IsFrameUnsupported};
@@ -51,7 +51,7 @@ impl<K: KeyOrder> TableCursor<K> {
         requires { 0 < number }
         ensures number { IfOk result (λ cursor. cursor.number ≡ number) }
         ensures nowhere { IfOk result (λ cursor. cursor.here ≡ None) }
-        ensures carries { Carries K.cmp (seen (S.facts source.old.store) source.old.tables source.old.blocks) (seen (S.facts source.new.store) source.new.tables source.new.blocks) }
+        ensures carries { Carries K.cmp (Only number) (seen (S.facts source.old.store) source.old.tables source.old.blocks) (seen (S.facts source.new.store) source.new.tables source.new.blocks) }
         ensures lists { IfOk result (λ cursor. SaysOf K.cmp (seen (S.facts source.old.store) source.old.tables source.old.blocks) (seen (S.facts source.new.store) source.new.tables source.new.blocks) number
             (λ file. (entries : List InternalEntry) → IsTable K.cmp file entries
             → ListsTable K.cmp (seen (S.facts source.new.store) source.new.tables source.new.blocks) number cursor.table.value.frame None (listed entries None))) }
@@ -75,7 +75,7 @@ impl<K: KeyOrder> TableCursor<K> {
         alloc: Global,
         source: &mut Tables<K, S>,
     ) -> Result<(), DbError>
-        ensures carries { Carries K.cmp (seen (S.facts source.old.store) source.old.tables source.old.blocks) (seen (S.facts source.new.store) source.new.tables source.new.blocks) }
+        ensures carries { Carries K.cmp (Only self.old.number) (seen (S.facts source.old.store) source.old.tables source.old.blocks) (seen (S.facts source.new.store) source.new.tables source.new.blocks) }
         ensures number { self.new.number ≡ self.old.number }
         ensures table { self.new.table ≡ self.old.table }
         ensures moves { IsTrue (S.facts source.new.store).faithful → (at : Listed) → ListsTable K.cmp (seen (S.facts source.old.store) source.old.tables source.old.blocks) self.old.number self.old.table.value.frame self.old.here at
@@ -95,7 +95,7 @@ impl<K: KeyOrder> TableCursor<K> {
         alloc: Global,
         source: &mut Tables<K, S>,
     ) -> Result<(), DbError>
-        ensures carries { Carries K.cmp (seen (S.facts source.old.store) source.old.tables source.old.blocks) (seen (S.facts source.new.store) source.new.tables source.new.blocks) }
+        ensures carries { Carries K.cmp (Only self.old.number) (seen (S.facts source.old.store) source.old.tables source.old.blocks) (seen (S.facts source.new.store) source.new.tables source.new.blocks) }
         ensures number { self.new.number ≡ self.old.number }
         ensures table { self.new.table ≡ self.old.table }
         ensures moves { IsTrue (S.facts source.new.store).faithful → (at : Listed) → ListsTable K.cmp (seen (S.facts source.old.store) source.old.tables source.old.blocks) self.old.number self.old.table.value.frame self.old.here at
@@ -117,7 +117,7 @@ impl<K: KeyOrder> TableCursor<K> {
         source: &mut Tables<K, S>,
         target: &[u8],
     ) -> Result<(), DbError>
-        ensures carries { Carries K.cmp (seen (S.facts source.old.store) source.old.tables source.old.blocks) (seen (S.facts source.new.store) source.new.tables source.new.blocks) }
+        ensures carries { Carries K.cmp (Only self.old.number) (seen (S.facts source.old.store) source.old.tables source.old.blocks) (seen (S.facts source.new.store) source.new.tables source.new.blocks) }
         ensures number { self.new.number ≡ self.old.number }
         ensures table { self.new.table ≡ self.old.table }
         ensures moves { (key : Key) → IsKey target.now key → IsTrue (S.facts source.new.store).faithful → (at : Listed) → ListsTable K.cmp (seen (S.facts source.old.store) source.old.tables source.old.blocks) self.old.number self.old.table.value.frame self.old.here at
@@ -140,7 +140,7 @@ impl<K: KeyOrder> TableCursor<K> {
         source: &mut Tables<K, S>,
     ) -> Result<bool, DbError>
         requires { IsTrue (block_stands self.old.here) }
-        ensures carries { Carries K.cmp (seen (S.facts source.old.store) source.old.tables source.old.blocks) (seen (S.facts source.new.store) source.new.tables source.new.blocks) }
+        ensures carries { Carries K.cmp (Only self.old.number) (seen (S.facts source.old.store) source.old.tables source.old.blocks) (seen (S.facts source.new.store) source.new.tables source.new.blocks) }
         ensures number { self.new.number ≡ self.old.number }
         ensures table { self.new.table ≡ self.old.table }
         ensures steps { IsTrue (S.facts source.new.store).faithful → (at : Listed) → ListsTable K.cmp (seen (S.facts source.old.store) source.old.tables source.old.blocks) self.old.number self.old.table.value.frame self.old.here at
@@ -170,7 +170,7 @@ impl<K: KeyOrder> TableCursor<K> {
         source: &mut Tables<K, S>,
     ) -> Result<bool, DbError>
         requires { IsTrue (block_stands self.old.here) }
-        ensures carries { Carries K.cmp (seen (S.facts source.old.store) source.old.tables source.old.blocks) (seen (S.facts source.new.store) source.new.tables source.new.blocks) }
+        ensures carries { Carries K.cmp (Only self.old.number) (seen (S.facts source.old.store) source.old.tables source.old.blocks) (seen (S.facts source.new.store) source.new.tables source.new.blocks) }
         ensures number { self.new.number ≡ self.old.number }
         ensures table { self.new.table ≡ self.old.table }
         ensures steps { IsTrue (S.facts source.new.store).faithful → (at : Listed) → ListsTable K.cmp (seen (S.facts source.old.store) source.old.tables source.old.blocks) self.old.number self.old.table.value.frame self.old.here at
@@ -196,9 +196,9 @@ impl<K: KeyOrder> TableCursor<K> {
 
 impl<K: KeyOrder, S: Store> Cursor<K, Tables<K, S>> for TableCursor<K> {
     ghost use Rattle.std.specs.Prelude.{◌≡◌};
-    ghost use Rattle.sources.specs.TableLaws.{lists_kept, placed_in, table_onward, table_still};
+    ghost use Rattle.sources.specs.TableLaws.{carries_both, carries_itself, carries_more, lists_kept, placed_in, table_onward, table_still};
     ghost use Rattle.sources.specs.TablePlaces.{KeepsTable, ListsTable};
-    ghost use Rattle.sources.specs.Tables.{seen};
+    ghost use Rattle.sources.specs.Tables.{Carries, seen};
     ghost use Rattle.table.specs.Frame.{AnyLong, handles};
 
     ghost facts = { λ source. S.facts source.store };
@@ -211,7 +211,7 @@ impl<K: KeyOrder, S: Store> Cursor<K, Tables<K, S>> for TableCursor<K> {
 
     ghost limited = { λ cursor source. AnyLong (handles cursor.table.value.frame) };
 
-    ghost leaves = { λ old new. Unit {0} };
+    ghost leaves = { λ numbers old new. Carries K.cmp numbers (seen (S.facts old.store) old.tables old.blocks) (seen (S.facts new.store) new.tables new.blocks) };
 
     ghost over = { λ cursor number. number ≡ cursor.number };
 
@@ -286,9 +286,11 @@ impl<K: KeyOrder, S: Store> Cursor<K, Tables<K, S>> for TableCursor<K> {
 
     ghost limits_kept = { λ cursor old new k l. l };
 
-    ghost leaves_still = { λ source. tt };
+    ghost leaves_still = { λ numbers source. carries_itself K.cmp _ };
 
-    ghost leaves_onward = { λ first second third k l. tt };
+    ghost leaves_onward = { λ numbers first second third k l. carries_both K.cmp _ _ _ k l };
+
+    ghost leaves_more = { λ fewer more old new less k. carries_more K.cmp _ _ less k };
 }
 
 // One step on within the block. On its last pair nothing moves, and the answer is the index of the block behind.

@@ -7,7 +7,7 @@ ghost use Rattle.cursor.specs.Places.{index_before};
 ghost use Rattle.cursor.specs.Places.{within as within_list};
 ghost use Rattle.ikey.specs.Entries.{Pair};
 ghost use Rattle.sources.specs.TablePlaces.{IsPlacedIn, Passed, StopsAt, joined, pairs_before};
-ghost use Rattle.sources.specs.Tables.{Carries, HasData, seen};
+ghost use Rattle.sources.specs.Tables.{Carries, HasData, Only, seen};
 ghost use Rattle.table.specs.Frame.{AnyLong, handles};
 ghost use Rattle.table.specs.Reading.{IsStill};
 
@@ -41,7 +41,7 @@ pub fn search_on<K: KeyOrder, S: Store>(
     aim: Aim<'_>,
 ) -> Result<Option<InBlock<BlockCursor<Internal<K>>>>, DbError>
     requires { 0 < number }
-    ensures carries { Carries K.cmp (seen (S.facts source.old.store) source.old.tables source.old.blocks) (seen (S.facts source.new.store) source.new.tables source.new.blocks) }
+    ensures carries { Carries K.cmp (Only number) (seen (S.facts source.old.store) source.old.tables source.old.blocks) (seen (S.facts source.new.store) source.new.tables source.new.blocks) }
     ensures found { IfOk result (λ here. IsTrue (S.facts source.new.store).faithful → (groups : List (List Pair))
         → HasData K.cmp (seen (S.facts source.old.store) source.old.tables source.old.blocks) number table.now.frame groups → start ≤ length groups
         → (place : ℕ) × StopsAt (Passed K.cmp aim.entry) (joined groups) (pairs_before groups start) place × IsPlacedIn groups here (within_list (joined groups) place)) }
@@ -70,7 +70,7 @@ pub fn search_back<K: KeyOrder, S: Store>(
     end: usize,
 ) -> Result<Option<InBlock<BlockCursor<Internal<K>>>>, DbError>
     requires { 0 < number }
-    ensures carries { Carries K.cmp (seen (S.facts source.old.store) source.old.tables source.old.blocks) (seen (S.facts source.new.store) source.new.tables source.new.blocks) }
+    ensures carries { Carries K.cmp (Only number) (seen (S.facts source.old.store) source.old.tables source.old.blocks) (seen (S.facts source.new.store) source.new.tables source.new.blocks) }
     ensures found { IfOk result (λ here. IsTrue (S.facts source.new.store).faithful → (groups : List (List Pair))
         → HasData K.cmp (seen (S.facts source.old.store) source.old.tables source.old.blocks) number table.now.frame groups → end ≤ length groups
         → IsPlacedIn groups here (index_before (pairs_before groups end))) }
@@ -122,7 +122,7 @@ fn read_index<K: KeyOrder, S: Store>(
     index: usize,
 ) -> Result<Rc<Block<Internal<K>>>, DbError>
     requires { 0 < number }
-    ensures carries { Carries K.cmp (seen (S.facts source.old.store) source.old.tables source.old.blocks) (seen (S.facts source.new.store) source.new.tables source.new.blocks) }
+    ensures carries { Carries K.cmp (Only number) (seen (S.facts source.old.store) source.old.tables source.old.blocks) (seen (S.facts source.new.store) source.new.tables source.new.blocks) }
     ensures found { IfOk result (λ block. IsTrue (S.facts source.new.store).faithful → (groups : List (List Pair))
         → HasData K.cmp (seen (S.facts source.old.store) source.old.tables source.old.blocks) number table.now.frame groups → slice_get groups index ≡ Some block.value.pairs) }
     ensures still { IsStill (S.facts source.old.store) (S.facts source.new.store) result }

@@ -29,7 +29,7 @@ impl<K: KeyOrder, S: Store> Tables<K, S> {
     ghost use Rattle.std.specs.NonZero.{non_zero_usize_get};
     ghost use Rattle.cache.specs.Blocks.{answer_of};
     ghost use Rattle.cache.specs.Tables.{HitsTable, RefusesTable, kept_table_at, table_answer_of};
-    ghost use Rattle.sources.specs.Tables.{Carries, HasTable, IsBlockDamaged, IsBlockUnsupported, IsOpen, Knows, SaysOf, open_tables, seen};
+    ghost use Rattle.sources.specs.Tables.{Carries, HasTable, IsBlockDamaged, IsBlockUnsupported, IsOpen, Knows, Only, SaysOf, open_tables, seen};
     ghost use Rattle.table.specs.Reading.{HasFile};
     ghost use Rattle.table.specs.Refusals.{IsFrameDamaged, IsFrameUnsupported};
     ghost use Rattle.table.specs.Table.{HasBlock};
@@ -80,7 +80,7 @@ impl<K: KeyOrder, S: Store> Tables<K, S> {
     /// The open table of this number, as `TableCache::get_table`.
     pub fn get_table(&mut self, alloc: Global, number: u64) -> Result<Rc<Table<K>>, DbError>
         requires { 0 < number }
-        ensures carries { Carries K.cmp (seen (S.facts self.old.store) self.old.tables self.old.blocks) (seen (S.facts self.new.store) self.new.tables self.new.blocks) }
+        ensures carries { Carries K.cmp (Only number) (seen (S.facts self.old.store) self.old.tables self.old.blocks) (seen (S.facts self.new.store) self.new.tables self.new.blocks) }
         ensures found { IfOk (table_answer_of result) (λ table. SaysOf K.cmp (seen (S.facts self.old.store) self.old.tables self.old.blocks) (seen (S.facts self.new.store) self.new.tables self.new.blocks)
             number (λ file. HasFile (S.facts self.new.store) table.name file × IsOpen K.cmp file table.frame)) }
         // Where the table is kept it is answered, and the store isn't asked.
@@ -101,7 +101,7 @@ impl<K: KeyOrder, S: Store> Tables<K, S> {
         handle: Handle,
     ) -> Result<Rc<Block<Internal<K>>>, DbError>
         requires { 0 < number }
-        ensures carries { Carries K.cmp (seen (S.facts self.old.store) self.old.tables self.old.blocks) (seen (S.facts self.new.store) self.new.tables self.new.blocks) }
+        ensures carries { Carries K.cmp (Only number) (seen (S.facts self.old.store) self.old.tables self.old.blocks) (seen (S.facts self.new.store) self.new.tables self.new.blocks) }
         ensures found { IfOk (answer_of result) (λ pairs. SaysOf K.cmp (seen (S.facts self.old.store) self.old.tables self.old.blocks) (seen (S.facts self.new.store) self.new.tables self.new.blocks)
             number (λ file. HasBlock K.cmp file handle pairs)) }
         ensures stood { OnOk result ((S.facts self.new.store).failures ≡ (S.facts self.old.store).failures) }

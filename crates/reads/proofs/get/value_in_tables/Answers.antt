@@ -1,9 +1,9 @@
-use Rattle.std.proofs.Common.{◌<◌, ◌≤◌, ◌+◌, ◌^◌, sym, ◌∙◌, arith}
+use Rattle.std.proofs.Common.{◌∙◌, arith}
 use Rattle.std.proofs.lemmas.Result.{err_from_is_err_and}
 use Rattle.ikey.specs.Orders.{order_of}
 use Rattle.sources.specs.Tables.{seen}
 use Rattle.sources.proofs.Standing.{still_later}
-use Rattle.reads.proofs.Getting.{few_places, has_ended, is_answer, is_none, none_behind, not_read}
+use Rattle.reads.proofs.Getting.{carried, few_places, has_ended, is_answer, is_none, none_behind, not_read}
 use Rattle.reads.proofs.get.value_in_tables.Goals as goal
 
 pub returns-in_default-clause-found : goal.returns-in_default-clause-found
@@ -74,3 +74,23 @@ returns-then-is_some-clause-still g c = c.in_ok-found.ensures.still ∙ c.loop-f
 
 pub returns-clause-still : goal.returns-clause-still
 returns-clause-still g c = c.loop-from.invariant.still
+
+pub returns-in_err-found-clause-carries : goal.returns-in_err-found-clause-carries
+returns-in_err-found-clause-carries g c =
+    let order = order_of g.K.KeyOrder.name g.K.KeyOrder.cmp in
+    let old = seen (g.S.Store.facts c.args.source.now.store) c.args.source.now.tables c.args.source.now.blocks in
+    let now = seen (g.S.Store.facts c.loop-from.source.store) c.loop-from.source.tables c.loop-from.source.blocks in
+    let new = seen (g.S.Store.facts c.value_in_table.new.source.store) c.value_in_table.new.source.tables c.value_in_table.new.source.blocks in
+    let next = rw c.deref.ensures.value at c.in-Some.ensures in
+    carried order g.met.K.KeyOrder.total g.met.K.KeyOrder.exact old now c.args.version.now.tables c.args.key.now c.args.sequence c.in_ok-target.target.items c.in_ok-target.ensures c.loop-from.from c.loop-from.invariant
+    c.in-Some.place c.in-Some.placed.now next new c.value_in_table.ensures.carries
+
+pub returns-then-is_some-clause-carries : goal.returns-then-is_some-clause-carries
+returns-then-is_some-clause-carries g c =
+    let order = order_of g.K.KeyOrder.name g.K.KeyOrder.cmp in
+    let old = seen (g.S.Store.facts c.args.source.now.store) c.args.source.now.tables c.args.source.now.blocks in
+    let now = seen (g.S.Store.facts c.loop-from.source.store) c.loop-from.source.tables c.loop-from.source.blocks in
+    let new = seen (g.S.Store.facts c.value_in_table.new.source.store) c.value_in_table.new.source.tables c.value_in_table.new.source.blocks in
+    let next = rw c.deref.ensures.value at c.in-Some.ensures in
+    carried order g.met.K.KeyOrder.total g.met.K.KeyOrder.exact old now c.args.version.now.tables c.args.key.now c.args.sequence c.in_ok-target.target.items c.in_ok-target.ensures c.loop-from.from c.loop-from.invariant
+    c.in-Some.place c.in-Some.placed.now next new c.value_in_table.ensures.carries

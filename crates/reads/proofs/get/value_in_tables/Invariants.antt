@@ -1,4 +1,4 @@
-use Rattle.std.proofs.Common.{◌≡◌, ◌-◌, ◌≤◌}
+use Rattle.std.proofs.Common.{◌-◌}
 use Rattle.ikey.specs.Orders.{order_of}
 use Rattle.sources.specs.Tables.{seen}
 use Rattle.reads.proofs.Getting.{IsSought}

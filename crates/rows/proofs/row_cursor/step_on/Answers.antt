@@ -1,6 +1,7 @@
-use Rattle.std.proofs.Common.{Some}
+use Rattle.std.proofs.Common.{Some, sym}
 use Rattle.std.proofs.lemmas.Result.{err_from_is_err_and}
 use Rattle.cursor.specs.Merging.{listed}
+use Rattle.sources.specs.TableLaws.{carries_more}
 use Rattle.sources.specs.Tables.{seen}
 use Rattle.rows.proofs.Moving.{ended_on, stays_put, went_on}
 use Rattle.rows.proofs.Refusing.{refused_so}
@@ -27,3 +28,12 @@ pub returns-clause-steps : goal.returns-clause-steps
 returns-clause-steps g c = λ t lists place placed.
     let h = rw c.in-Some.is at placed in
     ended_on g.K.KeyOrder.cmp (seen (g.S.Store.facts c.args.source.now.store) c.args.source.now.tables c.args.source.now.blocks) (seen (g.S.Store.facts c.step.new.source.store) c.step.new.source.tables c.step.new.source.blocks) lists c.in-Some.here.index c.in-Some.here.cursor.number c.step.new.self.number c.in-Some.here.cursor.table.value.frame c.step.new.self.table.value.frame c.in-Some.here.cursor.here c.step.new.self.here place c.step.ensures.number (λ i. (c.step.ensures.table i).value.frame) h ((rw c.if-branch.false at c.in_ok-step.ensures.steps) t (listed h.list (Some h.inside)) h.stands)
+
+pub returns-in_err-step-clause-carries : goal.returns-in_err-step-clause-carries
+returns-in_err-step-clause-carries g c = rw c.in-Some.is (carries_more g.K.KeyOrder.cmp (seen (g.S.Store.facts c.args.source.now.store) c.args.source.now.tables c.args.source.now.blocks) (seen (g.S.Store.facts c.step.new.source.store) c.step.new.source.tables c.step.new.source.blocks) (λ number same. sym same) c.step.ensures.carries)
+
+pub returns-then-branch-clause-carries : goal.returns-then-branch-clause-carries
+returns-then-branch-clause-carries g c = rw c.in-Some.is (carries_more g.K.KeyOrder.cmp (seen (g.S.Store.facts c.args.source.now.store) c.args.source.now.tables c.args.source.now.blocks) (seen (g.S.Store.facts c.step.new.source.store) c.step.new.source.tables c.step.new.source.blocks) (λ number same. sym same) c.step.ensures.carries)
+
+pub returns-clause-carries : goal.returns-clause-carries
+returns-clause-carries g c = rw c.in-Some.is (carries_more g.K.KeyOrder.cmp (seen (g.S.Store.facts c.args.source.now.store) c.args.source.now.tables c.args.source.now.blocks) (seen (g.S.Store.facts c.step.new.source.store) c.step.new.source.tables c.step.new.source.blocks) (λ number same. sym same) c.step.ensures.carries)

@@ -3,7 +3,7 @@ use Rattle.std.proofs.lemmas.Result.{err_from_is_err_and}
 use Rattle.cursor.specs.Merging.{listed}
 use Rattle.sources.specs.Tables.{seen}
 use Rattle.rows.proofs.Refusing.{long_one, refused_later, refused_so}
-use Rattle.rows.proofs.Searching.{entered_first, entered_key, key_refused}
+use Rattle.rows.proofs.Searching.{entered_first, entered_key, key_refused, read_opened}
 use Rattle.cursor.proofs.Turns.{still_later}
 use Rattle.rows.proofs.row_search.enter.Goals as goal
 
@@ -67,3 +67,15 @@ returns-in_err-to_key-in-From-clause-still g c =
 
 pub returns-in_ok-to_key-in-From-clause-still : goal.returns-in_ok-to_key-in-From-clause-still
 returns-in_ok-to_key-in-From-clause-still g c = c.in_ok-to_key-in-From.ensures.still ∙ c.in_ok-cursor.ensures.still
+
+pub returns-in_err-to_first-in-First-clause-carries : goal.returns-in_err-to_first-in-First-clause-carries
+returns-in_err-to_first-in-First-clause-carries g c = read_opened g.K.KeyOrder.cmp (seen (g.S.Store.facts c.args.source.now.store) c.args.source.now.tables c.args.source.now.blocks) (seen (g.S.Store.facts c.open.new.source.store) c.open.new.source.tables c.open.new.source.blocks) (seen (g.S.Store.facts c.to_first.new.source.store) c.to_first.new.source.tables c.to_first.new.source.blocks) c.args.placed.now.table.number c.in_ok-cursor.cursor.number c.in_ok-cursor.ensures.number c.in_ok-cursor.ensures.carries c.to_first.ensures.carries
+
+pub returns-in_ok-to_first-in-First-clause-carries : goal.returns-in_ok-to_first-in-First-clause-carries
+returns-in_ok-to_first-in-First-clause-carries g c = read_opened g.K.KeyOrder.cmp (seen (g.S.Store.facts c.args.source.now.store) c.args.source.now.tables c.args.source.now.blocks) (seen (g.S.Store.facts c.open.new.source.store) c.open.new.source.tables c.open.new.source.blocks) (seen (g.S.Store.facts c.to_first.new.source.store) c.to_first.new.source.tables c.to_first.new.source.blocks) c.args.placed.now.table.number c.in_ok-cursor.cursor.number c.in_ok-cursor.ensures.number c.in_ok-cursor.ensures.carries c.to_first.ensures.carries
+
+pub returns-in_err-to_key-in-From-clause-carries : goal.returns-in_err-to_key-in-From-clause-carries
+returns-in_err-to_key-in-From-clause-carries g c = read_opened g.K.KeyOrder.cmp (seen (g.S.Store.facts c.args.source.now.store) c.args.source.now.tables c.args.source.now.blocks) (seen (g.S.Store.facts c.open.new.source.store) c.open.new.source.tables c.open.new.source.blocks) (seen (g.S.Store.facts c.to_key.new.source.store) c.to_key.new.source.tables c.to_key.new.source.blocks) c.args.placed.now.table.number c.in_ok-cursor.cursor.number c.in_ok-cursor.ensures.number c.in_ok-cursor.ensures.carries c.to_key.ensures.carries
+
+pub returns-in_ok-to_key-in-From-clause-carries : goal.returns-in_ok-to_key-in-From-clause-carries
+returns-in_ok-to_key-in-From-clause-carries g c = read_opened g.K.KeyOrder.cmp (seen (g.S.Store.facts c.args.source.now.store) c.args.source.now.tables c.args.source.now.blocks) (seen (g.S.Store.facts c.open.new.source.store) c.open.new.source.tables c.open.new.source.blocks) (seen (g.S.Store.facts c.to_key.new.source.store) c.to_key.new.source.tables c.to_key.new.source.blocks) c.args.placed.now.table.number c.in_ok-cursor.cursor.number c.in_ok-cursor.ensures.number c.in_ok-cursor.ensures.carries c.to_key.ensures.carries

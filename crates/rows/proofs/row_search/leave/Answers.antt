@@ -4,6 +4,7 @@ use Rattle.cursor.specs.Merging.{listed}
 use Rattle.sources.specs.Tables.{seen}
 use Rattle.rows.proofs.Refusing.{long_one, refused_later}
 use Rattle.cursor.proofs.Turns.{still_later}
+use Rattle.rows.proofs.Searching.{read_opened}
 use Rattle.rows.proofs.row_search.leave.Goals as goal
 
 pub returns-in_err-to_last-clause-refused : goal.returns-in_err-to_last-clause-refused
@@ -28,3 +29,9 @@ returns-in_err-to_last-clause-still g c =
 
 pub returns-clause-still : goal.returns-clause-still
 returns-clause-still g c = c.in_ok-to_last.ensures.still ∙ c.in_ok-cursor.ensures.still
+
+pub returns-in_err-to_last-clause-carries : goal.returns-in_err-to_last-clause-carries
+returns-in_err-to_last-clause-carries g c = read_opened g.K.KeyOrder.cmp (seen (g.S.Store.facts c.args.source.now.store) c.args.source.now.tables c.args.source.now.blocks) (seen (g.S.Store.facts c.open.new.source.store) c.open.new.source.tables c.open.new.source.blocks) (seen (g.S.Store.facts c.to_last.new.source.store) c.to_last.new.source.tables c.to_last.new.source.blocks) c.args.placed.now.table.number c.in_ok-cursor.cursor.number c.in_ok-cursor.ensures.number c.in_ok-cursor.ensures.carries c.to_last.ensures.carries
+
+pub returns-clause-carries : goal.returns-clause-carries
+returns-clause-carries g c = read_opened g.K.KeyOrder.cmp (seen (g.S.Store.facts c.args.source.now.store) c.args.source.now.tables c.args.source.now.blocks) (seen (g.S.Store.facts c.open.new.source.store) c.open.new.source.tables c.open.new.source.blocks) (seen (g.S.Store.facts c.to_last.new.source.store) c.to_last.new.source.tables c.to_last.new.source.blocks) c.args.placed.now.table.number c.in_ok-cursor.cursor.number c.in_ok-cursor.ensures.number c.in_ok-cursor.ensures.carries c.to_last.ensures.carries

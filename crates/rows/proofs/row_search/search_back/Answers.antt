@@ -3,10 +3,9 @@ use Rattle.std.proofs.lemmas.Bool.{lt-ltb, ltb-true}
 use Rattle.std.proofs.lemmas.Option.{slice_get_read}
 use Rattle.std.proofs.lemmas.Result.{err_from_is_err_and}
 use Rattle.sources.specs.Tables.{seen}
-use Rattle.sources.proofs.Carrying.{carries_both}
 use Rattle.rows.proofs.Having.{have_length, list_now, member_at}
 use Rattle.rows.proofs.Refusing.{one_opened, refused_at}
-use Rattle.rows.proofs.Searching.{back_begins, back_found, back_none, back_on}
+use Rattle.rows.proofs.Searching.{back_begins, back_found, back_none, back_on, read_one}
 use Rattle.cursor.proofs.Turns.{still_later}
 use Rattle.rows.proofs.row_search.search_back.Goals as goal
 
@@ -25,7 +24,7 @@ returns-in_default-clause-refused g c = λ t lists have fits.
     let bad : false ≡ true = none ∙ there in cc
 
 pub returns-in_err-cursor-clause-carries : goal.returns-in_err-cursor-clause-carries
-returns-in_err-cursor-clause-carries g c = carries_both g.K.KeyOrder.cmp (seen (g.S.Store.facts c.args.source.now.store) c.args.source.now.tables c.args.source.now.blocks) (seen (g.S.Store.facts c.loop-step.source.store) c.loop-step.source.tables c.loop-step.source.blocks) (seen (g.S.Store.facts c.leave.new.source.store) c.leave.new.source.tables c.leave.new.source.blocks) c.loop-step.invariant.carries c.leave.ensures.carries
+returns-in_err-cursor-clause-carries g c = read_one g.K.KeyOrder.cmp (seen (g.S.Store.facts c.args.source.now.store) c.args.source.now.tables c.args.source.now.blocks) (seen (g.S.Store.facts c.loop-step.source.store) c.loop-step.source.tables c.loop-step.source.blocks) (seen (g.S.Store.facts c.leave.new.source.store) c.leave.new.source.tables c.leave.new.source.blocks) c.args.row.now c.in-Some.placed.now (member_at c.args.row.now (c.args.end - c.loop-step.step - 1) c.in-Some.placed.now (slice_get_read c.args.row.now (length c.args.row.now) (c.args.end - c.loop-step.step - 1) c.in-Some.placed.now refl (ltb-true (c.args.end - c.loop-step.step - 1) (length c.args.row.now) (sym c.in-Some.ensures.lookup.0)) c.in-Some.ensures.lookup.1)) c.loop-step.invariant.carries c.leave.ensures.carries
 
 pub returns-in_err-cursor-clause-refused : goal.returns-in_err-cursor-clause-refused
 returns-in_err-cursor-clause-refused g c =
@@ -35,16 +34,16 @@ returns-in_err-cursor-clause-refused g c =
     (λ t none lists have fits. let one = list_now g.K.KeyOrder.cmp (seen (g.S.Store.facts c.args.source.now.store) c.args.source.now.tables c.args.source.now.blocks) (seen (g.S.Store.facts c.loop-step.source.store) c.loop-step.source.tables c.loop-step.source.blocks) c.args.row.now lists (c.args.end - c.loop-step.step - 1) c.in-Some.placed.now c.loop-step.invariant.carries t have (slice_get_read c.args.row.now (length c.args.row.now) (c.args.end - c.loop-step.step - 1) c.in-Some.placed.now refl (ltb-true (c.args.end - c.loop-step.step - 1) (length c.args.row.now) (sym c.in-Some.ensures.lookup.0)) c.in-Some.ensures.lookup.1) in none one.0 one.1) c.in_err-cursor.ensures.refused)
 
 pub returns-then-stands-clause-carries : goal.returns-then-stands-clause-carries
-returns-then-stands-clause-carries g c = carries_both g.K.KeyOrder.cmp (seen (g.S.Store.facts c.args.source.now.store) c.args.source.now.tables c.args.source.now.blocks) (seen (g.S.Store.facts c.loop-step.source.store) c.loop-step.source.tables c.loop-step.source.blocks) (seen (g.S.Store.facts c.leave.new.source.store) c.leave.new.source.tables c.leave.new.source.blocks) c.loop-step.invariant.carries c.leave.ensures.carries
+returns-then-stands-clause-carries g c = read_one g.K.KeyOrder.cmp (seen (g.S.Store.facts c.args.source.now.store) c.args.source.now.tables c.args.source.now.blocks) (seen (g.S.Store.facts c.loop-step.source.store) c.loop-step.source.tables c.loop-step.source.blocks) (seen (g.S.Store.facts c.leave.new.source.store) c.leave.new.source.tables c.leave.new.source.blocks) c.args.row.now c.in-Some.placed.now (member_at c.args.row.now (c.args.end - c.loop-step.step - 1) c.in-Some.placed.now (slice_get_read c.args.row.now (length c.args.row.now) (c.args.end - c.loop-step.step - 1) c.in-Some.placed.now refl (ltb-true (c.args.end - c.loop-step.step - 1) (length c.args.row.now) (sym c.in-Some.ensures.lookup.0)) c.in-Some.ensures.lookup.1)) c.loop-step.invariant.carries c.leave.ensures.carries
 
 pub returns-then-stands-clause-found : goal.returns-then-stands-clause-found
-returns-then-stands-clause-found g c = back_found g.K.KeyOrder.cmp (seen (g.S.Store.facts c.args.source.now.store) c.args.source.now.tables c.args.source.now.blocks) (seen (g.S.Store.facts c.loop-step.source.store) c.loop-step.source.tables c.loop-step.source.blocks) (seen (g.S.Store.facts c.leave.new.source.store) c.leave.new.source.tables c.leave.new.source.blocks) c.args.row.now c.args.end c.loop-step.step (c.args.end - c.loop-step.step - 1) (let less = c.loop-step-test.true in omega (arith, less)) refl c.loop-step.invariant c.leave.ensures.carries c.in-Some.placed.now (slice_get_read c.args.row.now (length c.args.row.now) (c.args.end - c.loop-step.step - 1) c.in-Some.placed.now refl (ltb-true (c.args.end - c.loop-step.step - 1) (length c.args.row.now) (sym c.in-Some.ensures.lookup.0)) c.in-Some.ensures.lookup.1) c.in_ok-cursor.cursor.number c.in_ok-cursor.cursor.table.value.frame c.in_ok-cursor.cursor.here c.in_ok-cursor.ensures.found (sym c.stands.ensures ∙ c.if-stands.true)
+returns-then-stands-clause-found g c = back_found g.K.KeyOrder.cmp (seen (g.S.Store.facts c.args.source.now.store) c.args.source.now.tables c.args.source.now.blocks) (seen (g.S.Store.facts c.loop-step.source.store) c.loop-step.source.tables c.loop-step.source.blocks) (seen (g.S.Store.facts c.leave.new.source.store) c.leave.new.source.tables c.leave.new.source.blocks) c.args.row.now c.args.end c.loop-step.step (c.args.end - c.loop-step.step - 1) (let less = c.loop-step-test.true in omega (arith, less)) refl c.loop-step.invariant c.in-Some.placed.now c.leave.ensures.carries (slice_get_read c.args.row.now (length c.args.row.now) (c.args.end - c.loop-step.step - 1) c.in-Some.placed.now refl (ltb-true (c.args.end - c.loop-step.step - 1) (length c.args.row.now) (sym c.in-Some.ensures.lookup.0)) c.in-Some.ensures.lookup.1) c.in_ok-cursor.cursor.number c.in_ok-cursor.cursor.table.value.frame c.in_ok-cursor.cursor.here c.in_ok-cursor.ensures.found (sym c.stands.ensures ∙ c.if-stands.true)
 
 pub returns-then-stands-clause-opened : goal.returns-then-stands-clause-opened
 returns-then-stands-clause-opened g c = one_opened g.K.KeyOrder.cmp (seen (g.S.Store.facts c.args.source.now.store) c.args.source.now.tables c.args.source.now.blocks) (seen (g.S.Store.facts c.loop-step.source.store) c.loop-step.source.tables c.loop-step.source.blocks) (seen (g.S.Store.facts c.leave.new.source.store) c.leave.new.source.tables c.leave.new.source.blocks) c.args.row.now c.in-Some.placed.now c.in_ok-cursor.cursor.number c.in_ok-cursor.cursor.table.value.frame c.loop-step.invariant.carries c.leave.ensures.carries (member_at c.args.row.now (c.args.end - c.loop-step.step - 1) c.in-Some.placed.now (slice_get_read c.args.row.now (length c.args.row.now) (c.args.end - c.loop-step.step - 1) c.in-Some.placed.now refl (ltb-true (c.args.end - c.loop-step.step - 1) (length c.args.row.now) (sym c.in-Some.ensures.lookup.0)) c.in-Some.ensures.lookup.1)) c.in_ok-cursor.ensures.number c.in_ok-cursor.ensures.opened
 
 pub loop-step-preserved : goal.loop-step-preserved
-loop-step-preserved g c = back_on g.K.KeyOrder.cmp (seen (g.S.Store.facts c.args.source.now.store) c.args.source.now.tables c.args.source.now.blocks) (seen (g.S.Store.facts c.loop-step.source.store) c.loop-step.source.tables c.loop-step.source.blocks) (seen (g.S.Store.facts c.leave.new.source.store) c.leave.new.source.tables c.leave.new.source.blocks) c.args.row.now c.args.end c.loop-step.step (c.args.end - c.loop-step.step - 1) (let less = c.loop-step-test.true in omega (arith, less)) refl c.loop-step.invariant c.leave.ensures.carries c.in-Some.placed.now (slice_get_read c.args.row.now (length c.args.row.now) (c.args.end - c.loop-step.step - 1) c.in-Some.placed.now refl (ltb-true (c.args.end - c.loop-step.step - 1) (length c.args.row.now) (sym c.in-Some.ensures.lookup.0)) c.in-Some.ensures.lookup.1) c.in_ok-cursor.cursor.number c.in_ok-cursor.cursor.table.value.frame c.in_ok-cursor.cursor.here c.in_ok-cursor.ensures.found (sym c.stands.ensures ∙ c.if-stands.false) c.in_ok-cursor.ensures.still
+loop-step-preserved g c = back_on g.K.KeyOrder.cmp (seen (g.S.Store.facts c.args.source.now.store) c.args.source.now.tables c.args.source.now.blocks) (seen (g.S.Store.facts c.loop-step.source.store) c.loop-step.source.tables c.loop-step.source.blocks) (seen (g.S.Store.facts c.leave.new.source.store) c.leave.new.source.tables c.leave.new.source.blocks) c.args.row.now c.args.end c.loop-step.step (c.args.end - c.loop-step.step - 1) (let less = c.loop-step-test.true in omega (arith, less)) refl c.loop-step.invariant c.in-Some.placed.now c.leave.ensures.carries (slice_get_read c.args.row.now (length c.args.row.now) (c.args.end - c.loop-step.step - 1) c.in-Some.placed.now refl (ltb-true (c.args.end - c.loop-step.step - 1) (length c.args.row.now) (sym c.in-Some.ensures.lookup.0)) c.in-Some.ensures.lookup.1) c.in_ok-cursor.cursor.number c.in_ok-cursor.cursor.table.value.frame c.in_ok-cursor.cursor.here c.in_ok-cursor.ensures.found (sym c.stands.ensures ∙ c.if-stands.false) c.in_ok-cursor.ensures.still
 
 pub returns-clause-carries : goal.returns-clause-carries
 returns-clause-carries g c = c.loop-step.invariant.carries

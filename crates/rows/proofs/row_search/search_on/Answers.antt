@@ -1,11 +1,10 @@
 use Rattle.std.proofs.Common.{Some, sym, ap, ◌∙◌, arith}
 use Rattle.std.proofs.lemmas.Result.{err_from_is_err_and}
 use Rattle.sources.specs.Tables.{seen}
-use Rattle.sources.proofs.Carrying.{carries_both}
 use Rattle.rows.proofs.Having.{list_now, member_at}
 use Rattle.rows.proofs.Lists.{read_at}
 use Rattle.rows.proofs.Refusing.{one_opened, refused_at}
-use Rattle.rows.proofs.Searching.{searching_begins, searching_found, searching_none, searching_on}
+use Rattle.rows.proofs.Searching.{searching_begins, searching_found, searching_none, searching_on, read_one}
 use Rattle.cursor.proofs.Turns.{still_later}
 use Rattle.rows.proofs.row_search.search_on.Goals as goal
 
@@ -13,7 +12,7 @@ pub loop-index-init : goal.loop-index-init
 loop-index-init g c = searching_begins g.K.KeyOrder.cmp c.args.aim (seen (g.S.Store.facts c.args.source.now.store) c.args.source.now.tables c.args.source.now.blocks) c.args.row.now c.args.start
 
 pub returns-in_err-cursor-clause-carries : goal.returns-in_err-cursor-clause-carries
-returns-in_err-cursor-clause-carries g c = carries_both g.K.KeyOrder.cmp (seen (g.S.Store.facts c.args.source.now.store) c.args.source.now.tables c.args.source.now.blocks) (seen (g.S.Store.facts c.loop-index.source.store) c.loop-index.source.tables c.loop-index.source.blocks) (seen (g.S.Store.facts c.enter.new.source.store) c.enter.new.source.tables c.enter.new.source.blocks) c.loop-index.invariant.carries c.enter.ensures.carries
+returns-in_err-cursor-clause-carries g c = read_one g.K.KeyOrder.cmp (seen (g.S.Store.facts c.args.source.now.store) c.args.source.now.tables c.args.source.now.blocks) (seen (g.S.Store.facts c.loop-index.source.store) c.loop-index.source.tables c.loop-index.source.blocks) (seen (g.S.Store.facts c.enter.new.source.store) c.enter.new.source.tables c.enter.new.source.blocks) c.args.row.now c.index-row-index.result (member_at c.args.row.now c.loop-index.index c.index-row-index.result (read_at c.args.row.now c.loop-index.index c.index-row-index.result (omega arith) ∙ ap Some (sym c.index-row-index.is))) c.loop-index.invariant.carries c.enter.ensures.carries
 
 pub returns-in_err-cursor-clause-refused : goal.returns-in_err-cursor-clause-refused
 returns-in_err-cursor-clause-refused g c =
@@ -23,16 +22,16 @@ returns-in_err-cursor-clause-refused g c =
     (λ t none lists goal have aimed. let one = list_now g.K.KeyOrder.cmp (seen (g.S.Store.facts c.args.source.now.store) c.args.source.now.tables c.args.source.now.blocks) (seen (g.S.Store.facts c.loop-index.source.store) c.loop-index.source.tables c.loop-index.source.blocks) c.args.row.now lists c.loop-index.index c.index-row-index.result c.loop-index.invariant.carries t have (read_at c.args.row.now c.loop-index.index c.index-row-index.result (omega arith) ∙ ap Some (sym c.index-row-index.is)) in none one.0 goal one.1 aimed) c.in_err-cursor.ensures.refused)
 
 pub returns-then-stands-clause-carries : goal.returns-then-stands-clause-carries
-returns-then-stands-clause-carries g c = carries_both g.K.KeyOrder.cmp (seen (g.S.Store.facts c.args.source.now.store) c.args.source.now.tables c.args.source.now.blocks) (seen (g.S.Store.facts c.loop-index.source.store) c.loop-index.source.tables c.loop-index.source.blocks) (seen (g.S.Store.facts c.enter.new.source.store) c.enter.new.source.tables c.enter.new.source.blocks) c.loop-index.invariant.carries c.enter.ensures.carries
+returns-then-stands-clause-carries g c = read_one g.K.KeyOrder.cmp (seen (g.S.Store.facts c.args.source.now.store) c.args.source.now.tables c.args.source.now.blocks) (seen (g.S.Store.facts c.loop-index.source.store) c.loop-index.source.tables c.loop-index.source.blocks) (seen (g.S.Store.facts c.enter.new.source.store) c.enter.new.source.tables c.enter.new.source.blocks) c.args.row.now c.index-row-index.result (member_at c.args.row.now c.loop-index.index c.index-row-index.result (read_at c.args.row.now c.loop-index.index c.index-row-index.result (omega arith) ∙ ap Some (sym c.index-row-index.is))) c.loop-index.invariant.carries c.enter.ensures.carries
 
 pub returns-then-stands-clause-found : goal.returns-then-stands-clause-found
-returns-then-stands-clause-found g c = searching_found g.K.KeyOrder.cmp c.args.aim (seen (g.S.Store.facts c.args.source.now.store) c.args.source.now.tables c.args.source.now.blocks) (seen (g.S.Store.facts c.loop-index.source.store) c.loop-index.source.tables c.loop-index.source.blocks) (seen (g.S.Store.facts c.enter.new.source.store) c.enter.new.source.tables c.enter.new.source.blocks) c.args.row.now c.args.start c.loop-index.index c.loop-index.invariant c.enter.ensures.carries c.index-row-index.result (read_at c.args.row.now c.loop-index.index c.index-row-index.result (omega arith) ∙ ap Some (sym c.index-row-index.is)) c.in_ok-cursor.cursor.number c.in_ok-cursor.cursor.table.value.frame c.in_ok-cursor.cursor.here c.in_ok-cursor.ensures.found (sym c.stands.ensures ∙ c.if-stands.true)
+returns-then-stands-clause-found g c = searching_found g.K.KeyOrder.cmp c.args.aim (seen (g.S.Store.facts c.args.source.now.store) c.args.source.now.tables c.args.source.now.blocks) (seen (g.S.Store.facts c.loop-index.source.store) c.loop-index.source.tables c.loop-index.source.blocks) (seen (g.S.Store.facts c.enter.new.source.store) c.enter.new.source.tables c.enter.new.source.blocks) c.args.row.now c.args.start c.loop-index.index c.loop-index.invariant c.index-row-index.result c.enter.ensures.carries (read_at c.args.row.now c.loop-index.index c.index-row-index.result (omega arith) ∙ ap Some (sym c.index-row-index.is)) c.in_ok-cursor.cursor.number c.in_ok-cursor.cursor.table.value.frame c.in_ok-cursor.cursor.here c.in_ok-cursor.ensures.found (sym c.stands.ensures ∙ c.if-stands.true)
 
 pub returns-then-stands-clause-opened : goal.returns-then-stands-clause-opened
 returns-then-stands-clause-opened g c = one_opened g.K.KeyOrder.cmp (seen (g.S.Store.facts c.args.source.now.store) c.args.source.now.tables c.args.source.now.blocks) (seen (g.S.Store.facts c.loop-index.source.store) c.loop-index.source.tables c.loop-index.source.blocks) (seen (g.S.Store.facts c.enter.new.source.store) c.enter.new.source.tables c.enter.new.source.blocks) c.args.row.now c.index-row-index.result c.in_ok-cursor.cursor.number c.in_ok-cursor.cursor.table.value.frame c.loop-index.invariant.carries c.enter.ensures.carries (member_at c.args.row.now c.loop-index.index c.index-row-index.result (read_at c.args.row.now c.loop-index.index c.index-row-index.result (omega arith) ∙ ap Some (sym c.index-row-index.is))) c.in_ok-cursor.ensures.number c.in_ok-cursor.ensures.opened
 
 pub loop-index-preserved : goal.loop-index-preserved
-loop-index-preserved g c = searching_on g.K.KeyOrder.cmp c.args.aim (seen (g.S.Store.facts c.args.source.now.store) c.args.source.now.tables c.args.source.now.blocks) (seen (g.S.Store.facts c.loop-index.source.store) c.loop-index.source.tables c.loop-index.source.blocks) (seen (g.S.Store.facts c.enter.new.source.store) c.enter.new.source.tables c.enter.new.source.blocks) c.args.row.now c.args.start c.loop-index.index c.loop-index.invariant c.enter.ensures.carries c.index-row-index.result (read_at c.args.row.now c.loop-index.index c.index-row-index.result (omega arith) ∙ ap Some (sym c.index-row-index.is)) c.in_ok-cursor.cursor.number c.in_ok-cursor.cursor.table.value.frame c.in_ok-cursor.cursor.here c.in_ok-cursor.ensures.found (sym c.stands.ensures ∙ c.if-stands.false) c.in_ok-cursor.ensures.still
+loop-index-preserved g c = searching_on g.K.KeyOrder.cmp c.args.aim (seen (g.S.Store.facts c.args.source.now.store) c.args.source.now.tables c.args.source.now.blocks) (seen (g.S.Store.facts c.loop-index.source.store) c.loop-index.source.tables c.loop-index.source.blocks) (seen (g.S.Store.facts c.enter.new.source.store) c.enter.new.source.tables c.enter.new.source.blocks) c.args.row.now c.args.start c.loop-index.index c.loop-index.invariant c.index-row-index.result c.enter.ensures.carries (read_at c.args.row.now c.loop-index.index c.index-row-index.result (omega arith) ∙ ap Some (sym c.index-row-index.is)) c.in_ok-cursor.cursor.number c.in_ok-cursor.cursor.table.value.frame c.in_ok-cursor.cursor.here c.in_ok-cursor.ensures.found (sym c.stands.ensures ∙ c.if-stands.false) c.in_ok-cursor.ensures.still
 
 pub returns-clause-carries : goal.returns-clause-carries
 returns-clause-carries g c = c.loop-index.invariant.carries

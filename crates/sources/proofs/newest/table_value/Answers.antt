@@ -1,4 +1,5 @@
 use Rattle.std.proofs.lemmas.Result.{err_from_is_err_and}
+use Rattle.sources.specs.TableLaws.{carries_both}
 use Rattle.sources.specs.Tables.{seen}
 use Rattle.sources.proofs.Declining.{data_of, filled_of, not_opened, not_searched, starts_inside}
 use Rattle.sources.proofs.Ruling.{undenied}
@@ -102,3 +103,27 @@ returns-clause-denied g c = λ table file kept is denies.
     let admitted = rw c.deref-3.ensures at c.if-is_denied.ensures in
     absurd (undenied g.K.KeyOrder.cmp g.met.K.KeyOrder.total g.met.K.KeyOrder.exact c.args.key.now c.args.sequence _ _ c.in_ok-table.table.value c.in_ok-table.ensures.hit c.in_ok-target.target.items
     c.in_ok-target.ensures c.first_place-start.result first admitted table file kept is denies)
+
+pub returns-in_err-found-clause-carries : goal.returns-in_err-found-clause-carries
+returns-in_err-found-clause-carries g c =
+    carries_both g.K.KeyOrder.cmp (seen (g.S.Store.facts c.args.source.now.store) c.args.source.now.tables c.args.source.now.blocks)
+    (seen (g.S.Store.facts c.get_table.new.self.store) c.get_table.new.self.tables c.get_table.new.self.blocks)
+    (seen (g.S.Store.facts c.search_on.new.source.store) c.search_on.new.source.tables c.search_on.new.source.blocks) c.get_table.ensures.carries c.search_on.ensures.carries
+
+pub returns-in_err-value-in-Some-clause-carries : goal.returns-in_err-value-in-Some-clause-carries
+returns-in_err-value-in-Some-clause-carries g c =
+    carries_both g.K.KeyOrder.cmp (seen (g.S.Store.facts c.args.source.now.store) c.args.source.now.tables c.args.source.now.blocks)
+    (seen (g.S.Store.facts c.get_table.new.self.store) c.get_table.new.self.tables c.get_table.new.self.blocks)
+    (seen (g.S.Store.facts c.search_on.new.source.store) c.search_on.new.source.tables c.search_on.new.source.blocks) c.get_table.ensures.carries c.search_on.ensures.carries
+
+pub returns-in-Some-clause-carries : goal.returns-in-Some-clause-carries
+returns-in-Some-clause-carries g c =
+    carries_both g.K.KeyOrder.cmp (seen (g.S.Store.facts c.args.source.now.store) c.args.source.now.tables c.args.source.now.blocks)
+    (seen (g.S.Store.facts c.get_table.new.self.store) c.get_table.new.self.tables c.get_table.new.self.blocks)
+    (seen (g.S.Store.facts c.search_on.new.source.store) c.search_on.new.source.tables c.search_on.new.source.blocks) c.get_table.ensures.carries c.search_on.ensures.carries
+
+pub returns-clause-carries : goal.returns-clause-carries
+returns-clause-carries g c =
+    carries_both g.K.KeyOrder.cmp (seen (g.S.Store.facts c.args.source.now.store) c.args.source.now.tables c.args.source.now.blocks)
+    (seen (g.S.Store.facts c.get_table.new.self.store) c.get_table.new.self.tables c.get_table.new.self.blocks)
+    (seen (g.S.Store.facts c.search_on.new.source.store) c.search_on.new.source.tables c.search_on.new.source.blocks) c.get_table.ensures.carries c.search_on.ensures.carries

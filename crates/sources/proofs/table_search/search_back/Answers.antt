@@ -3,7 +3,7 @@ use Rattle.std.proofs.lemmas.Result.{err_from_is_err_and}
 use Rattle.block.specs.Places.{Placed}
 use Rattle.sources.specs.Tables.{seen}
 use Rattle.table.specs.Frame.{AnyLong, handles}
-use Rattle.sources.proofs.Carrying.{carries_both}
+use Rattle.sources.specs.TableLaws.{carries_both}
 use Rattle.sources.proofs.Searching.{refused_at, back_begins, back_found, back_none, back_on}
 use Rattle.sources.proofs.Standing.{still_later}
 use Rattle.sources.proofs.table_search.search_back.Goals as goal

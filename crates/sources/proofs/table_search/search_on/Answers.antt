@@ -4,7 +4,7 @@ use Rattle.sources.specs.TablePlaces.{Passed}
 use Rattle.sources.specs.Tables.{seen}
 use Rattle.table.specs.Frame.{AnyLong, handles}
 use Rattle.table.specs.declared.handle.Place.{Place}
-use Rattle.sources.proofs.Carrying.{carries_both}
+use Rattle.sources.specs.TableLaws.{carries_both}
 use Rattle.sources.proofs.Placing.{data_length}
 use Rattle.sources.proofs.Standing.{still_later}
 use Rattle.sources.proofs.Searching.{refused_at, searching_begins, searching_found, searching_none, searching_on}

@@ -1,7 +1,7 @@
 use Rattle.std.proofs.Common.{None, inl}
 use Rattle.std.proofs.lemmas.Result.{err_from_is_err_and}
 use Rattle.rows.specs.Rows.{rows_tables}
-use Rattle.rows.proofs.Keeping.{found_kept, found_limited, found_within, refused_as, still_limited, unmoved}
+use Rattle.rows.proofs.Keeping.{found_kept, found_limited, found_within, refused_as, searched, still_limited, unmoved}
 use Rattle.sources.specs.Tables.{seen}
 use Rattle.rows.proofs.Moving.{first_moved, row_carried}
 use Rattle.rows.proofs.row_cursor.RowCursorCursorTables.first.Goals as goal
@@ -14,7 +14,7 @@ returns-in_err-self-clause-moves g c =
 pub returns-in_err-self-clause-stays : goal.returns-in_err-self-clause-stays
 returns-in_err-self-clause-stays g c = record {
   reads = c.search_on.ensures.carries.reads;
-  left = c.search_on.ensures.carries;
+  left = searched g.K.KeyOrder.cmp (rows_tables c.args.self.now) _ c.args.self.now.here (seen (g.S.Store.facts c.args.source.now.store) c.args.source.now.tables c.args.source.now.blocks) (seen (g.S.Store.facts c.search_on.new.source.store) c.search_on.new.source.tables c.search_on.new.source.blocks) c.row.ensures c.search_on.ensures.carries;
   others = λ t other. row_carried g.K.KeyOrder.cmp (rows_tables other) other.here (seen (g.S.Store.facts c.args.source.now.store) c.args.source.now.tables c.args.source.now.blocks) (seen (g.S.Store.facts c.search_on.new.source.store) c.search_on.new.source.tables c.search_on.new.source.blocks) c.search_on.ensures.carries t;
   same = λ s t k. k;
   limit = λ t l. still_limited g.K.KeyOrder.cmp (rows_tables c.args.self.now) (seen (g.S.Store.facts c.args.source.now.store) c.args.source.now.tables c.args.source.now.blocks) (seen (g.S.Store.facts c.search_on.new.source.store) c.search_on.new.source.tables c.search_on.new.source.blocks) c.args.self.now.here c.search_on.ensures.carries t l;
@@ -37,7 +37,7 @@ returns-clause-moves g c = λ t at h. first_moved g.K.KeyOrder.cmp (seen (g.S.St
 pub returns-clause-stays : goal.returns-clause-stays
 returns-clause-stays g c = record {
   reads = c.search_on.ensures.carries.reads;
-  left = c.search_on.ensures.carries;
+  left = searched g.K.KeyOrder.cmp (rows_tables c.args.self.now) _ c.args.self.now.here (seen (g.S.Store.facts c.args.source.now.store) c.args.source.now.tables c.args.source.now.blocks) (seen (g.S.Store.facts c.search_on.new.source.store) c.search_on.new.source.tables c.search_on.new.source.blocks) c.row.ensures c.search_on.ensures.carries;
   others = λ t other. row_carried g.K.KeyOrder.cmp (rows_tables other) other.here (seen (g.S.Store.facts c.args.source.now.store) c.args.source.now.tables c.args.source.now.blocks) (seen (g.S.Store.facts c.search_on.new.source.store) c.search_on.new.source.tables c.search_on.new.source.blocks) c.search_on.ensures.carries t;
   same = λ s t k. found_kept g.K.KeyOrder.cmp (rows_tables c.args.self.now) (seen (g.S.Store.facts c.args.source.now.store) c.args.source.now.tables c.args.source.now.blocks) (seen (g.S.Store.facts c.search_on.new.source.store) c.search_on.new.source.tables c.search_on.new.source.blocks) (seen (g.S.Store.facts s.store) s.tables s.blocks) (seen (g.S.Store.facts t.store) t.tables t.blocks) c.args.self.now.here c.in_ok-self.field-0 (rw c.row.ensures at c.in_ok-self.ensures.opened) k;
   limit = λ t l. found_limited g.K.KeyOrder.cmp (rows_tables c.args.self.now) (seen (g.S.Store.facts c.args.source.now.store) c.args.source.now.tables c.args.source.now.blocks) (seen (g.S.Store.facts c.search_on.new.source.store) c.search_on.new.source.tables c.search_on.new.source.blocks) c.args.self.now.here c.in_ok-self.field-0 (rw c.row.ensures at c.in_ok-self.ensures.opened) c.search_on.ensures.carries t l;

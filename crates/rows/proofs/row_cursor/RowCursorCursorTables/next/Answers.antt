@@ -3,11 +3,11 @@ use Rattle.std.proofs.lemmas.Result.{err_from_is_err_and}
 use Rattle.cursor.proofs.Turns.{still_later}
 use Rattle.rows.specs.Rows.{rows_tables}
 use Rattle.rows.proofs.Having.{carried_lists}
-use Rattle.rows.proofs.Keeping.{found_kept, found_limited, found_within, refused_as, step_kept, step_limited, step_within, unmoved}
+use Rattle.rows.proofs.Keeping.{found_kept, found_limited, found_within, refused_as, searched, step_kept, step_limited, step_within, stepped, unmoved}
 use Rattle.rows.proofs.Moving.{next_here, next_moved, row_carried, stayed}
 use Rattle.rows.proofs.Refusing.{limited_before, refused_later}
 use Rattle.sources.specs.Tables.{seen}
-use Rattle.sources.proofs.Carrying.{carries_both}
+use Rattle.sources.specs.TableLaws.{carries_both}
 use Rattle.rows.proofs.row_cursor.RowCursorCursorTables.next.Goals as goal
 
 pub returns-in_err-start-clause-moves : goal.returns-in_err-start-clause-moves
@@ -18,7 +18,7 @@ returns-in_err-start-clause-moves g c =
 pub returns-in_err-start-clause-stays : goal.returns-in_err-start-clause-stays
 returns-in_err-start-clause-stays g c = record {
   reads = c.step_on.ensures.carries.reads;
-  left = c.step_on.ensures.carries;
+  left = stepped g.K.KeyOrder.cmp (rows_tables c.args.self.now) c.args.self.now.here (seen (g.S.Store.facts c.args.source.now.store) c.args.source.now.tables c.args.source.now.blocks) (seen (g.S.Store.facts c.step_on.new.source.store) c.step_on.new.source.tables c.step_on.new.source.blocks) c.step_on.ensures.carries;
   others = λ t other. row_carried g.K.KeyOrder.cmp (rows_tables other) other.here (seen (g.S.Store.facts c.args.source.now.store) c.args.source.now.tables c.args.source.now.blocks) (seen (g.S.Store.facts c.step_on.new.source.store) c.step_on.new.source.tables c.step_on.new.source.blocks) c.step_on.ensures.carries t;
   same = λ s t k. step_kept g.K.KeyOrder.cmp (rows_tables c.args.self.now) (seen (g.S.Store.facts s.store) s.tables s.blocks) (seen (g.S.Store.facts t.store) t.tables t.blocks) c.args.self.now.here c.step_on.new.here c.step_on.ensures.same k;
   limit = λ t l. step_limited g.K.KeyOrder.cmp (rows_tables c.args.self.now) (seen (g.S.Store.facts c.args.source.now.store) c.args.source.now.tables c.args.source.now.blocks) (seen (g.S.Store.facts c.step_on.new.source.store) c.step_on.new.source.tables c.step_on.new.source.blocks) c.args.self.now.here c.step_on.new.here c.step_on.ensures.same c.step_on.ensures.carries t l;
@@ -41,7 +41,7 @@ returns-in-None-clause-moves g c = λ t at h. next_here g.K.KeyOrder.cmp (seen (
 pub returns-in-None-clause-stays : goal.returns-in-None-clause-stays
 returns-in-None-clause-stays g c = record {
   reads = c.step_on.ensures.carries.reads;
-  left = c.step_on.ensures.carries;
+  left = stepped g.K.KeyOrder.cmp (rows_tables c.args.self.now) c.args.self.now.here (seen (g.S.Store.facts c.args.source.now.store) c.args.source.now.tables c.args.source.now.blocks) (seen (g.S.Store.facts c.step_on.new.source.store) c.step_on.new.source.tables c.step_on.new.source.blocks) c.step_on.ensures.carries;
   others = λ t other. row_carried g.K.KeyOrder.cmp (rows_tables other) other.here (seen (g.S.Store.facts c.args.source.now.store) c.args.source.now.tables c.args.source.now.blocks) (seen (g.S.Store.facts c.step_on.new.source.store) c.step_on.new.source.tables c.step_on.new.source.blocks) c.step_on.ensures.carries t;
   same = λ s t k. step_kept g.K.KeyOrder.cmp (rows_tables c.args.self.now) (seen (g.S.Store.facts s.store) s.tables s.blocks) (seen (g.S.Store.facts t.store) t.tables t.blocks) c.args.self.now.here c.step_on.new.here c.step_on.ensures.same k;
   limit = λ t l. step_limited g.K.KeyOrder.cmp (rows_tables c.args.self.now) (seen (g.S.Store.facts c.args.source.now.store) c.args.source.now.tables c.args.source.now.blocks) (seen (g.S.Store.facts c.step_on.new.source.store) c.step_on.new.source.tables c.step_on.new.source.blocks) c.args.self.now.here c.step_on.new.here c.step_on.ensures.same c.step_on.ensures.carries t l;
@@ -58,11 +58,11 @@ returns-in_err-self-clause-moves g c =
 
 pub returns-in_err-self-clause-stays : goal.returns-in_err-self-clause-stays
 returns-in_err-self-clause-stays g c = record {
-  reads = (carries_both g.K.KeyOrder.cmp (seen (g.S.Store.facts c.args.source.now.store) c.args.source.now.tables c.args.source.now.blocks) (seen (g.S.Store.facts c.step_on.new.source.store) c.step_on.new.source.tables c.step_on.new.source.blocks) (seen (g.S.Store.facts c.search_on.new.source.store) c.search_on.new.source.tables c.search_on.new.source.blocks) c.step_on.ensures.carries c.search_on.ensures.carries).reads;
-  left = carries_both g.K.KeyOrder.cmp (seen (g.S.Store.facts c.args.source.now.store) c.args.source.now.tables c.args.source.now.blocks) (seen (g.S.Store.facts c.step_on.new.source.store) c.step_on.new.source.tables c.step_on.new.source.blocks) (seen (g.S.Store.facts c.search_on.new.source.store) c.search_on.new.source.tables c.search_on.new.source.blocks) c.step_on.ensures.carries c.search_on.ensures.carries;
-  others = λ t other. row_carried g.K.KeyOrder.cmp (rows_tables other) other.here (seen (g.S.Store.facts c.args.source.now.store) c.args.source.now.tables c.args.source.now.blocks) (seen (g.S.Store.facts c.search_on.new.source.store) c.search_on.new.source.tables c.search_on.new.source.blocks) (carries_both g.K.KeyOrder.cmp (seen (g.S.Store.facts c.args.source.now.store) c.args.source.now.tables c.args.source.now.blocks) (seen (g.S.Store.facts c.step_on.new.source.store) c.step_on.new.source.tables c.step_on.new.source.blocks) (seen (g.S.Store.facts c.search_on.new.source.store) c.search_on.new.source.tables c.search_on.new.source.blocks) c.step_on.ensures.carries c.search_on.ensures.carries) t;
+  reads = (carries_both g.K.KeyOrder.cmp (seen (g.S.Store.facts c.args.source.now.store) c.args.source.now.tables c.args.source.now.blocks) (seen (g.S.Store.facts c.step_on.new.source.store) c.step_on.new.source.tables c.step_on.new.source.blocks) (seen (g.S.Store.facts c.search_on.new.source.store) c.search_on.new.source.tables c.search_on.new.source.blocks) (stepped g.K.KeyOrder.cmp (rows_tables c.args.self.now) c.args.self.now.here (seen (g.S.Store.facts c.args.source.now.store) c.args.source.now.tables c.args.source.now.blocks) (seen (g.S.Store.facts c.step_on.new.source.store) c.step_on.new.source.tables c.step_on.new.source.blocks) c.step_on.ensures.carries) (searched g.K.KeyOrder.cmp (rows_tables c.args.self.now) _ c.args.self.now.here (seen (g.S.Store.facts c.step_on.new.source.store) c.step_on.new.source.tables c.step_on.new.source.blocks) (seen (g.S.Store.facts c.search_on.new.source.store) c.search_on.new.source.tables c.search_on.new.source.blocks) c.row.ensures c.search_on.ensures.carries)).reads;
+  left = carries_both g.K.KeyOrder.cmp (seen (g.S.Store.facts c.args.source.now.store) c.args.source.now.tables c.args.source.now.blocks) (seen (g.S.Store.facts c.step_on.new.source.store) c.step_on.new.source.tables c.step_on.new.source.blocks) (seen (g.S.Store.facts c.search_on.new.source.store) c.search_on.new.source.tables c.search_on.new.source.blocks) (stepped g.K.KeyOrder.cmp (rows_tables c.args.self.now) c.args.self.now.here (seen (g.S.Store.facts c.args.source.now.store) c.args.source.now.tables c.args.source.now.blocks) (seen (g.S.Store.facts c.step_on.new.source.store) c.step_on.new.source.tables c.step_on.new.source.blocks) c.step_on.ensures.carries) (searched g.K.KeyOrder.cmp (rows_tables c.args.self.now) _ c.args.self.now.here (seen (g.S.Store.facts c.step_on.new.source.store) c.step_on.new.source.tables c.step_on.new.source.blocks) (seen (g.S.Store.facts c.search_on.new.source.store) c.search_on.new.source.tables c.search_on.new.source.blocks) c.row.ensures c.search_on.ensures.carries);
+  others = λ t other. row_carried g.K.KeyOrder.cmp (rows_tables other) other.here (seen (g.S.Store.facts c.args.source.now.store) c.args.source.now.tables c.args.source.now.blocks) (seen (g.S.Store.facts c.search_on.new.source.store) c.search_on.new.source.tables c.search_on.new.source.blocks) (carries_both g.K.KeyOrder.cmp (seen (g.S.Store.facts c.args.source.now.store) c.args.source.now.tables c.args.source.now.blocks) (seen (g.S.Store.facts c.step_on.new.source.store) c.step_on.new.source.tables c.step_on.new.source.blocks) (seen (g.S.Store.facts c.search_on.new.source.store) c.search_on.new.source.tables c.search_on.new.source.blocks) (stepped g.K.KeyOrder.cmp (rows_tables c.args.self.now) c.args.self.now.here (seen (g.S.Store.facts c.args.source.now.store) c.args.source.now.tables c.args.source.now.blocks) (seen (g.S.Store.facts c.step_on.new.source.store) c.step_on.new.source.tables c.step_on.new.source.blocks) c.step_on.ensures.carries) (searched g.K.KeyOrder.cmp (rows_tables c.args.self.now) _ c.args.self.now.here (seen (g.S.Store.facts c.step_on.new.source.store) c.step_on.new.source.tables c.step_on.new.source.blocks) (seen (g.S.Store.facts c.search_on.new.source.store) c.search_on.new.source.tables c.search_on.new.source.blocks) c.row.ensures c.search_on.ensures.carries)) t;
   same = λ s t k. step_kept g.K.KeyOrder.cmp (rows_tables c.args.self.now) (seen (g.S.Store.facts s.store) s.tables s.blocks) (seen (g.S.Store.facts t.store) t.tables t.blocks) c.args.self.now.here c.step_on.new.here c.step_on.ensures.same k;
-  limit = λ t l. step_limited g.K.KeyOrder.cmp (rows_tables c.args.self.now) (seen (g.S.Store.facts c.args.source.now.store) c.args.source.now.tables c.args.source.now.blocks) (seen (g.S.Store.facts c.search_on.new.source.store) c.search_on.new.source.tables c.search_on.new.source.blocks) c.args.self.now.here c.step_on.new.here c.step_on.ensures.same (carries_both g.K.KeyOrder.cmp (seen (g.S.Store.facts c.args.source.now.store) c.args.source.now.tables c.args.source.now.blocks) (seen (g.S.Store.facts c.step_on.new.source.store) c.step_on.new.source.tables c.step_on.new.source.blocks) (seen (g.S.Store.facts c.search_on.new.source.store) c.search_on.new.source.tables c.search_on.new.source.blocks) c.step_on.ensures.carries c.search_on.ensures.carries) t l;
+  limit = λ t l. step_limited g.K.KeyOrder.cmp (rows_tables c.args.self.now) (seen (g.S.Store.facts c.args.source.now.store) c.args.source.now.tables c.args.source.now.blocks) (seen (g.S.Store.facts c.search_on.new.source.store) c.search_on.new.source.tables c.search_on.new.source.blocks) c.args.self.now.here c.step_on.new.here c.step_on.ensures.same (carries_both g.K.KeyOrder.cmp (seen (g.S.Store.facts c.args.source.now.store) c.args.source.now.tables c.args.source.now.blocks) (seen (g.S.Store.facts c.step_on.new.source.store) c.step_on.new.source.tables c.step_on.new.source.blocks) (seen (g.S.Store.facts c.search_on.new.source.store) c.search_on.new.source.tables c.search_on.new.source.blocks) (stepped g.K.KeyOrder.cmp (rows_tables c.args.self.now) c.args.self.now.here (seen (g.S.Store.facts c.args.source.now.store) c.args.source.now.tables c.args.source.now.blocks) (seen (g.S.Store.facts c.step_on.new.source.store) c.step_on.new.source.tables c.step_on.new.source.blocks) c.step_on.ensures.carries) (searched g.K.KeyOrder.cmp (rows_tables c.args.self.now) _ c.args.self.now.here (seen (g.S.Store.facts c.step_on.new.source.store) c.step_on.new.source.tables c.step_on.new.source.blocks) (seen (g.S.Store.facts c.search_on.new.source.store) c.search_on.new.source.tables c.search_on.new.source.blocks) c.row.ensures c.search_on.ensures.carries)) t l;
   within = λ number o. step_within g.K.KeyOrder.cmp (rows_tables c.args.self.now) c.args.self.now.here c.step_on.new.here c.step_on.ensures.same number o;
 }
 
@@ -81,13 +81,13 @@ returns-in_err-self-clause-refused g c =
 pub returns-clause-moves : goal.returns-clause-moves
 returns-clause-moves g c = λ t at h.
     let step = (rw c.in-Some.is at c.in_ok-start.ensures.steps) (c.search_on.ensures.carries.reads.faithful t) h.lists at.place h.place in
-    next_moved g.K.KeyOrder.cmp (seen (g.S.Store.facts c.args.source.now.store) c.args.source.now.tables c.args.source.now.blocks) (seen (g.S.Store.facts c.search_on.new.source.store) c.search_on.new.source.tables c.search_on.new.source.blocks) (rows_tables c.args.self.now) c.args.self.now.here c.in_ok-self.field-0 at (carries_both g.K.KeyOrder.cmp (seen (g.S.Store.facts c.args.source.now.store) c.args.source.now.tables c.args.source.now.blocks) (seen (g.S.Store.facts c.step_on.new.source.store) c.step_on.new.source.tables c.step_on.new.source.blocks) (seen (g.S.Store.facts c.search_on.new.source.store) c.search_on.new.source.tables c.search_on.new.source.blocks) c.step_on.ensures.carries c.search_on.ensures.carries) t h c.in-Some.start step.2 ((rw c.row.ensures at c.in_ok-self.ensures.found) t h.lists (carried_lists g.K.KeyOrder.cmp (seen (g.S.Store.facts c.args.source.now.store) c.args.source.now.tables c.args.source.now.blocks) (seen (g.S.Store.facts c.step_on.new.source.store) c.step_on.new.source.tables c.step_on.new.source.blocks) (rows_tables c.args.self.now) h.lists c.step_on.ensures.carries (c.search_on.ensures.carries.reads.faithful t) h.tables) None tt)
+    next_moved g.K.KeyOrder.cmp (seen (g.S.Store.facts c.args.source.now.store) c.args.source.now.tables c.args.source.now.blocks) (seen (g.S.Store.facts c.search_on.new.source.store) c.search_on.new.source.tables c.search_on.new.source.blocks) (rows_tables c.args.self.now) c.args.self.now.here c.in_ok-self.field-0 at (carries_both g.K.KeyOrder.cmp (seen (g.S.Store.facts c.args.source.now.store) c.args.source.now.tables c.args.source.now.blocks) (seen (g.S.Store.facts c.step_on.new.source.store) c.step_on.new.source.tables c.step_on.new.source.blocks) (seen (g.S.Store.facts c.search_on.new.source.store) c.search_on.new.source.tables c.search_on.new.source.blocks) (stepped g.K.KeyOrder.cmp (rows_tables c.args.self.now) c.args.self.now.here (seen (g.S.Store.facts c.args.source.now.store) c.args.source.now.tables c.args.source.now.blocks) (seen (g.S.Store.facts c.step_on.new.source.store) c.step_on.new.source.tables c.step_on.new.source.blocks) c.step_on.ensures.carries) (searched g.K.KeyOrder.cmp (rows_tables c.args.self.now) _ c.args.self.now.here (seen (g.S.Store.facts c.step_on.new.source.store) c.step_on.new.source.tables c.step_on.new.source.blocks) (seen (g.S.Store.facts c.search_on.new.source.store) c.search_on.new.source.tables c.search_on.new.source.blocks) c.row.ensures c.search_on.ensures.carries)) t h c.in-Some.start step.2 ((rw c.row.ensures at c.in_ok-self.ensures.found) t h.lists (carried_lists g.K.KeyOrder.cmp (seen (g.S.Store.facts c.args.source.now.store) c.args.source.now.tables c.args.source.now.blocks) (seen (g.S.Store.facts c.step_on.new.source.store) c.step_on.new.source.tables c.step_on.new.source.blocks) (rows_tables c.args.self.now) h.lists c.step_on.ensures.carries (c.search_on.ensures.carries.reads.faithful t) h.tables) None tt)
 
 pub returns-clause-stays : goal.returns-clause-stays
 returns-clause-stays g c = record {
-  reads = (carries_both g.K.KeyOrder.cmp (seen (g.S.Store.facts c.args.source.now.store) c.args.source.now.tables c.args.source.now.blocks) (seen (g.S.Store.facts c.step_on.new.source.store) c.step_on.new.source.tables c.step_on.new.source.blocks) (seen (g.S.Store.facts c.search_on.new.source.store) c.search_on.new.source.tables c.search_on.new.source.blocks) c.step_on.ensures.carries c.search_on.ensures.carries).reads;
-  left = carries_both g.K.KeyOrder.cmp (seen (g.S.Store.facts c.args.source.now.store) c.args.source.now.tables c.args.source.now.blocks) (seen (g.S.Store.facts c.step_on.new.source.store) c.step_on.new.source.tables c.step_on.new.source.blocks) (seen (g.S.Store.facts c.search_on.new.source.store) c.search_on.new.source.tables c.search_on.new.source.blocks) c.step_on.ensures.carries c.search_on.ensures.carries;
-  others = λ t other. row_carried g.K.KeyOrder.cmp (rows_tables other) other.here (seen (g.S.Store.facts c.args.source.now.store) c.args.source.now.tables c.args.source.now.blocks) (seen (g.S.Store.facts c.search_on.new.source.store) c.search_on.new.source.tables c.search_on.new.source.blocks) (carries_both g.K.KeyOrder.cmp (seen (g.S.Store.facts c.args.source.now.store) c.args.source.now.tables c.args.source.now.blocks) (seen (g.S.Store.facts c.step_on.new.source.store) c.step_on.new.source.tables c.step_on.new.source.blocks) (seen (g.S.Store.facts c.search_on.new.source.store) c.search_on.new.source.tables c.search_on.new.source.blocks) c.step_on.ensures.carries c.search_on.ensures.carries) t;
+  reads = (carries_both g.K.KeyOrder.cmp (seen (g.S.Store.facts c.args.source.now.store) c.args.source.now.tables c.args.source.now.blocks) (seen (g.S.Store.facts c.step_on.new.source.store) c.step_on.new.source.tables c.step_on.new.source.blocks) (seen (g.S.Store.facts c.search_on.new.source.store) c.search_on.new.source.tables c.search_on.new.source.blocks) (stepped g.K.KeyOrder.cmp (rows_tables c.args.self.now) c.args.self.now.here (seen (g.S.Store.facts c.args.source.now.store) c.args.source.now.tables c.args.source.now.blocks) (seen (g.S.Store.facts c.step_on.new.source.store) c.step_on.new.source.tables c.step_on.new.source.blocks) c.step_on.ensures.carries) (searched g.K.KeyOrder.cmp (rows_tables c.args.self.now) _ c.args.self.now.here (seen (g.S.Store.facts c.step_on.new.source.store) c.step_on.new.source.tables c.step_on.new.source.blocks) (seen (g.S.Store.facts c.search_on.new.source.store) c.search_on.new.source.tables c.search_on.new.source.blocks) c.row.ensures c.search_on.ensures.carries)).reads;
+  left = carries_both g.K.KeyOrder.cmp (seen (g.S.Store.facts c.args.source.now.store) c.args.source.now.tables c.args.source.now.blocks) (seen (g.S.Store.facts c.step_on.new.source.store) c.step_on.new.source.tables c.step_on.new.source.blocks) (seen (g.S.Store.facts c.search_on.new.source.store) c.search_on.new.source.tables c.search_on.new.source.blocks) (stepped g.K.KeyOrder.cmp (rows_tables c.args.self.now) c.args.self.now.here (seen (g.S.Store.facts c.args.source.now.store) c.args.source.now.tables c.args.source.now.blocks) (seen (g.S.Store.facts c.step_on.new.source.store) c.step_on.new.source.tables c.step_on.new.source.blocks) c.step_on.ensures.carries) (searched g.K.KeyOrder.cmp (rows_tables c.args.self.now) _ c.args.self.now.here (seen (g.S.Store.facts c.step_on.new.source.store) c.step_on.new.source.tables c.step_on.new.source.blocks) (seen (g.S.Store.facts c.search_on.new.source.store) c.search_on.new.source.tables c.search_on.new.source.blocks) c.row.ensures c.search_on.ensures.carries);
+  others = λ t other. row_carried g.K.KeyOrder.cmp (rows_tables other) other.here (seen (g.S.Store.facts c.args.source.now.store) c.args.source.now.tables c.args.source.now.blocks) (seen (g.S.Store.facts c.search_on.new.source.store) c.search_on.new.source.tables c.search_on.new.source.blocks) (carries_both g.K.KeyOrder.cmp (seen (g.S.Store.facts c.args.source.now.store) c.args.source.now.tables c.args.source.now.blocks) (seen (g.S.Store.facts c.step_on.new.source.store) c.step_on.new.source.tables c.step_on.new.source.blocks) (seen (g.S.Store.facts c.search_on.new.source.store) c.search_on.new.source.tables c.search_on.new.source.blocks) (stepped g.K.KeyOrder.cmp (rows_tables c.args.self.now) c.args.self.now.here (seen (g.S.Store.facts c.args.source.now.store) c.args.source.now.tables c.args.source.now.blocks) (seen (g.S.Store.facts c.step_on.new.source.store) c.step_on.new.source.tables c.step_on.new.source.blocks) c.step_on.ensures.carries) (searched g.K.KeyOrder.cmp (rows_tables c.args.self.now) _ c.args.self.now.here (seen (g.S.Store.facts c.step_on.new.source.store) c.step_on.new.source.tables c.step_on.new.source.blocks) (seen (g.S.Store.facts c.search_on.new.source.store) c.search_on.new.source.tables c.search_on.new.source.blocks) c.row.ensures c.search_on.ensures.carries)) t;
   same = λ s t k. found_kept g.K.KeyOrder.cmp (rows_tables c.args.self.now) (seen (g.S.Store.facts c.step_on.new.source.store) c.step_on.new.source.tables c.step_on.new.source.blocks) (seen (g.S.Store.facts c.search_on.new.source.store) c.search_on.new.source.tables c.search_on.new.source.blocks) (seen (g.S.Store.facts s.store) s.tables s.blocks) (seen (g.S.Store.facts t.store) t.tables t.blocks) c.args.self.now.here c.in_ok-self.field-0 (rw c.row.ensures at c.in_ok-self.ensures.opened) k;
   limit = λ t l. step_limited g.K.KeyOrder.cmp (rows_tables c.args.self.now) (seen (g.S.Store.facts c.args.source.now.store) c.args.source.now.tables c.args.source.now.blocks) (seen (g.S.Store.facts c.step_on.new.source.store) c.step_on.new.source.tables c.step_on.new.source.blocks) c.args.self.now.here c.step_on.new.here c.step_on.ensures.same c.step_on.ensures.carries (c.search_on.ensures.carries.reads.faithful t) (found_limited g.K.KeyOrder.cmp (rows_tables c.args.self.now) (seen (g.S.Store.facts c.step_on.new.source.store) c.step_on.new.source.tables c.step_on.new.source.blocks) (seen (g.S.Store.facts c.search_on.new.source.store) c.search_on.new.source.tables c.search_on.new.source.blocks) c.step_on.new.here c.in_ok-self.field-0 (rw c.row.ensures at c.in_ok-self.ensures.opened) c.search_on.ensures.carries t l);
   within = λ number o. step_within g.K.KeyOrder.cmp (rows_tables c.args.self.now) c.args.self.now.here c.step_on.new.here c.step_on.ensures.same number (found_within g.K.KeyOrder.cmp (rows_tables c.args.self.now) (seen (g.S.Store.facts c.step_on.new.source.store) c.step_on.new.source.tables c.step_on.new.source.blocks) (seen (g.S.Store.facts c.search_on.new.source.store) c.search_on.new.source.tables c.search_on.new.source.blocks) c.step_on.new.here c.in_ok-self.field-0 (rw c.row.ensures at c.in_ok-self.ensures.opened) number o);

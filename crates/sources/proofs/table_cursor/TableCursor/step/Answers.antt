@@ -1,6 +1,6 @@
 use Rattle.std.proofs.lemmas.Result.{err_from_is_err_and}
 use Rattle.sources.specs.Tables.{seen}
-use Rattle.sources.proofs.Carrying.{carries_itself}
+use Rattle.sources.specs.TableLaws.{carries_itself}
 use Rattle.sources.proofs.Strides.{stays_put, went_on, reached_on, ended_on}
 use Rattle.sources.proofs.table_cursor.TableCursor.step.Goals as goal
 
@@ -8,13 +8,13 @@ pub returns-in_err-start-clause-steps : goal.returns-in_err-start-clause-steps
 returns-in_err-start-clause-steps g c =
     let p = err_from_is_err_and c.from_residual.result c.from_residual.ensures.1 in
     let old = seen (g.S.Store.facts c.args.source.now.store) c.args.source.now.tables c.args.source.now.blocks in
-    rw p.1 (λ t at lists. stays_put g.K.KeyOrder.cmp old old c.args.self.now.number c.args.self.now.table.value.frame c.args.self.now.here c.step_on.new.here at (carries_itself g.K.KeyOrder.cmp old) t lists (c.in_err-start.ensures.err lists.groups at.place lists.place))
+    rw p.1 (λ t at lists. stays_put g.K.KeyOrder.cmp old old c.args.self.now.number c.args.self.now.table.value.frame c.args.self.now.here c.step_on.new.here at (carries_itself {numbers = λ number. ⊥} g.K.KeyOrder.cmp old) t lists (c.in_err-start.ensures.err lists.groups at.place lists.place))
 
 pub returns-in-None-clause-steps : goal.returns-in-None-clause-steps
 returns-in-None-clause-steps g c = λ t at lists.
     let steps = rw c.in-None.is at c.in_ok-start.ensures.ok in
     let old = seen (g.S.Store.facts c.args.source.now.store) c.args.source.now.tables c.args.source.now.blocks in
-    went_on g.K.KeyOrder.cmp old old c.args.self.now.number c.args.self.now.table.value.frame c.args.self.now.here c.step_on.new.here at (carries_itself g.K.KeyOrder.cmp old) t lists (steps lists.groups at.place lists.place)
+    went_on g.K.KeyOrder.cmp old old c.args.self.now.number c.args.self.now.table.value.frame c.args.self.now.here c.step_on.new.here at (carries_itself {numbers = λ number. ⊥} g.K.KeyOrder.cmp old) t lists (steps lists.groups at.place lists.place)
 
 pub returns-in_err-found-clause-steps : goal.returns-in_err-found-clause-steps
 returns-in_err-found-clause-steps g c =

@@ -1,7 +1,7 @@
 use Rattle.std.proofs.Common.{refl, arith}
 use Rattle.cache.specs.Tables.{table_at}
 use Rattle.sources.specs.Tables.{seen}
-use Rattle.sources.proofs.Knowing.{hit_opened, kept_opened, known_if}
+use Rattle.sources.proofs.Knowing.{gathered_opened, hit_opened, kept_opened, known_if}
 use Rattle.sources.proofs.Sounding.{sound_opened, says_open}
 use Rattle.sources.proofs.tables.Tables.get_table.Goals as goal
 
@@ -13,6 +13,7 @@ returns-clause-carries g c =
       sound = λ t h. sound_opened g.K.KeyOrder.cmp old (g.S.Store.facts c.get_table.new.store) c.get_table.new.self.tables c.get_table.ensures.reads t
           (c.get_table.ensures.holds (table_at old.facts.files) h.tables (λ file there. there) t) h;
       kept = kept_opened g.K.KeyOrder.cmp old (g.S.Store.facts c.get_table.new.store) c.args.number (c.requires, omega arith) _ _ c.get_table.ensures.answer c.get_table.new.self.tables c.get_table.ensures.kept c.get_table.ensures.reads;
+      gathered = gathered_opened old (g.S.Store.facts c.get_table.new.store) c.args.number _ c.get_table.new.self.tables c.get_table.ensures.kept;
     }
 
 pub returns-clause-found : goal.returns-clause-found

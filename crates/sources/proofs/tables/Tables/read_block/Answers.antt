@@ -4,7 +4,7 @@ use Rattle.sources.specs.Tables.{seen, SaysOf, IsOpen}
 use Rattle.table.specs.Frame.{Opened}
 use Rattle.table.specs.Reading.{HasFile}
 use Rattle.sources.proofs.Carrying.{reads_both}
-use Rattle.sources.proofs.Knowing.{kept_read}
+use Rattle.sources.proofs.Knowing.{gathered_read, kept_read}
 use Rattle.sources.proofs.Sounding.{carries_block, no_block_of, no_table, says_block}
 use Rattle.sources.proofs.tables.Tables.read_block.Goals as goal
 
@@ -27,6 +27,7 @@ returns-clause-carries g c =
           c.read_block.new.self.blocks refl c.read_block.ensures.holds t h;
       kept = λ t. kept_read g.K.KeyOrder.cmp old mid new.facts c.args.number c.read_block.new.self.blocks c.get_table.ensures.carries c.read_block.ensures.reads t
           (c.in_ok-table.ensures.known (c.read_block.ensures.reads.faithful t)) c.read_block.ensures.kept;
+      gathered = gathered_read g.K.KeyOrder.cmp old mid new.facts c.args.number c.read_block.new.self.blocks c.get_table.ensures.carries c.read_block.ensures.kept;
     }
 
 pub returns-clause-found : goal.returns-clause-found
