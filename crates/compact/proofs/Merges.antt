@@ -1,5 +1,6 @@
 -- What was merged and written.
 use Rattle.std.proofs.Common.{◌≡◌, ◌<◌, ◌+◌, ℕ, Bool, true, nat_lt, Option, Some, None, List, [], ◌∷◌, ◌++◌, map, length, take, get_or, inl, inr, refl, sym, ap, subst, ◌∙◌, arith}
+use Rattle.std.specs.List.{AllByRecursion}
 use Rattle.std.specs.declared.cmp.Ordering.{Ordering}
 use Rattle.std.specs.declared.cmp.Ordering.TheVariants.{Less}
 use Rattle.std.specs.Cmp.{IsTotalOrder}
@@ -25,7 +26,8 @@ use Rattle.ikey.specs.Entries.{InternalEntry, Pair, IsPair, entry_of, kind_of, v
 use Rattle.store.specs.Files.{Facts}
 use Rattle.table.specs.Table.{ArePairs}
 use Rattle.compact.specs.Outputs.{table_name, Filling, AreClosed, IsAtHand, Written, HasWritten, IsMine, WritesTables}
-use Rattle.compact.specs.Merging.{KeepsMine, kept_delete, IsUpTo, IsMerging}
+use Rattle.compact.specs.Merging.{IsWellKept, KeepsMine, kept_delete, IsUpTo, IsMerging}
+use Rattle.compact.proofs.Loads.{well-append}
 use Rattle.compact.proofs.Parts.{Among-push}
 use Rattle.compact.proofs.Writing.{writes-then}
 
@@ -145,7 +147,7 @@ pub merge-step : (cmp : List ℕ → List ℕ → Ordering) (deep : List ℕ →
     → ((last_key : Key) (x : Entry) → IsKey last last_key → IsUpTo cmp x last_key → Precedes cmp x (entry_of entry))
     → ((xs ys : List Entry) → ComesBehind cmp xs (entry_of entry) → Chooses cmp deep c xs ys → Chooses cmp deep e (xs ++ entry_of entry ∷ []) (ys ++ written_for choice e.released (entry_of entry)))
     → ((pairs : List Pair) (kept : List InternalEntry) → ArePairs pairs kept → HasWritten cmp w a next pairs
-    → (new : List Pair) × (added : List InternalEntry) × HasWritten cmp u b more new × ArePairs new (kept ++ added) × (map entry_of added ≡ written_for choice e.released (entry_of entry)))
+    → (new : List Pair) × (added : List InternalEntry) × HasWritten cmp u b more new × ArePairs new (kept ++ added) × (map entry_of added ≡ written_for choice e.released (entry_of entry)) × AllByRecursion IsWellKept added)
     → IsMerging cmp deep last c w a next came → IsMerging cmp deep over e u d more (came ++ entry ∷ [])
 merge-step cmp deep a b d last over c e w u next more came entry choice over_is files order chosen wrote h =
     let behind : ComesBehind cmp (map entry_of came) (entry_of entry) = λ x m. let last_bound = h.bound x m in order last_bound.0 x last_bound.1 last_bound.2 in
@@ -157,6 +159,7 @@ merge-step cmp deep a b d last over c e w u next more came entry choice over_is 
       written = new.0;
       kept = h.kept ++ new.1;
       written_are = new.3;
+      well_kept = well-append h.kept new.1 h.well_kept new.5;
       has_written = written-same cmp u b d more new.0 files new.2;
       chooses = subst (λ (xs : List Entry). Chooses cmp deep e xs (map entry_of (h.kept ++ new.1))) all
           (subst (Chooses cmp deep e (map entry_of came ++ entry_of entry ∷ [])) out (chosen (map entry_of came) (map entry_of h.kept) behind h.chooses));
@@ -180,6 +183,7 @@ merging-none cmp deep last c w facts next empty chooses written = record {
   written = [];
   kept = [];
   written_are = tt;
+  well_kept = tt;
   has_written = written;
   chooses = chooses;
   last_is = inl (refl, empty);
@@ -193,6 +197,7 @@ merging-closed cmp deep last c w u a b next came closes h = record {
   written = h.written;
   kept = h.kept;
   written_are = h.written_are;
+  well_kept = h.well_kept;
   has_written = closes h.written h.has_written;
   chooses = h.chooses;
   last_is = h.last_is;
