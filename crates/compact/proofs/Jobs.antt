@@ -17,19 +17,9 @@ use Rattle.compact.specs.declared.job.Job.{Job}
 use Rattle.std.specs.List.{AllByRecursion}
 use Rattle.compact.specs.Merging.{AreDisjoint, IsWellKept, IsMerging, IsUpTo, HasPassed, ReadsApart, IsJob, IsBetween, KeepsMine}
 use Rattle.compact.specs.Outputs.{Written, HasWritten, IsMine, IsNumberAtHand, RefusesEntry, WritesTables}
-use Rattle.compact.proofs.Merges.{merge-step, merging-none}
+use Rattle.compact.proofs.Merges.{merge-step, merging-none, mine-before}
 use Rattle.compact.proofs.Passing.{passed-more}
-use Rattle.compact.proofs.Writing.{refuses-as}
-
-pub writes-more : (a b : Facts) (first mine : ℕ → Type 0) → ((n : ℕ) → first n → mine n) → WritesTables a b first → WritesTables a b mine
-writes-more a b first mine within_mine w = record {
-  faithful = w.faithful;
-  failures = w.failures;
-  denials = w.denials;
-  held = w.held;
-  others = λ t name apart. w.others t name (λ n is. apart n (within_mine n is));
-  synced = λ t name apart. w.synced t name (λ n is. apart n (within_mine n is));
-}
+use Rattle.compact.proofs.Writing.{refuses-as, writes-more}
 
 pub apart-on : {C H S : Type 0} (facts : S → Facts) (store_of : H → S) (with_store : H → S → H) (gathers : H → ℕ → Type 0) (keeps : C → H → H → Type 0) (cursor other : C) (mine less : ℕ → Type 0)
     → ((n : ℕ) → less n → mine n) → ((s t : H) → keeps cursor s t → keeps other s t) → ReadsApart facts store_of with_store gathers keeps cursor mine → ReadsApart facts store_of with_store gathers keeps other less
@@ -106,7 +96,7 @@ module _ {C H S : Type 0} (cmp : Cmp) (deep : List ℕ → Bool) (facts : S → 
       ap failures (sym (are after)) ∙ moved ∙ ap failures (are (with_store source store)) ∙ ap (λ (s : S). (facts s).failures) (replaced source store) ∙ wrote ∙ ap (λ (s : S). (facts s).failures) is
 
   pub job-step : (last over : List ℕ) (cursor moved : C) (c e : Choosing) (w u : Written) (source : H) (held store : S) (after : H) (next more : ℕ) (came : List InternalEntry) (entry : InternalEntry) (rest : List InternalEntry) (choice : Choice)
-      → held ≡ store_of source → WritesTables (facts held) (facts store) (IsMine w next) → KeepsMine w next u more
+      → held ≡ store_of source → WritesTables (facts held) (facts store) (IsMine w next) → next ≤ more → KeepsMine w next u more
       → Moves facts_of lists cursor moved (with_store source store) after moved_on to_next
       → Stays facts_of keeps limited leaves goes_over cursor moved (with_store source store) after
       → IsTrue (facts (store_of after)).faithful
@@ -117,7 +107,8 @@ module _ {C H S : Type 0} (cmp : Cmp) (deep : List ℕ → Bool) (facts : S → 
       → (new : List Pair) × (added : List InternalEntry) × HasWritten cmp u (facts store) more new × ArePairs new (kept ++ added) × (map entry_of added ≡ written_for choice e.released (entry_of entry)) × AllByRecursion IsWellKept added)
       → IsJob cmp deep facts store_of with_store gathers lists keeps goes_over last cursor c w source next came (entry ∷ rest)
       → IsJob cmp deep facts store_of with_store gathers lists keeps goes_over over moved e u after more (came ++ entry ∷ []) rest
-  job-step last over cursor moved c e w u source held store after next more came entry rest choice is writes mine moves stays t over_is order chosen wrote h =
+  job-step last over cursor moved c e w u source held store after next more came entry rest choice is writes le keeps_mine moves stays t over_is order chosen wrote h =
+      let mine : (n : ℕ) → IsMine u more n → IsMine w next n = λ n is_mine. mine-before w u next more n le keeps_mine is_mine in
       let r = writes-move cursor moved source held store after (IsMine w next) is writes stays in
       record {
         merging = merge-step cmp deep (facts held) (facts store) (facts (store_of after)) last over c e w u next more came entry choice over_is (r.files t) order chosen (wrote (r.faithful t))

@@ -1,5 +1,5 @@
 -- What was merged and written.
-use Rattle.std.proofs.Common.{◌≡◌, ◌<◌, ◌+◌, ℕ, Bool, true, nat_lt, Option, Some, None, List, [], ◌∷◌, ◌++◌, map, length, take, get_or, inl, inr, refl, sym, ap, subst, ◌∙◌, arith}
+use Rattle.std.proofs.Common.{◌≡◌, ◌<◌, ◌≤◌, ◌+◌, ℕ, Bool, true, nat_lt, Option, Some, None, List, [], ◌∷◌, ◌++◌, map, length, take, get_or, inl, inr, refl, sym, ap, subst, ◌∙◌, arith}
 use Rattle.std.specs.List.{AllByRecursion}
 use Rattle.std.specs.declared.cmp.Ordering.{Ordering}
 use Rattle.std.specs.declared.cmp.Ordering.TheVariants.{Less}
@@ -25,14 +25,26 @@ use Rattle.compact.specs.Choosing.{Choosing, Chooses, Precedes, ComesBehind, del
 use Rattle.ikey.specs.Entries.{InternalEntry, Pair, IsPair, entry_of, kind_of, value_of}
 use Rattle.store.specs.Files.{Facts}
 use Rattle.table.specs.Table.{ArePairs}
-use Rattle.compact.specs.Outputs.{table_name, Filling, AreClosed, IsAtHand, Written, HasWritten, IsMine, WritesTables}
+use Rattle.compact.specs.Outputs.{table_name, Filling, AreClosed, IsAtHand, Written, HasWritten, IsMine, IsMineUpTo, WritesTables}
 use Rattle.compact.specs.Merging.{IsWellKept, KeepsMine, kept_delete, IsUpTo, IsMerging}
 use Rattle.compact.proofs.Loads.{well-append}
 use Rattle.compact.proofs.Parts.{Among-push}
-use Rattle.compact.proofs.Writing.{writes-then}
+use Rattle.compact.proofs.Writing.{mine-in, mine-up, writes-then}
 
-pub writes-on : (a b d : Facts) (o u : Written) (n m : ℕ) → KeepsMine o n u m → WritesTables a b (IsMine o n) → WritesTables b d (IsMine u m) → WritesTables a d (IsMine o n)
-writes-on a b d o u n m keeps w v = writes-then a b d (IsMine o n) (IsMine u m) (IsMine o n) (λ k h. h) keeps w v
+mine-then : (o u : Written) (n m e k : ℕ) → n ≤ m → m ≤ e → KeepsMine o n u m → IsMineUpTo u m e k → IsMineUpTo o n e k
+mine-then o u n m e k le more keeps (inl at) = mine-up o n m e k more (keeps k at)
+mine-then o u n m e k le more keeps (inr h) = inr (omega (arith, le, h.0), h.1)
+
+pub mine-on : (o u v : Written) (n m e : ℕ) → n ≤ m → m ≤ e → KeepsMine o n u m → KeepsMine u m v e → KeepsMine o n v e
+mine-on o u v n m e le more keeps last = λ k at. mine-then o u n m e k le more keeps (last k at)
+
+-- what is to be written was to be written before
+pub mine-before : (o u : Written) (n m k : ℕ) → n ≤ m → KeepsMine o n u m → IsMine u m k → IsMine o n k
+mine-before o u n m k le keeps (inl at) = mine-in o n m k (keeps k at)
+mine-before o u n m k le keeps (inr more) = inr (omega (arith, le, more))
+
+pub writes-on : (a b d : Facts) (o u : Written) (n m e : ℕ) → n ≤ m → m ≤ e → KeepsMine o n u m → WritesTables a b (IsMineUpTo o n m) → WritesTables b d (IsMineUpTo u m e) → WritesTables a d (IsMineUpTo o n e)
+writes-on a b d o u n m e le more keeps w v = writes-then a b d (IsMineUpTo o n m) (IsMineUpTo u m e) (IsMineUpTo o n e) (λ k h. mine-up o n m e k more h) (λ k h. mine-then o u n m e k le more keeps h) w v
 
 pub pairs-push : (pairs : List Pair) (entries : List InternalEntry) (pair : Pair) (entry : InternalEntry) → ArePairs pairs entries → IsPair pair entry → ArePairs (pairs ++ pair ∷ []) (entries ++ entry ∷ [])
 pairs-push [] [] pair entry h is = (is, tt)

@@ -20,7 +20,7 @@ use Rattle.store.specs.Files.{Facts}
 use Rattle.table.specs.Table.{ArePairs}
 use Rattle.ikey.specs.Views.{Among}
 use Rattle.compact.specs.Choosing.{Choosing, Chooses}
-use Rattle.compact.specs.Outputs.{Written, HasWritten, IsMine, WritesTables}
+use Rattle.compact.specs.Outputs.{Written, HasWritten, IsNumberAtHand, IsMine, IsMineUpTo, WritesTables}
 
 -- ---- what came
 
@@ -87,9 +87,9 @@ abbrev pub IsBetween : {K C H S : Type 0} → Cmp → (List ℕ → Bool) → (S
 IsBetween cmp deep facts store_of with_store gathers lists keeps over job source next came rest =
     IsJob cmp deep facts store_of with_store gathers lists keeps over job.last.items job.cursor job.selection job.outputs source next came rest
 
--- what a call leaves to be written may have been written before
+-- the table at hand was so before, or has a number that was drawn since
 abbrev pub KeepsMine : Written → ℕ → Written → ℕ → Type 0
-KeepsMine old next new more = (number : ℕ) → IsMine new more number → IsMine old next number
+KeepsMine old next new more = (number : ℕ) → IsNumberAtHand new number → IsMineUpTo old next more number
 
 -- A slice with this budget has taken the front of what was left: as many entries as the budget has, one for 0, or all.
 pub record IsSlice (budget : ℕ) (progress : Progress) (front back : List InternalEntry) : Type 0 where

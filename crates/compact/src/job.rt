@@ -57,7 +57,7 @@ impl<K: KeyOrder, C: Drop> Job<K, C> {
     ghost use Rattle.ikey.specs.Entries.{InternalEntry, entry_of};
     ghost use Rattle.compact.specs.Merging.{IsBetween, IsLimited, IsMerging, IsSlice, IsFinished, KeepsMine, ReadsApart, AreDisjoint, HaveOwnSequences};
     ghost use Rattle.compact.specs.JobEdits.{IsPlanProper, IsOwnIn};
-    ghost use Rattle.compact.specs.Outputs.{AreNumbered, IsMine, IsNumberAtHand, IsOwn, NumbersOn, WritesTables, RefusesEntry};
+    ghost use Rattle.compact.specs.Outputs.{AreNumbered, IsMineUpTo, IsNumberAtHand, IsOwn, NumbersOn, WritesTables, RefusesEntry};
     ghost use Rattle.compact.specs.Rooms.{AreLarge};
     ghost use Rattle.table.specs.Reading.{Reads};
 
@@ -126,7 +126,7 @@ impl<K: KeyOrder, C: Drop> Job<K, C> {
         ensures snapshots { self.new.selection.snapshots ≡ self.old.selection.snapshots }
         ensures mine { OnOk result (KeepsMine self.old.outputs numbers.old.next self.new.outputs numbers.new.next) }
         ensures numbered { OnOk result (NumbersOn self.old.outputs numbers.old.next self.new.outputs numbers.new.next) }
-        ensures writes { WritesTables (S.facts (H.store_of source.old)) (S.facts (H.store_of source.new)) (IsMine self.old.outputs numbers.old.next) }
+        ensures writes { WritesTables (S.facts (H.store_of source.old)) (S.facts (H.store_of source.new)) (IsMineUpTo self.old.outputs numbers.old.next numbers.new.next) }
         ensures stood { OnOk result ((S.facts (H.store_of source.new)).failures ≡ (S.facts (H.store_of source.old)).failures) }
         ensures refused { IfErr result (λ e. RefusesEntry e (S.facts (H.store_of source.old)) (S.facts (H.store_of source.new))
             (IsTrue (S.facts (H.store_of source.new)).faithful → (came : List InternalEntry) (rest : List InternalEntry)
@@ -218,7 +218,7 @@ impl<K: KeyOrder, C: Drop> Job<K, C> {
         ensures snapshots { self.new.selection.snapshots ≡ self.old.selection.snapshots }
         ensures mine { OnOk result (KeepsMine self.old.outputs numbers.old.next self.new.outputs numbers.new.next) }
         ensures numbered { OnOk result (NumbersOn self.old.outputs numbers.old.next self.new.outputs numbers.new.next) }
-        ensures writes { WritesTables (S.facts (H.store_of source.old)) (S.facts (H.store_of source.new)) (IsMine self.old.outputs numbers.old.next) }
+        ensures writes { WritesTables (S.facts (H.store_of source.old)) (S.facts (H.store_of source.new)) (IsMineUpTo self.old.outputs numbers.old.next numbers.new.next) }
         ensures stood { OnOk result ((S.facts (H.store_of source.new)).failures ≡ (S.facts (H.store_of source.old)).failures) }
         ensures refused { IfErr result (λ e. RefusesEntry e (S.facts (H.store_of source.old)) (S.facts (H.store_of source.new))
             (IsTrue (S.facts (H.store_of source.new)).faithful → (came : List InternalEntry) (entry : InternalEntry) (rest : List InternalEntry)

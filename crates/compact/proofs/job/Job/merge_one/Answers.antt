@@ -12,12 +12,12 @@ use Rattle.compact.specs.Choosing.{written_for}
 use Rattle.compact.specs.Merging.{IsBetween, IsLimited, HaveOwnSequences}
 use Rattle.compact.specs.Rooms.{AreLarge}
 use Rattle.compact.proofs.Loads.{rewritten, well-rewritten, same-rewritten, is-rewritten, large-chosen}
-use Rattle.compact.specs.Outputs.{HasWritten, IsMine, WritesTables}
+use Rattle.compact.specs.Outputs.{HasWritten, IsMine, IsMineUpTo, WritesTables}
 use Rattle.compact.proofs.Jobs.{job-step, writes-move, still-keeps, still-lists, still-move, refuses-same, refuses-moving}
 use Rattle.compact.proofs.Merges.{kind-kept}
 use Rattle.compact.proofs.Passing.{standing, at_place}
 use Rattle.compact.proofs.Refusing.{never-behind, writes-rise}
-use Rattle.compact.proofs.Writing.{refuses-as, writes-reads}
+use Rattle.compact.proofs.Writing.{refuses-as, writes-mine, writes-reads}
 use Rattle.compact.proofs.job.Job.merge_one.Goals as goal
 
 pub returns-clause-merged : goal.returns-clause-merged
@@ -32,7 +32,7 @@ returns-clause-merged g c = λ came entry rest t h.
     c.requires.facts g.met.H.HasStore.replaced g.met.H.HasStore.apart c.requires.gathers g.met.C.Cursor.kept
     c.args.self.now.last.items c.set_bytes.new.bytes.items c.args.self.now.cursor c.next.new.self c.args.self.now.selection c.take.new.self c.args.self.now.outputs c.write_chosen.new.outputs
     c.args.source.now c.store_mut.result.now c.write_chosen.new.store c.next.new.source c.args.numbers.now.next c.write_chosen.new.numbers.next came entry rest c.in_ok-choice.choice
-    c.store_mut.ensures.value c.in_ok-write_chosen.ensures.writes c.in_ok-write_chosen.ensures.mine c.in_ok-next.ensures.moves c.in_ok-next.ensures.stays t over_is
+    c.store_mut.ensures.value (writes-mine (g.S.Store.facts c.store_mut.result.now) (g.S.Store.facts c.write_chosen.new.store) c.args.self.now.outputs c.args.numbers.now.next c.write_chosen.new.numbers.next c.in_ok-write_chosen.ensures.writes) c.in_ok-write_chosen.ensures.numbers c.in_ok-write_chosen.ensures.mine c.in_ok-next.ensures.moves c.in_ok-next.ensures.stays t over_is
     (λ last_key x is up. c.comes_behind.ensures.behind c.if-not-comes_behind.false last_key entry.key x (entry_of entry) (subst (λ (bytes : List ℕ). IsKey bytes last_key) (sym c.as_slice.ensures.value) is) is_key up refl refl)
     (λ xs ys behind chosen. c.in_ok-choice.ensures.chosen xs ys (entry_of entry) (ap (λ (x : Key). x.user) same) (ap (λ (x : Key). x.sequence) same) (kind-kept entry.key.kind entry.value ∙ ap (λ (x : Key). x.kind) same) behind chosen)
     (λ tb pairs kept are is.
@@ -109,20 +109,20 @@ returns-in_err-write_chosen-clause-refused g c =
 
 pub returns-in_err-next-clause-writes : goal.returns-in_err-next-clause-writes
 returns-in_err-next-clause-writes g c =
-    writes-reads (g.S.Store.facts (g.H.HasStore.store_of c.args.source.now)) (g.S.Store.facts c.write_chosen.new.store) (g.S.Store.facts (g.H.HasStore.store_of c.next.new.source)) (IsMine c.args.self.now.outputs c.args.numbers.now.next)
-    (subst (λ s. WritesTables (g.S.Store.facts s) (g.S.Store.facts c.write_chosen.new.store) (IsMine c.args.self.now.outputs c.args.numbers.now.next)) c.store_mut.ensures.value c.in_ok-write_chosen.ensures.writes)
+    writes-reads (g.S.Store.facts (g.H.HasStore.store_of c.args.source.now)) (g.S.Store.facts c.write_chosen.new.store) (g.S.Store.facts (g.H.HasStore.store_of c.next.new.source)) (IsMineUpTo c.args.self.now.outputs c.args.numbers.now.next c.write_chosen.new.numbers.next)
+    (subst (λ s. WritesTables (g.S.Store.facts s) (g.S.Store.facts c.write_chosen.new.store) (IsMineUpTo c.args.self.now.outputs c.args.numbers.now.next c.write_chosen.new.numbers.next)) c.store_mut.ensures.value c.in_ok-write_chosen.ensures.writes)
     (writes-move g.K.KeyOrder.cmp (g.D.DeeperFiles.covers c.args.deeper.now) g.S.Store.facts g.H.HasStore.store_of g.H.HasStore.with_store g.H.HasStore.gathers g.C.Cursor.facts g.C.Cursor.lists g.C.Cursor.keeps g.C.Cursor.limited g.C.Cursor.leaves g.C.Cursor.over
     c.requires.facts g.met.H.HasStore.replaced g.met.H.HasStore.apart c.requires.gathers g.met.C.Cursor.kept
-    c.args.self.now.cursor c.next.new.self c.args.source.now c.store_mut.result.now c.write_chosen.new.store c.next.new.source (IsMine c.args.self.now.outputs c.args.numbers.now.next)
+    c.args.self.now.cursor c.next.new.self c.args.source.now c.store_mut.result.now c.write_chosen.new.store c.next.new.source (IsMineUpTo c.args.self.now.outputs c.args.numbers.now.next c.write_chosen.new.numbers.next)
     c.store_mut.ensures.value c.in_ok-write_chosen.ensures.writes c.in_err-next.ensures.stays)
 
 pub returns-clause-writes : goal.returns-clause-writes
 returns-clause-writes g c =
-    writes-reads (g.S.Store.facts (g.H.HasStore.store_of c.args.source.now)) (g.S.Store.facts c.write_chosen.new.store) (g.S.Store.facts (g.H.HasStore.store_of c.next.new.source)) (IsMine c.args.self.now.outputs c.args.numbers.now.next)
-    (subst (λ s. WritesTables (g.S.Store.facts s) (g.S.Store.facts c.write_chosen.new.store) (IsMine c.args.self.now.outputs c.args.numbers.now.next)) c.store_mut.ensures.value c.in_ok-write_chosen.ensures.writes)
+    writes-reads (g.S.Store.facts (g.H.HasStore.store_of c.args.source.now)) (g.S.Store.facts c.write_chosen.new.store) (g.S.Store.facts (g.H.HasStore.store_of c.next.new.source)) (IsMineUpTo c.args.self.now.outputs c.args.numbers.now.next c.write_chosen.new.numbers.next)
+    (subst (λ s. WritesTables (g.S.Store.facts s) (g.S.Store.facts c.write_chosen.new.store) (IsMineUpTo c.args.self.now.outputs c.args.numbers.now.next c.write_chosen.new.numbers.next)) c.store_mut.ensures.value c.in_ok-write_chosen.ensures.writes)
     (writes-move g.K.KeyOrder.cmp (g.D.DeeperFiles.covers c.args.deeper.now) g.S.Store.facts g.H.HasStore.store_of g.H.HasStore.with_store g.H.HasStore.gathers g.C.Cursor.facts g.C.Cursor.lists g.C.Cursor.keeps g.C.Cursor.limited g.C.Cursor.leaves g.C.Cursor.over
     c.requires.facts g.met.H.HasStore.replaced g.met.H.HasStore.apart c.requires.gathers g.met.C.Cursor.kept
-    c.args.self.now.cursor c.next.new.self c.args.source.now c.store_mut.result.now c.write_chosen.new.store c.next.new.source (IsMine c.args.self.now.outputs c.args.numbers.now.next)
+    c.args.self.now.cursor c.next.new.self c.args.source.now c.store_mut.result.now c.write_chosen.new.store c.next.new.source (IsMineUpTo c.args.self.now.outputs c.args.numbers.now.next c.write_chosen.new.numbers.next)
     c.store_mut.ensures.value c.in_ok-write_chosen.ensures.writes c.in_ok-next.ensures.stays)
 
 pub returns-in_err-next-clause-refused : goal.returns-in_err-next-clause-refused
@@ -132,7 +132,6 @@ returns-in_err-next-clause-refused g c =
     let d : Facts = g.S.Store.facts (g.H.HasStore.store_of c.next.new.source) in
     let mid = g.H.HasStore.with_store c.args.source.now c.write_chosen.new.store in
     let spent = 2 ^ 62 ≤ c.write_chosen.new.numbers.next in
-    let writes = subst (λ s. WritesTables (g.S.Store.facts s) b (IsMine c.args.self.now.outputs c.args.numbers.now.next)) c.store_mut.ensures.value c.in_ok-write_chosen.ensures.writes in
     let p = err_from_is_err_and c.from_residual-in_err-next.result c.from_residual-in_err-next.ensures.1 in
     rw (p.1, p.2) (refuses-as c.in_err-next.field-0.0 a b d (IsTrue d.faithful → ListsNone g.C.Cursor.lists c.args.self.now.cursor mid) (IsTrue d.faithful → ListsNone g.C.Cursor.lists c.args.self.now.cursor mid ⊎ g.C.Cursor.limited c.args.self.now.cursor mid) spent
     (IsTrue d.faithful → (came : List InternalEntry) (entry : InternalEntry) (rest : List InternalEntry)
@@ -144,16 +143,16 @@ returns-in_err-next-clause-refused g c =
     none t at (still-lists g.K.KeyOrder.cmp (g.D.DeeperFiles.covers c.args.deeper.now) g.S.Store.facts g.H.HasStore.store_of g.H.HasStore.with_store g.H.HasStore.gathers g.C.Cursor.facts g.C.Cursor.lists g.C.Cursor.keeps g.C.Cursor.limited g.C.Cursor.leaves g.C.Cursor.over
     c.requires.facts g.met.H.HasStore.replaced g.met.H.HasStore.apart c.requires.gathers g.met.C.Cursor.kept
     c.args.self.now.cursor c.next.new.self c.args.source.now c.store_mut.result.now c.write_chosen.new.store c.next.new.source (IsMine c.args.self.now.outputs c.args.numbers.now.next) at
-    c.store_mut.ensures.value c.in_ok-write_chosen.ensures.writes h.apart h.ungathered c.in_err-next.ensures.stays t h.left))
+    c.store_mut.ensures.value (writes-mine (g.S.Store.facts c.store_mut.result.now) (g.S.Store.facts c.write_chosen.new.store) c.args.self.now.outputs c.args.numbers.now.next c.write_chosen.new.numbers.next c.in_ok-write_chosen.ensures.writes) h.apart h.ungathered c.in_err-next.ensures.stays t h.left))
     (λ lim t came entry rest h. elim (lim t) [
       | inl none ↦ absurd (none (listed (came ++ entry ∷ rest) (within (came ++ entry ∷ rest) (length came))) (still-lists g.K.KeyOrder.cmp (g.D.DeeperFiles.covers c.args.deeper.now) g.S.Store.facts g.H.HasStore.store_of g.H.HasStore.with_store g.H.HasStore.gathers g.C.Cursor.facts g.C.Cursor.lists g.C.Cursor.keeps g.C.Cursor.limited g.C.Cursor.leaves g.C.Cursor.over
           c.requires.facts g.met.H.HasStore.replaced g.met.H.HasStore.apart c.requires.gathers g.met.C.Cursor.kept
           c.args.self.now.cursor c.next.new.self c.args.source.now c.store_mut.result.now c.write_chosen.new.store c.next.new.source (IsMine c.args.self.now.outputs c.args.numbers.now.next) (listed (came ++ entry ∷ rest) (within (came ++ entry ∷ rest) (length came)))
-          c.store_mut.ensures.value c.in_ok-write_chosen.ensures.writes h.apart h.ungathered c.in_err-next.ensures.stays t h.left))
+          c.store_mut.ensures.value (writes-mine (g.S.Store.facts c.store_mut.result.now) (g.S.Store.facts c.write_chosen.new.store) c.args.self.now.outputs c.args.numbers.now.next c.write_chosen.new.numbers.next c.in_ok-write_chosen.ensures.writes) h.apart h.ungathered c.in_err-next.ensures.stays t h.left))
       | inr past ↦ inl (g.met.C.Cursor.limits_kept c.args.self.now.cursor c.args.source.now mid (still-keeps g.K.KeyOrder.cmp (g.D.DeeperFiles.covers c.args.deeper.now) g.S.Store.facts g.H.HasStore.store_of g.H.HasStore.with_store g.H.HasStore.gathers g.C.Cursor.facts g.C.Cursor.lists g.C.Cursor.keeps g.C.Cursor.limited g.C.Cursor.leaves g.C.Cursor.over
           c.requires.facts g.met.H.HasStore.replaced g.met.H.HasStore.apart c.requires.gathers g.met.C.Cursor.kept
           c.args.self.now.cursor c.next.new.self c.args.source.now c.store_mut.result.now c.write_chosen.new.store c.next.new.source (IsMine c.args.self.now.outputs c.args.numbers.now.next)
-          c.store_mut.ensures.value c.in_ok-write_chosen.ensures.writes h.apart h.ungathered c.in_err-next.ensures.stays t) past)
+          c.store_mut.ensures.value (writes-mine (g.S.Store.facts c.store_mut.result.now) (g.S.Store.facts c.write_chosen.new.store) c.args.self.now.outputs c.args.numbers.now.next c.write_chosen.new.numbers.next c.in_ok-write_chosen.ensures.writes) h.apart h.ungathered c.in_err-next.ensures.stays t) past)
     ])
     (λ u. u)
     (refuses-moving c.in_err-next.field-0.0 (g.C.Cursor.facts mid) (g.C.Cursor.facts c.next.new.source) b d (ListsNone g.C.Cursor.lists c.args.self.now.cursor mid) (g.C.Cursor.limited c.args.self.now.cursor mid) spent
@@ -171,5 +170,5 @@ returns-clause-limits g c = λ came entry rest t h past.
     g.met.C.Cursor.limits_kept c.args.self.now.cursor c.args.source.now mid (still-keeps g.K.KeyOrder.cmp (g.D.DeeperFiles.covers c.args.deeper.now) g.S.Store.facts g.H.HasStore.store_of g.H.HasStore.with_store g.H.HasStore.gathers g.C.Cursor.facts g.C.Cursor.lists g.C.Cursor.keeps g.C.Cursor.limited g.C.Cursor.leaves g.C.Cursor.over
     c.requires.facts g.met.H.HasStore.replaced g.met.H.HasStore.apart c.requires.gathers g.met.C.Cursor.kept
     c.args.self.now.cursor c.next.new.self c.args.source.now c.store_mut.result.now c.write_chosen.new.store c.next.new.source (IsMine c.args.self.now.outputs c.args.numbers.now.next)
-    c.store_mut.ensures.value c.in_ok-write_chosen.ensures.writes h.apart h.ungathered c.in_ok-next.ensures.stays t)
+    c.store_mut.ensures.value (writes-mine (g.S.Store.facts c.store_mut.result.now) (g.S.Store.facts c.write_chosen.new.store) c.args.self.now.outputs c.args.numbers.now.next c.write_chosen.new.numbers.next c.in_ok-write_chosen.ensures.writes) h.apart h.ungathered c.in_ok-next.ensures.stays t)
     (c.in_ok-next.ensures.stays.limit (subst (λ (f : Facts). IsTrue f.faithful) (sym (c.requires.facts c.next.new.source)) t) past)

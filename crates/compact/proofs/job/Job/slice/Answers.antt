@@ -7,9 +7,9 @@ use Rattle.ikey.specs.Entries.{InternalEntry, entry_of}
 use Rattle.std.proofs.lemmas.Result.{err_from_is_err_and}
 use Rattle.compact.specs.Merging.{IsBetween, IsLimited, HaveOwnSequences}
 use Rattle.compact.specs.Rooms.{AreLarge}
-use Rattle.compact.specs.Outputs.{IsMine}
+use Rattle.compact.specs.Outputs.{IsMineUpTo}
 use Rattle.compact.proofs.Jobs.{job-more, job-all}
-use Rattle.compact.proofs.Merges.{writes-on}
+use Rattle.compact.proofs.Merges.{mine-on, writes-on}
 use Rattle.compact.proofs.Passing.{some-left, none-left, not-ended, front-more, longer, not-true, not-false}
 use Rattle.compact.proofs.Writing.{refuses-as, writes-nothing}
 use Rattle.compact.proofs.Numbered.{numbers-same, numbers-then}
@@ -42,8 +42,8 @@ loop-merged-preserved g c =
                 (job-more g.K.KeyOrder.cmp (g.D.DeeperFiles.covers c.args.deeper.now) g.S.Store.facts g.H.HasStore.store_of g.H.HasStore.with_store g.H.HasStore.gathers g.C.Cursor.lists g.C.Cursor.keeps g.C.Cursor.over
                 c.loop-merged.self c.loop-merged.source c.loop-merged.numbers.next (came ++ front) at.1 (entry ∷ found.1) found.2 at.4) past)),
           )),
-      (λ n is. inv.3 n (c.in_ok-merge_one.ensures.mine n is)),
-      writes-on a b d c.args.self.now.outputs c.loop-merged.self.outputs c.args.numbers.now.next c.loop-merged.numbers.next inv.3 inv.4 c.in_ok-merge_one.ensures.writes,
+      mine-on c.args.self.now.outputs c.loop-merged.self.outputs c.merge_one.new.self.outputs c.args.numbers.now.next c.loop-merged.numbers.next c.merge_one.new.numbers.next inv.0 c.in_ok-merge_one.ensures.numbers inv.3 c.in_ok-merge_one.ensures.mine,
+      writes-on a b d c.args.self.now.outputs c.loop-merged.self.outputs c.args.numbers.now.next c.loop-merged.numbers.next c.merge_one.new.numbers.next inv.0 c.in_ok-merge_one.ensures.numbers inv.3 inv.4 c.in_ok-merge_one.ensures.writes,
       c.in_ok-merge_one.ensures.plan ∙ inv.5,
       omega (arith, inv.6, c.in_ok-merge_one.ensures.drawn),
       numbers-then c.args.self.now.outputs c.loop-merged.self.outputs c.merge_one.new.self.outputs c.args.numbers.now.next c.loop-merged.numbers.next c.merge_one.new.numbers.next inv.0 inv.7 c.in_ok-merge_one.ensures.numbered,
@@ -64,8 +64,8 @@ loop-merged-init g c =
             c.args.self.now c.args.source.now c.args.numbers.now.next came (came ++ []) rest (sym (append-nil came)) h,
         λ past. past,
       )),
-      (λ n is. is),
-      writes-nothing a (IsMine c.args.self.now.outputs c.args.numbers.now.next),
+      (λ n is. inl is),
+      writes-nothing a (IsMineUpTo c.args.self.now.outputs c.args.numbers.now.next c.args.numbers.now.next),
       refl,
       omega arith,
       numbers-same c.args.self.now.outputs c.args.numbers.now.next,
@@ -75,7 +75,7 @@ loop-merged-init g c =
 pub returns-in_err-merge_one-clause-writes : goal.returns-in_err-merge_one-clause-writes
 returns-in_err-merge_one-clause-writes g c =
     writes-on (g.S.Store.facts (g.H.HasStore.store_of c.args.source.now)) (g.S.Store.facts (g.H.HasStore.store_of c.loop-merged.source)) (g.S.Store.facts (g.H.HasStore.store_of c.merge_one.new.source))
-    c.args.self.now.outputs c.loop-merged.self.outputs c.args.numbers.now.next c.loop-merged.numbers.next c.loop-merged.invariant.3 c.loop-merged.invariant.4 c.in_err-merge_one.ensures.writes
+    c.args.self.now.outputs c.loop-merged.self.outputs c.args.numbers.now.next c.loop-merged.numbers.next c.merge_one.new.numbers.next c.loop-merged.invariant.0 c.in_err-merge_one.ensures.numbers c.loop-merged.invariant.3 c.loop-merged.invariant.4 c.in_err-merge_one.ensures.writes
 
 pub returns-then-not-stands-clause-sliced : goal.returns-then-not-stands-clause-sliced
 returns-then-not-stands-clause-sliced g c = λ came rest t h.

@@ -1,7 +1,7 @@
 use Rattle.std.proofs.Common.{◌≡◌, ◌≤◌, ◌+◌, ◌++◌, List, IsTrue, length}
 use Rattle.ikey.specs.Entries.{InternalEntry}
 use Rattle.compact.specs.Merging.{IsBetween, IsLimited, KeepsMine}
-use Rattle.compact.specs.Outputs.{IsMine, NumbersOn, WritesTables}
+use Rattle.compact.specs.Outputs.{IsMineUpTo, NumbersOn, WritesTables}
 use Rattle.compact.proofs.job.Job.slice.Given as goal
 
 abbrev pub invariant-loop-merged : goal.invariant-loop-merged
@@ -16,7 +16,7 @@ invariant-loop-merged g l =
     l.self l.source l.numbers.next (came ++ front) back
     × (IsLimited g.C.Cursor.limited l.self l.source → IsLimited g.C.Cursor.limited l.initial.self l.initial.source))
     × KeepsMine l.initial.self.outputs l.initial.numbers.next l.self.outputs l.numbers.next
-    × WritesTables (g.S.Store.facts (g.H.HasStore.store_of l.initial.source)) (g.S.Store.facts (g.H.HasStore.store_of l.source)) (IsMine l.initial.self.outputs l.initial.numbers.next)
+    × WritesTables (g.S.Store.facts (g.H.HasStore.store_of l.initial.source)) (g.S.Store.facts (g.H.HasStore.store_of l.source)) (IsMineUpTo l.initial.self.outputs l.initial.numbers.next l.numbers.next)
     × (l.self.plan ≡ l.initial.self.plan)
     × (l.numbers.next ≤ l.initial.numbers.next + l.merged)
     × NumbersOn l.initial.self.outputs l.initial.numbers.next l.self.outputs l.numbers.next
