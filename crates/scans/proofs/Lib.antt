@@ -11,5 +11,7 @@ pub mod Sights
 pub mod Slices
 pub mod SourceSteps
 pub mod TableMerges
+pub mod TableNames
 pub mod TakenBack
 pub mod ViewPairs
+pub mod WritesBeside
