@@ -8,14 +8,14 @@ use Rattle.std.specs.FinMap.{IsAntisymmetric}
 use Rattle.ikey.specs.declared.entry.Entry.{Entry}
 use Rattle.ikey.specs.Below.{IsBelowInternal}
 use Rattle.ikey.specs.Orders.{Order}
-use Rattle.ikey.specs.Sources.{IsNewerThan, joined, AreSearchedByTwo, ComesAllBefore, AreInRow, SameEntries}
+use Rattle.ikey.specs.Sources.{IsNewerThan, joined, AreSearchedByTwo, ComesAllBefore, AreInRow}
 use Rattle.ikey.specs.Views.{Among}
 use Rattle.ikey.proofs.SearchedSources as sources
 use Rattle.store.specs.Files.{Files}
 use Rattle.edits.specs.Snapshot.{AreInPlace}
 use Rattle.edits.specs.declared.field.PlacedTable.{PlacedTable}
 use Rattle.recover.specs.Directory.{Directory, IsConsistent}
-use Rattle.recover.specs.Tables.{TableContent, HasTable, InTables, tabled}
+use Rattle.recover.specs.Tables.{TableContent, HasTable, InTables}
 use Rattle.recover.proofs.Flushing.{kept_by}
 use Rattle.recover.proofs.Keeping.{keep_tables}
 use Rattle.recover.proofs.Memberships.{from_tabled, to_tabled, each_table, one_of_tables}
@@ -225,30 +225,6 @@ module _ (order : Order) (files : Files) (d : Directory) (o : IsTotalOrder order
             (above_all c.entries 0 (λ m lt. newer_source c m (mine c (inl refl)) (omega (arith, lt, is))) (1 ∷ 2 ∷ 3 ∷ 4 ∷ 5 ∷ 6 ∷ []) (omega arith, (omega arith, (omega arith, (omega arith, (omega arith, (omega arith, tt)))))), rest)
         by false at rest = rest
 
--- ---- all tables
-
-all_of : (P : PlacedTable → Type 0) (ps : List PlacedTable) → All P ps → (p : PlacedTable) → Contains ps p → P p
-all_of P ps a p (k, lt, e) = subst P e (a k p lt)
-
--- the places where a version is searched have the entries of its tables, and no others
-pub tabled_again : (tables : List PlacedTable) (contents : List TableContent) → placed_of contents ≡ tables → All (λ (p : PlacedTable). p.level < 7) tables → SameEntries (joined (table_sources contents)) (tabled contents)
-tabled_again tables contents placed levels e = (
-  λ i. elim (from_turned (lists_of (contents_at 0 contents)) (deep contents) e i) [
-    | inl j ↦ let x = find_in 0 contents e j in to_tabled contents x.0 e x.1 x.3
-    | inr j ↦
-        let l = in_levels contents (1 ∷ 2 ∷ 3 ∷ 4 ∷ 5 ∷ 6 ∷ []) e j in
-        let x = find_in l.0 contents e l.1 in
-        to_tabled contents x.0 e x.1 x.3
-  ],
-  λ i.
-      let x = from_tabled contents e i in
-      let few = all_of (λ (p : PlacedTable). p.level < 7) tables levels x.0.placed (subst (λ (ps : List PlacedTable). Contains ps x.0.placed) placed (has_placed contents x.0 x.1)) in
-      to_turned (lists_of (contents_at 0 contents)) (deep contents) e (elim (cases_lt 0 x.0.placed.level) [
-        | inl some ↦ inr (to_levels contents (1 ∷ 2 ∷ 3 ∷ 4 ∷ 5 ∷ 6 ∷ []) x.0.placed.level e (one_of_six x.0.placed.level some few) (put_in x.0.placed.level contents x.0 e x.1 refl x.2))
-        | inr none ↦ inl (put_in 0 contents x.0 e x.1 (omega (arith, none)) x.2)
-      ]),
-)
-
 pub version : VersionLaw
 version order files d tables o exact h lists in_order =
     let listed : d.layout.tables.items ≡ placed_of d.tables = sym h.placed in
@@ -257,8 +233,7 @@ version order files d tables o exact h lists in_order =
     let contents = g.0 in
     let before = two_placed (λ (a b : PlacedTable). IsBefore order.cmp a b) contents (subst (λ (ps : List PlacedTable). ForTwo (λ (a b : PlacedTable). IsBefore order.cmp a b) ps) (sym g.1) (for_two (IsBefore order.cmp) tables in_order.places)) in
     let other = two_placed (λ (a b : PlacedTable). a.table.number ≢ b.table.number) contents
-    (subst (λ (ps : List PlacedTable). ForTwo (λ (a b : PlacedTable). a.table.number ≢ b.table.number) ps) (sym g.1) (for_two (λ (a b : PlacedTable). a.table.number ≢ b.table.number) tables in_order.numbers)) in
-    let again = tabled_again tables contents g.1 in_order.levels in (
+    (subst (λ (ps : List PlacedTable). ForTwo (λ (a b : PlacedTable). a.table.number ≢ b.table.number) ps) (sym g.1) (for_two (λ (a b : PlacedTable). a.table.number ≢ b.table.number) tables in_order.numbers)) in (
       contents,
       record {
         placed = g.1;
@@ -269,16 +244,34 @@ version order files d tables o exact h lists in_order =
         rows = λ level some. rows_of order files d o exact h level contents some g.2 before other;
       },
       λ e. (
-        λ i. let x = from_tabled contents e ((again e).0 i) in to_tabled d.tables x.0 e (g.2 x.0 x.1) x.2,
+        λ i. elim (from_turned (lists_of (contents_at 0 contents)) (deep contents) e i) [
+          | inl j ↦ let x = find_in 0 contents e j in to_tabled d.tables x.0 e (g.2 x.0 x.1) x.3
+          | inr j ↦
+              let l = in_levels contents (1 ∷ 2 ∷ 3 ∷ 4 ∷ 5 ∷ 6 ∷ []) e j in
+              let x = find_in l.0 contents e l.1 in
+              to_tabled d.tables x.0 e (g.2 x.0 x.1) x.3
+        ],
         λ i.
             let t = from_tabled d.tables e i in
             let at = has_placed d.tables t.0 t.1 in
             let in_version = all_of (Contains tables) (placed_of d.tables) (subst (λ (ps : List PlacedTable). All (Contains tables) ps) listed lists.all) t.0.placed at in
             let x = find_placed contents t.0.placed (subst (λ (ps : List PlacedTable). Contains ps t.0.placed) (sym g.1) in_version) in
             let same = same_table_content order files x.0 t.0 x.2 (has order files d o exact h x.0 (g.2 x.0 x.1)) (has order files d o exact h t.0 t.1) in
-            (again e).1 (to_tabled contents x.0 e x.1 (subst (λ (c : TableContent). Among c.entries e) (sym same) t.2)),
+            let mine : Among x.0.entries e = subst (λ (c : TableContent). Among c.entries e) (sym same) t.2 in
+            let few : t.0.placed.level < 7 = all_of (λ (p : PlacedTable). p.level < 7) tables in_order.levels t.0.placed in_version in
+            let few' : x.0.placed.level < 7 = subst (λ (p : PlacedTable). p.level < 7) (sym x.2) few in
+            to_turned (lists_of (contents_at 0 contents)) (deep contents) e (place contents x.0 e x.1 few' mine),
       ),
     )
+  where
+    all_of : (P : PlacedTable → Type 0) (ps : List PlacedTable) → All P ps → (p : PlacedTable) → Contains ps p → P p
+    all_of P ps a p (k, lt, e) = subst P e (a k p lt)
+
+    place : (contents : List TableContent) (c : TableContent) (e : Entry) → InTables contents c → c.placed.level < 7 → Among c.entries e → Among (joined (lists_of (contents_at 0 contents))) e ⊎ Among (joined (deep contents)) e
+    place contents c e i few a = elim (cases_lt 0 c.placed.level) [
+      | inl some ↦ inr (to_levels contents (1 ∷ 2 ∷ 3 ∷ 4 ∷ 5 ∷ 6 ∷ []) c.placed.level e (one_of_six c.placed.level some few) (put_in c.placed.level contents c e i refl a))
+      | inr none ↦ inl (put_in 0 contents c e i (omega (arith, none)) a)
+    ]
 
 pub kept : KeptLaw
 kept order old new tables contents v same = record {
