@@ -24,7 +24,6 @@ use Rattle.scans.proofs.Joining.{all_entries, union_from, union_has}
 use Rattle.scans.proofs.NewScans.{HaveUnions, IsNew, RowsBegin, all_limited, all_over, all_rows_listed, cursors_of, merge_begun, new_at, new_rows}
 use Rattle.scans.proofs.OwnSequences.{own_sequences}
 use Rattle.scans.proofs.Slices.{all_ranges}
-use Rattle.search.proofs.Version.{tabled_again}
 use Rattle.versions.specs.Levels.{AreInOrder}
 
 -- a new cursor over tables reads no memory table
@@ -53,12 +52,11 @@ module _ {K : Type 0} {g : Ghosts K} (order : Order) (tables : List PlacedTable)
       let rows = all_rows_listed order whole tables contents has in_order sound begins (cursors_of children) spots in
       let start = merge_begun order whole tables contents has in_order sound begins unions children merge.target.items rows.0 astray rows.1 rows.3 in
       let union = start.0 in
-      let again = tabled_again tables contents has.placed in_order.levels in
       record {
         entries = union;
         same = λ e. (
-          λ i. (again e).0 (subst (λ (es : List Entry). Among es e) rows.2 (union_from order.cmp rows.0 union start.1 e i)),
-          λ i. union_has order.cmp rows.0 union start.1 e (subst (λ (es : List Entry). Among es e) (sym rows.2) ((again e).1 i)),
+          λ i. subst (λ (es : List Entry). Among es e) rows.2 (union_from order.cmp rows.0 union start.1 e i),
+          λ i. union_has order.cmp rows.0 union start.1 e (subst (λ (es : List Entry). Among es e) (sym rows.2) i),
         );
         own = own_sequences order (all_entries rows.0) union total rows.3 rows.4 (union_from order.cmp rows.0 union start.1);
         lists = subst (λ (current : Option ℕ). IsMerge order.cmp (ListsSource order.cmp) children current merge.target.items whole (listed union None)) (sym nowhere) start.2;

@@ -8,14 +8,14 @@ use Rattle.cursor.specs.Places.{Cmp, Listed}
 use Rattle.edits.specs.declared.field.PlacedTable.{PlacedTable}
 use Rattle.ikey.specs.Entries.{InternalEntry, entry_of}
 use Rattle.ikey.specs.Orders.{Order}
-use Rattle.ikey.specs.Sources.{SameEntries}
+use Rattle.ikey.specs.Sources.{SameEntries, joined}
 use Rattle.memories.specs.Memories.{Memories}
-use Rattle.recover.specs.Tables.{TableContent, tabled}
+use Rattle.recover.specs.Tables.{TableContent}
 use Rattle.scans.specs.declared.source_cursor.SourceCursor.{SourceCursor}
 use Rattle.scans.specs.Places.{KeepsSource, LimitedSource, OneGoesOver}
 use Rattle.scans.specs.Scans.{IsOnePastLimit, ListsMerged}
 use Rattle.scans.specs.Whole.{Whole}
-use Rattle.search.specs.Places.{HasVersion}
+use Rattle.search.specs.Places.{HasVersion, table_sources}
 use Rattle.sources.specs.Tables.{Seen, IsSound}
 
 -- ---- a merge of cursors
@@ -37,7 +37,7 @@ ReadsNoMemory cmp merge = (seen : Seen) (old new : Memories) → KeepsMerge cmp 
 -- the file of one of the tables does.
 pub record IsMergeOf {K : Type 0} {g : _} (cmp : Cmp) (tables : List PlacedTable) (contents : List TableContent) (whole : Whole) (merge : Merge K (SourceCursor K g)) : Type 0 where
   pub entries : List InternalEntry
-  pub same : SameEntries (map entry_of entries) (tabled contents)
+  pub same : SameEntries (map entry_of entries) (joined (table_sources contents))
   pub own : HaveOwnSequences entries
   pub lists : ListsMerged cmp merge whole (listed entries None)
   pub limits : IsMergeLimited cmp merge whole → IsOnePastLimit cmp tables whole
