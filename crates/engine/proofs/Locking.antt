@@ -85,7 +85,8 @@ given_back {T} old mid new last e r taken rise back d counts files synced free m
               | inr made ↦ (
                   let fs : (name : _) → get last.files name ≡ get new.files name = λ name. ap (λ (x : Files). get x name) (files f) in
                   let ss : (name : _) → last.synced name ≡ new.synced name = λ name. ap (λ (s : Synced). s name) (synced f) in
-                  inr (made.0, made.1, (fs _ ∙ made.2.0, ss _ ∙ made.2.1), fs _ ∙ made.3, ss _ ∙ made.4))
+                  let d = made.1 in
+                  inr (made.0, (d.0, (fs _ ∙ d.1.0, ss _ ∙ d.1.1), fs _ ∙ d.2, ss _ ∙ d.3)))
             ];
       };
     }

@@ -1,7 +1,7 @@
 use Rattle.ikey.specs.Orders.{order_of}
-use Rattle.std.proofs.Common.{◌≡◌, length, string_bytes, Result, Err, refl, sym, subst, arith, rules}
+use Rattle.std.proofs.Common.{◌≡◌, ℕ, length, string_bytes, Result, Err, refl, sym, subst, arith, rules}
 use Rattle.coding.specs.declared.error.DbError.{DbError}
-use Rattle.engine.specs.Durable.{LeavesDurable}
+use Rattle.engine.specs.Durable.{HasDurable, LeavesDurable}
 use Rattle.engine.specs.declared.opening.Begun.{Begun}
 use Rattle.engine.proofs.BegunSteps.{continued_same, continued_behind, begins}
 use Rattle.engine.proofs.Telling.{found_openable}
@@ -60,3 +60,6 @@ returns-clause-continued g c =
 pub returns-clause-tells : goal.returns-clause-tells
 returns-clause-tells g c = λ f.
     found_openable (order_of g.K.KeyOrder.name g.K.KeyOrder.cmp) (g.S.Store.facts c.args.store.now).files c.in_ok-found.found (c.in_ok-found.ensures.found (c.in_ok-rewrite_directory.ensures.files.call.faithful f))
+
+pub returns-clause-current : goal.returns-clause-current
+returns-clause-current g c = λ f. subst (λ (n : ℕ). HasDurable n (g.S.Store.facts c.rewrite_directory.new.store)) (sym c.known_after.ensures.number) (c.in_ok-rewrite_directory.ensures.current f)
