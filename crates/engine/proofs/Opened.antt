@@ -1,6 +1,5 @@
 -- What the removal of files leaves of an open that was done.
-use Rattle.std.proofs.Common.{◌≡◌, ◌≢◌, ◌⊎◌, ℕ, ◌≤◌, ◌<◌, Bool, true, false, Option, Some, None, MatchOption, Result, Ok, Err, MatchResult, IsTrue, OnOk, inl, inr, refl, sym, ap, subst, ◌∙◌, arith}
-use Rattle.std.specs.FinMap.{get}
+use Rattle.std.proofs.Common.{◌≡◌, Bool, false, Option, Some, None, MatchOption, Result, Ok, Err, MatchResult, IsTrue, inl, inr, refl, sym, ap, subst, ◌∙◌, arith}
 use Rattle.coding.specs.declared.error.DbError.{DbError}
 use Rattle.coding.specs.declared.error.DbError.TheVariants as error
 use Rattle.edits.specs.Names.{name_of, IsFileName}
@@ -12,15 +11,14 @@ use Rattle.scans.specs.declared.scan.Scan.{Scan}
 use Rattle.sources.specs.Tables.{Seen}
 use Rattle.store.specs.Files.{Facts}
 use Rattle.engine.specs.declared.command.Mode.{Mode}
-use Rattle.engine.specs.declared.command.Answer.{Answer}
 use Rattle.engine.specs.declared.command.Answer.TheVariants.{Done, Refused}
 use Rattle.engine.specs.declared.ids.Ids.{Ids}
-use Rattle.engine.specs.Durable.{HasDurable, IsDurable, IsDurableAt, LeavesDurable, LeavesFile}
+use Rattle.engine.specs.Durable.{HasDurable, IsDurable, KeepsForeign, LeavesDurable, LeavesFile}
 use Rattle.engine.specs.Follows.{Leads, LeadsOpen}
 use Rattle.engine.specs.Held.{Held}
 use Rattle.engine.specs.Lifetime.{OpenAnswered, Opened, Opens, open_cause}
 use Rattle.engine.specs.Machine.{Machine}
-use Rattle.engine.specs.Serving.{Becomes, Counted}
+use Rattle.engine.specs.Serving.{Becomes}
 use Rattle.engine.specs.Stands.{StandsOpen}
 use Rattle.engine.specs.Upkeep.{Draws, UpkeepRefused}
 use Rattle.engine.specs.Working.{IsLiveIn, IsPiece, LosesDead}
@@ -86,6 +84,12 @@ module _ {K : Type 0} {g : _} (old new : Facts) (db : Held (Scan K g)) (loses : 
     | inr gone ↦ (let dead = gone.0 in absurd (dead.3 (subst (λ (f : FileName). IsLiveIn db f) (one_file file dead.0 is dead.1 dead.2) live)))
   ]
 
+  foreign_stays : KeepsForeign old new
+  foreign_stays name is = elim (loses name) [
+    | inl same ↦ same
+    | inr gone ↦ (let dead = gone.0 in absurd (is dead.0 dead.1 dead.2))
+  ]
+
   durable_stays : HasDurable db.directory.manifest.number old → IsDurable new
   durable_stays has =
       let n = db.directory.manifest.number in
@@ -97,3 +101,6 @@ module _ {K : Type 0} {g : _} (old new : Facts) (db : Held (Scan K g)) (loses : 
 pub durable_cleaned : {K T : Type 0} {g : _} (first old new : Facts) (db : Held (Scan K g)) (done : T) → (IsTrue new.faithful → IsTrue old.faithful) → (IsTrue new.faithful → LosesDead old new db)
     → (IsTrue old.faithful → HasDurable db.directory.manifest.number old) → LeavesDurable {T = T} first new (Ok done)
 durable_cleaned first old new db done back loses has = record { ok = λ f. durable_stays old new db (loses f) (has (back f)); err = λ f. tt }
+
+pub foreign_cleaned : {K : Type 0} {g : _} (first old new : Facts) (db : Held (Scan K g)) → (IsTrue new.faithful → IsTrue old.faithful) → (IsTrue new.faithful → LosesDead old new db) → (IsTrue old.faithful → KeepsForeign first old) → IsTrue new.faithful → KeepsForeign first new
+foreign_cleaned first old new db back loses kept f name is = let a = kept (back f) name is in let b = foreign_stays old new db (loses f) name is in (b.0 ∙ a.0, b.1 ∙ a.1)

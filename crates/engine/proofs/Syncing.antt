@@ -15,7 +15,7 @@ use Rattle.edits.specs.Names.{name_of, IsNumbered}
 use Rattle.edits.specs.declared.names.FileName.TheVariants.{Current, Log, Manifest, Temporary}
 use Rattle.recover.proofs.NamedFiles.{get_other}
 use Rattle.engine.specs.Calls.{KeepsOthers, Creates, Writes, SetsCurrent, MakesCurrent}
-use Rattle.engine.specs.Durable.{SyncsOnly, LeavesFile, WritesSynced, HasSyncedCurrent, MakesSynced, IsDurable, IsDurableAt, HasDurable, LeavesDurable}
+use Rattle.engine.specs.Durable.{SyncsOnly, LeavesFile, WritesSynced, HasSyncedCurrent, MakesSynced, IsDurable, IsDurableAt, HasDurable, KeepsForeign, LeavesDurable}
 use Rattle.engine.specs.Touching.{SyncsLog}
 use Rattle.engine.proofs.Reopening.{files_apart}
 use Rattle.engine.proofs.StoreCalls.{renamed_sets}
@@ -220,11 +220,24 @@ module _ (n : ℕ) (num : IsNumbered n) (manifest : List ℕ) (old mid : Facts) 
           | inr made ↦ ap (λ (fs : Files). get fs q) made ∙ get_other most.files new_log [] q apart
         ]
 
-        pub log_durable_named : (r : Result (Unit {0}) DbError) → Creates most new new_log r → (IsTrue new.faithful → SyncsOnly most.synced new.synced new_log) → LeavesDurable old new r × (IsTrue new.faithful → OnOk r (HasDurable n new))
+        -- the names that were written are of known shapes
+        foreign_kept : (r : Result (Unit {0}) DbError) → Creates most new new_log r → (IsTrue new.faithful → SyncsOnly most.synced new.synced new_log) → IsTrue new.faithful → KeepsForeign old new
+        foreign_kept r c synced f q foreign =
+            let at_most = c.call.faithful f in
+            let at_mid = m.call.faithful at_most in
+            let log = foreign (Log (n + 1)) next in
+            let temporary = foreign (Temporary n) num in
+            let current = foreign Current tt in
+            let named = foreign (Manifest n) num in (
+              log_others r c f q log ∙ (m.ok at_most).1 q temporary current ∙ w.others at_mid q named,
+              synced f q log ∙ t.others at_most q temporary current ∙ s.others at_mid q named,
+            )
+
+        pub log_durable_named : (r : Result (Unit {0}) DbError) → Creates most new new_log r → (IsTrue new.faithful → SyncsOnly most.synced new.synced new_log) → LeavesDurable old new r × (IsTrue new.faithful → OnOk r (HasDurable n new)) × (IsTrue new.faithful → OnOk r (KeepsForeign old new))
         log_durable_named (Ok x) c synced =
             let at : IsTrue new.faithful → IsDurableAt n new = λ f. durable_at (c.call.faithful f) (log_others (Ok x) c f) (synced f) in
-            (record { ok = λ f. (n, at f); err = λ f. tt }, λ f. record { numbered = num; durable = at f })
-        log_durable_named (Err e) c synced = (record { ok = λ f. tt; err = λ f. inr (n, durable_at (c.call.faithful f) (log_others (Err e) c f) (synced f)) }, λ f. tt)
+            (record { ok = λ f. (n, at f); err = λ f. tt }, λ f. record { numbered = num; durable = at f }, foreign_kept (Ok x) c synced)
+        log_durable_named (Err e) c synced = (record { ok = λ f. tt; err = λ f. inr (n, durable_at (c.call.faithful f) (log_others (Err e) c f) (synced f)) }, λ f. tt, λ f. tt)
 
 -- ---- a record behind the log
 

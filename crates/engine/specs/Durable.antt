@@ -4,7 +4,8 @@ use Rattle.std.specs.Prelude.{◌≡◌, ◌≢◌, ◌⊎◌, ℕ, Some, IsTrue
 use Rattle.std.specs.FinMap.{get}
 use Rattle.coding.specs.declared.error.DbError.{DbError}
 use Rattle.store.specs.Files.{Facts, Synced}
-use Rattle.edits.specs.Names.{name_of, IsNumbered}
+use Rattle.edits.specs.Names.{name_of, IsFileName, IsNumbered}
+use Rattle.edits.specs.declared.names.FileName.{FileName}
 use Rattle.edits.specs.declared.names.FileName.TheVariants.{Current, Manifest}
 
 -- but for the file of this name, what is synced is as before
@@ -18,6 +19,14 @@ IsSynced facts name = facts.synced name ≡ get facts.files name
 -- What a call says of the file of one name.
 abbrev pub LeavesFile : Facts → Facts → List ℕ → Type 0
 LeavesFile old new name = (get new.files name ≡ get old.files name) × (new.synced name ≡ old.synced name)
+
+-- The name is of no known shape: its file is another program's.
+abbrev pub IsForeign : List ℕ → Type 0
+IsForeign name = (file : FileName) → IsFileName file → name ≢ name_of file
+
+-- Files of other programs, and what of them is synced, are as before.
+abbrev pub KeepsForeign : Facts → Facts → Type 0
+KeepsForeign old new = (name : List ℕ) → IsForeign name → LeavesFile old new name
 
 -- A file that was written anew is synced whole.
 pub record WritesSynced (old new : Facts) (name bytes : List ℕ) (result : Result (Unit {0}) DbError) : Type 0 where
