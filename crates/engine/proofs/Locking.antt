@@ -1,15 +1,16 @@
 -- What an open does to the lock, and what of its writing is synced, from the call that takes the lock on.
-use Rattle.std.proofs.Common.{true, false, ◌≡◌, ◌≢◌, ◌⊎◌, ◌<◌, ◌≤◌, ap, sym, ◌∙◌, Result, Ok, Err, IsTrue, OnOk, OnErr, inl, inr, refl, arith}
-use Rattle.std.specs.FinMap.{get}
+use Rattle.std.proofs.Common.{Bool, true, false, cond, List, ℕ, [], ◌≡◌, ◌≢◌, ◌⊎◌, ◌<◌, ◌≤◌, ap, sym, ◌∙◌, Result, Ok, Err, IsTrue, OnOk, OnErr, inl, inr, refl, arith}
+use Rattle.std.specs.FinMap.{get, contains_key, insert}
 use Rattle.coding.specs.declared.error.DbError.{DbError}
-use Rattle.store.specs.Files.{Facts, Files, Synced}
+use Rattle.store.specs.Files.{Facts, Files, Synced, MayLock, lock_name}
 use Rattle.store.specs.Calls.{Counts}
 use Rattle.store.specs.declared.error.StoreError.{StoreError}
 use Rattle.store.specs.declared.error.StoreError.TheVariants as store_error
 use Rattle.edits.specs.Names.{name_of}
-use Rattle.edits.specs.declared.names.FileName.TheVariants.{Current}
+use Rattle.edits.specs.declared.names.FileName.TheVariants.{Current, Lock}
+use Rattle.recover.proofs.NamedFiles.{get_other}
 use Rattle.engine.specs.Calls.{TakesLock}
-use Rattle.engine.specs.Durable.{LeavesFile, LeavesDurable}
+use Rattle.engine.specs.Durable.{IsForeign, KeepsForeign, LeavesFile, LeavesDurable}
 use Rattle.engine.specs.Touching.{OpensStore, Frees}
 use Rattle.engine.proofs.OpenLock.{OnlyLock, may_lock_only}
 
@@ -39,6 +40,27 @@ behind_read {T} {U} old mid new e back files synced d = behind_durable {T = T} {
 pub done_durable : {T U : Type 0} (old mid new : Facts) (x : T) (y : U) → LeavesDurable {T = T} mid new (Ok x) → LeavesDurable {T = U} old new (Ok y)
 done_durable old mid new x y d = record { ok = d.ok; err = λ f. tt }
 
+-- ---- files of other programs
+
+foreign_on : (old mid new : Facts) → KeepsForeign old mid → KeepsForeign mid new → KeepsForeign old new
+foreign_on old mid new first next name is = let a = first name is in let b = next name is in (b.0 ∙ a.0, b.1 ∙ a.1)
+
+-- behind what was only read
+pub foreign_behind : (old mid new : Facts) → mid.files ≡ old.files → mid.synced ≡ old.synced → KeepsForeign mid new → KeepsForeign old new
+foreign_behind old mid new files synced kept = foreign_on old mid new (λ name is. (ap (λ (fs : Files). get fs name) files, ap (λ (s : Synced). s name) synced)) kept
+
+made_beside : (b : Bool) (files : Files) (name : List ℕ) → IsForeign name → get (cond b files (insert files lock_name [])) name ≡ get files name
+made_beside true files name is = refl
+made_beside false files name is = get_other files lock_name [] name (is Lock tt)
+
+may_lock_beside : (old new : Files) → MayLock old new → (name : List ℕ) → IsForeign name → get new name ≡ get old name
+may_lock_beside old new (inl same) name is = ap (λ (f : Files). get f name) same
+may_lock_beside old new (inr made) name is = ap (λ (f : Files). get f name) made ∙ made_beside (contains_key old lock_name) old name is
+
+foreign_locked : (old mid new : Facts) → TakesLock old mid (Ok tt) → IsTrue mid.faithful → KeepsForeign mid new → KeepsForeign old new
+foreign_locked old mid new taken f kept =
+    foreign_on old mid new (λ name is. (may_lock_beside old.files mid.files (taken.files f) name is, ap (λ (s : Synced). s name) (taken.synced f))) kept
+
 -- ---- the lock
 
 left_by_lock : {r : Result (Unit {0}) DbError} (old mid : Facts) → TakesLock old mid r → IsTrue mid.faithful → LeavesFile old mid (name_of Current)
@@ -50,13 +72,23 @@ pub unlocked_open : {T : Type 0} (old new : Facts) (e : DbError) → TakesLock o
 unlocked_open old new e taken = record {
   locks = record { held = tt; freed = λ h. inl (sym taken.unheld ∙ h) };
   durable = record { ok = λ f. tt; err = λ f. inl (left_by_lock {r = Err e} old new taken f) };
+  foreign = λ f. tt;
 }
 
 -- it was, and the open was done
-pub locked_open : {T : Type 0} (old mid new : Facts) (x : T) → TakesLock old mid (Ok tt) → new.held ≡ mid.held → LeavesDurable {T = T} mid new (Ok x) → OpensStore {T = T} old new (Ok x)
-locked_open {T} old mid new x taken same d = record {
+pub locked_open : {T : Type 0} (old mid new : Facts) (x : T) → TakesLock old mid (Ok tt) → new.held ≡ mid.held → (IsTrue new.faithful → IsTrue mid.faithful) → LeavesDurable {T = T} mid new (Ok x) → (IsTrue new.faithful → KeepsForeign mid new) → OpensStore {T = T} old new (Ok x)
+locked_open {T} old mid new x taken same back d kept = record {
   locks = record { held = same ∙ taken.held; freed = tt };
   durable = done_durable {T = T} {U = T} old mid new x x d;
+  foreign = λ f. foreign_locked old mid new taken (back f) (kept f);
+}
+
+-- with another value
+pub opened_as : {T U : Type 0} (old new : Facts) (x : T) (y : U) → OpensStore {T = T} old new (Ok x) → OpensStore {T = U} old new (Ok y)
+opened_as old new x y opens = record {
+  locks = record { held = opens.locks.held; freed = tt };
+  durable = record { ok = opens.durable.ok; err = λ f. tt };
+  foreign = opens.foreign;
 }
 
 freed_by : (r : Result (Unit {0}) StoreError) (old new : Facts) → Counts old new r → OnOk r (new.held ≡ false) → r ≢ Err store_error.Missing → r ≢ Err store_error.Memory → new.held ≡ true → old.failures < new.failures
@@ -85,9 +117,11 @@ given_back {T} old mid new last e r taken rise back d counts files synced free m
               | inr made ↦ (
                   let fs : (name : _) → get last.files name ≡ get new.files name = λ name. ap (λ (x : Files). get x name) (files f) in
                   let ss : (name : _) → last.synced name ≡ new.synced name = λ name. ap (λ (s : Synced). s name) (synced f) in
-                  inr (made.0, made.1, (fs _ ∙ made.2.0, ss _ ∙ made.2.1), fs _ ∙ made.3, ss _ ∙ made.4))
+                  let d = made.1 in
+                  inr (made.0, (d.0, (fs _ ∙ d.1.0, ss _ ∙ d.1.1), fs _ ∙ d.2, ss _ ∙ d.3)))
             ];
       };
+      foreign = λ f. tt;
     }
 
 -- where no memory was found no failure was counted, unless the lock wasn't given back

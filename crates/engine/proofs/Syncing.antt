@@ -15,7 +15,7 @@ use Rattle.edits.specs.Names.{name_of, IsNumbered}
 use Rattle.edits.specs.declared.names.FileName.TheVariants.{Current, Log, Manifest, Temporary}
 use Rattle.recover.proofs.NamedFiles.{get_other}
 use Rattle.engine.specs.Calls.{KeepsOthers, Creates, Writes, SetsCurrent, MakesCurrent}
-use Rattle.engine.specs.Durable.{SyncsOnly, LeavesFile, WritesSynced, HasSyncedCurrent, MakesSynced, IsDurable, LeavesDurable}
+use Rattle.engine.specs.Durable.{SyncsOnly, LeavesFile, WritesSynced, HasSyncedCurrent, MakesSynced, IsDurable, IsDurableAt, HasDurable, KeepsForeign, LeavesDurable}
 use Rattle.engine.specs.Touching.{SyncsLog}
 use Rattle.engine.proofs.Reopening.{files_apart}
 use Rattle.engine.proofs.StoreCalls.{renamed_sets}
@@ -180,7 +180,7 @@ module _ (n : ℕ) (num : IsNumbered n) (manifest : List ℕ) (old mid : Facts) 
     -- the new MANIFEST stays while `CURRENT` is written
     kept_by_current : (new : Facts) → IsTrue mid.faithful → (get new.files (name_of (Manifest n)) ≡ get mid.files (name_of (Manifest n))) → (new.synced (name_of (Manifest n)) ≡ mid.synced (name_of (Manifest n)))
         → HasSyncedCurrent new new_current → IsDurable new
-    kept_by_current new f files synced current = (n, manifest, current, files ∙ w.ok f, synced ∙ s.ok f)
+    kept_by_current new f files synced current = (n, (manifest, current, files ∙ w.ok f, synced ∙ s.ok f))
 
     beside_both : (new : Facts) → (KeepsOthers mid.files new.files (name_of (Temporary n)) ⊎ SetsCurrent mid.files new.files (name_of (Temporary n)) new_current) → get new.files (name_of (Manifest n)) ≡ get mid.files (name_of (Manifest n))
     beside_both new (inl kept) = kept (name_of (Manifest n)) (manifest_temporary n num)
@@ -199,21 +199,14 @@ module _ (n : ℕ) (num : IsNumbered n) (manifest : List ℕ) (old mid : Facts) 
 
     -- ---- it is current, and the new log was made or not
     module _ (most : Facts) (m : MakesCurrent mid most (name_of (Temporary n)) new_current (Ok tt)) (t : MakesSynced mid most (name_of (Temporary n)) new_current (Ok tt)) where
-      current_durable : IsTrue most.faithful → IsDurable most
-      current_durable f =
-          let g = m.call.faithful f in
-          kept_by_current most g (beside_both most (inr (m.ok f))) (t.others f (name_of (Manifest n)) (manifest_temporary n num) (manifest_current n num)) (t.ok f)
-
       abbrev new_log : List ℕ
       new_log = name_of (Log (n + 1))
 
       module _ (next : IsNumbered (n + 1)) (new : Facts) where
-        still_durable : IsTrue most.faithful → KeepsOthers most.files new.files new_log → SyncsOnly most.synced new.synced new_log → IsDurable new
-        still_durable f files synced =
-            let d = current_durable f in
+        durable_at : IsTrue most.faithful → KeepsOthers most.files new.files new_log → SyncsOnly most.synced new.synced new_log → IsDurableAt n new
+        durable_at f files synced =
             let current = files_apart Current (Log (n + 1)) tt next (λ e. cc) in
             let manifest_log = files_apart (Manifest n) (Log (n + 1)) num next (λ e. cc) in (
-              n,
               manifest,
               (files (name_of Current) current ∙ (t.ok f).0, synced (name_of Current) current ∙ (t.ok f).1),
               files (name_of (Manifest n)) manifest_log ∙ beside_both most (inr (m.ok f)) ∙ w.ok (m.call.faithful f),
@@ -227,15 +220,24 @@ module _ (n : ℕ) (num : IsNumbered n) (manifest : List ℕ) (old mid : Facts) 
           | inr made ↦ ap (λ (fs : Files). get fs q) made ∙ get_other most.files new_log [] q apart
         ]
 
-        pub log_durable : (r : Result (Unit {0}) DbError) → Creates most new new_log r → (IsTrue new.faithful → SyncsOnly most.synced new.synced new_log) → LeavesDurable old new r
-        log_durable (Ok x) c synced = record {
-          ok = λ f. still_durable (c.call.faithful f) (log_others (Ok x) c f) (synced f);
-          err = λ f. tt;
-        }
-        log_durable (Err e) c synced = record {
-          ok = λ f. tt;
-          err = λ f. inr (still_durable (c.call.faithful f) (log_others (Err e) c f) (synced f));
-        }
+        -- the names that were written are of known shapes
+        foreign_kept : (r : Result (Unit {0}) DbError) → Creates most new new_log r → (IsTrue new.faithful → SyncsOnly most.synced new.synced new_log) → IsTrue new.faithful → KeepsForeign old new
+        foreign_kept r c synced f q foreign =
+            let at_most = c.call.faithful f in
+            let at_mid = m.call.faithful at_most in
+            let log = foreign (Log (n + 1)) next in
+            let temporary = foreign (Temporary n) num in
+            let current = foreign Current tt in
+            let named = foreign (Manifest n) num in (
+              log_others r c f q log ∙ (m.ok at_most).1 q temporary current ∙ w.others at_mid q named,
+              synced f q log ∙ t.others at_most q temporary current ∙ s.others at_mid q named,
+            )
+
+        pub log_durable_named : (r : Result (Unit {0}) DbError) → Creates most new new_log r → (IsTrue new.faithful → SyncsOnly most.synced new.synced new_log) → LeavesDurable old new r × (IsTrue new.faithful → OnOk r (HasDurable n new)) × (IsTrue new.faithful → OnOk r (KeepsForeign old new))
+        log_durable_named (Ok x) c synced =
+            let at : IsTrue new.faithful → IsDurableAt n new = λ f. durable_at (c.call.faithful f) (log_others (Ok x) c f) (synced f) in
+            (record { ok = λ f. (n, at f); err = λ f. tt }, λ f. record { numbered = num; durable = at f }, foreign_kept (Ok x) c synced)
+        log_durable_named (Err e) c synced = (record { ok = λ f. tt; err = λ f. inr (n, durable_at (c.call.faithful f) (log_others (Err e) c f) (synced f)) }, λ f. tt, λ f. tt)
 
 -- ---- a record behind the log
 

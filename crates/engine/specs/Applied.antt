@@ -18,7 +18,7 @@ use Rattle.engine.specs.Stands.{store_of, held_in}
 use Rattle.engine.specs.StandsDb.{db_store_of, held_by}
 use Rattle.engine.specs.declared.work.Progress.{Progress}
 use Rattle.engine.specs.declared.work.Progress.TheVariants.{Idle}
-use Rattle.engine.specs.Working.{DoesWork, HasLiveOnly, HasNoWork}
+use Rattle.engine.specs.Working.{DoesWork, HasLiveOnly, LosesDead, HasNoWork}
 use Rattle.scans.specs.declared.scan.Scan.{Scan}
 use Rattle.engine.specs.declared.session.Session.{Session}
 use Rattle.engine.specs.declared.db.Db.{Db}
@@ -145,3 +145,7 @@ DbWorks old new result = DoesWork old.options.write_buffer (held_by old) (held_b
 -- Where there was none, all files are live, unless one couldn't be removed.
 abbrev pub DbTidies : {S K : Type 0} {g : _} → (S → Facts) → Db S K g → Db S K g → Result Progress DbError → Type 0
 DbTidies facts old new result = result ≡ Ok Idle → IsTrue (facts (db_store_of new)).faithful → (facts (db_store_of new)).failures ≡ (facts (db_store_of old)).failures → HasLiveOnly (facts (db_store_of new)).files (held_by new)
+
+-- Live files and those of other programs stay then.
+abbrev pub DbRemoves : {S K : Type 0} {g : _} → (S → Facts) → Db S K g → Db S K g → Result Progress DbError → Type 0
+DbRemoves facts old new result = result ≡ Ok Idle → IsTrue (facts (db_store_of new)).faithful → LosesDead (facts (db_store_of old)) (facts (db_store_of new)) (held_by new)

@@ -4,7 +4,8 @@ use Rattle.std.specs.Prelude.{◌≡◌, ◌≢◌, ◌⊎◌, ℕ, Some, IsTrue
 use Rattle.std.specs.FinMap.{get}
 use Rattle.coding.specs.declared.error.DbError.{DbError}
 use Rattle.store.specs.Files.{Facts, Synced}
-use Rattle.edits.specs.Names.{name_of}
+use Rattle.edits.specs.Names.{name_of, IsFileName, IsNumbered}
+use Rattle.edits.specs.declared.names.FileName.{FileName}
 use Rattle.edits.specs.declared.names.FileName.TheVariants.{Current, Manifest}
 
 -- but for the file of this name, what is synced is as before
@@ -18,6 +19,14 @@ IsSynced facts name = facts.synced name ≡ get facts.files name
 -- What a call says of the file of one name.
 abbrev pub LeavesFile : Facts → Facts → List ℕ → Type 0
 LeavesFile old new name = (get new.files name ≡ get old.files name) × (new.synced name ≡ old.synced name)
+
+-- The name is of no known shape: its file is another program's.
+abbrev pub IsForeign : List ℕ → Type 0
+IsForeign name = (file : FileName) → IsFileName file → name ≢ name_of file
+
+-- Files of other programs, and what of them is synced, are as before.
+abbrev pub KeepsForeign : Facts → Facts → Type 0
+KeepsForeign old new = (name : List ℕ) → IsForeign name → LeavesFile old new name
 
 -- A file that was written anew is synced whole.
 pub record WritesSynced (old new : Facts) (name bytes : List ℕ) (result : Result (Unit {0}) DbError) : Type 0 where
@@ -34,11 +43,20 @@ pub record MakesSynced (old new : Facts) (temporary bytes : List ℕ) (result : 
   pub err : IsTrue new.faithful → OnErr result (temporary ≢ name_of Current → LeavesFile old new (name_of Current) ⊎ HasSyncedCurrent new bytes)
   pub others : IsTrue new.faithful → (q : List ℕ) → q ≢ temporary → q ≢ name_of Current → new.synced q ≡ old.synced q
 
--- `CURRENT` names a MANIFEST, and both are synced whole.
-abbrev pub IsDurable : Facts → Type 0
-IsDurable facts =
-    (n : ℕ) × (bytes : List ℕ) × HasSyncedCurrent facts (name_of (Manifest n) ++ 10 ∷ [])
+-- `CURRENT` names the MANIFEST of this number, and both are synced whole.
+abbrev pub IsDurableAt : ℕ → Facts → Type 0
+IsDurableAt n facts =
+    (bytes : List ℕ) × HasSyncedCurrent facts (name_of (Manifest n) ++ 10 ∷ [])
     × (get facts.files (name_of (Manifest n)) ≡ Some bytes) × (facts.synced (name_of (Manifest n)) ≡ Some bytes)
+
+-- So of one of some number.
+abbrev pub IsDurable : Facts → Type 0
+IsDurable facts = (n : ℕ) × IsDurableAt n facts
+
+-- So of this one, whose number fits.
+pub record HasDurable (n : ℕ) (facts : Facts) : Type 0 where
+  pub numbered : IsNumbered n
+  pub durable : IsDurableAt n facts
 
 -- So it is behind an open, and behind one that was refused wherever `CURRENT` has changed.
 pub record LeavesDurable {T : Type 0} (old new : Facts) (result : Result T DbError) : Type 0 where

@@ -8,7 +8,7 @@ use Rattle.engine.specs.declared.command.Op.TheVariants.{Open, Write, Work, Clos
 use Rattle.engine.specs.declared.command.Answer.{Answer}
 use Rattle.engine.specs.declared.command.Answer.TheVariants.{Refused}
 use Rattle.engine.specs.Held.{Held}
-use Rattle.engine.specs.Durable.{SyncsOnly, IsSynced, LeavesDurable}
+use Rattle.engine.specs.Durable.{SyncsOnly, IsSynced, KeepsForeign, LeavesDurable}
 
 -- whether it was refused
 abbrev pub unit_result : Answer → Result (Unit {0}) DbError
@@ -63,10 +63,12 @@ pub record ClosesStore (old new : Facts) : Type 0 where
   pub synced : IsTrue new.faithful → new.synced ≡ old.synced
   pub freed : Frees old new
 
--- An open leaves `CURRENT` and its MANIFEST synced whole wherever it changed them.
+-- An open leaves `CURRENT` and its MANIFEST synced whole wherever it changed them. One that is accepted leaves the files of other
+-- programs alone.
 pub record OpensStore {T : Type 0} (old new : Facts) (result : Result T DbError) : Type 0 where
   pub locks : Locks old new result
   pub durable : LeavesDurable old new result
+  pub foreign : IsTrue new.faithful → OnOk result (KeepsForeign old new)
 
 abbrev pub OpenTouches : {I : Type 0} → Option (Held I) → Facts → Facts → Answer → Type 0
 OpenTouches None old new answer = OpensStore old new (unit_result answer)

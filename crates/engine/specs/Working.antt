@@ -8,14 +8,15 @@ use Rattle.edits.specs.declared.field.TableFile.{TableFile}
 use Rattle.memories.specs.Memories.{Memories, sealed_inserts}
 use Rattle.memtable.specs.Contents.{size_of}
 use Rattle.versions.specs.Levels.{Lists}
-use Rattle.std.specs.FinMap.{contains_key}
+use Rattle.std.specs.FinMap.{contains_key, get}
 use Rattle.edits.specs.Names.{IsFileName, name_of}
 use Rattle.edits.specs.declared.names.FileName.{FileName}
 use Rattle.scans.specs.declared.scan.Scan.{Scan}
-use Rattle.store.specs.Files.{Files}
-use Rattle.upkeep.specs.Removal.{IsLiveFile}
+use Rattle.store.specs.Files.{Facts, Files}
+use Rattle.upkeep.specs.Removal.{IsDead, IsLiveFile}
 use Rattle.versions.specs.declared.live.LiveNumbers.{LiveNumbers}
 use Rattle.engine.specs.declared.directory.DirectoryState.{DirectoryState}
+use Rattle.engine.specs.Durable.{LeavesFile}
 use Rattle.engine.specs.Held.{Held}
 use Rattle.engine.specs.InUse.{IsTableUsed}
 use Rattle.upkeep.specs.declared.flush.FlushError.{FlushError}
@@ -87,10 +88,18 @@ DoesWork most before after (Err e) = Unit {0}
 abbrev pub numbers_of : DirectoryState → LiveNumbers
 numbers_of state = record { manifest_number = state.manifest.number; log_number = state.first_log; previous_log_number = state.previous_log }
 
--- Each file of a known shape is live: `CURRENT`, the lock, the MANIFEST, a log that the directory reads, or a table of the version or of
--- that of an open iterator.
+-- `CURRENT`, the lock, the MANIFEST, a log that the directory reads, or a table of the version or of that of an open iterator
+abbrev pub IsLiveIn : {K : Type 0} {g : _} → Held (Scan K g) → FileName → Type 0
+IsLiveIn db file = IsLiveFile (numbers_of db.directory) (λ number. IsTableUsed db.tables db.iterators number) file
+
+-- Each file of a known shape is live.
 abbrev pub HasLiveOnly : {K : Type 0} {g : _} → Files → Held (Scan K g) → Type 0
-HasLiveOnly files db = (file : FileName) → IsFileName file → contains_key files (name_of file) ≡ true → IsLiveFile (numbers_of db.directory) (λ number. IsTableUsed db.tables db.iterators number) file
+HasLiveOnly files db = (file : FileName) → IsFileName file → contains_key files (name_of file) ≡ true → IsLiveIn db file
+
+-- Each file, and what of it is synced, is as before; or it is of a known shape and not live, and is gone. So live files and files of
+-- other programs stay.
+abbrev pub LosesDead : {K : Type 0} {g : _} → Facts → Facts → Held (Scan K g) → Type 0
+LosesDead old new db = (name : List ℕ) → LeavesFile old new name ⊎ (IsDead (IsLiveIn db) name × (get new.files name ≡ None))
 
 -- ---- answers
 

@@ -37,7 +37,7 @@ impl<K: KeyOrder> DbState<K> {
     ghost use Rattle.engine.specs.Held.{held, seen_of};
     ghost use Rattle.engine.specs.Outcomes.{DbOutcome, IsSame, MayRefuseWork};
     ghost use Rattle.engine.specs.Upkeep.{Works};
-    ghost use Rattle.engine.specs.Working.{DoesWork, HasLiveOnly, IsPiece, IsSameMemory, MayRefusePiece, SealsMemory, WritesTable, broken_by, flush_answer, work_answer};
+    ghost use Rattle.engine.specs.Working.{DoesWork, HasLiveOnly, IsPiece, IsSameMemory, LosesDead, MayRefusePiece, SealsMemory, WritesTable, broken_by, flush_answer, work_answer};
 
     /// Removes the files that aren't live, and then does the first of these that there is to do: writes the sealed memory table into
     /// a table file; or seals the memory table, where it has `write_buffer` bytes, and begins a log.
@@ -53,6 +53,8 @@ impl<K: KeyOrder> DbState<K> {
         ensures does { DoesWork options.now.write_buffer (held source.old.memory self.old) (held source.new.memory self.new) result }
         // Where there is none, all files are live, unless one couldn't be removed.
         ensures tidy { result ≡ Ok Idle → IsTrue (S.facts source.new.tables.store).faithful → (S.facts source.new.tables.store).failures ≡ (S.facts source.old.tables.store).failures → HasLiveOnly (S.facts source.new.tables.store).files (held source.new.memory self.new) }
+        // All files that are live stay then, and those of other programs.
+        ensures removes { result ≡ Ok Idle → IsTrue (S.facts source.new.tables.store).faithful → LosesDead (S.facts source.old.tables.store) (S.facts source.new.tables.store) (held source.new.memory self.new) }
         ensures lock { (S.facts source.new.tables.store).held ≡ (S.facts source.old.tables.store).held }
     {
         if self.broken {
@@ -65,9 +67,13 @@ impl<K: KeyOrder> DbState<K> {
         }
     }
 
-    // Removes the files that aren't live, and lets go what is kept of them. What can't be removed is left for the next time; the
-    // answer is whether nothing was.
-    fn clean<S: Store>(&self, alloc: Global, source: &mut Sources<K, S>) -> Result<bool, DbError>
+    /// Removes the files that aren't live, and lets go what is kept of them. What can't be removed is left for the next time; the
+    /// answer is whether nothing was.
+    pub fn clean<S: Store>(
+        &self,
+        alloc: Global,
+        source: &mut Sources<K, S>,
+    ) -> Result<bool, DbError>
         requires whole { self.now.broken ≡ false }
         ensures step { (ids : Ids) → LeadsOpen (order_of K.name K.cmp) (seen_of S.facts source.old) (seen_of S.facts source.new) ids (held source.old.memory self.now) (held source.new.memory self.now) (λ m n. IsPiece m 0 result n) }
         ensures outcome { DbOutcome MayRefusePiece (S.facts source.old.tables.store) (S.facts source.new.tables.store) (held source.old.memory self.now) (held source.new.memory self.now) result }
@@ -76,6 +82,7 @@ impl<K: KeyOrder> DbState<K> {
         ensures complete { IfOk result (λ complete. IsTrue complete → (S.facts source.new.tables.store).failures ≡ (S.facts source.old.tables.store).failures) }
         ensures unfailed { IfOk result (λ complete. (S.facts source.new.tables.store).failures ≡ (S.facts source.old.tables.store).failures → IsTrue complete) }
         ensures tidy { IsTrue (S.facts source.new.tables.store).faithful → IfOk result (λ complete. IsTrue complete → HasLiveOnly (S.facts source.new.tables.store).files (held source.new.memory self.now)) }
+        ensures removes { IsTrue (S.facts source.new.tables.store).faithful → LosesDead (S.facts source.old.tables.store) (S.facts source.new.tables.store) (held source.new.memory self.now) }
         ensures lock { (S.facts source.new.tables.store).held ≡ (S.facts source.old.tables.store).held }
     {
         sound_lasts();

@@ -1,4 +1,4 @@
-//! A store in memory that notes what is read of it, and can be told to return other bytes.
+//! A store in memory that notes what is read of it, and can be told to return other bytes, or to keep its files.
 ghost use Rattle.store.specs.MemFacts.{mem_facts};
 
 use std::alloc::Global;
@@ -13,6 +13,7 @@ pub struct WatchedStore {
     table_reads: u64,
     bytes_read: u64,
     changed: Cell<Option<(u64, u8)>>,
+    keeps: Cell<bool>,
 }
 
 impl WatchedStore {
@@ -23,6 +24,7 @@ impl WatchedStore {
             table_reads: 0,
             bytes_read: 0,
             changed: Cell::new(None),
+            keeps: Cell::new(false),
         }
     }
 
@@ -39,6 +41,11 @@ impl WatchedStore {
     /// From now on each table has this byte at this offset.
     pub fn change(&self, offset: u64, byte: u8) {
         self.changed.set(Some((offset, byte)));
+    }
+
+    /// From now on no file can be removed, or each can.
+    pub fn keep_files(&self, keeps: bool) {
+        self.keeps.set(keeps);
     }
 
     // Puts the changed byte into what was read from an offset on, where it lies there.
@@ -101,6 +108,10 @@ impl Store for WatchedStore {
     }
 
     fn remove(&mut self, name: &str) -> Result<(), StoreError> {
+        if self.keeps.get() {
+            // fails, and is counted, since there is no such file
+            return self.inner.remove("");
+        }
         self.inner.remove(name)
     }
 

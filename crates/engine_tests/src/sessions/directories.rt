@@ -261,16 +261,14 @@ fn logs_and_tables_without_current_are_refused(rt: HostRuntime) -> Result<(), Fa
     Ok(())
 }
 
-const LEFT: &[(&str, &[u8])] = &[("000009.dbtmp", b"kept"), ("MANIFEST-000007", b"kept")];
+const LEFT: &[(&str, &[u8])] = &[("000009.dbtmp", b"left"), ("MANIFEST-000007", b"left")];
 
-// New numbers are above all that names of the directory have.
+// New numbers are above all that names of the directory have, also of files that the open removes then.
 #[test]
 fn names_that_are_there_are_not_taken(rt: HostRuntime) -> Result<(), Fail> {
     let mut store = directory(rt.alloc(), LEFT)?;
     store = after_script(&rt, store, &[(Open(New), Done)])?;
-    for (name, bytes) in LEFT {
-        assert_file(&rt, &mut store, name, bytes)?;
-    }
+    assert_names(&rt, &mut store, "000011.log;CURRENT;LOCK;MANIFEST-000010;")?;
     assert_file(&rt, &mut store, "CURRENT", b"MANIFEST-000010\n")?;
     assert_file(&rt, &mut store, "000011.log", b"")?;
     Ok(())

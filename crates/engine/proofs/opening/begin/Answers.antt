@@ -1,11 +1,11 @@
 use Rattle.ikey.specs.Orders.{order_of}
-use Rattle.std.proofs.Common.{◌≡◌, length, string_bytes, Result, Err, refl, sym, subst, arith, rules}
+use Rattle.std.proofs.Common.{◌≡◌, ℕ, length, string_bytes, Result, Err, refl, sym, subst, arith, rules}
 use Rattle.coding.specs.declared.error.DbError.{DbError}
-use Rattle.engine.specs.Durable.{LeavesDurable}
+use Rattle.engine.specs.Durable.{HasDurable, LeavesDurable}
 use Rattle.engine.specs.declared.opening.Begun.{Begun}
 use Rattle.engine.proofs.BegunSteps.{continued_same, continued_behind, begins}
 use Rattle.engine.proofs.Telling.{found_openable}
-use Rattle.engine.proofs.Locking.{behind_read}
+use Rattle.engine.proofs.Locking.{behind_read, foreign_behind}
 use Rattle.engine.proofs.opening.begin.Goals as goal
 
 pub returns-in_err-found-clause-continued : goal.returns-in_err-found-clause-continued
@@ -60,3 +60,11 @@ returns-clause-continued g c =
 pub returns-clause-tells : goal.returns-clause-tells
 returns-clause-tells g c = λ f.
     found_openable (order_of g.K.KeyOrder.name g.K.KeyOrder.cmp) (g.S.Store.facts c.args.store.now).files c.in_ok-found.found (c.in_ok-found.ensures.found (c.in_ok-rewrite_directory.ensures.files.call.faithful f))
+
+pub returns-clause-current : goal.returns-clause-current
+returns-clause-current g c = λ f. subst (λ (n : ℕ). HasDurable n (g.S.Store.facts c.rewrite_directory.new.store)) (sym c.known_after.ensures.number) (c.in_ok-rewrite_directory.ensures.current f)
+
+pub returns-clause-foreign : goal.returns-clause-foreign
+returns-clause-foreign g c = λ f.
+    let back = c.in_ok-rewrite_directory.ensures.files.call.faithful f in
+    foreign_behind (g.S.Store.facts c.args.store.now) (g.S.Store.facts c.find.new.store) (g.S.Store.facts c.rewrite_directory.new.store) (c.in_ok-found.ensures.store.same back) (c.in_ok-found.ensures.store.synced back) (c.in_ok-rewrite_directory.ensures.foreign f)
