@@ -1,8 +1,11 @@
+pub mod AfterEdits
 pub mod Cleaning
 pub mod EditSteps
 pub mod Filled
 pub mod FlushEdits
 pub mod Flushes
+pub mod Installing
+pub mod Installs
 pub mod JobFolds
 pub mod JobOutputs
 pub mod JobTables
@@ -16,6 +19,7 @@ pub mod Meaning
 pub mod NewLogFiles
 pub mod NewVersions
 pub mod Ranks
+pub mod Rooms
 pub mod Sizes
 pub mod StoreCalls
 pub mod TableEdits
