@@ -1,10 +1,10 @@
 -- What an edit keeps of the tables of a layout.
-use Rattle.std.proofs.Common.{◌≡◌, ◌≢◌, ◌<◌, ◌^◌, ℕ, zero, suc, Option, Some, None, IfSome, option_and_then, List, [], ◌∷◌, ◌++◌, map, All, AllPairs, inl, inr, refl, sym, ap, subst, arith}
+use Rattle.std.proofs.Common.{◌≡◌, ◌≢◌, ℕ, zero, suc, Option, Some, None, IfSome, option_and_then, List, [], ◌∷◌, All, AllPairs, sym, subst, arith}
 use Rattle.std.specs.Option.{option_map}
 use Rattle.std.specs.List.{AllByRecursion}
 use Rattle.std.proofs.lemmas.Bool.{cond_both}
 use Rattle.edits.specs.declared.field.Field.{Field}
-use Rattle.edits.specs.declared.field.Field.TheVariants.{Comparator, LogNumber, NextFileNumber, LastSequence, CompactPointer, DeletedFile, NewFile, PreviousLogNumber}
+use Rattle.edits.specs.declared.field.Field.TheVariants.{DeletedFile, NewFile}
 use Rattle.edits.specs.declared.field.PlacedTable.{PlacedTable}
 use Rattle.edits.specs.Edit.{IsPlacedBefore}
 use Rattle.edits.specs.Layout.{is_at, is_before, is_used, without, inserted, after_deleted, after_new, after_edit}
@@ -87,6 +87,24 @@ module _ (P : PlacedTable → Type 0) where
   kept_edit edit ts us p h e =
       let O : Option (List PlacedTable) → Type 0 = λ o. IfSome o (AreKept P) in
       subst O e (if_then (after_new edit) (AreKept P) (AreKept P) (after_deleted edit ts) (kept_deleted edit ts h) (λ others k. kept_new edit others p k))
+
+  all_deleted : (fs : List Field) (ts : List PlacedTable) → AllByRecursion P ts → IfSome (after_deleted fs ts) (AllByRecursion P)
+  all_deleted [] ts h = h
+  all_deleted (DeletedFile level number ∷ fs) ts h = if_then (after_deleted fs) (AllByRecursion P) (AllByRecursion P) (without level number ts) (all_without P level number ts h) (λ others k. all_deleted fs others k)
+  all_deleted (f ∷ fs) ts h = all_deleted fs ts h
+
+  all_put : (fs : List Field) (ts : List PlacedTable) → AllByRecursion (PutsIn P) fs → AllByRecursion P ts → IfSome (after_new fs ts) (AllByRecursion P)
+  all_put [] ts p h = h
+  all_put (NewFile placed ∷ fs) ts p h =
+      cond_both (is_used placed.table.number ts) None (Some (inserted placed ts)) (λ o. IfSome (option_and_then (after_new fs) o) (AllByRecursion P)) (λ _. tt)
+      (λ _. all_put fs (inserted placed ts) p.1 (all_inserted P placed ts p.0 h))
+  all_put (f ∷ fs) ts p h = all_put fs ts p.1 h
+
+  -- the same in whatever order they stand
+  pub all_edit : (edit : List Field) (ts us : List PlacedTable) → AllByRecursion (PutsIn P) edit → AllByRecursion P ts → after_edit edit ts ≡ Some us → AllByRecursion P us
+  all_edit edit ts us p h e =
+      let O : Option (List PlacedTable) → Type 0 = λ o. IfSome o (AllByRecursion P) in
+      subst O e (if_then (after_new edit) (AllByRecursion P) (AllByRecursion P) (after_deleted edit ts) (all_deleted edit ts h) (λ others k. all_put edit others p k))
 
 -- ---- lists
 

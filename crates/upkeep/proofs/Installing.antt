@@ -1,7 +1,11 @@
 -- The whole end of a job, by what its calls say.
 use Rattle.std.proofs.Common.{◌≡◌, ◌⊎◌, ◌<◌, ◌^◌, ℕ, Bool, List, [], ◌∷◌, Some, Ok, Err, IsTrue, string_bytes, inl, inr, sym, subst, ◌∙◌, arith}
 use Rattle.std.specs.Cmp.{IsTotalOrder}
-use Rattle.std.specs.List.{AllByRecursion}
+use Rattle.std.specs.List.{AllByRecursion, Contains}
+use Rattle.std.specs.declared.cmp.Ordering.{Ordering}
+use Rattle.std.proofs.lemmas.List.Elements.{All-contains, All-from_recursion, recursion_from_All}
+use Rattle.versions.proofs.Pairs.{all_contained}
+use Rattle.edits.specs.declared.field.Field.TheVariants as field
 use Rattle.coding.specs.declared.error.DbError.{DbError}
 use Rattle.coding.specs.declared.error.DbError.TheVariants.{OutOfMemory, Io, Corrupt}
 use Rattle.store.specs.Files.{Facts}
@@ -11,23 +15,24 @@ use Rattle.edits.specs.Layout.{after_edit}
 use Rattle.edits.specs.declared.field.Field.{Field}
 use Rattle.edits.specs.declared.field.PlacedTable.{PlacedTable}
 use Rattle.table.specs.Writing.{KeepsOthers, SyncsOnly}
-use Rattle.versions.specs.Applying.{LeadsAstray}
-use Rattle.versions.specs.Levels.{Placement}
+use Rattle.versions.specs.Applying.{Leads, LeadsAstray}
+use Rattle.versions.specs.Levels.{Placement, AreInOrder}
 use Rattle.recover.specs.Tables.{TableContent, HasTable, InTables}
 use Rattle.recover.specs.Directory.{Directory}
 use Rattle.recover.specs.Changes.{SameManifestLaw}
 use Rattle.recover.proofs.Memberships.{from_rest, in_part, one_of_tables}
-use Rattle.compact.specs.Outputs.{Written, AreNumbered, IsNumberAtHand, RefusesEntry, WritesTables}
+use Rattle.compact.specs.Outputs.{Written, AreNumbered, IsNumberAtHand, IsOwn, RefusesEntry, WritesTables}
+use Rattle.compact.specs.JobEdits.{IsOwnIn}
 use Rattle.compact.specs.declared.job.Job.{Job}
 use Rattle.upkeep.specs.Calls.{Touches}
 use Rattle.upkeep.specs.Compactions.{placed_in}
 use Rattle.upkeep.specs.Flush.{IsCorrupt, edit_refusal}
-use Rattle.upkeep.specs.Install.{CanInstall, HasNoRoom, HasPreparedJob, InstallLeaves, InstallMeans, InstallTouches, IsJobEdit}
+use Rattle.upkeep.specs.Install.{AreOldOrOwn, CanInstall, HasNoRoom, HasPreparedJob, InstallLeaves, InstallMeans, InstallTouches, IsJobEdit}
 use Rattle.upkeep.specs.Manifest.{AppendsEdit}
 use Rattle.upkeep.specs.declared.flush.FlushError.TheVariants.{Before}
 use Rattle.upkeep.specs.declared.install.PreparedJob.{PreparedJob}
 use Rattle.upkeep.specs.declared.manifest.CurrentManifest.{CurrentManifest}
-use Rattle.upkeep.proofs.AfterEdits.{AreKept}
+use Rattle.upkeep.proofs.AfterEdits.{PutsIn, all_edit}
 use Rattle.upkeep.proofs.Installs.{IsFit, after, compaction, installed_ok, kept_tables, maybe_installed, outputs_put, served_mid, uninstalled, uninstalled_still}
 use Rattle.upkeep.proofs.Rooms.{are_apart, lie_apart}
 
@@ -43,6 +48,26 @@ touches_job old mid new w manifest h t others synced = record {
   others = λ f name apart other. others f name other ∙ h.others (t.faithful f) name apart;
   synced = λ f name apart other. synced f name other ∙ h.synced (t.faithful f) name apart;
 }
+
+-- ---- whose tables a version has
+
+puts_own : (w : Written) (old : List PlacedTable) (edit : List Field) → AllByRecursion (IsOwnIn w) edit → AllByRecursion (PutsIn (λ (p : PlacedTable). Contains old p ⊎ IsOwn w p.table.number)) edit
+puts_own w old [] h = tt
+puts_own w old (field.NewFile placed ∷ edit) h = (inr h.0, puts_own w old edit h.1)
+puts_own w old (field.DeletedFile level number ∷ edit) h = (tt, puts_own w old edit h.1)
+puts_own w old (field.Comparator name ∷ edit) h = (tt, puts_own w old edit h.1)
+puts_own w old (field.LogNumber k ∷ edit) h = (tt, puts_own w old edit h.1)
+puts_own w old (field.NextFileNumber k ∷ edit) h = (tt, puts_own w old edit h.1)
+puts_own w old (field.LastSequence k ∷ edit) h = (tt, puts_own w old edit h.1)
+puts_own w old (field.CompactPointer level key ∷ edit) h = (tt, puts_own w old edit h.1)
+puts_own w old (field.PreviousLogNumber k ∷ edit) h = (tt, puts_own w old edit h.1)
+
+pub old_or_own : (cmp : List ℕ → List ℕ → Ordering) (w : Written) (old new : List PlacedTable) (edit : List Field) → AreInOrder cmp old → AllByRecursion (IsOwnIn w) edit → Leads (after_edit edit) old new → AreOldOrOwn w old new
+old_or_own cmp w old new edit order own leads placed there =
+    let P : PlacedTable → Type 0 = λ p. Contains old p ⊎ IsOwn w p.table.number in
+    let r = leads old (record { numbers = order.numbers; all = all_contained (Contains old) old (λ p c. c); only = all_contained (Contains old) old (λ p c. c) }) in
+    let all : AllByRecursion P r.0 = all_edit P edit old r.0 (puts_own w old edit own) (recursion_from_All P old (all_contained P old (λ p c. inl c))) r.1 in
+    All-contains P r.0 placed (All-from_recursion P r.0 all) (All-contains (Contains r.0) new placed r.2.only there)
 
 -- ---- the version has room
 

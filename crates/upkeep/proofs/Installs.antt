@@ -1,5 +1,5 @@
 -- The edit of a job behind the MANIFEST.
-use Rattle.std.proofs.Common.{◌≡◌, ◌≢◌, ◌⊎◌, ◌<◌, ◌≤◌, ◌^◌, ◌-◌, ℕ, zero, suc, Bool, List, [], ◌∷◌, ◌++◌, length, map, Some, Option, All, Ok, Err, IsTrue, string_bytes, inl, inr, refl, sym, ap, subst, ◌∙◌, arith}
+use Rattle.std.proofs.Common.{◌≡◌, ◌<◌, ◌≤◌, ◌^◌, ℕ, suc, Bool, List, [], ◌∷◌, ◌++◌, length, map, Some, Option, All, Ok, Err, IsTrue, string_bytes, inl, inr, refl, sym, ap, subst, ◌∙◌, arith}
 use Rattle.std.specs.Global.{Vec}
 use Rattle.std.specs.List.{AllByRecursion}
 use Rattle.std.specs.List.Sorted.{IsPermutation}
@@ -25,15 +25,14 @@ use Rattle.versions.specs.Levels.{Lists, pointers_after}
 use Rattle.versions.proofs.Sets.{inside}
 use Rattle.recover.specs.Tables.{TableContent, InTables}
 use Rattle.recover.specs.Directory.{Directory, IsConsistent, HasManifest, EndsAt, used_in}
-use Rattle.recover.specs.Changes.{ManifestEndsAt, AgreeBeside, AreParted, SameManifestLaw, IsCompaction, compacted}
-use Rattle.recover.specs.Numbers.{IsFree, NamesBelow}
-use Rattle.recover.specs.Report.{IsLongTable, HasBytes}
+use Rattle.recover.specs.Changes.{ManifestEndsAt, AgreeBeside, SameManifestLaw, IsCompaction, compacted}
+use Rattle.recover.specs.Numbers.{NamesBelow}
 use Rattle.recover.proofs.Flushing.{kept_by}
 use Rattle.recover.proofs.Memberships.{from_chosen, from_rest, in_part}
 use Rattle.compact.specs.JobEdits.{IsEditOf, gone, placed_at}
 use Rattle.compact.specs.Outputs.{AreNumbered, IsNumber, IsNumberAtHand, WritesTables}
 use Rattle.compact.specs.declared.job.Job.{Job}
-use Rattle.upkeep.specs.Compactions.{placed_in, IsAfterJob, IsJobDone, IsJobPut}
+use Rattle.upkeep.specs.Compactions.{placed_in, IsJobDone, IsJobPut}
 use Rattle.upkeep.specs.Flush.{KeepsParts, PassesNoLimit}
 use Rattle.upkeep.specs.Install.{CanInstall, HasInstalled, IsInstalled, IsJobEdit, IsServed, IsUninstalled, MayBeInstalled}
 use Rattle.upkeep.specs.JobWrites.{KeepsOtherTables}
@@ -42,7 +41,7 @@ use Rattle.upkeep.specs.declared.manifest.CurrentManifest.{CurrentManifest}
 use Rattle.upkeep.proofs.AfterEdits.{PutsIn, AreKept, kept_edit, distinct}
 use Rattle.upkeep.proofs.FlushEdits.{all_fields, fields_last}
 use Rattle.upkeep.proofs.JobFolds.{front_of, front_all, job_folds}
-use Rattle.upkeep.proofs.JobWritten.{hand_below, free_number, beside_written, keeps_others}
+use Rattle.upkeep.proofs.JobWritten.{hand_below, beside_written, keeps_others}
 use Rattle.upkeep.proofs.JobsDone.{job_done}
 use Rattle.upkeep.proofs.JobsPut.{agree, job_put, same_table, still_there, unused_by}
 use Rattle.upkeep.proofs.TableEdits.{few_tables, past_split}

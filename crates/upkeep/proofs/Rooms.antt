@@ -23,7 +23,7 @@ use Rattle.versions.specs.Levels.{IsRange, IsFirstAt, IsBefore}
 use Rattle.versions.specs.Levels as levels
 use Rattle.recover.specs.Tables.{TableContent, HasTable, InTables, tabled, internal_key, AreApart, AreTwoTables, AreTables}
 use Rattle.recover.specs.Directory.{Directory}
-use Rattle.recover.specs.Changes.{AreParted, IsCompaction}
+use Rattle.recover.specs.Changes.{IsCompaction}
 use Rattle.recover.proofs.Memberships.{among_back, from_rest, in_part, to_tabled}
 use Rattle.recover.proofs.TableFacts.{key_is, fits_of}
 use Rattle.upkeep.specs.Compactions.{placed_in}

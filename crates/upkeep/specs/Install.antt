@@ -1,8 +1,8 @@
 -- What the end of a job does to the directory: its outputs come in the place of its inputs (LevelDB's db/db_impl.cc,
 -- InstallCompactionResults).
-use Rattle.std.specs.Prelude.{◌≡◌, ◌≢◌, ◌⊎◌, ◌<◌, ◌≤◌, ◌^◌, ℕ, Bool, List, [], ◌∷◌, ◌++◌, map, All, IsTrue, Result, Ok, Err, IfErr, IfOk, OnOk, string_bytes}
+use Rattle.std.specs.Prelude.{◌≡◌, ◌≢◌, ◌⊎◌, ◌<◌, ◌≤◌, ◌^◌, ℕ, Bool, List, [], ◌∷◌, ◌++◌, map, All, IsTrue, Result, Ok, Err, string_bytes}
 use Rattle.std.specs.FinMap.{get}
-use Rattle.std.specs.List.{AllByRecursion}
+use Rattle.std.specs.List.{AllByRecursion, Contains}
 use Rattle.std.specs.List.Sorted.{IsPermutation}
 use Rattle.std.specs.declared.cmp.Ordering.{Ordering}
 use Rattle.ikey.specs.Entries.{InternalEntry, entry_of}
@@ -20,13 +20,13 @@ use Rattle.versions.specs.Applying.{Leads, LeadsAstray}
 use Rattle.versions.specs.Levels.{Placement, Lists, AreInOrder, pointers_after}
 use Rattle.recover.specs.Tables.{TableContent, tabled}
 use Rattle.recover.specs.Logs.{logged}
-use Rattle.recover.specs.Directory.{Directory, IsConsistent, EndsAt, used_in}
-use Rattle.recover.specs.Changes.{ManifestEndsAt, AgreeBeside, AreParted, MayReplace, IsCompaction, compacted}
+use Rattle.recover.specs.Directory.{Directory, IsConsistent, used_in}
+use Rattle.recover.specs.Changes.{ManifestEndsAt, AreParted, MayReplace, IsCompaction, compacted}
 use Rattle.recover.specs.Numbers.{IsFree}
 use Rattle.compact.specs.JobEdits.{IsOwnIn}
 use Rattle.compact.specs.Laws.{AreApart}
 use Rattle.compact.specs.Merging.{IsMerging, IsFinished}
-use Rattle.compact.specs.Outputs.{Written, IsNumberAtHand, RefusesEntry, WritesTables, table_name}
+use Rattle.compact.specs.Outputs.{Written, IsNumberAtHand, IsOwn, RefusesEntry, table_name}
 use Rattle.compact.specs.declared.job.Job.{Job}
 use Rattle.upkeep.specs.Compactions.{placed_in, IsJobPut, AreSeenAlike}
 use Rattle.upkeep.specs.Flush.{IsCorrupt, KeepsParts, PassesNoLimit}
@@ -67,12 +67,17 @@ abbrev pub RefusesInstall : FlushError → Facts → Facts → Type 0 → Type 0
 RefusesInstall (Before e) old new no_room too_long = RefusesEntry e old new no_room too_long ⊥
 RefusesInstall Edit old new no_room too_long = old.failures < new.failures
 
+-- each of these tables is an old one, or has a number that is the job's
+abbrev pub AreOldOrOwn : Written → List PlacedTable → List PlacedTable → Type 0
+AreOldOrOwn w old new = (placed : PlacedTable) → Contains new placed → Contains old placed ⊎ IsOwn w placed.table.number
+
 -- The new version is in order, and is the old one after an edit that can be written, and puts in tables that the job wrote.
 pub record HasJobVersion (cmp : List ℕ → List ℕ → Ordering) (w : Written) (old new : Placement) : Type 0 where
   pub edit : List Field
   pub proper : All IsProper edit
   pub own : AllByRecursion (IsOwnIn w) edit
   pub leads : Leads (after_edit edit) old.tables new.tables
+  pub tables : AreOldOrOwn w old.tables new.tables
   pub in_order : AreInOrder cmp new.tables
   pub pointers : new.compact_pointers ≡ pointers_after edit 0 old.compact_pointers
 
@@ -82,6 +87,7 @@ pub record HasJobVersion (cmp : List ℕ → List ℕ → Ordering) (w : Written
 pub record HasPreparedJob {K C : Type 0} (cmp : List ℕ → List ℕ → Ordering) (job : Job K C) (old new : Facts) (next last_sequence : ℕ) (version : Placement) (prepared : PreparedJob K) : Type 0 where
   pub edit : IsJobEdit cmp job old new next last_sequence prepared.edit
   pub leads : Leads (after_edit prepared.edit) version.tables prepared.version.value.tables
+  pub tables : AreOldOrOwn job.outputs version.tables prepared.version.value.tables
   pub in_order : AreInOrder cmp prepared.version.value.tables
   pub pointers : prepared.version.value.compact_pointers ≡ pointers_after prepared.edit 0 version.compact_pointers
 
