@@ -10,5 +10,7 @@ pub mod Passing
 pub mod Covering
 pub mod Jobs
 pub mod Rising
+pub mod Sizes
+pub mod Loads
 pub mod Refusing
 pub mod Drawing

@@ -1,5 +1,6 @@
 -- What was merged and written.
-use Rattle.std.proofs.Common.{◌≡◌, ◌<◌, ◌+◌, ℕ, Bool, true, nat_lt, Option, Some, None, List, [], ◌∷◌, ◌++◌, map, length, take, get_or, inl, inr, refl, sym, ap, subst, ◌∙◌, arith}
+use Rattle.std.proofs.Common.{◌≡◌, ◌<◌, ◌≤◌, ◌+◌, ℕ, Bool, true, nat_lt, Option, Some, None, List, [], ◌∷◌, ◌++◌, map, length, take, get_or, inl, inr, refl, sym, ap, subst, ◌∙◌, arith}
+use Rattle.std.specs.List.{AllByRecursion}
 use Rattle.std.specs.declared.cmp.Ordering.{Ordering}
 use Rattle.std.specs.declared.cmp.Ordering.TheVariants.{Less}
 use Rattle.std.specs.Cmp.{IsTotalOrder}
@@ -24,13 +25,26 @@ use Rattle.compact.specs.Choosing.{Choosing, Chooses, Precedes, ComesBehind, del
 use Rattle.ikey.specs.Entries.{InternalEntry, Pair, IsPair, entry_of, kind_of, value_of}
 use Rattle.store.specs.Files.{Facts}
 use Rattle.table.specs.Table.{ArePairs}
-use Rattle.compact.specs.Outputs.{table_name, Filling, AreClosed, IsAtHand, Written, HasWritten, IsMine, WritesTables}
-use Rattle.compact.specs.Merging.{KeepsMine, kept_delete, IsUpTo, IsMerging}
+use Rattle.compact.specs.Outputs.{table_name, Filling, AreClosed, IsAtHand, Written, HasWritten, IsMine, IsMineUpTo, WritesTables}
+use Rattle.compact.specs.Merging.{IsWellKept, KeepsMine, kept_delete, IsUpTo, IsMerging}
+use Rattle.compact.proofs.Loads.{well-append}
 use Rattle.compact.proofs.Parts.{Among-push}
-use Rattle.compact.proofs.Writing.{writes-then}
+use Rattle.compact.proofs.Writing.{mine-in, mine-up, writes-then}
 
-pub writes-on : (a b d : Facts) (o u : Written) (n m : ℕ) → KeepsMine o n u m → WritesTables a b (IsMine o n) → WritesTables b d (IsMine u m) → WritesTables a d (IsMine o n)
-writes-on a b d o u n m keeps w v = writes-then a b d (IsMine o n) (IsMine u m) (IsMine o n) (λ k h. h) keeps w v
+mine-then : (o u : Written) (n m e k : ℕ) → n ≤ m → m ≤ e → KeepsMine o n u m → IsMineUpTo u m e k → IsMineUpTo o n e k
+mine-then o u n m e k le more keeps (inl at) = mine-up o n m e k more (keeps k at)
+mine-then o u n m e k le more keeps (inr h) = inr (omega (arith, le, h.0), h.1)
+
+pub mine-on : (o u v : Written) (n m e : ℕ) → n ≤ m → m ≤ e → KeepsMine o n u m → KeepsMine u m v e → KeepsMine o n v e
+mine-on o u v n m e le more keeps last = λ k at. mine-then o u n m e k le more keeps (last k at)
+
+-- what is to be written was to be written before
+pub mine-before : (o u : Written) (n m k : ℕ) → n ≤ m → KeepsMine o n u m → IsMine u m k → IsMine o n k
+mine-before o u n m k le keeps (inl at) = mine-in o n m k (keeps k at)
+mine-before o u n m k le keeps (inr more) = inr (omega (arith, le, more))
+
+pub writes-on : (a b d : Facts) (o u : Written) (n m e : ℕ) → n ≤ m → m ≤ e → KeepsMine o n u m → WritesTables a b (IsMineUpTo o n m) → WritesTables b d (IsMineUpTo u m e) → WritesTables a d (IsMineUpTo o n e)
+writes-on a b d o u n m e le more keeps w v = writes-then a b d (IsMineUpTo o n m) (IsMineUpTo u m e) (IsMineUpTo o n e) (λ k h. mine-up o n m e k more h) (λ k h. mine-then o u n m e k le more keeps h) w v
 
 pub pairs-push : (pairs : List Pair) (entries : List InternalEntry) (pair : Pair) (entry : InternalEntry) → ArePairs pairs entries → IsPair pair entry → ArePairs (pairs ++ pair ∷ []) (entries ++ entry ∷ [])
 pairs-push [] [] pair entry h is = (is, tt)
@@ -145,7 +159,7 @@ pub merge-step : (cmp : List ℕ → List ℕ → Ordering) (deep : List ℕ →
     → ((last_key : Key) (x : Entry) → IsKey last last_key → IsUpTo cmp x last_key → Precedes cmp x (entry_of entry))
     → ((xs ys : List Entry) → ComesBehind cmp xs (entry_of entry) → Chooses cmp deep c xs ys → Chooses cmp deep e (xs ++ entry_of entry ∷ []) (ys ++ written_for choice e.released (entry_of entry)))
     → ((pairs : List Pair) (kept : List InternalEntry) → ArePairs pairs kept → HasWritten cmp w a next pairs
-    → (new : List Pair) × (added : List InternalEntry) × HasWritten cmp u b more new × ArePairs new (kept ++ added) × (map entry_of added ≡ written_for choice e.released (entry_of entry)))
+    → (new : List Pair) × (added : List InternalEntry) × HasWritten cmp u b more new × ArePairs new (kept ++ added) × (map entry_of added ≡ written_for choice e.released (entry_of entry)) × AllByRecursion IsWellKept added)
     → IsMerging cmp deep last c w a next came → IsMerging cmp deep over e u d more (came ++ entry ∷ [])
 merge-step cmp deep a b d last over c e w u next more came entry choice over_is files order chosen wrote h =
     let behind : ComesBehind cmp (map entry_of came) (entry_of entry) = λ x m. let last_bound = h.bound x m in order last_bound.0 x last_bound.1 last_bound.2 in
@@ -157,6 +171,7 @@ merge-step cmp deep a b d last over c e w u next more came entry choice over_is 
       written = new.0;
       kept = h.kept ++ new.1;
       written_are = new.3;
+      well_kept = well-append h.kept new.1 h.well_kept new.5;
       has_written = written-same cmp u b d more new.0 files new.2;
       chooses = subst (λ (xs : List Entry). Chooses cmp deep e xs (map entry_of (h.kept ++ new.1))) all
           (subst (Chooses cmp deep e (map entry_of came ++ entry_of entry ∷ [])) out (chosen (map entry_of came) (map entry_of h.kept) behind h.chooses));
@@ -180,6 +195,7 @@ merging-none cmp deep last c w facts next empty chooses written = record {
   written = [];
   kept = [];
   written_are = tt;
+  well_kept = tt;
   has_written = written;
   chooses = chooses;
   last_is = inl (refl, empty);
@@ -193,6 +209,7 @@ merging-closed cmp deep last c w u a b next came closes h = record {
   written = h.written;
   kept = h.kept;
   written_are = h.written_are;
+  well_kept = h.well_kept;
   has_written = closes h.written h.has_written;
   chooses = h.chooses;
   last_is = h.last_is;

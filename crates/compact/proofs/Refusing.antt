@@ -21,6 +21,7 @@ use Rattle.compact.specs.declared.selection.Choice.TheVariants.{Write}
 use Rattle.compact.specs.Choosing.{Choosing, Chooses, written_for}
 use Rattle.compact.specs.Merging.{HaveOwnSequences, kept_delete}
 use Rattle.compact.specs.Needed.{IsNeeded}
+use Rattle.compact.proofs.Loads.{rewritten, same-rewritten}
 use Rattle.compact.proofs.Merges.{chosen-is}
 use Rattle.compact.proofs.Rising.{rises-at, rises-front, part-rises}
 
@@ -66,12 +67,12 @@ never-behind cmp total exact last came rest entry rises own (inr (x, m, is_x)) (
 pub writes-rise : (cmp : Cmp) (deep : List ℕ → Bool) (e : Choosing) (user : List ℕ) (released : List ℕ) (choice : Choice) (came rest kept : List InternalEntry) (entry : InternalEntry)
     → choice ≡ Write → entry.key.user ≡ user → released ≡ e.released → Rises cmp (came ++ entry ∷ rest)
     → Chooses cmp deep e (map entry_of came ++ entry_of entry ∷ []) (map entry_of kept ++ written_for choice e.released (entry_of entry))
-    → Rises cmp (kept ++ (map (kept_delete user) released ++ entry ∷ []))
+    → Rises cmp (kept ++ (map (kept_delete user) released ++ rewritten entry ∷ []))
 writes-rise cmp deep e user released choice came rest kept entry is same said rises chooses =
-    let more = map (kept_delete user) released ++ entry ∷ [] in
+    let more = map (kept_delete user) released ++ rewritten entry ∷ [] in
     let all : map entry_of came ++ entry_of entry ∷ [] ≡ map entry_of (came ++ entry ∷ []) = sym (map-append entry_of came (entry ∷ [])) in
     let out : map entry_of kept ++ written_for choice e.released (entry_of entry) ≡ map entry_of (kept ++ more) =
-    ap (λ l. map entry_of kept ++ written_for choice l (entry_of entry)) (sym said) ∙ ap (λ l. map entry_of kept ++ l) (sym (chosen-is choice is user released entry same)) ∙ sym (map-append entry_of kept more) in
+    ap (λ l. map entry_of kept ++ written_for choice l (entry_of entry)) (sym said) ∙ ap (λ x. map entry_of kept ++ written_for choice released x) (sym (same-rewritten entry)) ∙ ap (λ l. map entry_of kept ++ l) (sym (chosen-is choice is user released (rewritten entry) same)) ∙ sym (map-append entry_of kept more) in
     let moved = subst (λ (xs : List Entry). Chooses cmp deep e xs (map entry_of (kept ++ more))) all (subst (Chooses cmp deep e (map entry_of came ++ entry_of entry ∷ [])) out chooses) in
     part-rises cmp (IsNeeded (map entry_of (came ++ entry ∷ [])) e.snapshots deep) (came ++ entry ∷ []) (kept ++ more) moved.chosen_is.needed
     (rises-front cmp (came ++ entry ∷ []) rest (subst (Rises cmp) (sym (append_assoc came (entry ∷ []) rest)) rises))

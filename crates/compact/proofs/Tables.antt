@@ -79,7 +79,7 @@ then-syncs a b d name same is w v = record {
 }
 
 pub refuses-writing : (e : DbError) (a b : Facts) (falls too_long spent : Type 0) → WriteRefuses e a b too_long → RefusesEntry e a b falls too_long spent
-refuses-writing OutOfMemory a b falls too_long spent h = tt
+refuses-writing OutOfMemory a b falls too_long spent h = h
 refuses-writing Io a b falls too_long spent h = h
 refuses-writing (Unsupported what) a b falls too_long spent h = h
 refuses-writing _ a b falls too_long spent h = absurd h

@@ -6,4 +6,5 @@ pub mod Lists
 pub mod Merging
 pub mod Needed
 pub mod Outputs
+pub mod Rooms
 pub mod Steps

@@ -1,5 +1,6 @@
 -- A compaction that is under way.
 use Rattle.std.specs.Prelude.{◌≡◌, ◌≤◌, ◌⊎◌, ℕ, Bool, true, false, List, [], ◌++◌, None, IsTrue, map, max, length}
+use Rattle.std.specs.List.{AllByRecursion}
 use Rattle.edits.specs.declared.field.Field.{Field}
 use Rattle.edits.specs.declared.field.TableFile.{TableFile}
 use Rattle.versions.specs.declared.plan.JobPlan.{JobPlan}
@@ -11,7 +12,7 @@ use Rattle.cursor.specs.Merging.{listed}
 use Rattle.cursor.specs.Places.{Cmp, Listed, within}
 use Rattle.ikey.specs.declared.entry.Entry.{Entry}
 use Rattle.ikey.specs.declared.internal_key.Kind.TheVariants.{Delete}
-use Rattle.ikey.specs.Entries.{InternalEntry, Pair, entry_of}
+use Rattle.ikey.specs.Entries.{InternalEntry, Pair, entry_of, value_kept, value_of}
 use Rattle.ikey.specs.Keys.{Key, IsKey}
 use Rattle.ikey.specs.Orders.{order_of}
 use Rattle.ikey.specs.Sources.{AreSorted}
@@ -19,7 +20,7 @@ use Rattle.store.specs.Files.{Facts}
 use Rattle.table.specs.Table.{ArePairs}
 use Rattle.ikey.specs.Views.{Among}
 use Rattle.compact.specs.Choosing.{Choosing, Chooses}
-use Rattle.compact.specs.Outputs.{Written, HasWritten, IsMine, WritesTables}
+use Rattle.compact.specs.Outputs.{Written, HasWritten, IsNumberAtHand, IsMine, IsMineUpTo, WritesTables}
 
 -- ---- what came
 
@@ -31,12 +32,17 @@ IsUpTo cmp entry key = (cmp entry.key key.user ≡ Less) ⊎ ((entry.key ≡ key
 abbrev pub kept_delete : List ℕ → ℕ → InternalEntry
 kept_delete user sequence = record { key = record { user = user; sequence = sequence; kind = Delete }; value = [] }
 
+-- it has the value that says what it is: none, where it is a delete
+abbrev pub IsWellKept : InternalEntry → Type 0
+IsWellKept entry = entry.value ≡ value_kept (value_of entry.key.kind entry.value)
+
 -- These entries of the inputs came, and of them those were written that are needed. The last has this key, and none comes
 -- behind it. Each came before all that came later, whatever the name of the order is.
 pub record IsMerging (cmp : Cmp) (deep : List ℕ → Bool) (last : List ℕ) (c : Choosing) (w : Written) (facts : Facts) (next : ℕ) (came : List InternalEntry) : Type 0 where
   pub written : List Pair
   pub kept : List InternalEntry
   pub written_are : ArePairs written kept
+  pub well_kept : AllByRecursion IsWellKept kept
   pub has_written : HasWritten cmp w facts next written
   pub chooses : Chooses cmp deep c (map entry_of came) (map entry_of kept)
   pub last_is : ((came ≡ []) × (last ≡ [])) ⊎ ((entry : InternalEntry) × Among came entry × IsKey last entry.key)
@@ -53,29 +59,37 @@ HaveOwnSequences entries = (entry other : InternalEntry) → Among entries entry
 abbrev pub HasPassed : {C H : Type 0} → (C → H → Listed → Type 0) → C → H → List InternalEntry → List InternalEntry → Type 0
 HasPassed lists cursor source came rest = lists cursor source (listed (came ++ rest) (within (came ++ rest) (length came)))
 
--- what changes no file but those of tables with such numbers keeps what the cursor reads
-abbrev pub ReadsApart : {C H S : Type 0} → (S → Facts) → (H → S) → (H → S → H) → (C → H → H → Type 0) → C → (ℕ → Type 0) → Type 0
-ReadsApart {C} {H} {S} facts store_of with_store keeps cursor mine =
-    (source : H) (store : S) → IsTrue (facts store).faithful → WritesTables (facts (store_of source)) (facts store) mine → keeps cursor source (with_store source store)
+-- no number is both
+abbrev pub AreDisjoint : (ℕ → Type 0) → (ℕ → Type 0) → Type 0
+AreDisjoint first second = (number : ℕ) → first number → second number → ⊥
+
+-- What changes no file but those of tables with such numbers, of which the source keeps nothing beside its store, keeps what
+-- the cursor reads.
+abbrev pub ReadsApart : {C H S : Type 0} → (S → Facts) → (H → S) → (H → S → H) → (H → ℕ → Type 0) → (C → H → H → Type 0) → C → (ℕ → Type 0) → Type 0
+ReadsApart {C} {H} {S} facts store_of with_store gathers keeps cursor mine =
+    (source : H) (store : S) → IsTrue (facts store).faithful
+    → WritesTables (facts (store_of source)) (facts store) (λ (number : ℕ). mine number × (gathers source number → ⊥)) → keeps cursor source (with_store source store)
 
 -- ---- both
 
 -- These entries came to the job, and those are left: what is needed of the former is written, and what is to be written
--- is nothing that is read.
-pub record IsJob {C H S : Type 0} (cmp : Cmp) (deep : List ℕ → Bool) (facts : S → Facts) (store_of : H → S) (with_store : H → S → H) (lists : C → H → Listed → Type 0) (keeps : C → H → H → Type 0)
+-- is nothing that is read, or that is kept of a table beside the store.
+pub record IsJob {C H S : Type 0} (cmp : Cmp) (deep : List ℕ → Bool) (facts : S → Facts) (store_of : H → S) (with_store : H → S → H) (gathers : H → ℕ → Type 0) (lists : C → H → Listed → Type 0) (keeps : C → H → H → Type 0) (over : C → ℕ → Type 0)
     (last : List ℕ) (cursor : C) (c : Choosing) (w : Written) (source : H) (next : ℕ) (came rest : List InternalEntry) : Type 0 where
   pub merging : IsMerging cmp deep last c w (facts (store_of source)) next came
   pub left : HasPassed lists cursor source came rest
-  pub apart : ReadsApart facts store_of with_store keeps cursor (IsMine w next)
+  pub apart : ReadsApart facts store_of with_store gathers keeps cursor (IsMine w next)
+  pub ungathered : AreDisjoint (gathers source) (IsMine w next)
+  pub outside : AreDisjoint (over cursor) (IsMine w next)
 
 -- the same of a job as its fields have it
-abbrev pub IsBetween : {K C H S : Type 0} → Cmp → (List ℕ → Bool) → (S → Facts) → (H → S) → (H → S → H) → (C → H → Listed → Type 0) → (C → H → H → Type 0) → Job K C → H → ℕ → List InternalEntry → List InternalEntry → Type 0
-IsBetween cmp deep facts store_of with_store lists keeps job source next came rest =
-    IsJob cmp deep facts store_of with_store lists keeps job.last.items job.cursor job.selection job.outputs source next came rest
+abbrev pub IsBetween : {K C H S : Type 0} → Cmp → (List ℕ → Bool) → (S → Facts) → (H → S) → (H → S → H) → (H → ℕ → Type 0) → (C → H → Listed → Type 0) → (C → H → H → Type 0) → (C → ℕ → Type 0) → Job K C → H → ℕ → List InternalEntry → List InternalEntry → Type 0
+IsBetween cmp deep facts store_of with_store gathers lists keeps over job source next came rest =
+    IsJob cmp deep facts store_of with_store gathers lists keeps over job.last.items job.cursor job.selection job.outputs source next came rest
 
--- what a call leaves to be written may have been written before
+-- the table at hand was so before, or has a number that was drawn since
 abbrev pub KeepsMine : Written → ℕ → Written → ℕ → Type 0
-KeepsMine old next new more = (number : ℕ) → IsMine new more number → IsMine old next number
+KeepsMine old next new more = (number : ℕ) → IsNumberAtHand new number → IsMineUpTo old next more number
 
 -- A slice with this budget has taken the front of what was left: as many entries as the budget has, one for 0, or all.
 pub record IsSlice (budget : ℕ) (progress : Progress) (front back : List InternalEntry) : Type 0 where
@@ -83,6 +97,10 @@ pub record IsSlice (budget : ℕ) (progress : Progress) (front back : List Inter
   pub most : progress.merged ≤ max budget 1
   pub ended : progress.ended ≡ true → back ≡ []
   pub going_on : progress.ended ≡ false → (progress.merged ≡ max budget 1) × (back ≡ [] → ⊥)
+
+-- what it reads of the source passes a limit of reading
+abbrev pub IsLimited : {K C H : Type 0} → (C → H → Type 0) → Job K C → H → Type 0
+IsLimited limited job source = limited job.cursor source
 
 -- All that came was merged into these tables, and the edit puts them in the place of the inputs.
 abbrev pub IsFinished : Cmp → (List ℕ → Bool) → JobPlan → List ℕ → Choosing → Facts → ℕ → ℕ → List InternalEntry → List Field → Type 0

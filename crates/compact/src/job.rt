@@ -3,6 +3,7 @@
 ghost use Rattle.std.specs.Prelude.{◌≡◌, ◌<◌, ◌⊎◌, true, false};
 ghost use Rattle.std.specs.declared.cmp.Ordering.TheVariants.{Less};
 ghost use Rattle.std.specs.List.Sorted.{IsNonDecreasing};
+ghost use Rattle.ikey.specs.Entries.{value_kept, value_of};
 ghost use Rattle.ikey.specs.Keys.{Key, IsKey};
 ghost use Rattle.ikey.specs.declared.entry.Entry.{Entry};
 ghost use Rattle.compact.specs.Choosing.{Precedes};
@@ -18,7 +19,7 @@ use crate::source::HasStore;
 use coding::{Damage, DbError, FileKind};
 use cursor::Cursor;
 use edits::Edit;
-use ikey::{KeyOrder, unpack};
+use ikey::{KeyOrder, Kind, unpack};
 use std::alloc::Global;
 use std::cmp::Ordering;
 use store::Store;
@@ -48,15 +49,16 @@ pub struct Job<K: KeyOrder, C> {
 }
 
 impl<K: KeyOrder, C: Drop> Job<K, C> {
-    ghost use Rattle.std.specs.Prelude.{◌≡◌, ◌<◌, ◌≤◌, ◌⊎◌, ◌+◌, ◌^◌, All, max, ◌∷◌, ◌++◌, [], ℕ, Bool, List, None, IsTrue, IfOk, IfErr, OnOk, MatchBool};
+    ghost use Rattle.std.specs.Prelude.{◌≡◌, ◌<◌, ◌≤◌, ◌⊎◌, ◌+◌, ◌^◌, All, map, max, ◌∷◌, ◌++◌, [], ℕ, Bool, List, None, IsTrue, IfOk, IfErr, OnOk, MatchBool};
     ghost use Rattle.std.specs.List.{AllByRecursion};
     ghost use Rattle.cursor.specs.Moves.{ListsNone};
     ghost use Rattle.edits.specs.Edit.{IsProper, IsInOrder};
     ghost use Rattle.cursor.specs.Places.{Listed};
-    ghost use Rattle.ikey.specs.Entries.{InternalEntry};
-    ghost use Rattle.compact.specs.Merging.{IsBetween, IsMerging, IsSlice, IsFinished, KeepsMine, ReadsApart, HaveOwnSequences};
+    ghost use Rattle.ikey.specs.Entries.{InternalEntry, entry_of};
+    ghost use Rattle.compact.specs.Merging.{IsBetween, IsLimited, IsMerging, IsSlice, IsFinished, KeepsMine, ReadsApart, AreDisjoint, HaveOwnSequences};
     ghost use Rattle.compact.specs.JobEdits.{IsPlanProper, IsOwnIn};
-    ghost use Rattle.compact.specs.Outputs.{AreNumbered, IsMine, IsNumberAtHand, IsOwn, NumbersOn, WritesTables, RefusesEntry};
+    ghost use Rattle.compact.specs.Outputs.{AreNumbered, IsMineUpTo, IsNumberAtHand, IsOwn, NumbersOn, WritesTables, RefusesEntry};
+    ghost use Rattle.compact.specs.Rooms.{AreLarge};
     ghost use Rattle.table.specs.Reading.{Reads};
 
     /// A job that has merged nothing. Its cursor lists the entries of the plan's inputs, and `snapshots` are the sequence
@@ -74,15 +76,19 @@ impl<K: KeyOrder, C: Drop> Job<K, C> {
         C: Cursor<K, H>,
         requires rising { IsNonDecreasing snapshots.now }
         requires facts { (held : H) → C.facts held ≡ S.facts (H.store_of held) }
+        requires gathers { (reader : C) (before after : H) → C.leaves (C.over reader) before after → (number : ℕ) → H.gathers after number → H.gathers before number ⊎ C.over reader number }
         ensures plan { IfOk result (λ job. job.plan ≡ plan) }
         ensures snapshots { IfOk result (λ job. job.selection.snapshots ≡ snapshots.now) }
         ensures written { IfOk result (λ job. job.outputs ≡ record { closed = []; at_hand = None }) }
         ensures reads { Reads (S.facts (H.store_of source.old)) (S.facts (H.store_of source.new)) }
+        ensures stood { OnOk result ((S.facts (H.store_of source.new)).failures ≡ (S.facts (H.store_of source.old)).failures) }
+        ensures limits { IfOk result (λ job. IsTrue (S.facts (H.store_of source.new)).faithful → IsLimited C.limited job source.new → C.limited cursor source.old) }
         ensures refused { IfErr result (λ e. RefusesEntry e (S.facts (H.store_of source.old)) (S.facts (H.store_of source.new))
             (IsTrue (S.facts (H.store_of source.new)).faithful → ListsNone C.lists cursor source.old) (IsTrue (S.facts (H.store_of source.new)).faithful → ListsNone C.lists cursor source.old ⊎ C.limited cursor source.old) ⊥) }
         ensures started { IfOk result (λ job. (deep : List ℕ → Bool) (next : ℕ) (at : Listed) → IsTrue (S.facts (H.store_of source.new)).faithful
-            → C.lists cursor source.old at → ReadsApart S.facts H.store_of H.with_store C.keeps cursor (λ number. next ≤ number)
-            → IsBetween K.cmp deep S.facts H.store_of H.with_store C.lists C.keeps job source.new next [] at.entries) }
+            → C.lists cursor source.old at → ReadsApart S.facts H.store_of H.with_store H.gathers C.keeps cursor (λ number. next ≤ number)
+            → AreDisjoint (H.gathers source.old) (λ number. next ≤ number) → AreDisjoint (C.over cursor) (λ number. next ≤ number)
+            → IsBetween K.cmp deep S.facts H.store_of H.with_store H.gathers C.lists C.keeps C.over job source.new next [] at.entries) }
     {
         let mut cursor = cursor;
         let selection = Selection::new(alloc, snapshots)?;
@@ -112,21 +118,30 @@ impl<K: KeyOrder, C: Drop> Job<K, C> {
     where
         C: Cursor<K, H>,
         requires facts { (held : H) → C.facts held ≡ S.facts (H.store_of held) }
+        requires gathers { (reader : C) (before after : H) → C.leaves (C.over reader) before after → (number : ℕ) → H.gathers after number → H.gathers before number ⊎ C.over reader number }
         ensures numbers { numbers.old.next ≤ numbers.new.next }
         ensures drawn { numbers.new.next ≤ numbers.old.next + max budget 1 }
+        ensures drawn_merged { IfOk result (λ progress. numbers.new.next ≤ numbers.old.next + progress.merged) }
         ensures plan { self.new.plan ≡ self.old.plan }
         ensures snapshots { self.new.selection.snapshots ≡ self.old.selection.snapshots }
         ensures mine { OnOk result (KeepsMine self.old.outputs numbers.old.next self.new.outputs numbers.new.next) }
         ensures numbered { OnOk result (NumbersOn self.old.outputs numbers.old.next self.new.outputs numbers.new.next) }
-        ensures writes { WritesTables (S.facts (H.store_of source.old)) (S.facts (H.store_of source.new)) (IsMine self.old.outputs numbers.old.next) }
+        ensures writes { WritesTables (S.facts (H.store_of source.old)) (S.facts (H.store_of source.new)) (IsMineUpTo self.old.outputs numbers.old.next numbers.new.next) }
+        ensures stood { OnOk result ((S.facts (H.store_of source.new)).failures ≡ (S.facts (H.store_of source.old)).failures) }
         ensures refused { IfErr result (λ e. RefusesEntry e (S.facts (H.store_of source.old)) (S.facts (H.store_of source.new))
             (IsTrue (S.facts (H.store_of source.new)).faithful → (came : List InternalEntry) (rest : List InternalEntry)
-            → IsBetween K.cmp (D.covers deeper.now) S.facts H.store_of H.with_store C.lists C.keeps self.old source.old numbers.old.next came rest → HaveOwnSequences (came ++ rest) → ⊥)
-            (Unit {0}) (2 ^ 62 ≤ numbers.new.next)) }
+            → IsBetween K.cmp (D.covers deeper.now) S.facts H.store_of H.with_store H.gathers C.lists C.keeps C.over self.old source.old numbers.old.next came rest → HaveOwnSequences (came ++ rest) → ⊥)
+            (IsTrue (S.facts (H.store_of source.new)).faithful → (came : List InternalEntry) (rest : List InternalEntry)
+            → IsBetween K.cmp (D.covers deeper.now) S.facts H.store_of H.with_store H.gathers C.lists C.keeps C.over self.old source.old numbers.old.next came rest
+            → IsLimited C.limited self.old source.old ⊎ AreLarge (map entry_of (came ++ rest)))
+            (2 ^ 62 ≤ numbers.new.next)) }
+        ensures limits { OnOk result ((came : List InternalEntry) (rest : List InternalEntry) → IsTrue (S.facts (H.store_of source.new)).faithful
+            → IsBetween K.cmp (D.covers deeper.now) S.facts H.store_of H.with_store H.gathers C.lists C.keeps C.over self.old source.old numbers.old.next came rest
+            → IsLimited C.limited self.new source.new → IsLimited C.limited self.old source.old) }
         ensures sliced { IfOk result (λ progress. (came : List InternalEntry) (rest : List InternalEntry) → IsTrue (S.facts (H.store_of source.new)).faithful
-            → IsBetween K.cmp (D.covers deeper.now) S.facts H.store_of H.with_store C.lists C.keeps self.old source.old numbers.old.next came rest
+            → IsBetween K.cmp (D.covers deeper.now) S.facts H.store_of H.with_store H.gathers C.lists C.keeps C.over self.old source.old numbers.old.next came rest
             → (front : List InternalEntry) × (back : List InternalEntry) × (rest ≡ front ++ back) × IsSlice budget progress front back
-            × IsBetween K.cmp (D.covers deeper.now) S.facts H.store_of H.with_store C.lists C.keeps self.new source.new numbers.new.next (came ++ front) back) }
+            × IsBetween K.cmp (D.covers deeper.now) S.facts H.store_of H.with_store H.gathers C.lists C.keeps C.over self.new source.new numbers.new.next (came ++ front) back) }
     {
         for merged in 0..budget.max(1) {
             if !self.cursor.stands() {
@@ -159,7 +174,10 @@ impl<K: KeyOrder, C: Drop> Job<K, C> {
         ensures order { IfOk result (λ edit. IsPlanProper self.plan → AreNumbered self.outputs numbers.now.next → IsInOrder edit) }
         // What it puts in are tables that the job wrote.
         ensures own { IfOk result (λ edit. AllByRecursion (IsOwnIn self.outputs) edit) }
-        ensures refused { IfErr result (λ e. RefusesEntry e (S.facts store.old) (S.facts store.new) ⊥ (Unit {0}) ⊥) }
+        ensures stood { OnOk result ((S.facts store.new).failures ≡ (S.facts store.old).failures) }
+        ensures refused { IfErr result (λ e. RefusesEntry e (S.facts store.old) (S.facts store.new) ⊥
+            ((deep : List ℕ → Bool) (came : List InternalEntry) → IsMerging K.cmp deep self.last.items self.selection self.outputs (S.facts store.old) numbers.now.next came
+            → AreLarge (map entry_of came)) ⊥) }
     {
         let Job { plan, outputs, .. } = self;
         let mut outputs = outputs;
@@ -192,6 +210,7 @@ impl<K: KeyOrder, C: Drop> Job<K, C> {
     where
         C: Cursor<K, H>,
         requires facts { (held : H) → C.facts held ≡ S.facts (H.store_of held) }
+        requires gathers { (reader : C) (before after : H) → C.leaves (C.over reader) before after → (number : ℕ) → H.gathers after number → H.gathers before number ⊎ C.over reader number }
         requires stands { IsTrue (C.stands self.old.cursor) }
         ensures numbers { numbers.old.next ≤ numbers.new.next }
         ensures drawn { numbers.new.next ≤ numbers.old.next + 1 }
@@ -199,14 +218,21 @@ impl<K: KeyOrder, C: Drop> Job<K, C> {
         ensures snapshots { self.new.selection.snapshots ≡ self.old.selection.snapshots }
         ensures mine { OnOk result (KeepsMine self.old.outputs numbers.old.next self.new.outputs numbers.new.next) }
         ensures numbered { OnOk result (NumbersOn self.old.outputs numbers.old.next self.new.outputs numbers.new.next) }
-        ensures writes { WritesTables (S.facts (H.store_of source.old)) (S.facts (H.store_of source.new)) (IsMine self.old.outputs numbers.old.next) }
+        ensures writes { WritesTables (S.facts (H.store_of source.old)) (S.facts (H.store_of source.new)) (IsMineUpTo self.old.outputs numbers.old.next numbers.new.next) }
+        ensures stood { OnOk result ((S.facts (H.store_of source.new)).failures ≡ (S.facts (H.store_of source.old)).failures) }
         ensures refused { IfErr result (λ e. RefusesEntry e (S.facts (H.store_of source.old)) (S.facts (H.store_of source.new))
             (IsTrue (S.facts (H.store_of source.new)).faithful → (came : List InternalEntry) (entry : InternalEntry) (rest : List InternalEntry)
-            → IsBetween K.cmp (D.covers deeper.now) S.facts H.store_of H.with_store C.lists C.keeps self.old source.old numbers.old.next came (entry ∷ rest) → HaveOwnSequences (came ++ entry ∷ rest) → ⊥)
-            (Unit {0}) (2 ^ 62 ≤ numbers.new.next)) }
+            → IsBetween K.cmp (D.covers deeper.now) S.facts H.store_of H.with_store H.gathers C.lists C.keeps C.over self.old source.old numbers.old.next came (entry ∷ rest) → HaveOwnSequences (came ++ entry ∷ rest) → ⊥)
+            (IsTrue (S.facts (H.store_of source.new)).faithful → (came : List InternalEntry) (entry : InternalEntry) (rest : List InternalEntry)
+            → IsBetween K.cmp (D.covers deeper.now) S.facts H.store_of H.with_store H.gathers C.lists C.keeps C.over self.old source.old numbers.old.next came (entry ∷ rest)
+            → IsLimited C.limited self.old source.old ⊎ AreLarge (map entry_of (came ++ entry ∷ rest)))
+            (2 ^ 62 ≤ numbers.new.next)) }
+        ensures limits { OnOk result ((came : List InternalEntry) (entry : InternalEntry) (rest : List InternalEntry) → IsTrue (S.facts (H.store_of source.new)).faithful
+            → IsBetween K.cmp (D.covers deeper.now) S.facts H.store_of H.with_store H.gathers C.lists C.keeps C.over self.old source.old numbers.old.next came (entry ∷ rest)
+            → IsLimited C.limited self.new source.new → IsLimited C.limited self.old source.old) }
         ensures merged { OnOk result ((came : List InternalEntry) (entry : InternalEntry) (rest : List InternalEntry) → IsTrue (S.facts (H.store_of source.new)).faithful
-            → IsBetween K.cmp (D.covers deeper.now) S.facts H.store_of H.with_store C.lists C.keeps self.old source.old numbers.old.next came (entry ∷ rest)
-            → IsBetween K.cmp (D.covers deeper.now) S.facts H.store_of H.with_store C.lists C.keeps self.new source.new numbers.new.next (came ++ entry ∷ []) rest) }
+            → IsBetween K.cmp (D.covers deeper.now) S.facts H.store_of H.with_store H.gathers C.lists C.keeps C.over self.old source.old numbers.old.next came (entry ∷ rest)
+            → IsBetween K.cmp (D.covers deeper.now) S.facts H.store_of H.with_store H.gathers C.lists C.keeps C.over self.new source.new numbers.new.next (came ++ entry ∷ []) rest) }
     {
         let bytes = self.cursor.key(source);
         if !comes_behind::<K>(self.last.as_slice(), bytes) {
@@ -229,10 +255,20 @@ impl<K: KeyOrder, C: Drop> Job<K, C> {
             self.selection.released(),
             key.user,
             self.last.as_slice(),
-            self.value.as_slice(),
+            kept_value(key.kind, self.value.as_slice()),
         )?;
         self.cursor.next(alloc, source)?;
         Ok(())
+    }
+}
+
+// The value of an entry as a table has it: none for a delete.
+fn kept_value(kind: Kind, value: &[u8]) -> &[u8]
+    ensures { result.now ≡ value_kept (value_of kind value.now) }
+{
+    match kind {
+        Kind::Delete => b"",
+        Kind::Put => value,
     }
 }
 

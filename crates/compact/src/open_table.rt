@@ -91,6 +91,7 @@ impl<K: KeyOrder> OpenTable<K> {
         ensures added { OnOk result ((pairs : List Pair) → IsTrue (S.facts store.new).faithful → (pairs ≡ [] → key.now ≡ self.old.smallest)
             → IsFilling K.cmp self.old (S.facts store.old) pairs
             → IsFilling K.cmp self.new (S.facts store.new) (pairs ++ record { key = key.now; value = value.now } ∷ [])) }
+        ensures stood { OnOk result ((S.facts store.new).failures ≡ (S.facts store.old).failures) }
         ensures refused { IfErr result (λ e. RefusesEntry e (S.facts store.old) (S.facts store.new) (MayFollow K.cmp self.old.building key.now → ⊥)
             (NeedsLongBlock self.old.building (record { key = key.now; value = value.now })) ⊥) }
     {
@@ -126,6 +127,7 @@ impl<K: KeyOrder> OpenTable<K> {
         ensures closed { IfOk result (λ closed. (pairs : List Pair) → IsTrue (S.facts store.new).faithful → IsFilling K.cmp self (S.facts store.old) pairs
             → Closes K.cmp (S.facts store.new) self.number pairs closed) }
         ensures said { IfOk result (λ closed. IfSome closed (IsSaidOf self)) }
+        ensures stood { OnOk result ((S.facts store.new).failures ≡ (S.facts store.old).failures) }
         ensures refused { IfErr result (λ e. RefusesEntry e (S.facts store.old) (S.facts store.new)
             ⊥ (NeedsLongEnds self.building) ⊥) }
     {
@@ -161,6 +163,7 @@ fn finish_file<K: KeyOrder, S: Store>(
     ensures writes { Writes (S.facts store.old) (S.facts store.new) (table_name number) }
     ensures written { IfOk result (λ size. (pairs : List Pair) → IsTrue (S.facts store.new).faithful → Builds K.cmp builder (S.facts store.old) pairs
         → (file : List ℕ) × HasFile (S.facts store.new) (table_name number) file × (size ≡ length file) × IsTableOf K.cmp file pairs) }
+    ensures stood { OnOk result ((S.facts store.new).failures ≡ (S.facts store.old).failures) }
     ensures refused { IfErr result (λ e. RefusesEntry e (S.facts store.old) (S.facts store.new)
         ⊥ (NeedsLongEnds builder) ⊥) }
 {

@@ -1,6 +1,6 @@
 //! What a job is lent: its inputs are read from it, and it has the store to which the outputs are written.
 
-ghost use Rattle.std.specs.Prelude.{◌≡◌};
+ghost use Rattle.std.specs.Prelude.{◌≡◌, ℕ};
 
 /// A source of cursors that has a store, and may keep more beside it, as caches: whoever writes new files is lent the store
 /// alone, and leaves the rest.
@@ -13,6 +13,9 @@ pub trait HasStore<S> {
     /// The source with another store, and all else as it is.
     ghost with_store: { Self → S → Self };
 
+    /// Something is kept beside the store of the table of this number.
+    ghost gathers: { Self → ℕ → Type 0 };
+
     /// Its store.
     fn store_mut(&mut self) -> &mut S
         ensures* lends { sem 𝓛 (Lends Self.row S.row self.entry result (with_store self.entry.now)) }
@@ -20,4 +23,7 @@ pub trait HasStore<S> {
 
     /// Another store is the one that it has then.
     ghost replaced: { (source : Self) (store : S) → store_of (with_store source store) ≡ store };
+
+    /// It has no more of any table beside it.
+    ghost apart: { (source : Self) (store : S) (number : ℕ) → gathers (with_store source store) number → gathers source number };
 }

@@ -27,11 +27,15 @@ impl<S: Store> HasStore<S> for Alone<S> {
 
     ghost with_store = { λ source store. record { store = store } };
 
+    ghost gathers = { λ source number. ⊥ };
+
     fn store_mut(&mut self) -> &mut S {
         &mut self.store
     }
 
     ghost replaced = { λ source store. refl };
+
+    ghost apart = { λ source store number kept. kept };
 }
 
 #[derive(Drop)]
@@ -54,7 +58,7 @@ impl<K: KeyOrder, S: Store> Cursor<K, Alone<S>> for InMemory<K> {
 
     ghost limited = { λ cursor source. ⊥ };
 
-    ghost leaves = { λ old new. old ≡ new };
+    ghost leaves = { λ numbers old new. old ≡ new };
 
     ghost over = { λ cursor number. ⊥ };
 
@@ -104,9 +108,11 @@ impl<K: KeyOrder, S: Store> Cursor<K, Alone<S>> for InMemory<K> {
 
     ghost limits_kept = { λ cursor old new k l. l };
 
-    ghost leaves_still = { λ source. refl };
+    ghost leaves_still = { λ numbers source. refl };
 
-    ghost leaves_onward = { λ first second third k l. k ∙ l };
+    ghost leaves_onward = { λ numbers first second third k l. k ∙ l };
+
+    ghost leaves_more = { λ fewer more old new less k. k };
 }
 
 type Entry = (&'static [u8], u64, Kind, &'static [u8]);
@@ -187,6 +193,8 @@ struct Case {
 
 const A4: Entry = (b"a", 4, Kind::Delete, b"");
 
+const VALUED_A4: Entry = (b"a", 4, Kind::Delete, b"value");
+
 const A3: Entry = (b"a", 3, Kind::Put, b"33");
 
 const A2: Entry = (b"a", 2, Kind::Put, b"32");
@@ -208,7 +216,7 @@ const GONE_A: Entry = (b"a", 5, Kind::Delete, b"");
 const NO_DEEPER: Deeper = Deeper { a: false, b: false };
 
 #[rattlefmt::skip]
-const CASES: [Case; 6] = [
+const CASES: [Case; 7] = [
     // What the snapshots see is kept.
     Case { inputs: &[&[A4, A3, A2, A1]], count: 4, snapshots: &[1, 3, 4], deeper: NO_DEEPER, file_bytes: 1 << 20, tables: &[&[A4, A3, A1]] },
     // Where nothing is kept, nothing is written.
@@ -216,6 +224,8 @@ const CASES: [Case; 6] = [
     // A delete is kept over deeper files that cover its key.
     Case { inputs: &[&[A4, A3, A2, A1]], count: 4, snapshots: &[4], deeper: Deeper { a: true, b: false }, file_bytes: 1 << 20, tables: &[&[A4]] },
     Case { inputs: &[&[A4, A3, A2, A1]], count: 4, snapshots: &[4], deeper: Deeper { a: false, b: true }, file_bytes: 1 << 20, tables: &[] },
+    // A delete is kept without the value that stands beside it.
+    Case { inputs: &[&[VALUED_A4, A3]], count: 2, snapshots: &[4], deeper: Deeper { a: true, b: false }, file_bytes: 1 << 20, tables: &[&[A4]] },
     // Tables end where the user key changes, and the inputs are merged.
     Case { inputs: &[&[NEW_A, OLD_B], &[OLD_A, C], &[NEW_B]], count: 5, snapshots: &[1, 2, 5], deeper: NO_DEEPER, file_bytes: 1,
         tables: &[&[NEW_A, OLD_A], &[NEW_B, OLD_B], &[C]] },
@@ -462,7 +472,7 @@ fn fails_at(alloc: Global, case: &Case, call: u64) -> Result<Option<bool>, Alloc
 fn a_failing_store_is_answered(rt: HostRuntime) -> Result<(), Fail> {
     let mut failed = 0u64;
     for call in 1..40 {
-        if fails_at(rt.alloc(), &CASES[4], call)?.ok_or("another answer")? {
+        if fails_at(rt.alloc(), &CASES[5], call)?.ok_or("another answer")? {
             failed = failed.saturating_add(1);
         }
     }

@@ -114,7 +114,7 @@ module _ {C S : Type 0} (cmp : Cmp) (lists : C → S → Listed → Type 0) wher
     walk_somewhere at h = placed_somewhere cmp lists cursor sequence stands position key value source h.0 at h.2
 
     -- after a refusal
-    pub refused_walk : (facts : S → Facts) (keeps : C → S → S → Type 0) (limited : C → S → Type 0) (leaves : S → S → Type 0) (over : C → ℕ → Type 0) (new : C) (same : ℕ) (now : Bool) (astray : Position) (kept now_value : List ℕ) (after : S)
+    pub refused_walk : (facts : S → Facts) (keeps : C → S → S → Type 0) (limited : C → S → Type 0) (leaves : (ℕ → Type 0) → S → S → Type 0) (over : C → ℕ → Type 0) (new : C) (same : ℕ) (now : Bool) (astray : Position) (kept now_value : List ℕ) (after : S)
         → same ≡ sequence → now ≡ stands → astray ≡ Astray → kept ≡ key → Wanders facts lists keeps limited leaves over cursor new source after → IsTrue (facts after).faithful
         → (at : Walked) → IsWalkOf cursor sequence stands position key value source at → IsWalkOf new same now astray kept now_value after at
     refused_walk facts keeps limited leaves over new same now astray kept now_value after s n a k w t at h =

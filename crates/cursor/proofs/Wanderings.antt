@@ -18,25 +18,26 @@ use Rattle.cursor.proofs.Turns.{stays_then, refuses_later}
 use Rattle.cursor.proofs.Onwards.{hides_on, passes_on, takes_on, none_on}
 use Rattle.cursor.proofs.Backwards.{looks_back, ends_back, front_back}
 
-pub stays_still : {C S : Type 0} (facts : S → Facts) (keeps : C → S → S → Type 0) (limited : C → S → Type 0) (leaves : S → S → Type 0) (over : C → ℕ → Type 0) → ((cursor : C) (source : S) → keeps cursor source source) → ((source : S) → leaves source source) → (cursor : C) (source : S) → Stays facts keeps limited leaves over cursor cursor source source
+pub stays_still : {C S : Type 0} (facts : S → Facts) (keeps : C → S → S → Type 0) (limited : C → S → Type 0) (leaves : (ℕ → Type 0) → S → S → Type 0) (over : C → ℕ → Type 0) → ((cursor : C) (source : S) → keeps cursor source source) → ((numbers : ℕ → Type 0) (source : S) → leaves numbers source source) → (cursor : C) (source : S) → Stays facts keeps limited leaves over cursor cursor source source
 stays_still facts keeps limited leaves over still leaves_still cursor source = record {
   reads = record { faithful = λ t. t; files = λ t. refl; failures = omega arith; denials = refl; held = refl; synced = λ f. refl };
-  left = leaves_still source;
+  left = leaves_still (over cursor) source;
   others = λ f other. still other source;
   same = λ s t k. k;
   limit = λ f l. l;
   within = λ number o. o;
 }
 
-module _ {C S : Type 0} (facts : S → Facts) (lists : C → S → Listed → Type 0) (keeps : C → S → S → Type 0) (limited : C → S → Type 0) (leaves : S → S → Type 0) (over : C → ℕ → Type 0) where
-  pub wanders_still : ((cursor : C) (source : S) → keeps cursor source source) → ((source : S) → leaves source source) → (cursor : C) (source : S) → Wanders facts lists keeps limited leaves over cursor cursor source source
+module _ {C S : Type 0} (facts : S → Facts) (lists : C → S → Listed → Type 0) (keeps : C → S → S → Type 0) (limited : C → S → Type 0) (leaves : (ℕ → Type 0) → S → S → Type 0) (over : C → ℕ → Type 0) where
+  pub wanders_still : ((cursor : C) (source : S) → keeps cursor source source) → ((numbers : ℕ → Type 0) (source : S) → leaves numbers source source) → (cursor : C) (source : S) → Wanders facts lists keeps limited leaves over cursor cursor source source
   wanders_still still leaves_still cursor source = record { stays = stays_still facts keeps limited leaves over still leaves_still cursor source; somewhere = λ f at l. (at.place, l) }
 
   pub wanders_then : ((cursor : C) (first second third : S) → keeps cursor first second → keeps cursor second third → keeps cursor first third)
-      → ((first second third : S) → leaves first second → leaves second third → leaves first third)
+      → ((numbers : ℕ → Type 0) (first second third : S) → leaves numbers first second → leaves numbers second third → leaves numbers first third)
+      → ((fewer more : ℕ → Type 0) (old new : S) → ((number : ℕ) → fewer number → more number) → leaves fewer old new → leaves more old new)
       → (a b c : C) (s t u : S) → Wanders facts lists keeps limited leaves over a b s t → Wanders facts lists keeps limited leaves over b c t u → Wanders facts lists keeps limited leaves over a c s u
-  wanders_then onward leaves_onward a b c s t u h k = record {
-    stays = stays_then facts keeps limited leaves over onward leaves_onward a b c s t u h.stays k.stays;
+  wanders_then onward leaves_onward leaves_more a b c s t u h k = record {
+    stays = stays_then facts keeps limited leaves over onward leaves_onward leaves_more a b c s t u h.stays k.stays;
     somewhere = λ f at l. let place = h.somewhere (k.stays.reads.faithful f) at l in k.somewhere f (listed at.entries place.0) place.1;
   }
 
@@ -77,7 +78,7 @@ module _ {C S : Type 0} (cmp : Cmp) (total : IsTotalOrder cmp) (exact : IsAntisy
       (place.0, entry.0, place.1, entry.1)
 
   -- bytes that are no key are refused only where there is no list
-  pub refused_key : (e : DbError) (facts : S → Facts) (keeps : C → S → S → Type 0) (limited : C → S → Type 0) (leaves : S → S → Type 0) (over : C → ℕ → Type 0) (a b : C) (s t : S) (bytes : List ℕ) (limit : Type 0) → Wanders facts lists keeps limited leaves over a b s t → stands b ≡ true
+  pub refused_key : (e : DbError) (facts : S → Facts) (keeps : C → S → S → Type 0) (limited : C → S → Type 0) (leaves : (ℕ → Type 0) → S → S → Type 0) (over : C → ℕ → Type 0) (a b : C) (s t : S) (bytes : List ℕ) (limit : Type 0) → Wanders facts lists keeps limited leaves over a b s t → stands b ≡ true
       → ((at : Listed) (index : ℕ) (entry : InternalEntry) → lists b t at → at.place ≡ Some index → slice_get at.entries index ≡ Some entry → IsKey bytes entry.key)
       → RefusesKey e bytes → Refuses e (facts s) (facts t) (ListsNone lists a s) limit
   refused_key e facts keeps limited leaves over a b s t bytes limit h stand key r =

@@ -13,7 +13,7 @@ use Rattle.cursor.specs.Merging.{listed, behind}
 use Rattle.cursor.specs.Views.{IsVisible, is_user_below}
 
 -- What several moves of a cursor leave: it stands somewhere in the same list.
-pub record Wanders {C S : Type 0} (facts : S → Facts) (lists : C → S → Listed → Type 0) (keeps : C → S → S → Type 0) (limited : C → S → Type 0) (leaves : S → S → Type 0) (over : C → ℕ → Type 0) (old new : C) (before after : S) : Type 0 where
+pub record Wanders {C S : Type 0} (facts : S → Facts) (lists : C → S → Listed → Type 0) (keeps : C → S → S → Type 0) (limited : C → S → Type 0) (leaves : (ℕ → Type 0) → S → S → Type 0) (over : C → ℕ → Type 0) (old new : C) (before after : S) : Type 0 where
   pub stays : Stays facts keeps limited leaves over old new before after
   pub somewhere : IsTrue (facts after).faithful → (at : Listed) → lists old before at → (place : Option ℕ) × lists new after (listed at.entries place)
 

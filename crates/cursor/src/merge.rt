@@ -167,6 +167,8 @@ impl<K: KeyOrder, S, C: Cursor<K, S>> Cursor<K, S> for Merge<K, C> {
     ghost leaves_still = { C.leaves_still };
 
     ghost leaves_onward = { C.leaves_onward };
+
+    ghost leaves_more = { C.leaves_more };
 }
 
 // Has the merge jump. The key of its entry is kept, for children that are led astray.

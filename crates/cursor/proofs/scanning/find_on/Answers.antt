@@ -8,14 +8,14 @@ use Rattle.cursor.proofs.scanning.find_on.Goals as goal
 
 pub search-init : goal.search-init
 search-init g c = record {
-  wanders = wanders_still g.C.Cursor.facts g.C.Cursor.lists g.C.Cursor.keeps g.C.Cursor.limited g.C.Cursor.leaves g.C.Cursor.over g.met.C.Cursor.still g.met.C.Cursor.leaves_still c.args.cursor.now c.args.source.now;
+  wanders = wanders_still g.C.Cursor.facts g.C.Cursor.lists g.C.Cursor.keeps g.C.Cursor.limited g.C.Cursor.leaves g.C.Cursor.over g.met.C.Cursor.still g.C.Cursor.leaves_still c.args.cursor.now c.args.source.now;
   comes = λ t entries test index l h. (index, l, h);
   still = refl;
 }
 
 pub search-preserved : goal.search-preserved
 search-preserved g c = record {
-  wanders = wanders_then g.C.Cursor.facts g.C.Cursor.lists g.C.Cursor.keeps g.C.Cursor.limited g.C.Cursor.leaves g.C.Cursor.over g.met.C.Cursor.onward g.met.C.Cursor.leaves_onward _ _ _ _ _ _ c.search.invariant.wanders
+  wanders = wanders_then g.C.Cursor.facts g.C.Cursor.lists g.C.Cursor.keeps g.C.Cursor.limited g.C.Cursor.leaves g.C.Cursor.over g.met.C.Cursor.onward g.C.Cursor.leaves_onward g.C.Cursor.leaves_more _ _ _ _ _ _ c.search.invariant.wanders
       (move_wanders g.C.Cursor.facts g.C.Cursor.lists g.C.Cursor.keeps g.C.Cursor.limited g.C.Cursor.leaves g.C.Cursor.over c.search.cursor c.next.new.self c.search.source c.next.new.source c.next.result _ c.next.ensures.moves c.next.ensures.stays);
   comes = λ t entries test index l h.
       let at = c.search.invariant.comes (c.next.ensures.stays.reads.faithful t) entries test index l h in
@@ -41,7 +41,7 @@ returns-then-branch-clause-found g c = λ t entries test index l h.
 
 pub returns-in_err-next-clause-wanders : goal.returns-in_err-next-clause-wanders
 returns-in_err-next-clause-wanders g c =
-    wanders_then g.C.Cursor.facts g.C.Cursor.lists g.C.Cursor.keeps g.C.Cursor.limited g.C.Cursor.leaves g.C.Cursor.over g.met.C.Cursor.onward g.met.C.Cursor.leaves_onward _ _ _ _ _ _ c.search.invariant.wanders
+    wanders_then g.C.Cursor.facts g.C.Cursor.lists g.C.Cursor.keeps g.C.Cursor.limited g.C.Cursor.leaves g.C.Cursor.over g.met.C.Cursor.onward g.C.Cursor.leaves_onward g.C.Cursor.leaves_more _ _ _ _ _ _ c.search.invariant.wanders
     (move_wanders g.C.Cursor.facts g.C.Cursor.lists g.C.Cursor.keeps g.C.Cursor.limited g.C.Cursor.leaves g.C.Cursor.over c.search.cursor c.next.new.self c.search.source c.next.new.source c.next.result _ c.next.ensures.moves c.next.ensures.stays)
 
 pub returns-in_err-next-clause-refused : goal.returns-in_err-next-clause-refused

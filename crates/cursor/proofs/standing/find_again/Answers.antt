@@ -5,7 +5,7 @@ use Rattle.cursor.proofs.Standings.{sought_again}
 use Rattle.cursor.proofs.standing.find_again.Goals as goal
 
 pub returns-in_err-key-clause-wanders : goal.returns-in_err-key-clause-wanders
-returns-in_err-key-clause-wanders g c = wanders_still g.C.Cursor.facts g.C.Cursor.lists g.C.Cursor.keeps g.C.Cursor.limited g.C.Cursor.leaves g.C.Cursor.over g.met.C.Cursor.still g.met.C.Cursor.leaves_still c.args.cursor.now c.args.source.now
+returns-in_err-key-clause-wanders g c = wanders_still g.C.Cursor.facts g.C.Cursor.lists g.C.Cursor.keeps g.C.Cursor.limited g.C.Cursor.leaves g.C.Cursor.over g.met.C.Cursor.still g.C.Cursor.leaves_still c.args.cursor.now c.args.source.now
 
 pub returns-in_err-seek-clause-wanders : goal.returns-in_err-seek-clause-wanders
 returns-in_err-seek-clause-wanders g c =

@@ -5,7 +5,7 @@ use Rattle.cursor.proofs.Standings.{here_ahead, ahead_there}
 use Rattle.cursor.proofs.standing.stand_ahead.Goals as goal
 
 pub returns-in-Here-clause-wanders : goal.returns-in-Here-clause-wanders
-returns-in-Here-clause-wanders g c = wanders_still g.C.Cursor.facts g.C.Cursor.lists g.C.Cursor.keeps g.C.Cursor.limited g.C.Cursor.leaves g.C.Cursor.over g.met.C.Cursor.still g.met.C.Cursor.leaves_still c.args.cursor.now c.args.source.now
+returns-in-Here-clause-wanders g c = wanders_still g.C.Cursor.facts g.C.Cursor.lists g.C.Cursor.keeps g.C.Cursor.limited g.C.Cursor.leaves g.C.Cursor.over g.met.C.Cursor.still g.C.Cursor.leaves_still c.args.cursor.now c.args.source.now
 
 pub returns-in-Here-clause-stands : goal.returns-in-Here-clause-stands
 returns-in-Here-clause-stands g c = λ t entries entry value v same h.

@@ -1,10 +1,15 @@
-use Rattle.std.proofs.Common.{None, ◌≡◌, ◌+◌, ℕ, List, inl, inr, sym, subst, arith}
+use Rattle.std.proofs.Common.{None, ◌≡◌, ◌+◌, ℕ, Bool, List, [], map, inl, inr, refl, sym, subst, arith}
 use Rattle.std.specs.Prelude.{Any}
 use Rattle.std.specs.List.{AllByRecursion}
 use Rattle.edits.specs.declared.field.TableFile.{TableFile}
 use Rattle.edits.specs.Edit.{IsTableProper}
 use Rattle.store.specs.Files.{Facts}
-use Rattle.compact.specs.Outputs.{Written, NumbersRise}
+use Rattle.std.proofs.lemmas.Result.{err_from_is_err_and}
+use Rattle.ikey.specs.Entries.{InternalEntry, Pair, entry_of}
+use Rattle.compact.specs.Outputs.{HasWritten, Written, NumbersRise}
+use Rattle.compact.specs.Rooms.{AreLarge, AreTooMany}
+use Rattle.compact.proofs.Loads.{large-merged}
+use Rattle.compact.proofs.Writing.{refuses-as}
 use Rattle.compact.proofs.Editing.{in_order, proper, own}
 use Rattle.compact.specs.Merging.{IsMerging}
 use Rattle.compact.proofs.Merges.{merging-closed}
@@ -45,3 +50,16 @@ returns-clause-own g c =
       | inl before ↦ before
       | inr from ↦ absurd (omega (arith, from))
     ])
+
+pub returns-in_err-close-clause-refused : goal.returns-in_err-close-clause-refused
+returns-in_err-close-clause-refused g c =
+    let a : Facts = g.S.Store.facts c.args.store.now in
+    let b : Facts = g.S.Store.facts c.close.new.store in
+    let cmp = g.K.KeyOrder.cmp in
+    let next : ℕ = c.args.numbers.now.next in
+    let p = err_from_is_err_and c.from_residual.result c.from_residual.ensures.1 in
+    rw (p.1, p.2) (refuses-as c.in_err-close.field-0.0 a a b ⊥ ((more : ℕ) (pairs : List Pair) → HasWritten cmp c.args.self.outputs a more pairs → AreTooMany pairs []) ⊥
+    ⊥ ((deep : List ℕ → Bool) (came : List InternalEntry) → IsMerging cmp deep c.args.self.last.items c.args.self.selection c.args.self.outputs a next came → AreLarge (map entry_of came)) ⊥
+    refl (λ h. h)
+    (λ long deep came h. large-merged deep c.args.self.selection cmp h.written h.kept came h.written_are h.well_kept h.chooses (long next h.written h.has_written))
+    (λ h. h) c.in_err-close.ensures.refused)

@@ -1,7 +1,7 @@
 use Rattle.std.proofs.lemmas.Result.{err_from_is_err_and}
 use Rattle.store.specs.Files.{Facts}
 use Rattle.cursor.specs.Moves.{ListsNone}
-use Rattle.std.proofs.Common.{IsTrue, ◌⊎◌, ◌≤◌, ◌^◌, map, List, ℕ, ◌∷◌, ◌++◌, length, ◌≡◌, refl, sym, ap, subst, ◌∙◌}
+use Rattle.std.proofs.Common.{IsTrue, ◌⊎◌, ◌≤◌, ◌^◌, map, List, ℕ, ◌∷◌, ◌++◌, length, ◌≡◌, inl, inr, refl, sym, ap, subst, ◌∙◌}
 use Rattle.cursor.specs.Merging.{listed}
 use Rattle.cursor.specs.Places.{Listed, within}
 use Rattle.ikey.specs.Entries.{InternalEntry, entry_of}
@@ -9,13 +9,15 @@ use Rattle.ikey.specs.Below.{same_key}
 use Rattle.ikey.specs.Keys.{Key, IsKey}
 use Rattle.ikey.specs.KeyViews.{key_of}
 use Rattle.compact.specs.Choosing.{written_for}
-use Rattle.compact.specs.Merging.{IsBetween, HaveOwnSequences}
-use Rattle.compact.specs.Outputs.{HasWritten, IsMine, WritesTables}
-use Rattle.compact.proofs.Jobs.{job-step, writes-move, still-lists, refuses-same, refuses-moving}
+use Rattle.compact.specs.Merging.{IsBetween, IsLimited, HaveOwnSequences}
+use Rattle.compact.specs.Rooms.{AreLarge}
+use Rattle.compact.proofs.Loads.{rewritten, well-rewritten, same-rewritten, is-rewritten, large-chosen}
+use Rattle.compact.specs.Outputs.{HasWritten, IsMine, IsMineUpTo, WritesTables}
+use Rattle.compact.proofs.Jobs.{job-step, writes-move, still-keeps, still-lists, still-move, refuses-same, refuses-moving}
 use Rattle.compact.proofs.Merges.{kind-kept}
 use Rattle.compact.proofs.Passing.{standing, at_place}
 use Rattle.compact.proofs.Refusing.{never-behind, writes-rise}
-use Rattle.compact.proofs.Writing.{refuses-as, writes-reads}
+use Rattle.compact.proofs.Writing.{refuses-as, writes-mine, writes-reads}
 use Rattle.compact.proofs.job.Job.merge_one.Goals as goal
 
 pub returns-clause-merged : goal.returns-clause-merged
@@ -26,18 +28,18 @@ returns-clause-merged g c = λ came entry rest t h.
     let over_is : IsKey c.set_bytes.new.bytes.items entry.key = subst (λ (bytes : List ℕ). IsKey bytes entry.key) (sym c.in_ok-set_bytes.ensures) is_key in
     let k : Key = key_of c.in-Some.key in
     let same : entry.key ≡ k = same_key c.set_bytes.new.bytes.items entry.key k over_is (subst (λ (bytes : List ℕ). IsKey bytes k) c.as_slice-2.ensures.value c.in-Some.ensures.found) in
-    job-step g.K.KeyOrder.cmp (g.D.DeeperFiles.covers c.args.deeper.now) g.S.Store.facts g.H.HasStore.store_of g.H.HasStore.with_store g.C.Cursor.facts g.C.Cursor.lists g.C.Cursor.keeps g.C.Cursor.limited g.C.Cursor.leaves g.C.Cursor.over
-    c.requires.facts g.met.H.HasStore.replaced g.met.C.Cursor.kept
+    job-step g.K.KeyOrder.cmp (g.D.DeeperFiles.covers c.args.deeper.now) g.S.Store.facts g.H.HasStore.store_of g.H.HasStore.with_store g.H.HasStore.gathers g.C.Cursor.facts g.C.Cursor.lists g.C.Cursor.keeps g.C.Cursor.limited g.C.Cursor.leaves g.C.Cursor.over
+    c.requires.facts g.met.H.HasStore.replaced g.met.H.HasStore.apart c.requires.gathers g.met.C.Cursor.kept
     c.args.self.now.last.items c.set_bytes.new.bytes.items c.args.self.now.cursor c.next.new.self c.args.self.now.selection c.take.new.self c.args.self.now.outputs c.write_chosen.new.outputs
     c.args.source.now c.store_mut.result.now c.write_chosen.new.store c.next.new.source c.args.numbers.now.next c.write_chosen.new.numbers.next came entry rest c.in_ok-choice.choice
-    c.store_mut.ensures.value c.in_ok-write_chosen.ensures.writes c.in_ok-write_chosen.ensures.mine c.in_ok-next.ensures.moves c.in_ok-next.ensures.stays t over_is
+    c.store_mut.ensures.value (writes-mine (g.S.Store.facts c.store_mut.result.now) (g.S.Store.facts c.write_chosen.new.store) c.args.self.now.outputs c.args.numbers.now.next c.write_chosen.new.numbers.next c.in_ok-write_chosen.ensures.writes) c.in_ok-write_chosen.ensures.numbers c.in_ok-write_chosen.ensures.mine c.in_ok-next.ensures.moves c.in_ok-next.ensures.stays t over_is
     (λ last_key x is up. c.comes_behind.ensures.behind c.if-not-comes_behind.false last_key entry.key x (entry_of entry) (subst (λ (bytes : List ℕ). IsKey bytes last_key) (sym c.as_slice.ensures.value) is) is_key up refl refl)
     (λ xs ys behind chosen. c.in_ok-choice.ensures.chosen xs ys (entry_of entry) (ap (λ (x : Key). x.user) same) (ap (λ (x : Key). x.sequence) same) (kind-kept entry.key.kind entry.value ∙ ap (λ (x : Key). x.kind) same) behind chosen)
     (λ tb pairs kept are is.
-    let new = c.in_ok-write_chosen.ensures.written pairs kept entry tb
-    (record { key = subst (λ (bytes : List ℕ). IsKey bytes entry.key) (sym c.as_slice-3.ensures.value) over_is; value = c.as_slice-4.ensures.value ∙ c.in_ok-set_bytes-2.ensures ∙ value_is })
+    let new = c.in_ok-write_chosen.ensures.written pairs kept (rewritten entry) tb
+    (is-rewritten c.as_slice-3.result.now c.kept_value.result.now c.as_slice-4.result.now entry k.kind (subst (λ (bytes : List ℕ). IsKey bytes entry.key) (sym c.as_slice-3.ensures.value) over_is) (ap (λ (x : Key). x.kind) same) (c.as_slice-4.ensures.value ∙ c.in_ok-set_bytes-2.ensures ∙ value_is) c.kept_value.ensures)
     (ap (λ (x : Key). x.user) same) are is in
-    (new.0, new.1, new.2, new.3, new.4 ∙ ap (λ released. written_for c.in_ok-choice.choice released (entry_of entry)) c.released.ensures.value))
+    (new.0, new.1, new.2, new.3, new.4 ∙ (λ i. written_for c.in_ok-choice.choice (c.released.ensures.value i) (same-rewritten entry i)), new.5 (well-rewritten entry)))
     h
 
 pub returns-then-not-comes_behind-clause-refused : goal.returns-then-not-comes_behind-clause-refused
@@ -61,9 +63,10 @@ returns-in_err-write_chosen-clause-refused g c =
     let same_new : b ≡ d = ap g.S.Store.facts (sym (g.met.H.HasStore.replaced c.args.source.now c.write_chosen.new.store)) in
     let p = err_from_is_err_and c.from_residual-in_err-write_chosen.result c.from_residual-in_err-write_chosen.ensures.1 in
     rw (p.1, p.2) (refuses-same c.in_err-write_chosen.field-0.0 (g.S.Store.facts c.store_mut.result.now) (g.S.Store.facts (g.H.HasStore.store_of c.args.source.now)) b d
-    _
-    (IsTrue d.faithful → (came : List InternalEntry) (entry : InternalEntry) (rest : List InternalEntry)
-    → IsBetween g.K.KeyOrder.cmp (g.D.DeeperFiles.covers c.args.deeper.now) g.S.Store.facts g.H.HasStore.store_of g.H.HasStore.with_store g.C.Cursor.lists g.C.Cursor.keeps c.args.self.now c.args.source.now c.args.numbers.now.next came (entry ∷ rest) → HaveOwnSequences (came ++ entry ∷ rest) → ⊥)
+    _ (IsTrue d.faithful → (came : List InternalEntry) (entry : InternalEntry) (rest : List InternalEntry)
+    → IsBetween g.K.KeyOrder.cmp (g.D.DeeperFiles.covers c.args.deeper.now) g.S.Store.facts g.H.HasStore.store_of g.H.HasStore.with_store g.H.HasStore.gathers g.C.Cursor.lists g.C.Cursor.keeps g.C.Cursor.over c.args.self.now c.args.source.now c.args.numbers.now.next came (entry ∷ rest) → HaveOwnSequences (came ++ entry ∷ rest) → ⊥)
+    _ (IsTrue d.faithful → (came : List InternalEntry) (entry : InternalEntry) (rest : List InternalEntry) → IsBetween g.K.KeyOrder.cmp (g.D.DeeperFiles.covers c.args.deeper.now) g.S.Store.facts g.H.HasStore.store_of g.H.HasStore.with_store g.H.HasStore.gathers g.C.Cursor.lists g.C.Cursor.keeps g.C.Cursor.over c.args.self.now c.args.source.now c.args.numbers.now.next came (entry ∷ rest)
+    → IsLimited g.C.Cursor.limited c.args.self.now c.args.source.now ⊎ AreLarge (map entry_of (came ++ entry ∷ rest)))
     (2 ^ 62 ≤ c.write_chosen.new.numbers.next)
     (ap g.S.Store.facts c.store_mut.ensures.value) same_new
     (λ none t came entry rest h own.
@@ -78,30 +81,48 @@ returns-in_err-write_chosen-clause-refused g c =
     (λ x m. let b = h.merging.bound x m in
     c.comes_behind.ensures.behind c.if-not-comes_behind.false b.0 entry.key x (entry_of entry) (subst (λ (bytes : List ℕ). IsKey bytes b.0) (sym c.as_slice.ensures.value) b.1) is_key b.2 refl refl)
     h.merging.chooses in
-    none.1 (subst (λ (f : Facts). IsTrue f.faithful) (sym same_new) t) h.merging.written h.merging.kept entry
-    (record { key = subst (λ (bytes : List ℕ). IsKey bytes entry.key) (sym c.as_slice-3.ensures.value) over_is; value = c.as_slice-4.ensures.value ∙ c.in_ok-set_bytes-2.ensures ∙ value_is })
+    none.1 (subst (λ (f : Facts). IsTrue f.faithful) (sym same_new) t) h.merging.written h.merging.kept (rewritten entry)
+    (is-rewritten c.as_slice-3.result.now c.kept_value.result.now c.as_slice-4.result.now entry k.kind (subst (λ (bytes : List ℕ). IsKey bytes entry.key) (sym c.as_slice-3.ensures.value) over_is) (ap (λ (x : Key). x.kind) same) (c.as_slice-4.ensures.value ∙ c.in_ok-set_bytes-2.ensures ∙ value_is) c.kept_value.ensures)
     (ap (λ (x : Key). x.user) same) h.merging.written_are
     (subst (λ s. HasWritten g.K.KeyOrder.cmp c.args.self.now.outputs (g.S.Store.facts s) c.args.numbers.now.next h.merging.written) (sym c.store_mut.ensures.value) h.merging.has_written)
     (writes-rise g.K.KeyOrder.cmp (g.D.DeeperFiles.covers c.args.deeper.now) c.take.new.self c.in-Some.key.user.now c.released.result.now c.in_ok-choice.choice came rest h.merging.kept entry
     none.0 (ap (λ (x : Key). x.user) same) c.released.ensures.value (g.met.C.Cursor.rises c.args.self.now.cursor c.args.source.now at h.left) chosen))
+    (λ long t came entry rest h.
+    let at : Listed = listed (came ++ entry ∷ rest) (within (came ++ entry ∷ rest) (length came)) in
+    let is_key : IsKey c.key-bytes.result.now entry.key = c.key-bytes.ensures at (length came) entry h.left (standing came entry rest) (at_place came entry rest) in
+    let value_is : c.value.result.now ≡ entry.value = c.value.ensures at (length came) entry h.left (standing came entry rest) (at_place came entry rest) in
+    let over_is : IsKey c.set_bytes.new.bytes.items entry.key = subst (λ (bytes : List ℕ). IsKey bytes entry.key) (sym c.in_ok-set_bytes.ensures) is_key in
+    let k : Key = key_of c.in-Some.key in
+    let same : entry.key ≡ k = same_key c.set_bytes.new.bytes.items entry.key k over_is (subst (λ (bytes : List ℕ). IsKey bytes k) c.as_slice-2.ensures.value c.in-Some.ensures.found) in
+    let chosen = c.in_ok-choice.ensures.chosen (map entry_of came) (map entry_of h.merging.kept) (entry_of entry) (ap (λ (x : Key). x.user) same) (ap (λ (x : Key). x.sequence) same)
+    (kind-kept entry.key.kind entry.value ∙ ap (λ (x : Key). x.kind) same)
+    (λ x m. let b = h.merging.bound x m in
+    c.comes_behind.ensures.behind c.if-not-comes_behind.false b.0 entry.key x (entry_of entry) (subst (λ (bytes : List ℕ). IsKey bytes b.0) (sym c.as_slice.ensures.value) b.1) is_key b.2 refl refl)
+    h.merging.chooses in
+    inr (large-chosen (g.D.DeeperFiles.covers c.args.deeper.now) c.take.new.self c.in-Some.key.user.now c.released.result.now c.in_ok-choice.choice g.K.KeyOrder.cmp h.merging.written came rest h.merging.kept entry
+    long.0 (ap (λ (x : Key). x.user) same) c.released.ensures.value h.merging.written_are h.merging.well_kept chosen
+    (long.1 (subst (λ (f : Facts). IsTrue f.faithful) (sym same_new) t) h.merging.written h.merging.kept (rewritten entry)
+    (is-rewritten c.as_slice-3.result.now c.kept_value.result.now c.as_slice-4.result.now entry k.kind (subst (λ (bytes : List ℕ). IsKey bytes entry.key) (sym c.as_slice-3.ensures.value) over_is) (ap (λ (x : Key). x.kind) same) (c.as_slice-4.ensures.value ∙ c.in_ok-set_bytes-2.ensures ∙ value_is) c.kept_value.ensures)
+    (ap (λ (x : Key). x.user) same) (well-rewritten entry) h.merging.written_are
+    (subst (λ s. HasWritten g.K.KeyOrder.cmp c.args.self.now.outputs (g.S.Store.facts s) c.args.numbers.now.next h.merging.written) (sym c.store_mut.ensures.value) h.merging.has_written))))
     c.in_err-write_chosen.ensures.refused)
 
 pub returns-in_err-next-clause-writes : goal.returns-in_err-next-clause-writes
 returns-in_err-next-clause-writes g c =
-    writes-reads (g.S.Store.facts (g.H.HasStore.store_of c.args.source.now)) (g.S.Store.facts c.write_chosen.new.store) (g.S.Store.facts (g.H.HasStore.store_of c.next.new.source)) (IsMine c.args.self.now.outputs c.args.numbers.now.next)
-    (subst (λ s. WritesTables (g.S.Store.facts s) (g.S.Store.facts c.write_chosen.new.store) (IsMine c.args.self.now.outputs c.args.numbers.now.next)) c.store_mut.ensures.value c.in_ok-write_chosen.ensures.writes)
-    (writes-move g.K.KeyOrder.cmp (g.D.DeeperFiles.covers c.args.deeper.now) g.S.Store.facts g.H.HasStore.store_of g.H.HasStore.with_store g.C.Cursor.facts g.C.Cursor.lists g.C.Cursor.keeps g.C.Cursor.limited g.C.Cursor.leaves g.C.Cursor.over
-    c.requires.facts g.met.H.HasStore.replaced g.met.C.Cursor.kept
-    c.args.self.now.cursor c.next.new.self c.args.source.now c.store_mut.result.now c.write_chosen.new.store c.next.new.source (IsMine c.args.self.now.outputs c.args.numbers.now.next)
+    writes-reads (g.S.Store.facts (g.H.HasStore.store_of c.args.source.now)) (g.S.Store.facts c.write_chosen.new.store) (g.S.Store.facts (g.H.HasStore.store_of c.next.new.source)) (IsMineUpTo c.args.self.now.outputs c.args.numbers.now.next c.write_chosen.new.numbers.next)
+    (subst (λ s. WritesTables (g.S.Store.facts s) (g.S.Store.facts c.write_chosen.new.store) (IsMineUpTo c.args.self.now.outputs c.args.numbers.now.next c.write_chosen.new.numbers.next)) c.store_mut.ensures.value c.in_ok-write_chosen.ensures.writes)
+    (writes-move g.K.KeyOrder.cmp (g.D.DeeperFiles.covers c.args.deeper.now) g.S.Store.facts g.H.HasStore.store_of g.H.HasStore.with_store g.H.HasStore.gathers g.C.Cursor.facts g.C.Cursor.lists g.C.Cursor.keeps g.C.Cursor.limited g.C.Cursor.leaves g.C.Cursor.over
+    c.requires.facts g.met.H.HasStore.replaced g.met.H.HasStore.apart c.requires.gathers g.met.C.Cursor.kept
+    c.args.self.now.cursor c.next.new.self c.args.source.now c.store_mut.result.now c.write_chosen.new.store c.next.new.source (IsMineUpTo c.args.self.now.outputs c.args.numbers.now.next c.write_chosen.new.numbers.next)
     c.store_mut.ensures.value c.in_ok-write_chosen.ensures.writes c.in_err-next.ensures.stays)
 
 pub returns-clause-writes : goal.returns-clause-writes
 returns-clause-writes g c =
-    writes-reads (g.S.Store.facts (g.H.HasStore.store_of c.args.source.now)) (g.S.Store.facts c.write_chosen.new.store) (g.S.Store.facts (g.H.HasStore.store_of c.next.new.source)) (IsMine c.args.self.now.outputs c.args.numbers.now.next)
-    (subst (λ s. WritesTables (g.S.Store.facts s) (g.S.Store.facts c.write_chosen.new.store) (IsMine c.args.self.now.outputs c.args.numbers.now.next)) c.store_mut.ensures.value c.in_ok-write_chosen.ensures.writes)
-    (writes-move g.K.KeyOrder.cmp (g.D.DeeperFiles.covers c.args.deeper.now) g.S.Store.facts g.H.HasStore.store_of g.H.HasStore.with_store g.C.Cursor.facts g.C.Cursor.lists g.C.Cursor.keeps g.C.Cursor.limited g.C.Cursor.leaves g.C.Cursor.over
-    c.requires.facts g.met.H.HasStore.replaced g.met.C.Cursor.kept
-    c.args.self.now.cursor c.next.new.self c.args.source.now c.store_mut.result.now c.write_chosen.new.store c.next.new.source (IsMine c.args.self.now.outputs c.args.numbers.now.next)
+    writes-reads (g.S.Store.facts (g.H.HasStore.store_of c.args.source.now)) (g.S.Store.facts c.write_chosen.new.store) (g.S.Store.facts (g.H.HasStore.store_of c.next.new.source)) (IsMineUpTo c.args.self.now.outputs c.args.numbers.now.next c.write_chosen.new.numbers.next)
+    (subst (λ s. WritesTables (g.S.Store.facts s) (g.S.Store.facts c.write_chosen.new.store) (IsMineUpTo c.args.self.now.outputs c.args.numbers.now.next c.write_chosen.new.numbers.next)) c.store_mut.ensures.value c.in_ok-write_chosen.ensures.writes)
+    (writes-move g.K.KeyOrder.cmp (g.D.DeeperFiles.covers c.args.deeper.now) g.S.Store.facts g.H.HasStore.store_of g.H.HasStore.with_store g.H.HasStore.gathers g.C.Cursor.facts g.C.Cursor.lists g.C.Cursor.keeps g.C.Cursor.limited g.C.Cursor.leaves g.C.Cursor.over
+    c.requires.facts g.met.H.HasStore.replaced g.met.H.HasStore.apart c.requires.gathers g.met.C.Cursor.kept
+    c.args.self.now.cursor c.next.new.self c.args.source.now c.store_mut.result.now c.write_chosen.new.store c.next.new.source (IsMineUpTo c.args.self.now.outputs c.args.numbers.now.next c.write_chosen.new.numbers.next)
     c.store_mut.ensures.value c.in_ok-write_chosen.ensures.writes c.in_ok-next.ensures.stays)
 
 pub returns-in_err-next-clause-refused : goal.returns-in_err-next-clause-refused
@@ -111,18 +132,43 @@ returns-in_err-next-clause-refused g c =
     let d : Facts = g.S.Store.facts (g.H.HasStore.store_of c.next.new.source) in
     let mid = g.H.HasStore.with_store c.args.source.now c.write_chosen.new.store in
     let spent = 2 ^ 62 ≤ c.write_chosen.new.numbers.next in
-    let writes = subst (λ s. WritesTables (g.S.Store.facts s) b (IsMine c.args.self.now.outputs c.args.numbers.now.next)) c.store_mut.ensures.value c.in_ok-write_chosen.ensures.writes in
     let p = err_from_is_err_and c.from_residual-in_err-next.result c.from_residual-in_err-next.ensures.1 in
     rw (p.1, p.2) (refuses-as c.in_err-next.field-0.0 a b d (IsTrue d.faithful → ListsNone g.C.Cursor.lists c.args.self.now.cursor mid) (IsTrue d.faithful → ListsNone g.C.Cursor.lists c.args.self.now.cursor mid ⊎ g.C.Cursor.limited c.args.self.now.cursor mid) spent
     (IsTrue d.faithful → (came : List InternalEntry) (entry : InternalEntry) (rest : List InternalEntry)
-    → IsBetween g.K.KeyOrder.cmp (g.D.DeeperFiles.covers c.args.deeper.now) g.S.Store.facts g.H.HasStore.store_of g.H.HasStore.with_store g.C.Cursor.lists g.C.Cursor.keeps c.args.self.now c.args.source.now c.args.numbers.now.next came (entry ∷ rest) → HaveOwnSequences (came ++ entry ∷ rest) → ⊥)
-    (Unit {0}) spent writes.failures
+    → IsBetween g.K.KeyOrder.cmp (g.D.DeeperFiles.covers c.args.deeper.now) g.S.Store.facts g.H.HasStore.store_of g.H.HasStore.with_store g.H.HasStore.gathers g.C.Cursor.lists g.C.Cursor.keeps g.C.Cursor.over c.args.self.now c.args.source.now c.args.numbers.now.next came (entry ∷ rest) → HaveOwnSequences (came ++ entry ∷ rest) → ⊥)
+    (IsTrue d.faithful → (came : List InternalEntry) (entry : InternalEntry) (rest : List InternalEntry) → IsBetween g.K.KeyOrder.cmp (g.D.DeeperFiles.covers c.args.deeper.now) g.S.Store.facts g.H.HasStore.store_of g.H.HasStore.with_store g.H.HasStore.gathers g.C.Cursor.lists g.C.Cursor.keeps g.C.Cursor.over c.args.self.now c.args.source.now c.args.numbers.now.next came (entry ∷ rest)
+    → IsLimited g.C.Cursor.limited c.args.self.now c.args.source.now ⊎ AreLarge (map entry_of (came ++ entry ∷ rest))) spent (c.in_ok-write_chosen.ensures.stood ∙ ap (λ s. (g.S.Store.facts s).failures) c.store_mut.ensures.value)
     (λ none t came entry rest h own.
     let at : Listed = listed (came ++ entry ∷ rest) (within (came ++ entry ∷ rest) (length came)) in
-    none t at (still-lists g.K.KeyOrder.cmp (g.D.DeeperFiles.covers c.args.deeper.now) g.S.Store.facts g.H.HasStore.store_of g.H.HasStore.with_store g.C.Cursor.facts g.C.Cursor.lists g.C.Cursor.keeps g.C.Cursor.limited g.C.Cursor.leaves g.C.Cursor.over
-    c.requires.facts g.met.H.HasStore.replaced g.met.C.Cursor.kept
+    none t at (still-lists g.K.KeyOrder.cmp (g.D.DeeperFiles.covers c.args.deeper.now) g.S.Store.facts g.H.HasStore.store_of g.H.HasStore.with_store g.H.HasStore.gathers g.C.Cursor.facts g.C.Cursor.lists g.C.Cursor.keeps g.C.Cursor.limited g.C.Cursor.leaves g.C.Cursor.over
+    c.requires.facts g.met.H.HasStore.replaced g.met.H.HasStore.apart c.requires.gathers g.met.C.Cursor.kept
     c.args.self.now.cursor c.next.new.self c.args.source.now c.store_mut.result.now c.write_chosen.new.store c.next.new.source (IsMine c.args.self.now.outputs c.args.numbers.now.next) at
-    c.store_mut.ensures.value c.in_ok-write_chosen.ensures.writes h.apart c.in_err-next.ensures.stays t h.left))
-    (λ u. tt) (λ u. u)
+    c.store_mut.ensures.value (writes-mine (g.S.Store.facts c.store_mut.result.now) (g.S.Store.facts c.write_chosen.new.store) c.args.self.now.outputs c.args.numbers.now.next c.write_chosen.new.numbers.next c.in_ok-write_chosen.ensures.writes) h.apart h.ungathered c.in_err-next.ensures.stays t h.left))
+    (λ lim t came entry rest h. elim (lim t) [
+      | inl none ↦ absurd (none (listed (came ++ entry ∷ rest) (within (came ++ entry ∷ rest) (length came))) (still-lists g.K.KeyOrder.cmp (g.D.DeeperFiles.covers c.args.deeper.now) g.S.Store.facts g.H.HasStore.store_of g.H.HasStore.with_store g.H.HasStore.gathers g.C.Cursor.facts g.C.Cursor.lists g.C.Cursor.keeps g.C.Cursor.limited g.C.Cursor.leaves g.C.Cursor.over
+          c.requires.facts g.met.H.HasStore.replaced g.met.H.HasStore.apart c.requires.gathers g.met.C.Cursor.kept
+          c.args.self.now.cursor c.next.new.self c.args.source.now c.store_mut.result.now c.write_chosen.new.store c.next.new.source (IsMine c.args.self.now.outputs c.args.numbers.now.next) (listed (came ++ entry ∷ rest) (within (came ++ entry ∷ rest) (length came)))
+          c.store_mut.ensures.value (writes-mine (g.S.Store.facts c.store_mut.result.now) (g.S.Store.facts c.write_chosen.new.store) c.args.self.now.outputs c.args.numbers.now.next c.write_chosen.new.numbers.next c.in_ok-write_chosen.ensures.writes) h.apart h.ungathered c.in_err-next.ensures.stays t h.left))
+      | inr past ↦ inl (g.met.C.Cursor.limits_kept c.args.self.now.cursor c.args.source.now mid (still-keeps g.K.KeyOrder.cmp (g.D.DeeperFiles.covers c.args.deeper.now) g.S.Store.facts g.H.HasStore.store_of g.H.HasStore.with_store g.H.HasStore.gathers g.C.Cursor.facts g.C.Cursor.lists g.C.Cursor.keeps g.C.Cursor.limited g.C.Cursor.leaves g.C.Cursor.over
+          c.requires.facts g.met.H.HasStore.replaced g.met.H.HasStore.apart c.requires.gathers g.met.C.Cursor.kept
+          c.args.self.now.cursor c.next.new.self c.args.source.now c.store_mut.result.now c.write_chosen.new.store c.next.new.source (IsMine c.args.self.now.outputs c.args.numbers.now.next)
+          c.store_mut.ensures.value (writes-mine (g.S.Store.facts c.store_mut.result.now) (g.S.Store.facts c.write_chosen.new.store) c.args.self.now.outputs c.args.numbers.now.next c.write_chosen.new.numbers.next c.in_ok-write_chosen.ensures.writes) h.apart h.ungathered c.in_err-next.ensures.stays t) past)
+    ])
+    (λ u. u)
     (refuses-moving c.in_err-next.field-0.0 (g.C.Cursor.facts mid) (g.C.Cursor.facts c.next.new.source) b d (ListsNone g.C.Cursor.lists c.args.self.now.cursor mid) (g.C.Cursor.limited c.args.self.now.cursor mid) spent
-    (c.requires.facts mid ∙ ap g.S.Store.facts (g.met.H.HasStore.replaced c.args.source.now c.write_chosen.new.store)) (c.requires.facts c.next.new.source) c.in_err-next.ensures.refused))
+    (c.requires.facts mid ∙ ap g.S.Store.facts (g.met.H.HasStore.replaced c.args.source.now c.write_chosen.new.store)) (c.requires.facts c.next.new.source) c.in_err-next.ensures.still c.in_err-next.ensures.refused))
+
+pub returns-clause-stood : goal.returns-clause-stood
+returns-clause-stood g c =
+    still-move g.K.KeyOrder.cmp (g.D.DeeperFiles.covers c.args.deeper.now) g.S.Store.facts g.H.HasStore.store_of g.H.HasStore.with_store g.H.HasStore.gathers g.C.Cursor.facts g.C.Cursor.lists g.C.Cursor.keeps g.C.Cursor.limited g.C.Cursor.leaves g.C.Cursor.over
+    c.requires.facts g.met.H.HasStore.replaced g.met.H.HasStore.apart c.requires.gathers g.met.C.Cursor.kept
+    c.args.source.now c.store_mut.result.now c.write_chosen.new.store c.next.new.source c.store_mut.ensures.value c.in_ok-write_chosen.ensures.stood c.in_ok-next.ensures.still
+
+pub returns-clause-limits : goal.returns-clause-limits
+returns-clause-limits g c = λ came entry rest t h past.
+    let mid = g.H.HasStore.with_store c.args.source.now c.write_chosen.new.store in
+    g.met.C.Cursor.limits_kept c.args.self.now.cursor c.args.source.now mid (still-keeps g.K.KeyOrder.cmp (g.D.DeeperFiles.covers c.args.deeper.now) g.S.Store.facts g.H.HasStore.store_of g.H.HasStore.with_store g.H.HasStore.gathers g.C.Cursor.facts g.C.Cursor.lists g.C.Cursor.keeps g.C.Cursor.limited g.C.Cursor.leaves g.C.Cursor.over
+    c.requires.facts g.met.H.HasStore.replaced g.met.H.HasStore.apart c.requires.gathers g.met.C.Cursor.kept
+    c.args.self.now.cursor c.next.new.self c.args.source.now c.store_mut.result.now c.write_chosen.new.store c.next.new.source (IsMine c.args.self.now.outputs c.args.numbers.now.next)
+    c.store_mut.ensures.value (writes-mine (g.S.Store.facts c.store_mut.result.now) (g.S.Store.facts c.write_chosen.new.store) c.args.self.now.outputs c.args.numbers.now.next c.write_chosen.new.numbers.next c.in_ok-write_chosen.ensures.writes) h.apart h.ungathered c.in_ok-next.ensures.stays t)
+    (c.in_ok-next.ensures.stays.limit (subst (λ (f : Facts). IsTrue f.faithful) (sym (c.requires.facts c.next.new.source)) t) past)

@@ -1,14 +1,15 @@
-use Rattle.std.proofs.Common.{IsTrue, ◌≤◌, ◌^◌, ◌≡◌, ◌++◌, ◌∷◌, [], is_some, List, length, refl, sym, ap, subst, ◌∙◌, arith}
+use Rattle.std.proofs.Common.{IsTrue, ◌≤◌, ◌^◌, ◌≡◌, ◌++◌, ◌∷◌, [], is_some, ◌⊎◌, List, map, length, inl, inr, refl, sym, ap, subst, ◌∙◌, arith}
 use Rattle.std.proofs.lemmas.List.{append_assoc, append-nil}
 use Rattle.cursor.specs.Merging.{listed}
 use Rattle.cursor.specs.Places.{within}
 use Rattle.store.specs.Files.{Facts}
-use Rattle.ikey.specs.Entries.{InternalEntry}
+use Rattle.ikey.specs.Entries.{InternalEntry, entry_of}
 use Rattle.std.proofs.lemmas.Result.{err_from_is_err_and}
-use Rattle.compact.specs.Merging.{IsBetween, HaveOwnSequences}
-use Rattle.compact.specs.Outputs.{IsMine}
+use Rattle.compact.specs.Merging.{IsBetween, IsLimited, HaveOwnSequences}
+use Rattle.compact.specs.Rooms.{AreLarge}
+use Rattle.compact.specs.Outputs.{IsMineUpTo}
 use Rattle.compact.proofs.Jobs.{job-more, job-all}
-use Rattle.compact.proofs.Merges.{writes-on}
+use Rattle.compact.proofs.Merges.{mine-on, writes-on}
 use Rattle.compact.proofs.Passing.{some-left, none-left, not-ended, front-more, longer, not-true, not-false}
 use Rattle.compact.proofs.Writing.{refuses-as, writes-nothing}
 use Rattle.compact.proofs.Numbered.{numbers-same, numbers-then}
@@ -32,17 +33,21 @@ loop-merged-preserved g c =
             found.1,
             front-more rest front at.1 found.1 entry at.2 found.2,
             longer front entry c.loop-merged.merged at.3,
-            job-all g.K.KeyOrder.cmp (g.D.DeeperFiles.covers c.args.deeper.now) g.S.Store.facts g.H.HasStore.store_of g.H.HasStore.with_store g.C.Cursor.lists g.C.Cursor.keeps
+            job-all g.K.KeyOrder.cmp (g.D.DeeperFiles.covers c.args.deeper.now) g.S.Store.facts g.H.HasStore.store_of g.H.HasStore.with_store g.H.HasStore.gathers g.C.Cursor.lists g.C.Cursor.keeps g.C.Cursor.over
                 c.merge_one.new.self c.merge_one.new.source c.merge_one.new.numbers.next ((came ++ front) ++ entry ∷ []) (came ++ (front ++ entry ∷ [])) found.1 (append_assoc came front (entry ∷ []))
                 (c.in_ok-merge_one.ensures.merged (came ++ front) entry found.1 t
-                (job-more g.K.KeyOrder.cmp (g.D.DeeperFiles.covers c.args.deeper.now) g.S.Store.facts g.H.HasStore.store_of g.H.HasStore.with_store g.C.Cursor.lists g.C.Cursor.keeps
+                (job-more g.K.KeyOrder.cmp (g.D.DeeperFiles.covers c.args.deeper.now) g.S.Store.facts g.H.HasStore.store_of g.H.HasStore.with_store g.H.HasStore.gathers g.C.Cursor.lists g.C.Cursor.keeps g.C.Cursor.over
                 c.loop-merged.self c.loop-merged.source c.loop-merged.numbers.next (came ++ front) at.1 (entry ∷ found.1) found.2 at.4)),
+            (λ past. at.5 (c.in_ok-merge_one.ensures.limits (came ++ front) entry found.1 t
+                (job-more g.K.KeyOrder.cmp (g.D.DeeperFiles.covers c.args.deeper.now) g.S.Store.facts g.H.HasStore.store_of g.H.HasStore.with_store g.H.HasStore.gathers g.C.Cursor.lists g.C.Cursor.keeps g.C.Cursor.over
+                c.loop-merged.self c.loop-merged.source c.loop-merged.numbers.next (came ++ front) at.1 (entry ∷ found.1) found.2 at.4) past)),
           )),
-      (λ n is. inv.3 n (c.in_ok-merge_one.ensures.mine n is)),
-      writes-on a b d c.args.self.now.outputs c.loop-merged.self.outputs c.args.numbers.now.next c.loop-merged.numbers.next inv.3 inv.4 c.in_ok-merge_one.ensures.writes,
+      mine-on c.args.self.now.outputs c.loop-merged.self.outputs c.merge_one.new.self.outputs c.args.numbers.now.next c.loop-merged.numbers.next c.merge_one.new.numbers.next inv.0 c.in_ok-merge_one.ensures.numbers inv.3 c.in_ok-merge_one.ensures.mine,
+      writes-on a b d c.args.self.now.outputs c.loop-merged.self.outputs c.args.numbers.now.next c.loop-merged.numbers.next c.merge_one.new.numbers.next inv.0 c.in_ok-merge_one.ensures.numbers inv.3 inv.4 c.in_ok-merge_one.ensures.writes,
       c.in_ok-merge_one.ensures.plan ∙ inv.5,
       omega (arith, inv.6, c.in_ok-merge_one.ensures.drawn),
       numbers-then c.args.self.now.outputs c.loop-merged.self.outputs c.merge_one.new.self.outputs c.args.numbers.now.next c.loop-merged.numbers.next c.merge_one.new.numbers.next inv.0 inv.7 c.in_ok-merge_one.ensures.numbered,
+      c.in_ok-merge_one.ensures.stood ∙ inv.8,
     )
 
 pub loop-merged-init : goal.loop-merged-init
@@ -55,20 +60,22 @@ loop-merged-init g c =
         rest,
         refl,
         refl,
-        job-all g.K.KeyOrder.cmp (g.D.DeeperFiles.covers c.args.deeper.now) g.S.Store.facts g.H.HasStore.store_of g.H.HasStore.with_store g.C.Cursor.lists g.C.Cursor.keeps
+        job-all g.K.KeyOrder.cmp (g.D.DeeperFiles.covers c.args.deeper.now) g.S.Store.facts g.H.HasStore.store_of g.H.HasStore.with_store g.H.HasStore.gathers g.C.Cursor.lists g.C.Cursor.keeps g.C.Cursor.over
             c.args.self.now c.args.source.now c.args.numbers.now.next came (came ++ []) rest (sym (append-nil came)) h,
+        λ past. past,
       )),
-      (λ n is. is),
-      writes-nothing a (IsMine c.args.self.now.outputs c.args.numbers.now.next),
+      (λ n is. inl is),
+      writes-nothing a (IsMineUpTo c.args.self.now.outputs c.args.numbers.now.next c.args.numbers.now.next),
       refl,
       omega arith,
       numbers-same c.args.self.now.outputs c.args.numbers.now.next,
+      refl,
     )
 
 pub returns-in_err-merge_one-clause-writes : goal.returns-in_err-merge_one-clause-writes
 returns-in_err-merge_one-clause-writes g c =
     writes-on (g.S.Store.facts (g.H.HasStore.store_of c.args.source.now)) (g.S.Store.facts (g.H.HasStore.store_of c.loop-merged.source)) (g.S.Store.facts (g.H.HasStore.store_of c.merge_one.new.source))
-    c.args.self.now.outputs c.loop-merged.self.outputs c.args.numbers.now.next c.loop-merged.numbers.next c.loop-merged.invariant.3 c.loop-merged.invariant.4 c.in_err-merge_one.ensures.writes
+    c.args.self.now.outputs c.loop-merged.self.outputs c.args.numbers.now.next c.loop-merged.numbers.next c.merge_one.new.numbers.next c.loop-merged.invariant.0 c.in_err-merge_one.ensures.numbers c.loop-merged.invariant.3 c.loop-merged.invariant.4 c.in_err-merge_one.ensures.writes
 
 pub returns-then-not-stands-clause-sliced : goal.returns-then-not-stands-clause-sliced
 returns-then-not-stands-clause-sliced g c = λ came rest t h.
@@ -112,16 +119,36 @@ returns-in_err-merge_one-clause-refused g c =
     let p = err_from_is_err_and c.from_residual.result c.from_residual.ensures.1 in
     rw (p.1, p.2) (refuses-as c.in_err-merge_one.field-0.0 a b d
     (IsTrue d.faithful → (came : List InternalEntry) (entry : InternalEntry) (rest : List InternalEntry)
-    → IsBetween g.K.KeyOrder.cmp (g.D.DeeperFiles.covers c.args.deeper.now) g.S.Store.facts g.H.HasStore.store_of g.H.HasStore.with_store g.C.Cursor.lists g.C.Cursor.keeps c.loop-merged.self c.loop-merged.source c.loop-merged.numbers.next came (entry ∷ rest) → HaveOwnSequences (came ++ entry ∷ rest) → ⊥) (Unit {0}) spent
+    → IsBetween g.K.KeyOrder.cmp (g.D.DeeperFiles.covers c.args.deeper.now) g.S.Store.facts g.H.HasStore.store_of g.H.HasStore.with_store g.H.HasStore.gathers g.C.Cursor.lists g.C.Cursor.keeps g.C.Cursor.over c.loop-merged.self c.loop-merged.source c.loop-merged.numbers.next came (entry ∷ rest) → HaveOwnSequences (came ++ entry ∷ rest) → ⊥) _ spent
     (IsTrue d.faithful → (came : List InternalEntry) (rest : List InternalEntry)
-    → IsBetween g.K.KeyOrder.cmp (g.D.DeeperFiles.covers c.args.deeper.now) g.S.Store.facts g.H.HasStore.store_of g.H.HasStore.with_store g.C.Cursor.lists g.C.Cursor.keeps c.args.self.now c.args.source.now c.args.numbers.now.next came rest → HaveOwnSequences (came ++ rest) → ⊥) (Unit {0}) spent
-    inv.4.failures
+    → IsBetween g.K.KeyOrder.cmp (g.D.DeeperFiles.covers c.args.deeper.now) g.S.Store.facts g.H.HasStore.store_of g.H.HasStore.with_store g.H.HasStore.gathers g.C.Cursor.lists g.C.Cursor.keeps g.C.Cursor.over c.args.self.now c.args.source.now c.args.numbers.now.next came rest → HaveOwnSequences (came ++ rest) → ⊥)
+    (IsTrue d.faithful → (came : List InternalEntry) (rest : List InternalEntry)
+    → IsBetween g.K.KeyOrder.cmp (g.D.DeeperFiles.covers c.args.deeper.now) g.S.Store.facts g.H.HasStore.store_of g.H.HasStore.with_store g.H.HasStore.gathers g.C.Cursor.lists g.C.Cursor.keeps g.C.Cursor.over c.args.self.now c.args.source.now c.args.numbers.now.next came rest
+    → IsLimited g.C.Cursor.limited c.args.self.now c.args.source.now ⊎ AreLarge (map entry_of (came ++ rest))) spent
+    inv.8
     (λ none t came rest h own.
     let at = inv.2 came rest (c.in_err-merge_one.ensures.writes.faithful t) h in
     let all = (came ++ at.0) ++ at.1 in
     let found = some-left (came ++ at.0) at.1
     (sym (g.met.C.Cursor.placed c.loop-merged.self.cursor c.loop-merged.source (listed all (within all (length (came ++ at.0)))) at.4.left) ∙ sym c.stands.ensures ∙ c.if-not-stands.false) in
     none t (came ++ at.0) found.0 found.1
-    (job-more g.K.KeyOrder.cmp (g.D.DeeperFiles.covers c.args.deeper.now) g.S.Store.facts g.H.HasStore.store_of g.H.HasStore.with_store g.C.Cursor.lists g.C.Cursor.keeps c.loop-merged.self c.loop-merged.source c.loop-merged.numbers.next (came ++ at.0) at.1 (found.0 ∷ found.1) found.2 at.4)
+    (job-more g.K.KeyOrder.cmp (g.D.DeeperFiles.covers c.args.deeper.now) g.S.Store.facts g.H.HasStore.store_of g.H.HasStore.with_store g.H.HasStore.gathers g.C.Cursor.lists g.C.Cursor.keeps g.C.Cursor.over c.loop-merged.self c.loop-merged.source c.loop-merged.numbers.next (came ++ at.0) at.1 (found.0 ∷ found.1) found.2 at.4)
     (subst HaveOwnSequences (ap (λ (l : List InternalEntry). came ++ l) (at.2 ∙ ap (λ (l : List InternalEntry). at.0 ++ l) found.2) ∙ sym (append_assoc came at.0 (found.0 ∷ found.1))) own))
-    (λ u. u) (λ u. u) c.in_err-merge_one.ensures.refused)
+    (λ long t came rest h.
+    let at = inv.2 came rest (c.in_err-merge_one.ensures.writes.faithful t) h in
+    let all = (came ++ at.0) ++ at.1 in
+    let found = some-left (came ++ at.0) at.1
+    (sym (g.met.C.Cursor.placed c.loop-merged.self.cursor c.loop-merged.source (listed all (within all (length (came ++ at.0)))) at.4.left) ∙ sym c.stands.ensures ∙ c.if-not-stands.false) in
+    elim (long t (came ++ at.0) found.0 found.1
+    (job-more g.K.KeyOrder.cmp (g.D.DeeperFiles.covers c.args.deeper.now) g.S.Store.facts g.H.HasStore.store_of g.H.HasStore.with_store g.H.HasStore.gathers g.C.Cursor.lists g.C.Cursor.keeps g.C.Cursor.over c.loop-merged.self c.loop-merged.source c.loop-merged.numbers.next (came ++ at.0) at.1 (found.0 ∷ found.1) found.2 at.4)) [
+      | inl past ↦ inl (at.5 past)
+      | inr many ↦ inr (subst (λ (es : List InternalEntry). AreLarge (map entry_of es))
+          (append_assoc came at.0 (found.0 ∷ found.1) ∙ ap (λ (l : List InternalEntry). came ++ l) (ap (λ (l : List InternalEntry). at.0 ++ l) (sym found.2) ∙ sym at.2)) many)
+    ])
+    (λ u. u) c.in_err-merge_one.ensures.refused)
+
+pub returns-then-not-stands-clause-limits : goal.returns-then-not-stands-clause-limits
+returns-then-not-stands-clause-limits g c = λ came rest t h past. (c.loop-merged.invariant.2 came rest t h).5 past
+
+pub returns-clause-limits : goal.returns-clause-limits
+returns-clause-limits g c = λ came rest t h past. (c.loop-merged.invariant.2 came rest t h).5 past

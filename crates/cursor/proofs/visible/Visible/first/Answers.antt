@@ -22,13 +22,13 @@ returns-in_err-go_on-clause-moves g c =
     let stayed = c.in_err-go_on.ensures.stayed in
     rw p.1
     (λ t. refused_walk g.K.KeyOrder.cmp g.C.Cursor.lists c.args.self.now.cursor c.args.self.now.sequence c.args.self.now.stands c.args.self.now.position c.args.self.now.here.key.items c.args.self.now.here.value.items c.args.source.now g.C.Cursor.facts g.C.Cursor.keeps g.C.Cursor.limited g.C.Cursor.leaves g.C.Cursor.over c.go_on.new.self.cursor c.go_on.new.self.sequence c.go_on.new.self.stands c.go_on.new.self.position c.go_on.new.self.here.key.items c.go_on.new.self.here.value.items c.go_on.new.source
-    c.go_on.ensures.sequence stayed.stands stayed.position stayed.key (wanders_then g.C.Cursor.facts g.C.Cursor.lists g.C.Cursor.keeps g.C.Cursor.limited g.C.Cursor.leaves g.C.Cursor.over g.met.C.Cursor.onward g.met.C.Cursor.leaves_onward c.args.self.now.cursor c.first.new.self c.go_on.new.self.cursor c.args.source.now c.first.new.source c.go_on.new.source (move_wanders g.C.Cursor.facts g.C.Cursor.lists g.C.Cursor.keeps g.C.Cursor.limited g.C.Cursor.leaves g.C.Cursor.over c.args.self.now.cursor c.first.new.self c.args.source.now c.first.new.source c.first.result _ c.first.ensures.moves c.first.ensures.stays) c.go_on.ensures.wanders) t)
+    c.go_on.ensures.sequence stayed.stands stayed.position stayed.key (wanders_then g.C.Cursor.facts g.C.Cursor.lists g.C.Cursor.keeps g.C.Cursor.limited g.C.Cursor.leaves g.C.Cursor.over g.met.C.Cursor.onward g.C.Cursor.leaves_onward g.C.Cursor.leaves_more c.args.self.now.cursor c.first.new.self c.go_on.new.self.cursor c.args.source.now c.first.new.source c.go_on.new.source (move_wanders g.C.Cursor.facts g.C.Cursor.lists g.C.Cursor.keeps g.C.Cursor.limited g.C.Cursor.leaves g.C.Cursor.over c.args.self.now.cursor c.first.new.self c.args.source.now c.first.new.source c.first.result _ c.first.ensures.moves c.first.ensures.stays) c.go_on.ensures.wanders) t)
 
 pub returns-in_err-go_on-clause-stays : goal.returns-in_err-go_on-clause-stays
-returns-in_err-go_on-clause-stays g c = (wanders_then g.C.Cursor.facts g.C.Cursor.lists g.C.Cursor.keeps g.C.Cursor.limited g.C.Cursor.leaves g.C.Cursor.over g.met.C.Cursor.onward g.met.C.Cursor.leaves_onward c.args.self.now.cursor c.first.new.self c.go_on.new.self.cursor c.args.source.now c.first.new.source c.go_on.new.source (move_wanders g.C.Cursor.facts g.C.Cursor.lists g.C.Cursor.keeps g.C.Cursor.limited g.C.Cursor.leaves g.C.Cursor.over c.args.self.now.cursor c.first.new.self c.args.source.now c.first.new.source c.first.result _ c.first.ensures.moves c.first.ensures.stays) c.go_on.ensures.wanders).stays
+returns-in_err-go_on-clause-stays g c = (wanders_then g.C.Cursor.facts g.C.Cursor.lists g.C.Cursor.keeps g.C.Cursor.limited g.C.Cursor.leaves g.C.Cursor.over g.met.C.Cursor.onward g.C.Cursor.leaves_onward g.C.Cursor.leaves_more c.args.self.now.cursor c.first.new.self c.go_on.new.self.cursor c.args.source.now c.first.new.source c.go_on.new.source (move_wanders g.C.Cursor.facts g.C.Cursor.lists g.C.Cursor.keeps g.C.Cursor.limited g.C.Cursor.leaves g.C.Cursor.over c.args.self.now.cursor c.first.new.self c.args.source.now c.first.new.source c.first.result _ c.first.ensures.moves c.first.ensures.stays) c.go_on.ensures.wanders).stays
 
 pub returns-clause-stays : goal.returns-clause-stays
-returns-clause-stays g c = (wanders_then g.C.Cursor.facts g.C.Cursor.lists g.C.Cursor.keeps g.C.Cursor.limited g.C.Cursor.leaves g.C.Cursor.over g.met.C.Cursor.onward g.met.C.Cursor.leaves_onward c.args.self.now.cursor c.first.new.self c.go_on.new.self.cursor c.args.source.now c.first.new.source c.go_on.new.source (move_wanders g.C.Cursor.facts g.C.Cursor.lists g.C.Cursor.keeps g.C.Cursor.limited g.C.Cursor.leaves g.C.Cursor.over c.args.self.now.cursor c.first.new.self c.args.source.now c.first.new.source c.first.result _ c.first.ensures.moves c.first.ensures.stays) c.go_on.ensures.wanders).stays
+returns-clause-stays g c = (wanders_then g.C.Cursor.facts g.C.Cursor.lists g.C.Cursor.keeps g.C.Cursor.limited g.C.Cursor.leaves g.C.Cursor.over g.met.C.Cursor.onward g.C.Cursor.leaves_onward g.C.Cursor.leaves_more c.args.self.now.cursor c.first.new.self c.go_on.new.self.cursor c.args.source.now c.first.new.source c.go_on.new.source (move_wanders g.C.Cursor.facts g.C.Cursor.lists g.C.Cursor.keeps g.C.Cursor.limited g.C.Cursor.leaves g.C.Cursor.over c.args.self.now.cursor c.first.new.self c.args.source.now c.first.new.source c.first.result _ c.first.ensures.moves c.first.ensures.stays) c.go_on.ensures.wanders).stays
 
 pub returns-in_err-go_on-clause-refused : goal.returns-in_err-go_on-clause-refused
 returns-in_err-go_on-clause-refused g c =
