@@ -21,13 +21,13 @@ use Rattle.recover.specs.Tables.{TableContent, HasTable, InTables}
 use Rattle.recover.specs.Directory.{Directory}
 use Rattle.recover.specs.Changes.{SameManifestLaw}
 use Rattle.recover.proofs.Memberships.{from_rest, in_part, one_of_tables}
-use Rattle.compact.specs.Outputs.{Written, AreNumbered, IsNumberAtHand, IsOwn, RefusesEntry, WritesTables}
+use Rattle.compact.specs.Outputs.{Written, AreNumbered, IsNumberAtHand, IsOwn, WritesTables}
 use Rattle.compact.specs.JobEdits.{IsOwnIn}
 use Rattle.compact.specs.declared.job.Job.{Job}
 use Rattle.upkeep.specs.Calls.{Touches}
 use Rattle.upkeep.specs.Compactions.{placed_in}
 use Rattle.upkeep.specs.Flush.{IsCorrupt, edit_refusal}
-use Rattle.upkeep.specs.Install.{AreOldOrOwn, CanInstall, HasNoRoom, HasPreparedJob, InstallLeaves, InstallMeans, InstallTouches, IsJobEdit}
+use Rattle.upkeep.specs.Install.{AreOldOrOwn, CanInstall, HasPreparedJob, InstallLeaves, InstallMeans, InstallTouches, IsJobEdit, RefusesEdit}
 use Rattle.upkeep.specs.Manifest.{AppendsEdit}
 use Rattle.upkeep.specs.declared.flush.FlushError.TheVariants.{Before}
 use Rattle.upkeep.specs.declared.install.PreparedJob.{PreparedJob}
@@ -94,16 +94,16 @@ module _ {K C : Type 0} (order : Order) (job : Job K C) (next last_sequence : �
         astray (placed_in d.tables) (placed_in put.1) can.served.listed (subst A (sym can.served.consistent.placed) put.2.after)
         (are_apart order total mid.files put.1 has (lie_apart order d layout inputs rest put.0 put.1 job.plan.output_level whole can.served.consistent.apart) (low_levels next (placed_in put.1) kept.0) kept.1)
 
-    not_corrupt : IsTotalOrder order.cmp → (too_long spent : Type 0) (e : DbError) → RefusesEntry e old mid (HasNoRoom order.cmp job old mid next last_sequence tables) too_long spent → IsCorrupt e → ⊥
-    not_corrupt total too_long spent (Corrupt file what) h c = not_astray total h.0 h.1 h.2
-    not_corrupt total too_long spent e h c = absurd c
+    not_corrupt : IsTotalOrder order.cmp → (e : DbError) → RefusesEdit e order.cmp job old mid next last_sequence tables → IsCorrupt e → ⊥
+    not_corrupt total (Corrupt file what) h c = not_astray total h.0 h.1 h.2
+    not_corrupt total e h c = absurd c
 
   -- ---- how the call may end
 
-  pub leaves_none : IsTotalOrder order.cmp → (tables : List PlacedTable) (too_long spent : Type 0) (e : DbError) → RefusesEntry e old mid (HasNoRoom order.cmp job old mid next last_sequence tables) too_long spent
+  pub leaves_none : IsTotalOrder order.cmp → (tables : List PlacedTable) (e : DbError) → RefusesEdit e order.cmp job old mid next last_sequence tables
       → InstallLeaves order job old mid next last_sequence manifest tables (Err (Before e))
-  leaves_none total tables too_long spent e why f deep came d inputs rest can = (
-    not_corrupt f deep tables came d inputs rest can total too_long spent e why,
+  leaves_none total tables e why f deep came d inputs rest can = (
+    not_corrupt f deep tables came d inputs rest can total e why,
     uninstalled order job next last_sequence fits numbered old mid w f deep manifest tables came d inputs rest can,
   )
 

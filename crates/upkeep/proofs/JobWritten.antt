@@ -25,8 +25,8 @@ use Rattle.recover.specs.Numbers.{IsFree, NamesBelow, number_of}
 use Rattle.recover.specs.Laws.{Agree}
 use Rattle.recover.proofs.Adding.{table_of}
 use Rattle.recover.proofs.Keeping.{keep_manifest, free_change}
-use Rattle.compact.specs.Outputs.{Filling, Written, AreNumbered, IsNext, IsNumberAtHand, WritesTables}
-use Rattle.upkeep.specs.JobWrites.{IsMineUpTo, OwnsNone, KeepsOtherTables, JobWritesLaw, FreeNumberLaw}
+use Rattle.compact.specs.Outputs.{Filling, Written, AreNumbered, IsMineUpTo, IsNext, IsNumberAtHand, WritesTables}
+use Rattle.upkeep.specs.JobWrites.{OwnsNone, KeepsOtherTables, JobWritesLaw, FreeNumberLaw}
 use Rattle.upkeep.proofs.JobTables.{number_apart}
 use Rattle.upkeep.proofs.TableFiles.{below_placed, end_kept}
 

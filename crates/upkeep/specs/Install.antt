@@ -5,6 +5,7 @@ use Rattle.std.specs.FinMap.{get}
 use Rattle.std.specs.List.{AllByRecursion, Contains}
 use Rattle.std.specs.List.Sorted.{IsPermutation}
 use Rattle.std.specs.declared.cmp.Ordering.{Ordering}
+use Rattle.coding.specs.declared.error.DbError.{DbError}
 use Rattle.ikey.specs.Entries.{InternalEntry, entry_of}
 use Rattle.ikey.specs.Orders.{Order}
 use Rattle.ikey.specs.Sources.{SameEntries}
@@ -27,6 +28,7 @@ use Rattle.compact.specs.JobEdits.{IsOwnIn}
 use Rattle.compact.specs.Laws.{AreApart}
 use Rattle.compact.specs.Merging.{IsMerging, IsFinished}
 use Rattle.compact.specs.Outputs.{Written, IsNumberAtHand, IsOwn, RefusesEntry, table_name}
+use Rattle.compact.specs.Rooms.{AreLarge}
 use Rattle.compact.specs.declared.job.Job.{Job}
 use Rattle.upkeep.specs.Compactions.{placed_in, IsJobPut, AreSeenAlike}
 use Rattle.upkeep.specs.Flush.{IsCorrupt, KeepsParts, PassesNoLimit}
@@ -61,11 +63,19 @@ pub record IsJobEdit {K C : Type 0} (cmp : List ℕ → List ℕ → Ordering) (
 abbrev pub HasNoRoom : {K C : Type 0} → (List ℕ → List ℕ → Ordering) → Job K C → Facts → Facts → ℕ → ℕ → List PlacedTable → Type 0
 HasNoRoom cmp job old new next last_sequence tables = (edit : List Field) × IsJobEdit cmp job old new next last_sequence edit × LeadsAstray cmp (after_edit edit) tables
 
--- Why a job wasn't installed: for a reason for which a table isn't ended, where the version has no room, or since the device
--- failed at the edit.
-abbrev pub RefusesInstall : FlushError → Facts → Facts → Type 0 → Type 0 → Type 0
-RefusesInstall (Before e) old new no_room too_long = RefusesEntry e old new no_room too_long ⊥
-RefusesInstall Edit old new no_room too_long = old.failures < new.failures
+-- over what the job has merged a block may be too long to be read
+abbrev pub MayBeTooLong : {K C : Type 0} → (List ℕ → List ℕ → Ordering) → Job K C → Facts → ℕ → Type 0
+MayBeTooLong cmp job old next =
+    (deep : List ℕ → Bool) (came : List InternalEntry) → IsMerging cmp deep job.last.items job.selection job.outputs old next came → AreLarge (map entry_of came)
+
+-- Why no edit is ready: for a reason for which a table isn't ended, or where the version has no room.
+abbrev pub RefusesEdit : {K C : Type 0} → DbError → (List ℕ → List ℕ → Ordering) → Job K C → Facts → Facts → ℕ → ℕ → List PlacedTable → Type 0
+RefusesEdit e cmp job old new next last_sequence tables = RefusesEntry e old new (HasNoRoom cmp job old new next last_sequence tables) (MayBeTooLong cmp job old next) ⊥
+
+-- Why a job wasn't installed: for one of these reasons, or since the device failed at the edit.
+abbrev pub RefusesInstall : {K C : Type 0} → FlushError → (List ℕ → List ℕ → Ordering) → Job K C → Facts → Facts → ℕ → ℕ → List PlacedTable → Type 0
+RefusesInstall (Before e) cmp job old new next last_sequence tables = RefusesEdit e cmp job old new next last_sequence tables
+RefusesInstall Edit cmp job old new next last_sequence tables = old.failures < new.failures
 
 -- each of these tables is an old one, or has a number that is the job's
 abbrev pub AreOldOrOwn : Written → List PlacedTable → List PlacedTable → Type 0

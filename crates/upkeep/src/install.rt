@@ -4,8 +4,8 @@ ghost use Rattle.std.specs.Prelude.{◌≡◌, ◌<◌, ◌^◌, IfOk, IfErr, Is
 ghost use Rattle.std.specs.FinMap.{get};
 ghost use Rattle.ikey.specs.Orders.{order_of};
 ghost use Rattle.compact.specs.JobEdits.{IsPlanProper};
-ghost use Rattle.compact.specs.Outputs.{AreNumbered, IsNumberAtHand, RefusesEntry, WritesTables};
-ghost use Rattle.upkeep.specs.Install.{HasJobVersion, HasNoRoom, HasPreparedJob, InstallLeaves, InstallTouches, RefusesInstall};
+ghost use Rattle.compact.specs.Outputs.{AreNumbered, IsNumberAtHand, WritesTables};
+ghost use Rattle.upkeep.specs.Install.{HasJobVersion, HasPreparedJob, InstallLeaves, InstallTouches, RefusesEdit, RefusesInstall};
 
 use crate::flush::{FlushError, edit_refusal, version_after};
 use crate::manifest::{CurrentManifest, append_edit};
@@ -54,7 +54,8 @@ pub fn install_job<K: KeyOrder, C: Drop, S: Store>(
     requires plan { IsPlanProper job.plan }
     requires numbered { AreNumbered job.outputs numbers.now.next }
     ensures call { InstallTouches (S.facts store.old) (S.facts store.new) job.outputs (string_bytes manifest.now.name) }
-    ensures refused { IfErr result (λ error. RefusesInstall error (S.facts store.old) (S.facts store.new) (HasNoRoom K.cmp job (S.facts store.old) (S.facts store.new) numbers.now.next last_sequence version.now.tables) (Unit {0})) }
+    ensures stood { OnOk result ((S.facts store.new).failures ≡ (S.facts store.old).failures) }
+    ensures refused { IfErr result (λ error. RefusesInstall error K.cmp job (S.facts store.old) (S.facts store.new) numbers.now.next last_sequence version.now.tables) }
     ensures version { IfOk result (λ installed. HasJobVersion K.cmp job.outputs version.now installed.version.value) }
     ensures synced { OnOk result (IsTrue (S.facts store.new).faithful → (S.facts store.new).synced (string_bytes manifest.now.name) ≡ get (S.facts store.new).files (string_bytes manifest.now.name)) }
     ensures leaves { InstallLeaves (order_of K.name K.cmp) job (S.facts store.old) (S.facts store.new) numbers.now.next last_sequence manifest.now version.now.tables result }
@@ -86,7 +87,8 @@ fn prepare_job<K: KeyOrder, C: Drop, S: Store>(
     requires plan { IsPlanProper job.plan }
     requires numbered { AreNumbered job.outputs numbers.now.next }
     ensures writes { WritesTables (S.facts store.old) (S.facts store.new) (IsNumberAtHand job.outputs) }
-    ensures refused { IfErr result (λ error. RefusesEntry error (S.facts store.old) (S.facts store.new) (HasNoRoom K.cmp job (S.facts store.old) (S.facts store.new) numbers.now.next last_sequence version.now.tables) (Unit {0}) ⊥) }
+    ensures stood { OnOk result ((S.facts store.new).failures ≡ (S.facts store.old).failures) }
+    ensures refused { IfErr result (λ error. RefusesEdit error K.cmp job (S.facts store.old) (S.facts store.new) numbers.now.next last_sequence version.now.tables) }
     ensures prepared { IfOk result (λ prepared. HasPreparedJob K.cmp job (S.facts store.old) (S.facts store.new) numbers.now.next last_sequence version.now prepared) }
 {
     let edit = job.finish(alloc, store, numbers, last_sequence)?;

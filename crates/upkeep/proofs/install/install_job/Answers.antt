@@ -8,7 +8,7 @@ use Rattle.upkeep.proofs.install.install_job.Goals as goal
 pub returns-in-Err-clause-leaves : goal.returns-in-Err-clause-leaves
 returns-in-Err-clause-leaves g c =
     leaves_none (order_of g.K.KeyOrder.name g.K.KeyOrder.cmp) c.args.job c.args.numbers.now.next c.args.last_sequence c.args.numbers.now.in_range.1 c.requires.numbered (g.S.Store.facts c.args.store.now) (g.S.Store.facts c.prepare_job.new.store)
-    c.in-Err.ensures.writes c.args.manifest.now g.met.K.KeyOrder.total c.args.version.now.tables _ _ c.in-Err.error c.in-Err.ensures.refused
+    c.in-Err.ensures.writes c.args.manifest.now g.met.K.KeyOrder.total c.args.version.now.tables c.in-Err.error c.in-Err.ensures.refused
 
 pub returns-in-Ok-append_edit-clause-call : goal.returns-in-Ok-append_edit-clause-call
 returns-in-Ok-append_edit-clause-call g c =
