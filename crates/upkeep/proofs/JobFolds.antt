@@ -52,7 +52,7 @@ all_map : {X : Type 0} (P : Field → Type 0) (f : X → Field) → ((x : X) →
 all_map P f h [] = tt
 all_map P f h (x ∷ xs) = (h x, all_map P f h xs)
 
-front_all : (P : Field → Type 0) (level next last : ℕ) (pointer : Option (List ℕ)) → P (NextFileNumber next) → P (LastSequence last) → ((key : List ℕ) → P (CompactPointer (level - 1) key)) → AllByRecursion P (front_of level next last pointer)
+pub front_all : (P : Field → Type 0) (level next last : ℕ) (pointer : Option (List ℕ)) → P (NextFileNumber next) → P (LastSequence last) → ((key : List ℕ) → P (CompactPointer (level - 1) key)) → AllByRecursion P (front_of level next last pointer)
 front_all P level next last pointer a b c = by_pointer (λ more. AllByRecursion P (NextFileNumber next ∷ LastSequence last ∷ more)) level pointer (a, (b, tt)) (λ key. (a, (b, (c key, tt))))
 
 -- ---- one edit more

@@ -107,7 +107,7 @@ sorted_front : (order : Order) (xs ys : List Entry) → AreSorted order (xs ++ y
 sorted_front order [] ys h = tt
 sorted_front order (x ∷ xs) ys h = ((λ other i. h.0 other (among_front xs ys other i)), sorted_front order xs ys h.1)
 
-sorted_back : (order : Order) (xs ys : List Entry) → AreSorted order (xs ++ ys) → AreSorted order ys
+pub sorted_back : (order : Order) (xs ys : List Entry) → AreSorted order (xs ++ ys) → AreSorted order ys
 sorted_back order [] ys h = h
 sorted_back order (x ∷ xs) ys h = sorted_back order xs ys h.1
 

@@ -20,13 +20,13 @@ use Rattle.versions.proofs.Pairs.{among_contained}
 use Rattle.versions.proofs.Sets.{used_in}
 use Rattle.recover.specs.Tables.{TableContent, table_at}
 use Rattle.recover.specs.Directory.{Directory, IsConsistent}
-use Rattle.recover.specs.Changes.{ManifestEndsAt}
+use Rattle.recover.specs.Changes.{AgreeBeside, ManifestEndsAt}
 use Rattle.recover.specs.Numbers.{IsFree, NamesBelow, number_of}
 use Rattle.recover.specs.Laws.{Agree}
 use Rattle.recover.proofs.Adding.{table_of}
 use Rattle.recover.proofs.Keeping.{keep_manifest, free_change}
-use Rattle.compact.specs.Outputs.{Filling, Written, AreNumbered, IsNext, IsNumberAtHand, WritesTables}
-use Rattle.upkeep.specs.JobWrites.{IsMineUpTo, OwnsNone, KeepsOtherTables, JobWritesLaw, FreeNumberLaw}
+use Rattle.compact.specs.Outputs.{Filling, Written, AreNumbered, IsMineUpTo, IsNext, IsNumberAtHand, WritesTables}
+use Rattle.upkeep.specs.JobWrites.{OwnsNone, KeepsOtherTables, JobWritesLaw, FreeNumberLaw}
 use Rattle.upkeep.proofs.JobTables.{number_apart}
 use Rattle.upkeep.proofs.TableFiles.{below_placed, end_kept}
 
@@ -126,10 +126,13 @@ module _ (order : Order) (old new : Facts) (mine : ℕ → Type 0) (f : IsTrue n
       length = e.length;
     }
 
+    pub beside_written : AgreeBeside old.files new.files d
+    beside_written = record { logs = agree.logs; tables = agree.tables }
+
     pub keeps_others : (next more : ℕ) → next ≤ more → ((number : ℕ) → mine number → number < more) → IsFree order old.files next → KeepsOtherTables order old.files new.files mine more d
     keeps_others next more le below free = record {
       consistent = free_change order old.files new.files d agree h;
-      log = end_kept order old.files new.files d h (record { logs = agree.logs; tables = agree.tables });
+      log = end_kept order old.files new.files d h beside_written;
       manifest = manifest_ends;
       tables = table_stays;
       free = free_then next more le below free;
@@ -138,7 +141,7 @@ module _ (order : Order) (old new : Facts) (mine : ℕ → Type 0) (f : IsTrue n
 -- ---- what a job writes
 
 -- the number at hand is one below the next
-hand_below : (w : Written) (next number : ℕ) → AreNumbered w next → IsNumberAtHand w number → (0 < number) × (number < next)
+pub hand_below : (w : Written) (next number : ℕ) → AreNumbered w next → IsNumberAtHand w number → (0 < number) × (number < next)
 hand_below w next number h at = by w.at_hand h.at_hand at
   where
     by : (o : Option Filling) → MatchOption o (Unit {0}) (IsNext w.closed next) → MatchOption o ⊥ (λ t. number ≡ t.number) → (0 < number) × (number < next)

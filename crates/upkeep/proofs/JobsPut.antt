@@ -50,7 +50,7 @@ module _ (order : Order) (old new : Files) (number : ℕ) (numbered : IsNumbered
   other_file : (file : FileName) → IsFileName file → (file ≡ Manifest number → ⊥) → get new (name_of file) ≡ get old (name_of file)
   other_file file is apart = others (name_of file) (λ e. apart (one_file file (Manifest number) is numbered e))
 
-  same_table : (n : ℕ) → IsNumbered n → table_at new n ≡ table_at old n
+  pub same_table : (n : ℕ) → IsNumbered n → table_at new n ≡ table_at old n
   same_table n is =
       let newer : get new (name_of (Table n)) ≡ get old (name_of (Table n)) = other_file (Table n) is (λ e. cc) in
       let older : get new (name_of (OldTable n)) ≡ get old (name_of (OldTable n)) = other_file (OldTable n) is (λ e. cc) in

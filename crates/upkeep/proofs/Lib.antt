@@ -1,8 +1,11 @@
+pub mod AfterEdits
 pub mod Cleaning
 pub mod EditSteps
 pub mod Filled
 pub mod FlushEdits
 pub mod Flushes
+pub mod Installing
+pub mod Installs
 pub mod JobFolds
 pub mod JobOutputs
 pub mod JobTables
@@ -20,6 +23,7 @@ pub mod PlansClosed
 pub mod PlansKept
 pub mod PlansMade
 pub mod Ranks
+pub mod Rooms
 pub mod Sizes
 pub mod StoreCalls
 pub mod TableEdits

@@ -69,7 +69,7 @@ count_numbers [] = refl
 count_numbers (p ∷ tables) = ap suc (count_numbers tables)
 
 -- there are few of them
-few_tables : (tables : List PlacedTable) (n : ℕ) → AllPairs (λ (a : PlacedTable) (b : PlacedTable). a.table.number ≢ b.table.number) tables
+pub few_tables : (tables : List PlacedTable) (n : ℕ) → AllPairs (λ (a : PlacedTable) (b : PlacedTable). a.table.number ≢ b.table.number) tables
     → ((p : PlacedTable) → Among p tables → p.table.number < n) → length tables ≤ n
 few_tables tables n pairs below =
     let all : length (numbers_of tables) ≤ n = length-le_from_distinct_below (numbers_of tables) n (distinct_numbers tables pairs)
@@ -101,7 +101,7 @@ one_last xs ys a b e = sym (last_or-push a xs a) ∙ ap (last_or a) e ∙ last_o
 
 -- ---- limits
 
-past_split : (xs ys : List Field) → HasPastLimit (xs ++ ys) → HasPastLimit xs ⊎ HasPastLimit ys
+pub past_split : (xs ys : List Field) → HasPastLimit (xs ++ ys) → HasPastLimit xs ⊎ HasPastLimit ys
 past_split [] ys h = inr h
 past_split (x ∷ xs) ys (inl a) = inl (inl a)
 past_split (x ∷ xs) ys (inr h) = elim (past_split xs ys h) [ inl a ↦ inl (inr a) | inr b ↦ inr b ]

@@ -1,5 +1,5 @@
 -- What the slices of a job leave of a directory (LevelDB's db/db_impl.cc, DoCompactionWork).
-use Rattle.std.specs.Prelude.{◌≡◌, ◌<◌, ◌≤◌, ◌⊎◌, ◌^◌, ℕ, List, IsTrue, false}
+use Rattle.std.specs.Prelude.{◌≡◌, ◌<◌, ◌≤◌, ◌^◌, ℕ, List, IsTrue, false}
 use Rattle.ikey.specs.Orders.{Order}
 use Rattle.store.specs.Files.{Files, Facts}
 use Rattle.edits.specs.Layout.{is_used}
@@ -11,11 +11,7 @@ use Rattle.recover.specs.Tables.{table_at}
 use Rattle.recover.specs.Directory.{Directory, IsConsistent, EndsAt}
 use Rattle.recover.specs.Changes.{ManifestEndsAt}
 use Rattle.recover.specs.Numbers.{IsFree}
-use Rattle.compact.specs.Outputs.{Written, AreNumbered, IsNumberAtHand, IsOwn, WritesTables}
-
--- the number is that of the table at hand, or was drawn since: it is one from `next` on and below `more`
-abbrev pub IsMineUpTo : Written → ℕ → ℕ → ℕ → Type 0
-IsMineUpTo w next more number = IsNumberAtHand w number ⊎ ((next ≤ number) × (number < more))
+use Rattle.compact.specs.Outputs.{Written, AreNumbered, IsMineUpTo, IsOwn, WritesTables}
 
 -- none of these tables has a number that is the job's
 abbrev pub OwnsNone : Written → List PlacedTable → Type 0

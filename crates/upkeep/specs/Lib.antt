@@ -2,6 +2,7 @@ pub mod Calls
 pub mod Compactions
 pub mod Flush
 pub mod FlushEdits
+pub mod Install
 pub mod JobWrites
 pub mod Level0
 pub mod LogFile

@@ -148,7 +148,7 @@ fn prepare<K: KeyOrder, S: Store>(
 }
 
 // The version after an edit. Corrupt, where it has no room for the edit's tables.
-fn version_after<K: KeyOrder>(
+pub(crate) fn version_after<K: KeyOrder>(
     alloc: Global,
     version: &Version<K>,
     edit: &Edit,
@@ -172,7 +172,7 @@ fn version_after<K: KeyOrder>(
 }
 
 // Where the store fails, the edit is in doubt. Out of memory nothing of it is there.
-fn edit_refusal(error: DbError) -> FlushError
+pub(crate) fn edit_refusal(error: DbError) -> FlushError
     ensures { result ≡ edit_refusal error }
 {
     match error {

@@ -6,6 +6,7 @@ mod calls;
 mod compaction_edits;
 mod flush;
 mod flush_edits;
+mod install;
 mod job_writes;
 mod level0;
 mod log_file;
@@ -19,6 +20,7 @@ pub use compaction_edits::{
 };
 pub use flush::{FlushError, FlushPlan, Flushed, flush_memory};
 pub use flush_edits::flush_edit;
+pub use install::{Installed, install_job};
 pub use job_writes::{free_number_law, job_writes_law};
 pub use level0::write_level0;
 pub use log_file::begin_log;
