@@ -23,7 +23,8 @@ use Rattle.scans.specs.declared.scan.Scan.{Scan}
 use Rattle.sources.specs.Tables.{Seen, IsSound, SoundLasts}
 use Rattle.store.specs.Files.{Facts}
 use Rattle.upkeep.specs.Flush.{CanFlush, DrawsTable, FlushMeans, FlushTouches, IsCorrupt, IsFlushed, MayBeFlushed, RefusesFlush, RefusesTable}
-use Rattle.upkeep.specs.Level0.{IsTooLarge, room_of}
+use Rattle.compact.specs.Rooms.{room_of}
+use Rattle.upkeep.specs.Level0.{IsTooLarge}
 use Rattle.upkeep.specs.declared.flush.FlushError.{FlushError}
 use Rattle.upkeep.specs.declared.flush.FlushError.TheVariants.{Before, Edit}
 use Rattle.upkeep.specs.declared.flush.FlushPlan.{FlushPlan}

@@ -62,9 +62,9 @@ within_last order source db m (Some id) sequence serving at = by (kept_at db.sna
 
 -- ---- the machine
 
-module _ {K : Type 0} {g : _} (order : Order) (kept : (scan : Scan K g) → ScanIsKept order.cmp scan) (version : VersionLaw) (total : IsTotalOrder order.cmp) (exact : IsAntisymmetric order.cmp)
+module _ {K : Type 0} {g : _} {numbers : ℕ → Type 0} (order : Order) (kept : (scan : Scan K g) → ScanIsKept order.cmp scan) (version : VersionLaw) (total : IsTotalOrder order.cmp) (exact : IsAntisymmetric order.cmp)
     (old new : Seen) (ids : Ids) (db : Held (Scan K g)) (key : List ℕ) (snapshot : Option ℕ) (sequence below : ℕ) (whole : db.broken ≡ false) (at : sequence_at db snapshot ≡ Some sequence)
-    (clamped : sequence ≤ db.memory.last → below ≡ sequence) (carries : Carries order.cmp old new) where
+    (clamped : sequence ≤ db.memory.last → below ≡ sequence) (carries : Carries order.cmp numbers old new) where
   pub tables_read : FrontLaw → BehindLaw → SameViewLaw → IsUnseen (logged_in db.memory) sequence key → (answer : Option (Option (List ℕ))) → SaysOfAll order old new db.tables key below answer
       → LeadsOpen order old new ids db db (λ m n. Gets m key snapshot (Value (unwrap_or answer None)) n)
   tables_read front behind same unseen answer says = record {

@@ -112,7 +112,7 @@ below_next order files n number free numbered there = elim (either_there (get fi
 abbrev pub KeepsThere : Seen → Seen → Type 0
 KeepsThere old new = (number : ℕ) → KeepsOf new number → KeepsOf old number ⊎ (IsNumbered number × IsSome (table_at old.facts.files number))
 
-carried_there : (cmp : List ℕ → List ℕ → Ordering) (old new : Seen) → Carries cmp old new → IsTrue new.facts.faithful → KeepsThere old new
+carried_there : {numbers : ℕ → Type 0} (cmp : List ℕ → List ℕ → Ordering) (old new : Seen) → Carries cmp numbers old new → IsTrue new.facts.faithful → KeepsThere old new
 unfolding Knows
 carried_there cmp old new carries f number is = carries.kept f number (inl is)
 
@@ -227,6 +227,6 @@ module _ {K : Type 0} {g : _} (order : Order) (kept : (scan : Scan K g) → Scan
     }
 
   -- Calls of a faithful store that only read it leave all but the counts.
-  pub stands_read : (old new : Seen) (ids : Ids) (db : Held (Scan K g)) (memory : Memories) (m : Machine) → Carries order.cmp old new → IsTrue new.facts.faithful
+  pub stands_read : {numbers : ℕ → Type 0} (old new : Seen) (ids : Ids) (db : Held (Scan K g)) (memory : Memories) (m : Machine) → Carries order.cmp numbers old new → IsTrue new.facts.faithful
       → LeavesMemories db.memory memory → StandsOpen order old ids db m → StandsOpen order new ids (record db { memory = memory }) (read_by new.facts m)
   stands_read old new ids db memory m carries f left s = stands_kept old new db memory m (carries.reads.files f) (carries.sound f) (carried_there order.cmp old new carries f) left ids s

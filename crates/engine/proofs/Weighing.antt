@@ -5,7 +5,7 @@ use Rattle.ikey.specs.declared.entry.Entry.{Entry}
 use Rattle.ikey.specs.Views.{Among}
 use Rattle.memtable.specs.Contents.{byte_length}
 use Rattle.recover.specs.Entries.{RiseAbove}
-use Rattle.upkeep.specs.Level0.{room_of}
+use Rattle.compact.specs.Rooms.{room_of}
 use Rattle.engine.specs.Accounted.{AreAccounted, entry_weight}
 
 -- what is left of entries without the first that is this one

@@ -5,6 +5,7 @@ use Rattle.std.specs.Map.{values_of}
 use Rattle.edits.specs.declared.field.PlacedTable.{PlacedTable}
 use Rattle.scans.specs.Scans.{reads_memory, tables_of}
 use Rattle.scans.specs.declared.scan.Scan.{Scan}
+use Rattle.sources.specs.Tables.{Seen, KeepsOf}
 use Rattle.versions.specs.Keeping.{HasNumber}
 
 -- one of the open iterators is so
@@ -18,3 +19,7 @@ IsTableUsed tables iterators number = HasNumber number tables ⊎ AnyIterator it
 -- an open iterator reads the memory table of this generation
 abbrev pub IsMemoryUsed : {K : Type 0} {g : _} → BTreeMap ℕ (Scan K g) → ℕ → Type 0
 IsMemoryUsed iterators generation = AnyIterator iterators (λ scan. reads_memory scan generation)
+
+-- what is kept anew of tables is of those of such numbers
+abbrev pub Gathers : (ℕ → Type 0) → Seen → Seen → Type 0
+Gathers numbers old new = (number : ℕ) → KeepsOf new number → KeepsOf old number ⊎ numbers number

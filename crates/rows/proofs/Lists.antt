@@ -32,7 +32,7 @@ pub all_behind : {A : Type 0} (P : A → Type 0) (xs ys : List A) → AllByRecur
 all_behind P [] ys h = h
 all_behind P (x ∷ xs) ys h = all_behind P xs ys h.1
 
-get_is : {A : Type 0} (xs : List A) (n : ℕ) (x d : A) → slice_get xs n ≡ Some x → get_or xs n d ≡ x
+pub get_is : {A : Type 0} (xs : List A) (n : ℕ) (x d : A) → slice_get xs n ≡ Some x → get_or xs n d ≡ x
 get_is [] n x d e = absurd (let bad : None ≡ Some x = e in cc)
 get_is (y ∷ xs) zero x d e = let t : Some y ≡ Some x = e in cc
 get_is (y ∷ xs) (suc n) x d e = get_is xs n x d e

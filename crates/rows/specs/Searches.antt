@@ -30,10 +30,11 @@ pub record IsOneOf (cmp : Cmp) (old new : Seen) (row : List PlacedTable) (number
   pub number_is : number ≡ placed.table.number
   pub open_is : SaysOf cmp old new number (λ file. IsOpen cmp file frame)
 
--- all tables in front of this index end below the target
+-- all tables in front of this index end below the target, and the one there doesn't
 pub record IsFirstTable (cmp : Cmp) (target : List ℕ) (row : List PlacedTable) (start : ℕ) : Type 0 where
   pub inside : start ≤ length row
   pub front : (k : ℕ) (placed : PlacedTable) → start ≡ suc k → slice_get row k ≡ Some placed → IsBelowInternal cmp placed.table.largest target
+  pub here : (placed : PlacedTable) → slice_get row start ≡ Some placed → IsBelowInternal cmp placed.table.largest target → ⊥
 
 -- ---- steps within a table
 

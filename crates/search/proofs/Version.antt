@@ -1,28 +1,30 @@
 -- The tables of a consistent directory, as a version has them.
-use Rattle.std.proofs.Common.{◌≡◌, ◌≢◌, ◌⊎◌, inl, inr, ◌==◌, ◌<◌, ℕ, zero, suc, Bool, true, false, cond, List, [], ◌∷◌, ◌++◌, map, reverse, refl, sym, ap, ◌∙◌, subst, append_assoc, arith, All, Contains}
+use Rattle.std.proofs.Common.{◌≡◌, ◌≢◌, ◌⊎◌, inl, inr, ◌==◌, ◌<◌, ℕ, zero, suc, Bool, true, false, cond, List, [], ◌∷◌, ◌++◌, map, reverse, refl, sym, ap, ◌∙◌, subst, append_assoc, arith, get_or, All, Contains}
 use Rattle.std.proofs.lemmas.Bool.{cases_lt, eq-eqb, eqb-true}
 use Rattle.std.proofs.lemmas.Grind.{reverse_onto}
+use Rattle.std.proofs.lemmas.List.Elements.{Contains-get_or}
+use Rattle.std.proofs.lemmas.List.Sorted.{Contains-permutation, IsPermutation-sym}
 use Rattle.std.specs.List.{AllByRecursion}
 use Rattle.std.specs.Cmp.{IsTotalOrder}
 use Rattle.std.specs.FinMap.{IsAntisymmetric}
 use Rattle.ikey.specs.declared.entry.Entry.{Entry}
 use Rattle.ikey.specs.Below.{IsBelowInternal}
 use Rattle.ikey.specs.Orders.{Order}
-use Rattle.ikey.specs.Sources.{IsNewerThan, joined, AreSearchedByTwo, ComesAllBefore, AreInRow}
+use Rattle.ikey.specs.Sources.{IsNewerThan, SameEntries, joined, AreSearchedByTwo, ComesAllBefore, AreInRow}
 use Rattle.ikey.specs.Views.{Among}
 use Rattle.ikey.proofs.SearchedSources as sources
 use Rattle.store.specs.Files.{Files}
 use Rattle.edits.specs.Snapshot.{AreInPlace}
 use Rattle.edits.specs.declared.field.PlacedTable.{PlacedTable}
 use Rattle.recover.specs.Directory.{Directory, IsConsistent}
-use Rattle.recover.specs.Tables.{TableContent, HasTable, InTables}
+use Rattle.recover.specs.Tables.{TableContent, HasTable, InTables, tabled}
 use Rattle.recover.proofs.Flushing.{kept_by}
 use Rattle.recover.proofs.Keeping.{keep_tables}
-use Rattle.recover.proofs.Memberships.{from_tabled, to_tabled, each_table, one_of_tables}
+use Rattle.recover.proofs.Memberships.{from_chosen, from_tabled, to_tabled, each_table, one_of_tables}
 use Rattle.recover.proofs.OneMeaning.{same_table_content}
-use Rattle.versions.specs.Levels.{IsBefore, IsFirstAt}
-use Rattle.search.specs.Places.{contents_at, lists_of, table_sources}
-use Rattle.search.specs.Laws.{VersionLaw, KeptLaw}
+use Rattle.versions.specs.Levels.{IsBefore, IsFirstAt, AreInOrder}
+use Rattle.search.specs.Places.{contents_at, lists_of, table_sources, HasVersion}
+use Rattle.search.specs.Laws.{VersionLaw, PartLaw, KeptLaw}
 use Rattle.search.proofs.Orders.{placed_of, ForTwo, all_rec, for_two, two_placed, newer_levels, newer_numbers, apart_in, wholly_before}
 
 abbrev source_of : List TableContent → ℕ → List Entry
@@ -39,6 +41,14 @@ has_placed : (contents : List TableContent) (c : TableContent) → InTables cont
 has_placed [] c i = absurd i
 has_placed (x ∷ contents) c (inl e) = (0, omega arith, ap (λ (t : TableContent). t.placed) (sym e))
 has_placed (x ∷ contents) c (inr i) = let rest = has_placed contents c i in (suc rest.0, omega (arith, rest.1), rest.2)
+
+-- the contents of these tables, one for each
+gather : (some : List TableContent) (ps : List PlacedTable) → AllByRecursion (Contains (placed_of some)) ps → (contents : List TableContent) × (placed_of contents ≡ ps) × ((c : TableContent) → InTables contents c → InTables some c)
+gather some [] g = ([], refl, λ c i. absurd i)
+gather some (p ∷ ps) g =
+    let one = find_placed some p g.0 in
+    let rest = gather some ps g.1 in
+    (one.0 ∷ rest.0, (λ i. one.2 i ∷ rest.1 i), λ c i. elim i [ inl e ↦ subst (λ (t : TableContent). InTables some t) (sym e) one.1 | inr j ↦ rest.2 c j ])
 
 -- an entry of a level is one of a table of it
 find_in : (level : ℕ) (contents : List TableContent) (e : Entry) → Among (source_of contents level) e → (c : TableContent) × InTables contents c × (c.placed.level ≡ level) × Among c.entries e
@@ -134,13 +144,6 @@ module _ (order : Order) (files : Files) (d : Directory) (o : IsTotalOrder order
   has : (c : TableContent) → InTables d.tables c → HasTable order files c
   has c i = one_of_tables order files d.tables c h.tables i
 
-  gather : (ps : List PlacedTable) → AllByRecursion (Contains (placed_of d.tables)) ps → (contents : List TableContent) × (placed_of contents ≡ ps) × ((c : TableContent) → InTables contents c → InTables d.tables c)
-  gather [] g = ([], refl, λ c i. absurd i)
-  gather (p ∷ ps) g =
-      let one = find_placed d.tables p g.0 in
-      let rest = gather ps g.1 in
-      (one.0 ∷ rest.0, (λ i. one.2 i ∷ rest.1 i), λ c i. elim i [ inl e ↦ subst (λ (t : TableContent). InTables d.tables t) (sym e) one.1 | inr j ↦ rest.2 c j ])
-
   -- ---- rows
 
   first_below : (level : ℕ) (a b : PlacedTable) → 0 < level → IsFirstAt order.cmp level a b → IsBelowInternal order.cmp a.table.largest b.table.smallest
@@ -225,53 +228,79 @@ module _ (order : Order) (files : Files) (d : Directory) (o : IsTotalOrder order
             (above_all c.entries 0 (λ m lt. newer_source c m (mine c (inl refl)) (omega (arith, lt, is))) (1 ∷ 2 ∷ 3 ∷ 4 ∷ 5 ∷ 6 ∷ []) (omega arith, (omega arith, (omega arith, (omega arith, (omega arith, (omega arith, tt)))))), rest)
         by false at rest = rest
 
-pub version : VersionLaw
-version order files d tables o exact h lists in_order =
-    let listed : d.layout.tables.items ≡ placed_of d.tables = sym h.placed in
-    let members = all_rec (Contains (placed_of d.tables)) tables (subst (λ (ps : List PlacedTable). All (Contains ps) tables) listed lists.only) in
-    let g = gather order files d o exact h tables members in
+all_of : (P : PlacedTable → Type 0) (ps : List PlacedTable) → All P ps → (p : PlacedTable) → Contains ps p → P p
+all_of P ps a p (k, lt, e) = subst P e (a k p lt)
+
+place : (contents : List TableContent) (c : TableContent) (e : Entry) → InTables contents c → c.placed.level < 7 → Among c.entries e → Among (joined (lists_of (contents_at 0 contents))) e ⊎ Among (joined (deep contents)) e
+place contents c e i few a = elim (cases_lt 0 c.placed.level) [
+  | inl some ↦ inr (to_levels contents (1 ∷ 2 ∷ 3 ∷ 4 ∷ 5 ∷ 6 ∷ []) c.placed.level e (one_of_six c.placed.level some few) (put_in c.placed.level contents c e i refl a))
+  | inr none ↦ inl (put_in 0 contents c e i (omega (arith, none)) a)
+]
+
+-- the places where a version is searched have the entries of its tables, and no others
+pub tabled_again : (tables : List PlacedTable) (contents : List TableContent) → placed_of contents ≡ tables → All (λ (p : PlacedTable). p.level < 7) tables → SameEntries (joined (table_sources contents)) (tabled contents)
+tabled_again tables contents placed levels e = (
+  λ i. elim (from_turned (lists_of (contents_at 0 contents)) (deep contents) e i) [
+    | inl j ↦ let x = find_in 0 contents e j in to_tabled contents x.0 e x.1 x.3
+    | inr j ↦
+        let l = in_levels contents (1 ∷ 2 ∷ 3 ∷ 4 ∷ 5 ∷ 6 ∷ []) e j in
+        let x = find_in l.0 contents e l.1 in
+        to_tabled contents x.0 e x.1 x.3
+  ],
+  λ i.
+      let x = from_tabled contents e i in
+      let few = all_of (λ (p : PlacedTable). p.level < 7) tables levels x.0.placed (subst (λ (ps : List PlacedTable). Contains ps x.0.placed) placed (has_placed contents x.0 x.1)) in
+      to_turned (lists_of (contents_at 0 contents)) (deep contents) e (place contents x.0 e x.1 few x.2),
+)
+
+-- a version that lists some of the directory's tables
+version_of : (order : Order) (files : Files) (d : Directory) (some : List TableContent) (tables : List PlacedTable) → IsTotalOrder order.cmp → IsAntisymmetric order.cmp → IsConsistent order files d
+    → ((c : TableContent) → InTables some c → InTables d.tables c) → ((p : PlacedTable) → Contains tables p → Contains (placed_of some) p) → ((p : PlacedTable) → Contains (placed_of some) p → Contains tables p)
+    → AreInOrder order.cmp tables → (contents : List TableContent) × HasVersion order files tables contents × SameEntries (joined (table_sources contents)) (tabled some)
+version_of order files d some tables o exact h mine only every in_order =
+    let members = all_rec (Contains (placed_of some)) tables (λ k p lt. only (get_or tables k p) (Contains-get_or tables k p lt)) in
+    let g = gather some tables members in
     let contents = g.0 in
+    let known : (c : TableContent) → InTables contents c → InTables d.tables c = λ c i. mine c (g.2 c i) in
     let before = two_placed (λ (a b : PlacedTable). IsBefore order.cmp a b) contents (subst (λ (ps : List PlacedTable). ForTwo (λ (a b : PlacedTable). IsBefore order.cmp a b) ps) (sym g.1) (for_two (IsBefore order.cmp) tables in_order.places)) in
     let other = two_placed (λ (a b : PlacedTable). a.table.number ≢ b.table.number) contents
-    (subst (λ (ps : List PlacedTable). ForTwo (λ (a b : PlacedTable). a.table.number ≢ b.table.number) ps) (sym g.1) (for_two (λ (a b : PlacedTable). a.table.number ≢ b.table.number) tables in_order.numbers)) in (
+    (subst (λ (ps : List PlacedTable). ForTwo (λ (a b : PlacedTable). a.table.number ≢ b.table.number) ps) (sym g.1) (for_two (λ (a b : PlacedTable). a.table.number ≢ b.table.number) tables in_order.numbers)) in
+    let again = tabled_again tables contents g.1 in_order.levels in (
       contents,
       record {
         placed = g.1;
-        are = each_table order files contents (λ c i. has order files d o exact h c (g.2 c i));
+        are = each_table order files contents (λ c i. has order files d o exact h c (known c i));
         searched = (sources.by_two (table_sources contents)).1
-            (two_turned (lists_of (contents_at 0 contents)) (deep contents) (newest_two order files d o exact h contents g.2 before)
-            (newest_above order files d o exact h contents g.2 contents g.2) (deep_two order files d o exact h contents g.2 (1 ∷ 2 ∷ 3 ∷ 4 ∷ 5 ∷ 6 ∷ []) levels_rise));
-        rows = λ level some. rows_of order files d o exact h level contents some g.2 before other;
+            (two_turned (lists_of (contents_at 0 contents)) (deep contents) (newest_two order files d o exact h contents known before)
+            (newest_above order files d o exact h contents known contents known) (deep_two order files d o exact h contents known (1 ∷ 2 ∷ 3 ∷ 4 ∷ 5 ∷ 6 ∷ []) levels_rise));
+        rows = λ level deeper. rows_of order files d o exact h level contents deeper known before other;
       },
       λ e. (
-        λ i. elim (from_turned (lists_of (contents_at 0 contents)) (deep contents) e i) [
-          | inl j ↦ let x = find_in 0 contents e j in to_tabled d.tables x.0 e (g.2 x.0 x.1) x.3
-          | inr j ↦
-              let l = in_levels contents (1 ∷ 2 ∷ 3 ∷ 4 ∷ 5 ∷ 6 ∷ []) e j in
-              let x = find_in l.0 contents e l.1 in
-              to_tabled d.tables x.0 e (g.2 x.0 x.1) x.3
-        ],
+        λ i. let x = from_tabled contents e ((again e).0 i) in to_tabled some x.0 e (g.2 x.0 x.1) x.2,
         λ i.
-            let t = from_tabled d.tables e i in
-            let at = has_placed d.tables t.0 t.1 in
-            let in_version = all_of (Contains tables) (placed_of d.tables) (subst (λ (ps : List PlacedTable). All (Contains tables) ps) listed lists.all) t.0.placed at in
+            let t = from_tabled some e i in
+            let in_version = every t.0.placed (has_placed some t.0 t.1) in
             let x = find_placed contents t.0.placed (subst (λ (ps : List PlacedTable). Contains ps t.0.placed) (sym g.1) in_version) in
-            let same = same_table_content order files x.0 t.0 x.2 (has order files d o exact h x.0 (g.2 x.0 x.1)) (has order files d o exact h t.0 t.1) in
-            let mine : Among x.0.entries e = subst (λ (c : TableContent). Among c.entries e) (sym same) t.2 in
+            let same = same_table_content order files x.0 t.0 x.2 (has order files d o exact h x.0 (known x.0 x.1)) (has order files d o exact h t.0 (mine t.0 t.1)) in
+            let own : Among x.0.entries e = subst (λ (c : TableContent). Among c.entries e) (sym same) t.2 in
             let few : t.0.placed.level < 7 = all_of (λ (p : PlacedTable). p.level < 7) tables in_order.levels t.0.placed in_version in
             let few' : x.0.placed.level < 7 = subst (λ (p : PlacedTable). p.level < 7) (sym x.2) few in
-            to_turned (lists_of (contents_at 0 contents)) (deep contents) e (place contents x.0 e x.1 few' mine),
+            to_turned (lists_of (contents_at 0 contents)) (deep contents) e (place contents x.0 e x.1 few' own),
       ),
     )
-  where
-    all_of : (P : PlacedTable → Type 0) (ps : List PlacedTable) → All P ps → (p : PlacedTable) → Contains ps p → P p
-    all_of P ps a p (k, lt, e) = subst P e (a k p lt)
 
-    place : (contents : List TableContent) (c : TableContent) (e : Entry) → InTables contents c → c.placed.level < 7 → Among c.entries e → Among (joined (lists_of (contents_at 0 contents))) e ⊎ Among (joined (deep contents)) e
-    place contents c e i few a = elim (cases_lt 0 c.placed.level) [
-      | inl some ↦ inr (to_levels contents (1 ∷ 2 ∷ 3 ∷ 4 ∷ 5 ∷ 6 ∷ []) c.placed.level e (one_of_six c.placed.level some few) (put_in c.placed.level contents c e i refl a))
-      | inr none ↦ inl (put_in 0 contents c e i (omega (arith, none)) a)
-    ]
+pub version : VersionLaw
+version order files d tables o exact h lists in_order =
+    let listed : d.layout.tables.items ≡ placed_of d.tables = sym h.placed in
+    version_of order files d d.tables tables o exact h (λ c i. i)
+    (all_of (Contains (placed_of d.tables)) tables (subst (λ (ps : List PlacedTable). All (Contains ps) tables) listed lists.only))
+    (all_of (Contains tables) (placed_of d.tables) (subst (λ (ps : List PlacedTable). All (Contains tables) ps) listed lists.all)) in_order
+
+pub part : PartLaw
+part order files d chosen rest tables o exact h parted same in_order =
+    version_of order files d chosen tables o exact h (λ c i. from_chosen d.tables chosen rest c parted i)
+    (λ p c. Contains-permutation tables (placed_of chosen) p same c)
+    (λ p c. Contains-permutation (placed_of chosen) tables p (IsPermutation-sym tables (placed_of chosen) same) c) in_order
 
 pub kept : KeptLaw
 kept order old new tables contents v same = record {

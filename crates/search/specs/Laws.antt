@@ -1,7 +1,8 @@
 -- What a search by places tells of the sources.
-use Rattle.std.specs.Prelude.{◌≡◌, ◌<◌, ◌≤◌, ◌+◌, ℕ, Option, Some, List, [], ◌∷◌, ◌++◌, get_or}
+use Rattle.std.specs.Prelude.{◌≡◌, ◌<◌, ◌≤◌, ◌+◌, ℕ, Option, Some, List, [], ◌∷◌, ◌++◌, get_or, map}
 use Rattle.std.specs.Cmp.{IsTotalOrder}
 use Rattle.std.specs.FinMap.{IsAntisymmetric}
+use Rattle.std.specs.List.Sorted.{IsPermutation}
 use Rattle.ikey.specs.declared.entry.Entry.{Entry}
 use Rattle.ikey.specs.Orders.{Order}
 use Rattle.ikey.specs.Keys.{IsFirstKey}
@@ -11,6 +12,7 @@ use Rattle.store.specs.Files.{Files}
 use Rattle.edits.specs.declared.field.PlacedTable.{PlacedTable}
 use Rattle.versions.specs.Levels.{Lists, AreInOrder}
 use Rattle.versions.specs.Searches.{IsSearchedAt, IsSearchedNext}
+use Rattle.recover.specs.Changes.{AreParted}
 use Rattle.recover.specs.Directory.{Directory, IsConsistent, entries_in}
 use Rattle.recover.specs.Logs.{LogContent, batch_entries, logged}
 use Rattle.recover.specs.Tables.{TableContent, HasTable, InTables, tabled, table_at}
@@ -84,7 +86,13 @@ VersionLaw = (order : Order) (files : Files) (d : Directory) (tables : List Plac
     → IsConsistent order files d → Lists d.layout.tables.items tables → AreInOrder order.cmp tables
     → (contents : List TableContent) × HasVersion order files tables contents × SameEntries (joined (table_sources contents)) (tabled d.tables)
 
--- It keeps them while the files of its tables stay.
+-- So it is with a version of some of them alone, as the inputs of a compaction.
+abbrev pub PartLaw : Type 0
+PartLaw = (order : Order) (files : Files) (d : Directory) (chosen rest : List TableContent) (tables : List PlacedTable) → IsTotalOrder order.cmp → IsAntisymmetric order.cmp
+    → IsConsistent order files d → AreParted d.tables chosen rest → IsPermutation tables (map (λ (content : TableContent). content.placed) chosen) → AreInOrder order.cmp tables
+    → (contents : List TableContent) × HasVersion order files tables contents × SameEntries (joined (table_sources contents)) (tabled chosen)
+
+-- A version keeps its tables while their files stay.
 abbrev pub KeptLaw : Type 0
 KeptLaw = (order : Order) (old new : Files) (tables : List PlacedTable) (contents : List TableContent) → HasVersion order old tables contents
     → ((content : TableContent) → InTables contents content → table_at new content.placed.table.number ≡ table_at old content.placed.table.number)

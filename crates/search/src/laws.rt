@@ -1,6 +1,6 @@
 //! What a search by places tells of the sources.
 
-ghost use Rattle.search.specs.Laws.{SearchedLaw, AnsweredLaw, PassedLaw, StepLaw, FoundLaw, EndLaw, MemoryLaw, VersionLaw, KeptLaw};
+ghost use Rattle.search.specs.Laws.{SearchedLaw, AnsweredLaw, PassedLaw, StepLaw, FoundLaw, EndLaw, MemoryLaw, VersionLaw, PartLaw, KeptLaw};
 
 /// A table that is searched at a place is one of the version's.
 pub fn searched_table()
@@ -40,6 +40,11 @@ pub fn memory_in_front()
 /// A version that lists the tables of a consistent directory has them.
 pub fn version_of_directory()
     ensures { VersionLaw }
+{}
+
+/// A version that lists some of them has these.
+pub fn version_of_part()
+    ensures { PartLaw }
 {}
 
 /// A version keeps its tables while their files stay.

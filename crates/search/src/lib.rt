@@ -5,7 +5,7 @@ mod laws;
 
 pub use laws::{
     answered_place, goes_on, has_ended, is_found, memory_in_front, passed_place, searched_table,
-    version_is_kept, version_of_directory,
+    version_is_kept, version_of_directory, version_of_part,
 };
 
 #[cfg(test)]

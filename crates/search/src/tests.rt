@@ -11,5 +11,6 @@ fn laws_are_called() {
     has_ended();
     memory_in_front();
     version_of_directory();
+    version_of_part();
     version_is_kept();
 }

@@ -2,12 +2,12 @@ ghost use Rattle.std.specs.Prelude.{◌≡◌, length, IfOk};
 
 use coding::Bytes;
 use edits::{Edit, Field, FileName, Layout, PlacedTable, TableFile};
-use ikey::{Bytewise, Kind, pack};
+use ikey::{Bytewise, KeyOrder, Kind, pack};
 use std::alloc::{AllocError, Global};
 use std::test::*;
 use versions::{
-    JobPlan, LiveNumbers, Version, Versions, covers, one_more_edit, one_user_key, searches_reach,
-    user_of,
+    JobPlan, LiveNumbers, Version, Versions, covers, inputs_in_order, one_more_edit, one_user_key,
+    plans_of_tables, searches_reach, user_of,
 };
 
 mod plans;

@@ -23,10 +23,12 @@ use Rattle.store.specs.Files.{Facts, Synced, with_synced}
 use Rattle.table.specs.Building.{Building, Builds, MayFollow, last_added}
 use Rattle.table.specs.Writing.{Writes, NeedsLongBlock}
 use Rattle.table.proofs.Storing.{writes_none, writes_then}
-use Rattle.upkeep.specs.Level0.{HaveSequences, pair_of, pairs_of, room_of}
+use Rattle.compact.specs.Rooms.{AreLarge}
+use Rattle.compact.proofs.Sizes.{long_block}
+use Rattle.upkeep.specs.Level0.{HaveSequences, pair_of, pairs_of}
 use Rattle.upkeep.proofs.Made.{is_key}
 use Rattle.upkeep.proofs.Ranks.{each_placed}
-use Rattle.upkeep.proofs.Sizes.{long_block, front_room}
+use Rattle.upkeep.proofs.Sizes.{front_room}
 
 -- ---- the store
 
@@ -177,7 +179,7 @@ module _ (cmp : List ℕ → List ℕ → Ordering) (inserts : List Entry) where
 
     -- an entry for which there is no room
     pub too_large : (builder : Building) (facts after : Facts) (at : Option ℕ) (steps place : ℕ) (entry : Entry) → at ≡ Some place → entry_at inserts place ≡ Some entry → HasAdded builder facts at steps
-        → (IsTrue after.faithful → IsTrue facts.faithful) → NeedsLongBlock builder (pair_of entry) → IsTrue after.faithful → Builds cmp start old [] → 2 ^ 29 ≤ room_of inserts
+        → (IsTrue after.faithful → IsTrue facts.faithful) → NeedsLongBlock builder (pair_of entry) → IsTrue after.faithful → Builds cmp start old [] → AreLarge inserts
     too_large builder facts after at steps place entry is kept h back long t b =
         let found = is_next h.front h.back place entry h.parts (sym is ∙ h.at_is) kept in
         let one : Placed = record { node = place; entry = entry } in

@@ -59,7 +59,7 @@ rising {X} f same (x ∷ y ∷ xs) h =
 
 -- ---- tables in place, by membership
 
-abbrev InRow : List TableContent → Type 0
+abbrev pub InRow : List TableContent → Type 0
 InRow [] = Unit {0}
 InRow (c ∷ contents) = ((x : TableContent) → InTables contents x → IsFollowedBy c.placed x.placed) × InRow contents
 
@@ -68,7 +68,7 @@ each_followed a [] x h i = absurd i
 each_followed a (c ∷ contents) x h (inl e) = let P : TableContent → Type 0 = λ t. IsFollowedBy a t.placed in subst P (sym e) h.0
 each_followed a (c ∷ contents) x h (inr i) = each_followed a contents x h.1 i
 
-row_of : (contents : List TableContent) → AreInPlace (placed_in contents) → InRow contents
+pub row_of : (contents : List TableContent) → AreInPlace (placed_in contents) → InRow contents
 row_of [] h = tt
 row_of (c ∷ contents) h = ((λ x i. each_followed c.placed contents x h.0 i), row_of contents h.1)
 
@@ -172,7 +172,7 @@ among_placed [] x i = absurd i
 among_placed (c ∷ contents) x (inl e) = inl (ap (λ (t : TableContent). t.placed) e)
 among_placed (c ∷ contents) x (inr i) = inr (among_placed contents x i)
 
-content_at : (contents : List TableContent) (p : PlacedTable) → Among (placed_in contents) p → (c : TableContent) × InTables contents c × (c.placed ≡ p)
+pub content_at : (contents : List TableContent) (p : PlacedTable) → Among (placed_in contents) p → (c : TableContent) × InTables contents c × (c.placed ≡ p)
 content_at [] p i = absurd i
 content_at (c ∷ contents) p (inl e) = (c, inl refl, sym e)
 content_at (c ∷ contents) p (inr i) = let r = content_at contents p i in (r.0, inr r.1, r.2)
@@ -396,7 +396,7 @@ unused_at contents level [] t h i = absurd i
 unused_at contents level (u ∷ tables) t h (inl e) = let P : TableFile → Type 0 = λ v. is_used v.number (placed_in contents) ≡ false in subst P (sym e) h.0
 unused_at contents level (u ∷ tables) t h (inr i) = unused_at contents level tables t h.1 i
 
-number_apart : (n : ℕ) (contents : List TableContent) (x : TableContent) → AllByRecursion (λ (p : PlacedTable). n ≢ p.table.number) (placed_in contents) → InTables contents x → n ≢ x.placed.table.number
+pub number_apart : (n : ℕ) (contents : List TableContent) (x : TableContent) → AllByRecursion (λ (p : PlacedTable). n ≢ p.table.number) (placed_in contents) → InTables contents x → n ≢ x.placed.table.number
 number_apart n [] x h i = absurd i
 number_apart n (c ∷ contents) x h (inl e) = let P : TableContent → Type 0 = λ t. n ≢ t.placed.table.number in subst P (sym e) h.0
 number_apart n (c ∷ contents) x h (inr i) = number_apart n contents x h.1 i
@@ -415,23 +415,23 @@ rest_row [] chosen rest h row = subst InRow (sym h.1) tt
 rest_row (c ∷ contents) chosen rest (inl h) row = rest_row contents h.0 rest h.2 row.1
 rest_row (c ∷ contents) chosen rest (inr h) row = subst InRow (sym h.1) ((λ x i. row.0 x (from_rest contents chosen h.0 x h.2 i)), rest_row contents chosen h.0 h.2 row.1)
 
-all_rest : (contents : List TableContent) → AreParted contents [] contents
+pub all_rest : (contents : List TableContent) → AreParted contents [] contents
 all_rest [] = (refl, refl)
 all_rest (c ∷ contents) = inr (contents, refl, all_rest contents)
 
 -- ---- the same tables in another order
 
-among_contains : {X : Type 0} (xs : List X) (x : X) → Among xs x → Contains xs x
+pub among_contains : {X : Type 0} (xs : List X) (x : X) → Among xs x → Contains xs x
 among_contains [] x i = absurd i
 among_contains (y ∷ xs) x (inl e) = (0, omega arith, sym e)
 among_contains (y ∷ xs) x (inr i) = let r = among_contains xs x i in (suc r.0, omega (arith, r.1), r.2)
 
-contains_among : {X : Type 0} (xs : List X) (x : X) → Contains xs x → Among xs x
+pub contains_among : {X : Type 0} (xs : List X) (x : X) → Contains xs x → Among xs x
 contains_among [] x (k, lt, e) = absurd (omega (arith, lt))
 contains_among (y ∷ xs) x (zero, lt, e) = inl (sym e)
 contains_among (y ∷ xs) x (suc k, lt, e) = inr (contains_among xs x (k, omega (arith, lt), e))
 
-same_among : {X : Type 0} (xs ys : List X) (x : X) → IsPermutation xs ys → Among xs x → Among ys x
+pub same_among : {X : Type 0} (xs ys : List X) (x : X) → IsPermutation xs ys → Among xs x → Among ys x
 same_among xs ys x h i = contains_among ys x (Contains-permutation xs ys x h (among_contains xs x i))
 
 -- ---- all of it

@@ -6,6 +6,7 @@ pub mod Flushes
 pub mod JobFolds
 pub mod JobOutputs
 pub mod JobTables
+pub mod JobWritten
 pub mod JobsDeep
 pub mod JobsDone
 pub mod JobsPut
@@ -14,6 +15,10 @@ pub mod Made
 pub mod Meaning
 pub mod NewLogFiles
 pub mod NewVersions
+pub mod PlanParts
+pub mod PlansClosed
+pub mod PlansKept
+pub mod PlansMade
 pub mod Ranks
 pub mod Sizes
 pub mod StoreCalls

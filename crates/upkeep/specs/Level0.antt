@@ -1,12 +1,12 @@
 -- A memory table as a table file of level 0 (LevelDB's db/builder.cc, BuildTable).
-use Rattle.std.specs.Prelude.{◌≡◌, ◌<◌, ◌≤◌, ◌+◌, ◌^◌, ℕ, IsTrue, List, [], ◌∷◌, map}
+use Rattle.std.specs.Prelude.{◌≡◌, ◌<◌, ◌^◌, ℕ, IsTrue, List, map}
+use Rattle.compact.specs.Rooms.{AreLarge}
 use Rattle.edits.specs.declared.field.TableFile.{TableFile}
 use Rattle.ikey.specs.declared.entry.Entry.{Entry}
 use Rattle.ikey.specs.Entries.{Pair, value_kept}
 use Rattle.ikey.specs.Orders.{Order}
 use Rattle.ikey.specs.Sources.{SameEntries}
 use Rattle.ikey.specs.Views.{Among}
-use Rattle.memtable.specs.Contents.{byte_length}
 use Rattle.memtable.specs.Order.{Placed}
 use Rattle.recover.specs.Report.{IsLongTable, HasBytes}
 use Rattle.recover.specs.Tables.{TableContent, HasTable, internal_key}
@@ -24,14 +24,9 @@ pair_of entry = record { key = internal_key entry; value = value_kept entry.valu
 abbrev pub pairs_of : List Placed → List Pair
 pairs_of placed = map (λ (one : Placed). pair_of one.entry) placed
 
--- the bytes of the keys and values of these entries, and 64 more for each
-abbrev pub room_of : List Entry → ℕ
-room_of [] = 0
-room_of (entry ∷ entries) = byte_length entry.key entry.value + 64 + room_of entries
-
--- Over a faithful store a block of a table of these entries is too long to be read only where they have so many bytes.
+-- Over a faithful store a block of a table of these entries is too long to be read only where they need so much room.
 abbrev pub IsTooLarge : Facts → List Entry → Type 0
-IsTooLarge facts entries = IsTrue facts.faithful → 2 ^ 29 ≤ room_of entries
+IsTooLarge facts entries = IsTrue facts.faithful → AreLarge entries
 
 -- The files have the table of this number at level 0 with these entries, and it is what an edit may say of it. No block of
 -- it is too long to be read.

@@ -2,7 +2,9 @@ pub mod Calls
 pub mod Compactions
 pub mod Flush
 pub mod FlushEdits
+pub mod JobWrites
 pub mod Level0
 pub mod LogFile
 pub mod Manifest
+pub mod Planned
 pub mod Removal

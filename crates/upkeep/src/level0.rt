@@ -2,6 +2,7 @@
 
 ghost use Rattle.std.specs.Prelude.{◌≡◌, ◌<◌, ◌≤◌, ◌^◌, ◌++◌, ◌∷◌, [], ℕ, List, Some, None, IsTrue, IsSome, IfOk, IfErr, OnOk, length};
 ghost use Rattle.std.specs.FinMap.{get};
+ghost use Rattle.compact.specs.Rooms.{AreLarge};
 ghost use Rattle.edits.specs.Edit.{IsTableProper};
 ghost use Rattle.filter.specs.Builder.{GivesUpOnly};
 ghost use Rattle.ikey.specs.declared.entry.Entry.{Entry};
@@ -19,7 +20,7 @@ ghost use Rattle.versions.specs.Levels.{IsRange};
 ghost use Rattle.table.specs.Building.{Builds, MayFollow, last_added};
 ghost use Rattle.table.specs.Reading.{HasFile};
 ghost use Rattle.table.specs.Writing.{Writes, WriteRefuses, IsTableOf, NeedsLongBlock};
-ghost use Rattle.upkeep.specs.Level0.{HaveSequences, IsLevel0, IsTooLarge, pair_of, pairs_of, room_of};
+ghost use Rattle.upkeep.specs.Level0.{HaveSequences, IsLevel0, IsTooLarge, pair_of, pairs_of};
 
 use block::MAX_BLOCK_LENGTH;
 use coding::{Bytes, DbError, Feature, put_fixed64};
@@ -80,7 +81,7 @@ fn key_at<K: KeyOrder>(alloc: Global, memory: &MemTable<K>, node: Node) -> Resul
     requires sequences { HaveSequences memory.now.inserts }
     ensures key { IfOk result (λ key. (entry : Entry) → entry_at memory.now.inserts node ≡ Some entry → key ≡ internal_key entry) }
     ensures short { IfOk result (λ key. length key < 2 ^ 32) }
-    ensures refused { IfErr result (λ e. GivesUpOnly e (2 ^ 29 ≤ room_of memory.now.inserts)) }
+    ensures refused { IfErr result (λ e. GivesUpOnly e (AreLarge memory.now.inserts)) }
 {
     let mut key = Vec::new(alloc);
     pack_into(&mut key, memory.entry(node))?;

@@ -6,9 +6,11 @@ mod calls;
 mod compaction_edits;
 mod flush;
 mod flush_edits;
+mod job_writes;
 mod level0;
 mod log_file;
 mod manifest;
+mod planned;
 mod removal;
 
 pub use compaction_edits::{
@@ -17,7 +19,11 @@ pub use compaction_edits::{
 };
 pub use flush::{FlushError, FlushPlan, Flushed, flush_memory};
 pub use flush_edits::flush_edit;
+pub use job_writes::{free_number_law, job_writes_law};
 pub use level0::write_level0;
 pub use log_file::begin_log;
 pub use manifest::{CurrentManifest, append_edit};
+pub use planned::{
+    closed_plan_law, flushed_plan_law, own_sequences_law, planned_apart_law, planned_law,
+};
 pub use removal::{LiveTables, Removal, remove_files};

@@ -17,3 +17,4 @@ pub mod Listed
 pub mod Widths
 pub mod Searched
 pub mod Reached
+pub mod Inputs

@@ -19,7 +19,7 @@ mod searching;
 mod user_key;
 mod version;
 
-pub use laws::{one_more_edit, searches_reach};
+pub use laws::{inputs_in_order, one_more_edit, plans_of_tables, searches_reach};
 pub use live::LiveNumbers;
 pub use pins::Versions;
 pub use plan::JobPlan;

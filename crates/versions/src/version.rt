@@ -9,7 +9,7 @@ use crate::copying::copies_of;
 use crate::ordering::put_tables;
 use crate::plan::JobPlan;
 use crate::planning::{plan_behind, plan_of_level};
-use crate::pointers::{pointers_after, pointers_like};
+use crate::pointers::{no_pointers, pointers_after, pointers_like};
 use crate::search::next_searched;
 use crate::searching::{find_at, is_free_below, level_of};
 use coding::{Bytes, DbError, ReadError};
@@ -41,7 +41,7 @@ impl<K: KeyOrder> Model for Version<K> {
 }
 
 impl<K: KeyOrder> Version<K> {
-    ghost use Rattle.std.specs.Prelude.{◌≡◌, ◌<◌, ◌≤◌, ◌^◌, ℕ, [], All, Any, IsTrue, length, IfOk, IfErr, IsOkUnless, MatchOption, MatchBool, false, None};
+    ghost use Rattle.std.specs.Prelude.{◌≡◌, ◌<◌, ◌≤◌, ◌^◌, ℕ, [], All, Any, IsTrue, length, IfOk, IfErr, IsOkUnless, MatchOption, MatchBool, false, None, replicate};
     ghost use Rattle.std.specs.Option.{option_copied};
     ghost use Rattle.coding.specs.Errors.{RefusesOnly};
     ghost use Rattle.edits.specs.Layout.{after_edit};
@@ -82,6 +82,21 @@ impl<K: KeyOrder> Version<K> {
         Ok(Version {
             tables,
             compact_pointers: pointers_after(alloc, edit, &self.compact_pointers)?,
+            order: PhantomData,
+        })
+    }
+
+    /// The version that has the inputs of a plan as its tables, and no compact pointers: a cursor over all of its tables is
+    /// one over what the plan merges. That the inputs are in order is known of each plan for a version's tables
+    /// (`inputs_in_order`).
+    pub fn over_inputs(alloc: Global, plan: &JobPlan) -> Result<Self, AllocError>
+        requires { AreInOrder K.cmp plan.now.inputs.items }
+        ensures tables { IfOk result (λ version. version.tables ≡ plan.now.inputs.items) }
+        ensures pointers { IfOk result (λ version. version.compact_pointers ≡ replicate 7 None) }
+    {
+        Ok(Version {
+            tables: copies_of(alloc, &plan.inputs)?,
+            compact_pointers: no_pointers(alloc)?,
             order: PhantomData,
         })
     }

@@ -7,7 +7,8 @@ use Rattle.table.proofs.Storing.{refuses_later}
 use Rattle.table.specs.Writing.{NeedsLongEnds}
 use Rattle.upkeep.specs.Level0.{IsTooLarge, pairs_of}
 use Rattle.upkeep.proofs.Filled.{writes_by, some_pairs}
-use Rattle.upkeep.proofs.Sizes.{long_ends, whole_room}
+use Rattle.compact.proofs.Sizes.{long_ends}
+use Rattle.upkeep.proofs.Sizes.{whole_room}
 use Rattle.upkeep.proofs.level0.write_entries.Goals as goal
 
 pub returns-in_err-size-clause-writes : goal.returns-in_err-size-clause-writes

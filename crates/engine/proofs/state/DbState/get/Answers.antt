@@ -11,11 +11,13 @@ use Rattle.memories.specs.Memories.{logged_in}
 use Rattle.reads.specs.Gets.{HasNoTablesOf, IsOneTooLong, SaysOfAll}
 use Rattle.scans.proofs.ScanSteps.{scan_kept}
 use Rattle.sources.specs.Tables.{seen}
+use Rattle.versions.specs.Keeping.{HasNumber}
 use Rattle.versions.specs.Levels.{Placement}
 use Rattle.engine.specs.Access.{Gets}
 use Rattle.engine.specs.Applied.{IsReadBy}
 use Rattle.engine.specs.Follows.{LeadsOpen, value_answer}
 use Rattle.engine.specs.Held.{held, seen_of}
+use Rattle.engine.specs.InUse.{Gathers}
 use Rattle.engine.specs.Outcomes.{DbOutcome, MayRefuseGet}
 use Rattle.engine.specs.Reads.{sequence_at}
 use Rattle.engine.proofs.Getting.{found_at, missing_at, tables_read, tables_failed, reads_itself, reads_leave, caused_ok, caused_err, outcome_ok, outcome_err, reads_seen, reads_nothing, reads_behind, none_of}
@@ -226,3 +228,21 @@ returns-in-None-clause-read g c =
 
 pub value_in_tables-requires : goal.value_in_tables-requires
 value_in_tables-requires g c = omega (arith, c.at_most-below.ensures.within, c.last.ensures.is, c.last.ensures.fits)
+
+pub returns-in_err-value-2-clause-gathered : goal.returns-in_err-value-2-clause-gathered
+returns-in_err-value-2-clause-gathered g c =
+    let source = seen_of g.S.Store.facts c.args.source.now in
+    let new = seen (g.S.Store.facts c.value_in_tables.new.source.store) c.value_in_tables.new.source.tables c.value_in_tables.new.source.blocks in
+    subst (λ (v : Placement). Gathers (λ number. HasNumber number v.tables) source new) c.deref-2.ensures c.value_in_tables.ensures.carries.gathered
+
+pub returns-in-Some-2-clause-gathered : goal.returns-in-Some-2-clause-gathered
+returns-in-Some-2-clause-gathered g c =
+    let source = seen_of g.S.Store.facts c.args.source.now in
+    let new = seen (g.S.Store.facts c.value_in_tables.new.source.store) c.value_in_tables.new.source.tables c.value_in_tables.new.source.blocks in
+    subst (λ (v : Placement). Gathers (λ number. HasNumber number v.tables) source new) c.deref-2.ensures c.value_in_tables.ensures.carries.gathered
+
+pub returns-in-None-clause-gathered : goal.returns-in-None-clause-gathered
+returns-in-None-clause-gathered g c =
+    let source = seen_of g.S.Store.facts c.args.source.now in
+    let new = seen (g.S.Store.facts c.value_in_tables.new.source.store) c.value_in_tables.new.source.tables c.value_in_tables.new.source.blocks in
+    subst (λ (v : Placement). Gathers (λ number. HasNumber number v.tables) source new) c.deref-2.ensures c.value_in_tables.ensures.carries.gathered
