@@ -237,6 +237,22 @@ place contents c e i few a = elim (cases_lt 0 c.placed.level) [
   | inr none ↦ inl (put_in 0 contents c e i (omega (arith, none)) a)
 ]
 
+-- the places where a version is searched have the entries of its tables, and no others
+pub tabled_again : (tables : List PlacedTable) (contents : List TableContent) → placed_of contents ≡ tables → All (λ (p : PlacedTable). p.level < 7) tables → SameEntries (joined (table_sources contents)) (tabled contents)
+tabled_again tables contents placed levels e = (
+  λ i. elim (from_turned (lists_of (contents_at 0 contents)) (deep contents) e i) [
+    | inl j ↦ let x = find_in 0 contents e j in to_tabled contents x.0 e x.1 x.3
+    | inr j ↦
+        let l = in_levels contents (1 ∷ 2 ∷ 3 ∷ 4 ∷ 5 ∷ 6 ∷ []) e j in
+        let x = find_in l.0 contents e l.1 in
+        to_tabled contents x.0 e x.1 x.3
+  ],
+  λ i.
+      let x = from_tabled contents e i in
+      let few = all_of (λ (p : PlacedTable). p.level < 7) tables levels x.0.placed (subst (λ (ps : List PlacedTable). Contains ps x.0.placed) placed (has_placed contents x.0 x.1)) in
+      to_turned (lists_of (contents_at 0 contents)) (deep contents) e (place contents x.0 e x.1 few x.2),
+)
+
 -- a version that lists some of the directory's tables
 version_of : (order : Order) (files : Files) (d : Directory) (some : List TableContent) (tables : List PlacedTable) → IsTotalOrder order.cmp → IsAntisymmetric order.cmp → IsConsistent order files d
     → ((c : TableContent) → InTables some c → InTables d.tables c) → ((p : PlacedTable) → Contains tables p → Contains (placed_of some) p) → ((p : PlacedTable) → Contains (placed_of some) p → Contains tables p)
@@ -248,7 +264,8 @@ version_of order files d some tables o exact h mine only every in_order =
     let known : (c : TableContent) → InTables contents c → InTables d.tables c = λ c i. mine c (g.2 c i) in
     let before = two_placed (λ (a b : PlacedTable). IsBefore order.cmp a b) contents (subst (λ (ps : List PlacedTable). ForTwo (λ (a b : PlacedTable). IsBefore order.cmp a b) ps) (sym g.1) (for_two (IsBefore order.cmp) tables in_order.places)) in
     let other = two_placed (λ (a b : PlacedTable). a.table.number ≢ b.table.number) contents
-    (subst (λ (ps : List PlacedTable). ForTwo (λ (a b : PlacedTable). a.table.number ≢ b.table.number) ps) (sym g.1) (for_two (λ (a b : PlacedTable). a.table.number ≢ b.table.number) tables in_order.numbers)) in (
+    (subst (λ (ps : List PlacedTable). ForTwo (λ (a b : PlacedTable). a.table.number ≢ b.table.number) ps) (sym g.1) (for_two (λ (a b : PlacedTable). a.table.number ≢ b.table.number) tables in_order.numbers)) in
+    let again = tabled_again tables contents g.1 in_order.levels in (
       contents,
       record {
         placed = g.1;
@@ -259,13 +276,7 @@ version_of order files d some tables o exact h mine only every in_order =
         rows = λ level deeper. rows_of order files d o exact h level contents deeper known before other;
       },
       λ e. (
-        λ i. elim (from_turned (lists_of (contents_at 0 contents)) (deep contents) e i) [
-          | inl j ↦ let x = find_in 0 contents e j in to_tabled some x.0 e (g.2 x.0 x.1) x.3
-          | inr j ↦
-              let l = in_levels contents (1 ∷ 2 ∷ 3 ∷ 4 ∷ 5 ∷ 6 ∷ []) e j in
-              let x = find_in l.0 contents e l.1 in
-              to_tabled some x.0 e (g.2 x.0 x.1) x.3
-        ],
+        λ i. let x = from_tabled contents e ((again e).0 i) in to_tabled some x.0 e (g.2 x.0 x.1) x.2,
         λ i.
             let t = from_tabled some e i in
             let in_version = every t.0.placed (has_placed some t.0 t.1) in
