@@ -9,7 +9,9 @@ use Rattle.cursor.specs.Merging.{IsMerge, listed}
 use Rattle.edits.specs.declared.field.PlacedTable.{PlacedTable}
 use Rattle.ikey.specs.declared.entry.Entry.{Entry}
 use Rattle.ikey.specs.declared.key_order.KeyOrder.{Ghosts}
+use Rattle.ikey.specs.Entries.{entry_of}
 use Rattle.ikey.specs.Orders.{Order}
+use Rattle.ikey.specs.Sources.{SameEntries, joined}
 use Rattle.ikey.specs.Views.{Among}
 use Rattle.rows.specs.InRows.{HasNumber}
 use Rattle.rows.specs.RowLaws.{row_still}
@@ -24,6 +26,8 @@ use Rattle.scans.proofs.Joining.{all_entries, union_from, union_has}
 use Rattle.scans.proofs.NewScans.{HaveUnions, IsNew, RowsBegin, all_limited, all_over, all_rows_listed, cursors_of, merge_begun, new_at, new_rows}
 use Rattle.scans.proofs.OwnSequences.{own_sequences}
 use Rattle.scans.proofs.Slices.{all_ranges}
+use Rattle.search.specs.Places.{table_sources}
+use Rattle.search.proofs.Version.{tabled_again}
 use Rattle.versions.specs.Levels.{AreInOrder}
 
 -- a new cursor over tables reads no memory table
@@ -52,12 +56,15 @@ module _ {K : Type 0} {g : Ghosts K} (order : Order) (tables : List PlacedTable)
       let rows = all_rows_listed order whole tables contents has in_order sound begins (cursors_of children) spots in
       let start = merge_begun order whole tables contents has in_order sound begins unions children merge.target.items rows.0 astray rows.1 rows.3 in
       let union = start.0 in
+      let searched : SameEntries (map entry_of union) (joined (table_sources contents)) = λ e. (
+        λ i. subst (λ (es : List Entry). Among es e) rows.2 (union_from order.cmp rows.0 union start.1 e i),
+        λ i. union_has order.cmp rows.0 union start.1 e (subst (λ (es : List Entry). Among es e) (sym rows.2) i),
+      ) in
+      let again = tabled_again tables contents has.placed in_order.levels in
       record {
         entries = union;
-        same = λ e. (
-          λ i. subst (λ (es : List Entry). Among es e) rows.2 (union_from order.cmp rows.0 union start.1 e i),
-          λ i. union_has order.cmp rows.0 union start.1 e (subst (λ (es : List Entry). Among es e) (sym rows.2) i),
-        );
+        same = λ e. (λ i. (again e).0 ((searched e).0 i), λ i. (searched e).1 ((again e).1 i));
+        searched = searched;
         own = own_sequences order (all_entries rows.0) union total rows.3 rows.4 (union_from order.cmp rows.0 union start.1);
         lists = subst (λ (current : Option ℕ). IsMerge order.cmp (ListsSource order.cmp) children current merge.target.items whole (listed union None)) (sym nowhere) start.2;
         limits = λ l. all_limited (λ generation. ⊥) 0 tables children news order.cmp whole rows.0 rows.1 l;

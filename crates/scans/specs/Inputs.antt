@@ -10,7 +10,7 @@ use Rattle.ikey.specs.Entries.{InternalEntry, entry_of}
 use Rattle.ikey.specs.Orders.{Order}
 use Rattle.ikey.specs.Sources.{SameEntries, joined}
 use Rattle.memories.specs.Memories.{Memories}
-use Rattle.recover.specs.Tables.{TableContent}
+use Rattle.recover.specs.Tables.{TableContent, tabled}
 use Rattle.scans.specs.declared.source_cursor.SourceCursor.{SourceCursor}
 use Rattle.scans.specs.Places.{KeepsSource, LimitedSource, OneGoesOver}
 use Rattle.scans.specs.Scans.{IsOnePastLimit, ListsMerged}
@@ -33,11 +33,12 @@ ReadsNoMemory cmp merge = (seen : Seen) (old new : Memories) → KeepsMerge cmp 
 
 -- ---- a new one
 
--- It goes over the entries of these tables, in the order of their internal keys, and has no place. It passes a limit only where
--- the file of one of the tables does.
+-- It goes over the entries of these tables, which are those of the places where they are searched, in the order of their internal
+-- keys, and has no place. It passes a limit only where the file of one of the tables does.
 pub record IsMergeOf {K : Type 0} {g : _} (cmp : Cmp) (tables : List PlacedTable) (contents : List TableContent) (whole : Whole) (merge : Merge K (SourceCursor K g)) : Type 0 where
   pub entries : List InternalEntry
-  pub same : SameEntries (map entry_of entries) (joined (table_sources contents))
+  pub same : SameEntries (map entry_of entries) (tabled contents)
+  pub searched : SameEntries (map entry_of entries) (joined (table_sources contents))
   pub own : HaveOwnSequences entries
   pub lists : ListsMerged cmp merge whole (listed entries None)
   pub limits : IsMergeLimited cmp merge whole → IsOnePastLimit cmp tables whole
