@@ -1,5 +1,5 @@
 -- One entry more is merged, and a job goes on.
-use Rattle.std.proofs.Common.{◌≡◌, ◌⊎◌, ◌<◌, ◌≤◌, ℕ, Bool, None, Result, Ok, List, [], ◌∷◌, ◌++◌, IsTrue, map, length, inl, inr, refl, sym, ap, subst, ◌∙◌}
+use Rattle.std.proofs.Common.{◌^◌, ◌≡◌, ◌⊎◌, ◌<◌, ◌≤◌, ℕ, Bool, None, Result, Ok, List, [], ◌∷◌, ◌++◌, IsTrue, map, length, inl, inr, refl, sym, ap, subst, ◌∙◌}
 use Rattle.coding.specs.declared.error.DbError.{DbError}
 use Rattle.coding.specs.declared.error.DbError.TheVariants.{OutOfMemory, Io, Corrupt, Unsupported}
 use Rattle.cursor.specs.Merging.{listed}
@@ -16,7 +16,7 @@ use Rattle.compact.specs.Choosing.{Choosing, Chooses, Precedes, ComesBehind, wri
 use Rattle.compact.specs.declared.job.Job.{Job}
 use Rattle.std.specs.List.{AllByRecursion}
 use Rattle.compact.specs.Merging.{AreDisjoint, IsWellKept, IsMerging, IsUpTo, HasPassed, ReadsApart, IsJob, IsBetween, KeepsMine}
-use Rattle.compact.specs.Outputs.{Written, HasWritten, IsMine, IsNumberAtHand, RefusesEntry, WritesTables}
+use Rattle.compact.specs.Outputs.{Written, HasWritten, IsMine, IsNumberAtHand, IsToCome, RefusesEntry, WritesTables}
 use Rattle.compact.proofs.Merges.{merge-step, merging-none, mine-before}
 use Rattle.compact.proofs.Passing.{passed-more}
 use Rattle.compact.proofs.Writing.{refuses-as, writes-more}
@@ -96,7 +96,7 @@ module _ {C H S : Type 0} (cmp : Cmp) (deep : List ℕ → Bool) (facts : S → 
       ap failures (sym (are after)) ∙ moved ∙ ap failures (are (with_store source store)) ∙ ap (λ (s : S). (facts s).failures) (replaced source store) ∙ wrote ∙ ap (λ (s : S). (facts s).failures) is
 
   pub job-step : (last over : List ℕ) (cursor moved : C) (c e : Choosing) (w u : Written) (source : H) (held store : S) (after : H) (next more : ℕ) (came : List InternalEntry) (entry : InternalEntry) (rest : List InternalEntry) (choice : Choice)
-      → held ≡ store_of source → WritesTables (facts held) (facts store) (IsMine w next) → next ≤ more → KeepsMine w next u more
+      → held ≡ store_of source → WritesTables (facts held) (facts store) (IsMine w next) → next ≤ more → more < 2 ^ 64 → KeepsMine w next u more
       → Moves facts_of lists cursor moved (with_store source store) after moved_on to_next
       → Stays facts_of keeps limited leaves goes_over cursor moved (with_store source store) after
       → IsTrue (facts (store_of after)).faithful
@@ -107,8 +107,8 @@ module _ {C H S : Type 0} (cmp : Cmp) (deep : List ℕ → Bool) (facts : S → 
       → (new : List Pair) × (added : List InternalEntry) × HasWritten cmp u (facts store) more new × ArePairs new (kept ++ added) × (map entry_of added ≡ written_for choice e.released (entry_of entry)) × AllByRecursion IsWellKept added)
       → IsJob cmp deep facts store_of with_store gathers lists keeps goes_over last cursor c w source next came (entry ∷ rest)
       → IsJob cmp deep facts store_of with_store gathers lists keeps goes_over over moved e u after more (came ++ entry ∷ []) rest
-  job-step last over cursor moved c e w u source held store after next more came entry rest choice is writes le keeps_mine moves stays t over_is order chosen wrote h =
-      let mine : (n : ℕ) → IsMine u more n → IsMine w next n = λ n is_mine. mine-before w u next more n le keeps_mine is_mine in
+  job-step last over cursor moved c e w u source held store after next more came entry rest choice is writes le fits keeps_mine moves stays t over_is order chosen wrote h =
+      let mine : (n : ℕ) → IsMine u more n → IsMine w next n = λ n is_mine. mine-before w u next more n le fits keeps_mine is_mine in
       let r = writes-move cursor moved source held store after (IsMine w next) is writes stays in
       record {
         merging = merge-step cmp deep (facts held) (facts store) (facts (store_of after)) last over c e w u next more came entry choice over_is (r.files t) order chosen (wrote (r.faithful t))
@@ -141,13 +141,13 @@ pub starts : {C H S : Type 0} (cmp : Cmp) (deep : List ℕ → Bool) (facts : S 
     → w ≡ record { closed = []; at_hand = None } → last ≡ []
     → Chooses cmp deep c [] [] → HasWritten cmp w (facts (store_of after)) next []
     → Moves facts_of lists cursor moved source after moved_on to_first → Stays facts_of keeps limited leaves goes_over cursor moved source after
-    → IsTrue (facts (store_of after)).faithful → lists cursor source at → ReadsApart facts store_of with_store gathers keeps cursor (λ number. next ≤ number)
-    → AreDisjoint (gathers source) (λ number. next ≤ number) → AreDisjoint (goes_over cursor) (λ number. next ≤ number)
+    → IsTrue (facts (store_of after)).faithful → lists cursor source at → ReadsApart facts store_of with_store gathers keeps cursor (IsToCome next)
+    → AreDisjoint (gathers source) (IsToCome next) → AreDisjoint (goes_over cursor) (IsToCome next)
     → IsJob cmp deep facts store_of with_store gathers lists keeps goes_over last moved c w after next [] at.entries
 starts cmp deep facts store_of with_store gathers facts_of lists keeps limited leaves goes_over are left last cursor moved c w source after next at none empty chooses written moves stays t h apart ungathered outside = record {
   merging = merging-none cmp deep last c w (facts (store_of after)) next empty chooses written;
   left = moves (subst (λ (f : Facts). IsTrue f.faithful) (sym (are after)) t) at h;
-  apart = apart-on facts store_of with_store gathers keeps cursor moved (λ number. next ≤ number) (IsMine w next) (λ n is. mine-next w next n none is) stays.same apart;
+  apart = apart-on facts store_of with_store gathers keeps cursor moved (IsToCome next) (IsMine w next) (λ n is. mine-next w next n none is) stays.same apart;
   ungathered = λ n kept_of is. elim (left cursor source after stays.left n kept_of) [
     | inl before ↦ ungathered n before (mine-next w next n none is)
     | inr read ↦ outside n read (mine-next w next n none is)
@@ -155,6 +155,6 @@ starts cmp deep facts store_of with_store gathers facts_of lists keeps limited l
   outside = λ n read is. outside n (stays.within n read) (mine-next w next n none is);
 }
   where
-    mine-next : (w : Written) (next n : ℕ) → w ≡ record { closed = []; at_hand = None } → IsMine w next n → next ≤ n
+    mine-next : (w : Written) (next n : ℕ) → w ≡ record { closed = []; at_hand = None } → IsMine w next n → IsToCome next n
     mine-next w next n none (inl at) = absurd (subst (λ (v : Written). IsNumberAtHand v n) none at)
     mine-next w next n none (inr le) = le

@@ -1,5 +1,5 @@
 -- What was merged and written.
-use Rattle.std.proofs.Common.{◌≡◌, ◌<◌, ◌≤◌, ◌+◌, ℕ, Bool, true, nat_lt, Option, Some, None, List, [], ◌∷◌, ◌++◌, map, length, take, get_or, inl, inr, refl, sym, ap, subst, ◌∙◌, arith}
+use Rattle.std.proofs.Common.{◌^◌, ◌≡◌, ◌<◌, ◌≤◌, ◌+◌, ℕ, Bool, true, nat_lt, Option, Some, None, List, [], ◌∷◌, ◌++◌, map, length, take, get_or, inl, inr, refl, sym, ap, subst, ◌∙◌, arith}
 use Rattle.std.specs.List.{AllByRecursion}
 use Rattle.std.specs.declared.cmp.Ordering.{Ordering}
 use Rattle.std.specs.declared.cmp.Ordering.TheVariants.{Less}
@@ -39,9 +39,9 @@ pub mine-on : (o u v : Written) (n m e : ℕ) → n ≤ m → m ≤ e → KeepsM
 mine-on o u v n m e le more keeps last = λ k at. mine-then o u n m e k le more keeps (last k at)
 
 -- what is to be written was to be written before
-pub mine-before : (o u : Written) (n m k : ℕ) → n ≤ m → KeepsMine o n u m → IsMine u m k → IsMine o n k
-mine-before o u n m k le keeps (inl at) = mine-in o n m k (keeps k at)
-mine-before o u n m k le keeps (inr more) = inr (omega (arith, le, more))
+pub mine-before : (o u : Written) (n m k : ℕ) → n ≤ m → m < 2 ^ 64 → KeepsMine o n u m → IsMine u m k → IsMine o n k
+mine-before o u n m k le fits keeps (inl at) = mine-in o n m k fits (keeps k at)
+mine-before o u n m k le fits keeps (inr more) = inr (omega (arith, le, more.0), more.1)
 
 pub writes-on : (a b d : Facts) (o u : Written) (n m e : ℕ) → n ≤ m → m ≤ e → KeepsMine o n u m → WritesTables a b (IsMineUpTo o n m) → WritesTables b d (IsMineUpTo u m e) → WritesTables a d (IsMineUpTo o n e)
 writes-on a b d o u n m e le more keeps w v = writes-then a b d (IsMineUpTo o n m) (IsMineUpTo u m e) (IsMineUpTo o n e) (λ k h. mine-up o n m e k more h) (λ k h. mine-then o u n m e k le more keeps h) w v

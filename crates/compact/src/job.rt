@@ -57,7 +57,7 @@ impl<K: KeyOrder, C: Drop> Job<K, C> {
     ghost use Rattle.ikey.specs.Entries.{InternalEntry, entry_of};
     ghost use Rattle.compact.specs.Merging.{IsBetween, IsLimited, IsMerging, IsSlice, IsFinished, KeepsMine, ReadsApart, AreDisjoint, HaveOwnSequences};
     ghost use Rattle.compact.specs.JobEdits.{IsPlanProper, IsOwnIn};
-    ghost use Rattle.compact.specs.Outputs.{AreNumbered, IsMineUpTo, IsNumberAtHand, IsOwn, NumbersOn, WritesTables, RefusesEntry};
+    ghost use Rattle.compact.specs.Outputs.{AreNumbered, IsMineUpTo, IsNumberAtHand, IsOwn, IsToCome, NumbersOn, WritesTables, RefusesEntry};
     ghost use Rattle.compact.specs.Rooms.{AreLarge};
     ghost use Rattle.table.specs.Reading.{Reads};
 
@@ -86,8 +86,8 @@ impl<K: KeyOrder, C: Drop> Job<K, C> {
         ensures refused { IfErr result (λ e. RefusesEntry e (S.facts (H.store_of source.old)) (S.facts (H.store_of source.new))
             (IsTrue (S.facts (H.store_of source.new)).faithful → ListsNone C.lists cursor source.old) (IsTrue (S.facts (H.store_of source.new)).faithful → ListsNone C.lists cursor source.old ⊎ C.limited cursor source.old) ⊥) }
         ensures started { IfOk result (λ job. (deep : List ℕ → Bool) (next : ℕ) (at : Listed) → IsTrue (S.facts (H.store_of source.new)).faithful
-            → C.lists cursor source.old at → ReadsApart S.facts H.store_of H.with_store H.gathers C.keeps cursor (λ number. next ≤ number)
-            → AreDisjoint (H.gathers source.old) (λ number. next ≤ number) → AreDisjoint (C.over cursor) (λ number. next ≤ number)
+            → C.lists cursor source.old at → ReadsApart S.facts H.store_of H.with_store H.gathers C.keeps cursor (IsToCome next)
+            → AreDisjoint (H.gathers source.old) (IsToCome next) → AreDisjoint (C.over cursor) (IsToCome next)
             → IsBetween K.cmp deep S.facts H.store_of H.with_store H.gathers C.lists C.keeps C.over job source.new next [] at.entries) }
     {
         let mut cursor = cursor;

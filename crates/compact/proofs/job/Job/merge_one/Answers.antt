@@ -32,7 +32,7 @@ returns-clause-merged g c = λ came entry rest t h.
     c.requires.facts g.met.H.HasStore.replaced g.met.H.HasStore.apart c.requires.gathers g.met.C.Cursor.kept
     c.args.self.now.last.items c.set_bytes.new.bytes.items c.args.self.now.cursor c.next.new.self c.args.self.now.selection c.take.new.self c.args.self.now.outputs c.write_chosen.new.outputs
     c.args.source.now c.store_mut.result.now c.write_chosen.new.store c.next.new.source c.args.numbers.now.next c.write_chosen.new.numbers.next came entry rest c.in_ok-choice.choice
-    c.store_mut.ensures.value (writes-mine (g.S.Store.facts c.store_mut.result.now) (g.S.Store.facts c.write_chosen.new.store) c.args.self.now.outputs c.args.numbers.now.next c.write_chosen.new.numbers.next c.in_ok-write_chosen.ensures.writes) c.in_ok-write_chosen.ensures.numbers c.in_ok-write_chosen.ensures.mine c.in_ok-next.ensures.moves c.in_ok-next.ensures.stays t over_is
+    c.store_mut.ensures.value (writes-mine (g.S.Store.facts c.store_mut.result.now) (g.S.Store.facts c.write_chosen.new.store) c.args.self.now.outputs c.args.numbers.now.next c.write_chosen.new.numbers.next c.write_chosen.new.numbers.in_range.1 c.in_ok-write_chosen.ensures.writes) c.in_ok-write_chosen.ensures.numbers c.write_chosen.new.numbers.in_range.1 c.in_ok-write_chosen.ensures.mine c.in_ok-next.ensures.moves c.in_ok-next.ensures.stays t over_is
     (λ last_key x is up. c.comes_behind.ensures.behind c.if-not-comes_behind.false last_key entry.key x (entry_of entry) (subst (λ (bytes : List ℕ). IsKey bytes last_key) (sym c.as_slice.ensures.value) is) is_key up refl refl)
     (λ xs ys behind chosen. c.in_ok-choice.ensures.chosen xs ys (entry_of entry) (ap (λ (x : Key). x.user) same) (ap (λ (x : Key). x.sequence) same) (kind-kept entry.key.kind entry.value ∙ ap (λ (x : Key). x.kind) same) behind chosen)
     (λ tb pairs kept are is.
@@ -143,16 +143,16 @@ returns-in_err-next-clause-refused g c =
     none t at (still-lists g.K.KeyOrder.cmp (g.D.DeeperFiles.covers c.args.deeper.now) g.S.Store.facts g.H.HasStore.store_of g.H.HasStore.with_store g.H.HasStore.gathers g.C.Cursor.facts g.C.Cursor.lists g.C.Cursor.keeps g.C.Cursor.limited g.C.Cursor.leaves g.C.Cursor.over
     c.requires.facts g.met.H.HasStore.replaced g.met.H.HasStore.apart c.requires.gathers g.met.C.Cursor.kept
     c.args.self.now.cursor c.next.new.self c.args.source.now c.store_mut.result.now c.write_chosen.new.store c.next.new.source (IsMine c.args.self.now.outputs c.args.numbers.now.next) at
-    c.store_mut.ensures.value (writes-mine (g.S.Store.facts c.store_mut.result.now) (g.S.Store.facts c.write_chosen.new.store) c.args.self.now.outputs c.args.numbers.now.next c.write_chosen.new.numbers.next c.in_ok-write_chosen.ensures.writes) h.apart h.ungathered c.in_err-next.ensures.stays t h.left))
+    c.store_mut.ensures.value (writes-mine (g.S.Store.facts c.store_mut.result.now) (g.S.Store.facts c.write_chosen.new.store) c.args.self.now.outputs c.args.numbers.now.next c.write_chosen.new.numbers.next c.write_chosen.new.numbers.in_range.1 c.in_ok-write_chosen.ensures.writes) h.apart h.ungathered c.in_err-next.ensures.stays t h.left))
     (λ lim t came entry rest h. elim (lim t) [
       | inl none ↦ absurd (none (listed (came ++ entry ∷ rest) (within (came ++ entry ∷ rest) (length came))) (still-lists g.K.KeyOrder.cmp (g.D.DeeperFiles.covers c.args.deeper.now) g.S.Store.facts g.H.HasStore.store_of g.H.HasStore.with_store g.H.HasStore.gathers g.C.Cursor.facts g.C.Cursor.lists g.C.Cursor.keeps g.C.Cursor.limited g.C.Cursor.leaves g.C.Cursor.over
           c.requires.facts g.met.H.HasStore.replaced g.met.H.HasStore.apart c.requires.gathers g.met.C.Cursor.kept
           c.args.self.now.cursor c.next.new.self c.args.source.now c.store_mut.result.now c.write_chosen.new.store c.next.new.source (IsMine c.args.self.now.outputs c.args.numbers.now.next) (listed (came ++ entry ∷ rest) (within (came ++ entry ∷ rest) (length came)))
-          c.store_mut.ensures.value (writes-mine (g.S.Store.facts c.store_mut.result.now) (g.S.Store.facts c.write_chosen.new.store) c.args.self.now.outputs c.args.numbers.now.next c.write_chosen.new.numbers.next c.in_ok-write_chosen.ensures.writes) h.apart h.ungathered c.in_err-next.ensures.stays t h.left))
+          c.store_mut.ensures.value (writes-mine (g.S.Store.facts c.store_mut.result.now) (g.S.Store.facts c.write_chosen.new.store) c.args.self.now.outputs c.args.numbers.now.next c.write_chosen.new.numbers.next c.write_chosen.new.numbers.in_range.1 c.in_ok-write_chosen.ensures.writes) h.apart h.ungathered c.in_err-next.ensures.stays t h.left))
       | inr past ↦ inl (g.met.C.Cursor.limits_kept c.args.self.now.cursor c.args.source.now mid (still-keeps g.K.KeyOrder.cmp (g.D.DeeperFiles.covers c.args.deeper.now) g.S.Store.facts g.H.HasStore.store_of g.H.HasStore.with_store g.H.HasStore.gathers g.C.Cursor.facts g.C.Cursor.lists g.C.Cursor.keeps g.C.Cursor.limited g.C.Cursor.leaves g.C.Cursor.over
           c.requires.facts g.met.H.HasStore.replaced g.met.H.HasStore.apart c.requires.gathers g.met.C.Cursor.kept
           c.args.self.now.cursor c.next.new.self c.args.source.now c.store_mut.result.now c.write_chosen.new.store c.next.new.source (IsMine c.args.self.now.outputs c.args.numbers.now.next)
-          c.store_mut.ensures.value (writes-mine (g.S.Store.facts c.store_mut.result.now) (g.S.Store.facts c.write_chosen.new.store) c.args.self.now.outputs c.args.numbers.now.next c.write_chosen.new.numbers.next c.in_ok-write_chosen.ensures.writes) h.apart h.ungathered c.in_err-next.ensures.stays t) past)
+          c.store_mut.ensures.value (writes-mine (g.S.Store.facts c.store_mut.result.now) (g.S.Store.facts c.write_chosen.new.store) c.args.self.now.outputs c.args.numbers.now.next c.write_chosen.new.numbers.next c.write_chosen.new.numbers.in_range.1 c.in_ok-write_chosen.ensures.writes) h.apart h.ungathered c.in_err-next.ensures.stays t) past)
     ])
     (λ u. u)
     (refuses-moving c.in_err-next.field-0.0 (g.C.Cursor.facts mid) (g.C.Cursor.facts c.next.new.source) b d (ListsNone g.C.Cursor.lists c.args.self.now.cursor mid) (g.C.Cursor.limited c.args.self.now.cursor mid) spent
@@ -170,5 +170,5 @@ returns-clause-limits g c = λ came entry rest t h past.
     g.met.C.Cursor.limits_kept c.args.self.now.cursor c.args.source.now mid (still-keeps g.K.KeyOrder.cmp (g.D.DeeperFiles.covers c.args.deeper.now) g.S.Store.facts g.H.HasStore.store_of g.H.HasStore.with_store g.H.HasStore.gathers g.C.Cursor.facts g.C.Cursor.lists g.C.Cursor.keeps g.C.Cursor.limited g.C.Cursor.leaves g.C.Cursor.over
     c.requires.facts g.met.H.HasStore.replaced g.met.H.HasStore.apart c.requires.gathers g.met.C.Cursor.kept
     c.args.self.now.cursor c.next.new.self c.args.source.now c.store_mut.result.now c.write_chosen.new.store c.next.new.source (IsMine c.args.self.now.outputs c.args.numbers.now.next)
-    c.store_mut.ensures.value (writes-mine (g.S.Store.facts c.store_mut.result.now) (g.S.Store.facts c.write_chosen.new.store) c.args.self.now.outputs c.args.numbers.now.next c.write_chosen.new.numbers.next c.in_ok-write_chosen.ensures.writes) h.apart h.ungathered c.in_ok-next.ensures.stays t)
+    c.store_mut.ensures.value (writes-mine (g.S.Store.facts c.store_mut.result.now) (g.S.Store.facts c.write_chosen.new.store) c.args.self.now.outputs c.args.numbers.now.next c.write_chosen.new.numbers.next c.write_chosen.new.numbers.in_range.1 c.in_ok-write_chosen.ensures.writes) h.apart h.ungathered c.in_ok-next.ensures.stays t)
     (c.in_ok-next.ensures.stays.limit (subst (λ (f : Facts). IsTrue f.faithful) (sym (c.requires.facts c.next.new.source)) t) past)
