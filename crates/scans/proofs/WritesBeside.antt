@@ -1,15 +1,14 @@
 -- New tables that are written beside those that are read.
-use Rattle.std.proofs.Common.{◌≡◌, ◌≢◌, ℕ, ◌<◌, ◌^◌, IsTrue, List, Some, Contains, inl, inr, refl, sym, subst, ◌∙◌}
+use Rattle.std.proofs.Common.{◌≡◌, ℕ, ◌<◌, ◌^◌, IsTrue, inl, inr, refl, sym, subst, ◌∙◌}
 use Rattle.std.specs.FinMap.{get}
-use Rattle.cache.specs.Blocks.{KeptBlock}
-use Rattle.cache.specs.Tables.{KeptTable, table_at}
+use Rattle.cache.specs.Tables.{table_at}
 use Rattle.compact.specs.Outputs.{WritesTables}
 use Rattle.cursor.specs.Places.{Cmp}
 use Rattle.edits.specs.declared.names.FileName.TheVariants.{OldTable, Table}
 use Rattle.edits.specs.Names.{name_of}
 use Rattle.scans.specs.Inputs.{KeepsFiles}
 use Rattle.scans.proofs.TableNames.{no_old_table, one_table}
-use Rattle.sources.specs.Tables.{IsSound, KeepsOf, Seen, SoundLasts}
+use Rattle.sources.specs.Tables.{KeepsOf, Seen, SoundLasts}
 use Rattle.sources.proofs.Sounding.{same_file, same_table}
 use Rattle.store.specs.Files.{Facts}
 

@@ -1,6 +1,8 @@
 //! What a compaction reads (LevelDB's db/version_set.cc, VersionSet::MakeInputIterator).
 
 ghost use Rattle.std.specs.Prelude.{◌≡◌, ℕ, None, IfOk};
+ghost use Rattle.compact.specs.Merging.{AreDisjoint, ReadsApart};
+ghost use Rattle.compact.specs.Outputs.{IsToCome};
 ghost use Rattle.cursor.specs.declared.merge.Merge.{Merge};
 ghost use Rattle.ikey.specs.Orders.{order_of};
 ghost use Rattle.rows.specs.InRows.{HasNumber};
@@ -9,12 +11,14 @@ ghost use Rattle.scans.specs.Places.{OneGoesOver};
 ghost use Rattle.scans.specs.Whole.{whole};
 ghost use Rattle.scans.specs.declared.source.Sources.{Sources};
 ghost use Rattle.scans.specs.declared.source_cursor.SourceCursor.{SourceCursor};
+ghost use Rattle.sources.specs.Tables.{KeepsOf, seen};
 
 use crate::beginning::{add_levels, add_newest};
 use crate::source_cursor::SourceCursor;
 use cursor::{Merge, lists_have_a_union};
 use ikey::KeyOrder;
 use rows::row_begins;
+use sources::sound_lasts;
 use std::alloc::{AllocError, Global};
 use std::rc::Rc;
 use store::Store;
@@ -53,3 +57,14 @@ pub fn moves_read_no_memory<K: KeyOrder, S: Store>()
         → KeepsMerge K.cmp new (whole (S.facts s.tables.store) s.tables.tables s.tables.blocks s.memory) (whole (S.facts t.tables.store) t.tables.tables t.tables.blocks t.memory))
         → ReadsNoMemory K.cmp old → ReadsNoMemory K.cmp new }
 {}
+
+/// Tables that a compaction writes are apart from those that a merge reads that goes over tables of lower numbers alone.
+pub fn inputs_read_apart<K: KeyOrder, S: Store>()
+    ensures { (merge : Merge K (SourceCursor K K.KeyOrder)) (next : ℕ) → ReadsNoMemory K.cmp merge → AreDisjoint (OneGoesOver merge.children.items) (IsToCome next)
+        → ReadsApart S.facts (λ source. source.tables.store) (λ source store. record source { tables = record source.tables { store = store } })
+        (λ (source : Sources K S) number. KeepsOf (seen (S.facts source.tables.store) source.tables.tables source.tables.blocks) number)
+        (λ merge old new. KeepsMerge K.cmp merge (whole (S.facts old.tables.store) old.tables.tables old.tables.blocks old.memory) (whole (S.facts new.tables.store) new.tables.tables new.tables.blocks new.memory))
+        merge (IsToCome next) }
+{
+    sound_lasts();
+}

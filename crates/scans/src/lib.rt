@@ -9,7 +9,7 @@ mod scan;
 mod source;
 mod source_cursor;
 
-pub use inputs::{merge_stays, merge_tables, moves_read_no_memory};
+pub use inputs::{inputs_read_apart, merge_stays, merge_tables, moves_read_no_memory};
 pub use laws::writes_are_kept;
 pub use scan::Scan;
 pub use source::Sources;

@@ -18,6 +18,8 @@ mod folders;
 #[cfg(test)]
 mod generations;
 #[cfg(test)]
+mod inputs;
+#[cfg(test)]
 mod memory_cursors;
 #[cfg(test)]
 mod memory_tables;

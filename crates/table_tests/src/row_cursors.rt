@@ -24,7 +24,7 @@ const ROW: [(u64, &str, [&[u8]; 2]); 3] = [
 ];
 
 #[derive(Clone, Copy)]
-enum Turn {
+pub enum Turn {
     First,
     Last,
     Seek(&'static [u8]),
@@ -62,7 +62,7 @@ fn pairs(alloc: Global) -> Result<Vec<KeyValue>, AllocError> {
     Ok(pairs)
 }
 
-fn write_table(
+pub fn write_table(
     alloc: Global,
     store: &mut FaultStore,
     name: &str,
@@ -95,10 +95,15 @@ fn tables_of(alloc: Global) -> Result<Tables<Bytewise, FaultStore>, Fail> {
     })
 }
 
-fn placed(alloc: Global, number: u64, users: &[&[u8]; 2]) -> Result<PlacedTable, AllocError> {
+pub fn placed(
+    alloc: Global,
+    level: u32,
+    number: u64,
+    users: &[&[u8]; 2],
+) -> Result<PlacedTable, AllocError> {
     let [first, last] = users;
     Ok(PlacedTable {
-        level: 1,
+        level,
         table: TableFile {
             number,
             size: 1,
@@ -135,7 +140,7 @@ pub fn empty_layout(alloc: Global) -> Result<Layout, AllocError>
 fn version_of(alloc: Global) -> Result<Rc<Version<Bytewise>>, Fail> {
     let mut edit = Vec::new(alloc);
     for (number, _, users) in ROW {
-        edit.push(Field::NewFile(placed(alloc, number, &users)?))?;
+        edit.push(Field::NewFile(placed(alloc, 1, number, &users)?))?;
     }
     let layout = empty_layout(alloc)?;
     let Ok(empty) = Version::<Bytewise>::new(alloc, &layout) else {
@@ -156,7 +161,7 @@ fn row_of(alloc: Global, from: usize, end: usize) -> Result<RowCursor<Bytewise>,
     Ok(RowCursor::over(version, from, end))
 }
 
-fn step<S, C: Cursor<Bytewise, S>>(
+pub fn step<S, C: Cursor<Bytewise, S>>(
     cursor: &mut C,
     alloc: Global,
     source: &mut S,
@@ -211,7 +216,7 @@ fn a_row_is_walked_as_its_list(rt: HostRuntime) -> Result<(), Fail> {
 }
 
 // Whether it stands on the user key, whose entry has it as its value.
-fn stands_on<S, C: Cursor<Bytewise, S>>(cursor: &C, source: &S, user: &[u8]) -> bool {
+pub fn stands_on<S, C: Cursor<Bytewise, S>>(cursor: &C, source: &S, user: &[u8]) -> bool {
     cursor.stands() && cursor.value(source) == user
 }
 
