@@ -1,6 +1,7 @@
 pub mod Choices
 pub mod Editing
 pub mod Keeping
+pub mod Leavings
 pub mod Merges
 pub mod Numbered
 pub mod Parts

@@ -31,7 +31,7 @@ use Rattle.compact.proofs.Loads.{well-append}
 use Rattle.compact.proofs.Parts.{Among-push}
 use Rattle.compact.proofs.Writing.{mine-in, mine-up, writes-then}
 
-mine-then : (o u : Written) (n m e k : ℕ) → n ≤ m → m ≤ e → KeepsMine o n u m → IsMineUpTo u m e k → IsMineUpTo o n e k
+pub mine-then : (o u : Written) (n m e k : ℕ) → n ≤ m → m ≤ e → KeepsMine o n u m → IsMineUpTo u m e k → IsMineUpTo o n e k
 mine-then o u n m e k le more keeps (inl at) = mine-up o n m e k more (keeps k at)
 mine-then o u n m e k le more keeps (inr h) = inr (omega (arith, le, h.0), h.1)
 

@@ -2,6 +2,7 @@ pub mod Choosing
 pub mod Deeper
 pub mod JobEdits
 pub mod Laws
+pub mod Leaving
 pub mod Lists
 pub mod Merging
 pub mod Needed

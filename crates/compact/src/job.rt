@@ -58,6 +58,7 @@ impl<K: KeyOrder, C: Drop> Job<K, C> {
     ghost use Rattle.compact.specs.Merging.{IsBetween, IsLimited, IsMerging, IsSlice, IsFinished, KeepsMine, ReadsApart, AreDisjoint, HaveOwnSequences};
     ghost use Rattle.compact.specs.JobEdits.{IsPlanProper, IsOwnIn};
     ghost use Rattle.compact.specs.Outputs.{AreNumbered, IsMineUpTo, IsNumberAtHand, IsOwn, IsToCome, NumbersOn, WritesTables, RefusesEntry};
+    ghost use Rattle.compact.specs.Leaving.{LeavesOthers};
     ghost use Rattle.compact.specs.Rooms.{AreLarge};
     ghost use Rattle.table.specs.Reading.{Reads};
 
@@ -81,6 +82,9 @@ impl<K: KeyOrder, C: Drop> Job<K, C> {
         ensures snapshots { IfOk result (λ job. job.selection.snapshots ≡ snapshots.now) }
         ensures written { IfOk result (λ job. job.outputs ≡ record { closed = []; at_hand = None }) }
         ensures reads { Reads (S.facts (H.store_of source.old)) (S.facts (H.store_of source.new)) }
+        ensures left { C.leaves (C.over cursor) source.old source.new }
+        ensures within { IfOk result (λ job. (number : ℕ) → C.over job.cursor number → C.over cursor number) }
+        ensures same { IfOk result (λ job. (s t : H) → C.keeps cursor s t → C.keeps job.cursor s t) }
         ensures stood { OnOk result ((S.facts (H.store_of source.new)).failures ≡ (S.facts (H.store_of source.old)).failures) }
         ensures limits { IfOk result (λ job. IsTrue (S.facts (H.store_of source.new)).faithful → IsLimited C.limited job source.new → C.limited cursor source.old) }
         ensures refused { IfErr result (λ e. RefusesEntry e (S.facts (H.store_of source.old)) (S.facts (H.store_of source.new))
@@ -127,6 +131,7 @@ impl<K: KeyOrder, C: Drop> Job<K, C> {
         ensures mine { OnOk result (KeepsMine self.old.outputs numbers.old.next self.new.outputs numbers.new.next) }
         ensures numbered { OnOk result (NumbersOn self.old.outputs numbers.old.next self.new.outputs numbers.new.next) }
         ensures writes { WritesTables (S.facts (H.store_of source.old)) (S.facts (H.store_of source.new)) (IsMineUpTo self.old.outputs numbers.old.next numbers.new.next) }
+        ensures leaves { LeavesOthers S.facts H.store_of H.with_store C.keeps C.leaves C.over (IsMineUpTo self.old.outputs numbers.old.next numbers.new.next) self.old.cursor self.new.cursor source.old source.new }
         ensures stood { OnOk result ((S.facts (H.store_of source.new)).failures ≡ (S.facts (H.store_of source.old)).failures) }
         ensures refused { IfErr result (λ e. RefusesEntry e (S.facts (H.store_of source.old)) (S.facts (H.store_of source.new))
             (IsTrue (S.facts (H.store_of source.new)).faithful → (came : List InternalEntry) (rest : List InternalEntry)
@@ -219,6 +224,7 @@ impl<K: KeyOrder, C: Drop> Job<K, C> {
         ensures mine { OnOk result (KeepsMine self.old.outputs numbers.old.next self.new.outputs numbers.new.next) }
         ensures numbered { OnOk result (NumbersOn self.old.outputs numbers.old.next self.new.outputs numbers.new.next) }
         ensures writes { WritesTables (S.facts (H.store_of source.old)) (S.facts (H.store_of source.new)) (IsMineUpTo self.old.outputs numbers.old.next numbers.new.next) }
+        ensures leaves { LeavesOthers S.facts H.store_of H.with_store C.keeps C.leaves C.over (IsMineUpTo self.old.outputs numbers.old.next numbers.new.next) self.old.cursor self.new.cursor source.old source.new }
         ensures stood { OnOk result ((S.facts (H.store_of source.new)).failures ≡ (S.facts (H.store_of source.old)).failures) }
         ensures refused { IfErr result (λ e. RefusesEntry e (S.facts (H.store_of source.old)) (S.facts (H.store_of source.new))
             (IsTrue (S.facts (H.store_of source.new)).faithful → (came : List InternalEntry) (entry : InternalEntry) (rest : List InternalEntry)

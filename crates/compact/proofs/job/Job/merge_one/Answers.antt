@@ -14,6 +14,7 @@ use Rattle.compact.specs.Rooms.{AreLarge}
 use Rattle.compact.proofs.Loads.{rewritten, well-rewritten, same-rewritten, is-rewritten, large-chosen}
 use Rattle.compact.specs.Outputs.{HasWritten, IsMine, IsMineUpTo, WritesTables}
 use Rattle.compact.proofs.Jobs.{job-step, writes-move, still-keeps, still-lists, still-move, refuses-same, refuses-moving}
+use Rattle.compact.proofs.Leavings.{leaves-moved, leaves-written}
 use Rattle.compact.proofs.Merges.{kind-kept}
 use Rattle.compact.proofs.Passing.{standing, at_place}
 use Rattle.compact.proofs.Refusing.{never-behind, writes-rise}
@@ -172,3 +173,18 @@ returns-clause-limits g c = λ came entry rest t h past.
     c.args.self.now.cursor c.next.new.self c.args.source.now c.store_mut.result.now c.write_chosen.new.store c.next.new.source (IsMine c.args.self.now.outputs c.args.numbers.now.next)
     c.store_mut.ensures.value (writes-mine (g.S.Store.facts c.store_mut.result.now) (g.S.Store.facts c.write_chosen.new.store) c.args.self.now.outputs c.args.numbers.now.next c.write_chosen.new.numbers.next c.write_chosen.new.numbers.in_range.1 c.in_ok-write_chosen.ensures.writes) h.apart h.ungathered c.in_ok-next.ensures.stays t)
     (c.in_ok-next.ensures.stays.limit (subst (λ (f : Facts). IsTrue f.faithful) (sym (c.requires.facts c.next.new.source)) t) past)
+
+pub returns-in_err-write_chosen-clause-leaves : goal.returns-in_err-write_chosen-clause-leaves
+returns-in_err-write_chosen-clause-leaves g c =
+    leaves-written g.S.Store.facts g.H.HasStore.store_of g.H.HasStore.with_store g.C.Cursor.facts g.C.Cursor.keeps g.C.Cursor.limited g.C.Cursor.leaves g.C.Cursor.over (IsMineUpTo c.args.self.now.outputs c.args.numbers.now.next c.write_chosen.new.numbers.next)
+    c.args.self.now.cursor c.args.source.now c.store_mut.result.now c.write_chosen.new.store c.store_mut.ensures.value c.in_err-write_chosen.ensures.writes
+
+pub returns-in_err-next-clause-leaves : goal.returns-in_err-next-clause-leaves
+returns-in_err-next-clause-leaves g c =
+    leaves-moved g.S.Store.facts g.H.HasStore.store_of g.H.HasStore.with_store g.C.Cursor.facts g.C.Cursor.keeps g.C.Cursor.limited g.C.Cursor.leaves g.C.Cursor.over (IsMineUpTo c.args.self.now.outputs c.args.numbers.now.next c.write_chosen.new.numbers.next)
+    c.args.self.now.cursor c.next.new.self c.args.source.now c.store_mut.result.now c.write_chosen.new.store c.next.new.source c.store_mut.ensures.value c.in_ok-write_chosen.ensures.writes c.in_err-next.ensures.stays
+
+pub returns-clause-leaves : goal.returns-clause-leaves
+returns-clause-leaves g c =
+    leaves-moved g.S.Store.facts g.H.HasStore.store_of g.H.HasStore.with_store g.C.Cursor.facts g.C.Cursor.keeps g.C.Cursor.limited g.C.Cursor.leaves g.C.Cursor.over (IsMineUpTo c.args.self.now.outputs c.args.numbers.now.next c.write_chosen.new.numbers.next)
+    c.args.self.now.cursor c.next.new.self c.args.source.now c.store_mut.result.now c.write_chosen.new.store c.next.new.source c.store_mut.ensures.value c.in_ok-write_chosen.ensures.writes c.in_ok-next.ensures.stays

@@ -9,6 +9,7 @@ use Rattle.compact.specs.Merging.{IsBetween, IsLimited, HaveOwnSequences}
 use Rattle.compact.specs.Rooms.{AreLarge}
 use Rattle.compact.specs.Outputs.{IsMineUpTo}
 use Rattle.compact.proofs.Jobs.{job-more, job-all}
+use Rattle.compact.proofs.Leavings.{leaves-all, leaves-on}
 use Rattle.compact.proofs.Merges.{mine-on, writes-on}
 use Rattle.compact.proofs.Passing.{some-left, none-left, not-ended, front-more, longer, not-true, not-false}
 use Rattle.compact.proofs.Writing.{refuses-as, writes-nothing}
@@ -48,6 +49,9 @@ loop-merged-preserved g c =
       omega (arith, inv.6, c.in_ok-merge_one.ensures.drawn),
       numbers-then c.args.self.now.outputs c.loop-merged.self.outputs c.merge_one.new.self.outputs c.args.numbers.now.next c.loop-merged.numbers.next c.merge_one.new.numbers.next inv.0 inv.7 c.in_ok-merge_one.ensures.numbered,
       c.in_ok-merge_one.ensures.stood ∙ inv.8,
+      leaves-on g.S.Store.facts g.H.HasStore.store_of g.H.HasStore.with_store g.C.Cursor.facts g.C.Cursor.keeps g.C.Cursor.limited g.C.Cursor.leaves g.C.Cursor.over g.C.Cursor.leaves_more
+          c.args.self.now.outputs c.loop-merged.self.outputs c.args.numbers.now.next c.loop-merged.numbers.next c.merge_one.new.numbers.next c.args.self.now.cursor c.loop-merged.self.cursor c.merge_one.new.self.cursor c.args.source.now c.loop-merged.source c.merge_one.new.source
+          inv.0 c.in_ok-merge_one.ensures.numbers inv.3 inv.9 c.in_ok-merge_one.ensures.leaves,
     )
 
 pub loop-merged-init : goal.loop-merged-init
@@ -70,12 +74,19 @@ loop-merged-init g c =
       omega arith,
       numbers-same c.args.self.now.outputs c.args.numbers.now.next,
       refl,
+      leaves-all g.S.Store.facts g.H.HasStore.store_of g.H.HasStore.with_store g.C.Cursor.facts g.C.Cursor.keeps g.C.Cursor.limited g.C.Cursor.leaves g.C.Cursor.over (IsMineUpTo c.args.self.now.outputs c.args.numbers.now.next c.args.numbers.now.next) c.args.self.now.cursor c.args.source.now,
     )
 
 pub returns-in_err-merge_one-clause-writes : goal.returns-in_err-merge_one-clause-writes
 returns-in_err-merge_one-clause-writes g c =
     writes-on (g.S.Store.facts (g.H.HasStore.store_of c.args.source.now)) (g.S.Store.facts (g.H.HasStore.store_of c.loop-merged.source)) (g.S.Store.facts (g.H.HasStore.store_of c.merge_one.new.source))
     c.args.self.now.outputs c.loop-merged.self.outputs c.args.numbers.now.next c.loop-merged.numbers.next c.merge_one.new.numbers.next c.loop-merged.invariant.0 c.in_err-merge_one.ensures.numbers c.loop-merged.invariant.3 c.loop-merged.invariant.4 c.in_err-merge_one.ensures.writes
+
+pub returns-in_err-merge_one-clause-leaves : goal.returns-in_err-merge_one-clause-leaves
+returns-in_err-merge_one-clause-leaves g c =
+    leaves-on g.S.Store.facts g.H.HasStore.store_of g.H.HasStore.with_store g.C.Cursor.facts g.C.Cursor.keeps g.C.Cursor.limited g.C.Cursor.leaves g.C.Cursor.over g.C.Cursor.leaves_more
+    c.args.self.now.outputs c.loop-merged.self.outputs c.args.numbers.now.next c.loop-merged.numbers.next c.merge_one.new.numbers.next c.args.self.now.cursor c.loop-merged.self.cursor c.merge_one.new.self.cursor c.args.source.now c.loop-merged.source c.merge_one.new.source
+    c.loop-merged.invariant.0 c.in_err-merge_one.ensures.numbers c.loop-merged.invariant.3 c.loop-merged.invariant.9 c.in_err-merge_one.ensures.leaves
 
 pub returns-then-not-stands-clause-sliced : goal.returns-then-not-stands-clause-sliced
 returns-then-not-stands-clause-sliced g c = λ came rest t h.

@@ -1,5 +1,6 @@
 use Rattle.std.proofs.Common.{◌≡◌, ◌≤◌, ◌+◌, ◌++◌, List, IsTrue, length}
 use Rattle.ikey.specs.Entries.{InternalEntry}
+use Rattle.compact.specs.Leaving.{LeavesOthers}
 use Rattle.compact.specs.Merging.{IsBetween, IsLimited, KeepsMine}
 use Rattle.compact.specs.Outputs.{IsMineUpTo, NumbersOn, WritesTables}
 use Rattle.compact.proofs.job.Job.slice.Given as goal
@@ -21,3 +22,4 @@ invariant-loop-merged g l =
     × (l.numbers.next ≤ l.initial.numbers.next + l.merged)
     × NumbersOn l.initial.self.outputs l.initial.numbers.next l.self.outputs l.numbers.next
     × ((g.S.Store.facts (g.H.HasStore.store_of l.source)).failures ≡ (g.S.Store.facts (g.H.HasStore.store_of l.initial.source)).failures)
+    × LeavesOthers g.S.Store.facts g.H.HasStore.store_of g.H.HasStore.with_store g.C.Cursor.keeps g.C.Cursor.leaves g.C.Cursor.over (IsMineUpTo l.initial.self.outputs l.initial.numbers.next l.numbers.next) l.initial.self.cursor l.self.cursor l.initial.source l.source
