@@ -30,10 +30,7 @@ const THREE_TIMES_WITH_AN_ENTRY: &[Line<'static>] = &[
 
 // A script that never works, and the files that it leaves.
 const UNWORKED: [(&[Line<'static>], &str); 2] = [
-    (
-        THREE_TIMES,
-        "000006.log;CURRENT;LOCK;MANIFEST-000005;",
-    ),
+    (THREE_TIMES, "000006.log;CURRENT;LOCK;MANIFEST-000005;"),
     (
         THREE_TIMES_WITH_AN_ENTRY,
         "000002.log;000004.log;000006.log;CURRENT;LOCK;MANIFEST-000005;",
@@ -90,7 +87,8 @@ const TORN: &[Line<'static>] = &[
     ),
 ];
 
-const ALL_BESIDE_A_DAMAGED_LOG: &str = "000001.log;000002.log;000003.ldb;000003.sst;000004.sst;000006.log;000007.dbtmp;CURRENT;LOCK;LOG;MANIFEST-000001;MANIFEST-000005;notes.txt;";
+const ALL_BESIDE_A_DAMAGED_LOG: &str =
+    "000001.log;000002.log;000003.ldb;000003.sst;000004.sst;000006.log;000007.dbtmp;CURRENT;LOCK;LOG;MANIFEST-000001;MANIFEST-000005;notes.txt;";
 
 #[test]
 fn a_refused_open_removes_nothing(rt: HostRuntime) -> Result<(), Fail> {
@@ -101,7 +99,8 @@ fn a_refused_open_removes_nothing(rt: HostRuntime) -> Result<(), Fail> {
     assert_names(&rt, &mut store, ALL_BESIDE_A_DAMAGED_LOG)
 }
 
-const ALL: &str = "000001.log;000002.log;000003.ldb;000003.sst;000004.sst;000007.dbtmp;000009.log;CURRENT;LOCK;LOG;MANIFEST-000001;MANIFEST-000005;MANIFEST-000008;notes.txt;";
+const ALL: &str =
+    "000001.log;000002.log;000003.ldb;000003.sst;000004.sst;000007.dbtmp;000009.log;CURRENT;LOCK;LOG;MANIFEST-000001;MANIFEST-000005;MANIFEST-000008;notes.txt;";
 
 const LIVE_AGAIN: &str = "000011.log;CURRENT;LOCK;LOG;MANIFEST-000010;notes.txt;";
 
