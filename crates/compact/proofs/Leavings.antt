@@ -55,10 +55,10 @@ module _ {C H S : Type 0} (facts : S → Facts) (store_of : H → S) (with_store
       → LeavesOthers facts store_of with_store keeps leaves over (IsMineUpTo o n e) first third a d
   leaves-on more_left o u n m e first second third a b d le more keeps_mine h k = record {
     turns =
-      turns-then facts store_of with_store (leaves (over first)) (IsMineUpTo o n e) h.turns.0 k.turns.0 a b d
-          (turns-more facts store_of with_store (leaves (over first)) (leaves (over first)) (IsMineUpTo o n m) (IsMineUpTo o n e) h.turns.0 a b (λ s t l. l) (λ number is. mine-up o n m e number more is) h.turns.1)
-          (turns-more facts store_of with_store (leaves (over second)) (leaves (over first)) (IsMineUpTo u m e) (IsMineUpTo o n e) k.turns.0 b d (λ s t l. more_left (over second) (over first) s t h.within l)
-          (λ number is. mine-then o u n m e number le more keeps_mine is) k.turns.1);
+        turns-then facts store_of with_store (leaves (over first)) (IsMineUpTo o n e) h.turns.0 k.turns.0 a b d
+        (turns-more facts store_of with_store (leaves (over first)) (leaves (over first)) (IsMineUpTo o n m) (IsMineUpTo o n e) h.turns.0 a b (λ s t l. l) (λ number is. mine-up o n m e number more is) h.turns.1)
+        (turns-more facts store_of with_store (leaves (over second)) (leaves (over first)) (IsMineUpTo u m e) (IsMineUpTo o n e) k.turns.0 b d (λ s t l. more_left (over second) (over first) s t h.within l)
+        (λ number is. mine-then o u n m e number le more keeps_mine is) k.turns.1);
     within = λ number is. h.within number (k.within number is);
     same = λ s t is. k.same s t (h.same s t is);
   }

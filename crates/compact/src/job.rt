@@ -197,6 +197,13 @@ impl<K: KeyOrder, C: Drop> Job<K, C> {
         Ok(edit)
     }
 
+    /// What it compacts.
+    pub fn plan(&self) -> &JobPlan
+        ensures { result.now ≡ self.now.plan }
+    {
+        &self.plan
+    }
+
     /// Whether the table of this number is one that the job writes.
     pub fn writes(&self, number: u64) -> bool
         ensures { MatchBool result (IsOwn self.now.outputs number) (IsOwn self.now.outputs number → ⊥) }

@@ -1,0 +1,1 @@
+-- A job that has begun.
