@@ -1,10 +1,10 @@
 -- What a job reads and leaves of what an open database reads.
-use Rattle.std.proofs.Common.{◌≡◌, ◌⊎◌, ◌<◌, ◌≤◌, ◌^◌, ℕ, zero, suc, Option, Some, None, MatchOption, IsTrue, List, inl, inr, refl, sym, ap, subst, ◌∙◌, arith}
+use Rattle.std.proofs.Common.{◌≡◌, ◌⊎◌, ◌<◌, ◌^◌, ℕ, zero, suc, Option, Some, None, MatchOption, IsTrue, List, inl, inr, sym, ap, subst, ◌∙◌, arith}
 use Rattle.cache.specs.Blocks.{KeptBlock}
-use Rattle.cache.specs.Tables.{KeptTable, table_at}
+use Rattle.cache.specs.Tables.{KeptTable}
 use Rattle.compact.specs.Leaving.{AreTurns, IsTurn}
 use Rattle.compact.specs.Merging.{AreDisjoint, ReadsApart}
-use Rattle.compact.specs.Outputs.{AreNumbered, Filling, IsMine, IsNext, IsNumberAtHand, Written, WritesTables}
+use Rattle.compact.specs.Outputs.{AreNumbered, Filling, IsMine, IsNext, Written, WritesTables}
 use Rattle.cursor.specs.declared.merge.Merge.{Merge}
 use Rattle.cursor.specs.Merging.{AnyLimited, IsMerge, KeepsAll}
 use Rattle.cursor.specs.Places.{Cmp, Listed}
@@ -21,7 +21,7 @@ use Rattle.scans.specs.Whole.{Whole}
 use Rattle.scans.proofs.KeptMerges.{merge_is_kept}
 use Rattle.scans.proofs.Sights.{merged_as}
 use Rattle.scans.proofs.WritesBeside.{beside}
-use Rattle.sources.specs.Tables.{IsSound, KeepsOf, Seen, SoundLasts}
+use Rattle.sources.specs.Tables.{IsSound, KeepsOf, SoundLasts}
 use Rattle.store.specs.Files.{Facts}
 
 -- ---- numbers

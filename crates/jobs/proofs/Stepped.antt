@@ -1,18 +1,15 @@
 -- A job that goes on.
 use Rattle.std.proofs.Common.{◌≡◌, ◌⊎◌, ◌<◌, ◌≤◌, ◌^◌, ◌++◌, ℕ, Bool, IsTrue, List, map, inl, inr, refl, sym, ap, subst, ◌∙◌}
 use Rattle.std.proofs.lemmas.List.{append_assoc}
-use Rattle.cache.specs.Blocks.{KeptBlock}
-use Rattle.cache.specs.Tables.{KeptTable}
 use Rattle.coding.specs.declared.error.DbError.{DbError}
 use Rattle.compact.specs.Deeper.{is_covered_below}
 use Rattle.compact.specs.Leaving.{LeavesOthers}
-use Rattle.compact.specs.Merging.{AreDisjoint, HaveOwnSequences, IsJob, IsMerging, KeepsMine}
-use Rattle.compact.specs.Outputs.{IsMine, IsMineUpTo, IsOwn, NumbersOn, RefusesEntry, WritesTables}
+use Rattle.compact.specs.Merging.{HaveOwnSequences, IsJob, IsMerging, KeepsMine}
+use Rattle.compact.specs.Outputs.{IsMineUpTo, NumbersOn, RefusesEntry, WritesTables}
 use Rattle.compact.specs.Rooms.{AreLarge}
 use Rattle.compact.proofs.Merges.{mine-before}
 use Rattle.compact.proofs.Writing.{mine-in, refuses-as}
 use Rattle.edits.specs.declared.field.PlacedTable.{PlacedTable}
-use Rattle.edits.specs.Layout.{is_used}
 use Rattle.ikey.specs.declared.key_order.KeyOrder.{Ghosts}
 use Rattle.ikey.specs.Entries.{InternalEntry, entry_of}
 use Rattle.ikey.specs.Orders.{Order}
@@ -21,20 +18,17 @@ use Rattle.jobs.specs.declared.open_job.OpenJob.{OpenJob}
 use Rattle.jobs.specs.Running.{IsRunning, deep_of, goes_over, is_input, is_to_write}
 use Rattle.jobs.specs.Stepping.{CanStep, StepKeeps, StepTouches}
 use Rattle.jobs.proofs.Read.{Gathers, IsView, Keeps, Leaves, Limited, Lists, Over, View, led, mine_small, read_lists, reads_apart, seen_lists, whole_of}
-use Rattle.memories.specs.Memories.{Memories}
 use Rattle.recover.specs.Directory.{Directory}
 use Rattle.recover.specs.Tables.{TableContent, tabled}
 use Rattle.rows.specs.InRows.{HasNumber}
 use Rattle.scans.specs.Scans.{IsOnePastLimit}
-use Rattle.scans.specs.Whole.{Whole}
 use Rattle.scans.proofs.KeptMerges.{moved_read_none}
 use Rattle.scans.proofs.WritesBeside.{beside}
-use Rattle.sources.specs.Tables.{KeepsOf, SoundLasts}
+use Rattle.sources.specs.Tables.{SoundLasts}
 use Rattle.store.specs.Files.{Facts}
 use Rattle.upkeep.specs.JobWrites.{FreeNumberLaw, JobWritesLaw}
 use Rattle.upkeep.specs.Planned.{IsPlanned}
 use Rattle.versions.specs.declared.plan.JobPlan.{JobPlan}
-use Rattle.versions.specs.Levels.{Placement}
 
 -- what a plan takes, where plan and version are the same
 pub planned_as : (order : Order) (d : Directory) (inputs rest : List TableContent) (plan same : JobPlan) (tables others : List PlacedTable) → same ≡ plan → others ≡ tables

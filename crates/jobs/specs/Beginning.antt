@@ -1,5 +1,5 @@
 -- What the beginning of a compaction answers.
-use Rattle.std.specs.Prelude.{◌≡◌, ◌<◌, ◌≤◌, ◌^◌, ℕ, List, [], IsTrue, Result, Ok, Err, IfOk, IfErr}
+use Rattle.std.specs.Prelude.{◌<◌, ◌^◌, ℕ, List, [], IsTrue}
 use Rattle.coding.specs.declared.error.DbError.{DbError}
 use Rattle.compact.specs.Merging.{AreDisjoint}
 use Rattle.compact.specs.Outputs.{IsToCome, RefusesEntry}
@@ -14,6 +14,7 @@ use Rattle.scans.specs.Scans.{IsOnePastLimit}
 use Rattle.scans.specs.Whole.{Whole}
 use Rattle.sources.specs.Tables.{IsSound, KeepsOf}
 use Rattle.upkeep.specs.Compactions.{placed_in}
+use Rattle.versions.specs.declared.plan.JobPlan.{JobPlan}
 use Rattle.versions.specs.Levels.{Lists}
 
 -- The files are this directory, whose tables the version lists; what is kept of tables is right, and nothing is kept of one that is
@@ -31,9 +32,9 @@ BeginsJob order tables old new work = IsTrue new.seen.facts.faithful → (next :
     → (left : List InternalEntry) × IsRunning order new next d work [] left
 
 -- Why it isn't begun: out of memory, while no call of the store failed; since the store failed; never as Corrupt over such a
--- directory; and as Unsupported only where the file of one of the version's tables passes a limit of reading.
-abbrev pub RefusesBegin : Order → List PlacedTable → Whole → Whole → DbError → Type 0
-RefusesBegin order tables old new e = RefusesEntry e old.seen.facts new.seen.facts
+-- directory; and as Unsupported only where the file of an input passes a limit of reading.
+abbrev pub RefusesBegin : Order → List PlacedTable → JobPlan → Whole → Whole → DbError → Type 0
+RefusesBegin order tables plan old new e = RefusesEntry e old.seen.facts new.seen.facts
     (IsTrue new.seen.facts.faithful → (next : ℕ) (d : Directory) → CanBegin order old next tables d → ⊥)
-    (IsTrue new.seen.facts.faithful → (next : ℕ) (d : Directory) → CanBegin order old next tables d → IsOnePastLimit order.cmp tables old)
+    (IsTrue new.seen.facts.faithful → (next : ℕ) (d : Directory) → CanBegin order old next tables d → IsOnePastLimit order.cmp plan.inputs.items old)
     ⊥

@@ -1,5 +1,5 @@
 -- What a step of a compaction answers.
-use Rattle.std.specs.Prelude.{◌≡◌, ◌<◌, ◌≤◌, ◌⊎◌, ◌++◌, ◌^◌, ℕ, List, IsTrue, map}
+use Rattle.std.specs.Prelude.{◌≡◌, ◌≤◌, ◌⊎◌, ◌++◌, ◌^◌, ℕ, List, IsTrue, map}
 use Rattle.coding.specs.declared.error.DbError.{DbError}
 use Rattle.compact.specs.declared.job.Progress.{Progress}
 use Rattle.compact.specs.Merging.{IsSlice}

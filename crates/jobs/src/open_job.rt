@@ -1,6 +1,11 @@
 //! A compaction as one value that lives across calls (LevelDB's db/db_impl.cc, DBImpl::DoCompactionWork).
 
-ghost use Rattle.std.specs.Prelude.{◌<◌};
+ghost use Rattle.std.specs.Prelude.{◌<◌, ℕ, IfOk};
+ghost use Rattle.ikey.specs.Orders.{order_of};
+ghost use Rattle.rows.specs.InRows.{HasNumber};
+ghost use Rattle.scans.specs.Inputs.{BeginsMerge, ReadsNoMemory};
+ghost use Rattle.scans.specs.Places.{OneGoesOver};
+ghost use Rattle.versions.specs.Levels.{AreInOrder};
 
 use coding::DbError;
 use compact::{FileNumbers, FilesBelow, Job, Progress};
@@ -9,7 +14,7 @@ use ikey::KeyOrder;
 use search::version_of_part;
 use scans::{SourceCursor, Sources, merge_tables};
 use sources::sound_lasts;
-use std::alloc::Global;
+use std::alloc::{AllocError, Global};
 use std::rc::Rc;
 use store::Store;
 use upkeep::{free_number_law, job_writes_law, planned_law};
@@ -52,13 +57,13 @@ impl<K: KeyOrder> OpenJob<K> {
         requires plan { IsPlanOf K.cmp version.now.value.tables plan }
         ensures plan { IfOk result (λ work. work.job.plan ≡ plan) }
         ensures snapshots { IfOk result (λ work. work.job.selection.snapshots ≡ snapshots.now) }
-        ensures version { IfOk result (λ work. work.version ≡ version.now) }
+        ensures version { IfOk result (λ work. work.version.value ≡ version.now.value) }
         ensures over { IfOk result (λ work. (number : ℕ) → goes_over work number → is_input work number) }
         ensures leaves { LeavesSource K.cmp (HasNumber plan.inputs.items)
             (whole (S.facts source.old.tables.store) source.old.tables.tables source.old.tables.blocks source.old.memory)
             (whole (S.facts source.new.tables.store) source.new.tables.tables source.new.tables.blocks source.new.memory) }
         ensures stood { OnOk result ((S.facts source.new.tables.store).failures ≡ (S.facts source.old.tables.store).failures) }
-        ensures refused { IfErr result (λ e. RefusesBegin (order_of K.name K.cmp) version.now.value.tables
+        ensures refused { IfErr result (λ e. RefusesBegin (order_of K.name K.cmp) version.now.value.tables plan
             (whole (S.facts source.old.tables.store) source.old.tables.tables source.old.tables.blocks source.old.memory)
             (whole (S.facts source.new.tables.store) source.new.tables.tables source.new.tables.blocks source.new.memory) e) }
         ensures begins { IfOk result (λ work. BeginsJob (order_of K.name K.cmp) version.now.value.tables
@@ -68,12 +73,10 @@ impl<K: KeyOrder> OpenJob<K> {
         inputs_in_order();
         planned_law();
         version_of_part();
-        free_number_law();
         sound_lasts();
         // They are in order.
         let _tables = version.tables();
-        let inputs = Rc::new(alloc, Version::over_inputs(alloc, &plan)?)?;
-        let cursor = merge_tables(alloc, &inputs)?;
+        let cursor = cursor_over(alloc, &plan)?;
         let version = version.clone()?;
         let job = Job::start(
             alloc,
@@ -130,4 +133,20 @@ impl<K: KeyOrder> OpenJob<K> {
         let progress = self.job.slice(alloc, source, numbers, &deeper, budget)?;
         Ok(progress)
     }
+}
+
+// A cursor over the entries of a plan's inputs.
+fn cursor_over<K: KeyOrder>(
+    alloc: Global,
+    plan: &JobPlan,
+) -> Result<Merge<K, SourceCursor<K>>, AllocError>
+    requires { AreInOrder K.cmp plan.now.inputs.items }
+    ensures over { IfOk result (λ merge. (number : ℕ) → OneGoesOver merge.children.items number → HasNumber plan.now.inputs.items number) }
+    ensures no_memory { IfOk result (λ merge. ReadsNoMemory K.cmp merge) }
+    ensures begins { IfOk result (λ merge. BeginsMerge (order_of K.name K.cmp) plan.now.inputs.items merge) }
+{
+    let part = Version::over_inputs(alloc, plan)?;
+    let inputs = Rc::new(alloc, part)?;
+    let merge = merge_tables(alloc, &inputs)?;
+    Ok(merge)
 }
