@@ -2,6 +2,8 @@
 //! and lives on while others write, read and flush (LevelDB's db/db_impl.cc, DBImpl::BackgroundCompaction).
 #![tactic(auto)]
 
+mod laws;
 mod open_job;
 
+pub use laws::running_stays;
 pub use open_job::OpenJob;

@@ -1,15 +1,17 @@
 //! A compaction as one value that lives across calls (LevelDB's db/db_impl.cc, DBImpl::DoCompactionWork).
 
-ghost use Rattle.std.specs.Prelude.{◌<◌, ℕ, IfOk};
+ghost use Rattle.std.specs.Prelude.{◌<◌, ℕ, IfOk, MatchBool};
 ghost use Rattle.ikey.specs.Orders.{order_of};
 ghost use Rattle.rows.specs.InRows.{HasNumber};
 ghost use Rattle.scans.specs.Inputs.{BeginsMerge, ReadsNoMemory};
 ghost use Rattle.scans.specs.Places.{OneGoesOver};
+ghost use Rattle.versions.specs.Keeping.{HasNumber as HasTable};
 ghost use Rattle.versions.specs.Levels.{AreInOrder};
 
 use coding::DbError;
 use compact::{FileNumbers, FilesBelow, Job, Progress};
 use cursor::Merge;
+use edits::PlacedTable;
 use ikey::KeyOrder;
 use search::version_of_part;
 use scans::{SourceCursor, Sources, merge_tables};
@@ -31,7 +33,8 @@ pub struct OpenJob<K: KeyOrder> {
 }
 
 impl<K: KeyOrder> OpenJob<K> {
-    ghost use Rattle.std.specs.Prelude.{◌≡◌, ◌<◌, ◌≤◌, ◌+◌, ◌^◌, ℕ, max, IfOk, IfErr, OnOk};
+    ghost use Rattle.std.specs.Prelude.{◌≡◌, ◌<◌, ◌≤◌, ◌+◌, ◌^◌, ℕ, max, IfOk, IfErr, OnOk, MatchBool};
+    ghost use Rattle.compact.specs.Outputs.{IsOwn};
     ghost use Rattle.std.specs.List.Sorted.{IsNonDecreasing};
     ghost use Rattle.ikey.specs.Orders.{order_of};
     ghost use Rattle.jobs.specs.Beginning.{BeginsJob, RefusesBegin};
@@ -40,6 +43,7 @@ impl<K: KeyOrder> OpenJob<K> {
     ghost use Rattle.rows.specs.InRows.{HasNumber};
     ghost use Rattle.scans.specs.Places.{LeavesSource};
     ghost use Rattle.scans.specs.Whole.{whole};
+    ghost use Rattle.versions.specs.Keeping.{HasNumber as HasTable};
     ghost use Rattle.versions.specs.Plans.{IsPlanOf};
 
     /// Begins the job of a plan for a version's tables: its cursor stands on the first entry of the inputs, and no table is begun.
@@ -133,6 +137,35 @@ impl<K: KeyOrder> OpenJob<K> {
         let progress = self.job.slice(alloc, source, numbers, &deeper, budget)?;
         Ok(progress)
     }
+
+    /// What it compacts.
+    pub fn plan(&self) -> &JobPlan
+        ensures { result.now ≡ self.now.job.plan }
+    {
+        self.job.plan()
+    }
+
+    /// Whether the table of this number is one of the inputs.
+    pub fn reads(&self, number: u64) -> bool
+        ensures { MatchBool result (HasTable number self.now.job.plan.inputs.items) (HasTable number self.now.job.plan.inputs.items → ⊥) }
+    {
+        has_number(&self.job.plan().inputs, number)
+    }
+
+    /// Whether the table of this number is one that the job writes.
+    pub fn writes(&self, number: u64) -> bool
+        ensures { MatchBool result (IsOwn self.now.job.outputs number) (IsOwn self.now.job.outputs number → ⊥) }
+    {
+        self.job.writes(number)
+    }
+
+    /// The job alone, as its end wants it.
+    pub fn into_job(self) -> Job<K, Merge<K, SourceCursor<K>>>
+        ensures { result ≡ self.job }
+    {
+        let OpenJob { job, .. } = self;
+        job
+    }
 }
 
 // A cursor over the entries of a plan's inputs.
@@ -149,4 +182,16 @@ fn cursor_over<K: KeyOrder>(
     let inputs = Rc::new(alloc, part)?;
     let merge = merge_tables(alloc, &inputs)?;
     Ok(merge)
+}
+
+// Whether one of these tables has the number.
+fn has_number(tables: &[PlacedTable], number: u64) -> bool
+    ensures { MatchBool result (HasTable number tables.now) (HasTable number tables.now → ⊥) }
+{
+    for placed in tables {
+        if placed.table.number == number {
+            return true;
+        }
+    }
+    false
 }
