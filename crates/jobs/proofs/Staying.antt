@@ -1,23 +1,24 @@
 -- A job while others write.
-use Rattle.std.proofs.Common.{◌≡◌, ◌≤◌, ◌<◌, ℕ, Option, Some, None, MatchBool, MatchOption, List, [], ◌∷◌, inl, inr, refl, sym, ap, subst, ◌∙◌, arith}
+use Rattle.std.proofs.Common.{◌≡◌, ◌≤◌, ℕ, Option, Some, None, MatchBool, MatchOption, List, [], ◌∷◌, inl, inr, refl, sym, subst, ◌∙◌, arith}
 use Rattle.std.specs.FinMap.{get}
 use Rattle.std.specs.List.{AllByRecursion}
-use Rattle.compact.specs.Merging.{IsMerging}
-use Rattle.compact.specs.Outputs.{AreClosed, AreNumbered, Filling, HasWritten, IsAtHand, IsMine, IsNumber, IsNumberedApart, Written, table_name}
+use Rattle.compact.specs.Outputs.{AreClosed, Filling, HasWritten, IsAtHand, IsMine, IsNumber, IsNumberedApart, Written, table_name}
 use Rattle.compact.proofs.Numbered.{numbered-later}
 use Rattle.cursor.specs.Places.{Cmp}
 use Rattle.edits.specs.declared.field.TableFile.{TableFile}
 use Rattle.ikey.specs.declared.key_order.KeyOrder.{Ghosts}
-use Rattle.ikey.specs.Entries.{InternalEntry, Pair}
+use Rattle.ikey.specs.Entries.{Pair}
 use Rattle.ikey.specs.Orders.{Order}
 use Rattle.jobs.specs.declared.open_job.OpenJob.{OpenJob}
-use Rattle.jobs.specs.Running.{IsRunning, is_input}
-use Rattle.jobs.specs.Staying.{KeepsOutputs, LeavesJob, RunningStays}
-use Rattle.recover.specs.Directory.{Directory}
+use Rattle.jobs.specs.Running.{deep_of}
+use Rattle.jobs.specs.Staying.{KeepsOutputs, RunningStays, RunningStaysBeside}
 use Rattle.scans.proofs.KeptMerges.{merge_is_kept}
-use Rattle.scans.specs.Whole.{Whole}
 use Rattle.store.specs.Files.{Facts}
-use Rattle.table.specs.Building.{Building, last_added}
+use Rattle.table.specs.Building.{last_added}
+use Rattle.upkeep.specs.Planned.{IsPlanned}
+use Rattle.upkeep.specs.JobWrites.{OwnsNone}
+use Rattle.edits.specs.declared.field.PlacedTable.{PlacedTable}
+use Rattle.recover.specs.Tables.{TableContent}
 
 closed_on : (cmp : Cmp) (a b : Facts) (cs : List TableFile) (ts : List (List Pair)) → AllByRecursion (λ (table : TableFile). get b.files (table_name table.number) ≡ get a.files (table_name table.number)) cs → AreClosed cmp a cs ts → AreClosed cmp b cs ts
 closed_on cmp a b [] [] k h = tt
@@ -100,3 +101,16 @@ stays order work old new next more d e came left r l =
           let past = r.limits (m.limits limited) in
           (past.0, past.1, past.2, l.files past.0.table.number (past.0, past.1, refl) ∙ past.3, past.4);
     }
+
+pub stays_beside : {K : Type 0} {g : Ghosts K} (order : Order) (work : OpenJob K g) → RunningStaysBeside order work
+stays_beside order work old new next more d e came left r l =
+    stays order work old new next more d e came left r (record {
+      drawn = l.drawn;
+      files = l.files;
+      outputs = l.outputs;
+      sound = l.sound;
+      unkept = l.unkept;
+      rest = r.rest;
+      planned = subst (λ (contents : List TableContent). IsPlanned order (deep_of order.cmp work) work.job.plan contents r.inputs r.rest) (sym l.tables) r.planned;
+      unused = subst (λ (tables : List PlacedTable). OwnsNone work.job.outputs tables) (sym l.listed) r.unused;
+    })

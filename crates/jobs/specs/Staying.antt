@@ -1,5 +1,5 @@
 -- What other calls of an open database may do while a job is under way.
-use Rattle.std.specs.Prelude.{◌≡◌, ◌≤◌, ◌<◌, ◌^◌, ℕ, List, MatchOption}
+use Rattle.std.specs.Prelude.{◌≡◌, ◌≤◌, ℕ, List, MatchOption}
 use Rattle.std.specs.FinMap.{get}
 use Rattle.std.specs.List.{AllByRecursion}
 use Rattle.cache.specs.Tables.{table_at}
@@ -39,3 +39,17 @@ pub record LeavesJob {K : Type 0} {g : _} (order : Order) (work : OpenJob K g) (
 abbrev pub RunningStays : {K : Type 0} {g : _} → Order → OpenJob K g → Type 0
 RunningStays order work = (old new : Whole) (next more : ℕ) (d e : Directory) (came left : List InternalEntry)
     → (r : IsRunning order old next d work came left) → LeavesJob order work r.inputs old new next more e → IsRunning order new more e work came left
+
+-- So it does while the directory has the same tables: over a write, a seal, a move of an iterator, a look-up.
+pub record LeavesTables {K : Type 0} {g : _} (order : Order) (work : OpenJob K g) (old new : Whole) (next more : ℕ) (d e : Directory) : Type 0 where
+  pub drawn : next ≤ more
+  pub files : (number : ℕ) → is_input work number → table_at new.seen.facts.files number ≡ table_at old.seen.facts.files number
+  pub outputs : KeepsOutputs work.job.outputs old.seen.facts.files new.seen.facts.files
+  pub sound : IsSound order.cmp old.seen → IsSound order.cmp new.seen
+  pub unkept : AreDisjoint (KeepsOf new.seen) (is_to_write work more)
+  pub tables : e.tables ≡ d.tables
+  pub listed : e.layout.tables.items ≡ d.layout.tables.items
+
+abbrev pub RunningStaysBeside : {K : Type 0} {g : _} → Order → OpenJob K g → Type 0
+RunningStaysBeside order work = (old new : Whole) (next more : ℕ) (d e : Directory) (came left : List InternalEntry)
+    → IsRunning order old next d work came left → LeavesTables order work old new next more d e → IsRunning order new more e work came left

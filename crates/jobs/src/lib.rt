@@ -5,5 +5,5 @@
 mod laws;
 mod open_job;
 
-pub use laws::running_stays;
+pub use laws::{running_stays, running_stays_beside};
 pub use open_job::OpenJob;
