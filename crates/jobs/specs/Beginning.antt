@@ -1,5 +1,5 @@
 -- What the beginning of a compaction answers.
-use Rattle.std.specs.Prelude.{◌<◌, ◌^◌, ℕ, List, [], IsTrue}
+use Rattle.std.specs.Prelude.{ℕ, List, [], IsTrue}
 use Rattle.coding.specs.declared.error.DbError.{DbError}
 use Rattle.compact.specs.Merging.{AreDisjoint}
 use Rattle.compact.specs.Outputs.{IsToCome, RefusesEntry}
@@ -28,7 +28,7 @@ pub record CanBegin (order : Order) (whole : Whole) (next : ℕ) (tables : List 
 
 -- So a job is under way to which nothing came.
 abbrev pub BeginsJob : {K : Type 0} {g : _} → Order → List PlacedTable → Whole → Whole → OpenJob K g → Type 0
-BeginsJob order tables old new work = IsTrue new.seen.facts.faithful → (next : ℕ) (d : Directory) → next < 2 ^ 64 → CanBegin order old next tables d
+BeginsJob order tables old new work = IsTrue new.seen.facts.faithful → (next : ℕ) (d : Directory) → CanBegin order old next tables d
     → (left : List InternalEntry) × IsRunning order new next d work [] left
 
 -- Why it isn't begun: out of memory, while no call of the store failed; since the store failed; never as Corrupt over such a

@@ -23,7 +23,7 @@ pub returns-clause-over : goal.returns-clause-over
 returns-clause-over g c = λ n over. subst (λ (q : JobPlan). HasNumber q.inputs.items n) (sym c.in_ok-job.ensures.plan) (c.in_ok-cursor.ensures.over n (c.in_ok-job.ensures.within n over))
 
 pub returns-clause-begins : goal.returns-clause-begins
-returns-clause-begins g c = λ t next d fits can.
+returns-clause-begins g c = λ t next d can.
     let r = ready (order_of g.K.KeyOrder.name g.K.KeyOrder.cmp) (whole (g.S.Store.facts c.args.source.now.tables.store) c.args.source.now.tables.tables c.args.source.now.tables.blocks c.args.source.now.memory) next c.args.version.now.value.tables c.args.plan d c.in_ok-cursor.cursor c.planned_law.ensures c.version_of_part.ensures g.met.K.KeyOrder.total g.met.K.KeyOrder.exact (subst (λ (p : Placement). AreInOrder g.K.KeyOrder.cmp p.tables) c.deref.ensures c.tables-tables.ensures.order) (c.inputs_in_order.ensures g.K.KeyOrder.cmp c.args.version.now.value.tables c.args.plan g.met.K.KeyOrder.total (subst (λ (p : Placement). AreInOrder g.K.KeyOrder.cmp p.tables) c.deref.ensures c.tables-tables.ensures.order) c.requires.plan) c.requires.plan c.in_ok-cursor.ensures.begins can in (
       r.entries,
       begun (order_of g.K.KeyOrder.name g.K.KeyOrder.cmp) (record { facts = g.S.Store.facts; store_of = λ s. s.tables.store; with_store = λ s t. record s { tables = record s.tables { store = t } }; tables_of = λ s. s.tables.tables.tables; blocks_of = λ s. s.tables.blocks.blocks; memory_of = λ s. s.memory; with_memory = λ s w. record s { memory = w } }) (record { stored = λ s t. refl; remembered = λ s w. refl }) c.args.source.now c.start.new.source next c.args.version.now.value.tables c.args.plan d c.in_ok-cursor.cursor (record { job = c.in_ok-job.job; version = c.in_ok-version.version; in_range = _ }) r
