@@ -1,0 +1,4 @@
+pub mod Begun
+pub mod Read
+pub mod Staying
+pub mod Stepped

@@ -1,0 +1,4 @@
+pub mod Beginning
+pub mod Running
+pub mod Staying
+pub mod Stepping

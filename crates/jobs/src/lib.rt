@@ -1,0 +1,9 @@
+//! A compaction that is under way over what an open database reads: it is begun, goes on by steps with a budget of entries,
+//! and lives on while others write, read and flush (LevelDB's db/db_impl.cc, DBImpl::BackgroundCompaction).
+#![tactic(auto)]
+
+mod laws;
+mod open_job;
+
+pub use laws::{running_stays, running_stays_beside};
+pub use open_job::OpenJob;
