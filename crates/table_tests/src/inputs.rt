@@ -29,7 +29,7 @@ const TABLES: [(u32, u64, &str, [&[u8]; 2]); 4] = [
 const USERS: [&[u8]; 8] = [b"a", b"b", b"c", b"d", b"e", b"f", b"g", b"h"];
 
 // A store with these tables.
-fn source_of(alloc: Global) -> Result<Sources<Bytewise, FaultStore>, Fail> {
+pub fn source_of(alloc: Global) -> Result<Sources<Bytewise, FaultStore>, Fail> {
     let mut written = FaultStore::new(MemStore::new(alloc), Vec::new(alloc));
     for (_, _, name, users) in TABLES {
         write_table(alloc, &mut written, name, &users)?;
@@ -45,7 +45,7 @@ fn source_of(alloc: Global) -> Result<Sources<Bytewise, FaultStore>, Fail> {
 }
 
 // A version with them.
-fn version_of(alloc: Global) -> Result<Rc<Version<Bytewise>>, Fail> {
+pub fn version_of(alloc: Global) -> Result<Rc<Version<Bytewise>>, Fail> {
     let mut edit = Vec::new(alloc);
     for (level, number, _, users) in TABLES {
         edit.push(Field::NewFile(placed(alloc, level, number, &users)?))?;

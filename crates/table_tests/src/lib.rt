@@ -20,6 +20,8 @@ mod generations;
 #[cfg(test)]
 mod inputs;
 #[cfg(test)]
+mod job_steps;
+#[cfg(test)]
 mod memory_cursors;
 #[cfg(test)]
 mod memory_tables;
