@@ -63,7 +63,10 @@ fn a_job_goes_on_by_steps(rt: HostRuntime) -> Result<(), Fail> {
     }
     assert!(rt; takes(&job) == (3, [true, false, false, true]));
     assert!(rt; numbers.next == 9);
-    match job.into_job().finish(alloc, &mut source.tables.store, &numbers, 5) {
+    match job
+        .into_job()
+        .finish(alloc, &mut source.tables.store, &numbers, 5)
+    {
         // the two numbers, three tables that go, and one that comes
         Ok(edit) => assert!(rt; edit.fields().len() == 6),
         Err(_) => return Err("no edit".into()),
