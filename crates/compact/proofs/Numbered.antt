@@ -6,7 +6,7 @@ use Rattle.std.specs.List.{AllByRecursion}
 use Rattle.std.specs.Option.{option_to_list}
 use Rattle.edits.specs.declared.field.TableFile.{TableFile}
 use Rattle.edits.specs.Edit.{IsTableProper}
-use Rattle.compact.specs.Outputs.{Filling, Written, IsNumber, NumbersRise, IsNext, AreNumbered, NumbersOn, IsSaidOf}
+use Rattle.compact.specs.Outputs.{Filling, Written, IsNumber, NumbersRise, IsNext, AreNumbered, NumbersOn, IsSaidOf, table_name}
 
 pub numbers-same : (w : Written) (next : ℕ) → NumbersOn w next w next
 numbers-same w next = record { keeps = λ h. h; owns = λ n is. inl is }
@@ -73,15 +73,16 @@ numbers-closed cs t (Some table) next said = record {
 
 -- ---- a table is begun
 
-pub numbers-begun : (w : Written) (u : Filling) (next : ℕ) (key : List ℕ) → w.at_hand ≡ None → 0 < next → u.number ≡ next → u.smallest ≡ key → u.largest ≡ key → length key < 2 ^ 32
+pub numbers-begun : (w : Written) (u : Filling) (next : ℕ) (key : List ℕ) → w.at_hand ≡ None → 0 < next → u.number ≡ next → u.building.name ≡ table_name u.number → u.smallest ≡ key → u.largest ≡ key → length key < 2 ^ 32
     → NumbersOn w next (record { closed = w.closed; at_hand = Some u }) (next + 1)
-numbers-begun w u next key none some number smallest largest short = record {
+numbers-begun w u next key none some number named smallest largest short = record {
   keeps = λ h. record {
     proper = h.proper;
     rise = h.rise;
     below = all-weaker (λ (other : TableFile). other.number < next) (λ (other : TableFile). other.number < next + 1) (λ other lt. omega (arith, lt)) w.closed h.below;
     at_hand = record {
       number = (omega (arith, some, number), omega (arith, number));
+      named = named;
       above = subst (λ (n : ℕ). AllByRecursion (λ (other : TableFile). other.number < n) w.closed) (sym number) h.below;
       smallest = subst (λ (k : List ℕ). length k < 2 ^ 32) (sym smallest) short;
       largest = subst (λ (k : List ℕ). length k < 2 ^ 32) (sym largest) short;
@@ -95,15 +96,16 @@ numbers-begun w u next key none some number smallest largest short = record {
 
 -- ---- or added to
 
-pub numbers-added : (cs : List TableFile) (t u : Filling) (next : ℕ) (key : List ℕ) → u.number ≡ t.number → u.smallest ≡ t.smallest → u.largest ≡ key → length key < 2 ^ 32
+pub numbers-added : (cs : List TableFile) (t u : Filling) (next : ℕ) (key : List ℕ) → u.number ≡ t.number → u.building.name ≡ table_name u.number → u.smallest ≡ t.smallest → u.largest ≡ key → length key < 2 ^ 32
     → NumbersOn (record { closed = cs; at_hand = Some t }) next (record { closed = cs; at_hand = Some u }) next
-numbers-added cs t u next key number smallest largest short = record {
+numbers-added cs t u next key number named smallest largest short = record {
   keeps = λ h. record {
     proper = h.proper;
     rise = h.rise;
     below = h.below;
     at_hand = record {
       number = subst (IsNumber next) (sym number) h.at_hand.number;
+      named = named;
       above = subst (λ (n : ℕ). AllByRecursion (λ (other : TableFile). other.number < n) cs) (sym number) h.at_hand.above;
       smallest = subst (λ (k : List ℕ). length k < 2 ^ 32) (sym smallest) h.at_hand.smallest;
       largest = subst (λ (k : List ℕ). length k < 2 ^ 32) (sym largest) short;
@@ -119,7 +121,7 @@ numbers-added cs t u next key number smallest largest short = record {
 
 next-later : (closed : List TableFile) (next more : ℕ) (o : Option Filling) → next ≤ more → MatchOption o (Unit {0}) (IsNext closed next) → MatchOption o (Unit {0}) (IsNext closed more)
 next-later closed next more None le h = tt
-next-later closed next more (Some t) le h = record { number = (h.number.0, omega (arith, h.number.1, le)); above = h.above; smallest = h.smallest; largest = h.largest }
+next-later closed next more (Some t) le h = record { number = (h.number.0, omega (arith, h.number.1, le)); named = h.named; above = h.above; smallest = h.smallest; largest = h.largest }
 
 pub numbered-later : (w : Written) (next more : ℕ) → next ≤ more → AreNumbered w next → AreNumbered w more
 numbered-later w next more le h = record {

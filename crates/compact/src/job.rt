@@ -56,7 +56,7 @@ impl<K: KeyOrder, C: Drop> Job<K, C> {
     ghost use Rattle.cursor.specs.Places.{Listed};
     ghost use Rattle.ikey.specs.Entries.{InternalEntry, entry_of};
     ghost use Rattle.compact.specs.Merging.{IsBetween, IsLimited, IsMerging, IsSlice, IsFinished, KeepsMine, ReadsApart, AreDisjoint, HaveOwnSequences};
-    ghost use Rattle.compact.specs.JobEdits.{IsPlanProper, IsOwnIn};
+    ghost use Rattle.compact.specs.JobEdits.{IsEditOfPlan, IsPlanProper, IsOwnIn};
     ghost use Rattle.compact.specs.Outputs.{AreNumbered, IsMineUpTo, IsNumberAtHand, IsOwn, IsToCome, NumbersOn, WritesTables, RefusesEntry};
     ghost use Rattle.compact.specs.Leaving.{LeavesOthers};
     ghost use Rattle.compact.specs.Rooms.{AreLarge};
@@ -126,6 +126,7 @@ impl<K: KeyOrder, C: Drop> Job<K, C> {
         ensures numbers { numbers.old.next ≤ numbers.new.next }
         ensures drawn { numbers.new.next ≤ numbers.old.next + max budget 1 }
         ensures drawn_merged { IfOk result (λ progress. numbers.new.next ≤ numbers.old.next + progress.merged) }
+        ensures going_on { IfOk result (λ progress. progress.ended ≡ false → progress.merged ≡ max budget 1) }
         ensures plan { self.new.plan ≡ self.old.plan }
         ensures snapshots { self.new.selection.snapshots ≡ self.old.selection.snapshots }
         ensures mine { OnOk result (KeepsMine self.old.outputs numbers.old.next self.new.outputs numbers.new.next) }
@@ -177,6 +178,7 @@ impl<K: KeyOrder, C: Drop> Job<K, C> {
             → IsFinished K.cmp deep self.plan self.last.items self.selection (S.facts store.new) numbers.now.next last_sequence came edit) }
         ensures proper { IfOk result (λ edit. last_sequence < 2 ^ 56 → IsPlanProper self.plan → AreNumbered self.outputs numbers.now.next → All IsProper edit) }
         ensures order { IfOk result (λ edit. IsPlanProper self.plan → AreNumbered self.outputs numbers.now.next → IsInOrder edit) }
+        ensures of_plan { IfOk result (λ edit. IsEditOfPlan self.plan edit) }
         // What it puts in are tables that the job wrote.
         ensures own { IfOk result (λ edit. AllByRecursion (IsOwnIn self.outputs) edit) }
         ensures stood { OnOk result ((S.facts store.new).failures ≡ (S.facts store.old).failures) }

@@ -85,6 +85,7 @@ impl<K: KeyOrder> OpenTable<K> {
     /// use.
     pub fn add<S: Store>(&mut self, store: &mut S, key: &[u8], value: &[u8]) -> Result<(), DbError>
         ensures number { self.new.number ≡ self.old.number }
+        ensures named { self.new.building.name ≡ table_name self.new.number }
         ensures smallest { self.new.smallest ≡ self.old.smallest }
         ensures largest { OnOk result (self.new.largest ≡ key.now) }
         ensures writes { Writes (S.facts store.old) (S.facts store.new) (table_name self.old.number) }

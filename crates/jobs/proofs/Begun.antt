@@ -5,6 +5,7 @@ use Rattle.std.specs.Cmp.{IsTotalOrder}
 use Rattle.std.specs.FinMap.{IsAntisymmetric}
 use Rattle.std.specs.List.Sorted.{IsPermutation}
 use Rattle.coding.specs.declared.error.DbError.{DbError}
+use Rattle.compact.specs.JobEdits.{IsPlanProper}
 use Rattle.compact.specs.Merging.{AreDisjoint, HaveOwnSequences, ReadsApart}
 use Rattle.compact.specs.Outputs.{AreNumbered, IsMine, IsOwn, IsToCome, RefusesEntry, Written}
 use Rattle.compact.proofs.Writing.{refuses-as}
@@ -95,6 +96,11 @@ ready order a next tables plan d merge planned_law part_law total exact in_order
       below = input_below order a.seen.facts.files d next plan.inputs.items p.0 p.1 can.consistent can.free p.2.parted p.2.planned;
     }
 
+-- an edit can name what is planned for a directory
+pub nameable : (order : Order) (a : Whole) (next : ℕ) (tables : List PlacedTable) (plan : JobPlan) (d : Directory)
+    → PlannedLaw → IsTotalOrder order.cmp → IsAntisymmetric order.cmp → AreInOrder order.cmp tables → IsPlanOf order.cmp tables plan → CanBegin order a next tables d → IsPlanProper plan
+nameable order a next tables plan d law total exact in_order is can = (law order a.seen.facts.files d tables plan total exact can.consistent can.listed in_order is).2.proper
+
 mine_none : (w : Written) (next number : ℕ) → w ≡ record { closed = []; at_hand = None } → IsMine w next number → IsToCome next number
 mine_none w next number none mine = elim (subst (λ (u : Written). IsMine u next number) none mine) [
   | inl at ↦ absurd at
@@ -122,13 +128,13 @@ module _ {K : Type 0} {g : Ghosts K} {H S : Type 0} (order : Order) (v : View H 
 
   pub begun : (a b : H) (next : ℕ) (tables : List PlacedTable) (plan : JobPlan) (d : Directory) (merge : Merge K (SourceCursor K g)) (work : OpenJob K g) → (r : IsReady order (whole_of v a) next tables plan d merge)
       → ReadsNoMemory order.cmp merge → ((number : ℕ) → OneGoesOver merge.children.items number → HasNumber plan.inputs.items number)
-      → work.job.plan ≡ plan → work.version.value.tables ≡ tables → work.job.outputs ≡ record { closed = []; at_hand = None }
+      → work.job.plan ≡ plan → work.version.value.tables ≡ tables → work.job.outputs ≡ record { closed = []; at_hand = None } → work.next ≡ 0 → work.merged ≡ 0
       → ((number : ℕ) → Over work.job.cursor number → Over merge number) → ((s t : H) → Keeps order.cmp v merge s t → Keeps order.cmp v work.job.cursor s t)
       → IsTrue (v.facts (v.store_of b)).faithful → Reads (v.facts (v.store_of a)) (v.facts (v.store_of b))
       → (Limited order.cmp v work.job.cursor b → Limited order.cmp v merge a)
       → IsJobOver order v (deep_of order.cmp work) work b next [] r.entries
       → IsRunning order (whole_of v b) next d work [] r.entries
-  begun a b next tables plan d merge work r none over plan_is tables_is outputs within same t reads limit j = record {
+  begun a b next tables plan d merge work r none over plan_is tables_is outputs none_drawn none_merged within same t reads limit j = record {
     inputs = r.inputs;
     rest = r.rest;
     planned = planned_as order d r.inputs r.rest plan work.job.plan tables work.version.value.tables plan_is tables_is r.planned;
@@ -144,6 +150,8 @@ module _ {K : Type 0} {g : Ghosts K} {H S : Type 0} (order : Order) (v : View H 
         absurd (omega (arith, lt, come.0));
     unkept = j.ungathered;
     numbered = numbered_none work.job.outputs next outputs;
+    drawn = omega (arith, none_drawn);
+    counted = omega (arith, none_merged);
     unused = owns_none work.job.outputs d.layout.tables.items outputs;
     limits = λ l.
         let past = r.limits (limit l) in

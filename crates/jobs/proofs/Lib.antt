@@ -1,4 +1,6 @@
 pub mod Begun
+pub mod Ended
+pub mod Names
 pub mod Read
 pub mod Staying
 pub mod Stepped

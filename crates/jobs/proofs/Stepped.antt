@@ -1,6 +1,6 @@
 -- A job that goes on.
-use Rattle.std.proofs.Common.{◌≡◌, ◌⊎◌, ◌<◌, ◌≤◌, ◌^◌, ◌++◌, ℕ, Bool, IsTrue, List, map, inl, inr, refl, sym, ap, subst, ◌∙◌}
-use Rattle.std.proofs.lemmas.List.{append_assoc}
+use Rattle.std.proofs.Common.{arith, ◌≡◌, ◌⊎◌, ◌<◌, ◌≤◌, ◌+◌, ◌^◌, ◌++◌, ℕ, Bool, IsTrue, List, length, map, inl, inr, refl, sym, ap, subst, ◌∙◌}
+use Rattle.std.proofs.lemmas.List.{append_assoc, length-append}
 use Rattle.coding.specs.declared.error.DbError.{DbError}
 use Rattle.compact.specs.Deeper.{is_covered_below}
 use Rattle.compact.specs.Leaving.{LeavesOthers}
@@ -8,19 +8,22 @@ use Rattle.compact.specs.Merging.{HaveOwnSequences, IsJob, IsMerging, KeepsMine}
 use Rattle.compact.specs.Outputs.{IsMineUpTo, NumbersOn, RefusesEntry, WritesTables}
 use Rattle.compact.specs.Rooms.{AreLarge}
 use Rattle.compact.proofs.Merges.{mine-before}
-use Rattle.compact.proofs.Writing.{mine-in, refuses-as}
+use Rattle.compact.proofs.Writing.{mine-in, refuses-as, writes-nothing}
+use Rattle.cursor.specs.declared.merge.Merge.{Merge}
 use Rattle.edits.specs.declared.field.PlacedTable.{PlacedTable}
 use Rattle.ikey.specs.declared.key_order.KeyOrder.{Ghosts}
 use Rattle.ikey.specs.Entries.{InternalEntry, entry_of}
 use Rattle.ikey.specs.Orders.{Order}
 use Rattle.ikey.specs.Sources.{SameEntries}
 use Rattle.jobs.specs.declared.open_job.OpenJob.{OpenJob}
-use Rattle.jobs.specs.Running.{IsRunning, deep_of, goes_over, is_input, is_to_write}
+use Rattle.jobs.specs.Running.{IsRunning, deep_of, goes_over, is_input, is_to_write, shown}
 use Rattle.jobs.specs.Stepping.{CanStep, StepKeeps, StepTouches}
 use Rattle.jobs.proofs.Read.{Gathers, IsView, Keeps, Leaves, Limited, Lists, Over, View, led, mine_small, read_lists, reads_apart, seen_lists, whole_of}
+use Rattle.memories.specs.PlaceLaws.{left_there}
 use Rattle.recover.specs.Directory.{Directory}
 use Rattle.recover.specs.Tables.{TableContent, tabled}
 use Rattle.rows.specs.InRows.{HasNumber}
+use Rattle.scans.specs.declared.source_cursor.SourceCursor.{SourceCursor}
 use Rattle.scans.specs.Scans.{IsOnePastLimit}
 use Rattle.scans.proofs.KeptMerges.{moved_read_none}
 use Rattle.scans.proofs.WritesBeside.{beside}
@@ -41,12 +44,15 @@ abbrev pub IsJobOver : {K : Type 0} {g : Ghosts K} {H S : Type 0} → Order → 
 IsJobOver order v deep work h next came left =
     IsJob order.cmp deep v.facts v.store_of v.with_store (Gathers v) (Lists order.cmp v) (Keeps order.cmp v) Over work.job.last.items work.job.cursor work.job.selection work.job.outputs h next came left
 
-abbrev pub Leaving : {K : Type 0} {g : Ghosts K} {H S : Type 0} → Order → View H S → (before after : OpenJob K g) (a b : H) (next more : ℕ) → Type 0
-Leaving order v before after a b next more =
-    LeavesOthers v.facts v.store_of v.with_store (Keeps order.cmp v) (Leaves order.cmp v) Over (IsMineUpTo before.job.outputs next more) before.job.cursor after.job.cursor a b
+abbrev pub Leaving : {K : Type 0} {g : Ghosts K} {H S : Type 0} → Order → View H S → (before : OpenJob K g) → Merge K (SourceCursor K g) → (a b : H) (next more : ℕ) → Type 0
+Leaving order v before cursor a b next more = LeavesOthers v.facts v.store_of v.with_store (Keeps order.cmp v) (Leaves order.cmp v) Over (IsMineUpTo before.job.outputs next more) before.job.cursor cursor a b
 
 abbrev pub Writing : {K : Type 0} {g : Ghosts K} {H S : Type 0} → View H S → (before : OpenJob K g) (a b : H) (next more : ℕ) → Type 0
 Writing v before a b next more = WritesTables (v.facts (v.store_of a)) (v.facts (v.store_of b)) (IsMineUpTo before.job.outputs next more)
+
+-- what a counter shows once more came
+counted_on : (before merged after : ℕ) (came front : List InternalEntry) → before ≡ shown (length came) → length front ≡ merged → after ≡ shown (before + merged) → after ≡ shown (length (came ++ front))
+counted_on before merged after came front was long is = (let whole = length-append came front in omega (arith, was, long, is, whole))
 
 module _ {K : Type 0} {g : Ghosts K} {H S : Type 0} (order : Order) (v : View H S) (view : IsView v) where
   -- ---- what the job reads is what the definition of a job over any source wants
@@ -63,15 +69,35 @@ module _ {K : Type 0} {g : Ghosts K} {H S : Type 0} (order : Order) (v : View H 
 
   -- ---- what a step leaves
 
-  pub touched : (before after : OpenJob K g) (a b : H) (next more : ℕ) → Writing v before a b next more → Leaving order v before after a b next more → StepTouches (whole_of v a) (whole_of v b) next more before after
+  pub touched_none : (before : OpenJob K g) (a : H) (next : ℕ) → StepTouches (whole_of v a) (whole_of v a) next next before before
+  touched_none before a next = record {
+    writes = writes-nothing (v.facts (v.store_of a)) (IsMineUpTo before.job.outputs next next);
+    memory = left_there (v.memory_of a);
+    gathered = λ n kept. inl kept;
+    within = λ n over. over;
+  }
+
+  pub keeps_none : (before : OpenJob K g) (a : H) (next : ℕ) (d : Directory) (came left : List InternalEntry) → CanStep order (whole_of v a) next d before came left → StepKeeps order (whole_of v a) (whole_of v a) next next before d
+  keeps_none before a next d came left can = record {
+    others = record {
+      consistent = can.consistent;
+      log = λ n position ends. ends;
+      manifest = λ position edits layout ends. ends;
+      tables = λ n is apart. refl;
+      free = can.free;
+    };
+    sound = can.sound;
+  }
+
+  pub touched : (before after : OpenJob K g) (a b : H) (next more : ℕ) → Writing v before a b next more → Leaving order v before after.job.cursor a b next more → StepTouches (whole_of v a) (whole_of v b) next more before after
   touched before after a b next more writes leaves =
       let l = led order.cmp v view (goes_over before) (IsMineUpTo before.job.outputs next more) leaves.turns.0 a b leaves.turns.1 in
       record { writes = writes; memory = l.memory; gathered = l.gathered; within = leaves.within }
 
-  pub keeps_on : SoundLasts → JobWritesLaw → (before after : OpenJob K g) (a b : H) (next more : ℕ) → next ≤ more → more < 2 ^ 64 → next < 2 ^ 64 → Writing v before a b next more → Leaving order v before after a b next more
+  pub keeps_on : SoundLasts → JobWritesLaw → (before : OpenJob K g) (cursor : Merge K (SourceCursor K g)) (a b : H) (next more : ℕ) → next ≤ more → more < 2 ^ 64 → next < 2 ^ 64 → Writing v before a b next more → Leaving order v before cursor a b next more
       → IsTrue (v.facts (v.store_of b)).faithful → (d : Directory) (came left : List InternalEntry) → CanStep order (whole_of v a) next d before came left
       → StepKeeps order (whole_of v a) (whole_of v b) next more before d
-  keeps_on lasts law before after a b next more le fits small writes leaves t d came left can =
+  keeps_on lasts law before cursor a b next more le fits small writes leaves t d came left can =
       let r = can.running in
       let l = led order.cmp v view (goes_over before) (IsMineUpTo before.job.outputs next more) leaves.turns.0 a b leaves.turns.1 in
       record {
@@ -91,14 +117,14 @@ module _ {K : Type 0} {g : Ghosts K} {H S : Type 0} (order : Order) (v : View H 
 
   -- ---- the job behind a step
 
-  pub goes : SoundLasts → FreeNumberLaw → (before after : OpenJob K g) (a b : H) (next more : ℕ) → next ≤ more → more < 2 ^ 64 → next < 2 ^ 64 → Writing v before a b next more → Leaving order v before after a b next more
-      → after.job.plan ≡ before.job.plan → after.version ≡ before.version → KeepsMine before.job.outputs next after.job.outputs more → NumbersOn before.job.outputs next after.job.outputs more
+  pub goes : SoundLasts → FreeNumberLaw → (before after : OpenJob K g) (a b : H) (next more : ℕ) → next ≤ more → more < 2 ^ 64 → next < 2 ^ 64 → Writing v before a b next more → Leaving order v before after.job.cursor a b next more
+      → after.job.plan ≡ before.job.plan → after.version ≡ before.version → after.next ≤ more → (merged : ℕ) → after.merged ≡ shown (before.merged + merged) → KeepsMine before.job.outputs next after.job.outputs more → NumbersOn before.job.outputs next after.job.outputs more
       → (deep : List ℕ → Bool) → deep ≡ deep_of order.cmp before
-      → IsTrue (v.facts (v.store_of b)).faithful → (d : Directory) (came left front back : List InternalEntry) → CanStep order (whole_of v a) next d before came left → left ≡ front ++ back
+      → IsTrue (v.facts (v.store_of b)).faithful → (d : Directory) (came left front back : List InternalEntry) → CanStep order (whole_of v a) next d before came left → left ≡ front ++ back → length front ≡ merged
       → IsJobOver order v deep after b more (came ++ front) back
       → (Limited order.cmp v after.job.cursor b → Limited order.cmp v before.job.cursor a)
       → IsRunning order (whole_of v b) more d after (came ++ front) back
-  goes lasts free before after a b next more le fits small writes leaves plan version mine_kept numbers deep deep_is t d came left front back can left_is j limit =
+  goes lasts free before after a b next more le fits small writes leaves plan version drawn merged counted mine_kept numbers deep deep_is t d came left front back can left_is long j limit =
       let r = can.running in
       let same_tables : after.version.value.tables ≡ before.version.value.tables = ap (λ v. v.value.tables) version in
       let all : came ++ left ≡ (came ++ front) ++ back = ap (λ (l : List InternalEntry). came ++ l) left_is ∙ sym (append_assoc came front back) in
@@ -116,6 +142,8 @@ module _ {K : Type 0} {g : Ghosts K} {H S : Type 0} (order : Order) (v : View H 
         outside = λ n is mine. r.outside n (subst (λ (q : JobPlan). HasNumber q.inputs.items n) plan is) (mine-before before.job.outputs after.job.outputs next more n le fits mine_kept mine);
         unkept = j.ungathered;
         numbered = numbers.keeps r.numbered;
+        drawn = drawn;
+        counted = counted_on before.merged merged after.merged came front r.counted long counted;
         unused = λ n own. elim (numbers.owns n own) [
           | inl was ↦ r.unused n was
           | inr new ↦ free order (whole_of v a).seen.facts.files d next n can.consistent can.free new

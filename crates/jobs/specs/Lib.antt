@@ -1,4 +1,6 @@
 pub mod Beginning
+pub mod Ending
 pub mod Running
 pub mod Staying
 pub mod Stepping
+pub mod Unique

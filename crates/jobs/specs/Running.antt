@@ -1,5 +1,5 @@
--- A compaction that is under way over what an work database reads (LevelDB's db/db_impl.cc, CompactionState).
-use Rattle.std.specs.Prelude.{ℕ, Bool, List, ◌++◌, map}
+-- A compaction that is under way over what an open database reads (LevelDB's db/db_impl.cc, CompactionState).
+use Rattle.std.specs.Prelude.{◌≡◌, ◌≤◌, ◌-◌, ◌^◌, ℕ, Bool, List, ◌++◌, length, map, min}
 use Rattle.compact.specs.Deeper.{is_covered_below}
 use Rattle.compact.specs.Merging.{AreDisjoint, HasPassed, HaveOwnSequences, IsMerging}
 use Rattle.compact.specs.Outputs.{AreNumbered, IsMine}
@@ -35,6 +35,10 @@ is_to_write work next number = IsMine work.job.outputs next number
 abbrev pub deep_of : {K : Type 0} {g : _} → Cmp → OpenJob K g → List ℕ → Bool
 deep_of cmp work = is_covered_below cmp work.job.plan.output_level work.version.value.tables
 
+-- what a counter of 64 bits shows of so many
+abbrev pub shown : ℕ → ℕ
+shown count = min count (2 ^ 64 - 1)
+
 -- The job of a plan for the tables of this directory: of its inputs' entries these came, and what is needed of them is
 -- written; those are left, and its cursor stands on the first of them. No table that it writes is one that it reads, one of
 -- which something is kept beside the store, or one of the directory.
@@ -51,6 +55,8 @@ pub record IsRunning {K : Type 0} {g : _} (order : Order) (whole : Whole) (next 
   pub outside : AreDisjoint (is_input work) (is_to_write work next)
   pub unkept : AreDisjoint (KeepsOf whole.seen) (is_to_write work next)
   pub numbered : AreNumbered work.job.outputs next
+  pub drawn : work.next ≤ next
+  pub counted : work.merged ≡ shown (length came)
   pub unused : OwnsNone work.job.outputs d.layout.tables.items
   -- it passes a limit of reading only where the file of an input does
   pub limits : IsMergeLimited order.cmp work.job.cursor whole → IsOnePastLimit order.cmp work.job.plan.inputs.items whole

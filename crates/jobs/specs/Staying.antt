@@ -1,11 +1,9 @@
 -- What other calls of an open database may do while a job is under way.
-use Rattle.std.specs.Prelude.{◌≡◌, ◌≤◌, ℕ, List, MatchOption}
+use Rattle.std.specs.Prelude.{◌≡◌, ◌≤◌, ℕ, List}
 use Rattle.std.specs.FinMap.{get}
-use Rattle.std.specs.List.{AllByRecursion}
 use Rattle.cache.specs.Tables.{table_at}
 use Rattle.compact.specs.Merging.{AreDisjoint}
-use Rattle.compact.specs.Outputs.{Filling, Written, table_name}
-use Rattle.edits.specs.declared.field.TableFile.{TableFile}
+use Rattle.compact.specs.Outputs.{IsOwn, Written, table_name}
 use Rattle.ikey.specs.Entries.{InternalEntry}
 use Rattle.ikey.specs.Orders.{Order}
 use Rattle.jobs.specs.declared.open_job.OpenJob.{OpenJob}
@@ -18,10 +16,9 @@ use Rattle.store.specs.Files.{Files}
 use Rattle.upkeep.specs.JobWrites.{OwnsNone}
 use Rattle.upkeep.specs.Planned.{IsPlanned}
 
--- the files of the tables that the job has written, and of the one at hand, are as they were
-pub record KeepsOutputs (w : Written) (old new : Files) : Type 0 where
-  pub closed : AllByRecursion (λ (table : TableFile). get new (table_name table.number) ≡ get old (table_name table.number)) w.closed
-  pub at_hand : MatchOption w.at_hand (Unit {0}) (λ (t : Filling). get new t.building.name ≡ get old t.building.name)
+-- the files of the tables that the job has written, ended or at hand, are as they were
+abbrev pub KeepsOutputs : Written → Files → Files → Type 0
+KeepsOutputs w old new = (number : ℕ) → IsOwn w number → get new (table_name number) ≡ get old (table_name number)
 
 -- The files of the job's tables are as they were, of inputs and outputs; what is kept of tables is right where it was, and nothing is
 -- kept of a table that the job writes. Numbers may have been drawn, and tables put in beside the inputs, none of which is the job's.

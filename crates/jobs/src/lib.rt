@@ -3,6 +3,7 @@
 #![tactic(auto)]
 
 mod laws;
+mod naming;
 mod open_job;
 
 pub use laws::{running_stays, running_stays_beside};

@@ -1,14 +1,18 @@
 //! A compaction as one value that lives across calls (LevelDB's db/db_impl.cc, DBImpl::DoCompactionWork).
 
-ghost use Rattle.std.specs.Prelude.{◌<◌, ℕ, IfOk, MatchBool};
+ghost use Rattle.std.specs.Prelude.{◌<◌, ◌≤◌, ◌^◌, ℕ, IfOk, MatchBool};
+ghost use Rattle.compact.specs.JobEdits.{IsPlanProper};
+ghost use Rattle.compact.specs.Outputs.{AreNumbered};
 ghost use Rattle.ikey.specs.Orders.{order_of};
+ghost use Rattle.jobs.specs.Unique.{IsPlanProper-prop, numbered-prop};
 ghost use Rattle.rows.specs.InRows.{HasNumber};
 ghost use Rattle.scans.specs.Inputs.{BeginsMerge, ReadsNoMemory};
 ghost use Rattle.scans.specs.Places.{OneGoesOver};
 ghost use Rattle.versions.specs.Keeping.{HasNumber as HasTable};
 ghost use Rattle.versions.specs.Levels.{AreInOrder};
 
-use coding::DbError;
+use crate::naming::can_be_named;
+use coding::{Damage, DbError, FileKind};
 use compact::{FileNumbers, FilesBelow, Job, Progress};
 use cursor::Merge;
 use edits::PlacedTable;
@@ -19,7 +23,10 @@ use sources::sound_lasts;
 use std::alloc::{AllocError, Global};
 use std::rc::Rc;
 use store::Store;
-use upkeep::{free_number_law, job_writes_law, planned_law};
+use upkeep::{
+    CurrentManifest, FlushError, Installed, free_number_law, install_job, job_writes_law,
+    planned_law,
+};
 use versions::{JobPlan, Version, inputs_in_order};
 
 /// A job over the tables of a plan's inputs, with the version for which the plan was made: its tables below the output level are
@@ -28,26 +35,39 @@ use versions::{JobPlan, Version, inputs_in_order};
 pub struct OpenJob<K: KeyOrder> {
     job: Job<K, Merge<K, SourceCursor<K>>>,
     version: Rc<Version<K>>,
+    /// The number that was next when the job last drew one: those of its tables are below it. Behind a refusal it is above all
+    /// numbers, so that the job can't go on.
+    next: u64,
+    /// How many entries of its inputs came.
+    merged: u64,
     /// Outputs have a level.
     ghost in_range: { (0 < job.plan.output_level) × (job.plan.output_level < 7) },
+    /// An edit can name the tables of the job.
+    ghost numbered: { next ≤ 2 ^ 62 → AreNumbered job.outputs next } by { numbered-prop job.outputs next },
+    /// It can name the plan's tables too.
+    ghost proper: { IsPlanProper job.plan } by { IsPlanProper-prop job.plan },
 }
 
 impl<K: KeyOrder> OpenJob<K> {
-    ghost use Rattle.std.specs.Prelude.{◌≡◌, ◌<◌, ◌≤◌, ◌+◌, ◌^◌, ℕ, max, IfOk, IfErr, OnOk, MatchBool};
+    ghost use Rattle.std.specs.Prelude.{◌≡◌, ◌⊎◌, ◌<◌, ◌≤◌, ◌+◌, ◌^◌, ℕ, [], None, false, IsTrue, max, string_bytes, IfOk, IfErr, OnOk, MatchBool};
+    ghost use Rattle.std.specs.FinMap.{get};
     ghost use Rattle.compact.specs.Outputs.{IsOwn};
     ghost use Rattle.std.specs.List.Sorted.{IsNonDecreasing};
     ghost use Rattle.ikey.specs.Orders.{order_of};
     ghost use Rattle.jobs.specs.Beginning.{BeginsJob, RefusesBegin};
-    ghost use Rattle.jobs.specs.Running.{goes_over, is_input};
+    ghost use Rattle.jobs.specs.Ending.{EndLeaves, RefusesEnd};
+    ghost use Rattle.jobs.specs.Running.{goes_over, is_input, shown};
     ghost use Rattle.jobs.specs.Stepping.{GoesOn, KeepsDirectory, RefusesStep, StepTouches};
     ghost use Rattle.rows.specs.InRows.{HasNumber};
     ghost use Rattle.scans.specs.Places.{LeavesSource};
     ghost use Rattle.scans.specs.Whole.{whole};
+    ghost use Rattle.upkeep.specs.Install.{HasJobVersion, InstallTouches};
     ghost use Rattle.versions.specs.Keeping.{HasNumber as HasTable};
     ghost use Rattle.versions.specs.Plans.{IsPlanOf};
 
     /// Begins the job of a plan for a version's tables: its cursor stands on the first entry of the inputs, and no table is begun.
     /// `snapshots` are the sequence numbers whose views are to be kept, rising: those of the live snapshots and the last one used.
+    /// Corrupt where no edit could name the plan's tables.
     pub fn begin<S: Store>(
         alloc: Global,
         source: &mut Sources<K, S>,
@@ -62,6 +82,8 @@ impl<K: KeyOrder> OpenJob<K> {
         ensures plan { IfOk result (λ work. work.job.plan ≡ plan) }
         ensures snapshots { IfOk result (λ work. work.job.selection.snapshots ≡ snapshots.now) }
         ensures version { IfOk result (λ work. work.version.value ≡ version.now.value) }
+        ensures none { IfOk result (λ work. work.merged ≡ 0) }
+        ensures written { IfOk result (λ work. work.job.outputs ≡ record { closed = []; at_hand = None }) }
         ensures over { IfOk result (λ work. (number : ℕ) → goes_over work number → is_input work number) }
         ensures leaves { LeavesSource K.cmp (HasNumber plan.inputs.items)
             (whole (S.facts source.old.tables.store) source.old.tables.tables source.old.tables.blocks source.old.memory)
@@ -80,6 +102,9 @@ impl<K: KeyOrder> OpenJob<K> {
         sound_lasts();
         // They are in order.
         let _tables = version.tables();
+        if !can_be_named::<K>(&plan) {
+            return Err(DbError::Corrupt(FileKind::Manifest, Damage::Length));
+        }
         let cursor = cursor_over(alloc, &plan)?;
         let version = version.clone()?;
         let job = Job::start(
@@ -91,11 +116,17 @@ impl<K: KeyOrder> OpenJob<K> {
             block_bytes,
             file_bytes,
         )?;
-        Ok(OpenJob { job, version })
+        Ok(OpenJob {
+            job,
+            version,
+            next: 0,
+            merged: 0,
+        })
     }
 
-    /// Merges so many entries, or one for 0, or all that are left where those are fewer. After an `Err` the job is to be given up:
-    /// the files that it wrote are no part of the directory, and its inputs are as they were.
+    /// Merges so many entries, or one for 0, or all that are left where those are fewer. Corrupt where the numbers are older than
+    /// those of the job. After an `Err` the job is to be given up: the files that it wrote are no part of the directory, and its
+    /// inputs are as they were.
     pub fn step<S: Store>(
         &mut self,
         alloc: Global,
@@ -106,6 +137,8 @@ impl<K: KeyOrder> OpenJob<K> {
         ensures numbers { numbers.old.next ≤ numbers.new.next }
         ensures drawn { numbers.new.next ≤ numbers.old.next + max budget 1 }
         ensures drawn_merged { IfOk result (λ progress. numbers.new.next ≤ numbers.old.next + progress.merged) }
+        ensures going_on { IfOk result (λ progress. progress.ended ≡ false → progress.merged ≡ max budget 1) }
+        ensures merged { IfOk result (λ progress. self.new.merged ≡ shown (self.old.merged + progress.merged)) }
         ensures plan { self.new.job.plan ≡ self.old.job.plan }
         ensures snapshots { self.new.job.selection.snapshots ≡ self.old.job.selection.snapshots }
         ensures version { self.new.version ≡ self.old.version }
@@ -113,6 +146,7 @@ impl<K: KeyOrder> OpenJob<K> {
             (whole (S.facts source.old.tables.store) source.old.tables.tables source.old.tables.blocks source.old.memory)
             (whole (S.facts source.new.tables.store) source.new.tables.tables source.new.tables.blocks source.new.memory)
             numbers.old.next numbers.new.next self.old self.new }
+        ensures owns { OnOk result ((number : ℕ) → IsOwn self.new.job.outputs number → IsOwn self.old.job.outputs number ⊎ (numbers.old.next ≤ number)) }
         ensures stood { OnOk result ((S.facts source.new.tables.store).failures ≡ (S.facts source.old.tables.store).failures) }
         ensures refused { IfErr result (λ e. RefusesStep (order_of K.name K.cmp)
             (whole (S.facts source.old.tables.store) source.old.tables.tables source.old.tables.blocks source.old.memory)
@@ -130,12 +164,49 @@ impl<K: KeyOrder> OpenJob<K> {
         sound_lasts();
         job_writes_law();
         free_number_law();
+        if numbers.next < self.next {
+            return Err(DbError::Corrupt(FileKind::Table, Damage::Number));
+        }
         let deeper = FilesBelow {
             version: &*self.version,
             level: self.job.plan().output_level,
         };
+        self.next = u64::MAX;
         let progress = self.job.slice(alloc, source, numbers, &deeper, budget)?;
+        self.next = numbers.next;
+        self.merged = self.merged.saturating_add(u64::from(progress.merged));
         Ok(progress)
+    }
+
+    /// Ends the job once all entries of its inputs came, and puts its edit behind the MANIFEST, so that its outputs are in the
+    /// place of its inputs (see `upkeep::install_job`). Corrupt where the numbers are older than those of the job or the version
+    /// isn't that of its inputs, and NumbersSpent where they are above 2^62. After a refusal the files that it wrote are no part
+    /// of the directory.
+    pub fn install<S: Store>(
+        self,
+        alloc: Global,
+        store: &mut S,
+        version: &Version<K>,
+        manifest: &CurrentManifest,
+        numbers: &FileNumbers,
+        last_sequence: u64,
+    ) -> Result<Installed<K>, FlushError>
+        requires sequence { last_sequence < 2 ^ 56 }
+        ensures call { InstallTouches (S.facts store.old) (S.facts store.new) self.job.outputs (string_bytes manifest.now.name) }
+        ensures stood { OnOk result ((S.facts store.new).failures ≡ (S.facts store.old).failures) }
+        ensures version { IfOk result (λ installed. HasJobVersion K.cmp self.job.plan self.job.outputs version.now installed.version.value) }
+        ensures synced { OnOk result (IsTrue (S.facts store.new).faithful → (S.facts store.new).synced (string_bytes manifest.now.name) ≡ get (S.facts store.new).files (string_bytes manifest.now.name)) }
+        ensures refused { IfErr result (λ error. RefusesEnd (order_of K.name K.cmp) (S.facts store.old) (S.facts store.new) numbers.now.next last_sequence manifest.now version.now.tables self error) }
+        ensures leaves { EndLeaves (order_of K.name K.cmp) (S.facts store.old) (S.facts store.new) numbers.now.next last_sequence manifest.now version.now.tables self result }
+    {
+        if numbers.next < self.next {
+            return Err(FlushError::Before(DbError::Corrupt(FileKind::Table, Damage::Number)));
+        }
+        if numbers.next > 1 << 62 {
+            return Err(FlushError::Before(DbError::NumbersSpent));
+        }
+        let OpenJob { job, .. } = self;
+        install_job(alloc, store, job, version, manifest, numbers, last_sequence)
     }
 
     /// What it compacts.
@@ -157,14 +228,6 @@ impl<K: KeyOrder> OpenJob<K> {
         ensures { MatchBool result (IsOwn self.now.job.outputs number) (IsOwn self.now.job.outputs number → ⊥) }
     {
         self.job.writes(number)
-    }
-
-    /// The job alone, as its end wants it.
-    pub fn into_job(self) -> Job<K, Merge<K, SourceCursor<K>>>
-        ensures { result ≡ self.job }
-    {
-        let OpenJob { job, .. } = self;
-        job
     }
 }
 

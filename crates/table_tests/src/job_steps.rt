@@ -7,11 +7,15 @@ use jobs::{OpenJob, running_stays, running_stays_beside};
 use scans::Sources;
 use std::alloc::Global;
 use std::test::*;
-use store::FaultStore;
+use store::{FaultStore, Store};
+use upkeep::CurrentManifest;
 use versions::{JobPlan, plans_of_tables};
 
 // The sequences whose views are to be kept.
 const SNAPSHOTS: [u64; 1] = [5];
+
+// The file of the edits.
+const MANIFEST: &str = "MANIFEST-000003";
 
 // A job over the tables of level 0, with those of level 1 that meet them.
 fn job_over(
@@ -63,13 +67,18 @@ fn a_job_goes_on_by_steps(rt: HostRuntime) -> Result<(), Fail> {
     }
     assert!(rt; takes(&job) == (3, [true, false, false, true]));
     assert!(rt; numbers.next == 9);
-    match job
-        .into_job()
-        .finish(alloc, &mut source.tables.store, &numbers, 5)
-    {
-        // the two numbers, three tables that go, and one that comes
-        Ok(edit) => assert!(rt; edit.fields().len() == 6),
-        Err(_) => return Err("no edit".into()),
+    let manifest = CurrentManifest {
+        number: 3,
+        name: String::from_str(alloc, MANIFEST)?,
+        end: 0,
+    };
+    let version = version_of(alloc)?;
+    let store = &mut source.tables.store;
+    assert!(rt; store.create(MANIFEST).is_ok());
+    match job.install(alloc, store, &version, &manifest, &numbers, 5) {
+        // three of four tables go, and one comes
+        Ok(installed) => assert!(rt; installed.version.tables().len() == 2),
+        Err(_) => return Err("no version".into()),
     }
     Ok(())
 }

@@ -20,19 +20,19 @@ PutsIn P f = Unit {0}
 abbrev pub AreKept : (PlacedTable → Type 0) → List PlacedTable → Type 0
 AreKept P tables = AllByRecursion P tables × AreInPlace tables
 
-if_map : {X Y : Type 0} (g : X → Y) (P : X → Type 0) (Q : Y → Type 0) (o : Option X) → IfSome o P → ((x : X) → P x → Q (g x)) → IfSome (option_map g o) Q
+pub if_map : {X Y : Type 0} (g : X → Y) (P : X → Type 0) (Q : Y → Type 0) (o : Option X) → IfSome o P → ((x : X) → P x → Q (g x)) → IfSome (option_map g o) Q
 if_map g P Q None h f = tt
 if_map g P Q (Some x) h f = f x h
 
-if_then : {X Y : Type 0} (g : X → Option Y) (P : X → Type 0) (Q : Y → Type 0) (o : Option X) → IfSome o P → ((x : X) → P x → IfSome (g x) Q) → IfSome (option_and_then g o) Q
+pub if_then : {X Y : Type 0} (g : X → Option Y) (P : X → Type 0) (Q : Y → Type 0) (o : Option X) → IfSome o P → ((x : X) → P x → IfSome (g x) Q) → IfSome (option_and_then g o) Q
 if_then g P Q None h f = tt
 if_then g P Q (Some x) h f = f x h
 
-if_both : {X : Type 0} (P Q : X → Type 0) (o : Option X) → IfSome o P → IfSome o Q → IfSome o (λ x. P x × Q x)
+pub if_both : {X : Type 0} (P Q : X → Type 0) (o : Option X) → IfSome o P → IfSome o Q → IfSome o (λ x. P x × Q x)
 if_both P Q None h k = tt
 if_both P Q (Some x) h k = (h, k)
 
-all_without : (P : PlacedTable → Type 0) (level number : ℕ) (ts : List PlacedTable) → AllByRecursion P ts → IfSome (without level number ts) (AllByRecursion P)
+pub all_without : (P : PlacedTable → Type 0) (level number : ℕ) (ts : List PlacedTable) → AllByRecursion P ts → IfSome (without level number ts) (AllByRecursion P)
 all_without P level number [] h = tt
 all_without P level number (t ∷ ts) h =
     cond_both (is_at level number t) (Some ts) (option_map (λ others. t ∷ others) (without level number ts)) (λ o. IfSome o (AllByRecursion P)) (λ _. h.1)
@@ -88,12 +88,12 @@ module _ (P : PlacedTable → Type 0) where
       let O : Option (List PlacedTable) → Type 0 = λ o. IfSome o (AreKept P) in
       subst O e (if_then (after_new edit) (AreKept P) (AreKept P) (after_deleted edit ts) (kept_deleted edit ts h) (λ others k. kept_new edit others p k))
 
-  all_deleted : (fs : List Field) (ts : List PlacedTable) → AllByRecursion P ts → IfSome (after_deleted fs ts) (AllByRecursion P)
+  pub all_deleted : (fs : List Field) (ts : List PlacedTable) → AllByRecursion P ts → IfSome (after_deleted fs ts) (AllByRecursion P)
   all_deleted [] ts h = h
   all_deleted (DeletedFile level number ∷ fs) ts h = if_then (after_deleted fs) (AllByRecursion P) (AllByRecursion P) (without level number ts) (all_without P level number ts h) (λ others k. all_deleted fs others k)
   all_deleted (f ∷ fs) ts h = all_deleted fs ts h
 
-  all_put : (fs : List Field) (ts : List PlacedTable) → AllByRecursion (PutsIn P) fs → AllByRecursion P ts → IfSome (after_new fs ts) (AllByRecursion P)
+  pub all_put : (fs : List Field) (ts : List PlacedTable) → AllByRecursion (PutsIn P) fs → AllByRecursion P ts → IfSome (after_new fs ts) (AllByRecursion P)
   all_put [] ts p h = h
   all_put (NewFile placed ∷ fs) ts p h =
       cond_both (is_used placed.table.number ts) None (Some (inserted placed ts)) (λ o. IfSome (option_and_then (after_new fs) o) (AllByRecursion P)) (λ _. tt)

@@ -26,7 +26,7 @@ use Rattle.compact.specs.JobEdits.{IsOwnIn}
 use Rattle.compact.specs.declared.job.Job.{Job}
 use Rattle.upkeep.specs.Calls.{Touches}
 use Rattle.upkeep.specs.Compactions.{placed_in}
-use Rattle.upkeep.specs.Flush.{IsCorrupt, edit_refusal}
+use Rattle.upkeep.specs.Flush.{IsCorrupt, RefusesVersion, edit_refusal}
 use Rattle.upkeep.specs.Install.{AreOldOrOwn, CanInstall, HasPreparedJob, InstallLeaves, InstallMeans, InstallTouches, IsJobEdit, RefusesEdit}
 use Rattle.upkeep.specs.Manifest.{AppendsEdit}
 use Rattle.upkeep.specs.declared.flush.FlushError.TheVariants.{Before}
@@ -68,6 +68,13 @@ old_or_own cmp w old new edit order own leads placed there =
     let r = leads old (record { numbers = order.numbers; all = all_contained (Contains old) old (λ p c. c); only = all_contained (Contains old) old (λ p c. c) }) in
     let all : AllByRecursion P r.0 = all_edit P edit old r.0 (puts_own w old edit own) (recursion_from_All P old (all_contained P old (λ p c. inl c))) r.1 in
     All-contains P r.0 placed (All-from_recursion P r.0 all) (All-contains (Contains r.0) new placed r.2.only there)
+
+-- why there is no edit, where there is no version after it
+pub unversioned : {K C : Type 0} (e : DbError) (cmp : List ℕ → List ℕ → Ordering) (job : Job K C) (old new : Facts) (next last_sequence : ℕ) (tables : List PlacedTable) (edit : List Field) → new.failures ≡ old.failures → IsJobEdit cmp job old new next last_sequence edit
+    → RefusesVersion e (LeadsAstray cmp (after_edit edit) tables) → RefusesEdit e cmp job old new next last_sequence tables
+unversioned OutOfMemory cmp job old new next last_sequence tables edit stood is h = stood
+unversioned (Corrupt file what) cmp job old new next last_sequence tables edit stood is h = (edit, is, h)
+unversioned _ cmp job old new next last_sequence tables edit stood is h = absurd h
 
 -- ---- the version has room
 

@@ -23,6 +23,7 @@ pub mod PlansClosed
 pub mod PlansKept
 pub mod PlansMade
 pub mod Ranks
+pub mod Replacing
 pub mod Rooms
 pub mod Sizes
 pub mod StoreCalls

@@ -18,13 +18,14 @@ use Rattle.edits.specs.declared.field.PlacedTable.{PlacedTable}
 use Rattle.edits.specs.declared.layout.Layout.{Layout}
 use Rattle.edits.specs.declared.names.FileName.TheVariants.{Manifest}
 use Rattle.versions.specs.Applying.{Leads, LeadsAstray}
+use Rattle.versions.specs.declared.plan.JobPlan.{JobPlan}
 use Rattle.versions.specs.Levels.{Placement, Lists, AreInOrder, pointers_after}
 use Rattle.recover.specs.Tables.{TableContent, tabled}
 use Rattle.recover.specs.Logs.{logged}
 use Rattle.recover.specs.Directory.{Directory, IsConsistent, used_in}
 use Rattle.recover.specs.Changes.{ManifestEndsAt, AreParted, MayReplace, IsCompaction, compacted}
 use Rattle.recover.specs.Numbers.{IsFree}
-use Rattle.compact.specs.JobEdits.{IsOwnIn}
+use Rattle.compact.specs.JobEdits.{IsEditOfPlan, IsOwnIn}
 use Rattle.compact.specs.Laws.{AreApart}
 use Rattle.compact.specs.Merging.{IsMerging, IsFinished}
 use Rattle.compact.specs.Outputs.{Written, IsNumberAtHand, IsOwn, RefusesEntry, table_name}
@@ -56,6 +57,7 @@ pub record IsJobEdit {K C : Type 0} (cmp : List ℕ → List ℕ → Ordering) (
   pub proper : All IsProper edit
   pub spelled : IsInOrder edit
   pub own : AllByRecursion (IsOwnIn job.outputs) edit
+  pub of_plan : IsEditOfPlan job.plan edit
   pub finished : (deep : List ℕ → Bool) (came : List InternalEntry) → IsTrue new.faithful → IsMerging cmp deep job.last.items job.selection job.outputs old next came
       → IsFinished cmp deep job.plan job.last.items job.selection new next last_sequence came edit
 
@@ -81,11 +83,20 @@ RefusesInstall Edit cmp job old new next last_sequence tables = old.failures < n
 abbrev pub AreOldOrOwn : Written → List PlacedTable → List PlacedTable → Type 0
 AreOldOrOwn w old new = (placed : PlacedTable) → Contains new placed → Contains old placed ⊎ IsOwn w placed.table.number
 
--- The new version is in order, and is the old one after an edit that can be written, and puts in tables that the job wrote.
-pub record HasJobVersion (cmp : List ℕ → List ℕ → Ordering) (w : Written) (old new : Placement) : Type 0 where
+-- The inputs of the plan are gone, and tables of its output level are in their place: each table was there and is no input, or is of that
+-- level. Each of another number than theirs stays.
+pub record Replaces (plan : JobPlan) (old new : List PlacedTable) : Type 0 where
+  pub tables : (placed : PlacedTable) → Contains new placed → (Contains old placed × (Contains plan.inputs.items placed → ⊥)) ⊎ (placed.level ≡ plan.output_level)
+  pub stays : (placed : PlacedTable) → Contains old placed → ((input : PlacedTable) → Contains plan.inputs.items input → input.table.number ≢ placed.table.number) → Contains new placed
+
+-- The new version is in order, and is the old one after an edit that can be written: that of the plan, which takes its inputs away
+-- and puts tables into its output level that the job wrote.
+pub record HasJobVersion (cmp : List ℕ → List ℕ → Ordering) (plan : JobPlan) (w : Written) (old new : Placement) : Type 0 where
   pub edit : List Field
   pub proper : All IsProper edit
   pub own : AllByRecursion (IsOwnIn w) edit
+  pub of_plan : IsEditOfPlan plan edit
+  pub replaces : Replaces plan old.tables new.tables
   pub leads : Leads (after_edit edit) old.tables new.tables
   pub tables : AreOldOrOwn w old.tables new.tables
   pub in_order : AreInOrder cmp new.tables
@@ -97,6 +108,7 @@ pub record HasJobVersion (cmp : List ℕ → List ℕ → Ordering) (w : Written
 pub record HasPreparedJob {K C : Type 0} (cmp : List ℕ → List ℕ → Ordering) (job : Job K C) (old new : Facts) (next last_sequence : ℕ) (version : Placement) (prepared : PreparedJob K) : Type 0 where
   pub edit : IsJobEdit cmp job old new next last_sequence prepared.edit
   pub leads : Leads (after_edit prepared.edit) version.tables prepared.version.value.tables
+  pub replaces : Replaces job.plan version.tables prepared.version.value.tables
   pub tables : AreOldOrOwn job.outputs version.tables prepared.version.value.tables
   pub in_order : AreInOrder cmp prepared.version.value.tables
   pub pointers : prepared.version.value.compact_pointers ≡ pointers_after prepared.edit 0 version.compact_pointers

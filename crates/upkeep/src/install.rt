@@ -56,7 +56,7 @@ pub fn install_job<K: KeyOrder, C: Drop, S: Store>(
     ensures call { InstallTouches (S.facts store.old) (S.facts store.new) job.outputs (string_bytes manifest.now.name) }
     ensures stood { OnOk result ((S.facts store.new).failures ≡ (S.facts store.old).failures) }
     ensures refused { IfErr result (λ error. RefusesInstall error K.cmp job (S.facts store.old) (S.facts store.new) numbers.now.next last_sequence version.now.tables) }
-    ensures version { IfOk result (λ installed. HasJobVersion K.cmp job.outputs version.now installed.version.value) }
+    ensures version { IfOk result (λ installed. HasJobVersion K.cmp job.plan job.outputs version.now installed.version.value) }
     ensures synced { OnOk result (IsTrue (S.facts store.new).faithful → (S.facts store.new).synced (string_bytes manifest.now.name) ≡ get (S.facts store.new).files (string_bytes manifest.now.name)) }
     ensures leaves { InstallLeaves (order_of K.name K.cmp) job (S.facts store.old) (S.facts store.new) numbers.now.next last_sequence manifest.now version.now.tables result }
 {

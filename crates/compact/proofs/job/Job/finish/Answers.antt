@@ -29,6 +29,9 @@ returns-clause-finished g c = λ deep came t h.
           (λ pairs written. c.in_ok-close.ensures.closed c.args.numbers.now.next pairs c.args.numbers.now.in_range.1 t written) h),
     )
 
+pub returns-clause-of_plan : goal.returns-clause-of_plan
+returns-clause-of_plan g c = record { tables = c.into_closed.result.items; next = c.args.numbers.now.next; last = c.args.last_sequence; is = c.in_ok-edit.ensures }
+
 pub returns-clause-proper : goal.returns-clause-proper
 returns-clause-proper g c = λ small planned numbered.
     let next : ℕ = c.args.numbers.now.next in
