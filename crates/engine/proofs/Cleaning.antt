@@ -1,9 +1,12 @@
 -- What the removal of files leaves of an open database.
 use Rattle.std.proofs.Common.{◌≡◌, ℕ, ◌<◌, List, ◌++◌, Option, Some, None, IsTrue, IsSome, Contains, inl, inr, refl, sym, ap, subst, ◌∙◌, arith}
+use Rattle.std.specs.FinMap.{get}
 use Rattle.std.specs.declared.cmp.Ordering.{Ordering}
 use Rattle.std.specs.Option.{option_and_then}
 use Rattle.cache.specs.Tables.{KeptTable, IsNameOf, table_at}
-use Rattle.edits.specs.Names.{IsNumbered}
+use Rattle.edits.specs.Names.{IsNumbered, name_of}
+use Rattle.edits.specs.declared.names.FileName.TheVariants.{OldTable, Table}
+use Rattle.jobs.specs.declared.open_job.OpenJob.{OpenJob}
 use Rattle.edits.specs.declared.field.PlacedTable.{PlacedTable}
 use Rattle.ikey.specs.Orders.{Order}
 use Rattle.memories.specs.Changes.{IsUsed, KeepsUsed}
@@ -23,12 +26,13 @@ use Rattle.table.specs.Reading.{HasFile}
 use Rattle.upkeep.specs.Removal.{AreNumbersOf, KeepsParts, KeepsTable, ListsUnused}
 use Rattle.engine.specs.Directory.{CanAppend}
 use Rattle.engine.specs.Held.{Held, whole_of}
-use Rattle.engine.specs.InUse.{IsMemoryUsed, IsTableUsed}
+use Rattle.engine.specs.InUse.{IsJobTable, IsMemoryUsed, IsTableUsed}
 use Rattle.engine.specs.Iterators.{IsWalk}
 use Rattle.engine.specs.Live.{kept_at}
 use Rattle.engine.specs.Machine.{Machine, Walk}
 use Rattle.engine.specs.Stands.{HasLog, HasTables, IsServing}
 use Rattle.engine.specs.Working.{ClosesTables, numbers_of}
+use Rattle.engine.proofs.Compacting.{each_job, goes_beside, have_itself, known_itself, version_unowned}
 use Rattle.engine.proofs.InUse.{memory_used, read_used, table_used}
 use Rattle.engine.proofs.Pieces.{limits_stay, made_still, walks_each}
 use Rattle.engine.proofs.Reading.{has_placed, read_by}
@@ -38,14 +42,14 @@ abbrev pub DropsKept : (List ℕ → List ℕ → Ordering) → Type 0
 DropsKept cmp = (cursor : MemoriesPlace) (old new : Memories) → new ≡ record old { older = new.older } → older_at new.older cursor.generation ≡ older_at old.older cursor.generation → KeepsMemories cmp cursor old new
 
 module _ {K : Type 0} {g : _} (order : Order) (kept : (scan : Scan K g) → ScanIsKept order.cmp scan) (one : OneDirectoryLaw) (lasts : SoundLasts) (drops : DropsKept order.cmp)
-    (old : Seen) (facts : Facts) (tables : List KeptTable) (db : Held (Scan K g)) (memory : Memories) (gone : List ℕ) where
+    (old : Seen) (facts : Facts) (tables : List KeptTable) (db : Held K g) (memory : Memories) (gone : List ℕ) where
   abbrev in_use : ℕ → Type 0
-  in_use number = IsTableUsed db.tables db.iterators number
+  in_use number = IsTableUsed db.tables db.job db.iterators number
 
   abbrev new : Seen
   new = record { facts = facts; tables = tables; blocks = old.blocks }
 
-  abbrev after : Held (Scan K g)
+  abbrev after : Held K g
   after = record db { memory = memory }
 
   -- ---- the memory tables
@@ -105,6 +109,18 @@ module _ {K : Type 0} {g : _} (order : Order) (kept : (scan : Scan K g) → Scan
       drawn_cleaned contents has number (inl (kept, is, same)) = has.drawn number (inl (kept, closes.kept kept is, same))
       drawn_cleaned contents has number (inr block) = has.drawn number (inr block)
 
+      -- a table that is used is as before, under both of its names
+      used_same : (n : ℕ) → IsNumbered n → in_use n
+          → (get facts.files (name_of (Table n)) ≡ get old.facts.files (name_of (Table n))) × (get facts.files (name_of (OldTable n)) ≡ get old.facts.files (name_of (OldTable n)))
+      used_same n numbered used_one = elim (each n numbered) [
+        | inl both ↦ (both.0.0, both.1.0)
+        | inr other ↦ absurd (other.0 used_one)
+      ]
+
+      fewer_kept : (number : ℕ) → KeepsOf new number → KeepsOf old number
+      fewer_kept number (inl (kept_one, is, same)) = inl (kept_one, closes.kept kept_one is, same)
+      fewer_kept number (inr block) = inr block
+
       -- ---- what stands
 
       module _ (m : Machine) (serving : IsServing order old db m)
@@ -119,7 +135,7 @@ module _ {K : Type 0} {g : _} (order : Order) (kept : (scan : Scan K g) → Scan
         listed content is =
             let here = has_placed serving.contents content (subst (λ (contents : List TableContent). InTables contents content) (sym a.in_tables) is) in
             let at = subst (λ (p : PlacedTable). Contains db.tables p) here.2 (serving.tables.version.all here.0 content.placed here.1) in
-            table_used db.tables db.iterators content.placed.table.number (content.placed, at, refl)
+            table_used db.tables db.job db.iterators content.placed.table.number (content.placed, at, refl)
 
         numbers : AreNumbersOf (numbers_of db.directory) in_use d
         numbers = record { manifest = serving.log.knows.number; log_number = sym serving.log.knows.first_log; previous_log_number = sym serving.log.knows.previous_log; tables = listed }
@@ -129,14 +145,14 @@ module _ {K : Type 0} {g : _} (order : Order) (kept : (scan : Scan K g) → Scan
 
         keeps_each : (id : ℕ) (scan : Scan K g) (walk : Walk) → kept_at db.iterators id ≡ Some scan → IsWalk order.cmp m.over_limit (whole_of old db) scan walk → KeepsScan order.cmp scan (whole_of old db) (whole_of new after)
         keeps_each id scan walk there is = record {
-          memory = λ cursor reads within. drops cursor db.memory memory used.others (used.kept cursor.generation (inr (memory_used db.tables db.iterators id scan cursor.generation there reads)));
+          memory = λ cursor reads within. drops cursor db.memory memory used.others (used.kept cursor.generation (inr (memory_used db.tables db.job db.iterators id scan cursor.generation there reads)));
           files = λ number reads.
               let table = is.tables number reads in
-              kept_parts.tables number table.1 (read_used db.tables db.iterators id scan number there table.0);
+              kept_parts.tables number table.1 (read_used db.tables db.job db.iterators id scan number there table.0);
           sound = λ h. sound_cleaned serving.contents serving.tables;
         }
 
-        log_cleaned : HasLog order facts.files serving.contents after
+        abbrev log_cleaned : HasLog order facts.files serving.contents after
         log_cleaned =
             let logs = serving.log.logs in
             let knows = serving.log.knows in
@@ -185,4 +201,10 @@ module _ {K : Type 0} {g : _} (order : Order) (kept : (scan : Scan K g) → Scan
                 (λ content i. kept_parts.tables content.placed.table.number (table_of order old.facts.files d.tables content a.consistent.tables i) (listed content i)) (serving.readable.limits is);
           };
           numbers = serving.numbers;
+          job = each_job _ _ db.job (λ work is c.
+              goes_beside order (whole_of old db) (whole_of new after) db.directory.numbers.next db.directory.numbers.next db.snapshots db.snapshots db.iterators db.iterators db.tables d d work c
+              a.consistent serving.log.knows.free db.directory.numbers.in_range.1 (omega arith) (λ number numbered below one. used_same number numbered (inr (subst (λ (o : Option (OpenJob K g)). IsJobTable o number) (sym is) one)))
+              (λ h. sound_cleaned serving.contents serving.tables) (λ number kept_now. inl (fewer_kept number kept_now)) refl refl
+              (omega (arith, last_same)) (known_itself db.snapshots db.memory.last) (have_itself db.iterators db.tables)
+              (λ number. version_unowned work.job.outputs order old.facts.files d serving.contents db.tables number a.consistent a.in_tables serving.tables.version c.running.unused)) serving.job;
         }

@@ -37,7 +37,8 @@ use Rattle.engine.specs.Machine.{Machine, entry_count, weight}
 use Rattle.engine.specs.Stands.{IsServing}
 use Rattle.engine.specs.Upkeep.{UpkeepRefused}
 use Rattle.engine.specs.Working.{IsPiece, broken_by, flush_answer}
-use Rattle.engine.proofs.Flushing.{FlushKept, StaysBelow, broken_flush, can_flush, serving_flushed, serving_unflushed, sound_beside, sound_unchanged, table_same, table_unchanged}
+use Rattle.engine.proofs.Compacting.{each_job, goes_beside, have_itself, known_itself, version_unowned}
+use Rattle.engine.proofs.Flushing.{NamesStay, names_same, names_unchanged, FlushKept, StaysBelow, broken_flush, can_flush, serving_flushed, serving_unflushed, sound_beside, sound_unchanged, table_same, table_unchanged}
 use Rattle.engine.proofs.Pieces.{free_up, walks_each}
 use Rattle.engine.proofs.Weighing.{room_within}
 use Rattle.engine.proofs.WorkSteps.{breaks, drawing, draws, serves_on}
@@ -57,7 +58,7 @@ module _ {K : Type 0} {g : _} (order : Order) (kept : (scan : Scan K g) → Scan
   abbrev next : ℕ
   next = state.directory.numbers.next
 
-  abbrev before : Held (Scan K g)
+  abbrev before : Held K g
   before = held memory state
 
   abbrev new : Seen
@@ -77,6 +78,12 @@ module _ {K : Type 0} {g : _} (order : Order) (kept : (scan : Scan K g) → Scan
     stays_below f = elim draws_number [
       | inl none ↦ table_unchanged order kept one lasts law flushes old facts before m serving plan numbers.next none.1
       | inr more ↦ table_same order kept one lasts law flushes old facts before m serving plan numbers.next f more.1 more.2 touches
+    ]
+
+    names_below : IsTrue facts.faithful → NamesStay order kept one lasts law flushes old facts before m serving plan numbers.next
+    names_below f = elim draws_number [
+      | inl none ↦ names_unchanged order kept one lasts law flushes old facts before m serving plan numbers.next none.1
+      | inr more ↦ names_same order kept one lasts law flushes old facts before m serving plan numbers.next f more.1 more.2 touches
     ]
 
     sound_still : IsTrue facts.faithful → IsSound order.cmp old → IsSound order.cmp new
@@ -115,7 +122,7 @@ module _ {K : Type 0} {g : _} (order : Order) (kept : (scan : Scan K g) → Scan
       (λ m f same serving.
       let left = leaves f m serving in (
         refused m serving e f refuses left.0 same other,
-        serving_unflushed order kept one lasts law flushes old facts before m serving plan numbers.next (stays_below m serving f) (sound_still m serving f) left.1.can.free upto.1 drawn.directory entries left.1 refl refl refl refl refl refl upto.0,
+        serving_unflushed order kept one lasts law flushes old facts before m serving plan numbers.next (stays_below m serving f) (names_below m serving f) (sound_still m serving f) left.1.can.free upto.1 drawn.directory entries left.1 refl refl refl refl refl refl upto.0,
       ))
 
   -- the device failed
@@ -126,7 +133,7 @@ module _ {K : Type 0} {g : _} (order : Order) (kept : (scan : Scan K g) → Scan
       breaks order old new ids before (held memory (record drawn { broken = true })) 1 (Err error.Io) refl whole refl touches.faithful rise touches.denials
       (λ m f serving.
       let either = may f m serving in
-      broken_flush order kept one lasts law flushes old facts before m serving plan numbers.next (stays_below m serving f) (sound_still m serving f) either.free upto.1 entries either)
+      broken_flush order kept one lasts law flushes old facts before m serving plan numbers.next (stays_below m serving f) (names_below m serving f) (sound_still m serving f) either.free upto.1 entries either)
 
   unflushed_by : {T : Type 0} (e : FlushError) → RefusesFlush e old.facts facts entries before.tables next numbers.next → Leaves e → LeadsOpen order old new ids before (held memory (broken_by drawn (flush_answer e))) (λ m n. IsPiece {T = T} m 1 (Err (flush_answer e)) n)
   unflushed_by (Before error.OutOfMemory) refuses leaves = unflushed error.OutOfMemory refuses leaves (λ e. cc)
@@ -165,7 +172,7 @@ module _ {K : Type 0} {g : _} (order : Order) (kept : (scan : Scan K g) → Scan
       (λ m f same serving.
       let done = has f m serving in (
         draws m 1 facts,
-        serving_flushed order kept one lasts law flushes old facts before m serving plan numbers.next (stays_below m serving f) (sound_still m serving f) done.free upto.1 end version.value.tables (with_table end version).directory entries in_order done refl refl refl refl refl refl upto.0,
+        serving_flushed order kept one lasts law flushes old facts before m serving plan numbers.next (stays_below m serving f) (names_below m serving f) (sound_still m serving f) done.free upto.1 end version.value.tables (with_table end version).directory entries in_order done refl refl refl refl refl refl upto.0,
       )))
 
 -- ---- an empty sealed table
@@ -201,6 +208,12 @@ module _ {K : Type 0} {g : _} (order : Order) (kept : (scan : Scan K g) → Scan
         accounted = rw (logged_same) h.accounted;
         readable = record { made = h.readable.made; numbers = free_up order source.facts.files m.numbers (m.numbers + 1) (omega arith) h.readable.numbers; limits = h.readable.limits };
         numbers = (let below = h.numbers in omega (arith, below));
+        job = each_job _ _ state.job (λ work is c.
+            let d = a.directory in
+            goes_beside order (whole_of source (held memory state)) (whole_of source (held let_go state)) state.directory.numbers.next state.directory.numbers.next state.snapshots state.snapshots state.iterators state.iterators state.version.value.tables d d work c
+            a.consistent knows.free state.directory.numbers.in_range.1 (omega arith) (λ number numbered below one. (refl, refl)) (λ sound. sound) (λ number kept_now. inl kept_now) refl refl
+            (omega arith) (known_itself state.snapshots memory.last) (have_itself state.iterators state.version.value.tables)
+            (λ number. version_unowned work.job.outputs order source.facts.files d h.contents state.version.value.tables number a.consistent a.in_tables h.tables.version c.running.unused)) h.job;
       }
 
   pub ends_let_go : LeadsOpen order source source ids (held memory state) (held let_go state) (λ m n. IsPiece m 1 (Ok (tt {0})) n)

@@ -1,5 +1,5 @@
 -- What a flush leaves of an open database.
-use Rattle.std.proofs.Common.{true, ◌≡◌, ◌≢◌, ℕ, ◌+◌, ◌≤◌, ◌<◌, ◌^◌, List, [], ◌∷◌, ◌++◌, map, Some, None, IsTrue, inl, inr, refl, sym, ap, subst, ◌∙◌, arith, string_bytes}
+use Rattle.std.proofs.Common.{true, ◌≡◌, ◌≢◌, ℕ, ◌+◌, ◌≤◌, ◌<◌, ◌^◌, List, [], ◌∷◌, ◌++◌, map, Some, None, MatchOption, IsTrue, inl, inr, refl, sym, ap, subst, ◌∙◌, arith, string_bytes}
 use Rattle.std.proofs.lemmas.List.{append-nil}
 use Rattle.std.specs.FinMap.{get}
 use Rattle.std.specs.declared.cmp.Ordering.{Ordering}
@@ -15,7 +15,9 @@ use Rattle.ikey.specs.Sources.{SameEntries, SameViewLaw}
 use Rattle.ikey.specs.declared.entry.Entry.{Entry}
 use Rattle.memories.specs.Memories.{Memories, logged_in, sealed_inserts}
 use Rattle.memories.specs.Places.{MemoriesPlace, KeepsMemories}
-use Rattle.recover.specs.Changes.{ManifestEndsAt, flushed}
+use Rattle.jobs.proofs.Staying.{stays as job_stays}
+use Rattle.jobs.specs.Running.{deep_of}
+use Rattle.recover.specs.Changes.{ManifestEndsAt, flushed, with_content}
 use Rattle.recover.specs.Numbers.{IsFree}
 use Rattle.recover.specs.Directory.{Directory, IsConsistent, entries_in, used_in}
 use Rattle.recover.specs.Laws.{OneDirectoryLaw}
@@ -30,6 +32,7 @@ use Rattle.sources.proofs.Sounding.{same_file, same_table}
 use Rattle.store.specs.Files.{Facts}
 use Rattle.upkeep.specs.Flush.{CanFlush, FlushTouches, HasFlushed, IsFlushed, IsUnflushed, MayBeFlushed, PassesNoLimit}
 use Rattle.upkeep.specs.declared.flush.FlushPlan.{FlushPlan}
+use Rattle.upkeep.proofs.PlansKept.{flushed_plan}
 use Rattle.versions.specs.Levels.{AreInOrder, Lists}
 use Rattle.engine.specs.declared.directory.DirectoryState.{DirectoryState}
 use Rattle.engine.specs.Directory.{CanAppend, IsReadable}
@@ -39,6 +42,8 @@ use Rattle.engine.specs.Live.{kept_at}
 use Rattle.engine.specs.Machine as machine
 use Rattle.engine.specs.Machine.{Machine, Walk, entry_count, weight}
 use Rattle.engine.specs.Stands.{HasLog, IsBroken, IsServing}
+use Rattle.engine.specs.Compacting.{IsCompacting}
+use Rattle.engine.proofs.Compacting.{each_job, goes_beside, goes_on_as, have_itself, is_input_number, is_own_number, known_itself, owns_none_with, version_unowned}
 use Rattle.engine.proofs.Pieces.{accounted_same, bounded_same, free_up, made_still, rests_as, same_back, same_by, snapshots_same, walks_each}
 use Rattle.engine.proofs.Reading.{below_next}
 use Rattle.engine.proofs.Reopening.{files_apart, long_back}
@@ -48,7 +53,7 @@ abbrev pub FlushKept : (List ℕ → List ℕ → Ordering) → Type 0
 FlushKept cmp = (cursor : MemoriesPlace) (old new : Memories) → new ≡ record old { sealed = None } → KeepsMemories cmp cursor old new
 
 module _ {K : Type 0} {g : _} (order : Order) (kept : (scan : Scan K g) → ScanIsKept order.cmp scan) (one : OneDirectoryLaw) (lasts : SoundLasts) (law : SameViewLaw) (flushes : FlushKept order.cmp)
-    (old : Seen) (facts : Facts) (db : Held (Scan K g)) (m : Machine) (serving : IsServing order old db m) (plan : FlushPlan) (after : ℕ) where
+    (old : Seen) (facts : Facts) (db : Held K g) (m : Machine) (serving : IsServing order old db m) (plan : FlushPlan) (after : ℕ) where
   abbrev next : ℕ
   next = db.directory.numbers.next
 
@@ -101,6 +106,10 @@ module _ {K : Type 0} {g : _} (order : Order) (kept : (scan : Scan K g) → Scan
   abbrev pub StaysBelow : Type 0
   StaysBelow = (n : ℕ) → IsNumbered n → n < next → table_at facts.files n ≡ table_at old.facts.files n
 
+  -- under both of their names
+  abbrev pub NamesStay : Type 0
+  NamesStay = (n : ℕ) → IsNumbered n → n < next → (get facts.files (name_of (Table n)) ≡ get old.facts.files (name_of (Table n))) × (get facts.files (name_of (OldTable n)) ≡ get old.facts.files (name_of (OldTable n)))
+
   module _ (t : IsTrue facts.faithful) (drawn : 0 < next) (few : next < 2 ^ 62) (touches : FlushTouches old.facts facts (name_of (Table next)) (string_bytes db.directory.manifest.name)) where
     numbered_next : IsNumbered next
     numbered_next = (drawn, omega (arith, few))
@@ -121,6 +130,9 @@ module _ {K : Type 0} {g : _} (order : Order) (kept : (scan : Scan K g) → Scan
     apart_next : (n : ℕ) → n < next → n ≢ next
     apart_next n less e = absurd (omega (arith, less, e))
 
+    pub names_same : NamesStay
+    names_same n numbered less = (newer_same n numbered (apart_next n less), older_same n numbered)
+
     pub table_same : StaysBelow
     table_same n numbered less = same_table old.facts.files facts.files n (newer_same n numbered (apart_next n less)) (older_same n numbered)
 
@@ -135,6 +147,9 @@ module _ {K : Type 0} {g : _} (order : Order) (kept : (scan : Scan K g) → Scan
         (λ block file is there. let known = serving.tables.drawn block.file (inr (block, is, refl)) in sym (table_same block.file known.0 known.1) ∙ there) sound
 
   -- where nothing was done, too
+  pub names_unchanged : facts ≡ old.facts → NamesStay
+  names_unchanged same n numbered less = (ap (λ (f : Facts). get f.files (name_of (Table n))) same, ap (λ (f : Facts). get f.files (name_of (OldTable n))) same)
+
   pub table_unchanged : facts ≡ old.facts → StaysBelow
   table_unchanged same n numbered less = ap (λ (f : Facts). table_at f.files n) same
 
@@ -143,7 +158,7 @@ module _ {K : Type 0} {g : _} (order : Order) (kept : (scan : Scan K g) → Scan
 
   -- ---- what stands then
 
-  module _ (stays : StaysBelow) (sound_still : IsSound order.cmp old → IsSound order.cmp new) (freed : IsFree order facts.files after) (upto : after ≤ next + 1) where
+  module _ (stays : StaysBelow) (names : NamesStay) (sound_still : IsSound order.cmp old → IsSound order.cmp new) (freed : IsFree order facts.files after) (upto : after ≤ next + 1) where
     keeps_each : (memory : Memories) → ((cursor : MemoriesPlace) → KeepsMemories order.cmp cursor db.memory memory)
         → (id : ℕ) (scan : Scan K g) (walk : Walk) → kept_at db.iterators id ≡ Some scan → IsWalk order.cmp m.over_limit (whole_of old db) scan walk
         → KeepsScan order.cmp scan (whole_of old db) (record { seen = new; memory = memory })
@@ -185,7 +200,7 @@ module _ {K : Type 0} {g : _} (order : Order) (kept : (scan : Scan K g) → Scan
       abbrev memory : Memories
       memory = record db.memory { sealed = None }
 
-      abbrev pub flushed_db : Held (Scan K g)
+      abbrev pub flushed_db : Held K g
       flushed_db = record db { memory = memory; tables = tables; directory = state }
 
       in_current : db.memory.current.inserts ≡ logged (current ∷ [])
@@ -195,7 +210,7 @@ module _ {K : Type 0} {g : _} (order : Order) (kept : (scan : Scan K g) → Scan
       same = same_back (entries_of e.tables flushed_db) (entries_of serving.contents db)
           (same_by (entries_of e.tables flushed_db) (entries_in e) (entries_in d) (entries_of serving.contents db) (ap (λ (es : List Entry). tabled e.tables ++ es) in_current) f.same (sym entries_are))
 
-      log_flushed : HasLog order facts.files e.tables flushed_db
+      abbrev log_flushed : HasLog order facts.files e.tables flushed_db
       log_flushed =
           let knows = serving.log.knows in
           record {
@@ -220,6 +235,27 @@ module _ {K : Type 0} {g : _} (order : Order) (kept : (scan : Scan K g) → Scan
             };
           }
 
+      -- the new table is one of those that a compaction doesn't take
+      job_flushed : MatchOption db.job (Unit {0}) (IsCompacting order (whole_of new flushed_db) state.numbers.next db.snapshots db.iterators e)
+      job_flushed = each_job _ _ db.job (λ work is c.
+          let r = c.running in
+          let free = serving.log.knows.free in
+          let fits = db.directory.numbers.in_range.1 in
+          let inputs_are = is_input_number order (whole_of old db) (whole_of new flushed_db) next state.numbers.next db.snapshots db.snapshots db.iterators db.iterators db.tables d e work c a.consistent free fits in
+          let own_are = is_own_number order (whole_of old db) (whole_of new flushed_db) next state.numbers.next db.snapshots db.snapshots db.iterators db.iterators db.tables d e work c a.consistent free fits in
+          goes_on_as order (whole_of old db) (whole_of new flushed_db) next state.numbers.next db.snapshots db.snapshots db.iterators db.iterators db.tables d e work c
+          (job_stays order work (whole_of old db) (whole_of new flushed_db) next state.numbers.next d e c.came c.left r (record {
+            drawn = omega (arith, next_is, le);
+            files = λ n input. let known = inputs_are n input in stays n known.0 known.1;
+            outputs = λ n own. let known = own_are n own in (names n known.0 known.1).0;
+            sound = sound_still;
+            unkept = λ n kept_now mine. r.unkept n kept_now (elim mine [ inl at ↦ inl at | inr come ↦ inr ((let from = come.0 in omega (arith, from, next_is, le)), come.1) ]);
+            rest = with_content f.content r.rest;
+            planned = flushed_plan order old.facts.files (deep_of order.cmp work) work.job.plan d f.next f.content sealed current r.inputs r.rest a.consistent f.flush r.planned;
+            unused = owns_none_with work.job.outputs f.content.placed d.layout.tables.items f.next.tables.items f.flush.tables (λ own. let known = own_are f.content.placed.table.number own in (let less = known.1 in let number_is = f.number_is in absurd (omega (arith, less, number_is)))) r.unused;
+          })) (omega arith) (known_itself db.snapshots db.memory.last) (have_itself db.iterators db.tables)
+          (λ number. version_unowned work.job.outputs order old.facts.files d serving.contents db.tables number a.consistent a.in_tables serving.tables.version r.unused)) serving.job
+
       pub serving_flushed : IsServing order new flushed_db drawn_by
       serving_flushed = record {
         whole = serving.whole;
@@ -243,6 +279,7 @@ module _ {K : Type 0} {g : _} (order : Order) (kept : (scan : Scan K g) → Scan
         accounted = accounted_same (entries_of serving.contents db) (entries_of e.tables flushed_db) (entry_count m) (weight m) same serving.accounted;
         readable = readable_as e f.consistent f.limits;
         numbers = (let below : next ≤ m.numbers = serving.numbers in omega (arith, next_is, upto, below));
+        job = job_flushed;
       }
 
     -- ---- it isn't, and nothing was lost
@@ -250,10 +287,10 @@ module _ {K : Type 0} {g : _} (order : Order) (kept : (scan : Scan K g) → Scan
     module _ (state : DirectoryState) (entries : List Entry) (has : IsUnflushed order old.facts.files facts.files after plan db.directory.manifest entries db.tables d sealed current)
         (number : state.manifest.number ≡ db.directory.manifest.number) (name : state.manifest.name ≡ db.directory.manifest.name) (ends : state.manifest.end ≡ db.directory.manifest.end) (first_log : state.first_log ≡ db.directory.first_log)
         (previous_log : state.previous_log ≡ db.directory.previous_log) (next_is : state.numbers.next ≡ after) (le : next ≤ after) where
-      abbrev pub unflushed_db : Held (Scan K g)
+      abbrev pub unflushed_db : Held K g
       unflushed_db = record db { directory = state }
 
-      log_unflushed : HasLog order facts.files serving.contents unflushed_db
+      abbrev log_unflushed : HasLog order facts.files serving.contents unflushed_db
       log_unflushed =
           let knows = serving.log.knows in
           record {
@@ -302,6 +339,11 @@ module _ {K : Type 0} {g : _} (order : Order) (kept : (scan : Scan K g) → Scan
         accounted = serving.accounted;
         readable = readable_as d has.can.consistent passes_still;
         numbers = (let below : next ≤ m.numbers = serving.numbers in omega (arith, next_is, upto, below));
+        job = each_job _ _ db.job (λ work is c.
+            goes_beside order (whole_of old db) (whole_of new unflushed_db) next state.numbers.next db.snapshots db.snapshots db.iterators db.iterators db.tables d d work c
+            a.consistent serving.log.knows.free db.directory.numbers.in_range.1 (omega (arith, next_is, le)) (λ n numbered below one. names n numbered below) sound_still (λ n kept_now. inl kept_now) refl refl
+            (omega arith) (known_itself db.snapshots db.memory.last) (have_itself db.iterators db.tables)
+            (λ number. version_unowned work.job.outputs order old.facts.files d serving.contents db.tables number a.consistent a.in_tables serving.tables.version c.running.unused)) serving.job;
       }
 
     -- ---- it is or isn't

@@ -14,7 +14,7 @@ use Rattle.cursor.specs.Moves.{Refuses}
 use Rattle.ikey.specs.Orders.{Order}
 use Rattle.memories.specs.PlaceLaws.{left_logged}
 use Rattle.scans.specs.Scanning.{ScanIsKept}
-use Rattle.scans.specs.Scans.{IsScanLimited, ListsMerged}
+use Rattle.scans.specs.Scans.{IsScanLimited, ListsMerged, tables_of}
 use Rattle.scans.specs.Whole.{Whole}
 use Rattle.memories.specs.Memories.{Memories}
 use Rattle.scans.specs.declared.scan.Scan.{Scan}
@@ -37,6 +37,7 @@ use Rattle.engine.specs.Serving.{Becomes, Counted, ReadRefused}
 use Rattle.engine.specs.Stands.{IsServing, StandsOpen}
 use Rattle.engine.specs.Views.{no_iterator}
 use Rattle.engine.specs.Walks.{Motion, place_after, pair_at, no_place, lacks_place, needs_place, walk_under, move_cause, moved, Moves}
+use Rattle.engine.proofs.Compacting.{HaveKnown, have_same, have_updated, known_itself}
 use Rattle.engine.proofs.LiveIds.{same_id, live_again, live_changed, live_replaced, both_then}
 use Rattle.engine.proofs.Reading.{read_by, stands_read}
 use Rattle.engine.proofs.Steps.{denies_none, by_cause, without_cause, serving_of}
@@ -45,7 +46,7 @@ use Rattle.engine.proofs.Walking.{stands_is}
 
 -- ---- there is no such iterator
 
-pub not_walked : {K : Type 0} {g : _} → (order : Order) (source : Seen) (ids : Ids) (db : Held (Scan K g)) (open_ones : BTreeMap ℕ (Scan K g)) (id : ℕ) (motion : Motion) → db.broken ≡ false → is_some (kept_at db.iterators id) ≡ false
+pub not_walked : {K : Type 0} {g : _} → (order : Order) (source : Seen) (ids : Ids) (db : Held K g) (open_ones : BTreeMap ℕ (Scan K g)) (id : ℕ) (motion : Motion) → db.broken ≡ false → is_some (kept_at db.iterators id) ≡ false
     → ((q : ℕ) → kept_at open_ones q ≡ kept_at db.iterators q) → LeadsOpen order source source ids db (record db { iterators = open_ones }) (λ m n. Moves order m id motion (Refused error.NoIterator) n)
 not_walked order source ids db open_ones id motion is gone same = record {
   faithful = λ f. f;
@@ -55,7 +56,7 @@ not_walked order source ids db open_ones id motion is gone same = record {
         by_cause (move_cause m id motion) m error.NoIterator ⊥
             (cause_whole order source ids db m (option_or (no_iterator m id) (no_place (walk_under m id) motion)) is s
             ∙ ap (λ (o : Option DbError). option_or o (no_place (walk_under m id) motion)) (iterator_known order source ids db m is s id false gone)),
-        stands_anew order source ids db db.snapshots open_ones m is (λ q. refl) walks s,
+        stands_anew order source ids db db.snapshots open_ones m is (λ q. refl) (have_same db.iterators open_ones db.tables same) walks s,
       );
 }
 
@@ -73,7 +74,7 @@ lacks_same order limited whole scan walk motion h =
 
 -- ---- limits of reading
 
-module _ {K : Type 0} {g : _} (order : Order) (source : Seen) (db : Held (Scan K g)) (m : Machine) (version : VersionLaw) (total : IsTotalOrder order.cmp) (exact : IsAntisymmetric order.cmp) (serving : IsServing order source db m) where
+module _ {K : Type 0} {g : _} (order : Order) (source : Seen) (db : Held K g) (m : Machine) (version : VersionLaw) (total : IsTotalOrder order.cmp) (exact : IsAntisymmetric order.cmp) (serving : IsServing order source db m) where
   -- An iterator passes one only where the directory of the machine does.
   over_limit : (b : Bool) → m.over_limit ≡ b → (b ≡ false → ⊥) → m.over_limit ≡ true
   over_limit true is none = is
@@ -102,7 +103,7 @@ placed_somewhere None pair old new before after h = refl
 placed_somewhere (Some cause) pair old new before after h = absurd (let bad : SameMove (Ok pair) (Err cause) = h.0 in cc)
 
 module _ {K : Type 0} {g : _} (order : Order) (kept : (scan : Scan K g) → ScanIsKept order.cmp scan) (version : VersionLaw) (total : IsTotalOrder order.cmp) (exact : IsAntisymmetric order.cmp)
-    (source new : Seen) (ids : Ids) (db : Held (Scan K g)) (memory : Memories) (open_ones : BTreeMap ℕ (Scan K g)) (id : ℕ) (motion : Motion) (was now : Scan K g)
+    (source new : Seen) (ids : Ids) (db : Held K g) (memory : Memories) (open_ones : BTreeMap ℕ (Scan K g)) (id : ℕ) (motion : Motion) (was now : Scan K g)
     (is : db.broken ≡ false) (there : kept_at db.iterators id ≡ Some was) (updates : Updates id (Some now) db.iterators open_ones) where
   abbrev before : Whole
   before = whole_of source db
@@ -111,8 +112,12 @@ module _ {K : Type 0} {g : _} (order : Order) (kept : (scan : Scan K g) → Scan
   after = record { seen = new; memory = memory }
 
   -- the database behind the move, but for its iterators
-  abbrev read_db : Held (Scan K g)
+  abbrev read_db : Held K g
   read_db = record db { memory = memory }
+
+  -- its version is what it was
+  have_now : tables_of now ≡ tables_of was → HaveKnown db.iterators db.tables open_ones
+  have_now same = have_updated db.iterators open_ones db.tables id (Some now) (λ one is_now. let it : now ≡ one = cc in inl (id, was, there, ap tables_of (sym it) ∙ same)) updates
 
   walk_known : (m : Machine) → StandsOpen order source ids db m → IsWalk order.cmp m.over_limit before was (walk_under m id)
   walk_known m s = walk_at (IsWalk order.cmp m.over_limit before) (kept_at db.iterators id) (lookup (nat_eq id) m.iterators) was there ((serving_of order source ids db m is s).iterators id)
@@ -124,7 +129,7 @@ module _ {K : Type 0} {g : _} (order : Order) (kept : (scan : Scan K g) → Scan
       ∙ lacks_same order m.over_limit before was (walk_under m id) motion (walk_known m s) ∙ known
 
   stands_on : (result : Result (Option (List ℕ × List ℕ)) DbError) → IsMoved order.cmp motion before after was now result → IsTrue new.facts.faithful → (m : Machine) → StandsOpen order source ids db m → StandsOpen order new ids read_db (read_by new.facts m)
-  stands_on result h f m s = stands_read order kept source new ids db memory m h.carries f h.memory s
+  stands_on result h f m s = stands_read order kept source new ids db memory m h.carries (λ number kept_now. elim (h.carries.gathered number kept_now) [ inl before ↦ inl before | inr reads ↦ inr (inr (id, was, there, reads)) ]) f h.memory s
 
   counts_on : (result : Result (Option (List ℕ × List ℕ)) DbError) (answer : Answer) (place : Option ℕ) → IsMoved order.cmp motion before after was now result → (m : Machine) → StandsOpen order source ids db m → Counted m answer (read_by new.facts m)
   counts_on result answer place h m s = denies_none m (read_by new.facts m) answer (let same : m.failures ≡ source.facts.failures = s.counts.failures in let rise : source.facts.failures ≤ new.facts.failures = h.reads.failures in omega (arith, same, rise)) (h.reads.denials ∙ sym s.counts.denials)
@@ -143,7 +148,7 @@ module _ {K : Type 0} {g : _} (order : Order) (kept : (scan : Scan K g) → Scan
           n,
           without_cause (move_cause m id motion) m n (Pair pair) ((pair ≡ pair_at (walk_under m id).pairs place) × Becomes (moved m id place) n) (move_at m None s free)
               (record { failures = counted.failures; denials = counted.denials; undenied = counted.undenied }) (goes.1, refl),
-          stands_beside order new ids ids read_db db.snapshots open_ones (read_by new.facts m) m.snapshots n.iterators m.last_snapshot m.last_iterator is stands s.ids.0 s.ids.1 serving.snapshots
+          stands_beside order new ids ids read_db db.snapshots open_ones (read_by new.facts m) m.snapshots n.iterators m.last_snapshot m.last_iterator is stands s.ids.0 s.ids.1 (known_itself db.snapshots memory.last) (have_now h.version) serving.snapshots
               (live_replaced (IsWalk order.cmp m.over_limit after) id db.iterators open_ones m.iterators now (record (walk_under m id) { place = place }) updates goes.0 serving.iterators),
         );
   }
@@ -156,7 +161,7 @@ module _ {K : Type 0} {g : _} (order : Order) (kept : (scan : Scan K g) → Scan
       let serving = serving_of order new ids read_db (read_by new.facts m) is stands in
       let both : IsBoth (IsWalk order.cmp m.over_limit before) (Some was) (lookup (nat_eq id) m.iterators) =
       subst (λ (o : Option (Scan K g)). IsBoth (IsWalk order.cmp m.over_limit before) o (lookup (nat_eq id) m.iterators)) there ((serving_of order source ids db m is s).iterators id) in
-      stands_beside order new ids ids read_db db.snapshots open_ones (read_by new.facts m) m.snapshots m.iterators m.last_snapshot m.last_iterator is stands s.ids.0 s.ids.1 serving.snapshots
+      stands_beside order new ids ids read_db db.snapshots open_ones (read_by new.facts m) m.snapshots m.iterators m.last_snapshot m.last_iterator is stands s.ids.0 s.ids.1 (known_itself db.snapshots memory.last) (have_now h.version) serving.snapshots
       (live_again (IsWalk order.cmp m.over_limit after) id db.iterators open_ones m.iterators now
       (both_then (IsWalk order.cmp m.over_limit before) (IsWalk order.cmp m.over_limit after) was now (lookup (nat_eq id) m.iterators) (λ walk known. h.moves f free m.over_limit walk known) both) updates serving.iterators)
 
@@ -165,7 +170,7 @@ module _ {K : Type 0} {g : _} (order : Order) (kept : (scan : Scan K g) → Scan
   same_there same whole m s =
       let serving = serving_of order source ids db m is s in
       subst (λ (w : Whole). StandsOpen order w.seen ids (record db { memory = w.memory; iterators = open_ones }) m) (sym whole)
-      (stands_anew order source ids db db.snapshots open_ones m is (λ q. refl)
+      (stands_anew order source ids db db.snapshots open_ones m is (λ q. refl) (have_now (ap tables_of same))
       (live_changed (IsWalk order.cmp m.over_limit before) id db.iterators open_ones m.iterators was now there (λ walk known. subst (λ (i : Scan K g). IsWalk order.cmp m.over_limit before i walk) (sym same) known) updates serving.iterators) s)
 
   pub stood : (e : DbError) → IsMoved order.cmp motion before after was now (Err e) → LeadsOpen order source new ids db (record db { memory = memory; iterators = open_ones }) (λ m n. Moves order m id motion (Refused e) n)
@@ -203,7 +208,7 @@ not_io stands motion cause known io = at stands (needs_place motion) known
     at true true is = cc
     at false true is = cc
 
-module _ {K : Type 0} {g : _} (cmp : List ℕ → List ℕ → Ordering) (source new : Seen) (db : Held (Scan K g)) (memory : Memories) (open_ones : BTreeMap ℕ (Scan K g)) (id : ℕ) (motion : Motion) (was now : Scan K g)
+module _ {K : Type 0} {g : _} (cmp : List ℕ → List ℕ → Ordering) (source new : Seen) (db : Held K g) (memory : Memories) (open_ones : BTreeMap ℕ (Scan K g)) (id : ℕ) (motion : Motion) (was now : Scan K g)
     (there : kept_at db.iterators id ≡ Some was) (updates : Updates id (Some now) db.iterators open_ones) where
   -- a refusal leaves all that is answered from
   leaves_same : (e : DbError) → IsMoved cmp motion (whole_of source db) (record { seen = new; memory = memory }) was now (Err e) → IsSame db (record db { memory = memory; iterators = open_ones })
@@ -255,7 +260,7 @@ module _ {K : Type 0} {g : _} (cmp : List ℕ → List ℕ → Ordering) (source
       keeps (Err e) k = (leaves_same e k, inl refl)
 
 -- what refuses a move is what has to
-pub move_caused : {K S : Type 0} {g : _} → (db : Held (Scan K g)) (id : ℕ) (motion : Motion) (was now : Scan K g) (before after : Whole) (old new : S) (unmoved : Type 0) (r : Result (Option (List ℕ × List ℕ)) DbError) → db.broken ≡ false → kept_at db.iterators id ≡ Some was
+pub move_caused : {K S : Type 0} {g : _} → (db : Held K g) (id : ℕ) (motion : Motion) (was now : Scan K g) (before after : Whole) (old new : S) (unmoved : Type 0) (r : Result (Option (List ℕ × List ℕ)) DbError) → db.broken ≡ false → kept_at db.iterators id ≡ Some was
     → (lacks_place was.walk.stands motion ≡ None → IfErr r IsMet) → Placeless (lacks_place was.walk.stands motion) r was now before after → MatchOption (lacks_place was.walk.stands motion) (Unit {0}) (λ _. unmoved) → (unmoved → new ≡ old)
     → IsCausedIn (move_refusal db id motion) old new r
 move_caused {K} {S} {g} db id motion was now before after old new unmoved r whole there met lacking undone goes =

@@ -102,6 +102,7 @@ module _ {K : Type 0} {g : _} (cmp : Order) (motion : Motion) (before after : Wh
     carries = w.carries;
     still = w.still;
     stayed = same_standing new.walk.sequence old.walk.sequence new.walk.stands old.walk.stands new.walk.here.key.items old.walk.here.key.items w.sequence w.stayed.0 w.stayed.1;
+    version = ap (λ v. v.value.tables) w.reads_as.version;
     allowed = may_refuse motion e before.seen.facts after.seen.facts _ _ w.refused;
     placeless = not_lacking (lacks_place old.walk.stands motion) _ placed;
     placed = λ none. is_met e before.seen.facts after.seen.facts _ _ w.refused;
@@ -119,6 +120,7 @@ module _ {K : Type 0} {g : _} (cmp : Order) (motion : Motion) (before after : Wh
     carries = w.carries;
     still = w.still;
     stayed = tt;
+    version = ap (λ v. v.value.tables) w.reads_as.version;
     allowed = tt;
     placeless = not_lacking (lacks_place old.walk.stands motion) _ placed;
     placed = λ none. tt;
@@ -140,6 +142,7 @@ module _ {K : Type 0} {g : _} (cmp : Order) (motion : Motion) (before after : Wh
     carries = w.carries;
     still = w.still;
     stayed = same_standing back.walk.sequence old.walk.sequence back.walk.stands old.walk.stands back.walk.here.key.items old.walk.here.key.items (sequence ∙ w.sequence) (stands ∙ was) (key ∙ w.left);
+    version = ap (λ v. v.value.tables) both.version;
     allowed = tt;
     placeless = not_lacking (lacks_place old.walk.stands motion) _ placed;
     placed = λ none. tt;

@@ -7,7 +7,6 @@ use Rattle.edits.specs.declared.names.FileName.{FileName}
 use Rattle.edits.specs.declared.names.FileName.TheVariants.{Current, Manifest}
 use Rattle.edits.proofs.FileNames.{one_file}
 use Rattle.ikey.specs.Orders.{Order}
-use Rattle.scans.specs.declared.scan.Scan.{Scan}
 use Rattle.sources.specs.Tables.{Seen}
 use Rattle.store.specs.Files.{Facts}
 use Rattle.engine.specs.declared.command.Mode.{Mode}
@@ -61,7 +60,7 @@ opens_on m mid n mode result drawn piece h = (
   answered_on m mid n mode (open_cause m) drawn h.1,
 )
 
-module _ {K : Type 0} {g : _} (order : Order) (old : Facts) (mid new : Seen) (ids : Ids) (before after : Held (Scan K g)) (start : Machine → Type 0) (mode : Mode) where
+module _ {K : Type 0} {g : _} (order : Order) (old : Facts) (mid new : Seen) (ids : Ids) (before after : Held K g) (start : Machine → Type 0) (mode : Mode) where
   pub opened_cleaned : {T : Type 0} (result : Result T DbError) → before.broken ≡ false → after.broken ≡ false
       → Leads old mid.facts start (StandsOpen order mid ids before) (λ m n. Opens m mode Done n) → LeadsOpen order mid new ids before after (λ m n. IsPiece m 0 result n)
       → Leads old new.facts start (StandsOpen order new ids after) (λ m n. Opens m mode Done n)
@@ -76,7 +75,7 @@ module _ {K : Type 0} {g : _} (order : Order) (old : Facts) (mid new : Seen) (id
 
 -- ---- what is synced
 
-module _ {K : Type 0} {g : _} (old new : Facts) (db : Held (Scan K g)) (loses : LosesDead old new db) where
+module _ {K : Type 0} {g : _} (old new : Facts) (db : Held K g) (loses : LosesDead old new db) where
   -- what is live stays
   pub live_stays : (file : FileName) → IsFileName file → IsLiveIn db file → LeavesFile old new (name_of file)
   live_stays file is live = elim (loses (name_of file)) [
@@ -98,9 +97,9 @@ module _ {K : Type 0} {g : _} (old new : Facts) (db : Held (Scan K g)) (loses : 
       let d = has.durable in
       (n, (d.0, (current.0 ∙ d.1.0, current.1 ∙ d.1.1), manifest.0 ∙ d.2, manifest.1 ∙ d.3))
 
-pub durable_cleaned : {K T : Type 0} {g : _} (first old new : Facts) (db : Held (Scan K g)) (done : T) → (IsTrue new.faithful → IsTrue old.faithful) → (IsTrue new.faithful → LosesDead old new db)
+pub durable_cleaned : {K T : Type 0} {g : _} (first old new : Facts) (db : Held K g) (done : T) → (IsTrue new.faithful → IsTrue old.faithful) → (IsTrue new.faithful → LosesDead old new db)
     → (IsTrue old.faithful → HasDurable db.directory.manifest.number old) → LeavesDurable {T = T} first new (Ok done)
 durable_cleaned first old new db done back loses has = record { ok = λ f. durable_stays old new db (loses f) (has (back f)); err = λ f. tt }
 
-pub foreign_cleaned : {K : Type 0} {g : _} (first old new : Facts) (db : Held (Scan K g)) → (IsTrue new.faithful → IsTrue old.faithful) → (IsTrue new.faithful → LosesDead old new db) → (IsTrue old.faithful → KeepsForeign first old) → IsTrue new.faithful → KeepsForeign first new
+pub foreign_cleaned : {K : Type 0} {g : _} (first old new : Facts) (db : Held K g) → (IsTrue new.faithful → IsTrue old.faithful) → (IsTrue new.faithful → LosesDead old new db) → (IsTrue old.faithful → KeepsForeign first old) → IsTrue new.faithful → KeepsForeign first new
 foreign_cleaned first old new db back loses kept f name is = let a = kept (back f) name is in let b = foreign_stays old new db (loses f) name is in (b.0 ∙ a.0, b.1 ∙ a.1)

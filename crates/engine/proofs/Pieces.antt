@@ -130,17 +130,24 @@ snapshots_same law xs ys last m snapshots same h =
 
 -- ---- a database that is broken
 
--- a directory of the same entries is what the machine stands for, as it stands for that of an open database
-pub rests_as : {K : Type 0} {g : _} (order : Order) (law : SameViewLaw) (source : Seen) (db : Held (Scan K g)) (m : Machine) (serving : IsServing order source db m) (files : Files) (e : Directory)
-    → IsConsistent order files e → SameEntries (entries_of serving.contents db) (entries_in e) → used_in e ≡ db.memory.last → MeansAccepted order files m
-rests_as order law source db m serving files e good same used =
+-- a directory of which the machine's map is the view is what the machine stands for, as it stands for that of an open database
+pub rests_seen : {K : Type 0} {g : _} (order : Order) (source : Seen) (db : Held K g) (m : Machine) (serving : IsServing order source db m) (files : Files) (e : Directory)
+    → IsConsistent order files e → IsView (entries_in e) db.memory.last (current m) → AreAccounted (entries_in e) (entry_count m) (weight m) → used_in e ≡ db.memory.last → MeansAccepted order files m
+rests_seen order source db m serving files e good view accounted used =
     let means : Means order files (current m) m.used (entry_count m) (weight m) = record {
       entries = entries_in e;
       spelled = inr (e, good, refl, serving.entries.used ∙ sym used);
-      view = subst (λ (n : ℕ). IsView (entries_in e) n (current m)) (sym serving.entries.used) ((law (entries_of serving.contents db) (entries_in e) db.memory.last same).0 (current m) serving.entries.view);
-      accounted = accounted_same (entries_of serving.contents db) (entries_in e) (entry_count m) (weight m) same serving.accounted;
+      view = subst (λ (n : ℕ). IsView (entries_in e) n (current m)) (sym serving.entries.used) view;
+      accounted = accounted;
     } in
     let Accepted : Option (List Operation) → Type 0 = λ o. MatchOption o (Means order files (current m) m.used (entry_count m) (weight m)) (λ operations.
     Means order files (current m) m.used (entry_count m) (weight m)
     ⊎ Means order files (after_batch (current m) operations) (m.used + length operations) (entry_count m + length operations) (weight m + sum_by operation_weight operations)) in
     subst Accepted (sym serving.certain) means
+
+-- so is one of the same entries
+pub rests_as : {K : Type 0} {g : _} (order : Order) (law : SameViewLaw) (source : Seen) (db : Held K g) (m : Machine) (serving : IsServing order source db m) (files : Files) (e : Directory)
+    → IsConsistent order files e → SameEntries (entries_of serving.contents db) (entries_in e) → used_in e ≡ db.memory.last → MeansAccepted order files m
+rests_as order law source db m serving files e good same used =
+    rests_seen order source db m serving files e good ((law (entries_of serving.contents db) (entries_in e) db.memory.last same).0 (current m) serving.entries.view)
+    (accounted_same (entries_of serving.contents db) (entries_in e) (entry_count m) (weight m) same serving.accounted) used

@@ -1,14 +1,18 @@
 -- What the directory of an open database says of its tables, and what calls that only read leave of an open database.
-use Rattle.std.proofs.Common.{◌≡◌, ◌⊎◌, ◌<◌, inl, inr, ℕ, zero, suc, ◌≤◌, Bool, true, false, is_some, IsTrue, IsSome, Option, None, Some, List, [], ◌∷◌, map, MatchBool, refl, sym, ap, subst, ◌∙◌, arith, Contains}
+use Rattle.std.proofs.Common.{◌≡◌, ◌⊎◌, ◌<◌, inl, inr, ℕ, zero, suc, ◌≤◌, Bool, true, false, is_some, IsTrue, IsSome, Option, None, Some, List, [], ◌∷◌, map, MatchBool, MatchOption, refl, sym, ap, subst, ◌∙◌, arith, Contains}
 use Rattle.std.specs.FinMap.{get}
 use Rattle.std.specs.Option.{option_or}
 use Rattle.edits.specs.Names.{IsNumbered, name_of}
 use Rattle.edits.specs.declared.names.FileName.TheVariants.{Table, OldTable}
+use Rattle.recover.specs.Changes.{ManifestEndsAt}
+use Rattle.recover.specs.Directory.{EndsAt, IsConsistent}
 use Rattle.recover.specs.Numbers.{IsFree}
 use Rattle.std.specs.Cmp.{IsTotalOrder}
 use Rattle.std.specs.FinMap.{IsAntisymmetric}
 use Rattle.std.specs.declared.cmp.Ordering.{Ordering}
 use Rattle.std.specs.BTreeMap.{BTreeMap}
+use Rattle.std.specs.Bool.{nat_eq}
+use Rattle.std.specs.Map.{lookup}
 use Rattle.cache.specs.Tables.{table_at}
 use Rattle.edits.specs.declared.field.PlacedTable.{PlacedTable}
 use Rattle.ikey.specs.declared.entry.Entry.{Entry}
@@ -21,6 +25,7 @@ use Rattle.recover.proofs.Memberships.{one_of_tables}
 use Rattle.scans.specs.SourceLaws.{keeps_any}
 use Rattle.scans.specs.Scans.{IsOnePastLimit, KeepsScan, KeepsUpTo, reads_memory, reads_table, tables_of}
 use Rattle.scans.specs.Scanning.{ScanIsKept}
+use Rattle.rows.specs.InRows.{HasNumber}
 use Rattle.scans.specs.Whole.{Whole}
 use Rattle.memories.specs.Memories.{Memories, logged_in}
 use Rattle.memories.specs.PlaceLaws.{left_kept, left_logged, left_sealed}
@@ -37,9 +42,11 @@ use Rattle.engine.specs.declared.ids.Ids.{Ids}
 use Rattle.engine.specs.Directory.{IsAtRest, IsReadable, IsWithinLimits}
 use Rattle.engine.specs.Held.{Held, whole_of}
 use Rattle.engine.specs.Iterators.{IsWalk, walked_of}
-use Rattle.engine.specs.Live.{AreWalks}
+use Rattle.engine.specs.Compacting.{IsCompacting}
+use Rattle.engine.specs.Live.{kept_at, AreLive, AreWalks, IsBoth}
 use Rattle.engine.specs.Machine.{Machine, Walk}
 use Rattle.engine.specs.Stands.{HasLog, HasTables, IsBroken, IsServing, StandsOpen}
+use Rattle.engine.proofs.Compacting.{each_job, goes_beside, have_itself, known_itself, version_number, version_unowned}
 use Rattle.engine.proofs.LiveIds.{live_then}
 
 -- ---- members
@@ -60,7 +67,7 @@ has_placed (x ∷ contents) c (inr i) = let rest = has_placed contents c i in (s
 -- ---- the tables of an open database
 
 -- The files of its version are tables, and their entries those of the directory's tables.
-pub tables_found : {I : Type 0} → (order : Order) (source : Seen) (contents : List TableContent) (db : Held I) → VersionLaw → IsTotalOrder order.cmp → IsAntisymmetric order.cmp
+pub tables_found : {K : Type 0} {g : _} → (order : Order) (source : Seen) (contents : List TableContent) (db : Held K g) → VersionLaw → IsTotalOrder order.cmp → IsAntisymmetric order.cmp
     → HasLog order source.facts.files contents db → HasTables order source contents db
     → (found : List TableContent) × HasTablesOf order source db.tables found × SameEntries (joined (table_sources found)) (tabled contents)
 tables_found order source contents db law total exact log tables =
@@ -71,12 +78,12 @@ tables_found order source contents db law total exact log tables =
     (v.0, (tables.sound, v.1), subst (λ (cs : List TableContent). SameEntries (joined (table_sources v.0)) (tabled cs)) (sym a.in_tables) v.2)
 
 -- a file that is a table, and is past a limit
-long_table : (order : Order) (file : List ℕ) (entries : List Entry) → IsTableFile order file entries → IsPastLimit order.cmp file → IsLongTable order file
+pub long_table : (order : Order) (file : List ℕ) (entries : List Entry) → IsTableFile order file entries → IsPastLimit order.cmp file → IsLongTable order file
 long_table order file entries t (inl unsupported) = (t.1.0, (t.1.1, inl (long_frame order.cmp file unsupported t.1.0 t.1.1)))
 long_table order file entries t (inr long) = (long.0, (long.1, inr long.2))
 
 -- Where the file of one of them is past a limit, the directory is.
-pub passes_limit : {I : Type 0} → (order : Order) (source : Seen) (contents found : List TableContent) (db : Held I) (content : TableContent)
+pub passes_limit : {K : Type 0} {g : _} → (order : Order) (source : Seen) (contents found : List TableContent) (db : Held K g) (content : TableContent)
     → HasLog order source.facts.files contents db → HasTables order source contents db → HasVersion order source.facts.files db.tables found → InTables found content → IsTooLong order source content.placed
     → IsWithinLimits order source.facts.files → ⊥
 passes_limit order source contents found db content log tables version i long within =
@@ -112,9 +119,26 @@ below_next order files n number free numbered there = elim (either_there (get fi
 abbrev pub KeepsThere : Seen → Seen → Type 0
 KeepsThere old new = (number : ℕ) → KeepsOf new number → KeepsOf old number ⊎ (IsNumbered number × IsSome (table_at old.facts.files number))
 
-carried_there : {numbers : ℕ → Type 0} (cmp : List ℕ → List ℕ → Ordering) (old new : Seen) → Carries cmp numbers old new → IsTrue new.facts.faithful → KeepsThere old new
+-- it is a table of the version, or one that an open iterator reads
+abbrev pub IsReadIn : {K : Type 0} {g : _} → Held K g → ℕ → Type 0
+IsReadIn {K} {g} db number = HasNumber db.tables number ⊎ ((id : ℕ) × (scan : Scan K g) × (kept_at db.iterators id ≡ Some scan) × reads_table scan number)
+
+abbrev pub GathersRead : {K : Type 0} {g : _} → Held K g → Seen → Seen → Type 0
+GathersRead db old new = (number : ℕ) → KeepsOf new number → KeepsOf old number ⊎ IsReadIn db number
+
+pub carried_there : {numbers : ℕ → Type 0} (cmp : List ℕ → List ℕ → Ordering) (old new : Seen) → Carries cmp numbers old new → IsTrue new.facts.faithful → KeepsThere old new
 unfolding Knows
 carried_there cmp old new carries f number is = carries.kept f number (inl is)
+
+-- what is kept under an id stands for something of the machine
+pub live_of : {X Y : Type 0} (Is : X → Y → Type 0) (kept : BTreeMap ℕ X) (live : List (ℕ × Y)) (id : ℕ) (x : X) → kept_at kept id ≡ Some x → AreLive Is kept live → (y : Y) × Is x y
+live_of {X} {Y} Is kept live id x there h = at (kept_at kept id) (lookup (nat_eq id) live) there (h id)
+  where
+    at : (o : Option X) (p : Option Y) → o ≡ Some x → IsBoth Is o p → (y : Y) × Is x y
+    at None None is both = absurd (cc)
+    at None (Some y) is both = absurd both
+    at (Some z) None is both = absurd both
+    at (Some z) (Some y) is both = (let same : z ≡ x = cc in (y, subst (λ (w : X). Is w y) same both))
 
 -- ---- calls that only read
 
@@ -123,7 +147,7 @@ abbrev pub read_by : Facts → Machine → Machine
 read_by facts m = record m { failures = facts.failures; denials = facts.denials }
 
 -- what a scan reads is the same
-whole_kept : (cmp : List ℕ → List ℕ → Ordering) (old new : Whole) (sequence : ℕ) → LeavesMemories old.memory new.memory → new.seen.facts.files ≡ old.seen.facts.files → (IsSound cmp old.seen → IsSound cmp new.seen)
+pub whole_kept : (cmp : List ℕ → List ℕ → Ordering) (old new : Whole) (sequence : ℕ) → LeavesMemories old.memory new.memory → new.seen.facts.files ≡ old.seen.facts.files → (IsSound cmp old.seen → IsSound cmp new.seen)
     → KeepsUpTo cmp sequence old new
 whole_kept cmp old new sequence left files sound = record {
   memory = λ cursor within. left_kept cmp cursor old.memory new.memory left;
@@ -153,46 +177,84 @@ module _ {K : Type 0} {g : _} (order : Order) (kept : (scan : Scan K g) → Scan
       (λ iterator walk is. walk_kept m.over_limit old new iterator walk (keeps_any order.cmp (reads_memory iterator) (reads_table iterator) iterator.walk.sequence old new (keeps iterator.walk.sequence is.bound)) last is) h
 
   -- files and memory are the same, whatever else the calls did
-  module _ (old new : Seen) (db : Held (Scan K g)) (memory : Memories) (m : Machine) (files : new.facts.files ≡ old.facts.files) (sound : IsSound order.cmp old → IsSound order.cmp new)
-      (keeps : KeepsThere old new) (left : LeavesMemories db.memory memory) where
-    inserts : logged_in memory ≡ logged_in db.memory
+  module _ (old new : Seen) (db : Held K g) (memory : Memories) (m : Machine) (files : new.facts.files ≡ old.facts.files) (sound : IsSound order.cmp old → IsSound order.cmp new)
+      (keeps : KeepsThere old new) (gathers : GathersRead db old new) (left : LeavesMemories db.memory memory) where
+    pub inserts : logged_in memory ≡ logged_in db.memory
     inserts = left_logged db.memory memory left
 
-    last : memory.last ≡ db.memory.last
+    pub last : memory.last ≡ db.memory.last
     last = left.last
 
-    abbrev after : Held (Scan K g)
+    abbrev pub after : Held K g
     after = record db { memory = memory }
 
-    readable_read : IsReadable order old.facts.files m → IsReadable order new.facts.files (read_by new.facts m)
+    pub readable_read : IsReadable order old.facts.files m → IsReadable order new.facts.files (read_by new.facts m)
     readable_read h = subst (λ (fs : Files). IsReadable order fs (read_by new.facts m)) (sym files) (record { made = h.made; numbers = h.numbers; limits = h.limits })
 
-    log_read : (contents : List TableContent) → HasLog order old.facts.files contents db → HasLog order new.facts.files contents after
+    abbrev pub log_read : (contents : List TableContent) → HasLog order old.facts.files contents db → HasLog order new.facts.files contents after
     log_read contents h =
-        let g : HasLog order new.facts.files contents db = subst (λ (fs : Files). HasLog order fs contents db) (sym files) h in
-        let a = g.directory in
+        let a = h.directory in
+        let d = a.directory in
+        let knows = h.knows in
         record {
-          named = g.named;
-          directory = record { directory = a.directory; consistent = a.consistent; ends = a.ends; in_tables = a.in_tables; in_logs = inserts ∙ a.in_logs; spent = last ∙ a.spent };
-          logs = record {
-            sealed = g.logs.sealed;
-            current = g.logs.current;
-            logs = g.logs.logs;
-            number = g.logs.number;
-            sealed_are = left_sealed db.memory memory left ∙ g.logs.sealed_are;
-            current_are = left.inserts ∙ g.logs.current_are;
+          named = h.named;
+          directory = record {
+            directory = d;
+            consistent = subst (λ (fs : Files). IsConsistent order fs d) (sym files) a.consistent;
+            ends = subst (λ (fs : Files). EndsAt fs d db.log.number db.log.end) (sym files) a.ends;
+            in_tables = a.in_tables;
+            in_logs = inserts ∙ a.in_logs;
+            spent = last ∙ a.spent;
           };
-          knows = record { first_log = g.knows.first_log; forward = g.knows.forward; previous_log = g.knows.previous_log; number = g.knows.number; named = g.knows.named; ends = g.knows.ends; free = g.knows.free };
+          logs = record {
+            sealed = h.logs.sealed;
+            current = h.logs.current;
+            logs = h.logs.logs;
+            number = h.logs.number;
+            sealed_are = left_sealed db.memory memory left ∙ h.logs.sealed_are;
+            current_are = left.inserts ∙ h.logs.current_are;
+          };
+          knows = record {
+            first_log = knows.first_log;
+            forward = knows.forward;
+            previous_log = knows.previous_log;
+            number = knows.number;
+            named = knows.named;
+            ends = subst (λ (fs : Files). ManifestEndsAt order fs d.manifest db.directory.manifest.end d.edits d.layout) (sym files) knows.ends;
+            free = subst (λ (fs : Files). IsFree order fs db.directory.numbers.next) (sym files) knows.free;
+          };
         }
 
     -- what is kept is of tables that are there, or was kept before
-    drawn_read : (contents : List TableContent) → HasLog order old.facts.files contents db → HasTables order old contents db → (number : ℕ) → KeepsOf new number → IsNumbered number × (number < db.directory.numbers.next)
+    pub drawn_read : (contents : List TableContent) → HasLog order old.facts.files contents db → HasTables order old contents db → (number : ℕ) → KeepsOf new number → IsNumbered number × (number < db.directory.numbers.next)
     drawn_read contents log tables number kept = elim (keeps number kept) [
       | inl before ↦ tables.drawn number before
       | inr there ↦ (there.0, below_next order old.facts.files db.directory.numbers.next number log.knows.free there.0 there.1)
     ]
 
-    pub serving_read : IsServing order old db m → IsServing order new after (read_by new.facts m)
+    -- nothing is kept anew of a table that a compaction writes
+    pub job_read : (h : IsServing order old db m) → MatchOption db.job (Unit {0}) (IsCompacting order (whole_of old db) db.directory.numbers.next db.snapshots db.iterators h.log.directory.directory)
+        → MatchOption db.job (Unit {0}) (IsCompacting order (whole_of new after) db.directory.numbers.next db.snapshots db.iterators h.log.directory.directory)
+    job_read h job = each_job _ _ db.job (λ work is c.
+        let a = h.log.directory in
+        let d = a.directory in
+        let free = h.log.knows.free in
+        let fits = db.directory.numbers.in_range.1 in
+        let contents : h.contents ≡ d.tables = a.in_tables in
+        let unowned_here = λ (number : ℕ). version_unowned work.job.outputs order old.facts.files d h.contents db.tables number a.consistent contents h.tables.version c.running.unused in
+        goes_beside order (whole_of old db) (whole_of new after) db.directory.numbers.next db.directory.numbers.next db.snapshots db.snapshots db.iterators db.iterators db.tables d d work c a.consistent free fits (omega arith)
+        (λ number numbered below one. (ap (λ (fs : Files). get fs (name_of (Table number))) files, ap (λ (fs : Files). get fs (name_of (OldTable number))) files)) sound
+        (λ number kept_now. elim (gathers number kept_now) [
+          | inl before ↦ inl before
+          | inr (inl has) ↦ inr ((version_number order old.facts.files d db.directory.numbers.next h.contents db.tables number a.consistent free contents h.tables.version has).1, unowned_here number has)
+          | inr (inr one) ↦ inr (
+              let walk = live_of (IsWalk order.cmp m.over_limit (whole_of old db)) db.iterators m.iterators one.0 one.1 one.2 h.iterators in
+              let there = walk.1.tables number one.3 in
+              (below_next order old.facts.files db.directory.numbers.next number free there.1 there.2, c.unread one.0 one.1 one.2 number there.0)
+              )
+        ]) refl refl (omega (arith, last)) (known_itself db.snapshots db.memory.last) (have_itself db.iterators db.tables) unowned_here) job
+
+    abbrev pub serving_read : IsServing order old db m → IsServing order new after (read_by new.facts m)
     serving_read h = record {
       whole = h.whole;
       certain = h.certain;
@@ -210,6 +272,7 @@ module _ {K : Type 0} {g : _} (order : Order) (kept : (scan : Scan K g) → Scan
       accounted = rw (inserts) h.accounted;
       readable = readable_read h.readable;
       numbers = h.numbers;
+      job = job_read h h.job;
     }
 
     rest_read : (b : Bool) → MatchBool b (IsBroken order old.facts.files m) (IsServing order old db m) → MatchBool b (IsBroken order new.facts.files (read_by new.facts m)) (IsServing order new after (read_by new.facts m))
@@ -227,6 +290,6 @@ module _ {K : Type 0} {g : _} (order : Order) (kept : (scan : Scan K g) → Scan
     }
 
   -- Calls of a faithful store that only read it leave all but the counts.
-  pub stands_read : {numbers : ℕ → Type 0} (old new : Seen) (ids : Ids) (db : Held (Scan K g)) (memory : Memories) (m : Machine) → Carries order.cmp numbers old new → IsTrue new.facts.faithful
+  pub stands_read : {numbers : ℕ → Type 0} (old new : Seen) (ids : Ids) (db : Held K g) (memory : Memories) (m : Machine) → Carries order.cmp numbers old new → GathersRead db old new → IsTrue new.facts.faithful
       → LeavesMemories db.memory memory → StandsOpen order old ids db m → StandsOpen order new ids (record db { memory = memory }) (read_by new.facts m)
-  stands_read old new ids db memory m carries f left s = stands_kept old new db memory m (carries.reads.files f) (carries.sound f) (carried_there order.cmp old new carries f) left ids s
+  stands_read old new ids db memory m carries gathers f left s = stands_kept old new db memory m (carries.reads.files f) (carries.sound f) (carried_there order.cmp old new carries f) gathers left ids s

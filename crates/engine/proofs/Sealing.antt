@@ -41,12 +41,13 @@ use Rattle.engine.specs.Iterators.{IsWalk}
 use Rattle.engine.specs.Live.{kept_at}
 use Rattle.engine.specs.Machine.{Machine, Walk}
 use Rattle.engine.specs.Stands.{HasLog, IsBroken, IsServing}
+use Rattle.engine.proofs.Compacting.{each_job, goes_beside, have_itself, known_itself, version_unowned}
 use Rattle.engine.proofs.Pieces.{free_up, made_still, rests_as, same_by, walks_each}
 use Rattle.engine.proofs.Reopening.{files_apart, long_back}
 
 -- ---- a number is drawn, or none
 
-module _ {K : Type 0} {g : _} (order : Order) (source : Seen) (db : Held (Scan K g)) (m : Machine) (state : DirectoryState) where
+module _ {K : Type 0} {g : _} (order : Order) (source : Seen) (db : Held K g) (m : Machine) (state : DirectoryState) where
   pub serving_drawn : IsServing order source db m → state.manifest.number ≡ db.directory.manifest.number → state.manifest.name ≡ db.directory.manifest.name → state.manifest.end ≡ db.directory.manifest.end → state.first_log ≡ db.directory.first_log
       → state.previous_log ≡ db.directory.previous_log → db.directory.numbers.next ≤ state.numbers.next → state.numbers.next ≤ db.directory.numbers.next + 1 → IsServing order source (record db { directory = state }) (record m { numbers = m.numbers + 1 })
   serving_drawn h number name ends first_log previous_log le upto =
@@ -82,6 +83,11 @@ module _ {K : Type 0} {g : _} (order : Order) (source : Seen) (db : Held (Scan K
         accounted = h.accounted;
         readable = record { made = h.readable.made; numbers = free_up order source.facts.files m.numbers (m.numbers + 1) (omega arith) h.readable.numbers; limits = h.readable.limits };
         numbers = (let below = h.numbers in omega (arith, below, upto));
+        job = each_job _ _ db.job (λ work is c.
+            goes_beside order (whole_of source db) (whole_of source db) db.directory.numbers.next state.numbers.next db.snapshots db.snapshots db.iterators db.iterators db.tables d d work c
+            h.log.directory.consistent knows.free db.directory.numbers.in_range.1 le (λ number numbered below one. (refl, refl)) (λ sound. sound) (λ number kept_now. inl kept_now) refl refl
+            (omega arith) (known_itself db.snapshots db.memory.last) (have_itself db.iterators db.tables)
+            (λ number. version_unowned work.job.outputs order source.facts.files d h.contents db.tables number h.log.directory.consistent h.log.directory.in_tables h.tables.version c.running.unused)) h.job;
       }
 
 -- ---- a new log
@@ -91,7 +97,7 @@ abbrev pub SealKept : (List ℕ → List ℕ → Ordering) → Type 0
 SealKept cmp = (cursor : MemoriesPlace) (old new : Memories) → IsSome (table_in old cursor.generation) → IsSealed old new → KeepsMemories cmp cursor old new
 
 module _ {K : Type 0} {g : _} (order : Order) (kept : (scan : Scan K g) → ScanIsKept order.cmp scan) (one : OneDirectoryLaw) (lasts : SoundLasts) (law : SameViewLaw) (seals : SealKept order.cmp)
-    (old : Seen) (facts : Facts) (db : Held (Scan K g)) (m : Machine) (serving : IsServing order old db m) (t : IsTrue facts.faithful) (few : db.directory.numbers.next < 2 ^ 62)
+    (old : Seen) (facts : Facts) (db : Held K g) (m : Machine) (serving : IsServing order old db m) (t : IsTrue facts.faithful) (few : db.directory.numbers.next < 2 ^ 62)
     (others : KeepsOthers old.facts.files facts.files (name_of (Log db.directory.numbers.next))) where
   abbrev next : ℕ
   next = db.directory.numbers.next
@@ -154,7 +160,7 @@ module _ {K : Type 0} {g : _} (order : Order) (kept : (scan : Scan K g) → Scan
       (log_number : log.number ≡ next) (log_name : string_bytes log.name ≡ name_of (Log next)) (log_end : log.end ≡ 0)
       (number : state.manifest.number ≡ db.directory.manifest.number) (name : state.manifest.name ≡ db.directory.manifest.name) (end : state.manifest.end ≡ db.directory.manifest.end)
       (first_log : state.first_log ≡ db.directory.first_log) (previous_log : state.previous_log ≡ db.directory.previous_log) (next_is : state.numbers.next ≡ next + 1) where
-    abbrev pub sealed_db : Held (Scan K g)
+    abbrev pub sealed_db : Held K g
     sealed_db = record db { memory = memory; log = log; directory = state }
 
     none_sealed : sealed_inserts db.memory ≡ []
@@ -172,7 +178,7 @@ module _ {K : Type 0} {g : _} (order : Order) (kept : (scan : Scan K g) → Scan
     entries_now : entries_of serving.contents sealed_db ≡ entries_of serving.contents db
     entries_now = ap (λ (es : List Entry). tabled serving.contents ++ es) logged_now
 
-    log_sealed : HasLog order facts.files serving.contents sealed_db
+    abbrev log_sealed : HasLog order facts.files serving.contents sealed_db
     log_sealed =
         let knows = serving.log.knows in
         record {
@@ -234,6 +240,11 @@ module _ {K : Type 0} {g : _} (order : Order) (kept : (scan : Scan K g) → Scan
       accounted = rw (entries_now) serving.accounted;
       readable = readable_as (with_log d next) has.consistent refl refl freed;
       numbers = (let below : next ≤ m.numbers = serving.numbers in omega (arith, next_is, below));
+      job = each_job _ _ db.job (λ work is c.
+          goes_beside order (whole_of old db) (whole_of new sealed_db) next state.numbers.next db.snapshots db.snapshots db.iterators db.iterators db.tables d (with_log d next) work c
+          a.consistent serving.log.knows.free db.directory.numbers.in_range.1 (omega (arith, next_is)) (λ number numbered below one. (newer_same number numbered, older_same number numbered)) sound_still (λ number kept_now. inl kept_now) refl refl
+          (let last = sealed.last in omega (arith, last)) (known_itself db.snapshots db.memory.last) (have_itself db.iterators db.tables)
+          (λ number. version_unowned work.job.outputs order old.facts.files d serving.contents db.tables number a.consistent a.in_tables serving.tables.version c.running.unused)) serving.job;
     }
 
   -- ---- the store failed, so that it is there or not

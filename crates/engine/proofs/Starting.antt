@@ -47,7 +47,7 @@ content_of (c ∷ contents) p (suc k, less, is) = let rest = content_of contents
 some_of : (o : Option (List ℕ)) (file : List ℕ) → o ≡ Some file → IsSome o
 some_of o file is = subst (λ (x : Option (List ℕ)). IsSome x) (sym is) refl
 
-pub starts_walk : {K : Type 0} {g : _} → (order : Order) (limited : Bool) (source : Seen) (db : Held (Scan K g)) (scan : Scan K g) (contents : List TableContent) (sequence : ℕ) (view_map : Contents)
+pub starts_walk : {K : Type 0} {g : _} → (order : Order) (limited : Bool) (source : Seen) (db : Held K g) (scan : Scan K g) (contents : List TableContent) (sequence : ℕ) (view_map : Contents)
     → SameViewLaw → VersionLaw → IsTotalOrder order.cmp → IsAntisymmetric order.cmp → HasLog order source.facts.files contents db → HasTables order source contents db
     → scan.walk.sequence ≤ db.memory.last → sequence ≤ db.memory.last → IsView (entries_of contents db) sequence view_map → BeginsScan order db.tables sequence (whole_of source db) scan → tables_of scan ≡ db.tables
     → ((number : ℕ) → reads_table scan number → HasNumber db.tables number)

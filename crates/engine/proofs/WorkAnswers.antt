@@ -1,14 +1,21 @@
 -- What work answers, of what its pieces do.
-use Rattle.std.proofs.Common.{◌≡◌, ℕ, ◌≤◌, ◌<◌, Bool, true, false, if◌then◌else◌, Option, Some, None, Result, Ok, Err, IsTrue, IsSome, inl, inr, refl, sym, ap, subst, ◌∙◌, arith}
+use Rattle.std.proofs.Common.{◌≡◌, ℕ, ◌+◌, ◌≤◌, ◌<◌, max, Bool, true, false, if◌then◌else◌, Option, Some, None, Result, Ok, Err, IsTrue, IsSome, MatchOption, List, inl, inr, refl, sym, ap, subst, ◌∙◌, arith}
 use Rattle.std.proofs.lemmas.Bool.{cases_order}
+use Rattle.std.specs.declared.cmp.Ordering.{Ordering}
 use Rattle.coding.specs.declared.error.DbError.{DbError}
 use Rattle.coding.specs.declared.error.DbError.TheVariants as error
+use Rattle.edits.specs.declared.field.PlacedTable.{PlacedTable}
 use Rattle.ikey.specs.Orders.{Order}
+use Rattle.jobs.specs.Running.{shown}
+use Rattle.jobs.specs.declared.open_job.OpenJob.{OpenJob}
 use Rattle.memories.specs.Memories.{Memories}
 use Rattle.memtable.specs.Contents.{size_of}
-use Rattle.scans.specs.declared.scan.Scan.{Scan}
 use Rattle.sources.specs.Tables.{Seen}
 use Rattle.store.specs.Files.{Facts}
+use Rattle.upkeep.specs.Install.{Replaces}
+use Rattle.versions.specs.Levels.{Placement}
+use Rattle.versions.specs.Plans.{IsPicked, Needs}
+use Rattle.versions.specs.declared.plan.JobPlan.{JobPlan}
 use Rattle.engine.specs.declared.ids.Ids.{Ids}
 use Rattle.engine.specs.declared.work.Progress.{Progress}
 use Rattle.engine.specs.declared.work.Progress.TheVariants as progress
@@ -19,7 +26,10 @@ use Rattle.engine.specs.Machine.{Machine}
 use Rattle.engine.specs.Serving.{not_serving}
 use Rattle.engine.specs.Stands.{StandsClosed}
 use Rattle.engine.specs.Upkeep.{UpkeepRefused, Works}
-use Rattle.engine.specs.Working.{DoesWork, IsPiece, IsSameMemory, MayRefusePiece, refused_as, work_answer}
+use Rattle.engine.specs.OptionValues.{OptionValues}
+use Rattle.engine.specs.declared.command.Answer.TheVariants.{Worked, Idle}
+use Rattle.engine.specs.Applied.{ShowsWork}
+use Rattle.engine.specs.Working.{DoesWork, GoesOn, IsAtEase, IsFurther, IsPiece, IsSameMemory, MayRefusePiece, refused_as, work_answer}
 use Rattle.engine.proofs.Steps.{broken_cause, broken_of, by_cause, closed_cause, no_cause, serving_of}
 use Rattle.engine.proofs.WorkSteps.{piece_failed, pieces_on, works_as}
 use Rattle.engine.proofs.WriteSteps.{stays_open}
@@ -27,16 +37,16 @@ use Rattle.engine.proofs.WriteSteps.{stays_open}
 -- ---- the machine
 
 -- a broken database does none
-pub works_broken : {K : Type 0} {g : _} → (order : Order) (source : Seen) (ids : Ids) (db : Held (Scan K g)) (budget : ℕ) → db.broken ≡ true → LeadsOpen order source source ids db db (λ m n. Works m budget (work_answer (Err error.Broken)) n)
+pub works_broken : {K : Type 0} {g : _} → (order : Order) (source : Seen) (ids : Ids) (db : Held K g) (budget : ℕ) → db.broken ≡ true → LeadsOpen order source source ids db db (λ m n. Works m budget (work_answer (Err error.Broken)) n)
 works_broken order source ids db budget is = stays_open order source ids db _ (λ m s. by_cause (not_serving m) m error.Broken _ (broken_cause m s.opened (broken_of order source ids db m is s).broken))
 
 -- and where none is open, there is none to do
 pub works_closed : (order : Order) (facts : Facts) (ids : Ids) (m : Machine) (budget : ℕ) → StandsClosed order facts ids m → Works m budget (work_answer (Err error.NotOpen)) m
 works_closed order facts ids m budget s = by_cause (not_serving m) m error.NotOpen _ (closed_cause order facts ids m s)
 
-module _ {K : Type 0} {g : _} (order : Order) (old new : Seen) (ids : Ids) (before after : Held (Scan K g)) where
+module _ {K : Type 0} {g : _} (order : Order) (old new : Seen) (ids : Ids) (before after : Held K g) where
   -- a piece is what is answered
-  pub works : (budget most : ℕ) (result : Result Progress DbError) → most ≤ 1 → before.broken ≡ false → LeadsOpen order old new ids before after (λ m n. IsPiece m most result n) → LeadsOpen order old new ids before after (λ m n. Works m budget (work_answer result) n)
+  pub works : (budget most : ℕ) (result : Result Progress DbError) → most ≤ max budget 1 → before.broken ≡ false → LeadsOpen order old new ids before after (λ m n. IsPiece m most result n) → LeadsOpen order old new ids before after (λ m n. Works m budget (work_answer result) n)
   works budget most result le whole step = record {
     faithful = step.faithful;
     moved = λ f m s.
@@ -45,22 +55,22 @@ module _ {K : Type 0} {g : _} (order : Order) (old new : Seen) (ids : Ids) (befo
   }
 
 -- one piece after the other
-module _ {K : Type 0} {g : _} (order : Order) (old mid new : Seen) (ids : Ids) (before between after : Held (Scan K g)) where
-  pub then_piece : {T U : Type 0} (done : T) (result : Result U DbError) → LeadsOpen order old mid ids before between (λ m n. IsPiece m 0 (Ok done) n) → LeadsOpen order mid new ids between after (λ m n. IsPiece m 1 result n)
-      → LeadsOpen order old new ids before after (λ m n. IsPiece m 1 result n)
-  then_piece done result first next = record {
+module _ {K : Type 0} {g : _} (order : Order) (old mid new : Seen) (ids : Ids) (before between after : Held K g) where
+  pub then_piece : {T U : Type 0} (few most : ℕ) (done : T) (result : Result U DbError) → LeadsOpen order old mid ids before between (λ m n. IsPiece m few (Ok done) n) → LeadsOpen order mid new ids between after (λ m n. IsPiece m most result n)
+      → LeadsOpen order old new ids before after (λ m n. IsPiece m (few + most) result n)
+  then_piece few most done result first next = record {
     faithful = λ f. first.faithful (next.faithful f);
     moved = λ f m s.
         let one = first.moved (next.faithful f) m s in
         let two = next.moved f one.0 one.2 in
-        (two.0, pieces_on m one.0 two.0 0 1 done result one.1 two.1, two.2);
+        (two.0, pieces_on m one.0 two.0 few most done result one.1 two.1, two.2);
   }
 
 -- want of memory where the store failed
-as_failure : {T : Type 0} (m n : Machine) (complete : Bool) (e : DbError) → (complete ≡ false → m.failures < n.failures) → IsPiece {T = T} m 1 (Err e) n → IsPiece {T = T} m 1 (Err (refused_as complete e)) n
-as_failure m n complete e rose piece = record { failures = piece.failures; denials = piece.denials; what = at e complete rose piece.what }
+as_failure : {T : Type 0} (m n : Machine) (most : ℕ) (complete : Bool) (e : DbError) → (complete ≡ false → m.failures < n.failures) → IsPiece {T = T} m most (Err e) n → IsPiece {T = T} m most (Err (refused_as complete e)) n
+as_failure m n most complete e rose piece = record { failures = piece.failures; denials = piece.denials; what = at e complete rose piece.what }
   where
-    at : (e : DbError) (complete : Bool) → (complete ≡ false → m.failures < n.failures) → UpkeepRefused m 1 e n → UpkeepRefused m 1 (refused_as complete e) n
+    at : (e : DbError) (complete : Bool) → (complete ≡ false → m.failures < n.failures) → UpkeepRefused m most e n → UpkeepRefused m most (refused_as complete e) n
     at error.OutOfMemory true rose h = h
     at error.OutOfMemory false rose h = (
       rose refl,
@@ -69,19 +79,19 @@ as_failure m n complete e rose piece = record { failures = piece.failures; denia
     )
     at _ complete rose h = h
 
-module _ {K : Type 0} {g : _} (order : Order) (old mid new : Seen) (ids : Ids) (before between after : Held (Scan K g)) where
+module _ {K : Type 0} {g : _} (order : Order) (old mid new : Seen) (ids : Ids) (before between after : Held K g) where
   -- a refusal behind a removal
-  pub then_refused : {T U : Type 0} (complete : Bool) (e : DbError) → (complete ≡ false → old.facts.failures < mid.facts.failures) → mid.facts.failures ≤ new.facts.failures
-      → LeadsOpen order old mid ids before between (λ m n. IsPiece m 0 (Ok complete) n) → LeadsOpen order mid new ids between after (λ m n. IsPiece {T = T} m 1 (Err e) n)
-      → LeadsOpen order old new ids before after (λ m n. IsPiece {T = U} m 1 (Err (refused_as complete e)) n)
-  then_refused {T} {U} complete e rose rise first next =
-      let refused : LeadsOpen order mid new ids between after (λ m n. IsPiece {T = U} m 1 (Err e) n) = piece_failed order mid new ids between after 1 e next in
-      let both : LeadsOpen order old new ids before after (λ m n. IsPiece {T = U} m 1 (Err e) n) = then_piece order old mid new ids before between after complete (Err e) first refused in
+  pub then_refused : {T U : Type 0} (most : ℕ) (complete : Bool) (e : DbError) → (complete ≡ false → old.facts.failures < mid.facts.failures) → mid.facts.failures ≤ new.facts.failures
+      → LeadsOpen order old mid ids before between (λ m n. IsPiece m 0 (Ok complete) n) → LeadsOpen order mid new ids between after (λ m n. IsPiece {T = T} m most (Err e) n)
+      → LeadsOpen order old new ids before after (λ m n. IsPiece {T = U} m (0 + most) (Err (refused_as complete e)) n)
+  then_refused {T} {U} most complete e rose rise first next =
+      let refused : LeadsOpen order mid new ids between after (λ m n. IsPiece {T = U} m most (Err e) n) = piece_failed order mid new ids between after most e next in
+      let both : LeadsOpen order old new ids before after (λ m n. IsPiece {T = U} m (0 + most) (Err e) n) = then_piece order old mid new ids before between after 0 most complete (Err e) first refused in
       record {
         faithful = both.faithful;
         moved = λ f m s.
             let one = both.moved f m s in
-            (one.0, as_failure m one.0 complete e (λ incomplete. let a = rose incomplete in let was = s.counts.failures in let is = one.2.counts.failures in omega (arith, a, rise, was, is)) one.1, one.2);
+            (one.0, as_failure m one.0 (0 + most) complete e (λ incomplete. let a = rose incomplete in let was = s.counts.failures in let is = one.2.counts.failures in omega (arith, a, rise, was, is)) one.1, one.2);
       }
 
 -- where a file couldn't be removed, the store failed
@@ -101,25 +111,76 @@ piece_met (error.Unsupported what) h = tt
 piece_met error.NumbersSpent h = tt
 piece_met _ h = absurd h
 
-pub caused_met : {S I : Type 0} (db : Held I) (old new : S) (result : Result Progress DbError) (e : DbError) → result ≡ Err e → db.broken ≡ false → MayRefusePiece e → IsCausedIn (broken_in db) old new result
+pub caused_met : {S K : Type 0} {g : _} (db : Held K g) (old new : S) (result : Result Progress DbError) (e : DbError) → result ≡ Err e → db.broken ≡ false → MayRefusePiece e → IsCausedIn (broken_in db) old new result
 caused_met db old new result e is whole may =
     subst (λ (cause : Option DbError). IsCausedIn cause old new result) (sym (ap (λ (b : Bool). if b then Some error.Broken else None) whole)) (λ other same. subst IsMet (let inner : e ≡ other = cc in inner) (piece_met e may))
 
 -- ---- which piece it is
 
-pub does_on : {K : Type 0} {g : _} (before : Held (Scan K g)) (memory : Memories) (after : Held (Scan K g)) (most : ℕ) (result : Result Progress DbError) → IsSameMemory before.memory memory → DoesWork most (record before { memory = memory }) after result
-    → DoesWork most before after result
-does_on before memory after most (Ok progress.Worked) same (inl h) = inl (record {
+at_ease : {K : Type 0} {g : _} (options : OptionValues) (before : Held K g) (memory : Memories) → IsSameMemory before.memory memory → IsAtEase options (record before { memory = memory }) → IsAtEase options before
+at_ease options before memory same h = record {
+  idle = h.idle;
+  none = sym same.sealed ∙ h.none;
+  small = (let size : size_of memory.current.inserts ≡ size_of before.memory.current.inserts = ap (λ c. size_of c.inserts) same.current in let least = h.small in omega (arith, size, least));
+}
+
+pub does_on : {K : Type 0} {g : _} (before : Held K g) (memory : Memories) (after : Held K g) (options : OptionValues) (budget : ℕ) (result : Result Progress DbError) → IsSameMemory before.memory memory → DoesWork options budget (record before { memory = memory }) after result
+    → DoesWork options budget before after result
+does_on before memory after options budget (Ok progress.Worked) same (inl h) = inl (record { work = h.work; was = h.was; on = h.on })
+does_on before memory after options budget (Ok progress.Worked) same (inr (inl h)) = inr (inl (record {
+  idle = h.idle;
   was = subst IsSome same.sealed h.was;
   gone = h.gone;
+  current = h.current ∙ same.current;
+  still = h.still;
   table = elim h.table [ inl none ↦ inl (sym same.sealed_are ∙ none) | inr table ↦ inr table ];
-})
-does_on before memory after most (Ok progress.Worked) same (inr h) = inr (
+}))
+does_on before memory after options budget (Ok progress.Worked) same (inr (inr (inl h))) = inr (inr (inl (
   (let size : size_of memory.current.inserts ≡ size_of before.memory.current.inserts = ap (λ c. size_of c.inserts) same.current in let most_is = h.0 in omega (arith, size, most_is)),
-  record { none = sym same.sealed ∙ h.1.none; sealed = h.1.sealed ∙ ap (λ c. c.inserts) same.current; empty = h.1.empty; log = h.1.log; begins = h.1.begins },
-)
-does_on before memory after most (Ok progress.Idle) same h = (
-  record { none = sym same.sealed ∙ h.0.none; small = (let size : size_of memory.current.inserts ≡ size_of before.memory.current.inserts = ap (λ c. size_of c.inserts) same.current in let least = h.0.small in omega (arith, size, least)) },
-  h.1,
-)
-does_on before memory after most (Err e) same h = tt
+  record { idle = h.1.idle; none = sym same.sealed ∙ h.1.none; sealed = h.1.sealed ∙ ap (λ c. c.inserts) same.current; is = h.1.is; still = h.1.still; empty = h.1.empty; log = h.1.log; begins = h.1.begins },
+)))
+does_on before memory after options budget (Ok progress.Worked) same (inr (inr (inr h))) = inr (inr (inr (record { ease = at_ease options before memory same h.ease; job = record { plan = h.job.plan; wanted = h.job.wanted; begun = h.job.begun } })))
+does_on before memory after options budget (Ok progress.Idle) same h = (record { ease = at_ease options before memory same h.0.ease; unwanted = h.0.unwanted }, h.1)
+does_on before memory after options budget (Err e) same h = tt
+
+-- what it shows of what there was
+pub shows_worked : {K : Type 0} {g : _} (options : OptionValues) (budget : ℕ) (before after : Held K g) → DoesWork options budget before after (Ok progress.Worked) → ShowsWork options (Some before) Worked
+shows_worked options budget before after (inl h) = inl (some_job before.job h.work h.was)
+  where
+    some_job : {X : Type 0} (o : Option X) (x : X) → o ≡ Some x → IsSome o
+    some_job o x is = subst (λ (p : Option _). IsSome p) (sym is) refl
+shows_worked options budget before after (inr (inl h)) = inr (inl h.was)
+shows_worked options budget before after (inr (inr (inl h))) = inr (inr (inl h.0))
+shows_worked options budget before after (inr (inr (inr h))) = inr (inr (inr (λ within. let wanted = h.job.wanted within in (wanted.0, wanted.1))))
+
+pub shows_idle : {K : Type 0} {g : _} (options : OptionValues) (budget : ℕ) (before after : Held K g) → DoesWork options budget before after (Ok progress.Idle) → ShowsWork options (Some before) Idle
+shows_idle options budget before after h = h.0
+
+-- so many came of those of a compaction that was begun at once, or all
+pub begun_further : {K : Type 0} {g : _} (budget : ℕ) (plan : JobPlan) (before mid after : Held K g) → mid.tables ≡ before.tables → MatchOption mid.job ⊥ (λ work. (work.merged ≡ 0) × (work.job.plan ≡ plan)) → GoesOn budget mid after
+    → MatchOption after.job (Replaces plan before.tables after.tables) (λ work. (work.job.plan ≡ plan) × (work.merged ≡ shown (max budget 1)) × (after.tables ≡ before.tables))
+begun_further {K} {g} budget plan before mid after same none goes = at after.job goes.on
+  where
+    empty : (goes.work.merged ≡ 0) × (goes.work.job.plan ≡ plan)
+    empty = subst (λ (o : Option (OpenJob K g)). MatchOption o ⊥ (λ work. (work.merged ≡ 0) × (work.job.plan ≡ plan))) goes.was none
+
+    at : (o : Option (OpenJob K g)) → MatchOption o (Replaces goes.work.job.plan mid.tables after.tables) (λ more. IsFurther goes.work (max budget 1) more × (after.tables ≡ mid.tables))
+        → MatchOption o (Replaces plan before.tables after.tables) (λ work. (work.job.plan ≡ plan) × (work.merged ≡ shown (max budget 1)) × (after.tables ≡ before.tables))
+    at None h = subst (λ (p : JobPlan). Replaces p before.tables after.tables) empty.1 (subst (λ (ts : List PlacedTable). Replaces goes.work.job.plan ts after.tables) same h)
+    at (Some more) h = (h.0.0 ∙ empty.1, (let is = h.0.1 in let first = empty.0 in omega (arith, is, first)), h.1 ∙ same)
+
+-- ---- which plan is begun
+
+pub of_some : {X : Type 0} (A : Type 0) (P : X → Type 0) (o : Option X) (x : X) → o ≡ Some x → MatchOption o A P → P x
+of_some A P o x is h = subst (λ (p : Option _). MatchOption p A P) is h
+
+pub of_none : {X : Type 0} (A : Type 0) (P : X → Type 0) (o : Option X) → o ≡ None → MatchOption o A P → A
+of_none A P o is h = subst (λ (p : Option _). MatchOption p A P) is h
+
+-- it is that of a level that wants a compaction
+pub picked_level : (cmp : List ℕ → List ℕ → Ordering) (files base level0_files base_bytes : ℕ) (version : Placement) (tables : List PlacedTable) (plan : JobPlan) → files ≡ level0_files → base ≡ base_bytes → version.tables ≡ tables → IsPicked cmp files base version plan
+    → (level : ℕ) × ((level < 6) × Needs level0_files base_bytes tables level) × (plan.output_level ≡ level + 1)
+picked_level cmp files base level0_files base_bytes version tables plan files_are base_is tables_are picked =
+    let level = picked.level in
+    let needs = subst (λ (n : ℕ). Needs n base_bytes tables level) files_are (subst (λ (n : ℕ). Needs files n tables level) base_is (subst (λ (ts : List PlacedTable). Needs files base ts level) tables_are picked.least.needs)) in
+    (level, (picked.least.within, needs), picked.behind.chosen.output)

@@ -34,7 +34,7 @@ use Rattle.engine.specs.InUse.{IsMemoryUsed, IsTableUsed}
 use Rattle.engine.proofs.Cleaning.{DropsKept, sealed_same, serving_cleaned}
 use Rattle.engine.proofs.Reading.{read_by, serving_read}
 use Rattle.engine.proofs.Sealing.{SealKept, broken_seal, serving_drawn, serving_sealed}
-use Rattle.engine.proofs.WorkSteps.{breaks, drawing, draws, serves_on}
+use Rattle.engine.proofs.WorkSteps.{breaks, drawing, draws, piece_within, serves_on}
 
 -- what is kept is right where the files are the same
 pub sound_same : (order : Order) (lasts : SoundLasts) (old : Seen) (facts : Facts) → facts.files ≡ old.facts.files → IsSound order.cmp old → IsSound order.cmp (record old { facts = facts })
@@ -43,7 +43,7 @@ sound_same order lasts old facts same =
     (λ block file is there. subst (λ (fs : Files). table_at fs block.file ≡ Some file) same there)
 
 -- none was drawn
-undrawn : {K : Type 0} {g : _} (order : Order) (source : Seen) (db : Held (Scan K g)) (m : Machine) (facts : Facts) → IsServing order source db (read_by facts m) → IsServing order source db (drawing m 0 facts)
+pub undrawn : {K : Type 0} {g : _} (order : Order) (source : Seen) (db : Held K g) (m : Machine) (facts : Facts) → IsServing order source db (read_by facts m) → IsServing order source db (drawing m 0 facts)
 undrawn order source db m facts h = (let is : m.numbers ≡ m.numbers + 0 = omega arith in subst (λ (k : ℕ). IsServing order source db (record m { numbers = k; failures = facts.failures; denials = facts.denials })) is h)
 
 leaves_same : (memory : Memories) → LeavesMemories memory memory
@@ -54,11 +54,11 @@ module _ {K : Type 0} {g : _} (order : Order) (kept : (scan : Scan K g) → Scan
   new = record old { facts = facts }
 
   -- where the files are the same, and of the memory tables all that is read
-  pub serving_same : (db : Held (Scan K g)) (memory : Memories) (m : Machine) → facts.files ≡ old.facts.files → LeavesMemories db.memory memory → IsServing order old db m → IsServing order new (record db { memory = memory }) (read_by facts m)
-  serving_same db memory m same left h = serving_read order kept old new db memory m same (sound_same order lasts old facts same) (λ number is. inl is) left h
+  pub serving_same : (db : Held K g) (memory : Memories) (m : Machine) → facts.files ≡ old.facts.files → LeavesMemories db.memory memory → IsServing order old db m → IsServing order new (record db { memory = memory }) (read_by facts m)
+  serving_same db memory m same left h = serving_read order kept old new db memory m same (sound_same order lasts old facts same) (λ number is. inl is) (λ number is. inl is) left h
 
   -- and perhaps a number was drawn
-  pub serving_numbered : (db : Held (Scan K g)) (memory : Memories) (numbers : FileNumbers) (m : Machine) → facts.files ≡ old.facts.files → LeavesMemories db.memory memory → db.directory.numbers.next ≤ numbers.next → numbers.next ≤ db.directory.numbers.next + 1
+  pub serving_numbered : (db : Held K g) (memory : Memories) (numbers : FileNumbers) (m : Machine) → facts.files ≡ old.facts.files → LeavesMemories db.memory memory → db.directory.numbers.next ≤ numbers.next → numbers.next ≤ db.directory.numbers.next + 1
       → IsServing order old db m → IsServing order new (record db { memory = memory; directory = record db.directory { numbers = numbers } }) (drawing m 1 facts)
   serving_numbered db memory numbers m same left le upto h =
       serving_drawn order new (record db { memory = memory }) (read_by facts m) (record db.directory { numbers = numbers }) (serving_same db memory m same left h) refl refl refl refl refl le upto
@@ -70,7 +70,7 @@ list_refused m old facts error.OutOfMemory h same = draws m 0 facts
 list_refused m old facts error.Io h same = (omega (arith, h, same), (omega arith, omega arith), refl)
 list_refused m old facts _ h same = absurd h
 
-module _ {K : Type 0} {g : _} (order : Order) (kept : (scan : Scan K g) → ScanIsKept order.cmp scan) (lasts : SoundLasts) (old : Seen) (facts : Facts) (ids : Ids) (db : Held (Scan K g)) where
+module _ {K : Type 0} {g : _} (order : Order) (kept : (scan : Scan K g) → ScanIsKept order.cmp scan) (lasts : SoundLasts) (old : Seen) (facts : Facts) (ids : Ids) (db : Held K g) where
   pub ends_unlisted : {T : Type 0} (e : DbError) → db.broken ≡ false → Touches old.facts facts → RefusesList e old.facts facts → (IsTrue facts.faithful → facts.files ≡ old.facts.files)
       → LeadsOpen order old (record old { facts = facts }) ids db db (λ m n. IsPiece {T = T} m 0 (Err e) n)
   ends_unlisted e whole touches refused files =
@@ -78,17 +78,19 @@ module _ {K : Type 0} {g : _} (order : Order) (kept : (scan : Scan K g) → Scan
       (λ m f same serving. (list_refused m old.facts facts e refused same, undrawn order (record old { facts = facts }) db m facts (serving_same order kept lasts old facts db db.memory m (files f) (leaves_same db.memory) serving)))
 
 -- nothing was done
-module _ {K : Type 0} {g : _} (order : Order) (kept : (scan : Scan K g) → ScanIsKept order.cmp scan) (lasts : SoundLasts) (source : Seen) (ids : Ids) (db : Held (Scan K g)) where
-  pub ends_idle : {T : Type 0} (done : T) → db.broken ≡ false → LeadsOpen order source source ids db db (λ m n. IsPiece m 1 (Ok done) n)
-  ends_idle done whole =
-      serves_on order source source ids db db 1 (Ok done) whole whole (λ f. f) (omega arith) refl
-      (λ m f same serving. (draws m 1 source.facts, serving_numbered order kept lasts source source.facts db db.memory db.directory.numbers m refl (leaves_same db.memory) (omega arith) (omega arith) serving))
+module _ {K : Type 0} {g : _} (order : Order) (kept : (scan : Scan K g) → ScanIsKept order.cmp scan) (lasts : SoundLasts) (source : Seen) (ids : Ids) (db : Held K g) where
+  pub ends_idle : {T : Type 0} (most : ℕ) (done : T) → db.broken ≡ false → LeadsOpen order source source ids db db (λ m n. IsPiece m most (Ok done) n)
+  ends_idle most done whole =
+      piece_within order source source ids db db 0 most (Ok done) (omega arith)
+      (serves_on order source source ids db db 0 (Ok done) whole whole (λ f. f) (omega arith) refl
+      (λ m f same serving. (draws m 0 source.facts, undrawn order source db m source.facts (serving_same order kept lasts source source.facts db db.memory m refl (leaves_same db.memory) serving))))
 
   -- there was no memory for it
-  pub ends_full : {T : Type 0} → db.broken ≡ false → LeadsOpen order source source ids db db (λ m n. IsPiece {T = T} m 1 (Err error.OutOfMemory) n)
-  ends_full whole =
-      serves_on order source source ids db db 1 (Err error.OutOfMemory) whole whole (λ f. f) (omega arith) refl
-      (λ m f same serving. (draws m 1 source.facts, serving_numbered order kept lasts source source.facts db db.memory db.directory.numbers m refl (leaves_same db.memory) (omega arith) (omega arith) serving))
+  pub ends_full : {T : Type 0} (most : ℕ) → db.broken ≡ false → LeadsOpen order source source ids db db (λ m n. IsPiece {T = T} m most (Err error.OutOfMemory) n)
+  ends_full most whole =
+      piece_within order source source ids db db 0 most (Err error.OutOfMemory) (omega arith)
+      (serves_on order source source ids db db 0 (Err error.OutOfMemory) whole whole (λ f. f) (omega arith) refl
+      (λ m f same serving. (draws m 0 source.facts, undrawn order source db m source.facts (serving_same order kept lasts source source.facts db db.memory m refl (leaves_same db.memory) serving))))
 
 -- ---- a new log
 
@@ -155,11 +157,11 @@ module _ {K : Type 0} {g : _} (order : Order) (kept : (scan : Scan K g) → Scan
 -- ---- files that are gone
 
 module _ {K : Type 0} {g : _} (order : Order) (kept : (scan : Scan K g) → ScanIsKept order.cmp scan) (one : OneDirectoryLaw) (lasts : SoundLasts) (drops : DropsKept order.cmp)
-    (old : Seen) (facts : Facts) (ids : Ids) (db : Held (Scan K g)) (tables : List KeptTable) (memory : Memories) (gone : List ℕ) where
+    (old : Seen) (facts : Facts) (ids : Ids) (db : Held K g) (tables : List KeptTable) (memory : Memories) (gone : List ℕ) where
   pub ends_cleaned : {T : Type 0} (done : T) → db.broken ≡ false → Touches old.facts facts → KeepsUsed (IsUsed (λ generation. IsMemoryUsed db.iterators generation) db.memory) db.memory memory
-      → (IsTrue facts.faithful → (n : ℕ) → IsNumbered n → KeepsTable old.facts facts (λ number. IsTableUsed db.tables db.iterators number) n) → ListsUnused old.facts facts (λ number. IsTableUsed db.tables db.iterators number) gone → ClosesTables old.tables tables gone
-      → (IsTrue facts.faithful → (d : Directory) → IsConsistent order old.facts.files d → AreNumbersOf (numbers_of db.directory) (λ number. IsTableUsed db.tables db.iterators number) d
-      → KeepsParts order old.facts.files facts.files (λ number. IsTableUsed db.tables db.iterators number) d)
+      → (IsTrue facts.faithful → (n : ℕ) → IsNumbered n → KeepsTable old.facts facts (λ number. IsTableUsed db.tables db.job db.iterators number) n) → ListsUnused old.facts facts (λ number. IsTableUsed db.tables db.job db.iterators number) gone → ClosesTables old.tables tables gone
+      → (IsTrue facts.faithful → (d : Directory) → IsConsistent order old.facts.files d → AreNumbersOf (numbers_of db.directory) (λ number. IsTableUsed db.tables db.job db.iterators number) d
+      → KeepsParts order old.facts.files facts.files (λ number. IsTableUsed db.tables db.job db.iterators number) d)
       → LeadsOpen order old (record { facts = facts; tables = tables; blocks = old.blocks }) ids db (record db { memory = memory }) (λ m n. IsPiece m 0 (Ok done) n)
   ends_cleaned done whole touches used each unused closes parts =
       serves_on order old (record { facts = facts; tables = tables; blocks = old.blocks }) ids db (record db { memory = memory }) 0 (Ok done) whole whole touches.faithful touches.failures touches.denials

@@ -3,7 +3,6 @@ use Rattle.std.proofs.Common.{◌≡◌, ℕ, ◌+◌, ◌≤◌, ◌<◌, Bool,
 use Rattle.coding.specs.declared.error.DbError.{DbError}
 use Rattle.coding.specs.declared.error.DbError.TheVariants as error
 use Rattle.ikey.specs.Orders.{Order}
-use Rattle.scans.specs.declared.scan.Scan.{Scan}
 use Rattle.sources.specs.Tables.{Seen}
 use Rattle.store.specs.Files.{Facts}
 use Rattle.engine.specs.declared.ids.Ids.{Ids}
@@ -35,7 +34,7 @@ piece_of m most old facts result n counts failures denials rise undenied what = 
   what = what;
 }
 
-module _ {K : Type 0} {g : _} (order : Order) (old new : Seen) (ids : Ids) (before after : Held (Scan K g)) where
+module _ {K : Type 0} {g : _} (order : Order) (old new : Seen) (ids : Ids) (before after : Held K g) where
   -- one that leaves a serving database
   pub serves_on : {T : Type 0} (most : ℕ) (result : Result T DbError) → before.broken ≡ false → after.broken ≡ false → (IsTrue new.facts.faithful → IsTrue old.facts.faithful) → old.facts.failures ≤ new.facts.failures → new.facts.denials ≡ old.facts.denials
       → ((m : Machine) → IsTrue new.facts.faithful → m.failures ≡ old.facts.failures → IsServing order old before m
@@ -129,6 +128,13 @@ refused_more m n most more error.NumbersSpent le h = (h.0, ((h.1.0.0, (let upto 
 refused_more m n most more (error.Unsupported limit) le h = (h.0, ((h.1.0.0, (let upto = h.1.0.1 in omega (arith, upto, le))), h.1.1))
 refused_more m n most more _ le h = absurd h
 
+pub piece_more : {T : Type 0} (m n : Machine) (most more : ℕ) (result : Result T DbError) → most ≤ more → IsPiece m most result n → IsPiece m more result n
+piece_more {T} m n most more result le piece = record { failures = piece.failures; denials = piece.denials; what = at result piece.what }
+  where
+    at : (r : Result T DbError) → MatchResult r (λ x. Draws m most n) (λ e. UpkeepRefused m most e n) → MatchResult r (λ x. Draws m more n) (λ e. UpkeepRefused m more e n)
+    at (Ok x) h = ((h.0.0, (let upto = h.0.1 in omega (arith, upto, le))), h.1)
+    at (Err e) h = refused_more m n most more e le h
+
 -- ---- an answer
 
 pub works_as : (m n : Machine) (budget most : ℕ) (result : Result Progress DbError) → not_serving m ≡ None → most ≤ max budget 1 → IsPiece m most result n → Works m budget (work_answer result) n
@@ -143,12 +149,19 @@ works_as m n budget most result free le piece =
     at (Ok progress.Idle) h = draws_more h
     at (Err e) h = refused_more m n most (max budget 1) e le h
 
-module _ {K : Type 0} {g : _} (order : Order) (old new : Seen) (ids : Ids) (before after : Held (Scan K g)) where
+module _ {K : Type 0} {g : _} (order : Order) (old new : Seen) (ids : Ids) (before after : Held K g) where
   -- what a piece answers is what is answered
   pub piece_failed : {T U : Type 0} (most : ℕ) (e : DbError) → LeadsOpen order old new ids before after (λ m n. IsPiece {T = T} m most (Err e) n) → LeadsOpen order old new ids before after (λ m n. IsPiece {T = U} m most (Err e) n)
   piece_failed most e step = record {
     faithful = step.faithful;
     moved = λ f m s. let one = step.moved f m s in (one.0, record { failures = one.1.failures; denials = one.1.denials; what = one.1.what }, one.2);
+  }
+
+  -- one that may draw more
+  pub piece_within : {T : Type 0} (most more : ℕ) (result : Result T DbError) → most ≤ more → LeadsOpen order old new ids before after (λ m n. IsPiece m most result n) → LeadsOpen order old new ids before after (λ m n. IsPiece m more result n)
+  piece_within most more result le step = record {
+    faithful = step.faithful;
+    moved = λ f m s. let one = step.moved f m s in (one.0, piece_more m one.0 most more result le one.1, one.2);
   }
 
   pub piece_done : {T U : Type 0} (most : ℕ) (x : T) (y : U) → LeadsOpen order old new ids before after (λ m n. IsPiece m most (Ok x) n) → LeadsOpen order old new ids before after (λ m n. IsPiece m most (Ok y) n)

@@ -7,9 +7,9 @@ use Rattle.coding.specs.declared.error.DbError.{DbError}
 use Rattle.store.specs.Files.{Facts}
 use Rattle.ikey.specs.Orders.{Order}
 use Rattle.engine.specs.declared.command.Op.{Op}
-use Rattle.engine.specs.declared.command.Op.TheVariants.{Get, Work, Close}
+use Rattle.engine.specs.declared.command.Op.TheVariants.{Get, Work, CompactLevel, CompactAll, Close}
 use Rattle.engine.specs.declared.command.Answer.{Answer}
-use Rattle.engine.specs.declared.command.Answer.TheVariants.{Value, Worked}
+use Rattle.engine.specs.declared.command.Answer.TheVariants.{Done, Value, Worked}
 use Rattle.engine.specs.declared.command.Answer.TheVariants as answer
 use Rattle.memtable.specs.Contents.{size_of}
 use Rattle.engine.specs.declared.ids.Ids.{Ids}
@@ -18,14 +18,15 @@ use Rattle.engine.specs.Stands.{store_of, held_in}
 use Rattle.engine.specs.StandsDb.{db_store_of, held_by}
 use Rattle.engine.specs.declared.work.Progress.{Progress}
 use Rattle.engine.specs.declared.work.Progress.TheVariants.{Idle}
-use Rattle.engine.specs.Working.{DoesWork, HasLiveOnly, LosesDead, HasNoWork}
-use Rattle.scans.specs.declared.scan.Scan.{Scan}
+use Rattle.engine.specs.OptionValues.{OptionValues, AreInRange}
+use Rattle.engine.specs.Finishing.{CompactOutcome, IsAllCompacted, IsLevelEmpty}
+use Rattle.engine.specs.Working.{WantsCompaction, DoesWork, HasLiveOnly, LosesDead, HasNoWork}
 use Rattle.engine.specs.declared.session.Session.{Session}
 use Rattle.engine.specs.declared.db.Db.{Db}
 use Rattle.engine.specs.Reads.{sequence_at, ReadsMemory}
 use Rattle.engine.specs.Step.{Step}
 use Rattle.engine.specs.Follows.{Follows}
-use Rattle.engine.specs.Outcomes.{OutcomeOf, IsAnswerTo, Succeeds}
+use Rattle.engine.specs.Outcomes.{IsAnswerTo, Outcome, Succeeds, keeps_of}
 use Rattle.engine.specs.Causes.{IsCaused, IsCausedIn, where_open, write_refusal, cause_of}
 use Rattle.engine.specs.Touching.{SyncsLog, LeavesStore, CloseTouches, Touches}
 use Rattle.engine.specs.Telling.{CommandTells, OpenTells}
@@ -33,40 +34,58 @@ use Rattle.engine.specs.Telling.{CommandTells, OpenTells}
 -- ---- of one command
 
 -- A value that a get answers is what the newest entry of the key in memory put, as far as the read sees.
-abbrev pub IsRead : {I : Type 0} → List ℕ → Option ℕ → Option (Held I) → Answer → Type 0
+abbrev pub IsRead : {K : Type 0} {g : _} → List ℕ → Option ℕ → Option (Held K g) → Answer → Type 0
 IsRead key snapshot None (Value value) = ⊥
 IsRead key snapshot (Some db) (Value value) = (sequence : ℕ) × (sequence_at db snapshot ≡ Some sequence) × ReadsMemory db sequence key value
 IsRead key snapshot state _ = Unit {0}
 
--- Work is done where a memory table is sealed or has so many bytes, and else there is none.
-abbrev pub ShowsWork : {I : Type 0} → ℕ → Option (Held I) → Answer → Type 0
-ShowsWork most (Some db) Worked = IsSome db.memory.sealed ⊎ (most ≤ size_of db.memory.current.inserts)
-ShowsWork most (Some db) answer.Idle = HasNoWork most db
-ShowsWork most state _ = Unit {0}
+-- Work is done where a compaction is under way, a memory table is sealed or full, or a level wants a compaction, and else there is none.
+abbrev pub ShowsWork : {K : Type 0} {g : _} → OptionValues → Option (Held K g) → Answer → Type 0
+ShowsWork options (Some db) Worked =
+    IsSome db.job ⊎ IsSome db.memory.sealed ⊎ (options.write_buffer ≤ size_of db.memory.current.inserts) ⊎ (AreInRange options → (level : ℕ) × WantsCompaction options db level)
+ShowsWork options (Some db) answer.Idle = HasNoWork options db
+ShowsWork options state _ = Unit {0}
 
-abbrev pub Shows : {I : Type 0} → ℕ → Op → Option (Held I) → Answer → Type 0
-Shows most (Get key snapshot) state answer = IsRead key snapshot state answer
-Shows most (Work budget) state answer = ShowsWork most state answer
-Shows most _ state answer = Unit {0}
+abbrev pub Shows : {K : Type 0} {g : _} → OptionValues → Op → Option (Held K g) → Answer → Type 0
+Shows options (Get key snapshot) state answer = IsRead key snapshot state answer
+Shows options (Work budget) state answer = ShowsWork options state answer
+Shows options _ state answer = Unit {0}
+
+-- Behind a compaction of a level that level has no tables; behind one of all, all tables stand in the last level, and nothing is in
+-- memory.
+abbrev pub EmptiesLevel : {K : Type 0} {g : _} → ℕ → Option (Held K g) → Answer → Type 0
+EmptiesLevel level (Some db) Done = IsLevelEmpty level db
+EmptiesLevel level None Done = Unit {0}
+EmptiesLevel level state _ = Unit {0}
+
+abbrev pub CompactsWhole : {K : Type 0} {g : _} → Option (Held K g) → Answer → Type 0
+CompactsWhole (Some db) Done = IsAllCompacted db
+CompactsWhole None Done = Unit {0}
+CompactsWhole state _ = Unit {0}
+
+abbrev pub Leaves : {K : Type 0} {g : _} → Op → Option (Held K g) → Answer → Type 0
+Leaves (CompactLevel level) state answer = EmptiesLevel level state answer
+Leaves CompactAll state answer = CompactsWhole state answer
+Leaves _ state answer = Unit {0}
 
 -- No database is open behind a close.
-abbrev pub Shuts : {I : Type 0} → Op → Option (Held I) → Type 0
+abbrev pub Shuts : {K : Type 0} {g : _} → Op → Option (Held K g) → Type 0
 Shuts Close state = state ≡ None
 Shuts _ state = Unit {0}
 
 -- why a write is refused
-abbrev pub write_causes : {I : Type 0} → List Operation → Option (Held I) → Ids → Option DbError
+abbrev pub write_causes : {K : Type 0} {g : _} → List Operation → Option (Held K g) → Ids → Option DbError
 write_causes operations state ids = option_or (first_refusal [] operations) (where_open (λ s. write_refusal s operations) state)
 
 -- ---- of two sessions
 
-abbrev pub CausedBy : {S K : Type 0} {g : _} → (Option (Held (Scan K g)) → Ids → Option DbError) → Session S K g → Session S K g → Answer → Type 0
+abbrev pub CausedBy : {S K : Type 0} {g : _} → (Option (Held K g) → Ids → Option DbError) → Session S K g → Session S K g → Answer → Type 0
 CausedBy cause old new answer = IsCaused (cause (held_in old) old.ids) (store_of old) (store_of new) answer
 
-abbrev pub TouchedBy : {S K : Type 0} {g : _} → (Option (Held (Scan K g)) → Facts → Facts → Answer → Type 0) → (S → Facts) → Session S K g → Session S K g → Answer → Type 0
+abbrev pub TouchedBy : {S K : Type 0} {g : _} → (Option (Held K g) → Facts → Facts → Answer → Type 0) → (S → Facts) → Session S K g → Session S K g → Answer → Type 0
 TouchedBy touches facts old new answer = touches (held_in old) (facts (store_of old)) (facts (store_of new)) answer
 
-abbrev pub Left : {I : Type 0} → Option (Held I) → Facts → Facts → Answer → Type 0
+abbrev pub Left : {K : Type 0} {g : _} → Option (Held K g) → Facts → Facts → Answer → Type 0
 Left state old new answer = LeavesStore old new
 
 abbrev pub ToldBy : {S K : Type 0} {g : _} → Op → Order → (S → Facts) → Session S K g → Session S K g → Answer → Type 0
@@ -79,10 +98,22 @@ abbrev pub ReadBy : {S K : Type 0} {g : _} → List ℕ → Option ℕ → Sessi
 ReadBy key snapshot old answer = IsRead key snapshot (held_in old) answer
 
 abbrev pub WorkShown : {S K : Type 0} {g : _} → Session S K g → Answer → Type 0
-WorkShown old answer = ShowsWork old.options.write_buffer (held_in old) answer
+WorkShown old answer = ShowsWork old.options (held_in old) answer
 
 abbrev pub ShownBy : {S K : Type 0} {g : _} → Op → Session S K g → Answer → Type 0
-ShownBy op old answer = Shows old.options.write_buffer op (held_in old) answer
+ShownBy op old answer = Shows old.options op (held_in old) answer
+
+abbrev pub IsEmptied : {S K : Type 0} {g : _} → ℕ → Session S K g → Answer → Type 0
+IsEmptied level new answer = EmptiesLevel level (held_in new) answer
+
+abbrev pub IsCompacted : {S K : Type 0} {g : _} → Session S K g → Answer → Type 0
+IsCompacted new answer = CompactsWhole (held_in new) answer
+
+abbrev pub LeavesBy : {S K : Type 0} {g : _} → Op → Session S K g → Answer → Type 0
+LeavesBy op new answer = Leaves op (held_in new) answer
+
+abbrev pub OutcomeBy : {S K : Type 0} {g : _} → Op → (S → Facts) → Session S K g → Session S K g → Answer → Type 0
+OutcomeBy {S} {K} {g} op facts old new answer = Outcome (IsAnswerTo op) (keeps_of {K = K} {g = g} op) (facts (store_of old)) (facts (store_of new)) old.ids new.ids (held_in old) (held_in new) answer
 
 abbrev pub IsShut : {S K : Type 0} {g : _} → Session S K g → Type 0
 IsShut session = held_in session ≡ None
@@ -96,12 +127,13 @@ ShutBy op new = Shuts op (held_in new)
 
 pub record Applied {S K : Type 0} {g : _} (order : Order) (facts : S → Facts) (op : Op) (old new : Session S K g) (answer : Answer) : Type 0 where
   pub step : Follows order facts old new (λ m n. Step order m op answer n)
-  pub outcome : OutcomeOf (IsAnswerTo op) facts old new answer
+  pub outcome : OutcomeBy op facts old new answer
   pub succeeds : Succeeds op old new answer
   pub caused : CausedBy (cause_of op) old new answer
   pub touches : TouchedBy (Touches op) facts old new answer
   pub tells : ToldBy op order facts old new answer
   pub shown : ShownBy op old answer
+  pub leaves : LeavesBy op new answer
   pub shut : ShutBy op new
 
 -- ---- of a list of commands
@@ -116,7 +148,7 @@ AllApplied order facts (op ∷ ops) [] old new = ⊥
 -- ---- of an open database
 
 -- why a write to it is refused
-abbrev pub DbCaused : {S K T : Type 0} {g : _} → (Held (Scan K g) → Ids → Option DbError) → Db S K g → Db S K g → Result T DbError → Type 0
+abbrev pub DbCaused : {S K T : Type 0} {g : _} → (Held K g → Ids → Option DbError) → Db S K g → Db S K g → Result T DbError → Type 0
 DbCaused cause old new result = IsCausedIn (cause (held_by old) old.ids) (db_store_of old) (db_store_of new) result
 
 abbrev pub DbSyncs : {S K T : Type 0} {g : _} → Type 0 → Bool → (S → Facts) → Db S K g → Db S K g → Result T DbError → Type 0
@@ -130,7 +162,7 @@ abbrev pub DbLeaves : {S K : Type 0} {g : _} → (S → Facts) → Db S K g → 
 DbLeaves facts old new = LeavesStore (facts (db_store_of old)) (facts (db_store_of new))
 
 -- the same of the parts of one
-abbrev pub IsReadBy : {I : Type 0} → List ℕ → Option ℕ → Held I → Result (Option (List ℕ)) DbError → Type 0
+abbrev pub IsReadBy : {K : Type 0} {g : _} → List ℕ → Option ℕ → Held K g → Result (Option (List ℕ)) DbError → Type 0
 IsReadBy key snapshot db (Ok value) = IsRead key snapshot (Some db) (Value value)
 IsReadBy key snapshot db (Err e) = Unit {0}
 
@@ -139,8 +171,8 @@ abbrev pub DbRead : {S K : Type 0} {g : _} → List ℕ → Option ℕ → Db S 
 DbRead key snapshot db result = IsReadBy key snapshot (held_by db) result
 
 -- which piece of work it did
-abbrev pub DbWorks : {S K : Type 0} {g : _} → Db S K g → Db S K g → Result Progress DbError → Type 0
-DbWorks old new result = DoesWork old.options.write_buffer (held_by old) (held_by new) result
+abbrev pub DbWorks : {S K : Type 0} {g : _} → ℕ → Db S K g → Db S K g → Result Progress DbError → Type 0
+DbWorks budget old new result = DoesWork old.options budget (held_by old) (held_by new) result
 
 -- Where there was none, all files are live, unless one couldn't be removed.
 abbrev pub DbTidies : {S K : Type 0} {g : _} → (S → Facts) → Db S K g → Db S K g → Result Progress DbError → Type 0
@@ -149,3 +181,7 @@ DbTidies facts old new result = result ≡ Ok Idle → IsTrue (facts (db_store_o
 -- Live files and those of other programs stay then.
 abbrev pub DbRemoves : {S K : Type 0} {g : _} → (S → Facts) → Db S K g → Db S K g → Result Progress DbError → Type 0
 DbRemoves facts old new result = result ≡ Ok Idle → IsTrue (facts (db_store_of new)).faithful → LosesDead (facts (db_store_of old)) (facts (db_store_of new)) (held_by new)
+
+-- what a compaction of it leaves
+abbrev pub DbCompacts : {S K T : Type 0} {g : _} → (DbError → Type 0) → (S → Facts) → Db S K g → Db S K g → Result T DbError → Type 0
+DbCompacts may facts old new result = CompactOutcome may (facts (db_store_of old)) (facts (db_store_of new)) (held_by old) (held_by new) result

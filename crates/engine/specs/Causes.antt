@@ -8,12 +8,11 @@ use Rattle.coding.specs.declared.error.DbError.{DbError}
 use Rattle.coding.specs.declared.error.DbError.TheVariants as error
 use Rattle.engine.specs.declared.command.Op.{Op}
 use Rattle.engine.specs.declared.command.Op.TheVariants as op
-use Rattle.engine.specs.declared.command.Op.TheVariants.{Open, Write, Get, Release, Iterate, First, Last, Seek, Next, Prev, DropIterator, Work, Close}
+use Rattle.engine.specs.declared.command.Op.TheVariants.{Open, Write, Get, Release, Iterate, First, Last, Seek, Next, Prev, DropIterator, Work, CompactLevel, CompactAll, Close}
 use Rattle.engine.specs.declared.command.Answer.{Answer}
 use Rattle.engine.specs.declared.command.Answer.TheVariants.{Refused}
 use Rattle.engine.specs.declared.ids.Ids.{Ids}
 use Rattle.engine.specs.Held.{Held}
-use Rattle.scans.specs.declared.scan.Scan.{Scan}
 use Rattle.engine.specs.Live.{kept_at}
 use Rattle.engine.specs.Reads.{sequence_at}
 use Rattle.engine.specs.Views.{spent}
@@ -21,52 +20,56 @@ use Rattle.engine.specs.Walks.{Motion, ToFirst, ToLast, ToKey, ToNext, ToPrev, l
 
 -- ---- in an open database
 
-abbrev pub broken_in : {I : Type 0} → Held I → Option DbError
+abbrev pub broken_in : {K : Type 0} {g : _} → Held K g → Option DbError
 broken_in state = if state.broken then Some error.Broken else None
 
-abbrev pub full_in : {I : Type 0} → Held I → List Operation → Option DbError
+abbrev pub full_in : {K : Type 0} {g : _} → Held K g → List Operation → Option DbError
 full_in state [] = None
 full_in state (operation ∷ operations) = if nat_lt (2 ^ 56 - 1) (state.memory.last + length (operation ∷ operations)) then Some error.SequenceFull else None
 
-abbrev pub unseen_in : {I : Type 0} → Held I → Option ℕ → Option DbError
+abbrev pub unseen_in : {K : Type 0} {g : _} → Held K g → Option ℕ → Option DbError
 unseen_in state snapshot = if is_some (sequence_at state snapshot) then None else Some error.NoSnapshot
 
-abbrev pub placeless_in : {K : Type 0} {g : _} → Held (Scan K g) → ℕ → Motion → Option DbError
+abbrev pub placeless_in : {K : Type 0} {g : _} → Held K g → ℕ → Motion → Option DbError
 placeless_in state id motion = if is_some (kept_at state.iterators id) then option_and_then (λ iterator. lacks_place iterator.walk.stands motion) (kept_at state.iterators id) else Some error.NoIterator
 
-abbrev pub write_refusal : {I : Type 0} → Held I → List Operation → Option DbError
+abbrev pub write_refusal : {K : Type 0} {g : _} → Held K g → List Operation → Option DbError
 write_refusal state operations = option_or (broken_in state) (full_in state operations)
 
-abbrev pub get_refusal : {I : Type 0} → Held I → Option ℕ → Option DbError
+abbrev pub get_refusal : {K : Type 0} {g : _} → Held K g → Option ℕ → Option DbError
 get_refusal state snapshot = option_or (broken_in state) (unseen_in state snapshot)
 
-abbrev pub snapshot_refusal : {I : Type 0} → Held I → Ids → Option DbError
+abbrev pub snapshot_refusal : {K : Type 0} {g : _} → Held K g → Ids → Option DbError
 snapshot_refusal state ids = option_or (broken_in state) (spent ids.snapshot)
 
-abbrev pub release_refusal : {I : Type 0} → Held I → ℕ → Option DbError
+abbrev pub release_refusal : {K : Type 0} {g : _} → Held K g → ℕ → Option DbError
 release_refusal state id = option_or (broken_in state) (unseen_in state (Some id))
 
-abbrev pub iterate_refusal : {I : Type 0} → Held I → Ids → Option ℕ → Option DbError
+abbrev pub iterate_refusal : {K : Type 0} {g : _} → Held K g → Ids → Option ℕ → Option DbError
 iterate_refusal state ids snapshot = option_or (broken_in state) (option_or (unseen_in state snapshot) (spent ids.iterator))
 
-abbrev pub move_refusal : {K : Type 0} {g : _} → Held (Scan K g) → ℕ → Motion → Option DbError
+abbrev pub move_refusal : {K : Type 0} {g : _} → Held K g → ℕ → Motion → Option DbError
 move_refusal state id motion = option_or (broken_in state) (placeless_in state id motion)
 
-abbrev pub drop_refusal : {I : Type 0} → Held I → ℕ → Option DbError
+abbrev pub drop_refusal : {K : Type 0} {g : _} → Held K g → ℕ → Option DbError
 drop_refusal state id = option_or (broken_in state) (if is_some (kept_at state.iterators id) then None else Some error.NoIterator)
+
+-- only levels above the last one are compacted
+abbrev pub level_refusal : {K : Type 0} {g : _} → Held K g → ℕ → Option DbError
+level_refusal state level = option_or (broken_in state) (if nat_lt level 6 then None else Some error.BadLevel)
 
 -- ---- in a session
 
-abbrev pub where_open : {I : Type 0} → (Held I → Option DbError) → Option (Held I) → Option DbError
+abbrev pub where_open : {K : Type 0} {g : _} → (Held K g → Option DbError) → Option (Held K g) → Option DbError
 where_open cause None = Some error.NotOpen
 where_open cause (Some state) = cause state
 
-abbrev pub opened_already : {I : Type 0} → Option (Held I) → Option DbError
+abbrev pub opened_already : {K : Type 0} {g : _} → Option (Held K g) → Option DbError
 opened_already None = None
 opened_already (Some state) = if state.broken then Some error.Broken else Some error.AlreadyOpen
 
 -- the refusal that a command has to have in this state
-abbrev pub cause_of : {K : Type 0} {g : _} → Op → Option (Held (Scan K g)) → Ids → Option DbError
+abbrev pub cause_of : {K : Type 0} {g : _} → Op → Option (Held K g) → Ids → Option DbError
 cause_of (Open mode) state ids = opened_already state
 cause_of (Write operations sync) state ids = option_or (first_refusal [] operations.items) (where_open (λ s. write_refusal s operations.items) state)
 cause_of (Get key snapshot) state ids = where_open (λ s. get_refusal s snapshot) state
@@ -80,6 +83,8 @@ cause_of (Next id) state ids = where_open (λ s. move_refusal s id ToNext) state
 cause_of (Prev id) state ids = where_open (λ s. move_refusal s id ToPrev) state
 cause_of (DropIterator id) state ids = where_open (λ s. drop_refusal s id) state
 cause_of (Work budget) state ids = where_open broken_in state
+cause_of (CompactLevel level) state ids = where_open (λ s. level_refusal s level) state
+cause_of CompactAll state ids = where_open broken_in state
 cause_of Close state ids = where_open (λ s. None) state
 
 -- ---- what follows

@@ -1,8 +1,9 @@
 -- What an open database answers from.
-use Rattle.std.specs.Prelude.{ℕ, Bool, List, ◌++◌}
+use Rattle.std.specs.Prelude.{ℕ, Bool, List, Option, ◌++◌}
 use Rattle.std.specs.BTreeMap.{BTreeMap}
 use Rattle.edits.specs.declared.field.PlacedTable.{PlacedTable}
 use Rattle.ikey.specs.declared.entry.Entry.{Entry}
+use Rattle.jobs.specs.declared.open_job.OpenJob.{OpenJob}
 use Rattle.memories.specs.Memories.{Memories, logged_in}
 use Rattle.recover.specs.Tables.{TableContent, tabled}
 use Rattle.scans.specs.Whole.{Whole}
@@ -14,24 +15,26 @@ use Rattle.engine.specs.declared.directory.DirectoryState.{DirectoryState}
 use Rattle.engine.specs.declared.log.CurrentLog.{CurrentLog}
 use Rattle.engine.specs.declared.state.DbState.{DbState}
 
--- Its memory tables, the tables of its version, the log that writes go to, what it knows of its directory beside, the last sequence that
--- each live snapshot sees, the open iterators, and whether it is broken.
-pub record Held (I : Type 0) : Type 0 where
+-- Its memory tables, the tables of its version, the log that writes go to, what it knows of its directory beside, the compaction that is
+-- under way, if one is, the last sequence that each live snapshot sees, the open iterators, and whether it is broken.
+pub record Held (K : Type 0) (g : _) : Type 0 where
   pub memory : Memories
   pub tables : List PlacedTable
   pub log : CurrentLog
   pub directory : DirectoryState
+  pub job : Option (OpenJob K g)
   pub snapshots : BTreeMap ℕ ℕ
-  pub iterators : BTreeMap ℕ I
+  pub iterators : BTreeMap ℕ (Scan K g)
   pub broken : Bool
 
 -- a database beside its memory tables
-abbrev pub held : {K : Type 0} {g : _} → Memories → DbState K g → Held (Scan K g)
+abbrev pub held : {K : Type 0} {g : _} → Memories → DbState K g → Held K g
 held memory state = record {
   memory = memory;
   tables = state.version.value.tables;
   log = state.log;
   directory = state.directory;
+  job = state.job;
   snapshots = state.snapshots;
   iterators = state.iterators;
   broken = state.broken;
@@ -42,7 +45,7 @@ abbrev pub seen_of : {S K : Type 0} → (S → Facts) → Sources K S → Seen
 seen_of facts source = seen (facts source.tables.store) source.tables.tables source.tables.blocks
 
 -- what its reads go over: its store with what is kept of its tables, and its memory tables
-abbrev pub whole_of : {I : Type 0} → Seen → Held I → Whole
+abbrev pub whole_of : {K : Type 0} {g : _} → Seen → Held K g → Whole
 whole_of source db = record { seen = source; memory = db.memory }
 
 -- so of what is lent to a call
@@ -50,5 +53,5 @@ abbrev pub whole_in : {S K : Type 0} → (S → Facts) → Sources K S → Whole
 whole_in facts source = record { seen = seen_of facts source; memory = source.memory }
 
 -- all its entries, where its tables have these contents
-abbrev pub entries_of : {I : Type 0} → List TableContent → Held I → List Entry
+abbrev pub entries_of : {K : Type 0} {g : _} → List TableContent → Held K g → List Entry
 entries_of tables db = tabled tables ++ logged_in db.memory

@@ -1,8 +1,10 @@
 -- Which tables and memory tables an open database still reads.
-use Rattle.std.specs.Prelude.{◌⊎◌, ℕ, List, Any}
+use Rattle.std.specs.Prelude.{◌⊎◌, ℕ, List, Option, Any, MatchOption}
 use Rattle.std.specs.BTreeMap.{BTreeMap}
 use Rattle.std.specs.Map.{values_of}
+use Rattle.compact.specs.Outputs.{IsOwn}
 use Rattle.edits.specs.declared.field.PlacedTable.{PlacedTable}
+use Rattle.jobs.specs.declared.open_job.OpenJob.{OpenJob}
 use Rattle.scans.specs.Scans.{reads_memory, tables_of}
 use Rattle.scans.specs.declared.scan.Scan.{Scan}
 use Rattle.sources.specs.Tables.{Seen, KeepsOf}
@@ -13,8 +15,16 @@ abbrev pub AnyIterator : {K : Type 0} {g : _} → BTreeMap ℕ (Scan K g) → (S
 AnyIterator iterators P = Any P (values_of iterators.entries)
 
 -- the table of this number is one of these, or of the version of an open iterator
-abbrev pub IsTableUsed : {K : Type 0} {g : _} → List PlacedTable → BTreeMap ℕ (Scan K g) → ℕ → Type 0
-IsTableUsed tables iterators number = HasNumber number tables ⊎ AnyIterator iterators (λ scan. HasNumber number (tables_of scan))
+abbrev pub IsTableRead : {K : Type 0} {g : _} → List PlacedTable → BTreeMap ℕ (Scan K g) → ℕ → Type 0
+IsTableRead tables iterators number = HasNumber number tables ⊎ AnyIterator iterators (λ scan. HasNumber number (tables_of scan))
+
+-- it is one of those that the compaction under way goes over, or that it has written
+abbrev pub IsJobTable : {K : Type 0} {g : _} → Option (OpenJob K g) → ℕ → Type 0
+IsJobTable job number = MatchOption job ⊥ (λ work. HasNumber number work.job.plan.inputs.items ⊎ IsOwn work.job.outputs number)
+
+-- any of these
+abbrev pub IsTableUsed : {K : Type 0} {g : _} → List PlacedTable → Option (OpenJob K g) → BTreeMap ℕ (Scan K g) → ℕ → Type 0
+IsTableUsed tables job iterators number = IsTableRead tables iterators number ⊎ IsJobTable job number
 
 -- an open iterator reads the memory table of this generation
 abbrev pub IsMemoryUsed : {K : Type 0} {g : _} → BTreeMap ℕ (Scan K g) → ℕ → Type 0

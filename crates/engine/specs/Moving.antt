@@ -4,7 +4,7 @@ use Rattle.std.specs.declared.cmp.Ordering.{Ordering}
 use Rattle.coding.specs.declared.error.DbError.{DbError}
 use Rattle.cursor.specs.Moves.{Refuses}
 use Rattle.memories.specs.Places.{LeavesMemories}
-use Rattle.scans.specs.Scans.{IsScanLimited, KeepsUpTo, reads_table}
+use Rattle.scans.specs.Scans.{IsScanLimited, KeepsUpTo, reads_table, tables_of}
 use Rattle.scans.specs.Whole.{Whole}
 use Rattle.scans.specs.declared.scan.Scan.{Scan}
 use Rattle.sources.specs.Tables.{Carries}
@@ -34,6 +34,8 @@ pub record IsMoved {K : Type 0} {g : _} (cmp : List ℕ → List ℕ → Orderin
   -- what it keeps anew is of tables that the iterator reads
   pub carries : Carries cmp (λ number. reads_table old number) before.seen after.seen
   pub still : IsStill before.seen.facts after.seen.facts result
+  -- its version stays
+  pub version : tables_of new ≡ tables_of old
   pub stayed : OnErr result (standing new ≡ standing old)
   pub allowed : IfErr result (MayRefuseMove motion)
   -- no place to step from

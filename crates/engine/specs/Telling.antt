@@ -36,10 +36,10 @@ Tells order files (Ok x) = IsOpenable order files
 Tells order files (Err e) = RefusalTells order files e
 
 -- What the answer to a command tells of a faithful store's files, before the command.
-abbrev pub OpenTells : {I : Type 0} → Order → Option (Held I) → Facts → Facts → Answer → Type 0
+abbrev pub OpenTells : {K : Type 0} {g : _} → Order → Option (Held K g) → Facts → Facts → Answer → Type 0
 OpenTells order None old new answer = IsTrue new.faithful → Tells order old.files (unit_result answer)
 OpenTells order (Some state) old new answer = Unit {0}
 
-abbrev pub CommandTells : {I : Type 0} → Op → Order → Option (Held I) → Facts → Facts → Answer → Type 0
+abbrev pub CommandTells : {K : Type 0} {g : _} → Op → Order → Option (Held K g) → Facts → Facts → Answer → Type 0
 CommandTells (Open mode) order state old new answer = OpenTells order state old new answer
 CommandTells _ order state old new answer = Unit {0}

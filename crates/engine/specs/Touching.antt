@@ -4,7 +4,7 @@ use Rattle.batch.specs.declared.operation.Operation.{Operation}
 use Rattle.coding.specs.declared.error.DbError.{DbError}
 use Rattle.store.specs.Files.{Facts}
 use Rattle.engine.specs.declared.command.Op.{Op}
-use Rattle.engine.specs.declared.command.Op.TheVariants.{Open, Write, Work, Close}
+use Rattle.engine.specs.declared.command.Op.TheVariants.{Open, Write, Work, CompactLevel, CompactAll, Close}
 use Rattle.engine.specs.declared.command.Answer.{Answer}
 use Rattle.engine.specs.declared.command.Answer.TheVariants.{Refused}
 use Rattle.engine.specs.Held.{Held}
@@ -34,7 +34,7 @@ abbrev pub AsksSync : List Operation → Bool → Type 0
 AsksSync operations sync = (sync ≡ true) × (operations ≢ [])
 
 -- the name of the log that an open database writes to
-abbrev pub log_of : {I : Type 0} → Option (Held I) → List ℕ
+abbrev pub log_of : {K : Type 0} {g : _} → Option (Held K g) → List ℕ
 log_of None = []
 log_of (Some state) = string_bytes state.log.name
 
@@ -70,24 +70,26 @@ pub record OpensStore {T : Type 0} (old new : Facts) (result : Result T DbError)
   pub durable : LeavesDurable old new result
   pub foreign : IsTrue new.faithful → OnOk result (KeepsForeign old new)
 
-abbrev pub OpenTouches : {I : Type 0} → Option (Held I) → Facts → Facts → Answer → Type 0
+abbrev pub OpenTouches : {K : Type 0} {g : _} → Option (Held K g) → Facts → Facts → Answer → Type 0
 OpenTouches None old new answer = OpensStore old new (unit_result answer)
 OpenTouches (Some state) old new answer = LeavesStore old new
 
-abbrev pub CloseTouches : {I : Type 0} → Option (Held I) → Facts → Facts → Type 0
+abbrev pub CloseTouches : {K : Type 0} {g : _} → Option (Held K g) → Facts → Facts → Type 0
 CloseTouches None old new = LeavesStore old new
 CloseTouches (Some state) old new = ClosesStore old new
 
-abbrev pub WriteTouches : {I : Type 0} → List Operation → Bool → Option (Held I) → Facts → Facts → Answer → Type 0
+abbrev pub WriteTouches : {K : Type 0} {g : _} → List Operation → Bool → Option (Held K g) → Facts → Facts → Answer → Type 0
 WriteTouches operations sync state old new answer = SyncsLog (AsksSync operations sync) sync (log_of state) old new (unit_result answer)
 
--- work leaves the lock
-abbrev pub WorkTouches : {I : Type 0} → Option (Held I) → Facts → Facts → Answer → Type 0
+-- work and compactions leave the lock
+abbrev pub WorkTouches : {K : Type 0} {g : _} → Option (Held K g) → Facts → Facts → Answer → Type 0
 WorkTouches state old new answer = new.held ≡ old.held
 
-abbrev pub Touches : {I : Type 0} → Op → Option (Held I) → Facts → Facts → Answer → Type 0
+abbrev pub Touches : {K : Type 0} {g : _} → Op → Option (Held K g) → Facts → Facts → Answer → Type 0
 Touches (Open mode) state old new answer = OpenTouches state old new answer
 Touches (Write operations sync) state old new answer = WriteTouches operations.items sync state old new answer
 Touches (Work budget) state old new answer = WorkTouches state old new answer
+Touches (CompactLevel level) state old new answer = WorkTouches state old new answer
+Touches CompactAll state old new answer = WorkTouches state old new answer
 Touches Close state old new answer = CloseTouches state old new
 Touches _ state old new answer = LeavesStore old new

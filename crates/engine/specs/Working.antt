@@ -1,5 +1,5 @@
 -- What a piece of work does to the machine.
-use Rattle.std.specs.Prelude.{◌≡◌, ◌⊎◌, ◌<◌, ◌≤◌, ℕ, Bool, true, if◌then◌else◌, None, IsSome, List, [], Contains, Result, Ok, Err, MatchResult}
+use Rattle.std.specs.Prelude.{◌≡◌, ◌⊎◌, ◌<◌, ◌≤◌, ◌+◌, ℕ, Bool, true, if◌then◌else◌, Some, None, IsSome, MatchOption, max, List, [], Contains, Result, Ok, Err, MatchResult}
 use Rattle.cache.specs.Tables.{KeptTable}
 use Rattle.coding.specs.declared.error.DbError.{DbError}
 use Rattle.coding.specs.declared.error.DbError.TheVariants as error
@@ -8,17 +8,22 @@ use Rattle.edits.specs.declared.field.TableFile.{TableFile}
 use Rattle.memories.specs.Memories.{Memories, sealed_inserts}
 use Rattle.memtable.specs.Contents.{size_of}
 use Rattle.versions.specs.Levels.{Lists}
+use Rattle.versions.specs.Plans.{Needs}
 use Rattle.std.specs.FinMap.{contains_key, get}
 use Rattle.edits.specs.Names.{IsFileName, name_of}
 use Rattle.edits.specs.declared.names.FileName.{FileName}
-use Rattle.scans.specs.declared.scan.Scan.{Scan}
 use Rattle.store.specs.Files.{Facts, Files}
+use Rattle.upkeep.specs.Install.{Replaces}
 use Rattle.upkeep.specs.Removal.{IsDead, IsLiveFile}
 use Rattle.versions.specs.declared.live.LiveNumbers.{LiveNumbers}
+use Rattle.versions.specs.declared.plan.JobPlan.{JobPlan}
 use Rattle.engine.specs.declared.directory.DirectoryState.{DirectoryState}
 use Rattle.engine.specs.Durable.{LeavesFile}
 use Rattle.engine.specs.Held.{Held}
 use Rattle.engine.specs.InUse.{IsTableUsed}
+use Rattle.engine.specs.OptionValues.{OptionValues, AreInRange}
+use Rattle.jobs.specs.Running.{shown}
+use Rattle.jobs.specs.declared.open_job.OpenJob.{OpenJob}
 use Rattle.upkeep.specs.declared.flush.FlushError.{FlushError}
 use Rattle.upkeep.specs.declared.flush.FlushError.TheVariants.{Before, Edit}
 use Rattle.engine.specs.declared.command.Answer.{Answer}
@@ -57,30 +62,71 @@ pub record IsSameMemory (old new : Memories) : Type 0 where
 
 -- ---- which piece it is
 
--- The sealed memory table has become a table of level 0, unless it was empty.
-pub record WritesTable {I : Type 0} (before after : Held I) : Type 0 where
+-- so many entries more of its inputs came to the same compaction
+abbrev pub IsFurther : {K : Type 0} {g : _} → OpenJob K g → ℕ → OpenJob K g → Type 0
+IsFurther work merged more = (more.job.plan ≡ work.job.plan) × (more.merged ≡ shown (work.merged + merged))
+
+-- A compaction was under way. As many entries more of its inputs came as the budget has, one for 0, and it is under way still, with the
+-- tables as they were; or all came, and its outputs are in the place of its inputs.
+pub record GoesOn {K : Type 0} {g : _} (budget : ℕ) (before after : Held K g) : Type 0 where
+  pub work : OpenJob K g
+  pub was : before.job ≡ Some work
+  pub on : MatchOption after.job (Replaces work.job.plan before.tables after.tables) (λ more. IsFurther work (max budget 1) more × (after.tables ≡ before.tables))
+
+-- None was, and the sealed memory table has become a table of level 0, unless it was empty.
+pub record WritesTable {K : Type 0} {g : _} (before after : Held K g) : Type 0 where
+  pub idle : before.job ≡ None
   pub was : IsSome before.memory.sealed
   pub gone : after.memory.sealed ≡ None
+  pub current : after.memory.current ≡ before.memory.current
+  pub still : after.job ≡ None
   pub table : (sealed_inserts before.memory ≡ []) ⊎ ((table : TableFile) × Lists (inserted (record { level = 0; table = table }) before.tables) after.tables)
 
--- The memory table is sealed, and an empty one has taken its place, with a log of its own.
-pub record SealsMemory {I : Type 0} (before after : Held I) : Type 0 where
+-- Nor was anything sealed. The memory table is, and an empty one has taken its place, with a log of its own.
+pub record SealsMemory {K : Type 0} {g : _} (before after : Held K g) : Type 0 where
+  pub idle : before.job ≡ None
   pub none : before.memory.sealed ≡ None
   pub sealed : sealed_inserts after.memory ≡ before.memory.current.inserts
+  pub is : IsSome after.memory.sealed
+  pub still : after.job ≡ None
   pub empty : after.memory.current.inserts ≡ []
   pub log : after.log.number ≡ before.directory.numbers.next
   pub begins : after.log.end ≡ 0
 
--- Nothing is sealed, and the memory table has fewer than so many bytes.
-pub record HasNoWork {I : Type 0} (most : ℕ) (db : Held I) : Type 0 where
+-- No compaction is under way, nothing is sealed, and the memory table has fewer bytes than it may.
+pub record IsAtEase {K : Type 0} {g : _} (options : OptionValues) (db : Held K g) : Type 0 where
+  pub idle : db.job ≡ None
   pub none : db.memory.sealed ≡ None
-  pub small : size_of db.memory.current.inserts < most
+  pub small : size_of db.memory.current.inserts < options.write_buffer
 
--- Work writes a table where one is sealed, seals the memory table where that has so many bytes, and else there is none.
-abbrev pub DoesWork : {I : Type 0} → ℕ → Held I → Held I → Result Progress DbError → Type 0
-DoesWork most before after (Ok progress.Worked) = WritesTable before after ⊎ ((most ≤ size_of before.memory.current.inserts) × SealsMemory before after)
-DoesWork most before after (Ok progress.Idle) = HasNoWork most before × HasNoWork most after
-DoesWork most before after (Err e) = Unit {0}
+-- this level of the version wants a compaction
+abbrev pub WantsCompaction : {K : Type 0} {g : _} → OptionValues → Held K g → ℕ → Type 0
+WantsCompaction options db level = (level < 6) × Needs options.level0_files options.base_bytes db.tables level
+
+-- The compaction of a level that wants one was begun. So many entries of its inputs came; or all, and its outputs are in the place of its
+-- inputs.
+pub record BeginsJob {K : Type 0} {g : _} (options : OptionValues) (budget : ℕ) (before after : Held K g) : Type 0 where
+  pub plan : JobPlan
+  pub wanted : AreInRange options → (level : ℕ) × WantsCompaction options before level × (plan.output_level ≡ level + 1)
+  pub begun : MatchOption after.job (Replaces plan before.tables after.tables) (λ work. (work.job.plan ≡ plan) × (work.merged ≡ shown (max budget 1)) × (after.tables ≡ before.tables))
+
+-- That is so where nothing else was to be done.
+pub record Begins {K : Type 0} {g : _} (options : OptionValues) (budget : ℕ) (before after : Held K g) : Type 0 where
+  pub ease : IsAtEase options before
+  pub job : BeginsJob options budget before after
+
+-- Where it is, and no level wants a compaction, there is no work.
+pub record HasNoWork {K : Type 0} {g : _} (options : OptionValues) (db : Held K g) : Type 0 where
+  pub ease : IsAtEase options db
+  pub unwanted : AreInRange options → (level : ℕ) → WantsCompaction options db level → ⊥
+
+-- Work goes on with the compaction under way; writes a table where one is sealed; seals the memory table where that is full; begins a
+-- compaction that is wanted; and else there is none.
+abbrev pub DoesWork : {K : Type 0} {g : _} → OptionValues → ℕ → Held K g → Held K g → Result Progress DbError → Type 0
+DoesWork options budget before after (Ok progress.Worked) =
+    GoesOn budget before after ⊎ WritesTable before after ⊎ ((options.write_buffer ≤ size_of before.memory.current.inserts) × SealsMemory before after) ⊎ Begins options budget before after
+DoesWork options budget before after (Ok progress.Idle) = HasNoWork options before × HasNoWork options after
+DoesWork options budget before after (Err e) = Unit {0}
 
 -- ---- files
 
@@ -88,17 +134,18 @@ DoesWork most before after (Err e) = Unit {0}
 abbrev pub numbers_of : DirectoryState → LiveNumbers
 numbers_of state = record { manifest_number = state.manifest.number; log_number = state.first_log; previous_log_number = state.previous_log }
 
--- `CURRENT`, the lock, the MANIFEST, a log that the directory reads, or a table of the version or of that of an open iterator
-abbrev pub IsLiveIn : {K : Type 0} {g : _} → Held (Scan K g) → FileName → Type 0
-IsLiveIn db file = IsLiveFile (numbers_of db.directory) (λ number. IsTableUsed db.tables db.iterators number) file
+-- `CURRENT`, the lock, the MANIFEST, a log that the directory reads, or a table of the version, of that of an open iterator, or of the
+-- compaction under way
+abbrev pub IsLiveIn : {K : Type 0} {g : _} → Held K g → FileName → Type 0
+IsLiveIn db file = IsLiveFile (numbers_of db.directory) (λ number. IsTableUsed db.tables db.job db.iterators number) file
 
 -- Each file of a known shape is live.
-abbrev pub HasLiveOnly : {K : Type 0} {g : _} → Files → Held (Scan K g) → Type 0
+abbrev pub HasLiveOnly : {K : Type 0} {g : _} → Files → Held K g → Type 0
 HasLiveOnly files db = (file : FileName) → IsFileName file → contains_key files (name_of file) ≡ true → IsLiveIn db file
 
 -- Each file, and what of it is synced, is as before; or it is of a known shape and not live, and is gone. So live files and files of
 -- other programs stay.
-abbrev pub LosesDead : {K : Type 0} {g : _} → Facts → Facts → Held (Scan K g) → Type 0
+abbrev pub LosesDead : {K : Type 0} {g : _} → Facts → Facts → Held K g → Type 0
 LosesDead old new db = (name : List ℕ) → LeavesFile old new name ⊎ (IsDead (IsLiveIn db) name × (get new.files name ≡ None))
 
 -- ---- answers

@@ -1,7 +1,7 @@
 //! Which tables and memory tables an open database still reads.
 
 ghost use Rattle.std.specs.Prelude.{MatchBool};
-ghost use Rattle.engine.specs.InUse.{AnyIterator, IsMemoryUsed, IsTableUsed};
+ghost use Rattle.engine.specs.InUse.{AnyIterator, IsJobTable, IsMemoryUsed, IsTableUsed};
 ghost use Rattle.scans.specs.Scans.{reads_memory, tables_of};
 ghost use Rattle.versions.specs.Keeping.{HasNumber};
 
@@ -13,13 +13,16 @@ use std::collections::BTreeMap;
 use upkeep::LiveTables;
 
 impl<K: KeyOrder> LiveTables for DbState<K> {
-    ghost has = { λ state number. IsTableUsed state.version.value.tables state.iterators number };
+    ghost has = { λ state number. IsTableUsed state.version.value.tables state.job state.iterators number };
 
     fn has_table(&self, number: u64) -> bool {
         if self.version.has_number(number) {
             return true;
         }
-        is_table_read(&self.iterators, number)
+        if is_table_read(&self.iterators, number) {
+            return true;
+        }
+        self.is_job_table(number)
     }
 }
 
@@ -28,6 +31,21 @@ impl<K: KeyOrder> Users for DbState<K> {
 
     fn names(&self, generation: u64) -> bool {
         is_memory_read(&self.iterators, generation)
+    }
+}
+
+impl<K: KeyOrder> DbState<K> {
+    // Whether the compaction under way goes over the table of this number, or has written it.
+    fn is_job_table(&self, number: u64) -> bool
+        ensures { MatchBool result (IsJobTable self.now.job number) (IsJobTable self.now.job number → ⊥) }
+    {
+        let Some(work) = &self.job else {
+            return false;
+        };
+        if work.reads(number) {
+            return true;
+        }
+        work.writes(number)
     }
 }
 

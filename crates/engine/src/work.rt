@@ -1,7 +1,7 @@
 //! What an open database does beside its commands: the removal of files, flushes, and new logs (LevelDB's db/db_impl.cc,
 //! DBImpl::RemoveObsoleteFiles, CompactMemTable and MakeRoomForWrite).
 
-ghost use Rattle.std.specs.Prelude.{◌≡◌, ℕ, None, IsSome, false, if◌then◌else◌, IsTrue, IfOk, Ok, OnOk};
+ghost use Rattle.std.specs.Prelude.{◌≡◌, ℕ, max, None, IsSome, false, if◌then◌else◌, IsTrue, IfOk, Ok, OnOk};
 ghost use Rattle.engine.specs.Working.{ClosesTables, refused_as};
 ghost use Rattle.ikey.specs.Orders.{order_of};
 
@@ -34,23 +34,26 @@ impl<K: KeyOrder> DbState<K> {
     ghost use Rattle.engine.specs.declared.work.Progress.TheVariants.{Idle};
     ghost use Rattle.engine.specs.Causes.{IsCausedIn, broken_in};
     ghost use Rattle.engine.specs.Follows.{LeadsOpen};
+    ghost use Rattle.engine.specs.Finishing.{ServesOn};
     ghost use Rattle.engine.specs.Held.{held, seen_of};
     ghost use Rattle.engine.specs.Outcomes.{DbOutcome, IsSame, MayRefuseWork};
     ghost use Rattle.engine.specs.Upkeep.{Works};
     ghost use Rattle.engine.specs.Working.{DoesWork, HasLiveOnly, IsPiece, IsSameMemory, LosesDead, MayRefusePiece, SealsMemory, WritesTable, broken_by, flush_answer, work_answer};
 
-    /// Removes the files that aren't live, and then does the first of these that there is to do: writes the sealed memory table into
-    /// a table file; or seals the memory table, where it has `write_buffer` bytes, and begins a log.
+    /// Removes the files that aren't live, and then does the first of these that there is to do: goes on with the compaction under
+    /// way by so many entries, one for 0; writes the sealed memory table into a table file; seals the memory table, where it has
+    /// `write_buffer` bytes, and begins a log; or begins the compaction that is most wanted, and goes on with it.
     pub fn work<S: Store>(
         &mut self,
         alloc: Global,
         source: &mut Sources<K, S>,
         options: &Options,
+        budget: u32,
     ) -> Result<Progress, DbError>
-        ensures step { (ids : Ids) (budget : ℕ) → LeadsOpen (order_of K.name K.cmp) (seen_of S.facts source.old) (seen_of S.facts source.new) ids (held source.old.memory self.old) (held source.new.memory self.new) (λ m n. Works m budget (work_answer result) n) }
+        ensures step { (ids : Ids) → LeadsOpen (order_of K.name K.cmp) (seen_of S.facts source.old) (seen_of S.facts source.new) ids (held source.old.memory self.old) (held source.new.memory self.new) (λ m n. Works m budget (work_answer result) n) }
         ensures outcome { DbOutcome MayRefuseWork (S.facts source.old.tables.store) (S.facts source.new.tables.store) (held source.old.memory self.old) (held source.new.memory self.new) result }
         ensures caused { IsCausedIn (broken_in (held source.old.memory self.old)) source.old.tables.store source.new.tables.store result }
-        ensures does { DoesWork options.now.write_buffer (held source.old.memory self.old) (held source.new.memory self.new) result }
+        ensures does { DoesWork options.now budget (held source.old.memory self.old) (held source.new.memory self.new) result }
         // Where there is none, all files are live, unless one couldn't be removed.
         ensures tidy { result ≡ Ok Idle → IsTrue (S.facts source.new.tables.store).faithful → (S.facts source.new.tables.store).failures ≡ (S.facts source.old.tables.store).failures → HasLiveOnly (S.facts source.new.tables.store).files (held source.new.memory self.new) }
         // All files that are live stay then, and those of other programs.
@@ -61,7 +64,7 @@ impl<K: KeyOrder> DbState<K> {
             return Err(DbError::Broken);
         }
         let complete = self.clean(alloc, source)?;
-        match self.do_piece(alloc, source, options) {
+        match self.do_piece(alloc, source, options, budget) {
             Ok(progress) => Ok(progress),
             Err(error) => Err(refusal(complete, error)),
         }
@@ -105,39 +108,64 @@ impl<K: KeyOrder> DbState<K> {
         alloc: Global,
         source: &mut Sources<K, S>,
         options: &Options,
+        budget: u32,
     ) -> Result<Progress, DbError>
         requires whole { self.old.broken ≡ false }
-        ensures step { (ids : Ids) → LeadsOpen (order_of K.name K.cmp) (seen_of S.facts source.old) (seen_of S.facts source.new) ids (held source.old.memory self.old) (held source.new.memory self.new) (λ m n. IsPiece m 1 result n) }
+        ensures step { (ids : Ids) → LeadsOpen (order_of K.name K.cmp) (seen_of S.facts source.old) (seen_of S.facts source.new) ids (held source.old.memory self.old) (held source.new.memory self.new) (λ m n. IsPiece m (max budget 1) result n) }
         ensures outcome { DbOutcome MayRefusePiece (S.facts source.old.tables.store) (S.facts source.new.tables.store) (held source.old.memory self.old) (held source.new.memory self.new) result }
-        ensures does { DoesWork options.now.write_buffer (held source.old.memory self.old) (held source.new.memory self.new) result }
+        ensures does { DoesWork options.now budget (held source.old.memory self.old) (held source.new.memory self.new) result }
         ensures idle { result ≡ Ok Idle → (source.new ≡ source.old) × (self.new ≡ self.old) }
         ensures lock { (S.facts source.new.tables.store).held ≡ (S.facts source.old.tables.store).held }
     {
-        sound_lasts();
+        if self.job.is_some() {
+            self.advance(alloc, source, budget)?;
+            return Ok(Progress::Worked);
+        }
+        self.do_unless_compacting(alloc, source, options, budget)
+    }
+
+    // Does the first piece of work that there is to do where no compaction is under way.
+    fn do_unless_compacting<S: Store>(
+        &mut self,
+        alloc: Global,
+        source: &mut Sources<K, S>,
+        options: &Options,
+        budget: u32,
+    ) -> Result<Progress, DbError>
+        requires whole { self.old.broken ≡ false }
+        requires idle { self.old.job ≡ None }
+        ensures step { (ids : Ids) → LeadsOpen (order_of K.name K.cmp) (seen_of S.facts source.old) (seen_of S.facts source.new) ids (held source.old.memory self.old) (held source.new.memory self.new) (λ m n. IsPiece m (max budget 1) result n) }
+        ensures outcome { DbOutcome MayRefusePiece (S.facts source.old.tables.store) (S.facts source.new.tables.store) (held source.old.memory self.old) (held source.new.memory self.new) result }
+        ensures does { DoesWork options.now budget (held source.old.memory self.old) (held source.new.memory self.new) result }
+        ensures idle { result ≡ Ok Idle → (source.new ≡ source.old) × (self.new ≡ self.old) }
+        ensures lock { (S.facts source.new.tables.store).held ≡ (S.facts source.old.tables.store).held }
+    {
         if source.memory.sealed_generation().is_some() {
             self.flush(alloc, source, options)?;
             return Ok(Progress::Worked);
         }
         if (source.memory.size() as u64) < options.write_buffer() {
-            return Ok(Progress::Idle);
+            return self.compact(alloc, source, options, budget);
         }
         self.seal(alloc, source)?;
         Ok(Progress::Worked)
     }
 
-    // Writes the sealed memory table into a table file. An empty one needs none. Where the store fails, the
-    // database is broken.
-    fn flush<S: Store>(
+    /// Writes the sealed memory table into a table file. An empty one needs none. Where the store fails, the
+    /// database is broken.
+    pub fn flush<S: Store>(
         &mut self,
         alloc: Global,
         source: &mut Sources<K, S>,
         options: &Options,
     ) -> Result<(), DbError>
         requires whole { self.old.broken ≡ false }
+        requires idle { self.old.job ≡ None }
         requires sealed { IsSome source.old.memory.sealed }
         ensures step { (ids : Ids) → LeadsOpen (order_of K.name K.cmp) (seen_of S.facts source.old) (seen_of S.facts source.new) ids (held source.old.memory self.old) (held source.new.memory self.new) (λ m n. IsPiece m 1 result n) }
         ensures outcome { DbOutcome MayRefusePiece (S.facts source.old.tables.store) (S.facts source.new.tables.store) (held source.old.memory self.old) (held source.new.memory self.new) result }
         ensures does { OnOk result (WritesTable (held source.old.memory self.old) (held source.new.memory self.new)) }
+        ensures serves { OnOk result (ServesOn (S.facts source.old.tables.store) (S.facts source.new.tables.store) (held source.old.memory self.old) (held source.new.memory self.new)) }
         ensures lock { (S.facts source.new.tables.store).held ≡ (S.facts source.old.tables.store).held }
     {
         sound_lasts();
@@ -177,13 +205,19 @@ impl<K: KeyOrder> DbState<K> {
         }
     }
 
-    // Seals the memory table, and begins a log for what is written from now on. Where the store fails, the database is broken.
-    fn seal<S: Store>(&mut self, alloc: Global, source: &mut Sources<K, S>) -> Result<(), DbError>
+    /// Seals the memory table, and begins a log for what is written from now on. Where the store fails, the database is broken.
+    pub fn seal<S: Store>(
+        &mut self,
+        alloc: Global,
+        source: &mut Sources<K, S>,
+    ) -> Result<(), DbError>
         requires whole { self.old.broken ≡ false }
+        requires idle { self.old.job ≡ None }
         requires unsealed { source.old.memory.sealed ≡ None }
         ensures step { (ids : Ids) → LeadsOpen (order_of K.name K.cmp) (seen_of S.facts source.old) (seen_of S.facts source.new) ids (held source.old.memory self.old) (held source.new.memory self.new) (λ m n. IsPiece m 1 result n) }
         ensures outcome { DbOutcome MayRefusePiece (S.facts source.old.tables.store) (S.facts source.new.tables.store) (held source.old.memory self.old) (held source.new.memory self.new) result }
         ensures does { OnOk result (SealsMemory (held source.old.memory self.old) (held source.new.memory self.new)) }
+        ensures serves { OnOk result (ServesOn (S.facts source.old.tables.store) (S.facts source.new.tables.store) (held source.old.memory self.old) (held source.new.memory self.new)) }
         ensures lock { (S.facts source.new.tables.store).held ≡ (S.facts source.old.tables.store).held }
     {
         sound_lasts();
@@ -218,7 +252,7 @@ impl<K: KeyOrder> DbState<K> {
     }
 
     // How a flush that didn't come about is answered.
-    fn flush_refusal(&mut self, error: FlushError) -> DbError
+    pub(crate) fn flush_refusal(&mut self, error: FlushError) -> DbError
         ensures answer { result ≡ flush_answer error }
         ensures broken { self.new ≡ broken_by self.old (flush_answer error) }
     {

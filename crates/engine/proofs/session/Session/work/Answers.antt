@@ -34,7 +34,7 @@ returns-in-Ok-Worked-clause-step g c =
     let before = held memory c.in-Some.state in
     let after = held c.work.new.source.memory c.work.new.self in
     lifts order old new ids ids (option_map (held memory) c.args.self.now.state) before after _ (ap (option_map (held memory)) c.in-Some.is)
-    (subst (λ (r : Result Progress DbError). LeadsOpen order old new ids before after (λ m n. Works m c.args.budget (work_answer r) n)) (c.in-Ok-Worked.is ∙ ap Ok c.in-Ok-Worked.field-0-is) (c.work.ensures.step ids c.args.budget))
+    (subst (λ (r : Result Progress DbError). LeadsOpen order old new ids before after (λ m n. Works m c.args.budget (work_answer r) n)) (c.in-Ok-Worked.is ∙ ap Ok c.in-Ok-Worked.field-0-is) (c.work.ensures.step ids))
 
 pub returns-in-Ok-Idle-clause-step : goal.returns-in-Ok-Idle-clause-step
 returns-in-Ok-Idle-clause-step g c =
@@ -47,7 +47,7 @@ returns-in-Ok-Idle-clause-step g c =
     let before = held memory c.in-Some.state in
     let after = held c.work.new.source.memory c.work.new.self in
     lifts order old new ids ids (option_map (held memory) c.args.self.now.state) before after _ (ap (option_map (held memory)) c.in-Some.is)
-    (subst (λ (r : Result Progress DbError). LeadsOpen order old new ids before after (λ m n. Works m c.args.budget (work_answer r) n)) (c.in-Ok-Idle.is ∙ ap Ok c.in-Ok-Idle.field-0-is) (c.work.ensures.step ids c.args.budget))
+    (subst (λ (r : Result Progress DbError). LeadsOpen order old new ids before after (λ m n. Works m c.args.budget (work_answer r) n)) (c.in-Ok-Idle.is ∙ ap Ok c.in-Ok-Idle.field-0-is) (c.work.ensures.step ids))
 
 pub returns-in-Err-clause-step : goal.returns-in-Err-clause-step
 returns-in-Err-clause-step g c =
@@ -60,4 +60,4 @@ returns-in-Err-clause-step g c =
     let before = held memory c.in-Some.state in
     let after = held c.work.new.source.memory c.work.new.self in
     lifts order old new ids ids (option_map (held memory) c.args.self.now.state) before after _ (ap (option_map (held memory)) c.in-Some.is)
-    (subst (λ (r : Result Progress DbError). LeadsOpen order old new ids before after (λ m n. Works m c.args.budget (work_answer r) n)) c.in-Err.is (c.work.ensures.step ids c.args.budget))
+    (subst (λ (r : Result Progress DbError). LeadsOpen order old new ids before after (λ m n. Works m c.args.budget (work_answer r) n)) c.in-Err.is (c.work.ensures.step ids))

@@ -20,7 +20,7 @@ use Rattle.engine.specs.Held.{held, seen_of}
 use Rattle.engine.specs.InUse.{Gathers}
 use Rattle.engine.specs.Outcomes.{DbOutcome, MayRefuseGet}
 use Rattle.engine.specs.Reads.{sequence_at}
-use Rattle.engine.proofs.Getting.{found_at, missing_at, tables_read, tables_failed, reads_itself, reads_leave, caused_ok, caused_err, outcome_ok, outcome_err, reads_seen, reads_nothing, reads_behind, none_of}
+use Rattle.engine.proofs.Getting.{gathers_of, found_at, missing_at, tables_read, tables_failed, reads_itself, reads_leave, caused_ok, caused_err, outcome_ok, outcome_err, reads_seen, reads_nothing, reads_behind, none_of}
 use Rattle.engine.proofs.Steps.{same_counts, got_broken, got_unseen, got_value, got_refused, memory_value, no_tables_value}
 use Rattle.engine.proofs.WriteSteps.{stays_open}
 use Rattle.engine.proofs.state.DbState.get.Goals as goal
@@ -120,7 +120,7 @@ returns-in_err-value-2-clause-step g c ids =
     let at = found_at (sequence_at db c.args.snapshot) c.in_ok-sequence.sequence c.in_ok-sequence.ensures in
     let refused = subst (λ (v : Placement). Refuses c.in_err-value-2.field-0.0 source.facts new.facts (HasNoTablesOf order source v.tables) (IsOneTooLong order source v.tables)) c.deref-2.ensures c.in_err-value-2.ensures.refused in
     rw (p.1, p.2) (tables_failed order (λ scan. scan_kept order.cmp scan) c.version_of_directory.ensures g.met.K.KeyOrder.total g.met.K.KeyOrder.exact source new ids db c.args.key.now c.args.snapshot c.in_ok-sequence.sequence c.in_ok-sequence.sequence
-    c.if-self.false at (λ below. refl) c.value_in_tables.ensures.carries c.in_err-value-2.field-0.0 refused)
+    c.if-self.false at (λ below. refl) c.value_in_tables.ensures.carries (gathers_of db source new (subst (λ (v : Placement). Gathers (λ number. HasNumber number v.tables) source new) c.deref-2.ensures c.value_in_tables.ensures.carries.gathered)) c.in_err-value-2.field-0.0 refused)
 
 pub returns-in_err-value-2-clause-outcome : goal.returns-in_err-value-2-clause-outcome
 returns-in_err-value-2-clause-outcome g c =
@@ -161,7 +161,7 @@ returns-in-Some-2-clause-step g c ids =
     subst (λ (o : Option (Option (List ℕ))). IsAnswer (logged_in db.memory) c.in_ok-sequence.sequence c.args.key.now o) c.in_default.is c.in_ok-value.ensures in
     let says = subst (λ (v : Placement). SaysOfAll order source new v.tables c.args.key.now c.at_most-below.result c.in_ok-value-2.field-0) c.deref-2.ensures c.in_ok-value-2.ensures.found in
     tables_read order (λ scan. scan_kept order.cmp scan) c.version_of_directory.ensures g.met.K.KeyOrder.total g.met.K.KeyOrder.exact source new ids db c.args.key.now c.args.snapshot c.in_ok-sequence.sequence c.at_most-below.result
-    c.if-self.false at (λ below. c.at_most-below.ensures.kept (omega (arith, below, c.last.ensures.is))) c.value_in_tables.ensures.carries
+    c.if-self.false at (λ below. c.at_most-below.ensures.kept (omega (arith, below, c.last.ensures.is))) c.value_in_tables.ensures.carries (gathers_of db source new (subst (λ (v : Placement). Gathers (λ number. HasNumber number v.tables) source new) c.deref-2.ensures c.value_in_tables.ensures.carries.gathered))
     c.newest_in_front.ensures c.unseen_in_front.ensures c.same_view.ensures unseen (Some c.in-Some-2.value) (subst (λ (o : Option (Option (List ℕ))). SaysOfAll order source new db.tables c.args.key.now c.at_most-below.result o) c.in-Some-2.is says)
 
 pub returns-in-Some-2-clause-outcome : goal.returns-in-Some-2-clause-outcome
@@ -199,7 +199,7 @@ returns-in-None-clause-step g c ids =
     subst (λ (o : Option (Option (List ℕ))). IsAnswer (logged_in db.memory) c.in_ok-sequence.sequence c.args.key.now o) c.in_default.is c.in_ok-value.ensures in
     let says = subst (λ (v : Placement). SaysOfAll order source new v.tables c.args.key.now c.at_most-below.result c.in_ok-value-2.field-0) c.deref-2.ensures c.in_ok-value-2.ensures.found in
     tables_read order (λ scan. scan_kept order.cmp scan) c.version_of_directory.ensures g.met.K.KeyOrder.total g.met.K.KeyOrder.exact source new ids db c.args.key.now c.args.snapshot c.in_ok-sequence.sequence c.at_most-below.result
-    c.if-self.false at (λ below. c.at_most-below.ensures.kept (omega (arith, below, c.last.ensures.is))) c.value_in_tables.ensures.carries
+    c.if-self.false at (λ below. c.at_most-below.ensures.kept (omega (arith, below, c.last.ensures.is))) c.value_in_tables.ensures.carries (gathers_of db source new (subst (λ (v : Placement). Gathers (λ number. HasNumber number v.tables) source new) c.deref-2.ensures c.value_in_tables.ensures.carries.gathered))
     c.newest_in_front.ensures c.unseen_in_front.ensures c.same_view.ensures unseen None (subst (λ (o : Option (Option (List ℕ))). SaysOfAll order source new db.tables c.args.key.now c.at_most-below.result o) c.in-None.is says)
 
 pub returns-in-None-clause-outcome : goal.returns-in-None-clause-outcome

@@ -18,7 +18,7 @@ returns-in_err-seal-clause-step g c ids =
     let memory : c.from_residual.result ≡ Err OutOfMemory = search rules in
     subst (λ (r : Result _ DbError). LeadsOpen order source source ids (held c.args.source.now.memory c.args.self.now) (held c.seal.new.self c.args.self.now) (λ m n. IsPiece m 1 r n)) (sym memory)
     (subst (λ (mem : Memories). LeadsOpen order source source ids (held c.args.source.now.memory c.args.self.now) (held mem c.args.self.now) (λ m n. IsPiece m 1 (Err OutOfMemory) n)) (sym c.in_err-seal.ensures.err)
-    (ends_full order (λ scan. scan_kept order.cmp scan) c.sound_lasts.ensures source ids (held c.args.source.now.memory c.args.self.now) c.requires.whole))
+    (ends_full order (λ scan. scan_kept order.cmp scan) c.sound_lasts.ensures source ids (held c.args.source.now.memory c.args.self.now) 1 c.requires.whole))
 
 pub returns-in-Ok-clause-step : goal.returns-in-Ok-clause-step
 returns-in-Ok-clause-step g c ids =

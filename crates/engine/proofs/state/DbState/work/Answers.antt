@@ -1,4 +1,4 @@
-use Rattle.std.proofs.Common.{◌≡◌, ◌<◌, false, Result, Ok, Err, sym, subst, arith, rules}
+use Rattle.std.proofs.Common.{◌≡◌, ◌+◌, ◌<◌, max, false, Result, Ok, Err, sym, subst, arith, rules}
 use Rattle.coding.specs.declared.error.DbError.{DbError}
 use Rattle.ikey.specs.Orders.{order_of}
 use Rattle.engine.specs.declared.work.Progress.{Progress}
@@ -11,11 +11,11 @@ use Rattle.engine.proofs.WorkSteps.{piece_failed}
 use Rattle.engine.proofs.state.DbState.work.Goals as goal
 
 pub returns-then-self-clause-step : goal.returns-then-self-clause-step
-returns-then-self-clause-step g c ids budget =
-    works_broken (order_of g.K.KeyOrder.name g.K.KeyOrder.cmp) (seen_of g.S.Store.facts c.args.source.now) ids (held c.args.source.now.memory c.args.self.now) budget c.if-self.true
+returns-then-self-clause-step g c ids =
+    works_broken (order_of g.K.KeyOrder.name g.K.KeyOrder.cmp) (seen_of g.S.Store.facts c.args.source.now) ids (held c.args.source.now.memory c.args.self.now) c.args.budget c.if-self.true
 
 pub returns-in_err-complete-clause-step : goal.returns-in_err-complete-clause-step
-returns-in_err-complete-clause-step g c ids budget =
+returns-in_err-complete-clause-step g c ids =
     let order = order_of g.K.KeyOrder.name g.K.KeyOrder.cmp in
     let old = seen_of g.S.Store.facts c.args.source.now in
     let new = seen_of g.S.Store.facts c.clean.new.source in
@@ -23,8 +23,8 @@ returns-in_err-complete-clause-step g c ids budget =
     let after = held c.clean.new.source.memory c.args.self.now in
     let e = c.in_err-complete.field-0.0 in
     let is : c.from_residual.result ≡ Err e = search rules in
-    subst (λ (r : Result Progress DbError). LeadsOpen order old new ids before after (λ m n. Works m budget (work_answer r) n)) (sym is)
-    (works order old new ids before after budget 0 (Err e) (omega arith) c.if-self.false (piece_failed order old new ids before after 0 e (c.in_err-complete.ensures.step ids)))
+    subst (λ (r : Result Progress DbError). LeadsOpen order old new ids before after (λ m n. Works m c.args.budget (work_answer r) n)) (sym is)
+    (works order old new ids before after c.args.budget 0 (Err e) (omega arith) c.if-self.false (piece_failed order old new ids before after 0 e (c.in_err-complete.ensures.step ids)))
 
 pub returns-in_err-complete-clause-caused : goal.returns-in_err-complete-clause-caused
 returns-in_err-complete-clause-caused g c =
@@ -32,7 +32,7 @@ returns-in_err-complete-clause-caused g c =
     caused_met (held c.args.source.now.memory c.args.self.now) c.args.source.now.tables.store c.clean.new.source.tables.store c.from_residual.result c.in_err-complete.field-0.0 is c.if-self.false c.in_err-complete.ensures.outcome.allowed
 
 pub returns-in-Ok-clause-step : goal.returns-in-Ok-clause-step
-returns-in-Ok-clause-step g c ids budget =
+returns-in-Ok-clause-step g c ids =
     let order = order_of g.K.KeyOrder.name g.K.KeyOrder.cmp in
     let old = seen_of g.S.Store.facts c.args.source.now in
     let mid = seen_of g.S.Store.facts c.clean.new.source in
@@ -40,15 +40,15 @@ returns-in-Ok-clause-step g c ids budget =
     let before = held c.args.source.now.memory c.args.self.now in
     let between = held c.clean.new.source.memory c.args.self.now in
     let after = held c.do_piece.new.source.memory c.do_piece.new.self in
-    works order old new ids before after budget 1 (Ok c.in-Ok.progress) (omega arith) c.if-self.false
-    (then_piece order old mid new ids before between after c.in_ok-complete.complete (Ok c.in-Ok.progress) (c.in_ok-complete.ensures.step ids) (c.in-Ok.ensures.step ids))
+    works order old new ids before after c.args.budget (0 + max c.args.budget 1) (Ok c.in-Ok.progress) (omega arith) c.if-self.false
+    (then_piece order old mid new ids before between after 0 (max c.args.budget 1) c.in_ok-complete.complete (Ok c.in-Ok.progress) (c.in_ok-complete.ensures.step ids) (c.in-Ok.ensures.step ids))
 
 pub returns-in-Ok-clause-does : goal.returns-in-Ok-clause-does
 returns-in-Ok-clause-does g c =
-    does_on (held c.args.source.now.memory c.args.self.now) c.clean.new.source.memory (held c.do_piece.new.source.memory c.do_piece.new.self) c.args.options.now.write_buffer (Ok c.in-Ok.progress) c.in_ok-complete.ensures.memory c.in-Ok.ensures.does
+    does_on (held c.args.source.now.memory c.args.self.now) c.clean.new.source.memory (held c.do_piece.new.source.memory c.do_piece.new.self) c.args.options.now c.args.budget (Ok c.in-Ok.progress) c.in_ok-complete.ensures.memory c.in-Ok.ensures.does
 
 pub returns-in-Err-clause-step : goal.returns-in-Err-clause-step
-returns-in-Err-clause-step g c ids budget =
+returns-in-Err-clause-step g c ids =
     let order = order_of g.K.KeyOrder.name g.K.KeyOrder.cmp in
     let old = seen_of g.S.Store.facts c.args.source.now in
     let mid = seen_of g.S.Store.facts c.clean.new.source in
@@ -60,6 +60,6 @@ returns-in-Err-clause-step g c ids budget =
     let e = c.in-Err.error in
     let cleaned = c.in_ok-complete.ensures in
     let rose : complete ≡ false → old.facts.failures < mid.facts.failures = failures_rose old.facts.failures mid.facts.failures complete cleaned.outcome.failures cleaned.unfailed in
-    subst (λ (r : DbError). LeadsOpen order old new ids before after (λ m n. Works m budget (work_answer (Err r)) n)) (sym c.refusal.ensures)
-    (works order old new ids before after budget 1 (Err (refused_as complete e)) (omega arith) c.if-self.false
-    (then_refused order old mid new ids before between after complete e rose c.in-Err.ensures.outcome.failures (cleaned.step ids) (c.in-Err.ensures.step ids)))
+    subst (λ (r : DbError). LeadsOpen order old new ids before after (λ m n. Works m c.args.budget (work_answer (Err r)) n)) (sym c.refusal.ensures)
+    (works order old new ids before after c.args.budget (0 + max c.args.budget 1) (Err (refused_as complete e)) (omega arith) c.if-self.false
+    (then_refused order old mid new ids before between after (max c.args.budget 1) complete e rose c.in-Err.ensures.outcome.failures (cleaned.step ids) (c.in-Err.ensures.step ids)))

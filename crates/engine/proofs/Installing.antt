@@ -1,0 +1,334 @@
+-- What the end of a compaction leaves of an open database.
+use Rattle.std.proofs.Common.{true, ◌≡◌, ◌≢◌, ℕ, ◌+◌, ◌≤◌, List, [], ◌∷◌, ◌++◌, map, Some, None, IsTrue, inl, inr, refl, sym, ap, subst, ◌∙◌, arith, string_bytes}
+use Rattle.std.specs.FinMap.{get}
+use Rattle.cache.specs.Tables.{table_at}
+use Rattle.compact.specs.Laws.{AreApart, SeesAsOne}
+use Rattle.compact.specs.Outputs.{IsNumberAtHand}
+use Rattle.edits.specs.Edit.{HasPastLimit}
+use Rattle.edits.specs.Layout.{fields_of}
+use Rattle.edits.specs.Names.{name_of, IsNumbered}
+use Rattle.edits.specs.declared.field.Field.{Field}
+use Rattle.edits.specs.declared.field.PlacedTable.{PlacedTable}
+use Rattle.edits.specs.declared.names.FileName.TheVariants.{Manifest, Table, OldTable}
+use Rattle.ikey.proofs.SearchedSources.{among_split, among_front, among_back}
+use Rattle.ikey.specs.Entries.{InternalEntry, entry_of}
+use Rattle.ikey.specs.Orders.{Order}
+use Rattle.ikey.specs.Views.{Among, Contents, IsView}
+use Rattle.ikey.specs.declared.entry.Entry.{Entry}
+use Rattle.jobs.specs.Ending.{CanEnd}
+use Rattle.jobs.specs.Running.{IsRunning, deep_of}
+use Rattle.jobs.specs.declared.open_job.OpenJob.{OpenJob}
+use Rattle.memories.specs.Memories.{logged_in}
+use Rattle.memories.specs.PlaceLaws.{left_kept}
+use Rattle.recover.proofs.Memberships.{among_chosen, among_contents, among_rest}
+use Rattle.recover.specs.Changes.{ManifestEndsAt, compacted}
+use Rattle.recover.specs.Directory.{Directory, IsConsistent, entries_in}
+use Rattle.recover.specs.Laws.{OneDirectoryLaw}
+use Rattle.recover.specs.Logs.{logged}
+use Rattle.recover.specs.Numbers.{IsFree}
+use Rattle.recover.specs.Report.{IsLongTable, AnyHasBytes}
+use Rattle.recover.specs.Tables.{TableContent, tabled}
+use Rattle.scans.specs.Scanning.{ScanIsKept}
+use Rattle.scans.specs.Scans.{KeepsScan}
+use Rattle.scans.specs.declared.scan.Scan.{Scan}
+use Rattle.sources.proofs.Sounding.{same_file, same_table}
+use Rattle.sources.specs.Tables.{IsSound, KeepsOf, Seen, SoundLasts}
+use Rattle.store.specs.Files.{Facts}
+use Rattle.upkeep.proofs.PlansMade.{planned_apart}
+use Rattle.upkeep.specs.Compactions.{placed_in}
+use Rattle.upkeep.specs.Flush.{KeepsParts, PassesNoLimit}
+use Rattle.upkeep.specs.Install.{HasInstalled, InstallTouches, IsUninstalled, MayBeInstalled}
+use Rattle.versions.specs.Levels.{AreInOrder, Lists}
+use Rattle.engine.specs.declared.directory.DirectoryState.{DirectoryState}
+use Rattle.engine.specs.Accounted.{AreAccounted}
+use Rattle.engine.specs.Compacting.{IsCompacting}
+use Rattle.engine.specs.Directory.{CanAppend, IsReadable}
+use Rattle.engine.specs.Held.{Held, entries_of, whole_of}
+use Rattle.engine.specs.Iterators.{IsWalk}
+use Rattle.engine.specs.Live.{kept_at, AreSnapshots, IsSnapshot}
+use Rattle.engine.specs.Machine as machine
+use Rattle.engine.specs.Machine.{Machine, Walk, entry_count, view_at, weight}
+use Rattle.engine.specs.Stands.{HasLog, IsBroken, IsServing}
+use Rattle.engine.proofs.Compacting.{own_number}
+use Rattle.engine.proofs.Pieces.{free_up, live_each, made_still, rests_seen, walks_each}
+use Rattle.engine.proofs.Reopening.{files_apart, long_back}
+use Rattle.engine.proofs.WorkSteps.{drawing}
+
+module _ {K : Type 0} {g : _} (order : Order) (kept : (scan : Scan K g) → ScanIsKept order.cmp scan) (one : OneDirectoryLaw) (lasts : SoundLasts)
+    (old : Seen) (facts : Facts) (db : Held K g) (m : Machine) (serving : IsServing order old db m) (work : OpenJob K g)
+    (c : IsCompacting order (whole_of old db) db.directory.numbers.next db.snapshots db.iterators serving.log.directory.directory work) (ended : c.left ≡ []) where
+  abbrev pub next : ℕ
+  next = db.directory.numbers.next
+
+  abbrev new : Seen
+  new = record old { facts = facts }
+
+  abbrev pub a : CanAppend order old.facts.files db.log.number db.log.end serving.contents (logged_in db.memory) db.memory.last
+  a = serving.log.directory
+
+  abbrev pub d : Directory
+  d = a.directory
+
+  abbrev pub ended_job : IsRunning order (whole_of old db) next d work c.came []
+  ended_job = subst (λ (es : List InternalEntry). IsRunning order (whole_of old db) next d work c.came es) ended c.running
+
+  abbrev pub can_end : CanEnd order (whole_of old db) next db.memory.last db.directory.manifest db.tables d work c.came
+  can_end =
+      let knows = serving.log.knows in
+      record {
+        served = record {
+          consistent = a.consistent;
+          number = knows.number;
+          named = knows.named;
+          ends = knows.ends;
+          free = knows.free;
+          listed = subst (λ (contents : List TableContent). Lists (placed_in contents) db.tables) a.in_tables serving.tables.version;
+        };
+        running = ended_job;
+        used = a.spent;
+      }
+
+  entries_are : entries_of serving.contents db ≡ entries_in d
+  entries_are = λ i. tabled (a.in_tables i) ++ a.in_logs i
+
+  -- the machine behind it
+  abbrev pub ended_by : Machine
+  ended_by = drawing m 0 facts
+
+  -- ---- the files
+
+  module _ (f : IsTrue facts.faithful) (touches : InstallTouches old.facts facts work.job.outputs (string_bytes db.directory.manifest.name)) where
+    at_hand : (number : ℕ) → IsNumberAtHand work.job.outputs number → IsNumbered number
+    at_hand number at = let n = own_number work.job.outputs next number c.running.numbered (inl at) in (n.0, (let below = n.1 in let fits = db.directory.numbers.in_range.1 in omega (arith, below, fits)))
+
+    other_file : (name : List ℕ) → ((number : ℕ) → IsNumberAtHand work.job.outputs number → name ≢ name_of (Table number)) → name ≢ name_of (Manifest d.manifest) → get facts.files name ≡ get old.facts.files name
+    other_file name apart other = touches.others f name apart (λ e. other (e ∙ serving.log.knows.named))
+
+    newer_same : (n : ℕ) → IsNumbered n → (IsNumberAtHand work.job.outputs n → ⊥) → get facts.files (name_of (Table n)) ≡ get old.facts.files (name_of (Table n))
+    newer_same n numbered apart =
+        other_file (name_of (Table n)) (λ number at. files_apart (Table n) (Table number) numbered (at_hand number at) (λ e. apart (let is : number ≡ n = cc in subst (IsNumberAtHand work.job.outputs) is at)))
+        (files_apart (Table n) (Manifest d.manifest) numbered a.consistent.manifest.numbered (λ e. cc))
+
+    older_same : (n : ℕ) → IsNumbered n → get facts.files (name_of (OldTable n)) ≡ get old.facts.files (name_of (OldTable n))
+    older_same n numbered =
+        other_file (name_of (OldTable n)) (λ number at. files_apart (OldTable n) (Table number) numbered (at_hand number at) (λ e. cc))
+        (files_apart (OldTable n) (Manifest d.manifest) numbered a.consistent.manifest.numbered (λ e. cc))
+
+    table_same : (n : ℕ) → IsNumbered n → (IsNumberAtHand work.job.outputs n → ⊥) → table_at facts.files n ≡ table_at old.facts.files n
+    table_same n numbered apart = same_table old.facts.files facts.files n (newer_same n numbered apart) (older_same n numbered)
+
+    -- nothing is kept of the table at hand
+    kept_apart : (number : ℕ) → KeepsOf old number → IsNumberAtHand work.job.outputs number → ⊥
+    kept_apart number is at = c.running.unkept number is (inl at)
+
+    sound_on : IsSound order.cmp new
+    sound_on =
+        lasts order.cmp old facts
+        (λ kept_one file is there.
+        let known = serving.tables.drawn kept_one.number (inl (kept_one, is, refl)) in
+        let apart = kept_apart kept_one.number (inl (kept_one, is, refl)) in (
+          sym (table_same kept_one.number known.0 apart) ∙ there,
+          λ has. same_file old.facts.files facts.files kept_one.number kept_one.table.name (serving.tables.sound.tables kept_one is).0 (newer_same kept_one.number known.0 apart) (older_same kept_one.number known.0) ∙ has,
+        ))
+        (λ block file is there. let known = serving.tables.drawn block.file (inr (block, is, refl)) in sym (table_same block.file known.0 (kept_apart block.file (inr (block, is, refl)))) ∙ there) serving.tables.sound
+
+    keeps_each : (id : ℕ) (scan : Scan K g) (walk : Walk) → kept_at db.iterators id ≡ Some scan → IsWalk order.cmp m.over_limit (whole_of old db) scan walk
+        → KeepsScan order.cmp scan (whole_of old db) (record { seen = new; memory = db.memory })
+    keeps_each id scan walk there is = record {
+      memory = λ cursor reads within. left_kept order.cmp cursor db.memory db.memory (record { inserts = refl; last = refl; generation = refl; sealed = refl; older = λ generation. refl });
+      files = λ number reads. let table = is.tables number reads in table_same number table.1 (λ at. c.unread id scan there number table.0 (inl at));
+      sound = λ h. sound_on;
+    }
+
+    readable_as : (e : Directory) → IsConsistent order facts.files e → (PassesNoLimit order old.facts.files d → PassesNoLimit order facts.files e) → IsFree order facts.files next → IsReadable order facts.files ended_by
+    readable_as e good passes freed = record {
+      made = made_still order old.facts.files facts.files d e m a.consistent good serving.readable.made;
+      numbers = (let below : next ≤ m.numbers = serving.numbers in free_more m.numbers (omega (arith, below)));
+      limits = λ is x good_x past.
+          let none = passes (λ old_past. serving.readable.limits is d a.consistent old_past) in
+          let same = one order facts.files x e good_x good in
+          none (elim past [
+            | inl numbers ↦ inl (subst (λ (edits : List (List Field)). HasPastLimit (fields_of edits)) same.1 numbers)
+            | inr long ↦ inr (subst (λ (tables : List TableContent). AnyHasBytes (IsLongTable order) facts.files tables) same.3 long)
+          ]);
+    }
+      where
+        free_more : (k : ℕ) → next ≤ k → IsFree order facts.files (k + 0)
+        free_more k le = free_up order facts.files next (k + 0) (omega (arith, le)) freed
+
+    -- ---- the outputs are in the place of the inputs
+
+    module _ (has : HasInstalled order (deep_of order.cmp work) work.job.plan.output_level work.job.selection.snapshots old.facts.files facts.files c.came d ended_job.inputs ended_job.rest) where
+      abbrev e : Directory
+      e = compacted d (d.edits ++ has.edit ∷ []) has.next has.contents
+
+      -- every entry was there before
+      fewer : (entry : Entry) → Among (entries_in e) entry → Among (entries_in d) entry
+      fewer entry i = elim (among_split (tabled has.contents) (logged d.logs) entry i) [
+        | inl in_tables ↦ among_front (tabled d.tables) (logged d.logs) entry (elim (among_contents has.contents has.outputs ended_job.rest entry has.compaction.new_tables in_tables) [
+          | inl out ↦ among_chosen d.tables ended_job.inputs ended_job.rest entry has.compaction.old_tables (has.compaction.taken entry out)
+          | inr rest ↦ among_rest d.tables ended_job.inputs ended_job.rest entry has.compaction.old_tables rest
+        ])
+        | inr in_logs ↦ among_back (tabled d.tables) (logged d.logs) entry in_logs
+      ]
+
+      fewer_held : (entry : Entry) → Among (entries_in e) entry → Among (entries_of serving.contents db) entry
+      fewer_held entry i = subst (λ (es : List Entry). Among es entry) (sym entries_are) (fewer entry i)
+
+      apart : AreApart (tabled ended_job.inputs) (tabled ended_job.rest ++ logged d.logs) (deep_of order.cmp work)
+      apart = planned_apart order old.facts.files (deep_of order.cmp work) work.job.plan d ended_job.inputs ended_job.rest a.consistent ended_job.planned
+
+      -- a reader that sees of what came what one of its sequences sees, sees the same
+      seen_same : (p : ℕ) (contents : Contents) → SeesAsOne (map entry_of (c.came ++ c.left)) work.job.selection.snapshots p → IsView (entries_of serving.contents db) p contents → IsView (entries_in e) p contents
+      seen_same p contents sees view =
+          has.alike apart p contents (sees.0, sees.1, sees.2, λ entry i le. sees.3 entry (came_of entry i) le)
+          (subst (λ (es : List Entry). IsView es p contents) entries_are view)
+        where
+          came_of : (entry : Entry) → Among (tabled ended_job.inputs) entry → Among (map entry_of (c.came ++ c.left)) entry
+          came_of entry i = subst (λ (es : List InternalEntry). Among (map entry_of (c.came ++ es)) entry) (sym ended) ((ended_job.entries entry).1 i)
+
+      now_seen : SeesAsOne (map entry_of (c.came ++ c.left)) work.job.selection.snapshots db.memory.last
+      now_seen = (c.reach, c.begun.kept, c.begun.used, λ entry i le. c.begun.above entry i)
+
+      current_view : IsView (entries_in e) db.memory.last (machine.current m)
+      current_view = seen_same db.memory.last (machine.current m) now_seen serving.entries.view
+
+      snapshots_on : AreSnapshots (entries_in e) db.memory.last m db.snapshots
+      snapshots_on = live_each (IsSnapshot (entries_of serving.contents db) db.memory.last m) (IsSnapshot (entries_in e) db.memory.last m) db.snapshots m.snapshots
+          (λ id sequence count there is. (is.0, is.1, seen_same sequence (view_at m count) (c.seen id sequence there) is.2)) serving.snapshots
+
+      accounted_on : AreAccounted (entries_in e) (entry_count m) (weight m)
+      accounted_on = let h = serving.accounted in record { all = h.all; within = λ entry i. h.within entry (fewer_held entry i); count = h.count; weight = h.weight }
+
+      logged_now : tabled has.contents ++ logged_in db.memory ≡ entries_in e
+      logged_now = ap (λ (es : List Entry). tabled has.contents ++ es) a.in_logs
+
+      module _ (tables : List PlacedTable) (state : DirectoryState) (in_order : AreInOrder order.cmp tables) (ends : ManifestEndsAt order facts.files d.manifest state.manifest.end (d.edits ++ has.edit ∷ []) has.next) (free : IsFree order facts.files next)
+          (listed : Lists (placed_in has.contents) tables) (number : state.manifest.number ≡ db.directory.manifest.number) (name : state.manifest.name ≡ db.directory.manifest.name) (first_log : state.first_log ≡ db.directory.first_log)
+          (previous_log : state.previous_log ≡ db.directory.previous_log) (next_is : state.numbers.next ≡ next) where
+        abbrev pub installed_db : Held K g
+        installed_db = record db { tables = tables; directory = state; job = None }
+
+        abbrev log_installed : HasLog order facts.files has.contents installed_db
+        log_installed =
+            let knows = serving.log.knows in
+            let logs = serving.log.logs in
+            record {
+              named = serving.log.named;
+              directory = record {
+                directory = e;
+                consistent = has.consistent;
+                ends = has.kept.ends db.log.number db.log.end a.ends;
+                in_tables = refl;
+                in_logs = a.in_logs;
+                spent = a.spent ∙ sym has.used;
+              };
+              logs = record { sealed = logs.sealed; current = logs.current; logs = logs.logs; number = logs.number; sealed_are = logs.sealed_are; current_are = logs.current_are };
+              knows = record {
+                first_log = has.compaction.log_number ∙ knows.first_log ∙ sym first_log;
+                forward = (let forward = knows.forward in omega (arith, forward, first_log));
+                previous_log = has.compaction.previous_log_number ∙ knows.previous_log ∙ sym previous_log;
+                number = number ∙ knows.number;
+                named = ap string_bytes name ∙ knows.named;
+                ends = ends;
+                free = subst (λ (k : ℕ). IsFree order facts.files k) (sym next_is) free;
+              };
+            }
+
+        pub serving_installed : IsServing order new installed_db ended_by
+        serving_installed = record {
+          whole = serving.whole;
+          certain = serving.certain;
+          contents = has.contents;
+          log = log_installed;
+          tables = record { version = listed; in_order = in_order; sound = sound_on; drawn = λ n is. let known = serving.tables.drawn n is in (known.0, (let less = known.1 in omega (arith, less, next_is))) };
+          entries = record {
+            used = serving.entries.used;
+            fits = serving.entries.fits;
+            view = subst (λ (es : List Entry). IsView es db.memory.last (machine.current m)) (sym logged_now) current_view;
+            bounded = λ entry i. serving.entries.bounded entry (fewer_held entry (subst (λ (es : List Entry). Among es entry) logged_now i));
+          };
+          snapshots = subst (λ (es : List Entry). AreSnapshots es db.memory.last m db.snapshots) (sym logged_now) snapshots_on;
+          iterators = walks_each order kept (whole_of old db) (whole_of new installed_db) db.iterators m keeps_each (omega arith) serving.iterators;
+          accounted = subst (λ (es : List Entry). AreAccounted es (entry_count m) (weight m)) (sym logged_now) accounted_on;
+          readable = readable_as e has.consistent has.limits free;
+          numbers = (let below : next ≤ m.numbers = serving.numbers in omega (arith, next_is, below));
+          job = tt;
+        }
+
+      -- where it is in doubt, too
+      pub broken_installed : IsFree order facts.files next → IsBroken order facts.files (record ended_by { broken = true })
+      broken_installed free =
+          let readable = readable_as e has.consistent has.limits free in
+          record {
+            broken = refl;
+            rest = record {
+              meaning = rests_seen order old db m serving facts.files e has.consistent current_view accounted_on (has.used ∙ sym a.spent);
+              readable = record { made = readable.made; numbers = readable.numbers; limits = readable.limits };
+            };
+          }
+
+    -- ---- they aren't, and nothing was lost
+
+    passes_still : KeepsParts old.facts.files facts.files d d → PassesNoLimit order old.facts.files d → PassesNoLimit order facts.files d
+    passes_still parts none past = none (elim past [
+      | inl numbers ↦ inl numbers
+      | inr long ↦ inr (long_back order old.facts.files facts.files d.tables parts.beside.tables long)
+    ])
+
+    module _ (has : IsUninstalled order old.facts.files facts.files next db.directory.manifest db.tables d) where
+      abbrev pub uninstalled_db : Held K g
+      uninstalled_db = record db { job = None }
+
+      abbrev log_uninstalled : HasLog order facts.files serving.contents uninstalled_db
+      log_uninstalled =
+          let knows = serving.log.knows in
+          let logs = serving.log.logs in
+          record {
+            named = serving.log.named;
+            directory = record { directory = d; consistent = has.served.consistent; ends = has.kept.ends db.log.number db.log.end a.ends; in_tables = a.in_tables; in_logs = a.in_logs; spent = a.spent };
+            logs = record { sealed = logs.sealed; current = logs.current; logs = logs.logs; number = logs.number; sealed_are = logs.sealed_are; current_are = logs.current_are };
+            knows = record {
+              first_log = knows.first_log;
+              forward = knows.forward;
+              previous_log = knows.previous_log;
+              number = knows.number;
+              named = knows.named;
+              ends = has.served.ends;
+              free = has.served.free;
+            };
+          }
+
+      pub serving_uninstalled : IsServing order new uninstalled_db ended_by
+      serving_uninstalled = record {
+        whole = serving.whole;
+        certain = serving.certain;
+        contents = serving.contents;
+        log = log_uninstalled;
+        tables = record { version = serving.tables.version; in_order = serving.tables.in_order; sound = sound_on; drawn = serving.tables.drawn };
+        entries = record { used = serving.entries.used; fits = serving.entries.fits; view = serving.entries.view; bounded = serving.entries.bounded };
+        snapshots = serving.snapshots;
+        iterators = walks_each order kept (whole_of old db) (whole_of new uninstalled_db) db.iterators m keeps_each (omega arith) serving.iterators;
+        accounted = serving.accounted;
+        readable = readable_as d has.served.consistent (passes_still has.kept) has.served.free;
+        numbers = (let below : next ≤ m.numbers = serving.numbers in omega (arith, below));
+        job = tt;
+      }
+
+    -- ---- they are or aren't
+
+    pub broken_install : MayBeInstalled order (deep_of order.cmp work) work.job.plan.output_level work.job.selection.snapshots old.facts.files facts.files next c.came d ended_job.inputs ended_job.rest
+        → IsBroken order facts.files (record ended_by { broken = true })
+    broken_install may = elim may.either [
+      | inl still ↦
+          let readable = readable_as d still.0 (passes_still still.1) may.free in
+          record {
+            broken = refl;
+            rest = record {
+              meaning = rests_seen order old db m serving facts.files d still.0 (subst (λ (es : List Entry). IsView es db.memory.last (machine.current m)) entries_are serving.entries.view)
+                  (subst (λ (es : List Entry). AreAccounted es (entry_count m) (weight m)) entries_are serving.accounted) (sym a.spent);
+              readable = record { made = readable.made; numbers = readable.numbers; limits = readable.limits };
+            };
+          }
+      | inr done ↦ broken_installed done may.free
+    ]

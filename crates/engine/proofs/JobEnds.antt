@@ -1,0 +1,396 @@
+-- How a call that goes on with a compaction ends.
+use Rattle.std.proofs.Common.{◌≡◌, ◌⊎◌, ◌<◌, ◌≤◌, ◌+◌, ◌^◌, ◌++◌, ℕ, Bool, true, false, List, [], map, Option, Some, None, MatchOption, max, Result, Ok, Err, IsTrue, inl, inr, refl, sym, ap, subst, ◌∙◌, arith, string_bytes}
+use Rattle.std.proofs.lemmas.List.{append-nil, length-append, length-map}
+use Rattle.std.proofs.lemmas.List.Sorted.{Contains-permutation}
+use Rattle.std.specs.Cmp.{IsTotalOrder}
+use Rattle.cache.specs.Tables.{table_at}
+use Rattle.coding.specs.declared.error.DbError.{DbError}
+use Rattle.coding.specs.declared.error.DbError.TheVariants as error
+use Rattle.compact.specs.Outputs.{IsOwn, RefusesEntry}
+use Rattle.compact.specs.Rooms.{AreLarge}
+use Rattle.compact.specs.declared.job.Progress.{Progress}
+use Rattle.compact.specs.declared.numbers.FileNumbers.{FileNumbers}
+use Rattle.edits.specs.declared.field.PlacedTable.{PlacedTable}
+use Rattle.ikey.proofs.SearchedSources.{among_front}
+use Rattle.ikey.specs.Entries.{InternalEntry, entry_of}
+use Rattle.ikey.specs.Orders.{Order}
+use Rattle.ikey.specs.Views.{Among}
+use Rattle.ikey.specs.declared.entry.Entry.{Entry}
+use Rattle.jobs.specs.Ending.{CanEnd, EndLeaves, RefusesEnd}
+use Rattle.jobs.specs.Running.{deep_of, shown}
+use Rattle.jobs.specs.Stepping.{GoesOn, KeepsDirectory, RefusesStep, StepTouches}
+use Rattle.jobs.specs.declared.open_job.OpenJob.{OpenJob}
+use Rattle.memories.specs.Memories.{Memories, logged_in}
+use Rattle.memories.specs.PlaceLaws.{left_logged}
+use Rattle.memories.specs.Places.{LeavesMemories}
+use Rattle.recover.proofs.Memberships.{among_chosen, from_chosen, one_of_tables}
+use Rattle.recover.specs.Directory.{Directory}
+use Rattle.recover.specs.Laws.{OneDirectoryLaw}
+use Rattle.recover.specs.Tables.{HasTable, InTables, IsTableFile, TableContent, tabled}
+use Rattle.scans.specs.Scanning.{ScanIsKept}
+use Rattle.scans.specs.Scans.{IsOnePastLimit}
+use Rattle.scans.specs.Whole.{Whole}
+use Rattle.scans.specs.declared.scan.Scan.{Scan}
+use Rattle.sources.specs.Tables.{Seen, SoundLasts}
+use Rattle.sources.specs.Values.{IsPastLimit}
+use Rattle.store.specs.Files.{Facts}
+use Rattle.upkeep.proofs.JobTables.{contains_among, content_at}
+use Rattle.upkeep.specs.Compactions.{placed_in}
+use Rattle.upkeep.specs.Install.{InstallMeans, InstallTouches}
+use Rattle.upkeep.specs.declared.flush.FlushError.{FlushError}
+use Rattle.upkeep.specs.declared.flush.FlushError.TheVariants.{Before, Edit}
+use Rattle.upkeep.specs.declared.install.Installed.{Installed}
+use Rattle.upkeep.specs.declared.manifest.CurrentManifest.{CurrentManifest}
+use Rattle.versions.specs.Levels.{AreInOrder}
+use Rattle.engine.specs.declared.ids.Ids.{Ids}
+use Rattle.engine.specs.declared.state.DbState.{DbState}
+use Rattle.engine.specs.Compacting.{IsCompacting}
+use Rattle.engine.specs.Follows.{LeadsOpen}
+use Rattle.engine.specs.Held.{Held, entries_of, held, whole_of}
+use Rattle.engine.specs.Machine.{Machine, entry_count, weight}
+use Rattle.engine.specs.Stands.{IsBroken, IsServing}
+use Rattle.engine.specs.Upkeep.{UpkeepRefused}
+use Rattle.engine.specs.Outcomes.{DbOutcome, IsSame}
+use Rattle.engine.specs.Finishing.{HasCome}
+use Rattle.engine.specs.Working.{IsPiece, MayRefusePiece, broken_by, flush_answer}
+use Rattle.engine.proofs.Installing.{broken_install, can_end, serving_installed, serving_uninstalled}
+use Rattle.engine.proofs.JobBounds.{count_within, merged_apart, room_apart_within}
+use Rattle.engine.proofs.Reading.{long_table}
+use Rattle.engine.proofs.Stepping.{all_came, can_step, gone_on, serving_stepped, the_job}
+use Rattle.engine.proofs.Steps.{serving_of}
+use Rattle.engine.proofs.WorkSteps.{breaks, drawing, draws, serves_on}
+
+abbrev SameRefusal : {U : Type 0} → Result U DbError → Result U DbError → Type 0
+SameRefusal a b = a ≡ b
+
+refusal_in : {U : Type 0} {e x : DbError} → SameRefusal {U = U} (Err e) (Err x) → e ≡ x
+refusal_in is = cc
+
+-- ---- what a compaction meets
+
+-- a table of the directory that passes a limit is one of the first directory's
+pub limited_in : {K : Type 0} {g : _} (order : Order) (old : Seen) (db : Held K g) (m : Machine) (serving : IsServing order old db m) (content : TableContent) → InTables serving.log.directory.directory.tables content
+    → (placed : PlacedTable) → content.placed ≡ placed → (file : List ℕ) → table_at old.facts.files placed.table.number ≡ Some file → IsPastLimit order.cmp file → m.over_limit ≡ true
+limited_in order old db m serving content i placed is file there past = at m.over_limit refl
+  where
+    none : m.over_limit ≡ false → ⊥
+    none within =
+        let d = serving.log.directory.directory in
+        let has : HasTable order old.facts.files content = one_of_tables order old.facts.files d.tables content serving.log.directory.consistent.tables i in
+        let here : table_at old.facts.files content.placed.table.number ≡ Some file = ap (λ (p : PlacedTable). table_at old.facts.files p.table.number) is ∙ there in
+        let both : Some has.bytes ≡ Some file = sym has.there ∙ here in
+        let same : has.bytes ≡ file = cc in
+        serving.readable.limits within d serving.log.directory.consistent (inr (content, i, (file, here, long_table order file content.entries (subst (λ (bytes : List ℕ). IsTableFile order bytes content.entries) same has.spelled) past)))
+
+    at : (b : Bool) → m.over_limit ≡ b → m.over_limit ≡ true
+    at true known = known
+    at false known = absurd (none known)
+
+module _ {K : Type 0} {g : _} (order : Order) (total : IsTotalOrder order.cmp) (old : Seen) (db : Held K g) (m : Machine) (serving : IsServing order old db m) (work : OpenJob K g)
+    (c : IsCompacting order (whole_of old db) db.directory.numbers.next db.snapshots db.iterators serving.log.directory.directory work) where
+  abbrev d : Directory
+  d = serving.log.directory.directory
+
+  -- what it compacts was there
+  merged_within : (entry : Entry) → Among (map entry_of (c.came ++ c.left)) entry → Among (entries_of serving.contents db) entry
+  merged_within entry i =
+      let in_inputs = (c.running.entries entry).0 i in
+      let in_tables = among_chosen d.tables c.running.inputs c.running.rest entry c.running.planned.parted in_inputs in
+      among_front (tabled serving.contents) (logged_in db.memory) entry (subst (λ (cs : List TableContent). Among (tabled cs) entry) (sym serving.log.directory.in_tables) in_tables)
+
+  -- what is too large for a block is as heavy
+  pub job_heavy : AreLarge (map entry_of (c.came ++ c.left)) → 2 ^ 29 ≤ weight m
+  job_heavy large =
+      let apart = merged_apart order total (whole_of old db) work c.came c.left c.running.stands c.running.own_sequences in
+      let within = room_apart_within (entry_count m) (weight m) (map entry_of (c.came ++ c.left)) (entries_of serving.contents db) apart merged_within serving.accounted in
+      omega (arith, large, within)
+
+  -- no more came than there are
+  pub job_counted : work.merged ≤ entry_count m
+  job_counted =
+      let apart = merged_apart order total (whole_of old db) work c.came c.left c.running.stands c.running.own_sequences in
+      let within = count_within (entry_count m) (weight m) (map entry_of (c.came ++ c.left)) (entries_of serving.contents db) apart merged_within serving.accounted in
+      let counted = c.running.counted in
+      omega (arith, counted, within, length-map (c.came ++ c.left) entry_of, length-append c.came c.left)
+
+  -- an input that passes a limit is one of the first directory's
+  pub job_limited : IsOnePastLimit order.cmp work.job.plan.inputs.items (whole_of old db) → m.over_limit ≡ true
+  job_limited past =
+      let placed = past.0 in
+      let content = content_at c.running.inputs placed (contains_among (placed_in c.running.inputs) placed (Contains-permutation work.job.plan.inputs.items (placed_in c.running.inputs) placed c.running.planned.planned past.1)) in
+      limited_in order old db m serving content.0 (from_chosen d.tables c.running.inputs c.running.rest content.0 c.running.planned.parted content.1) placed content.2 past.2 past.3 past.4
+
+-- ---- over any store
+
+may_refuse : (e : DbError) (old new : Facts) (A B C : Type 0) → RefusesEntry e old new A B C → MayRefusePiece e
+may_refuse error.OutOfMemory old new A B C h = tt
+may_refuse error.Io old new A B C h = tt
+may_refuse (error.Corrupt file what) old new A B C h = tt
+may_refuse (error.Unsupported what) old new A B C h = tt
+may_refuse error.NumbersSpent old new A B C h = tt
+may_refuse _ old new A B C h = absurd h
+
+-- a refused step leaves all that is answered from
+pub stopped_outcome : {K T : Type 0} {g : _} (A B C : Type 0) (old new : Facts) (state : DbState K g) (memory after_memory : Memories) (numbers : FileNumbers) (job : Option (OpenJob K g)) (e : DbError) → RefusesEntry e old new A B C
+    → old.failures ≤ new.failures → new.denials ≡ old.denials → LeavesMemories memory after_memory
+    → DbOutcome {T = T} MayRefusePiece old new (held memory state) (held after_memory (record state { directory = record state.directory { numbers = numbers }; job = job })) (Err e)
+stopped_outcome {T = T} A B C old new state memory after_memory numbers job e refused failures denials left = record {
+  failures = failures;
+  denials = denials;
+  io = λ is. subst (λ (x : DbError). RefusesEntry x old new A B C) (is_inner is) refused;
+  memory = λ is. subst (λ (x : DbError). RefusesEntry x old new A B C) (is_inner is) refused;
+  allowed = may_refuse e old new A B C refused;
+  refused = (record { entries = left_logged memory after_memory left; sequence = left.last; tables = refl; log = refl; snapshots = λ q. refl; iterators = λ q. refl }, inl refl);
+}
+  where
+    is_inner : {x : DbError} → SameRefusal {U = T} (Err e) (Err x) → e ≡ x
+    is_inner is = cc
+
+-- so does a refused end, but that the database is broken where the store failed
+pub unended_outcome : {K T : Type 0} {g : _} (order : Order) (old mid new : Facts) (state : DbState K g) (memory after_memory : Memories) (numbers : FileNumbers) (job : Option (OpenJob K g)) (next sequence : ℕ) (manifest : CurrentManifest) (tables : List PlacedTable) (work : OpenJob K g) (e : FlushError)
+    → RefusesEnd order mid new next sequence manifest tables work e → old.failures ≡ mid.failures → mid.failures ≤ new.failures → new.denials ≡ old.denials → LeavesMemories memory after_memory
+    → DbOutcome {T = T} MayRefusePiece old new (held memory state) (held after_memory (broken_by (record state { directory = record state.directory { numbers = numbers }; job = job }) (flush_answer e))) (Err (flush_answer e))
+unended_outcome {K} {T} {g} order old mid new state memory after_memory numbers job next sequence manifest tables work e refused stood rise undenied left = at e refused
+  where
+    same : IsSame (held memory state) (held after_memory (record state { directory = record state.directory { numbers = numbers }; job = job }))
+    same = record { entries = left_logged memory after_memory left; sequence = left.last; tables = refl; log = refl; snapshots = λ q. refl; iterators = λ q. refl }
+
+    failed : mid.failures < new.failures → DbOutcome {T = T} MayRefusePiece old new (held memory state) (held after_memory (record state { directory = record state.directory { numbers = numbers }; job = job; broken = true })) (Err error.Io)
+    failed rose = record {
+      failures = omega (arith, stood, rose);
+      denials = undenied;
+      io = λ is. omega (arith, stood, rose);
+      memory = λ is. absurd (let bad : error.Io ≡ error.OutOfMemory = refusal_in is in cc);
+      allowed = tt;
+      refused = (record { entries = same.entries; sequence = same.sequence; tables = same.tables; log = same.log; snapshots = same.snapshots; iterators = same.iterators }, inr (refl, omega (arith, stood, rose)));
+    }
+
+    kept : (x : DbError) (A B C : Type 0) → RefusesEntry x mid new A B C → DbOutcome {T = T} MayRefusePiece old new (held memory state) (held after_memory (record state { directory = record state.directory { numbers = numbers }; job = job })) (Err x)
+    kept x A B C h = record {
+      failures = omega (arith, stood, rise);
+      denials = undenied;
+      io = λ is. (let less : mid.failures < new.failures = subst (λ (y : DbError). RefusesEntry y mid new A B C) (refusal_in is) h in omega (arith, stood, less));
+      memory = λ is. (let still : new.failures ≡ mid.failures = subst (λ (y : DbError). RefusesEntry y mid new A B C) (refusal_in is) h in omega (arith, stood, still));
+      allowed = may_refuse x mid new A B C h;
+      refused = (same, inl refl);
+    }
+
+    at : (f : FlushError) → RefusesEnd order mid new next sequence manifest tables work f
+        → DbOutcome {T = T} MayRefusePiece old new (held memory state) (held after_memory (broken_by (record state { directory = record state.directory { numbers = numbers }; job = job }) (flush_answer f))) (Err (flush_answer f))
+    at (Before error.OutOfMemory) h = kept error.OutOfMemory ⊥ ⊥ ⊥ h
+    at (Before error.Io) h = failed h
+    at (Before (error.Corrupt file what)) h = kept (error.Corrupt file what) _ ⊥ ⊥ h
+    at (Before (error.Unsupported what)) h = kept (error.Unsupported what) ⊥ _ ⊥ h
+    at (Before error.NumbersSpent) h = kept error.NumbersSpent ⊥ ⊥ _ h
+    at (Before _) h = absurd h
+    at Edit h = failed h
+
+-- where the memory tables are left, and the log and the tables, all that is answered from is the same
+pub same_left : {K : Type 0} {g : _} (state : DbState K g) (memory after_memory : Memories) (job : Option (OpenJob K g)) → LeavesMemories memory after_memory → IsSame (held memory state) (held after_memory (record state { job = job }))
+same_left state memory after_memory job left = record { entries = left_logged memory after_memory left; sequence = left.last; tables = refl; log = refl; snapshots = λ q. refl; iterators = λ q. refl }
+
+pub same_on : {K : Type 0} {g : _} (before between after : Held K g) → IsSame before between → IsSame between after → IsSame before after
+same_on before between after first next = record {
+  entries = next.entries ∙ first.entries;
+  sequence = next.sequence ∙ first.sequence;
+  tables = next.tables ∙ first.tables;
+  log = next.log ∙ first.log;
+  snapshots = λ q. next.snapshots q ∙ first.snapshots q;
+  iterators = λ q. next.iterators q ∙ first.iterators q;
+}
+
+-- a refusal behind a call that has left all that is answered from
+pub outcome_behind : {K T U : Type 0} {g : _} (old mid new : Facts) (before between after : Held K g) (e : DbError) → old.failures ≡ mid.failures → mid.denials ≡ old.denials → IsSame before between → between.broken ≡ before.broken
+    → DbOutcome {T = T} MayRefusePiece mid new between after (Err e) → DbOutcome {T = U} MayRefusePiece old new before after (Err e)
+outcome_behind {T = T} {U = U} old mid new before between after e stood undenied same whole h = record {
+  failures = (let rise = h.failures in omega (arith, rise, stood));
+  denials = h.denials ∙ undenied;
+  io = λ is. (let rise = h.io (as_other is) in omega (arith, rise, stood));
+  memory = λ is. h.memory (as_other is) ∙ sym stood;
+  allowed = h.allowed;
+  refused = (same_on before between after same h.refused.0, elim h.refused.1 [ inl still ↦ inl (still ∙ whole) | inr broken ↦ inr (broken.0, (let less = broken.1 in omega (arith, less, stood))) ]);
+}
+  where
+    as_other : {x : DbError} → SameRefusal {U = U} (Err e) (Err x) → SameRefusal {U = T} (Err e) (Err x)
+    as_other is = (let inner = refusal_in is in ap (λ (r : DbError). Err r) inner)
+
+-- ---- a step
+
+module _ {K : Type 0} {g : _} (order : Order) (total : IsTotalOrder order.cmp) (kept : (scan : Scan K g) → ScanIsKept order.cmp scan) (one : OneDirectoryLaw) (lasts : SoundLasts)
+    (old new : Seen) (ids : Ids) (state : DbState K g) (memory after_memory : Memories) (numbers : FileNumbers) (most : ℕ) (before after : OpenJob K g) (is : state.job ≡ Some before) (whole : state.broken ≡ false)
+    (le : state.directory.numbers.next ≤ numbers.next) (upto : numbers.next ≤ state.directory.numbers.next + most)
+    (touches : StepTouches (record { seen = old; memory = memory }) (record { seen = new; memory = after_memory }) state.directory.numbers.next numbers.next before after)
+    (keeps : KeepsDirectory order (record { seen = old; memory = memory }) (record { seen = new; memory = after_memory }) state.directory.numbers.next numbers.next before) where
+  abbrev db : Held K g
+  db = held memory state
+
+  abbrev next : ℕ
+  next = state.directory.numbers.next
+
+  abbrev pub with_job : Option (OpenJob K g) → DbState K g
+  with_job job = record state { directory = record state.directory { numbers = numbers }; job = job }
+
+  refused : (m : Machine) (e : DbError) → IsServing order old db m → IsTrue new.facts.faithful → m.failures ≡ old.facts.failures
+      → RefusesStep order (record { seen = old; memory = memory }) (record { seen = new; memory = after_memory }) next numbers.next before e → UpkeepRefused m most e (drawing m most new.facts)
+  refused m error.OutOfMemory serving f same h = draws m most new.facts
+  refused m error.Io serving f same h = (omega (arith, h, same), (omega arith, omega arith), refl)
+  refused m (error.Corrupt file what) serving f same h =
+      let c = the_job order kept one old new db after_memory numbers most before after is le upto touches keeps m serving in
+      absurd (h f serving.log.directory.directory c.came c.left (can_step order kept one old new db after_memory numbers most before after is le upto touches keeps m serving))
+  refused m (error.Unsupported what) serving f same h =
+      let c = the_job order kept one old new db after_memory numbers most before after is le upto touches keeps m serving in (
+        elim (h f serving.log.directory.directory c.came c.left (can_step order kept one old new db after_memory numbers most before after is le upto touches keeps m serving)) [
+          | inl past ↦ inl (job_limited order total old db m serving before c past)
+          | inr large ↦ inr (job_heavy order total old db m serving before c large)
+        ],
+        draws m most new.facts,
+      )
+  refused m error.NumbersSpent serving f same h = ((let below : next ≤ m.numbers = serving.numbers in omega (arith, h, below, upto)), draws m most new.facts)
+  refused m _ serving f same h = absurd h
+
+  -- it was refused, and the job is given up
+  pub ends_stopped : {T : Type 0} (e : DbError) → RefusesStep order (record { seen = old; memory = memory }) (record { seen = new; memory = after_memory }) next numbers.next before e
+      → LeadsOpen order old new ids db (held after_memory (with_job None)) (λ m n. IsPiece {T = T} m most (Err e) n)
+  ends_stopped e h =
+      serves_on order old new ids db (held after_memory (with_job None)) most (Err e) whole whole touches.writes.faithful touches.writes.failures touches.writes.denials
+      (λ m f same serving. (refused m e serving f same h, serving_stepped order kept one old new db after_memory numbers most before after is le upto touches keeps m serving f None tt))
+
+  module _ (budget : ℕ) (progress : Progress) (goes : GoesOn order (record { seen = old; memory = memory }) (record { seen = new; memory = after_memory }) next numbers.next budget before after progress)
+      (snapshots : after.job.selection.snapshots ≡ before.job.selection.snapshots) (owns : (number : ℕ) → IsOwn after.job.outputs number → IsOwn before.job.outputs number ⊎ (next ≤ number)) where
+    abbrev pub serving_on : (m : Machine) → IsServing order old db m → IsTrue new.facts.faithful → IsServing order new (held after_memory (with_job (Some after))) (drawing m most new.facts)
+    serving_on m serving f =
+        serving_stepped order kept one old new db after_memory numbers most before after is le upto touches keeps m serving f (Some after)
+        (gone_on order kept one old new db after_memory numbers most before after is le upto touches keeps m serving f budget progress goes snapshots owns)
+
+    -- it goes on
+    pub ends_gone_on : {T : Type 0} (done : T) → LeadsOpen order old new ids db (held after_memory (with_job (Some after))) (λ m n. IsPiece m most (Ok done) n)
+    ends_gone_on done =
+        serves_on order old new ids db (held after_memory (with_job (Some after))) most (Ok done) whole whole touches.writes.faithful touches.writes.failures touches.writes.denials
+        (λ m f same serving. (draws m most new.facts, serving_on m serving f))
+
+    -- ---- all came, and it is ended
+
+    module _ (facts : Facts) (ended : progress.ended ≡ true) (sequence : ℕ) (sequence_is : sequence ≡ after_memory.last) (tables : List PlacedTable) (tables_are : tables ≡ state.version.value.tables) (result : Result (Installed K) FlushError)
+        (install : InstallTouches new.facts facts after.job.outputs (string_bytes state.directory.manifest.name)) (leaves : EndLeaves order new.facts facts numbers.next sequence state.directory.manifest tables after result) where
+      abbrev last_seen : Seen
+      last_seen = record new { facts = facts }
+
+      abbrev mid : Held K g
+      mid = held after_memory (with_job (Some after))
+
+      module _ (m : Machine) (serving : IsServing order old db m) (f : IsTrue facts.faithful) where
+        abbrev on : IsServing order new mid (drawing m most new.facts)
+        on = serving_on m serving (install.faithful f)
+
+        abbrev c : IsCompacting order (whole_of new mid) numbers.next state.snapshots state.iterators on.log.directory.directory after
+        c = gone_on order kept one old new db after_memory numbers most before after is le upto touches keeps m serving (install.faithful f) budget progress goes snapshots owns
+
+        abbrev none_left : c.left ≡ []
+        none_left = all_came order kept one old new db after_memory numbers most before after is le upto touches keeps m serving (install.faithful f) budget progress goes snapshots owns ended
+
+        abbrev Means : Result (Installed K) FlushError → Type 0
+        Means r =
+            let can = can_end order kept one lasts new facts mid (drawing m most new.facts) on after c none_left in
+            InstallMeans order (deep_of order.cmp after) after.job new.facts.files facts.files numbers.next state.directory.manifest state.version.value.tables c.came on.log.directory.directory can.running.inputs can.running.rest r
+
+        pub means : Means result
+        means =
+            let can = can_end order kept one lasts new facts mid (drawing m most new.facts) on after c none_left in
+            let said = subst (λ (n : ℕ). EndLeaves order new.facts facts numbers.next n state.directory.manifest state.version.value.tables after result) sequence_is
+            (subst (λ (ts : List PlacedTable). EndLeaves order new.facts facts numbers.next sequence state.directory.manifest ts after result) tables_are leaves) in
+            said f (whole_of new mid) on.log.directory.directory c.came refl can
+
+        -- the machine behind both
+        pub once : (s : Seen) (a : Held K g) → IsServing order s a (drawing (drawing m most new.facts) 0 facts) → IsServing order s a (drawing m most facts)
+        once s a h = (let none : m.numbers + most + 0 ≡ m.numbers + most = omega arith in subst (λ (k : ℕ). IsServing order s a (record m { numbers = k; failures = facts.failures; denials = facts.denials })) none h)
+
+        pub once_broken : IsBroken order facts.files (record (drawing (drawing m most new.facts) 0 facts) { broken = true }) → IsBroken order facts.files (record (drawing m most facts) { broken = true })
+        once_broken h = (let none : m.numbers + most + 0 ≡ m.numbers + most = omega arith in subst (λ (k : ℕ). IsBroken order facts.files (record m { numbers = k; failures = facts.failures; denials = facts.denials; broken = true })) none h)
+
+      rise : old.facts.failures ≤ facts.failures
+      rise = (let a = touches.writes.failures in let b = install.failures in omega (arith, a, b))
+
+      undenied : facts.denials ≡ old.facts.denials
+      undenied = install.denials ∙ touches.writes.denials
+
+      faithful : IsTrue facts.faithful → IsTrue old.facts.faithful
+      faithful f = touches.writes.faithful (install.faithful f)
+
+      -- the outputs are in the place of the inputs
+      abbrev pub installed_state : Installed K → DbState K g
+      installed_state installed = record (with_job None) { version = installed.version; directory = record state.directory { numbers = numbers; manifest = record state.directory.manifest { end = installed.manifest_end } } }
+
+      pub ends_installed : {T : Type 0} (done : T) (installed : Installed K) → result ≡ Ok installed → AreInOrder order.cmp installed.version.value.tables
+          → LeadsOpen order old last_seen ids db (held after_memory (installed_state installed)) (λ m n. IsPiece m most (Ok done) n)
+      ends_installed done installed said in_order =
+          serves_on order old last_seen ids db (held after_memory (installed_state installed)) most (Ok done) whole whole faithful rise undenied
+          (λ m f same serving.
+          let has = subst (λ (r : Result (Installed K) FlushError). Means m serving f r) said (means m serving f) in (
+            draws m most facts,
+            once m serving f last_seen (held after_memory (installed_state installed))
+                (serving_installed order kept one lasts new facts mid (drawing m most new.facts) (on m serving f) after (c m serving f) (none_left m serving f) f install has.has installed.version.value.tables (installed_state installed).directory in_order has.ends has.free has.listed
+                refl refl refl refl refl),
+          ))
+
+      -- no number more is drawn than entries came
+      pub ends_counted : {T : Type 0} (budget_is : most ≤ max budget 1) (merged : after.merged ≡ shown (before.merged + progress.merged)) (few : most ≤ progress.merged) (done : T) (installed : Installed K) → result ≡ Ok installed
+          → AreInOrder order.cmp installed.version.value.tables → LeadsOpen order old last_seen ids db (held after_memory (installed_state installed)) (λ m n. HasCome budget db m (Ok done) n)
+      ends_counted budget_is merged few done installed said in_order =
+          let step = ends_installed done installed said in_order in
+          record {
+            faithful = step.faithful;
+            moved = λ f m s.
+                let one = step.moved f m s in
+                let serving = serving_of order old ids db m whole s in
+                let counted : after.merged ≤ entry_count m = job_counted order total new mid (drawing m most new.facts) (on m serving f) after (c m serving f) in
+                let within : shown (before.merged + most) ≤ entry_count m = omega (arith, counted, merged, few) in
+                (one.0, record { came = most; most = budget_is; piece = one.1; within = subst (λ (o : Option (OpenJob K g)). MatchOption o (Unit {0}) (λ work. shown (work.merged + most) ≤ entry_count m)) (sym is) within }, one.2);
+          }
+
+      -- they aren't, and nothing was lost
+      uninstalled : {T : Type 0} (e : DbError) → result ≡ Err (Before e) → ((m : Machine) → IsServing order old db m → IsTrue facts.faithful → UpkeepRefused m most e (drawing m most facts))
+          → LeadsOpen order old last_seen ids db (held after_memory (with_job None)) (λ m n. IsPiece {T = T} m most (Err e) n)
+      uninstalled e said why =
+          serves_on order old last_seen ids db (held after_memory (with_job None)) most (Err e) whole whole faithful rise undenied
+          (λ m f same serving.
+          let has = subst (λ (r : Result (Installed K) FlushError). Means m serving f r) said (means m serving f) in (
+            why m serving f,
+            once m serving f last_seen (held after_memory (with_job None))
+                (serving_uninstalled order kept one lasts new facts mid (drawing m most new.facts) (on m serving f) after (c m serving f) (none_left m serving f) f install has.1),
+          ))
+
+      -- the device failed
+      failed : {T : Type 0} → new.facts.failures < facts.failures
+          → ((m : Machine) (serving : IsServing order old db m) (f : IsTrue facts.faithful) → IsBroken order facts.files (record (drawing (drawing m most new.facts) 0 facts) { broken = true }))
+          → LeadsOpen order old last_seen ids db (held after_memory (record (with_job None) { broken = true })) (λ m n. IsPiece {T = T} m most (Err error.Io) n)
+      failed rose may =
+          breaks order old last_seen ids db (held after_memory (record (with_job None) { broken = true })) most (Err error.Io) refl whole refl faithful (let a = touches.writes.failures in omega (arith, a, rose)) undenied
+          (λ m f serving. once_broken m serving f (may m serving f))
+
+      unended : {T : Type 0} (e : FlushError) → result ≡ Err e → RefusesEnd order new.facts facts numbers.next sequence state.directory.manifest tables after e
+          → LeadsOpen order old last_seen ids db (held after_memory (broken_by (with_job None) (flush_answer e))) (λ m n. IsPiece {T = T} m most (Err (flush_answer e)) n)
+      unended (Before error.OutOfMemory) said h = uninstalled error.OutOfMemory said (λ m serving f. draws m most facts)
+      unended (Before error.Io) said h = failed h (λ m serving f.
+          let has = (subst (λ (r : Result (Installed K) FlushError). Means m serving f r) said (means m serving f)).1 in
+          broken_install order kept one lasts new facts mid (drawing m most new.facts) (on m serving f) after (c m serving f) (none_left m serving f) f install (record { either = inl (has.served.consistent, has.kept); free = has.served.free }))
+      unended (Before (error.Unsupported what)) said h = uninstalled (error.Unsupported what) said (λ m serving f. (inr (heavy m serving f (h f)), draws m most facts))
+        where
+          heavy : (m : Machine) (serving : IsServing order old db m) (f : IsTrue facts.faithful)
+              → ((seen_whole : Whole) (e : Directory) (came : List InternalEntry) → seen_whole.seen.facts ≡ new.facts → CanEnd order seen_whole numbers.next sequence state.directory.manifest tables e after came → AreLarge (map entry_of came)) → 2 ^ 29 ≤ weight m
+          heavy m serving f large =
+              let can = can_end order kept one lasts new facts mid (drawing m most new.facts) (on m serving f) after (c m serving f) (none_left m serving f) in
+              let said_can = subst (λ (n : ℕ). CanEnd order (whole_of new mid) numbers.next n state.directory.manifest tables (on m serving f).log.directory.directory after (c m serving f).came) (sym sequence_is)
+              (subst (λ (ts : List PlacedTable). CanEnd order (whole_of new mid) numbers.next after_memory.last state.directory.manifest ts (on m serving f).log.directory.directory after (c m serving f).came) (sym tables_are) can) in
+              let few = large (whole_of new mid) (on m serving f).log.directory.directory (c m serving f).came refl said_can in
+              let all = sym (ap (λ (es : List InternalEntry). (c m serving f).came ++ es) (none_left m serving f) ∙ append-nil (c m serving f).came) in
+              job_heavy order total new mid (drawing m most new.facts) (on m serving f) after (c m serving f) (subst (λ (es : List InternalEntry). AreLarge (map entry_of es)) all few)
+      unended (Before (error.Corrupt file what)) said h = uninstalled (error.Corrupt file what) said (λ m serving f.
+          absurd ((subst (λ (r : Result (Installed K) FlushError). Means m serving f r) said (means m serving f)).0 tt))
+      unended (Before error.NumbersSpent) said h = uninstalled error.NumbersSpent said (λ m serving f. ((let below : next ≤ m.numbers = serving.numbers in omega (arith, h, below, upto)), draws m most facts))
+      unended (Before _) said h = absurd h
+      unended Edit said h = failed h (λ m serving f.
+          broken_install order kept one lasts new facts mid (drawing m most new.facts) (on m serving f) after (c m serving f) (none_left m serving f) f install (subst (λ (r : Result (Installed K) FlushError). Means m serving f r) said (means m serving f)))
+
+      pub ends_unended : {T : Type 0} (e : FlushError) → result ≡ Err e → RefusesEnd order new.facts facts numbers.next sequence state.directory.manifest tables after e
+          → LeadsOpen order old last_seen ids db (held after_memory (broken_by (with_job None) (flush_answer e))) (λ m n. IsPiece {T = T} m most (Err (flush_answer e)) n)
+      ends_unended e said h = unended e said h

@@ -1,0 +1,215 @@
+-- What a step of a compaction leaves of an open database.
+use Rattle.std.proofs.Common.{◌≡◌, ◌⊎◌, ◌<◌, ◌≤◌, ◌+◌, ◌++◌, ℕ, true, List, [], map, Contains, Option, Some, IsTrue, MatchOption, inl, inr, refl, sym, ap, subst, ◌∙◌, arith}
+use Rattle.std.proofs.lemmas.List.{append_assoc}
+use Rattle.compact.specs.Laws.{SeesAsOne}
+use Rattle.compact.specs.Merging.{IsSlice}
+use Rattle.compact.specs.Outputs.{IsMineUpTo, IsOwn}
+use Rattle.compact.specs.declared.job.Progress.{Progress}
+use Rattle.compact.specs.declared.numbers.FileNumbers.{FileNumbers}
+use Rattle.edits.specs.Names.{IsNumbered}
+use Rattle.ikey.specs.Entries.{InternalEntry, entry_of}
+use Rattle.ikey.specs.Orders.{Order}
+use Rattle.ikey.specs.Views.{AllUpTo}
+use Rattle.jobs.specs.Running.{IsRunning}
+use Rattle.jobs.specs.Stepping.{CanStep, GoesOn, KeepsDirectory, StepKeeps, StepTouches}
+use Rattle.jobs.specs.declared.open_job.OpenJob.{OpenJob}
+use Rattle.memories.specs.Memories.{Memories, logged_in}
+use Rattle.memories.specs.PlaceLaws.{left_kept, left_logged, left_sealed}
+use Rattle.recover.specs.Directory.{Directory}
+use Rattle.recover.specs.Laws.{OneDirectoryLaw}
+use Rattle.recover.specs.Tables.{InTables, TableContent}
+use Rattle.recover.proofs.Adding.{table_of}
+use Rattle.rows.specs.InRows.{HasNumber}
+use Rattle.scans.specs.Scanning.{ScanIsKept}
+use Rattle.scans.specs.Scans.{KeepsScan, reads_table, tables_of}
+use Rattle.scans.specs.Whole.{Whole}
+use Rattle.scans.specs.declared.scan.Scan.{Scan}
+use Rattle.sources.specs.Tables.{KeepsOf, Seen}
+use Rattle.engine.specs.Compacting.{IsCompacting}
+use Rattle.engine.specs.Directory.{CanAppend}
+use Rattle.engine.specs.Held.{Held, whole_of}
+use Rattle.engine.specs.Iterators.{IsWalk}
+use Rattle.engine.specs.Live.{kept_at}
+use Rattle.engine.specs.Machine.{Machine, Walk}
+use Rattle.engine.specs.Stands.{HasLog, IsServing}
+use Rattle.engine.proofs.Compacting.{is_input_number, listed_number, unowned}
+use Rattle.engine.proofs.Pieces.{free_up, limits_stay, made_still, walks_each}
+use Rattle.engine.proofs.Reading.{below_next, has_placed, live_of}
+use Rattle.engine.proofs.WorkSteps.{drawing}
+
+-- what is so where there is one
+pub the_one : {X : Type 0} (P : X → Type 0) (o : Option X) (x : X) → o ≡ Some x → MatchOption o (Unit {0}) P → P x
+the_one P o x is h = subst (λ (p : Option _). MatchOption p (Unit {0}) P) is h
+
+module _ {K : Type 0} {g : _} (order : Order) (kept : (scan : Scan K g) → ScanIsKept order.cmp scan) (one : OneDirectoryLaw)
+    (old new : Seen) (db : Held K g) (memory : Memories) (numbers : FileNumbers) (most : ℕ) (before after : OpenJob K g) (is : db.job ≡ Some before)
+    (le : db.directory.numbers.next ≤ numbers.next) (upto : numbers.next ≤ db.directory.numbers.next + most)
+    (touches : StepTouches (whole_of old db) (record { seen = new; memory = memory }) db.directory.numbers.next numbers.next before after)
+    (keeps : KeepsDirectory order (whole_of old db) (record { seen = new; memory = memory }) db.directory.numbers.next numbers.next before) where
+  abbrev pub next : ℕ
+  next = db.directory.numbers.next
+
+  abbrev pub stepped_whole : Whole
+  stepped_whole = record { seen = new; memory = memory }
+
+  abbrev pub stepped_db : Option (OpenJob K g) → Held K g
+  stepped_db job = record db { memory = memory; directory = record db.directory { numbers = numbers }; job = job }
+
+  module _ (m : Machine) (serving : IsServing order old db m) where
+    abbrev pub a : CanAppend order old.facts.files db.log.number db.log.end serving.contents (logged_in db.memory) db.memory.last
+    a = serving.log.directory
+
+    abbrev pub d : Directory
+    d = a.directory
+
+    pub the_job : IsCompacting order (whole_of old db) next db.snapshots db.iterators d before
+    the_job = the_one (IsCompacting order (whole_of old db) next db.snapshots db.iterators d) db.job before is serving.job
+
+    pub can_step : CanStep order (whole_of old db) next d before the_job.came the_job.left
+    can_step = record { consistent = a.consistent; sound = serving.tables.sound; free = serving.log.knows.free; running = the_job.running }
+
+    -- a table that isn't the job's has a number below those that are drawn
+    pub not_mine : (number : ℕ) → number < next → (IsOwn before.job.outputs number → ⊥) → IsMineUpTo before.job.outputs next numbers.next number → ⊥
+    not_mine number below other (inl at) = other (inl at)
+    not_mine number below other (inr drawn) = absurd (omega (arith, drawn.0, below))
+
+    pub listed_apart : (content : TableContent) → InTables d.tables content → IsMineUpTo before.job.outputs next numbers.next content.placed.table.number → ⊥
+    listed_apart content i =
+        not_mine content.placed.table.number (listed_number order old.facts.files d next content a.consistent serving.log.knows.free i).1
+        (λ own. unowned before.job.outputs d.layout.tables.items content.placed.table.number the_job.running.unused
+        (content.placed, subst (λ ps. Contains ps content.placed) a.consistent.placed (has_placed d.tables content i), refl) own)
+
+    module _ (f : IsTrue new.facts.faithful) where
+      pub kept_parts : StepKeeps order (whole_of old db) stepped_whole next numbers.next before d
+      kept_parts = keeps f d the_job.came the_job.left can_step
+
+      pub inserts : logged_in memory ≡ logged_in db.memory
+      inserts = left_logged db.memory memory touches.memory
+
+      pub last : memory.last ≡ db.memory.last
+      last = touches.memory.last
+
+      abbrev pub log_stepped : (job : Option (OpenJob K g)) → HasLog order new.facts.files serving.contents (stepped_db job)
+      log_stepped job =
+          let knows = serving.log.knows in
+          let logs = serving.log.logs in
+          let others = kept_parts.others in
+          record {
+            named = serving.log.named;
+            directory = record {
+              directory = d;
+              consistent = others.consistent;
+              ends = others.log db.log.number db.log.end a.ends;
+              in_tables = a.in_tables;
+              in_logs = inserts ∙ a.in_logs;
+              spent = last ∙ a.spent;
+            };
+            logs = record {
+              sealed = logs.sealed;
+              current = logs.current;
+              logs = logs.logs;
+              number = logs.number;
+              sealed_are = left_sealed db.memory memory touches.memory ∙ logs.sealed_are;
+              current_are = touches.memory.inserts ∙ logs.current_are;
+            };
+            knows = record {
+              first_log = knows.first_log;
+              forward = knows.forward;
+              previous_log = knows.previous_log;
+              number = knows.number;
+              named = knows.named;
+              ends = others.manifest db.directory.manifest.end d.edits d.layout knows.ends;
+              free = others.free;
+            };
+          }
+
+      -- what it keeps anew is of its inputs
+      pub drawn_stepped : (number : ℕ) → KeepsOf new number → IsNumbered number × (number < numbers.next)
+      drawn_stepped number is_kept = elim (touches.gathered number is_kept) [
+        | inl was ↦ (let known = serving.tables.drawn number was in (known.0, (let less = known.1 in omega (arith, less, le))))
+        | inr over ↦ (
+            let known = is_input_number order (whole_of old db) (whole_of old db) next next db.snapshots db.snapshots db.iterators db.iterators db.tables d d before the_job a.consistent serving.log.knows.free db.directory.numbers.in_range.1 number (the_job.running.over number over) in
+            (known.0, (let less = known.1 in omega (arith, less, le)))
+            )
+      ]
+
+      pub read_number : (id : ℕ) (scan : Scan K g) → kept_at db.iterators id ≡ Some scan → (number : ℕ) → reads_table scan number → HasNumber (tables_of scan) number × IsNumbered number × (number < next)
+      read_number id scan there number reads =
+          let walk = live_of (IsWalk order.cmp m.over_limit (whole_of old db)) db.iterators m.iterators id scan there serving.iterators in
+          let table = walk.1.tables number reads in
+          (table.0, table.1, below_next order old.facts.files next number serving.log.knows.free table.1 table.2)
+
+      pub keeps_each : (id : ℕ) (scan : Scan K g) (walk : Walk) → kept_at db.iterators id ≡ Some scan → IsWalk order.cmp m.over_limit (whole_of old db) scan walk → KeepsScan order.cmp scan (whole_of old db) stepped_whole
+      keeps_each id scan walk there known = record {
+        memory = λ cursor reads within. left_kept order.cmp cursor db.memory memory touches.memory;
+        files = λ number reads.
+            let table = read_number id scan there number reads in
+            kept_parts.others.tables number table.1 (not_mine number table.2 (the_job.unread id scan there number table.0));
+        sound = λ h. kept_parts.sound;
+      }
+
+      -- whatever becomes of the job
+      abbrev pub serving_stepped : (job : Option (OpenJob K g)) → MatchOption job (Unit {0}) (IsCompacting order stepped_whole numbers.next db.snapshots db.iterators d) → IsServing order new (stepped_db job) (drawing m most new.facts)
+      serving_stepped job job_is = record {
+        whole = serving.whole;
+        certain = serving.certain;
+        contents = serving.contents;
+        log = log_stepped job;
+        tables = record { version = serving.tables.version; in_order = serving.tables.in_order; sound = kept_parts.sound; drawn = drawn_stepped };
+        entries = record {
+          used = serving.entries.used ∙ sym last;
+          fits = (let fits = serving.entries.fits in omega (arith, fits, last));
+          view = rw (inserts, last) serving.entries.view;
+          bounded = rw (inserts, last) serving.entries.bounded;
+        };
+        snapshots = rw (inserts, last) serving.snapshots;
+        iterators = walks_each order kept (whole_of old db) stepped_whole db.iterators m keeps_each (omega (arith, last)) serving.iterators;
+        accounted = rw (inserts) serving.accounted;
+        readable = record {
+          made = made_still order old.facts.files new.facts.files d d m a.consistent kept_parts.others.consistent serving.readable.made;
+          numbers = (let below : next ≤ m.numbers = serving.numbers in free_up order new.facts.files numbers.next (m.numbers + most) (omega (arith, below, upto)) kept_parts.others.free);
+          limits = λ within. limits_stay order old.facts.files new.facts.files d one a.consistent kept_parts.others.consistent
+              (λ content i. kept_parts.others.tables content.placed.table.number (table_of order old.facts.files d.tables content a.consistent.tables i) (listed_apart content i)) (serving.readable.limits within);
+        };
+        numbers = (let below : next ≤ m.numbers = serving.numbers in omega (arith, below, upto));
+        job = job_is;
+      }
+
+      -- ---- the job goes on
+
+      module _ (budget : ℕ) (progress : Progress) (goes : GoesOn order (whole_of old db) stepped_whole next numbers.next budget before after progress) (snapshots : after.job.selection.snapshots ≡ before.job.selection.snapshots)
+          (owns : (number : ℕ) → IsOwn after.job.outputs number → IsOwn before.job.outputs number ⊎ (next ≤ number)) where
+        abbrev gone : (front : List InternalEntry) × (back : List InternalEntry) × (the_job.left ≡ front ++ back) × IsSlice budget progress front back × IsRunning order stepped_whole numbers.next d after (the_job.came ++ front) back
+        gone = goes f d the_job.came the_job.left can_step
+
+        -- what it compacts is the same
+        pub all_same : (the_job.came ++ gone.0) ++ gone.1 ≡ the_job.came ++ the_job.left
+        all_same = append_assoc the_job.came gone.0 gone.1 ∙ ap (λ (es : List InternalEntry). the_job.came ++ es) (sym gone.2)
+
+        pub still_unread : (id : ℕ) (scan : Scan K g) → kept_at db.iterators id ≡ Some scan → (number : ℕ) → HasNumber (tables_of scan) number → IsOwn after.job.outputs number → ⊥
+        still_unread id scan there number has own = elim (owns number own) [
+          | inl was ↦ the_job.unread id scan there number has was
+          | inr drawn ↦ absurd (let below = (read_number id scan there number (inl has)).2 in omega (arith, drawn, below))
+        ]
+
+        abbrev pub gone_on : IsCompacting order stepped_whole numbers.next db.snapshots db.iterators d after
+        gone_on =
+            let c = the_job in
+            record {
+              came = c.came ++ gone.0;
+              left = gone.1;
+              running = gone.4;
+              reach = c.reach;
+              begun = record {
+                kept = subst (λ (s : List ℕ). Contains s c.reach) (sym snapshots) c.begun.kept;
+                used = (let used = c.begun.used in omega (arith, used, last));
+                above = subst (λ (es : List InternalEntry). AllUpTo c.reach (map entry_of es)) (sym all_same) c.begun.above;
+              };
+              seen = λ id sequence there. subst (λ (es : List InternalEntry). SeesAsOne (map entry_of es) after.job.selection.snapshots sequence) (sym all_same)
+                  (subst (λ (s : List ℕ). SeesAsOne (map entry_of (c.came ++ c.left)) s sequence) (sym snapshots) (c.seen id sequence there));
+              unread = still_unread;
+            }
+
+        -- where it has ended, all came
+        pub all_came : progress.ended ≡ true → gone_on.left ≡ []
+        all_came ended = gone.3.ended ended

@@ -1,0 +1,48 @@
+use Rattle.ikey.specs.Orders.{order_of}
+use Rattle.std.proofs.Common.{◌∙◌, Option, Result, Ok, ap, subst}
+use Rattle.std.specs.Option.{option_map}
+use Rattle.coding.specs.declared.error.DbError.{DbError}
+use Rattle.engine.specs.declared.state.DbState.{DbState}
+use Rattle.engine.specs.Follows.{LeadsOpen, unit_answer}
+use Rattle.engine.specs.Held.{held, seen_of}
+use Rattle.engine.specs.Stands.{StandsOver}
+use Rattle.engine.specs.Upkeep.{CompactsAll}
+use Rattle.engine.proofs.Emptied.{all_closed}
+use Rattle.engine.proofs.Steps.{stays}
+use Rattle.engine.proofs.WriteSteps.{lifts}
+use Rattle.engine.proofs.session.Session.compact_all.Goals as goal
+
+pub returns-in-None-clause-step : goal.returns-in-None-clause-step
+returns-in-None-clause-step g c =
+    let order = order_of g.K.KeyOrder.name g.K.KeyOrder.cmp in
+    let facts = g.S.Store.facts in
+    let old = seen_of facts c.args.self.now.source in
+    let memory = c.args.self.now.source.memory in
+    let ids = c.args.self.now.ids in
+    stays order facts c.args.self.now _ (λ m s. all_closed order old.facts ids m (subst (λ (state : Option (DbState _ _)). StandsOver order old ids (option_map (held memory) state) m) c.in-None.is s))
+
+pub returns-in-Ok-clause-step : goal.returns-in-Ok-clause-step
+returns-in-Ok-clause-step g c =
+    let order = order_of g.K.KeyOrder.name g.K.KeyOrder.cmp in
+    let facts = g.S.Store.facts in
+    let old = seen_of facts c.args.self.now.source in
+    let memory = c.args.self.now.source.memory in
+    let ids = c.args.self.now.ids in
+    let new = seen_of facts c.compact_all.new.source in
+    let before = held memory c.in-Some.state in
+    let after = held c.compact_all.new.source.memory c.compact_all.new.self in
+    lifts order old new ids ids (option_map (held memory) c.args.self.now.state) before after _ (ap (option_map (held memory)) c.in-Some.is)
+    (subst (λ (r : Result _ DbError). LeadsOpen order old new ids before after (λ m n. CompactsAll m (unit_answer r) n)) c.in-Ok.is (c.compact_all.ensures.step ids))
+
+pub returns-in-Err-clause-step : goal.returns-in-Err-clause-step
+returns-in-Err-clause-step g c =
+    let order = order_of g.K.KeyOrder.name g.K.KeyOrder.cmp in
+    let facts = g.S.Store.facts in
+    let old = seen_of facts c.args.self.now.source in
+    let memory = c.args.self.now.source.memory in
+    let ids = c.args.self.now.ids in
+    let new = seen_of facts c.compact_all.new.source in
+    let before = held memory c.in-Some.state in
+    let after = held c.compact_all.new.source.memory c.compact_all.new.self in
+    lifts order old new ids ids (option_map (held memory) c.args.self.now.state) before after _ (ap (option_map (held memory)) c.in-Some.is)
+    (subst (λ (r : Result _ DbError). LeadsOpen order old new ids before after (λ m n. CompactsAll m (unit_answer r) n)) c.in-Err.is (c.compact_all.ensures.step ids))

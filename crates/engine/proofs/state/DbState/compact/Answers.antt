@@ -1,0 +1,100 @@
+use Rattle.std.proofs.Common.{◌≡◌, ◌+◌, max, Ok, Err, Result, sym, ap, subst, ◌∙◌, arith, rules}
+use Rattle.coding.specs.declared.error.DbError.{DbError}
+use Rattle.coding.specs.declared.error.DbError.TheVariants.{OutOfMemory}
+use Rattle.ikey.specs.Orders.{order_of}
+use Rattle.scans.proofs.ScanSteps.{scan_kept}
+use Rattle.versions.specs.Levels.{Placement}
+use Rattle.versions.specs.Plans.{IsPicked}
+use Rattle.engine.specs.declared.work.Progress.{Progress}
+use Rattle.engine.specs.declared.work.Progress.TheVariants.{Worked, Idle}
+use Rattle.engine.specs.Follows.{LeadsOpen}
+use Rattle.engine.specs.Held.{held, seen_of}
+use Rattle.engine.specs.Outcomes.{DbOutcome}
+use Rattle.engine.specs.Working.{IsPiece, MayRefusePiece}
+use Rattle.engine.proofs.JobEnds.{outcome_behind}
+use Rattle.engine.proofs.WorkAnswers.{begun_further, of_some, picked_level, then_piece}
+use Rattle.engine.proofs.WorkEnds.{ends_full, ends_idle}
+use Rattle.engine.proofs.WorkSteps.{piece_done, piece_failed, piece_within}
+use Rattle.engine.proofs.state.DbState.compact.Goals as goal
+
+pub returns-in_err-plan-clause-step : goal.returns-in_err-plan-clause-step
+returns-in_err-plan-clause-step g c ids =
+    let order = order_of g.K.KeyOrder.name g.K.KeyOrder.cmp in
+    let source = seen_of g.S.Store.facts c.args.source.now in
+    let db = held c.args.source.now.memory c.args.self.now in
+    let said : c.from_residual.result ≡ Err OutOfMemory = search rules in
+    subst (λ (r : Result Progress DbError). LeadsOpen order source source ids db db (λ m n. IsPiece m (max c.args.budget 1) r n)) (sym said)
+    (ends_full order (λ scan. scan_kept order.cmp scan) c.sound_lasts.ensures source ids db (max c.args.budget 1) c.requires.whole)
+
+pub returns-in_default-clause-step : goal.returns-in_default-clause-step
+returns-in_default-clause-step g c ids =
+    let order = order_of g.K.KeyOrder.name g.K.KeyOrder.cmp in
+    ends_idle order (λ scan. scan_kept order.cmp scan) c.sound_lasts.ensures (seen_of g.S.Store.facts c.args.source.now) ids (held c.args.source.now.memory c.args.self.now) (max c.args.budget 1) Idle c.requires.whole
+
+pub returns-in_err-begin_job-clause-step : goal.returns-in_err-begin_job-clause-step
+returns-in_err-begin_job-clause-step g c ids =
+    let order = order_of g.K.KeyOrder.name g.K.KeyOrder.cmp in
+    let old = seen_of g.S.Store.facts c.args.source.now in
+    let new = seen_of g.S.Store.facts c.begin_job.new.source in
+    let before = held c.args.source.now.memory c.args.self.now in
+    let after = held c.begin_job.new.source.memory c.begin_job.new.self in
+    let e = c.in_err-begin_job.field-0.0 in
+    let said : c.from_residual-in_err-begin_job.result ≡ Err e = search rules in
+    subst (λ (r : Result Progress DbError). LeadsOpen order old new ids before after (λ m n. IsPiece m (max c.args.budget 1) r n)) (sym said)
+    (piece_failed order old new ids before after (max c.args.budget 1) e (piece_within order old new ids before after 0 (max c.args.budget 1) (Err e) (omega arith) (c.in_err-begin_job.ensures.step ids)))
+
+pub returns-in_err-advance-clause-step : goal.returns-in_err-advance-clause-step
+returns-in_err-advance-clause-step g c ids =
+    let order = order_of g.K.KeyOrder.name g.K.KeyOrder.cmp in
+    let old = seen_of g.S.Store.facts c.args.source.now in
+    let mid = seen_of g.S.Store.facts c.begin_job.new.source in
+    let new = seen_of g.S.Store.facts c.advance.new.source in
+    let before = held c.args.source.now.memory c.args.self.now in
+    let between = held c.begin_job.new.source.memory c.begin_job.new.self in
+    let after = held c.advance.new.source.memory c.advance.new.self in
+    let most = max c.args.budget 1 in
+    let e = c.in_err-advance.field-0.0 in
+    let said : c.from_residual-in_err-advance.result ≡ Err e = search rules in
+    subst (λ (r : Result Progress DbError). LeadsOpen order old new ids before after (λ m n. IsPiece m most r n)) (sym said)
+    (piece_failed order old new ids before after most e (piece_within order old new ids before after (0 + most) most (Err e) (omega arith)
+    (then_piece order old mid new ids before between after 0 most (tt {0}) (Err e) (c.in_ok-begin_job.ensures.step ids) (c.in_err-advance.ensures.step ids))))
+
+pub returns-in_err-advance-clause-outcome : goal.returns-in_err-advance-clause-outcome
+returns-in_err-advance-clause-outcome g c =
+    let old = g.S.Store.facts c.args.source.now.tables.store in
+    let mid = g.S.Store.facts c.begin_job.new.source.tables.store in
+    let new = g.S.Store.facts c.advance.new.source.tables.store in
+    let before = held c.args.source.now.memory c.args.self.now in
+    let between = held c.begin_job.new.source.memory c.begin_job.new.self in
+    let after = held c.advance.new.source.memory c.advance.new.self in
+    let e = c.in_err-advance.field-0.0 in
+    let said : c.from_residual-in_err-advance.result ≡ Err e = search rules in
+    let b = c.in_ok-begin_job.ensures in
+    subst (λ (r : Result Progress DbError). DbOutcome MayRefusePiece old new before after r) (sym said)
+    (outcome_behind old mid new before between after e (sym b.stood) b.outcome.denials b.same (b.whole ∙ sym c.requires.whole) c.in_err-advance.ensures.outcome)
+
+pub returns-clause-step : goal.returns-clause-step
+returns-clause-step g c ids =
+    let order = order_of g.K.KeyOrder.name g.K.KeyOrder.cmp in
+    let old = seen_of g.S.Store.facts c.args.source.now in
+    let mid = seen_of g.S.Store.facts c.begin_job.new.source in
+    let new = seen_of g.S.Store.facts c.advance.new.source in
+    let before = held c.args.source.now.memory c.args.self.now in
+    let between = held c.begin_job.new.source.memory c.begin_job.new.self in
+    let after = held c.advance.new.source.memory c.advance.new.self in
+    let most = max c.args.budget 1 in
+    let done = c.in_ok-advance.field-0 in
+    piece_done order old new ids before after most done Worked (piece_within order old new ids before after (0 + most) most (Ok done) (omega arith)
+    (then_piece order old mid new ids before between after 0 most (tt {0}) (Ok done) (c.in_ok-begin_job.ensures.step ids) (c.in_ok-advance.ensures.step ids)))
+
+pub returns-clause-begins : goal.returns-clause-begins
+returns-clause-begins g c = λ done.
+    let b = c.in_ok-begin_job.ensures in
+    record {
+      plan = c.in-Some.plan;
+      wanted = λ within.
+          picked_level g.K.KeyOrder.cmp c.level0_files.result c.base_bytes.result c.args.options.now.level0_files c.args.options.now.base_bytes c.deref.result.now c.args.self.now.version.value.tables c.in-Some.plan
+          (c.level0_files.ensures.is within.6) (c.base_bytes.ensures.is within.9) (ap (λ (p : Placement). p.tables) c.deref.ensures)
+          (of_some _ (λ plan. IsPicked g.K.KeyOrder.cmp c.level0_files.result c.base_bytes.result c.deref.result.now plan) c.in_ok-plan.field-0 c.in-Some.plan c.in-Some.is c.in_ok-plan.ensures.picked);
+      begun = begun_further c.args.budget c.in-Some.plan (held c.args.source.now.memory c.args.self.now) (held c.begin_job.new.source.memory c.begin_job.new.self) (held c.advance.new.source.memory c.advance.new.self) b.same.tables b.none c.in_ok-advance.ensures.on;
+    }

@@ -1,0 +1,35 @@
+use Rattle.std.proofs.Common.{◌≡◌, sym, subst, arith, rules}
+use Rattle.ikey.specs.Orders.{order_of}
+use Rattle.engine.specs.Held.{held, seen_of}
+use Rattle.engine.specs.Outcomes.{MayRefuseWork}
+use Rattle.engine.proofs.Emptied.{all_broken, all_broken_caused, all_caused, all_compacted}
+use Rattle.engine.proofs.Finishing.{outcome_all_as, outcome_stays}
+use Rattle.engine.proofs.state.DbState.compact_all.Goals as goal
+
+pub returns-then-self-clause-step : goal.returns-then-self-clause-step
+returns-then-self-clause-step g c ids =
+    all_broken (order_of g.K.KeyOrder.name g.K.KeyOrder.cmp) (seen_of g.S.Store.facts c.args.source.now) ids (held c.args.source.now.memory c.args.self.now) c.if-self.true
+
+pub returns-then-self-clause-outcome : goal.returns-then-self-clause-outcome
+returns-then-self-clause-outcome g c = outcome_stays MayRefuseWork (g.S.Store.facts c.args.source.now.tables.store) (held c.args.source.now.memory c.args.self.now) _ (λ is. cc) (tt {0})
+
+pub returns-then-self-clause-caused : goal.returns-then-self-clause-caused
+returns-then-self-clause-caused g c = all_broken_caused (held c.args.source.now.memory c.args.self.now) c.args.source.now.tables.store 0 c.if-self.true
+
+pub returns-clause-step : goal.returns-clause-step
+returns-clause-step g c ids =
+    let order = order_of g.K.KeyOrder.name g.K.KeyOrder.cmp in
+    let old = seen_of g.S.Store.facts c.args.source.now in
+    let new = seen_of g.S.Store.facts c.compact_everything.new.source in
+    let before = held c.args.source.now.memory c.args.self.now in
+    let after = held c.compact_everything.new.source.memory c.compact_everything.new.self in
+    all_compacted order old new ids before after c.compact_everything.result c.if-self.false (c.compact_everything.ensures.step ids)
+
+pub returns-clause-outcome : goal.returns-clause-outcome
+returns-clause-outcome g c =
+    let facts = g.S.Store.facts in
+    outcome_all_as (facts c.args.source.now.tables.store) (facts c.compact_everything.new.source.tables.store) (held c.args.source.now.memory c.args.self.now) (held c.compact_everything.new.source.memory c.compact_everything.new.self) c.compact_everything.result c.compact_everything.ensures.outcome
+
+pub returns-clause-caused : goal.returns-clause-caused
+returns-clause-caused g c =
+    all_caused (held c.args.source.now.memory c.args.self.now) c.args.source.now.tables.store c.compact_everything.new.source.tables.store c.compact_everything.result c.if-self.false c.compact_everything.ensures.outcome.allowed

@@ -1,0 +1,160 @@
+use Rattle.std.proofs.Common.{◌≡◌, ◌+◌, ◌*◌, List, [], Result, Ok, Err, sym, ap, subst, ◌∙◌, arith, rules}
+use Rattle.coding.specs.declared.error.DbError.{DbError}
+use Rattle.coding.specs.declared.error.DbError.TheVariants.{OutOfMemory}
+use Rattle.ikey.specs.Orders.{order_of}
+use Rattle.edits.specs.declared.field.PlacedTable.{PlacedTable}
+use Rattle.versions.specs.Levels.{Placement}
+use Rattle.versions.specs.Plans.{IsWholePlan}
+use Rattle.engine.specs.Finishing.{CompactOutcome, beyond}
+use Rattle.engine.specs.Follows.{LeadsOpen}
+use Rattle.engine.specs.Held.{held, seen_of}
+use Rattle.engine.specs.Upkeep.{most_drawn}
+use Rattle.engine.specs.Working.{IsPiece, MayRefusePiece}
+use Rattle.engine.proofs.Emptied.{all_last, beyond_most, level_emptied, memory_left, none_there, on_ok}
+use Rattle.engine.proofs.Finishing.{outcome_all, outcome_done, outcome_then, serves_then, stays_done, stays_full, then_bound, within_bound}
+use Rattle.engine.proofs.WorkAnswers.{of_none, of_some}
+use Rattle.engine.proofs.state.DbState.compact_everything.Goals as goal
+
+pub returns-in_err-finish_job-clause-step : goal.returns-in_err-finish_job-clause-step
+returns-in_err-finish_job-clause-step g c ids =
+    let order = order_of g.K.KeyOrder.name g.K.KeyOrder.cmp in
+    let old = seen_of g.S.Store.facts c.args.source.now in
+    let before = held c.args.source.now.memory c.args.self.now in
+    let new = seen_of g.S.Store.facts c.finish_job.new.source in
+    let after = held c.finish_job.new.source.memory c.finish_job.new.self in
+    let e = c.in_err-finish_job.field-0.0 in
+    let said : c.from_residual.result ≡ Err e = search rules in
+    subst (λ (r : Result _ DbError). LeadsOpen order old new ids before after (λ m n. IsPiece m (most_drawn m) r n)) (sym said)
+    (within_bound order old new ids before after (λ k. k + 1) (λ k. 4 + 2 * k) (Err e) (λ k. omega arith) (c.in_err-finish_job.ensures.step ids))
+
+pub returns-in_err-finish_job-clause-outcome : goal.returns-in_err-finish_job-clause-outcome
+returns-in_err-finish_job-clause-outcome g c =
+    let facts = g.S.Store.facts in
+    let e = c.in_err-finish_job.field-0.0 in
+    let said : c.from_residual.result ≡ Err e = search rules in
+    subst (λ (r : Result _ DbError). CompactOutcome MayRefusePiece (facts c.args.source.now.tables.store) (facts c.finish_job.new.source.tables.store) (held c.args.source.now.memory c.args.self.now) (held c.finish_job.new.source.memory c.finish_job.new.self) r)
+    (sym said) c.in_err-finish_job.ensures.outcome
+
+pub returns-in_err-write_memory-clause-step : goal.returns-in_err-write_memory-clause-step
+returns-in_err-write_memory-clause-step g c ids =
+    let order = order_of g.K.KeyOrder.name g.K.KeyOrder.cmp in
+    let old = seen_of g.S.Store.facts c.args.source.now in
+    let before = held c.args.source.now.memory c.args.self.now in
+    let mid = seen_of g.S.Store.facts c.finish_job.new.source in
+    let between = held c.finish_job.new.source.memory c.finish_job.new.self in
+    let new = seen_of g.S.Store.facts c.write_memory.new.source in
+    let after = held c.write_memory.new.source.memory c.write_memory.new.self in
+    let e = c.in_err-write_memory.field-0.0 in
+    let said : c.from_residual-in_err-write_memory.result ≡ Err e = search rules in
+    subst (λ (r : Result _ DbError). LeadsOpen order old new ids before after (λ m n. IsPiece m (most_drawn m) r n)) (sym said)
+    (within_bound order old new ids before after (λ k. (k + 0) + 3) (λ k. 4 + 2 * k) (Err e) (λ k. omega arith)
+    (then_bound order old mid new ids before between after (λ k. k + 0) (λ k. 3) (tt {0}) (Err e) (c.in_ok-finish_job.ensures.step ids) (c.in_err-write_memory.ensures.step ids)))
+
+pub returns-in_err-write_memory-clause-outcome : goal.returns-in_err-write_memory-clause-outcome
+returns-in_err-write_memory-clause-outcome g c =
+    let facts = g.S.Store.facts in
+    let old = facts c.args.source.now.tables.store in
+    let mid = facts c.finish_job.new.source.tables.store in
+    let new = facts c.write_memory.new.source.tables.store in
+    let before = held c.args.source.now.memory c.args.self.now in
+    let between = held c.finish_job.new.source.memory c.finish_job.new.self in
+    let after = held c.write_memory.new.source.memory c.write_memory.new.self in
+    let e = c.in_err-write_memory.field-0.0 in
+    let said : c.from_residual-in_err-write_memory.result ≡ Err e = search rules in
+    subst (λ (r : Result _ DbError). CompactOutcome MayRefusePiece old new before after r) (sym said)
+    (outcome_then MayRefusePiece old mid new before between after (Err e) c.requires.whole c.in_ok-finish_job.ensures.serves c.in_err-write_memory.ensures.outcome)
+
+pub returns-in_err-plan-clause-step : goal.returns-in_err-plan-clause-step
+returns-in_err-plan-clause-step g c ids =
+    let order = order_of g.K.KeyOrder.name g.K.KeyOrder.cmp in
+    let old = seen_of g.S.Store.facts c.args.source.now in
+    let before = held c.args.source.now.memory c.args.self.now in
+    let mid = seen_of g.S.Store.facts c.finish_job.new.source in
+    let first = held c.finish_job.new.source.memory c.finish_job.new.self in
+    let later = seen_of g.S.Store.facts c.write_memory.new.source in
+    let second = held c.write_memory.new.source.memory c.write_memory.new.self in
+    let said : c.from_residual-in_err-plan.result ≡ Err OutOfMemory = search rules in
+    subst (λ (r : Result _ DbError). LeadsOpen order old later ids before second (λ m n. IsPiece m (most_drawn m) r n)) (sym said)
+    (within_bound order old later ids before second (λ k. (k + 0) + 3 + 0) (λ k. 4 + 2 * k) (Err OutOfMemory) (λ k. omega arith)
+    (then_bound order old later later ids before second second (λ k. (k + 0) + 3) (λ k. 0) (tt {0}) (Err OutOfMemory) (then_bound order old mid later ids before first second (λ k. k + 0) (λ k. 3) (tt {0}) (Ok (tt {0})) (c.in_ok-finish_job.ensures.step ids) (c.in_ok-write_memory.ensures.step ids)) (stays_full order later ids second (λ k. 0))))
+
+pub returns-in_err-plan-clause-outcome : goal.returns-in_err-plan-clause-outcome
+returns-in_err-plan-clause-outcome g c =
+    let facts = g.S.Store.facts in
+    let old = facts c.args.source.now.tables.store in
+    let mid = facts c.finish_job.new.source.tables.store in
+    let later = facts c.write_memory.new.source.tables.store in
+    let before = held c.args.source.now.memory c.args.self.now in
+    let first = held c.finish_job.new.source.memory c.finish_job.new.self in
+    let second = held c.write_memory.new.source.memory c.write_memory.new.self in
+    let serves = serves_then old mid later before first second c.in_ok-finish_job.ensures.serves c.in_ok-write_memory.ensures.serves in
+    let said : c.from_residual-in_err-plan.result ≡ Err OutOfMemory = search rules in
+    subst (λ (r : Result _ DbError). CompactOutcome MayRefusePiece old later before second r) (sym said) (outcome_all old later before second c.requires.whole serves)
+
+pub returns-in_default-clause-step : goal.returns-in_default-clause-step
+returns-in_default-clause-step g c ids =
+    let order = order_of g.K.KeyOrder.name g.K.KeyOrder.cmp in
+    let old = seen_of g.S.Store.facts c.args.source.now in
+    let before = held c.args.source.now.memory c.args.self.now in
+    let mid = seen_of g.S.Store.facts c.finish_job.new.source in
+    let first = held c.finish_job.new.source.memory c.finish_job.new.self in
+    let later = seen_of g.S.Store.facts c.write_memory.new.source in
+    let second = held c.write_memory.new.source.memory c.write_memory.new.self in
+    within_bound order old later ids before second (λ k. (k + 0) + 3) (λ k. 4 + 2 * k) (Ok (tt {0})) (λ k. omega arith) (then_bound order old mid later ids before first second (λ k. k + 0) (λ k. 3) (tt {0}) (Ok (tt {0})) (c.in_ok-finish_job.ensures.step ids) (c.in_ok-write_memory.ensures.step ids))
+
+pub returns-in_default-clause-outcome : goal.returns-in_default-clause-outcome
+returns-in_default-clause-outcome g c =
+    let facts = g.S.Store.facts in
+    let old = facts c.args.source.now.tables.store in
+    let mid = facts c.finish_job.new.source.tables.store in
+    let later = facts c.write_memory.new.source.tables.store in
+    let before = held c.args.source.now.memory c.args.self.now in
+    let first = held c.finish_job.new.source.memory c.finish_job.new.self in
+    let second = held c.write_memory.new.source.memory c.write_memory.new.self in
+    let serves = serves_then old mid later before first second c.in_ok-finish_job.ensures.serves c.in_ok-write_memory.ensures.serves in
+    outcome_done MayRefusePiece old later before second (tt {0}) c.requires.whole serves
+
+pub returns-clause-step : goal.returns-clause-step
+returns-clause-step g c ids =
+    let order = order_of g.K.KeyOrder.name g.K.KeyOrder.cmp in
+    let old = seen_of g.S.Store.facts c.args.source.now in
+    let before = held c.args.source.now.memory c.args.self.now in
+    let mid = seen_of g.S.Store.facts c.finish_job.new.source in
+    let first = held c.finish_job.new.source.memory c.finish_job.new.self in
+    let later = seen_of g.S.Store.facts c.write_memory.new.source in
+    let second = held c.write_memory.new.source.memory c.write_memory.new.self in
+    let new = seen_of g.S.Store.facts c.run_job.new.source in
+    let after = held c.run_job.new.source.memory c.run_job.new.self in
+    let r = c.run_job.result in
+    within_bound order old new ids before after (λ k. (k + 0) + 3 + (k + beyond r)) (λ k. 4 + 2 * k) r (λ k. (let most = beyond_most r in omega (arith, most)))
+    (then_bound order old later new ids before second after (λ k. (k + 0) + 3) (λ k. k + beyond r) (tt {0}) r (then_bound order old mid later ids before first second (λ k. k + 0) (λ k. 3) (tt {0}) (Ok (tt {0})) (c.in_ok-finish_job.ensures.step ids) (c.in_ok-write_memory.ensures.step ids)) (c.run_job.ensures.step ids))
+
+pub returns-clause-outcome : goal.returns-clause-outcome
+returns-clause-outcome g c =
+    let facts = g.S.Store.facts in
+    let old = facts c.args.source.now.tables.store in
+    let mid = facts c.finish_job.new.source.tables.store in
+    let later = facts c.write_memory.new.source.tables.store in
+    let before = held c.args.source.now.memory c.args.self.now in
+    let first = held c.finish_job.new.source.memory c.finish_job.new.self in
+    let second = held c.write_memory.new.source.memory c.write_memory.new.self in
+    let serves = serves_then old mid later before first second c.in_ok-finish_job.ensures.serves c.in_ok-write_memory.ensures.serves in
+    outcome_then MayRefusePiece old later (facts c.run_job.new.source.tables.store) before second (held c.run_job.new.source.memory c.run_job.new.self) c.run_job.result c.requires.whole serves c.run_job.ensures.outcome
+
+pub returns-in_default-clause-compacted : goal.returns-in_default-clause-compacted
+returns-in_default-clause-compacted g c =
+    let tables = c.write_memory.new.self.version.value.tables in
+    let tables_are : c.deref.result.now.tables ≡ tables = ap (λ (p : Placement). p.tables) c.deref.ensures in
+    let none = of_none (c.deref.result.now.tables ≡ []) (IsWholePlan c.deref.result.now.tables) c.in_ok-plan.field-0 c.in_default.is c.in_ok-plan.ensures in
+    record { memory = c.in_ok-write_memory.ensures.written; levels = none_there tables (sym tables_are ∙ none) }
+
+pub returns-clause-compacted : goal.returns-clause-compacted
+returns-clause-compacted g c =
+    let tables = c.write_memory.new.self.version.value.tables in
+    let plan = c.in-Some.plan in
+    let tables_are : c.deref.result.now.tables ≡ tables = ap (λ (p : Placement). p.tables) c.deref.ensures in
+    let planned = of_some (c.deref.result.now.tables ≡ []) (IsWholePlan c.deref.result.now.tables) c.in_ok-plan.field-0 plan c.in-Some.is c.in_ok-plan.ensures in
+    on_ok c.run_job.result (λ h. record {
+      memory = memory_left (held c.write_memory.new.source.memory c.write_memory.new.self) (held c.run_job.new.source.memory c.run_job.new.self) c.run_job.ensures.memory c.in_ok-write_memory.ensures.written;
+      levels = all_last tables c.run_job.new.self.version.value.tables plan (subst (λ (ts : List PlacedTable). IsWholePlan ts plan) tables_are planned) h;
+    }) c.run_job.ensures.done

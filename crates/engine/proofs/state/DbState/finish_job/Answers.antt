@@ -1,0 +1,23 @@
+use Rattle.std.proofs.Common.{◌≡◌, ◌+◌, None, MatchOption, sym, subst}
+use Rattle.ikey.specs.Orders.{order_of}
+use Rattle.memories.specs.PlaceLaws.{left_there}
+use Rattle.engine.specs.Held.{held, seen_of}
+use Rattle.engine.specs.Working.{MayRefusePiece}
+use Rattle.engine.proofs.Finishing.{outcome_done, serves_same, stays_done}
+use Rattle.engine.proofs.state.DbState.finish_job.Goals as goal
+
+pub returns-then-is_none-clause-step : goal.returns-then-is_none-clause-step
+returns-then-is_none-clause-step g c ids =
+    stays_done (order_of g.K.KeyOrder.name g.K.KeyOrder.cmp) (seen_of g.S.Store.facts c.args.source.now) ids (held c.args.source.now.memory c.args.self.now) (λ e. e + 0) (tt {0})
+
+pub returns-then-is_none-clause-outcome : goal.returns-then-is_none-clause-outcome
+returns-then-is_none-clause-outcome g c =
+    let db = held c.args.source.now.memory c.args.self.now in
+    let facts = g.S.Store.facts c.args.source.now.tables.store in
+    outcome_done MayRefusePiece facts facts db db (tt {0}) c.requires.whole (serves_same facts db c.requires.whole)
+
+pub returns-then-is_none-clause-serves : goal.returns-then-is_none-clause-serves
+returns-then-is_none-clause-serves g c = serves_same (g.S.Store.facts c.args.source.now.tables.store) (held c.args.source.now.memory c.args.self.now) c.requires.whole
+
+pub returns-then-is_none-clause-memory : goal.returns-then-is_none-clause-memory
+returns-then-is_none-clause-memory g c = left_there c.args.source.now.memory

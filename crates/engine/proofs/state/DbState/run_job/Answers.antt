@@ -1,0 +1,68 @@
+use Rattle.std.proofs.Common.{◌≡◌, ◌+◌, Result, Err, sym, subst, arith, rules}
+use Rattle.coding.specs.declared.error.DbError.{DbError}
+use Rattle.ikey.specs.Orders.{order_of}
+use Rattle.memories.specs.PlaceLaws.{left_onward}
+use Rattle.engine.specs.Finishing.{CompactOutcome, EndsJob, beyond}
+use Rattle.engine.specs.Follows.{LeadsOpen}
+use Rattle.engine.specs.Held.{held, seen_of}
+use Rattle.engine.specs.Working.{MayRefusePiece}
+use Rattle.engine.proofs.Emptied.{done_of}
+use Rattle.engine.proofs.Finishing.{outcome_of, outcome_then, serves_begun, then_bound, within_bound}
+use Rattle.engine.proofs.state.DbState.run_job.Goals as goal
+
+pub returns-in_err-begin_job-clause-step : goal.returns-in_err-begin_job-clause-step
+returns-in_err-begin_job-clause-step g c ids =
+    let order = order_of g.K.KeyOrder.name g.K.KeyOrder.cmp in
+    let old = seen_of g.S.Store.facts c.args.source.now in
+    let before = held c.args.source.now.memory c.args.self.now in
+    let new = seen_of g.S.Store.facts c.begin_job.new.source in
+    let after = held c.begin_job.new.source.memory c.begin_job.new.self in
+    let e = c.in_err-begin_job.field-0.0 in
+    let said : c.from_residual.result ≡ Err e = search rules in
+    subst (λ (r : Result _ DbError). LeadsOpen order old new ids before after (λ m n. EndsJob m r n)) (sym said)
+    (within_bound order old new ids before after (λ k. 0) (λ k. k + 1) (Err e) (λ k. omega arith) (c.in_err-begin_job.ensures.step ids))
+
+pub returns-in_err-begin_job-clause-outcome : goal.returns-in_err-begin_job-clause-outcome
+returns-in_err-begin_job-clause-outcome g c =
+    let facts = g.S.Store.facts in
+    let old = facts c.args.source.now.tables.store in
+    let new = facts c.begin_job.new.source.tables.store in
+    let before = held c.args.source.now.memory c.args.self.now in
+    let after = held c.begin_job.new.source.memory c.begin_job.new.self in
+    let e = c.in_err-begin_job.field-0.0 in
+    let said : c.from_residual.result ≡ Err e = search rules in
+    let b = c.in_err-begin_job.ensures in
+    subst (λ (r : Result _ DbError). CompactOutcome MayRefusePiece old new before after r) (sym said) (outcome_of old new before after e b.lock b.outcome)
+
+pub returns-clause-step : goal.returns-clause-step
+returns-clause-step g c ids =
+    let order = order_of g.K.KeyOrder.name g.K.KeyOrder.cmp in
+    let old = seen_of g.S.Store.facts c.args.source.now in
+    let before = held c.args.source.now.memory c.args.self.now in
+    let mid = seen_of g.S.Store.facts c.begin_job.new.source in
+    let between = held c.begin_job.new.source.memory c.begin_job.new.self in
+    let new = seen_of g.S.Store.facts c.finish_job.new.source in
+    let after = held c.finish_job.new.source.memory c.finish_job.new.self in
+    let r = c.finish_job.result in
+    within_bound order old new ids before after (λ k. 0 + (k + beyond r)) (λ k. k + beyond r) r (λ k. omega arith)
+    (then_bound order old mid new ids before between after (λ k. 0) (λ k. k + beyond r) (tt {0}) r (c.in_ok-begin_job.ensures.step ids) (c.finish_job.ensures.step ids))
+
+pub returns-clause-outcome : goal.returns-clause-outcome
+returns-clause-outcome g c =
+    let facts = g.S.Store.facts in
+    let old = facts c.args.source.now.tables.store in
+    let mid = facts c.begin_job.new.source.tables.store in
+    let new = facts c.finish_job.new.source.tables.store in
+    let before = held c.args.source.now.memory c.args.self.now in
+    let between = held c.begin_job.new.source.memory c.begin_job.new.self in
+    let after = held c.finish_job.new.source.memory c.finish_job.new.self in
+    let b = c.in_ok-begin_job.ensures in
+    outcome_then MayRefusePiece old mid new before between after c.finish_job.result c.requires.whole (serves_begun old mid before between b.stood b.outcome.denials b.lock b.whole b.same) c.finish_job.ensures.outcome
+
+pub returns-clause-memory : goal.returns-clause-memory
+returns-clause-memory g c = left_onward c.args.source.now.memory c.begin_job.new.source.memory c.finish_job.new.source.memory c.in_ok-begin_job.ensures.memory c.finish_job.ensures.memory
+
+pub returns-clause-done : goal.returns-clause-done
+returns-clause-done g c =
+    let b = c.in_ok-begin_job.ensures in
+    done_of c.finish_job.result c.begin_job.new.self.job c.args.plan c.args.self.now.version.value.tables c.begin_job.new.self.version.value.tables c.finish_job.new.self.version.value.tables b.same.tables b.none c.finish_job.ensures.done

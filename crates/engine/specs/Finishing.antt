@@ -1,0 +1,67 @@
+-- Compactions that are brought to their end in one call.
+use Rattle.std.specs.Prelude.{◌≡◌, ◌⊎◌, ◌<◌, ◌≤◌, ◌+◌, ℕ, true, false, None, MatchOption, [], Result, Ok, Err, MatchResult, max}
+use Rattle.coding.specs.declared.error.DbError.{DbError}
+use Rattle.coding.specs.declared.error.DbError.TheVariants as error
+use Rattle.jobs.specs.Running.{shown}
+use Rattle.store.specs.Files.{Facts}
+use Rattle.versions.specs.Levels.{tables_at}
+use Rattle.engine.specs.Held.{Held}
+use Rattle.engine.specs.Machine.{Machine, entry_count}
+use Rattle.engine.specs.Outcomes.{KeepsViews}
+use Rattle.engine.specs.Working.{IsPiece}
+
+-- ---- over any store
+
+-- What a step of a compaction leaves that is done: no call of the store failed, and the database serves on.
+pub record ServesOn {K : Type 0} {g : _} (old new : Facts) (before after : Held K g) : Type 0 where
+  pub stood : new.failures ≡ old.failures
+  pub undenied : new.denials ≡ old.denials
+  pub held : new.held ≡ old.held
+  pub whole : after.broken ≡ false
+  pub views : KeepsViews before after
+
+-- What a compaction leaves: the views, and the database as it was, or broken now, and that only where a failure was counted. What it had done
+-- before it was refused, it keeps.
+pub record CompactOutcome {T K : Type 0} {g : _} (may : DbError → Type 0) (old new : Facts) (before after : Held K g) (result : Result T DbError) : Type 0 where
+  pub failures : old.failures ≤ new.failures
+  pub denials : new.denials ≡ old.denials
+  pub held : new.held ≡ old.held
+  pub io : result ≡ Err error.Io → old.failures < new.failures
+  pub memory : result ≡ Err error.OutOfMemory → new.failures ≡ old.failures
+  pub allowed : MatchResult result (λ x. Unit {0}) may
+  pub views : KeepsViews before after
+  pub broken : (after.broken ≡ before.broken) ⊎ ((after.broken ≡ true) × (old.failures < new.failures))
+
+-- ---- what is left of the tables
+
+-- the level has none
+abbrev pub IsLevelEmpty : {K : Type 0} {g : _} → ℕ → Held K g → Type 0
+IsLevelEmpty level db = tables_at level db.tables ≡ []
+
+-- No entry is in memory alone, and no memory table is sealed.
+pub record HasNoMemory {K : Type 0} {g : _} (db : Held K g) : Type 0 where
+  pub current : db.memory.current.inserts ≡ []
+  pub sealed : db.memory.sealed ≡ None
+
+-- So it is, and all tables stand in the last level.
+pub record IsAllCompacted {K : Type 0} {g : _} (db : Held K g) : Type 0 where
+  pub memory : HasNoMemory db
+  pub levels : (level : ℕ) → level < 6 → tables_at level db.tables ≡ []
+
+-- ---- the machine
+
+-- one number more may be drawn where it was refused
+abbrev pub beyond : {T : Type 0} → Result T DbError → ℕ
+beyond (Ok done) = 0
+beyond (Err e) = 1
+
+-- It draws as many numbers as there are entries at most.
+abbrev pub EndsJob : {T : Type 0} → Machine → Result T DbError → Machine → Type 0
+EndsJob m result n = IsPiece m (entry_count m + beyond result) result n
+
+-- It draws no more numbers than entries came, and all that came are no more than there are.
+pub record HasCome {T K : Type 0} {g : _} (budget : ℕ) (before : Held K g) (m : Machine) (result : Result T DbError) (n : Machine) : Type 0 where
+  pub came : ℕ
+  pub most : came ≤ max budget 1
+  pub piece : IsPiece m came result n
+  pub within : MatchOption before.job (Unit {0}) (λ work. shown (work.merged + came) ≤ entry_count m)

@@ -1,0 +1,221 @@
+//! Compactions of a whole level, or of all tables, in one call (LevelDB's db/db_impl.cc, DBImpl::CompactRange and
+//! DBImpl::TEST_CompactRange).
+
+ghost use Rattle.std.specs.Prelude.{◌≡◌, ◌<◌, ℕ, ◌+◌, None, Some, IsSome, false, MatchOption, OnOk};
+ghost use Rattle.ikey.specs.Orders.{order_of};
+
+use crate::options::Options;
+use crate::state::DbState;
+use coding::DbError;
+use edits::LEVELS;
+use ikey::KeyOrder;
+use scans::Sources;
+use std::alloc::Global;
+use store::Store;
+use versions::{JobPlan, plans_of_tables};
+
+impl<K: KeyOrder> DbState<K> {
+    ghost use Rattle.engine.specs.declared.ids.Ids.{Ids};
+    ghost use Rattle.engine.specs.Causes.{IsCausedIn, broken_in, level_refusal};
+    ghost use Rattle.engine.specs.Finishing.{CompactOutcome, EndsJob, HasNoMemory, IsAllCompacted, IsLevelEmpty, ServesOn};
+    ghost use Rattle.engine.specs.Outcomes.{MayRefuseLevel, MayRefuseWork};
+    ghost use Rattle.engine.specs.Follows.{LeadsOpen, unit_answer};
+    ghost use Rattle.engine.specs.Held.{held, seen_of};
+    ghost use Rattle.engine.specs.Upkeep.{CompactsAll, CompactsLevel, most_drawn};
+    ghost use Rattle.engine.specs.Working.{IsPiece, MayRefusePiece};
+    ghost use Rattle.memories.specs.Places.{LeavesMemories};
+    ghost use Rattle.upkeep.specs.Install.{Replaces};
+    ghost use Rattle.versions.specs.Plans.{IsPlanOf};
+
+    /// Brings the compaction under way to its end, and then compacts all tables of a level, with those of the next one whose keys meet
+    /// theirs, into the next one. It moves no compact pointer. BadLevel: the level isn't one of 0 to 5.
+    pub fn compact_level<S: Store>(
+        &mut self,
+        alloc: Global,
+        source: &mut Sources<K, S>,
+        options: &Options,
+        level: u32,
+    ) -> Result<(), DbError>
+        ensures step { (ids : Ids) → LeadsOpen (order_of K.name K.cmp) (seen_of S.facts source.old) (seen_of S.facts source.new) ids (held source.old.memory self.old) (held source.new.memory self.new) (λ m n. CompactsLevel m level (unit_answer result) n) }
+        ensures outcome { CompactOutcome MayRefuseLevel (S.facts source.old.tables.store) (S.facts source.new.tables.store) (held source.old.memory self.old) (held source.new.memory self.new) result }
+        ensures caused { IsCausedIn (level_refusal (held source.old.memory self.old) level) source.old.tables.store source.new.tables.store result }
+        ensures emptied { OnOk result (IsLevelEmpty level (held source.new.memory self.new)) }
+    {
+        if self.broken {
+            return Err(DbError::Broken);
+        }
+        if level >= LEVELS - 1 {
+            return Err(DbError::BadLevel);
+        }
+        self.compact_tables_of(alloc, source, options, level)
+    }
+
+    /// Brings the compaction under way to its end, writes what is in memory into tables, and then compacts all tables into the last
+    /// level. It moves no compact pointer.
+    pub fn compact_all<S: Store>(
+        &mut self,
+        alloc: Global,
+        source: &mut Sources<K, S>,
+        options: &Options,
+    ) -> Result<(), DbError>
+        ensures step { (ids : Ids) → LeadsOpen (order_of K.name K.cmp) (seen_of S.facts source.old) (seen_of S.facts source.new) ids (held source.old.memory self.old) (held source.new.memory self.new) (λ m n. CompactsAll m (unit_answer result) n) }
+        ensures outcome { CompactOutcome MayRefuseWork (S.facts source.old.tables.store) (S.facts source.new.tables.store) (held source.old.memory self.old) (held source.new.memory self.new) result }
+        ensures caused { IsCausedIn (broken_in (held source.old.memory self.old)) source.old.tables.store source.new.tables.store result }
+        ensures compacted { OnOk result (IsAllCompacted (held source.new.memory self.new)) }
+    {
+        if self.broken {
+            return Err(DbError::Broken);
+        }
+        self.compact_everything(alloc, source, options)
+    }
+
+    // Compacts all tables of a level once the compaction under way is at its end.
+    fn compact_tables_of<S: Store>(
+        &mut self,
+        alloc: Global,
+        source: &mut Sources<K, S>,
+        options: &Options,
+        level: u32,
+    ) -> Result<(), DbError>
+        requires whole { self.old.broken ≡ false }
+        requires level { level < 6 }
+        ensures step { (ids : Ids) → LeadsOpen (order_of K.name K.cmp) (seen_of S.facts source.old) (seen_of S.facts source.new) ids (held source.old.memory self.old) (held source.new.memory self.new) (λ m n. IsPiece m (most_drawn m) result n) }
+        ensures outcome { CompactOutcome MayRefusePiece (S.facts source.old.tables.store) (S.facts source.new.tables.store) (held source.old.memory self.old) (held source.new.memory self.new) result }
+        ensures emptied { OnOk result (IsLevelEmpty level (held source.new.memory self.new)) }
+    {
+        plans_of_tables();
+        self.finish_job(alloc, source)?;
+        let Some(plan) = self.version.plan_level(alloc, level)? else {
+            return Ok(());
+        };
+        self.run_job(alloc, source, options, plan)
+    }
+
+    // Compacts all that the database has into the last level.
+    fn compact_everything<S: Store>(
+        &mut self,
+        alloc: Global,
+        source: &mut Sources<K, S>,
+        options: &Options,
+    ) -> Result<(), DbError>
+        requires whole { self.old.broken ≡ false }
+        ensures step { (ids : Ids) → LeadsOpen (order_of K.name K.cmp) (seen_of S.facts source.old) (seen_of S.facts source.new) ids (held source.old.memory self.old) (held source.new.memory self.new) (λ m n. IsPiece m (most_drawn m) result n) }
+        ensures outcome { CompactOutcome MayRefusePiece (S.facts source.old.tables.store) (S.facts source.new.tables.store) (held source.old.memory self.old) (held source.new.memory self.new) result }
+        ensures compacted { OnOk result (IsAllCompacted (held source.new.memory self.new)) }
+    {
+        plans_of_tables();
+        self.finish_job(alloc, source)?;
+        self.write_memory(alloc, source, options)?;
+        let Some(plan) = self.version.plan_all(alloc)? else {
+            return Ok(());
+        };
+        self.run_job(alloc, source, options, plan)
+    }
+
+    // Writes what is in memory into tables: what is sealed, and what isn't.
+    fn write_memory<S: Store>(
+        &mut self,
+        alloc: Global,
+        source: &mut Sources<K, S>,
+        options: &Options,
+    ) -> Result<(), DbError>
+        requires whole { self.old.broken ≡ false }
+        requires none { self.old.job ≡ None }
+        ensures step { (ids : Ids) → LeadsOpen (order_of K.name K.cmp) (seen_of S.facts source.old) (seen_of S.facts source.new) ids (held source.old.memory self.old) (held source.new.memory self.new) (λ m n. IsPiece m 3 result n) }
+        ensures outcome { CompactOutcome MayRefusePiece (S.facts source.old.tables.store) (S.facts source.new.tables.store) (held source.old.memory self.old) (held source.new.memory self.new) result }
+        ensures serves { OnOk result (ServesOn (S.facts source.old.tables.store) (S.facts source.new.tables.store) (held source.old.memory self.old) (held source.new.memory self.new)) }
+        ensures none { OnOk result (self.new.job ≡ None) }
+        ensures written { OnOk result (HasNoMemory (held source.new.memory self.new)) }
+    {
+        self.write_sealed(alloc, source, options)?;
+        if source.memory.is_empty() {
+            return Ok(());
+        }
+        self.seal(alloc, source)?;
+        self.flush(alloc, source, options)
+    }
+
+    // Writes the sealed memory table, where there is one, into a table.
+    fn write_sealed<S: Store>(
+        &mut self,
+        alloc: Global,
+        source: &mut Sources<K, S>,
+        options: &Options,
+    ) -> Result<(), DbError>
+        requires whole { self.old.broken ≡ false }
+        requires none { self.old.job ≡ None }
+        ensures step { (ids : Ids) → LeadsOpen (order_of K.name K.cmp) (seen_of S.facts source.old) (seen_of S.facts source.new) ids (held source.old.memory self.old) (held source.new.memory self.new) (λ m n. IsPiece m 1 result n) }
+        ensures outcome { CompactOutcome MayRefusePiece (S.facts source.old.tables.store) (S.facts source.new.tables.store) (held source.old.memory self.old) (held source.new.memory self.new) result }
+        ensures serves { OnOk result (ServesOn (S.facts source.old.tables.store) (S.facts source.new.tables.store) (held source.old.memory self.old) (held source.new.memory self.new)) }
+        ensures none { OnOk result (self.new.job ≡ None) }
+        ensures written { OnOk result (source.new.memory.sealed ≡ None) }
+    {
+        if source.memory.sealed_generation().is_none() {
+            return Ok(());
+        }
+        self.flush(alloc, source, options)
+    }
+
+    // Runs the job of a plan from its beginning to its end.
+    fn run_job<S: Store>(
+        &mut self,
+        alloc: Global,
+        source: &mut Sources<K, S>,
+        options: &Options,
+        plan: JobPlan,
+    ) -> Result<(), DbError>
+        requires whole { self.old.broken ≡ false }
+        requires none { self.old.job ≡ None }
+        requires plan { IsPlanOf K.cmp self.old.version.value.tables plan }
+        ensures step { (ids : Ids) → LeadsOpen (order_of K.name K.cmp) (seen_of S.facts source.old) (seen_of S.facts source.new) ids (held source.old.memory self.old) (held source.new.memory self.new) (λ m n. EndsJob m result n) }
+        ensures outcome { CompactOutcome MayRefusePiece (S.facts source.old.tables.store) (S.facts source.new.tables.store) (held source.old.memory self.old) (held source.new.memory self.new) result }
+        ensures memory { LeavesMemories source.old.memory source.new.memory }
+        ensures done { OnOk result (Replaces plan self.old.version.value.tables self.new.version.value.tables) }
+    {
+        self.begin_job(alloc, source, options, plan)?;
+        self.finish_job(alloc, source)
+    }
+
+    // Brings the compaction under way to its end, if there is one.
+    fn finish_job<S: Store>(
+        &mut self,
+        alloc: Global,
+        source: &mut Sources<K, S>,
+    ) -> Result<(), DbError>
+        requires whole { self.old.broken ≡ false }
+        ensures step { (ids : Ids) → LeadsOpen (order_of K.name K.cmp) (seen_of S.facts source.old) (seen_of S.facts source.new) ids (held source.old.memory self.old) (held source.new.memory self.new) (λ m n. EndsJob m result n) }
+        ensures outcome { CompactOutcome MayRefusePiece (S.facts source.old.tables.store) (S.facts source.new.tables.store) (held source.old.memory self.old) (held source.new.memory self.new) result }
+        ensures serves { OnOk result (ServesOn (S.facts source.old.tables.store) (S.facts source.new.tables.store) (held source.old.memory self.old) (held source.new.memory self.new)) }
+        ensures memory { LeavesMemories source.old.memory source.new.memory }
+        ensures none { OnOk result (self.new.job ≡ None) }
+        ensures done { OnOk result (MatchOption self.old.job (Unit {0}) (λ work. Replaces work.job.plan self.old.version.value.tables self.new.version.value.tables)) }
+    {
+        if self.job.is_none() {
+            return Ok(());
+        }
+        self.take_steps(alloc, source)
+    }
+
+    // Goes on with the compaction under way until it is at its end.
+    fn take_steps<S: Store>(
+        &mut self,
+        alloc: Global,
+        source: &mut Sources<K, S>,
+    ) -> Result<(), DbError>
+        requires whole { self.old.broken ≡ false }
+        requires job { IsSome self.old.job }
+        ensures step { (ids : Ids) → LeadsOpen (order_of K.name K.cmp) (seen_of S.facts source.old) (seen_of S.facts source.new) ids (held source.old.memory self.old) (held source.new.memory self.new) (λ m n. EndsJob m result n) }
+        ensures outcome { CompactOutcome MayRefusePiece (S.facts source.old.tables.store) (S.facts source.new.tables.store) (held source.old.memory self.old) (held source.new.memory self.new) result }
+        ensures serves { OnOk result (ServesOn (S.facts source.old.tables.store) (S.facts source.new.tables.store) (held source.old.memory self.old) (held source.new.memory self.new)) }
+        ensures memory { LeavesMemories source.old.memory source.new.memory }
+        ensures none { OnOk result (self.new.job ≡ None) }
+        ensures done { OnOk result (MatchOption self.old.job (Unit {0}) (λ work. Replaces work.job.plan self.old.version.value.tables self.new.version.value.tables)) }
+    {
+        for _ in 0..u64::MAX {
+            if self.advance(alloc, source, 1)? {
+                return Ok(());
+            }
+        }
+        Err(DbError::OutOfMemory)
+    }
+}
