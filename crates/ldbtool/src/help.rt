@@ -23,7 +23,8 @@ pub const RUN: &str =
 
 pub const SCRIPT: &str = "\
 Each line of the script is one command, and has one line of answer. K and V are bytes in hexadecimal, as 6b6579, or - for
-none; N is the number of a snapshot or of an iterator, as it was answered, or how many entries a piece of work may have.
+none; N is the number of a snapshot or of an iterator, as it was answered, or how many entries a piece of work may have;
+L is a level, from 0 to 5.
 
   line                                          answer
   open | open new | open any                    ok            a database that is there, a new one, or either
@@ -36,6 +37,7 @@ none; N is the number of a snapshot or of an iterator, as it was answered, or ho
   first N | last N | seek N K | next N | prev N at K V | end  moves iterator N; seek to the first key not before K
   drop N                                        ok            lets iterator N go
   work N                                        worked | idle removes files of no use, and does a piece of work
+  compact L | compact all                       ok            merges level L's tables into the next; all there is into 6
   close                                         ok
 
 The words of a line are parted by single spaces; numbers are decimal. A script may end without a newline. At its end the

@@ -27,7 +27,7 @@ mark : List ℕ → ℕ
 mark name = get_or name 0 0 * 1000 + get_or name 2 0
 
 marked : ℕ → Verb
-marked n = cond (eqb n 112116) verb.Put (cond (eqb n 100108) verb.Del (cond (eqb n 119105) verb.Write (cond (eqb n 103116) verb.Get (cond (eqb n 115097) verb.Snapshot (cond (eqb n 114108) verb.Release (cond (eqb n 105101) verb.Iter (cond (eqb n 102114) verb.First (cond (eqb n 108115) verb.Last (cond (eqb n 115101) verb.Seek (cond (eqb n 110120) verb.Next (cond (eqb n 112101) verb.Prev (cond (eqb n 100111) verb.Drop (cond (eqb n 119114) verb.Work (cond (eqb n 99111) verb.Close verb.Open))))))))))))))
+marked n = cond (eqb n 112116) verb.Put (cond (eqb n 100108) verb.Del (cond (eqb n 119105) verb.Write (cond (eqb n 103116) verb.Get (cond (eqb n 115097) verb.Snapshot (cond (eqb n 114108) verb.Release (cond (eqb n 105101) verb.Iter (cond (eqb n 102114) verb.First (cond (eqb n 108115) verb.Last (cond (eqb n 115101) verb.Seek (cond (eqb n 110120) verb.Next (cond (eqb n 112101) verb.Prev (cond (eqb n 100111) verb.Drop (cond (eqb n 119114) verb.Work (cond (eqb n 99111) verb.Close (cond (eqb n 99109) verb.Compact verb.Open)))))))))))))))
 
 marked-mark : (v : Verb) → marked (mark (name_of v)) ≡ v
 unfolding mark marked
@@ -46,6 +46,7 @@ marked-mark verb.Next = refl
 marked-mark verb.Prev = refl
 marked-mark verb.Drop = refl
 marked-mark verb.Work = refl
+marked-mark verb.Compact = refl
 marked-mark verb.Close = refl
 
 pub one_verb : (v w : Verb) → name_of v ≡ name_of w → v ≡ w
@@ -135,6 +136,20 @@ one_seek words a b h g =
     let key = one_byte_string g.1 h.3 g.3 (subst (λ (w : List ℕ). IsByteString w h.3) k h.6) g.6 in
     same a b (h.7 ∙ ap (λ (x : ℕ). op.Seek x h.3) id ∙ ap (op.Seek g.2) key ∙ sym g.7)
 
+-- `all` is no number
+all_is_none : (word : List ℕ) (n : ℕ) → IsNumber 32 word n → word ≡ codes "all" → ⊥
+all_is_none word n h is =
+    let fits = h.0 in
+    let digits : AllDigits 10 (codes "all") = subst (AllDigits 10) (sym h.1 ∙ is) (digits_decimal (numerals_by_value (AllDigits 10) tells_digits) n (omega (arith, fits))) in
+    let range = digit_at (codes "all") 0 digits (omega arith) in
+    omega (arith, range.1)
+
+one_compaction : (words : List (List ℕ)) (a b : Op) → Spells verb.Compact words a → Spells verb.Compact words b → IsSame a b
+one_compaction words a b (inl h) (inl g) = same a b (h.1 ∙ sym g.1)
+one_compaction words a b (inr h) (inr g) = one_of_number 32 words op.CompactLevel a b (omega arith) h g
+one_compaction words a b (inl h) (inr g) = absurd (all_is_none g.1.0 g.0 g.1.2 (head g.1.0 (codes "all") [] [] (sym g.1.1 ∙ h.0)))
+one_compaction words a b (inr h) (inl g) = absurd (all_is_none h.1.0 h.0 h.1.2 (head h.1.0 (codes "all") [] [] (sym h.1.1 ∙ g.0)))
+
 one_spelling : (v : Verb) (words : List (List ℕ)) (a b : Op) → Spells v words a → Spells v words b → IsSame a b
 one_spelling verb.Open words a b h g = same a b (h.2 ∙ ap op.Open (one_mode h.0 g.0 (sym h.1 ∙ g.1)) ∙ sym g.2)
 one_spelling verb.Put words a b h g = one_put_alone words a b h g
@@ -151,6 +166,7 @@ one_spelling verb.Next words a b h g = one_of_number 64 words op.Next a b (omega
 one_spelling verb.Prev words a b h g = one_of_number 64 words op.Prev a b (omega arith) h g
 one_spelling verb.Drop words a b h g = one_of_number 64 words op.DropIterator a b (omega arith) h g
 one_spelling verb.Work words a b h g = one_of_number 32 words op.Work a b (omega arith) h g
+one_spelling verb.Compact words a b h g = one_compaction words a b h g
 one_spelling verb.Close words a b h g = same a b (h.1 ∙ sym g.1)
 
 pub says_one : (line : List ℕ) (a b : Op) → Says line a → Says line b → IsSame a b

@@ -68,6 +68,10 @@ AreSnapshot words (Some id) = IsNumberAlone 64 words id
 abbrev pub TakesNumber : ℕ → List (List ℕ) → (ℕ → Op) → Op → Type 0
 TakesNumber bits words make command = (number : ℕ) × IsNumberAlone bits words number × (command ≡ make number)
 
+-- a compaction of all, or of a level
+abbrev pub IsCompaction : List (List ℕ) → Op → Type 0
+IsCompaction words command = ((words ≡ codes "all" ∷ []) × (command ≡ op.CompactAll)) ⊎ TakesNumber 32 words op.CompactLevel command
+
 -- what a verb and the words behind it say
 abbrev pub Spells : Verb → List (List ℕ) → Op → Type 0
 Spells verb.Open words command = (mode : Mode) × (words ≡ mode_words mode) × (command ≡ op.Open mode)
@@ -93,6 +97,7 @@ Spells verb.Next words command = TakesNumber 64 words op.Next command
 Spells verb.Prev words command = TakesNumber 64 words op.Prev command
 Spells verb.Drop words command = TakesNumber 64 words op.DropIterator command
 Spells verb.Work words command = TakesNumber 32 words op.Work command
+Spells verb.Compact words command = IsCompaction words command
 Spells verb.Close words command = (words ≡ []) × (command ≡ op.Close)
 
 -- a line says a command: its words are a verb's name and what that verb takes

@@ -5,7 +5,7 @@ ghost use Rattle.engine.specs.declared.command.Mode.{Mode as ModeValue};
 ghost use Rattle.engine.specs.declared.command.Op.{Op as OpValue};
 ghost use Rattle.script.specs.declared.verb.Verb.TheVariants as verb;
 ghost use Rattle.script.specs.Words.{texts_of, Reads};
-ghost use Rattle.script.specs.Script.{Spells, IsNumberAlone, AreSnapshot, mode_words};
+ghost use Rattle.script.specs.Script.{Spells, IsCompaction, IsNumberAlone, AreSnapshot, mode_words};
 
 use crate::word::{read_bytes, read_number, read_small_number};
 use engine::{Mode, Op};
@@ -93,6 +93,26 @@ pub fn read_seek(alloc: Global, words: &[&[u8]]) -> Result<Option<Op>, AllocErro
         return Ok(None);
     };
     Ok(Some(Op::Seek(id, key)))
+}
+
+/// A compaction, of `all` or of the level of a number.
+pub fn read_compaction(words: &[&[u8]]) -> Option<Op>
+    ensures { Reads (IsCompaction (texts_of words.now)) result }
+{
+    match words {
+        [word] => read_compaction_word(word),
+        _ => None,
+    }
+}
+
+fn read_compaction_word(word: &[u8]) -> Option<Op>
+    ensures { Reads (IsCompaction (word.now ∷ [])) result }
+{
+    if word == b"all".as_slice() {
+        return Some(Op::CompactAll);
+    }
+    let level = read_small_number(word)?;
+    Some(Op::CompactLevel(level))
 }
 
 /// This command, where there is no word behind its verb.

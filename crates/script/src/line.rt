@@ -6,8 +6,8 @@ ghost use Rattle.script.specs.Words.{texts_of, Reads};
 ghost use Rattle.script.specs.Script.{Spells, Says, IsSame};
 
 use crate::arguments::{
-    read_alone, read_get, read_mode, read_number_alone, read_seek, read_small_number_alone,
-    read_snapshot,
+    read_alone, read_compaction, read_get, read_mode, read_number_alone, read_seek,
+    read_small_number_alone, read_snapshot,
 };
 use crate::batch_words::{read_batch, read_delete_alone, read_put_alone};
 use crate::verb::{Verb, read_verb};
@@ -49,6 +49,7 @@ fn read_rest(alloc: Global, verb: Verb, words: &[&[u8]]) -> Result<Option<Op>, A
         Verb::Prev => Ok(read_number_alone(words).map(Op::Prev)),
         Verb::Drop => Ok(read_number_alone(words).map(Op::DropIterator)),
         Verb::Work => Ok(read_small_number_alone(words).map(Op::Work)),
+        Verb::Compact => Ok(read_compaction(words)),
         Verb::Close => Ok(read_alone(words, Op::Close)),
     }
 }

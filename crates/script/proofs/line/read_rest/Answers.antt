@@ -26,3 +26,6 @@ returns-in-Work c = rw c.in-Work.is (made_of_number 32 op.Work (texts_of c.args.
 
 pub returns-in-Iter : goal.returns-in-Iter
 returns-in-Iter c = rw c.in-Iter.is (made_of_snapshot (texts_of c.args.words.now) c.read_snapshot.result c.map-in-Iter.result c.read_snapshot.ensures c.map-in-Iter.ensures.cases)
+
+pub returns-in-Compact : goal.returns-in-Compact
+returns-in-Compact c = rw c.in-Compact.is c.read_compaction.ensures

@@ -32,6 +32,7 @@ returns-in-Some-clause-done g c =
       touches = c.apply-answer.ensures.touches;
       tells = c.apply-answer.ensures.tells;
       shown = c.apply-answer.ensures.shown;
+      leaves = c.apply-answer.ensures.leaves;
       shut = c.apply-answer.ensures.shut;
     } in
     on_ok_so c.push_answer-in-Some.result _ _ (λ text. (Some c.in-Some.command ∷ [], c.apply-answer.result ∷ [], one, text)) c.push_answer-in-Some.ensures.ok
@@ -48,6 +49,7 @@ returns-in-Some-clause-stopped g c =
       touches = c.apply-answer.ensures.touches;
       tells = c.apply-answer.ensures.tells;
       shown = c.apply-answer.ensures.shown;
+      leaves = c.apply-answer.ensures.leaves;
       shut = c.apply-answer.ensures.shut;
     } in
     on_err_so c.push_answer-in-Some.result _ _ (λ text. (c.args.line.now ∷ [], Some c.in-Some.command ∷ [], c.apply-answer.result ∷ [], inr refl, one, text)) c.push_answer-in-Some.ensures.err

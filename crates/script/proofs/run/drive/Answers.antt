@@ -27,6 +27,7 @@ returns-clause-finished g c = record {
     touches = c.apply.ensures.touches;
     tells = c.apply.ensures.tells;
     shown = c.apply.ensures.shown;
+    leaves = c.apply.ensures.leaves;
     shut = c.apply.ensures.shut;
   };
 }
