@@ -3,9 +3,9 @@
 usage: checks.py QUICKSTART TABLES LDBTOOL LEVELDB_DRIVER
 
 QUICKSTART, TABLES and LDBTOOL are the programs under test; what is checked of the second stands in tables.py, of the
-third in directories.py. QUICKSTART opens the folder that it is given, prints the value that the key `61` has there
-("none" where it has none), writes `61` = `31`, prints the value of `61`, closes, and prints the log that it wrote to,
-each on a line of its own and in hexadecimal. TABLES writes a table of the entries that it is given, and prints those of
+third in directories.py, and of the third by turns with LevelDB in turns.py. QUICKSTART opens the folder that it is given,
+prints the value that the key `61` has there ("none" where it has none), writes `61` = `31`, prints the value of `61`, closes,
+and prints the log that it wrote to, each on a line of its own and in hexadecimal. TABLES writes a table of the entries that it is given, and prints those of
 a table. What they must print is taken from LevelDB, or from what LevelDB was told to write, never from themselves.
 
 LevelDB moves what logs hold into a table whenever it opens a folder without reuse_logs. Where a check wants the folder
@@ -413,7 +413,7 @@ def numbered_zero(room):
 
 def main():
     # they add their checks behind those of this file
-    for name in ("tables", "directories"):
+    for name in ("tables", "directories", "turns"):
         importlib.import_module(name)
     wrong = 0
     for name, function in CHECKS:

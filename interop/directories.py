@@ -272,9 +272,9 @@ def worked(_room):
             for _ in range(2):
                 more = {chance.randbytes(2).hex(): chance.randbytes(chance.randrange(1, 300)).hex() for _ in range(60)}
                 pairs.update(more)
-                script = ["open", *[f"put {key} {value}" for key, value in more.items()], *["work 9" for _ in range(5)], "close"]
+                script = ["open", *[f"put {key} {value}" for key, value in more.items()], *["work 100000" for _ in range(60)], "close"]
                 answers = prints("run", copy, "".join(line + "\n" for line in script), ["--write-buffer", "4096"]).splitlines()
-                want(answers[-6:-1].count("worked") >= 2 and answers[-2] == "idle", f"seed {seed}: work answers {answers[-6:-1]}")
+                want(answers.count("worked") >= 2 and answers[-2] == "idle", f"seed {seed}: work answers {answers[-61:-1]}")
                 layout = Layout(copy)
                 want_lines(prints("check", copy), layout.report(), f"seed {seed}")
                 want_dump(layout, prints("dump", copy))

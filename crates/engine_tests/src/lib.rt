@@ -9,6 +9,8 @@ mod origins;
 #[cfg(test)]
 mod readings;
 #[cfg(test)]
+mod refusing;
+#[cfg(test)]
 mod scripts;
 #[cfg(test)]
 mod sessions;

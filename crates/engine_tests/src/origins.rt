@@ -70,7 +70,8 @@ fn is(entry: &Entry, wanted: &(u64, Option<&[u8]>)) -> bool {
     }
 }
 
-fn are(entries: &[Entry], wanted: &[(u64, Option<&[u8]>)]) -> bool {
+/// Whether these are entries of the key `a` with these sequences, and these values or none.
+pub fn are(entries: &[Entry], wanted: &[(u64, Option<&[u8]>)]) -> bool {
     if entries.len() != wanted.len() {
         return false;
     }

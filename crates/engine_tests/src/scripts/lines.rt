@@ -5,7 +5,7 @@ use engine::{Answer, Mode, Op};
 use script::{answer_line, read_line};
 use std::alloc::{AllocGlobal, Global};
 
-const SAID: [(&str, Command); 27] = [
+const SAID: [(&str, Command); 30] = [
     ("open", Command::Open(Mode::Existing)),
     ("open new", Command::Open(Mode::New)),
     ("open any", Command::Open(Mode::Any)),
@@ -41,6 +41,9 @@ const SAID: [(&str, Command); 27] = [
     ("drop 7", Command::DropIterator(7)),
     ("work 0", Command::Work(0)),
     ("work 4294967295", Command::Work(4_294_967_295)),
+    ("compact 0", Command::CompactLevel(0)),
+    ("compact 4294967295", Command::CompactLevel(4_294_967_295)),
+    ("compact all", Command::CompactAll),
     ("close", Command::Close),
 ];
 
@@ -92,6 +95,10 @@ fn is(op: &Op, wanted: Command<'_>) -> bool {
         Op::Prev(id) => matches!(wanted, Command::Prev(other) if other == *id),
         Op::DropIterator(id) => matches!(wanted, Command::DropIterator(other) if other == *id),
         Op::Work(budget) => matches!(wanted, Command::Work(other) if other == *budget),
+        Op::CompactLevel(level) => {
+            matches!(wanted, Command::CompactLevel(other) if other == *level)
+        }
+        Op::CompactAll => matches!(wanted, Command::CompactAll),
         Op::Close => matches!(wanted, Command::Close),
     }
 }
@@ -108,7 +115,7 @@ fn lines_say_commands(rt: HostRuntime) {
 }
 
 // Each says no command.
-const BAD_LINES: [&[u8]; 65] = [
+const BAD_LINES: [&[u8]; 70] = [
     b"",
     b" ",
     b"  ",
@@ -168,7 +175,12 @@ const BAD_LINES: [&[u8]; 65] = [
     b"work 1 2",
     b"work 4294967296",
     b"work -1",
-    b"compact all",
+    b"compact",
+    b"compact 00",
+    b"compact -1",
+    b"compact all 1",
+    b"compact 4294967296",
+    b"compact ALL",
     b"\xff",
     b"get \xc3\x28",
     b"close\r",
