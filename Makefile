@@ -15,7 +15,7 @@ MAN := $(DESTDIR)$(PREFIX)/share/man/man1
 # What the proved program is made of: where none of it is newer, it isn't proved again.
 SOURCES := crates.txt $(shell find crates -name out -prune -o \( -name '*.rt' -o -name '*.antt' \) -print)
 
-.PHONY: help demo quick build install uninstall program test bugs costs interop clean needs-rt
+.PHONY: help demo quick build install uninstall program test bugs costs interop bench clean needs-rt
 .SILENT:
 
 help:
@@ -27,6 +27,7 @@ help:
 	echo 'make uninstall takes both away again'
 	echo 'make program   ldbtool as its users run it: scripts, pipes, wrong folders, examples, installing (a minute once it is built)'
 	echo 'make interop   the checks beside LevelDB itself alone'
+	echo 'make bench     the benchmark beside LevelDB, into docs/SPEED.md: make bench N=100000 for fewer entries than a million'
 	echo 'make bugs      the edits of bugs/, each of which the prover must refuse (hours; make bugs CRATE=table for one crate)'
 	echo 'make costs     what the gate pays for each crate (hours; make costs CRATE=table for one crate)'
 	echo 'make clean     takes away all that was built'
@@ -67,6 +68,9 @@ program: build/ldbtool
 
 interop: needs-rt
 	interop/run
+
+bench: needs-rt
+	N=$(N) bench/run
 
 test: needs-rt
 	tools/gate

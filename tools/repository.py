@@ -1,5 +1,6 @@
 """What the tools of this folder share: the crates, their edits, and copies of the repository."""
 import contextlib
+import functools
 import os
 import shutil
 import signal
@@ -12,6 +13,7 @@ ROOT = os.path.dirname(os.path.dirname(os.path.realpath(__file__)))
 RT = os.environ.get("RT") or shutil.which("rt") or "/opt/rattle/bin/rt"
 
 
+@functools.cache
 def crates():
     """The crates of crates.txt, lowest first, each with the libraries that it names."""
     found = {}
@@ -23,6 +25,7 @@ def crates():
     return found
 
 
+@functools.cache
 def below(crate):
     """The crates of the repository on which this one stands."""
     found = []

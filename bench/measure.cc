@@ -1,0 +1,31 @@
+// Runs a program, and prints behind its output what it took: microseconds of wall time and of processors, and the most KB of memory.
+//
+//   measure PROGRAM WORD..
+//
+// A child begins with the memory of whoever forks it as its peak, and what Python takes is more than some workloads do: so bench/run
+// has this small program fork. The status is the program's, or 1 where it was stopped by a signal.
+
+#include <sys/resource.h>
+#include <sys/wait.h>
+#include <unistd.h>
+
+#include <chrono>
+#include <cstdio>
+
+int main(int count, char** words) {
+  if (count < 2) return 2;
+  const auto began = std::chrono::steady_clock::now();
+  const pid_t child = fork();
+  if (child == 0) {
+    execv(words[1], words + 1);
+    _exit(127);
+  }
+  int status = 0;
+  struct rusage used;
+  if (child < 0 || wait4(child, &status, 0, &used) != child) return 1;
+  const auto wall = std::chrono::duration_cast<std::chrono::microseconds>(std::chrono::steady_clock::now() - began);
+  const long long processors =
+      (used.ru_utime.tv_sec + used.ru_stime.tv_sec) * 1000000LL + used.ru_utime.tv_usec + used.ru_stime.tv_usec;
+  std::printf("%lld %lld %ld\n", static_cast<long long>(wall.count()), processors, used.ru_maxrss);
+  return WIFEXITED(status) ? WEXITSTATUS(status) : 1;
+}

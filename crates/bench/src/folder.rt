@@ -1,0 +1,85 @@
+// One workload over a folder, as the command line names it.
+
+use crate::runner::run_over;
+use crate::tally::Tally;
+use crate::workload::{Workload, named};
+use crate::{FAILED, MISUSED};
+use coding::DbError;
+use engine::Options;
+use store::{FileStore, StoreError};
+
+const DONE: u8 = 0;
+
+/// Runs the workload of a name over the folder at a path, prints its line, and answers the exit status.
+pub fn run(rt: &HostRuntime, name: &str, number: &str, path: &str) -> u8 {
+    let Some(workload) = named(name) else {
+        return misuse(rt);
+    };
+    let Some(number) = counted(number) else {
+        return misuse(rt);
+    };
+    let Some(options) = options() else {
+        return FAILED;
+    };
+    let store = match FileStore::open(rt, path) {
+        Ok(store) => store,
+        Err(error) => return folder_fault(rt, path, error),
+    };
+    let (outcome, _) = run_over(rt.alloc(), store, options, workload, number);
+    report(rt, name, number, outcome)
+}
+
+// A number of operations, which is at least 1.
+fn counted(text: &str) -> Option<u64> {
+    match text.parse::<u64>() {
+        Ok(0) => None,
+        Ok(number) => Some(number),
+        Err(_) => None,
+    }
+}
+
+// The sizes of LevelDB's db_bench, with a cache of 8 MB.
+fn options() -> Option<Options> {
+    Options::new(4_194_304, 4096, 2_097_152, 4, 10_485_760, 2048)
+}
+
+/// Prints the line of a workload, or says why it was refused, and answers the exit status.
+pub fn report<R: Print + Eprint>(
+    rt: &R,
+    name: &str,
+    number: u64,
+    outcome: Result<Tally, DbError>,
+) -> u8 {
+    match outcome {
+        Ok(tally) => {
+            let entries = tally.entries;
+            let sum = tally.sum;
+            match println!(rt; "{name} {number} entries={entries} sum={sum}") {
+                Ok(()) => DONE,
+                Err(_) => FAILED,
+            }
+        }
+        Err(error) => {
+            let _ = eprintln!(rt; "bench: {name}: {error}");
+            FAILED
+        }
+    }
+}
+
+/// Says what the words of the command line may be, and answers the exit status.
+pub fn misuse<R: Eprint>(rt: &R) -> u8 {
+    let _ = eprintln!(rt;
+        "usage: bench WORKLOAD N DIR, N from 1 on; with no argument each workload runs in memory"
+    );
+    MISUSED
+}
+
+fn folder_fault<R: Eprint>(rt: &R, path: &str, error: StoreError) -> u8 {
+    let why = match error {
+        StoreError::Missing => "there is no such folder",
+        StoreError::Device => "it isn't a folder, or this user may not open it",
+        StoreError::Memory => "out of memory",
+    };
+    let _ = eprintln!(rt; "bench: {path}: {why}");
+    FAILED
+}
