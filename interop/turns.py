@@ -31,12 +31,14 @@ def changes(chance, pairs):
 
 
 def our_turn(folder, chance, pairs):
-    """A script that writes, with slices of work between, and works on for a while, perhaps not to the end of a compaction."""
+    """A script that writes, with slices of work between, at times compacts, and works on for a while, perhaps not to the end."""
     script = ["open any"]
     for line in changes(chance, pairs):
         script.append(line)
         if chance.random() < 0.3:
             script.append(f"work {chance.randrange(30)}")
+    if chance.random() < 0.1:
+        script.append(f"compact {chance.choice((0, 1, 2, 3, 'all'))}")
     script += [f"work {chance.choice((1, 7, 1000))}" for _ in range(chance.choice((0, 5, 60)))]
     answers = prints("run", folder, "".join(line + "\n" for line in script), SIZES).splitlines()
     wrong = [line for line in answers if line not in ("ok", "worked", "idle")]

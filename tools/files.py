@@ -63,19 +63,20 @@ def internal_key(key, sequence):
 
 @dataclass
 class Manifest:
-    """A MANIFEST of one edit. A table is its level, number, size, least and greatest key, and their sequence."""
+    """A MANIFEST of one edit. A table is its level, number, size, and its least and greatest key, each with its sequence."""
 
     log: int
     next_file: int
     last_sequence: int = 0
     tables: list = field(default_factory=list)
+    number: int = 1
 
     def file(self):
         edit = b"\x01" + string(b"leveldb.BytewiseComparator")
         edit += b"\x02" + varint(self.log) + b"\x03" + varint(self.next_file) + b"\x04" + varint(self.last_sequence)
-        for level, number, size, least, greatest, sequence in self.tables:
+        for level, number, size, least, greatest in self.tables:
             edit += b"\x07" + varint(level) + varint(number) + varint(size)
-            edit += string(internal_key(least, sequence)) + string(internal_key(greatest, sequence))
+            edit += string(internal_key(*least)) + string(internal_key(*greatest))
         return record(edit)
 
 
@@ -98,6 +99,23 @@ ONE_TABLE = (
 assert len(ONE_TABLE) == 176
 
 
+def block(pairs):
+    """A block whose entries share nothing, each at a restart point."""
+    entries = [varint(0) + varint(len(key)) + varint(len(value)) + key + value for key, value in pairs]
+    places = [sum(map(len, entries[:count])) for count in range(len(entries))] or [0]
+    return b"".join(entries) + struct.pack(f"<{len(places) + 1}I", *places, len(places))
+
+
+def table_file(entries):
+    """A table of one data block and without a filter. An entry is its key, sequence and value."""
+    data = stored(block([(internal_key(key, sequence), spelled(value)) for key, sequence, value in entries]))
+    metaindex = stored(block([]))
+    at_data, at_metaindex = (varint(at) + varint(len(it) - 5) for at, it in ((0, data), (len(data), metaindex)))
+    index = stored(block([(internal_key(*entries[-1][:2]), at_data)]))
+    footer = at_metaindex + varint(len(data) + len(metaindex)) + varint(len(index) - 5)
+    return data + metaindex + index + footer + bytes(40 - len(footer)) + ONE_TABLE[-8:]
+
+
 # ---- folders
 
 
@@ -113,10 +131,11 @@ def bytes_of(folder, name):
 
 
 def write_directory(room, name, manifest, files):
-    """A new folder with these files, and with the MANIFEST, number 1, and a CURRENT that names it, where one is given."""
+    """A new folder with these files, and with the MANIFEST and a CURRENT that names it, where one is given."""
     folder = new_folder(room, name)
     if manifest:
-        files = {"CURRENT": b"MANIFEST-000001\n", "MANIFEST-000001": manifest.file(), **files}
+        name_of_manifest = f"MANIFEST-{manifest.number:06}"
+        files = {"CURRENT": f"{name_of_manifest}\n".encode(), name_of_manifest: manifest.file(), **files}
     for name_of_file, text in files.items():
         with open(os.path.join(folder, name_of_file), "wb") as file:
             file.write(text)

@@ -1,8 +1,8 @@
 // A long session of drawn commands beside a plain model, under options so small that compactions into several levels run all
 // the time.
 use super::Command::{
-    Close, Delete, DropIterator, First, Get, GetAt, Iterate, IterateAt, Last, Next, Open, Prev,
-    Put, Release, Seek, Snapshot, Work,
+    Close, CompactAll, CompactLevel, Delete, DropIterator, First, Get, GetAt, Iterate, IterateAt,
+    Last, Next, Open, Prev, Put, Release, Seek, Snapshot, Work,
 };
 use super::Wanted::{Absent, At, Done, End, Idle, Made, Refused, Taken, Value, Worked};
 use super::*;
@@ -260,6 +260,17 @@ impl History {
         Ok(is_answered(alloc, &answer, Worked) || is_answered(alloc, &answer, Idle))
     }
 
+    // Compacts a level, or all of them.
+    fn compact(&mut self, alloc: Global) -> Result<bool, DbError> {
+        let level = (self.draw() % 8) as u32;
+        let command = if level < 6 {
+            CompactLevel(level)
+        } else {
+            CompactAll
+        };
+        self.is_so(alloc, command, Done)
+    }
+
     // Works until there is no more to do.
     fn rest(&mut self, alloc: Global) -> Result<bool, DbError> {
         let op = op_of(alloc, Work(100))?;
@@ -293,10 +304,11 @@ impl History {
             57..=59 => self.iterate(alloc),
             60 => self.drop_iterator(alloc),
             61..=74 => self.move_iterator(alloc),
-            75..=98 => {
+            75..=97 => {
                 let budget = (self.draw() % 4) as u32;
                 self.work(alloc, budget)
             }
+            98 => self.compact(alloc),
             _ => self.reopen(alloc),
         }
     }
@@ -362,19 +374,16 @@ fn count_of(tables: &[TableSummary], level: u32) -> usize {
     tables.iter().filter(|table| table.level == level).count()
 }
 
-// A check accepts what is left; level 0 is below its limit, a deeper one than 1 has tables, and no file is left beside those of
-// the tables, `CURRENT`, `LOCK`, the MANIFEST and a log.
+// A check accepts what is left; level 0 is below its limit, a deeper one than 1 has tables, and no file is left beside the tables,
+// the live logs, `CURRENT`, `LOCK` and the MANIFEST.
 fn is_tidy(alloc: Global, mut store: MemStore) -> Result<bool, Fail> {
     let files = store.list(alloc)?.len();
     match check::<Bytewise, MemStore>(alloc, &mut store)? {
         Report::Good(summary) => {
             let tables = &summary.tables;
             let high = count_of(tables, 1).saturating_add(count_of(tables, 0));
-            Ok(
-                files.checked_sub(4) == Some(tables.len())
-                    && count_of(tables, 0) < 2
-                    && high < tables.len(),
-            )
+            let live = tables.len().saturating_add(summary.logs.len());
+            Ok(files.checked_sub(3) == Some(live) && count_of(tables, 0) < 2 && high < tables.len())
         }
         Report::Empty => Ok(false),
     }

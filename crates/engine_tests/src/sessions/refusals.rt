@@ -1,5 +1,6 @@
-// What is answered, and what is left, where any one call of the store is refused while compactions are under way.
-use super::Command::{Close, Get, Open, Put, Work};
+// What is answered, and what is left, where any one call of the store is refused, while compactions are under way and in those that
+// are one command.
+use super::Command::{Close, CompactAll, CompactLevel, Get, Open, Put, Work};
 use super::Wanted::{Absent, Done, Idle, Value, Worked};
 use super::*;
 use crate::refusing::RefusingStore;
@@ -127,19 +128,34 @@ impl Run {
         Ok(outcome != Outcome::Wrong)
     }
 
+    // A piece of work, or a compaction.
+    fn piece(
+        &mut self,
+        alloc: Global,
+        command: Command<'_>,
+        wanted: &[Wanted<'_>],
+    ) -> Result<bool, DbError> {
+        let had_come = self.has_come;
+        let outcome = self.give(alloc, command, wanted)?;
+        if outcome == Outcome::Refused && !had_come {
+            self.has_refused_work = true;
+        }
+        Ok(outcome != Outcome::Wrong)
+    }
+
     // So many pieces of work, of an entry each.
     fn work(&mut self, alloc: Global, count: u64) -> Result<bool, DbError> {
         for _ in 0..count {
-            let had_come = self.has_come;
-            let outcome = self.give(alloc, Work(1), &[Worked, Idle])?;
-            if outcome == Outcome::Wrong {
+            if !self.piece(alloc, Work(1), &[Worked, Idle])? {
                 return Ok(false);
-            }
-            if outcome == Outcome::Refused && !had_come {
-                self.has_refused_work = true;
             }
         }
         Ok(true)
+    }
+
+    // A compaction in one command, and all reads behind it.
+    fn compact(&mut self, alloc: Global, command: Command<'_>) -> Result<bool, DbError> {
+        Ok(self.piece(alloc, command, &[Done])? && self.read(alloc)?)
     }
 
     // Each key has the value that was put last.
@@ -166,7 +182,12 @@ impl Run {
                 return Ok(false);
             }
         }
-        self.work_and_read(alloc, 12)
+        Ok(
+            self.work_and_read(alloc, 12)?
+                && self.compact(alloc, CompactLevel(1))?
+                && self.put(alloc, (b"a", b"7"))?
+                && self.compact(alloc, CompactAll)?,
+        )
     }
 
     // Closes, opens, and works until there is no more to do. By now the call has come.

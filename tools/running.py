@@ -1,0 +1,68 @@
+"""How tools/program runs ldbtool and compares what it prints."""
+import os
+import subprocess
+import sys
+
+from repository import ROOT
+
+PROGRAM = os.path.abspath(sys.argv[1] if len(sys.argv) > 1 else f"{ROOT}/build/ldbtool")
+SECONDS = 60
+CHECKS = []
+
+
+class Wrong(Exception):
+    """What a check found in place of what it wants."""
+
+
+def check(name):
+    def keep(function):
+        CHECKS.append((name, function))
+        return function
+
+    return keep
+
+
+def want(found, wanted, what):
+    if found != wanted:
+        raise Wrong(f"{what}: {short(found)} in place of {short(wanted)}")
+
+
+def short(it):
+    text = repr(it)
+    return text if len(text) <= 300 else f"{text[:297]}..."
+
+
+# ---- the program
+
+
+def ldbtool(*words, script=b"", **how):
+    return subprocess.run([PROGRAM, *words], input=script, capture_output=True, timeout=SECONDS, **how)
+
+
+def lines(*texts):
+    return "".join(f"{text}\n" for text in texts).encode()
+
+
+def want_ran(ran, status, printed, what):
+    want((ran.returncode, ran.stdout, ran.stderr), (status, printed, b""), what)
+
+
+def want_answers(folder, script, answers, *options):
+    """Runs a script of `;`-separated commands, or of raw bytes, which is answered so."""
+    if isinstance(script, str):
+        script = lines(*[it.strip() for it in script.split(";")])
+    wanted = lines(*[it.strip() for it in answers.split(";")]) if answers else b""
+    want_ran(ldbtool("run", *options, folder, script=script), 0, wanted, f"the script {short(script)}")
+
+
+def want_report(folder, *wanted, status=0):
+    want_ran(ldbtool("check", folder), status, lines(*wanted), "check")
+
+
+def want_entries(folder, *wanted, status=0):
+    want_ran(ldbtool("dump", folder), status, lines(*wanted), "dump")
+
+
+def want_fault(ran, status, what):
+    """Nothing on standard output, and a line or more on standard error."""
+    want((ran.returncode, ran.stdout, ran.stderr != b""), (status, b"", True), what)

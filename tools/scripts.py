@@ -1,0 +1,69 @@
+"""Scripts for ldbtool with what must be answered, written down by hand, for the checks of tools/program."""
+
+# each begins in an empty folder
+SCRIPTS = [
+    ("open new; write put 61 31 del 61 put 61 32; get 61", "ok; ok; value 32"),
+    ("open new; put - -; get -; write; get -", "ok; ok; value -; ok; value -"),
+    ("open new; write sync; write sync put 61 3A; get 61", "ok; ok; ok; value 3a"),
+    ("get 61; open; open new; open new; close; open new; close",
+     "refused 16 NotOpen; refused 3 NoDatabase; ok; refused 17 AlreadyOpen; ok; refused 4 Exists; refused 16 NotOpen"),
+    ("open any; close; open any; close; open", "ok; ok; ok; ok; ok"),
+    ("open new; put 6 31; PUT 61 31; ; work 07; get 61 9; next 3; compact 6",
+     "ok; refused 20 BadLine; refused 20 BadLine; refused 20 BadLine; refused 20 BadLine; refused 8 NoSnapshot; refused 9 NoIterator; refused 19 BadLevel"),
+    ("open new; put 61 31; snapshot; put 61 32; del 61; get 61; get 61 1; release 1; get 61 1; release 1; snapshot",
+     "ok; ok; snapshot 1; ok; ok; none; value 31; ok; refused 8 NoSnapshot; refused 8 NoSnapshot; snapshot 2"),
+    ("open new; put 61 31; snapshot; put 61 32; put 62 33; get 61 1; iter 1; iter; first 1; next 1; last 2; prev 2; prev 2; release 1; get 61 1; "
+     "first 1; drop 1; next 1; close; open; snapshot",
+     "ok; ok; snapshot 1; ok; ok; value 31; iter 1; iter 2; at 61 31; end; at 62 33; at 61 32; end; ok; refused 8 NoSnapshot; "
+     "at 61 31; ok; refused 9 NoIterator; ok; ok; snapshot 2"),
+    ("open new; put 61 31; put 62 32; put 63 33; iter; seek 1 62; put 6262 34; del 63; next 1; next 1; next 1",
+     "ok; ok; ok; ok; iter 1; at 62 32; ok; ok; at 63 33; end; refused 10 NoPlace"),
+    ("open new; put 61 31; put 63 33; put 62 32; iter; seek 1 62; next 1; prev 1; prev 1; prev 1; prev 1",
+     "ok; ok; ok; ok; iter 1; at 62 32; at 63 33; at 62 32; at 61 31; end; refused 10 NoPlace"),
+    ("open new; put 61 -; snapshot; del 61; iter 1; last 1; iter; first 2; iter 9; drop 1; next 1; next 3",
+     "ok; ok; snapshot 1; ok; iter 1; at 61 -; iter 2; end; refused 8 NoSnapshot; ok; refused 9 NoIterator; refused 9 NoIterator"),
+    ("open new; snapshot; iter; close; open; get 61 1; next 1; snapshot; iter",
+     "ok; snapshot 1; iter 1; ok; ok; refused 8 NoSnapshot; refused 9 NoIterator; snapshot 2; iter 2"),
+    ("open new; put ff 01; put 00 02; put FF00 03; iter; first 1; next 1; next 1; seek 1 ff; seek 1 ff01",
+     "ok; ok; ok; ok; iter 1; at 00 02; at ff 01; at ff00 03; at ff 01; end"),
+]  # fmt: skip
+
+BAD_LINES = [
+    "put 6 31", "put 61", "put 61 31 32", "PUT 61 31", "Open", "opened", "", " ", " get 61", "get 61 ", "get  61", "get\t61",
+    "get 61\r", "get 0x61", "get 6g", "get --", "get", "get 61 +1", "get 61 01", "get 61 -1", "get 61 1.0",
+    "get 61 18446744073709551616", "release", "release 00", "open old", "open new new", "close 1", "snapshot 1", "iter 1 2",
+    "seek 1", "seek 61 1 2", "next", "write put 61", "write del", "write sync sync", "write get 61", "write put 61 31 del",
+    "get 61\0", "get \u00e9", "# a comment",
+]  # fmt: skip
+
+# five tables in level 0, and a compaction of them that has merged one entry
+FIVE_TABLES = "open new; " + "; ".join(f"put 6{n} 3{n}; work 9; work 9" for n in range(1, 6)) + "; work 1"
+FIVE_ANSWERS = "ok; " + "; ".join(["ok; worked; worked"] * 5) + "; worked"
+
+# each begins in an empty folder: the options, the commands, their answers, and what a dump prints behind them
+WORKED = [
+    ("", "open new; put 61 31; put 62 32; put 63 33; iter; seek 1 62; put 6262 34; del 63; compact all; next 1; next 1; next 1; drop 1; compact all",
+     "ok; ok; ok; ok; iter 1; at 62 32; ok; ok; ok; at 63 33; end; refused 10 NoPlace; ok; ok",
+     ["table 6 8 61 1 put 31", "table 6 8 62 2 put 32", "table 6 8 6262 4 put 34"]),
+    ("", "open new; put 61 31; put 63 33; compact all; put 62 32; iter; seek 1 62; next 1; prev 1; prev 1; prev 1; prev 1",
+     "ok; ok; ok; ok; ok; iter 1; at 62 32; at 63 33; at 62 32; at 61 31; end; refused 10 NoPlace",
+     ["table 6 5 61 1 put 31", "table 6 5 63 2 put 33", "log 3 62 3 put 32"]),
+    ("", "open new; put 61 31; snapshot; put 61 32; put 61 33; snapshot; del 61; compact all; close",
+     "ok; ok; snapshot 1; ok; ok; snapshot 2; ok; ok; ok",
+     ["table 6 5 61 4 delete", "table 6 5 61 3 put 33", "table 6 5 61 1 put 31"]),
+    ("", "open new; put 61 31; snapshot; put 61 32; put 61 33; snapshot; del 61; compact all; release 1; release 2; compact all; close",
+     "ok; ok; snapshot 1; ok; ok; snapshot 2; ok; ok; ok; ok; ok; ok", []),
+    ("--write-buffer 1 --level0-files 5", f"{FIVE_TABLES}; snapshot; put 61 39; work 1; work 1; work 1; work 1; get 61 1; get 61; work 1; work 1; work 1",
+     f"{FIVE_ANSWERS}; snapshot 1; ok; worked; worked; worked; worked; value 31; value 39; worked; worked; idle",
+     ["table 0 15 61 6 put 39", *[f"table 1 13 6{n} {n} put 3{n}" for n in range(1, 6)]]),
+    ("--write-buffer 1", "open new; put 61 31; compact all; del 61; work 9; work 9; compact 0; get 61",
+     "ok; ok; ok; ok; worked; worked; ok; none", ["table 1 8 61 2 delete", "table 6 5 61 1 put 31"]),
+    ("--write-buffer 1", "open new; put 61 31; compact all; del 61; work 9; work 9; compact 0; compact all; get 61",
+     "ok; ok; ok; ok; worked; worked; ok; ok; none", []),
+    ("--write-buffer 1 --file-bytes 1 --level0-files 1 --base-bytes 400",
+     f"open new; write put 61 31 put 62 32 put 63 33{'; work 9' * 5}; put 64 34{'; work 9' * 5}",
+     f"ok; ok{'; worked' * 4}; idle; ok{'; worked' * 4}; idle",
+     ["table 1 7 63 3 put 33", "table 1 11 64 4 put 34", "table 2 8 61 1 put 31", "table 2 12 62 2 put 32"]),
+    ("--write-buffer 1", "open new; put 61 31; work 9; work 9; put 62 32; work 9; work 9; get 61; get 62; get 61",
+     "ok; ok; worked; worked; ok; worked; worked; value 31; value 32; value 31", ["table 0 4 61 1 put 31", "table 0 6 62 2 put 32"]),
+]  # fmt: skip
