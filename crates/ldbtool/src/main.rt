@@ -2,30 +2,22 @@
 //! `dump` prints its entries. `ldbtool help run` shows what a line of a script looks like.
 #![tactic(auto)]
 
-mod command_line;
-mod help;
-mod inspect;
-mod progress;
-mod report;
-mod settings;
-mod start;
-mod status;
-
 use std::alloc::AllocGlobal;
 use std::io::IsTerminal;
 use std::process::ExitCode;
 use std::rt::Env;
 use std::{env, io};
+use tool::{refuse_words, start};
 
 fn main(rt: HostRuntime) -> ExitCode {
     let mut faults = rt.stderr();
     let words = match arguments(&rt) {
         Ok(words) => words,
-        Err(error) => return ExitCode::from(start::refuse_words(&mut faults, &error)),
+        Err(error) => return ExitCode::from(refuse_words(&mut faults, &error)),
     };
     let mut answers = rt.stdout();
     let watched = faults.is_terminal();
-    ExitCode::from(start::start(
+    ExitCode::from(start(
         &rt,
         words.as_slice(),
         watched,
@@ -38,6 +30,3 @@ fn main(rt: HostRuntime) -> ExitCode {
 fn arguments(rt: &(impl Env + AllocGlobal)) -> io::Result<Vec<String>> {
     Ok(env::args(rt)?.collect(rt.alloc())?)
 }
-
-#[cfg(test)]
-mod tests;

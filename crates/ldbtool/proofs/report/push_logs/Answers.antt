@@ -1,9 +1,0 @@
-use Rattle.std.proofs.Common.{◌++◌, List, ℕ, ap, ◌∙◌, string_bytes}
-use Rattle.ldbtool.specs.Reports.{log_line_of}
-use Rattle.ldbtool.proofs.Texts.{push_line}
-use Rattle.ldbtool.proofs.report.push_logs.Goals as goal
-
-pub loop-log-preserved : goal.loop-log-preserved
-loop-log-preserved c =
-    push_line log_line_of c.args.logs.now c.loop-log.log-index _ (string_bytes c.args.text.now) (string_bytes c.loop-log.text) (string_bytes c.push_str.new.self) (string_bytes c.in_ok-log_line.field-0)
-    c.loop-log-test.true c.loop-log.invariant c.in_ok-log_line.ensures (c.in_ok-push_str.ensures.bytes ∙ ap (λ (t : List ℕ). string_bytes c.loop-log.text ++ t) c.as_str.ensures.value)

@@ -1,7 +1,0 @@
-use Rattle.std.proofs.Common.{◌≡◌, ◌++◌, take, string_bytes}
-use Rattle.ldbtool.specs.Reports.{texts, table_line_of}
-use Rattle.ldbtool.proofs.report.push_tables.Given as goal
-
--- the lines so far stand behind the text
-abbrev pub invariant-loop-table : goal.invariant-loop-table
-invariant-loop-table l = string_bytes l.text ≡ string_bytes l.fn.text ++ texts table_line_of (take l.table-index l.tables)
