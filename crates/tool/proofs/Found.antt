@@ -12,7 +12,7 @@ use Rattle.clap.specs.declared.parser.matches.SubCommand.{SubCommand}
 use Rattle.std.specs.Prelude.{Box}
 use Rattle.std.specs.Box.{box_value}
 use Rattle.std.proofs.Common.{Global}
-use Rattle.tool.specs.declared.settings.Task.{Task}
+use Rattle.tool.specs.declared.task.Task.{Task}
 use Rattle.tool.specs.CommandLine.{AsksFor, AsksForIn, IsNumberOf}
 
 pub number_found : (E : Type 0) (gives : List ℕ → Result ℕ E → Type 0) (f : Found) (name : Text) (result : Option ℕ)

@@ -7,9 +7,9 @@ use Rattle.clap.specs.declared.builder.command.Command.{Command}
 use Rattle.clap.specs.declared.builder.command.Command.TheViews.{out-Command as fields_of}
 use Rattle.clap.specs.declared.builder.value_parser.ValueParser.TheVariants as vp
 use Rattle.engine.specs.OptionValues.{AreInRange, OptionValues}
-use Rattle.tool.specs.declared.settings.Numbers.{Numbers}
-use Rattle.tool.specs.declared.settings.Task.{Task}
-use Rattle.tool.specs.declared.settings.Task.TheVariants.{Run, Check, Dump}
+use Rattle.tool.specs.declared.task.Numbers.{Numbers}
+use Rattle.tool.specs.declared.task.Task.{Task}
+use Rattle.tool.specs.declared.task.Task.TheVariants.{Run, Check, Dump}
 
 -- ---- the command line, in clap's terms
 

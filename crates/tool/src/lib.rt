@@ -5,15 +5,15 @@
 mod command_line;
 mod help;
 mod inspect;
+mod program;
 mod progress;
 mod report;
-mod settings;
-mod start;
 mod status;
+mod task;
 
 pub use inspect::{check, dump};
-pub use settings::{Numbers, Task, settings};
-pub use start::{refuse_words, start};
+pub use program::{refuse_words, start};
+pub use task::{Numbers, Task, settings};
 
 #[cfg(test)]
 mod tests;

@@ -1,6 +1,6 @@
 // The program as its caller sees it: words and streams in, text and a status out.
+use crate::program::start;
 use crate::report::{check_text, entry_line};
-use crate::start::start;
 use coding::{Bytes, Damage, DbError, FileKind};
 use ikey::Entry;
 use logfile::Tail;

@@ -2,9 +2,9 @@ use Rattle.std.proofs.Common.{sym}
 use Rattle.std.specs.Prelude.{codes}
 use Rattle.std.proofs.lemmas.Slice.Eq.{bytes_eq-Decides}
 use Rattle.clap.specs.Words.{found_of, rows_of}
-use Rattle.tool.specs.declared.settings.Task.TheVariants.{Run, Check, Dump}
+use Rattle.tool.specs.declared.task.Task.TheVariants.{Run, Check, Dump}
 use Rattle.tool.proofs.Found.{asks_for, folder_by_rows}
-use Rattle.tool.proofs.settings.read_task.Goals as goal
+use Rattle.tool.proofs.task.read_task.Goals as goal
 
 pub returns-then-eq : goal.returns-then-eq
 returns-then-eq c =

@@ -3,7 +3,7 @@ use Rattle.std.specs.Prelude.{Option}
 use Rattle.clap.specs.Words.{App, Row, Text, app_of, is_simple, subcommand_of}
 use Rattle.tool.specs.CommandLine.{AsksForIn}
 use Rattle.tool.proofs.Commands.{the_app_is_simple}
-use Rattle.tool.proofs.settings.settings.Goals as goal
+use Rattle.tool.proofs.task.settings.Goals as goal
 
 pub returns-in-Some : goal.returns-in-Some
 returns-in-Some c =

@@ -4,8 +4,8 @@ ghost use Rattle.std.specs.Prelude.{◌≡◌, ◌⊎◌};
 
 use crate::inspect::{check, dump};
 use crate::progress::{Meter, Watched, bytes_of};
-use crate::settings::{Numbers, Task, settings};
 use crate::status::{DONE, FAILED, MISUSED};
+use crate::task::{Numbers, Task, settings};
 use clap::error::ErrorKind;
 use engine::{Options, Session};
 use ikey::Bytewise;

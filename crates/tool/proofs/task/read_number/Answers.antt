@@ -1,7 +1,7 @@
 use Rattle.std.specs.Str.Parse.{ParsesUnsigned, ExplainsUnsignedError, HasUnsignedDigitsIfOk}
 use Rattle.clap.specs.Words.{found_of}
 use Rattle.tool.proofs.Found.{number_found}
-use Rattle.tool.proofs.settings.read_number.Goals as goal
+use Rattle.tool.proofs.task.read_number.Goals as goal
 
 pub returns : goal.returns
 returns c =
