@@ -44,7 +44,7 @@ FIVE_ANSWERS = "ok; " + "; ".join(["ok; worked; worked"] * 5) + "; worked"
 WORKED = [
     ("", "open new; put 61 31; put 62 32; put 63 33; iter; seek 1 62; put 6262 34; del 63; compact all; next 1; next 1; next 1; drop 1; compact all",
      "ok; ok; ok; ok; iter 1; at 62 32; ok; ok; ok; at 63 33; end; refused 10 NoPlace; ok; ok",
-     ["table 6 8 61 1 put 31", "table 6 8 62 2 put 32", "table 6 8 6262 4 put 34"]),
+     ["table 6 6 61 1 put 31", "table 6 6 62 2 put 32", "table 6 6 6262 4 put 34"]),
     ("", "open new; put 61 31; put 63 33; compact all; put 62 32; iter; seek 1 62; next 1; prev 1; prev 1; prev 1; prev 1",
      "ok; ok; ok; ok; ok; iter 1; at 62 32; at 63 33; at 62 32; at 61 31; end; refused 10 NoPlace",
      ["table 6 5 61 1 put 31", "table 6 5 63 2 put 33", "log 3 62 3 put 32"]),
