@@ -21,7 +21,7 @@ SOURCES := crates.txt $(shell find crates -name out -prune -o \( -name '*.rt' -o
 help:
 	echo 'make demo      runs quickstart before any proof: it opens, writes, reads, closes and shows the log (under a minute)'
 	echo 'make quick     what needs no proof: each test and program, and over what is in build/ the checks of ldbtool and those beside LevelDB (minutes)'
-	echo 'make test      everything: each proof from nothing, each edit and test, the checks of ldbtool and those beside LevelDB itself (an hour)'
+	echo 'make test      everything: each proof from nothing, each edit and test, the checks of ldbtool and those beside LevelDB itself (two hours)'
 	echo 'make build     proves the programs and leaves them in build/'
 	echo 'make install   puts ldbtool, proved, and its manual page below PREFIX (/usr/local), which lies in DESTDIR (none)'
 	echo 'make uninstall takes both away again'
@@ -41,7 +41,7 @@ quick: needs-rt
 	tools/quick
 
 build: needs-rt
-	echo 'Proving $(PROGRAMS) and all below: up to half an hour from nothing, and seconds where nothing has changed.'
+	echo 'Proving $(PROGRAMS) and all below: one to two hours from nothing, and seconds where nothing has changed.'
 	mkdir -p build
 	for program in $(PROGRAMS); do \
 	  (cd crates/$$program && set -- && if [ -f args ]; then set -- -- $$(cat args); fi && $(RT) run "$$@" < /dev/null > /dev/null) && \
