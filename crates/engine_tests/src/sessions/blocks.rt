@@ -229,19 +229,26 @@ fn of_long_values(alloc: Global) -> Result<WatchedStore, DbError> {
     Ok(WatchedStore::new(store))
 }
 
+const WITH_AN_ITERATOR: &[Line<'static>] = &[(Open(Existing), Done), (Iterate, Made(1))];
+
+// The pair to which this move leads has the byte as its key, and that byte alone in its value.
+fn assert_shown(
+    rt: &(impl Abort + AllocGlobal),
+    session: &mut Session<WatchedStore, Bytewise>,
+    command: Command<'_>,
+    byte: u8,
+) -> Result<(), Fail> {
+    let value = vec![in rt.alloc(); byte; VALUE_LENGTH]?;
+    assert_script(rt, session, &[(command, At(&[byte], &value))])
+}
+
 // 16,777,216 bytes of values.
 #[test]
 fn an_iterator_reads_no_more_than_it_shows(rt: HostRuntime) -> Result<(), Fail> {
     let mut session = session(rt.alloc(), of_long_values(rt.alloc())?)?;
-    assert_script(
-        &rt,
-        &mut session,
-        &[(Open(Existing), Done), (Iterate, Made(1))],
-    )?;
+    assert_script(&rt, &mut session, WITH_AN_ITERATOR)?;
     for (byte, command) in [First(1), Next(1), Next(1), Next(1)].iter().enumerate() {
-        let byte = byte as u8;
-        let value = vec![in rt.alloc(); byte; VALUE_LENGTH]?;
-        assert_script(&rt, &mut session, &[(*command, At(&[byte], &value))])?;
+        assert_shown(&rt, &mut session, *command, byte as u8)?;
     }
     let bytes = session.store().bytes_read();
     assert!(rt;

@@ -184,6 +184,14 @@ const SEALED: &[Line<'static>] = &[
     (Work(1), Worked),
 ];
 
+// How many calls the store has had behind a script.
+fn calls_behind(rt: &(impl Abort + AllocGlobal), script: &[Line<'_>]) -> Result<u64, Fail> {
+    let store = FaultStore::new(MemStore::new(rt.alloc()), Vec::new(rt.alloc()));
+    let mut counted = eager(rt.alloc(), store)?;
+    assert_script(rt, &mut counted, script)?;
+    Ok(counted.store().calls())
+}
+
 // A session behind a script, whose store fails so many calls later.
 fn failing(
     rt: &(impl Abort + AllocGlobal),
@@ -191,15 +199,9 @@ fn failing(
     later: u64,
     fault: Fault,
 ) -> Result<Session<FaultStore, Bytewise>, Fail> {
-    let alloc = rt.alloc();
-    let mut counted = eager(
-        alloc,
-        FaultStore::new(MemStore::new(alloc), Vec::new(alloc)),
-    )?;
-    assert_script(rt, &mut counted, script)?;
-    let mut faults = Vec::new(alloc);
-    faults.push((counted.store().calls().saturating_add(later), fault))?;
-    let mut session = eager(alloc, FaultStore::new(MemStore::new(alloc), faults))?;
+    let call = calls_behind(rt, script)?.saturating_add(later);
+    let store = failing_store(rt.alloc(), call, fault)?;
+    let mut session = eager(rt.alloc(), store)?;
     assert_script(rt, &mut session, script)?;
     Ok(session)
 }
