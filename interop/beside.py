@@ -5,6 +5,9 @@ import subprocess
 import sys
 import tempfile
 
+sys.path.append(os.path.join(os.path.dirname(os.path.dirname(os.path.abspath(__file__))), "tools"))
+from listed import CHECKS, Wrong, check  # noqa: E402  pylint: disable=wrong-import-position
+
 if len(sys.argv) != 5:
     sys.exit("usage: checks.py QUICKSTART TABLES LDBTOOL LEVELDB_DRIVER")
 QUICKSTART, TABLES, LDBTOOL, LEVELDB = map(os.path.abspath, sys.argv[1:])
@@ -14,21 +17,6 @@ SECONDS = 60
 # what QUICKSTART writes
 KEY = "61"
 WRITTEN = "31"
-
-CHECKS = []
-
-
-class Wrong(Exception):
-    """What a check found in place of what it wants."""
-
-
-def check(name):
-    def keep(function):
-        CHECKS.append((name, function))
-        return function
-
-    return keep
-
 
 def want(holds, text):
     if not holds:

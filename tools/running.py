@@ -3,24 +3,11 @@ import os
 import subprocess
 import sys
 
+from listed import Wrong
 from repository import ROOT
 
 PROGRAM = os.path.abspath(sys.argv[1] if len(sys.argv) > 1 else f"{ROOT}/build/ldbtool")
 SECONDS = 60
-CHECKS = []
-
-
-class Wrong(Exception):
-    """What a check found in place of what it wants."""
-
-
-def check(name):
-    def keep(function):
-        CHECKS.append((name, function))
-        return function
-
-    return keep
-
 
 def want(found, wanted, what):
     if found != wanted:

@@ -50,6 +50,10 @@ impl Store for RefusingStore {
 
     // Where a call is refused, a file is removed that isn't there, which fails and is counted.
 
+    fn failures(&self) -> u64 {
+        self.inner.failures()
+    }
+
     fn list(&mut self, alloc: Global) -> Result<Vec<String>, StoreError> {
         if self.is_refused() {
             self.inner.remove("")?;

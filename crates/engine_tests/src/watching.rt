@@ -67,6 +67,10 @@ impl Store for WatchedStore {
 
     ghost facts = { λ w. record (mem_facts w.inner) { faithful = false } };
 
+    fn failures(&self) -> u64 {
+        self.inner.failures()
+    }
+
     fn list(&mut self, alloc: Global) -> Result<Vec<String>, StoreError> {
         self.inner.list(alloc)
     }

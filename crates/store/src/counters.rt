@@ -21,6 +21,13 @@ impl Counters {
         }
     }
 
+    /// How often a call failed.
+    pub fn failures(&self) -> u64
+        ensures { result ≡ self.now.failures }
+    {
+        self.failures
+    }
+
     /// Answers Device for a call that failed, and counts it. A failure behind the last one that the counter can
     /// hold, the one of number 2^64 - 1, is answered by Ok in its place, since Device would promise a count.
     pub fn fail(&mut self) -> Result<(), StoreError>

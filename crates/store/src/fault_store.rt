@@ -70,6 +70,10 @@ impl Store for FaultStore {
 
     ghost facts = { fault_facts };
 
+    fn failures(&self) -> u64 {
+        self.inner.failures()
+    }
+
     fn list(&mut self, alloc: Global) -> Result<Vec<String>, StoreError> {
         self.count();
         self.inner.list(alloc)

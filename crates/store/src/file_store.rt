@@ -49,6 +49,10 @@ impl FileStore {
 impl Store for FileStore {
     ghost facts = { λ store. counted_facts store.held store.counters };
 
+    fn failures(&self) -> u64 {
+        self.counters.failures()
+    }
+
     fn list(&mut self, alloc: Global) -> Result<Vec<String>, StoreError> {
         match self.folder.list(alloc) {
             Ok(names) => Ok(names),

@@ -71,6 +71,10 @@ impl Store for MemStore {
 
     ghost facts = { mem_facts };
 
+    fn failures(&self) -> u64 {
+        self.counters.failures()
+    }
+
     fn list(&mut self, alloc: Global) -> Result<Vec<String>, StoreError> {
         let mut names = Vec::new(alloc);
         for name in self.files.keys() {

@@ -25,6 +25,10 @@ pub trait Store {
     /// failures and of denied locks.
     ghost facts: { Self → Facts };
 
+    /// How often a call failed so far: the failures of the facts, without a call of the device.
+    fn failures(&self) -> u64
+        ensures { result ≡ (facts self.now).failures };
+
     /// The names of all files, each once, in no order.
     fn list(&mut self, alloc: Global) -> Result<Vec<String>, StoreError>
         ensures counts { Counts (facts self.old) (facts self.new) result }

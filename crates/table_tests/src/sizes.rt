@@ -21,6 +21,10 @@ impl Store for Watched {
 
     ghost facts = { λ w. mem_facts w.inner };
 
+    fn failures(&self) -> u64 {
+        self.inner.failures()
+    }
+
     fn list(&mut self, alloc: Global) -> Result<Vec<String>, StoreError> {
         self.inner.list(alloc)
     }

@@ -88,6 +88,10 @@ pub fn bytes_of<S: Store>(alloc: Global, store: &mut S) -> u64 {
 impl<S: Store> Store for Watched<S> {
     ghost facts = { λ watched. S.facts watched.inner };
 
+    fn failures(&self) -> u64 {
+        self.inner.failures()
+    }
+
     fn list(&mut self, alloc: Global) -> Result<Vec<String>, StoreError> {
         self.inner.list(alloc)
     }
