@@ -14,7 +14,7 @@ use Rattle.engine.specs.declared.command.Answer.TheVariants as answer
 use Rattle.memtable.specs.Contents.{size_of}
 use Rattle.engine.specs.declared.ids.Ids.{Ids}
 use Rattle.engine.specs.Held.{Held}
-use Rattle.engine.specs.Stands.{store_of, held_in}
+use Rattle.engine.specs.Stands.{store_of, held_in, options_of}
 use Rattle.engine.specs.StandsDb.{db_store_of, held_by}
 use Rattle.engine.specs.declared.work.Progress.{Progress}
 use Rattle.engine.specs.declared.work.Progress.TheVariants.{Idle}
@@ -135,6 +135,7 @@ pub record Applied {S K : Type 0} {g : _} (order : Order) (facts : S → Facts) 
   pub shown : ShownBy op old answer
   pub leaves : LeavesBy op new answer
   pub shut : ShutBy op new
+  pub options : options_of new ≡ options_of old
 
 -- ---- of a list of commands
 

@@ -34,6 +34,7 @@ returns-in-Some-clause-done g c =
       shown = c.apply-answer.ensures.shown;
       leaves = c.apply-answer.ensures.leaves;
       shut = c.apply-answer.ensures.shut;
+      options = c.apply-answer.ensures.options;
     } in
     on_ok_so c.push_answer-in-Some.result _ _ (λ text. (Some c.in-Some.command ∷ [], c.apply-answer.result ∷ [], one, text)) c.push_answer-in-Some.ensures.ok
 
@@ -51,5 +52,6 @@ returns-in-Some-clause-stopped g c =
       shown = c.apply-answer.ensures.shown;
       leaves = c.apply-answer.ensures.leaves;
       shut = c.apply-answer.ensures.shut;
+      options = c.apply-answer.ensures.options;
     } in
     on_err_so c.push_answer-in-Some.result _ _ (λ text. (c.args.line.now ∷ [], Some c.in-Some.command ∷ [], c.apply-answer.result ∷ [], inr refl, one, text)) c.push_answer-in-Some.ensures.err

@@ -29,5 +29,6 @@ returns-clause-finished g c = record {
     shown = c.apply.ensures.shown;
     leaves = c.apply.ensures.leaves;
     shut = c.apply.ensures.shut;
+    options = c.apply.ensures.options;
   };
 }
