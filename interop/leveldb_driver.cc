@@ -29,7 +29,7 @@
 //   --file-bytes=N       max_file_size
 //   --backwards          `dump` goes from the last pair to the first
 //   --seed=N             which history
-//   --operations=N       how many operations a history has (8000)
+//   --operations=N       how many operations a history has (10000)
 
 #include <cstdint>
 #include <cstdlib>
@@ -98,7 +98,7 @@ struct Database {
   leveldb::Options options;
   bool backwards = false;
   uint64_t seed = 0;
-  int operations = 8000;
+  int operations = 10000;
 };
 
 // What a flag says of a database. The comparator and the filter policy are kept to the end of the program.
@@ -296,7 +296,7 @@ leveldb::Options ChosenOptions(const leveldb::Options& given, Chance* chance) {
   leveldb::Options options = given;
   options.create_if_missing = true;
   options.reuse_logs = chance->Below(2) == 0;
-  options.write_buffer_size = 64 << 10;
+  options.write_buffer_size = chance->OneOf({64 << 10, 64 << 10, 96 << 10, 256 << 10});
   options.max_file_size = 1 << 20;
   options.block_size = chance->OneOf({512, 1024, 2048, 4096, 16384});
   options.block_restart_interval = chance->OneOf({1, 2, 5, 16, 32});
