@@ -10,6 +10,8 @@ mod cursors;
 #[cfg(test)]
 mod directories;
 #[cfg(test)]
+mod drawn_moves;
+#[cfg(test)]
 mod entries;
 #[cfg(test)]
 mod files;
