@@ -1,8 +1,8 @@
 // Beneath a program, by LD_PRELOAD: the allocation of one number is refused, and all are counted. tools/allocations builds and
 // uses it.
 //
-//   REFUSED_ALLOCATION=N    the Nth allocation answers null, none where N is 0
-//   ALLOCATIONS_FILE=FILE   has two words of 64 bits: how many allocations there were, and how many of them were refused. It is
+//   REFUSED_NUMBER=N    the Nth allocation answers null, none where N is 0
+//   COUNTS_FILE=FILE   has two words of 64 bits: how many allocations there were, and how many of them were refused. It is
 //                           mapped, so that they stand there however the program ends.
 #include <errno.h>
 #include <fcntl.h>
@@ -27,8 +27,8 @@ static struct counts *counts;
 static uint64_t refused_number;
 
 __attribute__((constructor)) static void begin(void) {
-  const char *name = getenv("ALLOCATIONS_FILE");
-  const char *number = getenv("REFUSED_ALLOCATION");
+  const char *name = getenv("COUNTS_FILE");
+  const char *number = getenv("REFUSED_NUMBER");
   int file = name ? open(name, O_RDWR) : -1;
   if (file < 0 || !number) abort();
   void *words = mmap(NULL, sizeof(struct counts), PROT_READ | PROT_WRITE, MAP_SHARED, file, 0);
