@@ -11,8 +11,6 @@ mod origins;
 #[cfg(test)]
 mod readings;
 #[cfg(test)]
-mod refusing;
-#[cfg(test)]
 mod scripts;
 #[cfg(test)]
 mod sessions;

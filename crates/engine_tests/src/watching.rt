@@ -1,15 +1,18 @@
-//! A store in memory that notes what is read of it, and can be told to return other bytes, or to keep its files.
+//! A store in memory that counts what is asked of it, and can be told to answer otherwise.
+ghost use Rattle.std.specs.Prelude.{◌≡◌};
 ghost use Rattle.store.specs.MemFacts.{mem_facts};
 
 use std::alloc::Global;
 use std::cell::Cell;
 use store::{MemStore, Store, StoreError};
 
-/// Files in memory. It counts the reads of tables, and the bytes that all reads gave. Since a byte of what it returns may be
-/// another one than was written, it isn't faithful.
+/// Files in memory. It counts the calls, but for those of the lock, the reads of tables, and the bytes that all reads gave. One call
+/// may be refused, a byte of what it returns be another one than was written, and files not be removed: so it isn't faithful.
 #[derive(Drop)]
 pub struct WatchedStore {
     inner: MemStore,
+    refused: u64,
+    calls: u64,
     table_reads: u64,
     bytes_read: u64,
     changed: Cell<Option<(u64, u8)>>,
@@ -19,13 +22,25 @@ pub struct WatchedStore {
 impl WatchedStore {
     /// These files, of which nothing was read yet.
     pub fn new(inner: MemStore) -> Self {
+        WatchedStore::refusing(inner, 0)
+    }
+
+    /// The same, where the call of this number, from 1 on, changes nothing and answers that the device failed.
+    pub fn refusing(inner: MemStore, refused: u64) -> Self {
         WatchedStore {
             inner,
+            refused,
+            calls: 0,
             table_reads: 0,
             bytes_read: 0,
             changed: Cell::new(None),
             keeps: Cell::new(false),
         }
+    }
+
+    /// How many calls there were so far.
+    pub fn calls(&self) -> u64 {
+        self.calls
     }
 
     /// How many reads of tables there were.
@@ -48,6 +63,19 @@ impl WatchedStore {
         self.keeps.set(keeps);
     }
 
+    /// The files as they are now.
+    pub fn into_inner(self) -> MemStore {
+        self.inner
+    }
+
+    // Counts a call, and says whether it is the one that is refused.
+    fn is_refused(&mut self) -> bool
+        ensures { self.new.inner ≡ self.old.inner }
+    {
+        self.calls = self.calls.saturating_add(1);
+        self.calls == self.refused
+    }
+
     // Puts the changed byte into what was read from an offset on, where it lies there.
     fn put_changed(&self, offset: u64, read: &mut [u8]) {
         let Some((place, byte)) = self.changed.get() else {
@@ -60,6 +88,17 @@ impl WatchedStore {
             *found = byte;
         }
     }
+
+    // Notes what was read.
+    fn note(&mut self, name: &str, offset: u64, read: &mut [u8])
+        ensures { self.new.inner ≡ self.old.inner }
+    {
+        self.bytes_read = self.bytes_read.saturating_add(read.len() as u64);
+        if name.ends_with(".ldb") {
+            self.table_reads = self.table_reads.saturating_add(1);
+            self.put_changed(offset, read);
+        }
+    }
 }
 
 impl Store for WatchedStore {
@@ -67,15 +106,23 @@ impl Store for WatchedStore {
 
     ghost facts = { λ w. record (mem_facts w.inner) { faithful = false } };
 
+    // Where a call is refused, a file is removed that isn't there, which fails and is counted.
+
     fn failures(&self) -> u64 {
         self.inner.failures()
     }
 
     fn list(&mut self, alloc: Global) -> Result<Vec<String>, StoreError> {
+        if self.is_refused() {
+            self.inner.remove("")?;
+        }
         self.inner.list(alloc)
     }
 
     fn len(&mut self, name: &str) -> Result<u64, StoreError> {
+        if self.is_refused() {
+            self.inner.remove("")?;
+        }
         self.inner.len(name)
     }
 
@@ -86,34 +133,44 @@ impl Store for WatchedStore {
         offset: u64,
         count: usize,
     ) -> Result<Vec<u8>, StoreError> {
-        let mut read = self.inner.read_at(alloc, name, offset, count)?;
-        self.bytes_read = self.bytes_read.saturating_add(read.len() as u64);
-        if name.ends_with(".ldb") {
-            self.table_reads = self.table_reads.saturating_add(1);
-            self.put_changed(offset, read.as_mut_slice());
+        if self.is_refused() {
+            self.inner.remove("")?;
         }
+        let mut read = self.inner.read_at(alloc, name, offset, count)?;
+        self.note(name, offset, read.as_mut_slice());
         Ok(read)
     }
 
     fn create(&mut self, name: &str) -> Result<(), StoreError> {
+        if self.is_refused() {
+            return self.inner.remove("");
+        }
         self.inner.create(name)
     }
 
     fn append(&mut self, name: &str, bytes: &[u8]) -> Result<(), StoreError> {
+        if self.is_refused() {
+            return self.inner.remove("");
+        }
         self.inner.append(name, bytes)
     }
 
     fn sync(&mut self, name: &str) -> Result<(), StoreError> {
+        if self.is_refused() {
+            return self.inner.remove("");
+        }
         self.inner.sync(name)
     }
 
     fn rename(&mut self, from: &str, to: &str) -> Result<(), StoreError> {
+        if self.is_refused() {
+            return self.inner.remove("");
+        }
         self.inner.rename(from, to)
     }
 
     fn remove(&mut self, name: &str) -> Result<(), StoreError> {
-        if self.keeps.get() {
-            // fails, and is counted, since there is no such file
+        if self.is_refused() || self.keeps.get() {
             return self.inner.remove("");
         }
         self.inner.remove(name)

@@ -1,37 +1,54 @@
-use crate::sessions::{Change, Command, Wanted, answer_of};
 use batch::Operation;
-use coding::{Damage, DbError, FileKind};
+use coding::{Bytes, Damage, DbError, FileKind};
 use engine::{Answer, Mode, Op};
 use script::{answer_line, read_line};
-use std::alloc::{AllocGlobal, Global};
+use std::alloc::{AllocError, AllocGlobal, Global};
 
-const SAID: [(&str, Command); 30] = [
+// What a batch does to one key.
+enum Change {
+    To(&'static [u8], &'static [u8]),
+    Gone(&'static [u8]),
+}
+
+// A command, as `Op` has it.
+enum Command {
+    Open(Mode),
+    Write(&'static [Change], bool),
+    Get(&'static [u8], Option<u64>),
+    Snapshot,
+    Release(u64),
+    Iterate(Option<u64>),
+    First(u64),
+    Last(u64),
+    Seek(u64, &'static [u8]),
+    Next(u64),
+    Prev(u64),
+    DropIterator(u64),
+    Work(u32),
+    CompactLevel(u32),
+    CompactAll,
+    Close,
+}
+
+#[rattlefmt::skip]
+const SAID: &[(&str, Command)] = &[
     ("open", Command::Open(Mode::Existing)),
     ("open new", Command::Open(Mode::New)),
     ("open any", Command::Open(Mode::Any)),
-    ("put 61 31", Command::Put(b"a", b"1")),
-    ("put - -", Command::Put(b"", b"")),
-    ("put 6Aff 0aBC", Command::Put(b"\x6a\xff", b"\x0a\xbc")),
-    ("del 61", Command::Delete(b"a")),
-    ("write", Command::Write(&[])),
-    ("write sync", Command::WriteSync(&[])),
-    (
-        "write put 61 31 del 61",
-        Command::Write(&[Change::To(b"a", b"1"), Change::Gone(b"a")]),
-    ),
-    (
-        "write sync del - put 62 -",
-        Command::WriteSync(&[Change::Gone(b""), Change::To(b"b", b"")]),
-    ),
-    ("get 61", Command::Get(b"a")),
-    ("get - 3", Command::GetAt(b"", 3)),
+    ("put 61 31", Command::Write(&[Change::To(b"a", b"1")], false)),
+    ("put - -", Command::Write(&[Change::To(b"", b"")], false)),
+    ("put 6Aff 0aBC", Command::Write(&[Change::To(b"\x6a\xff", b"\x0a\xbc")], false)),
+    ("del 61", Command::Write(&[Change::Gone(b"a")], false)),
+    ("write", Command::Write(&[], false)),
+    ("write sync", Command::Write(&[], true)),
+    ("write put 61 31 del 61", Command::Write(&[Change::To(b"a", b"1"), Change::Gone(b"a")], false)),
+    ("write sync del - put 62 -", Command::Write(&[Change::Gone(b""), Change::To(b"b", b"")], true)),
+    ("get 61", Command::Get(b"a", None)),
+    ("get - 3", Command::Get(b"", Some(3))),
     ("snapshot", Command::Snapshot),
     ("release 0", Command::Release(0)),
-    ("iter", Command::Iterate),
-    (
-        "iter 18446744073709551615",
-        Command::IterateAt(18_446_744_073_709_551_615),
-    ),
+    ("iter", Command::Iterate(None)),
+    ("iter 18446744073709551615", Command::Iterate(Some(18_446_744_073_709_551_615))),
     ("first 1", Command::First(1)),
     ("last 2", Command::Last(2)),
     ("seek 4 00", Command::Seek(4, b"\x00")),
@@ -47,63 +64,68 @@ const SAID: [(&str, Command); 30] = [
     ("close", Command::Close),
 ];
 
-fn is_change(operation: &Operation, change: Change<'_>) -> bool {
-    match operation {
-        Operation::Put(key, value) => {
-            matches!(change, Change::To(k, v) if key.as_slice() == k && value.as_slice() == v)
+fn is_change(operation: &Operation, change: &Change) -> bool {
+    match (operation, change) {
+        (Operation::Put(key, value), Change::To(other, to)) => {
+            key.as_slice() == *other && value.as_slice() == *to
         }
-        Operation::Delete(key) => matches!(change, Change::Gone(k) if key.as_slice() == k),
-    }
-}
-
-fn are_changes(operations: &[Operation], changes: &[Change<'_>]) -> bool {
-    operations.len() == changes.len()
-        && operations
-            .iter()
-            .zip(changes)
-            .all(|(operation, change)| is_change(operation, *change))
-}
-
-fn is_write(operations: &[Operation], sync: bool, wanted: Command<'_>) -> bool {
-    match wanted {
-        Command::Put(key, value) => !sync && are_changes(operations, &[Change::To(key, value)]),
-        Command::Delete(key) => !sync && are_changes(operations, &[Change::Gone(key)]),
-        Command::Write(changes) => !sync && are_changes(operations, changes),
-        Command::WriteSync(changes) => sync && are_changes(operations, changes),
+        (Operation::Delete(key), Change::Gone(other)) => key.as_slice() == *other,
         _ => false,
     }
 }
 
-fn is(op: &Op, wanted: Command<'_>) -> bool {
-    match op {
-        Op::Open(mode) => matches!(wanted, Command::Open(other) if other == *mode),
-        Op::Write(operations, sync) => is_write(operations, *sync, wanted),
-        Op::Get(key, None) => matches!(wanted, Command::Get(other) if key.as_slice() == other),
-        Op::Get(key, Some(id)) => {
-            matches!(wanted, Command::GetAt(other, at) if key.as_slice() == other && at == *id)
+fn are_changes(operations: &[Operation], changes: &[Change]) -> bool {
+    operations.len() == changes.len()
+        && operations
+            .iter()
+            .zip(changes)
+            .all(|(operation, change)| is_change(operation, change))
+}
+
+// Whether the command is of a database's entries, and the same.
+fn is_of_entries(op: &Op, wanted: &Command) -> bool {
+    match (op, wanted) {
+        (Op::Write(operations, sync), Command::Write(changes, other)) => {
+            sync == other && are_changes(operations, *changes)
         }
-        Op::Snapshot => matches!(wanted, Command::Snapshot),
-        Op::Release(id) => matches!(wanted, Command::Release(other) if other == *id),
-        Op::Iterate(None) => matches!(wanted, Command::Iterate),
-        Op::Iterate(Some(id)) => matches!(wanted, Command::IterateAt(other) if other == *id),
-        Op::First(id) => matches!(wanted, Command::First(other) if other == *id),
-        Op::Last(id) => matches!(wanted, Command::Last(other) if other == *id),
-        Op::Seek(id, key) => {
-            matches!(wanted, Command::Seek(other, to) if other == *id && key.as_slice() == to)
-        }
-        Op::Next(id) => matches!(wanted, Command::Next(other) if other == *id),
-        Op::Prev(id) => matches!(wanted, Command::Prev(other) if other == *id),
-        Op::DropIterator(id) => matches!(wanted, Command::DropIterator(other) if other == *id),
-        Op::Work(budget) => matches!(wanted, Command::Work(other) if other == *budget),
-        Op::CompactLevel(level) => {
-            matches!(wanted, Command::CompactLevel(other) if other == *level)
-        }
-        Op::CompactAll => matches!(wanted, Command::CompactAll),
-        Op::Close => matches!(wanted, Command::Close),
+        (Op::Get(key, id), Command::Get(other, at)) => key.as_slice() == *other && id == at,
+        (Op::Seek(id, key), Command::Seek(other, to)) => id == other && key.as_slice() == *to,
+        _ => false,
     }
 }
 
-fn says(alloc: Global, line: &str, wanted: Command<'_>) -> bool {
+// The same of a command of an iterator or a snapshot.
+fn is_of_views(op: &Op, wanted: &Command) -> bool {
+    match (op, wanted) {
+        (Op::Snapshot, Command::Snapshot) => true,
+        (Op::Release(id), Command::Release(other)) => id == other,
+        (Op::Iterate(id), Command::Iterate(other)) => id == other,
+        (Op::First(id), Command::First(other)) => id == other,
+        (Op::Last(id), Command::Last(other)) => id == other,
+        (Op::Next(id), Command::Next(other)) => id == other,
+        (Op::Prev(id), Command::Prev(other)) => id == other,
+        (Op::DropIterator(id), Command::DropIterator(other)) => id == other,
+        _ => false,
+    }
+}
+
+// The same of a command of files.
+fn is_of_files(op: &Op, wanted: &Command) -> bool {
+    match (op, wanted) {
+        (Op::Open(mode), Command::Open(other)) => mode == other,
+        (Op::Work(budget), Command::Work(other)) => budget == other,
+        (Op::CompactLevel(level), Command::CompactLevel(other)) => level == other,
+        (Op::CompactAll, Command::CompactAll) => true,
+        (Op::Close, Command::Close) => true,
+        _ => false,
+    }
+}
+
+fn is(op: &Op, wanted: &Command) -> bool {
+    is_of_entries(op, wanted) || is_of_views(op, wanted) || is_of_files(op, wanted)
+}
+
+fn says(alloc: Global, line: &str, wanted: &Command) -> bool {
     matches!(read_line(alloc, line.as_bytes()), Ok(Some(op)) if is(&op, wanted))
 }
 
@@ -199,37 +221,69 @@ fn other_lines_say_nothing(rt: HostRuntime) {
     }
 }
 
-const ANSWERS: [(Wanted, &str); 13] = [
+// An answer, as `Answer` has it.
+enum Wanted {
+    Done,
+    Value(Option<&'static [u8]>),
+    Snapshot(u64),
+    Iterator(u64),
+    Pair(Option<(&'static [u8], &'static [u8])>),
+    Worked,
+    Idle,
+    Refused(DbError),
+}
+
+#[rattlefmt::skip]
+const ANSWERS: &[(Wanted, &str)] = &[
     (Wanted::Done, "ok"),
-    (Wanted::Absent, "none"),
-    (Wanted::Value(b"\x0a\xbc"), "value 0abc"),
-    (Wanted::Value(b""), "value -"),
-    (Wanted::Taken(1), "snapshot 1"),
-    (
-        Wanted::Made(18_446_744_073_709_551_615),
-        "iter 18446744073709551615",
-    ),
-    (Wanted::At(b"a", b""), "at 61 -"),
-    (Wanted::At(b"", b"\x00"), "at - 00"),
-    (Wanted::End, "end"),
+    (Wanted::Value(None), "none"),
+    (Wanted::Value(Some(b"\x0a\xbc")), "value 0abc"),
+    (Wanted::Value(Some(b"")), "value -"),
+    (Wanted::Snapshot(1), "snapshot 1"),
+    (Wanted::Iterator(18_446_744_073_709_551_615), "iter 18446744073709551615"),
+    (Wanted::Pair(Some((b"a", b""))), "at 61 -"),
+    (Wanted::Pair(Some((b"", b"\x00"))), "at - 00"),
+    (Wanted::Pair(None), "end"),
     (Wanted::Worked, "worked"),
     (Wanted::Idle, "idle"),
     (Wanted::Refused(DbError::BadLine), "refused 20 BadLine"),
-    (
-        Wanted::Refused(DbError::Corrupt(FileKind::Table, Damage::Order)),
-        "refused 5 Corrupt",
-    ),
+    (Wanted::Refused(DbError::Corrupt(FileKind::Table, Damage::Order)), "refused 5 Corrupt"),
 ];
+
+fn value_of(alloc: Global, value: Option<&[u8]>) -> Result<Answer, AllocError> {
+    match value {
+        Some(value) => Ok(Answer::Value(Some(Bytes::copied_from(alloc, value)?))),
+        None => Ok(Answer::Value(None)),
+    }
+}
+
+fn pair_of(alloc: Global, pair: Option<(&[u8], &[u8])>) -> Result<Answer, AllocError> {
+    let Some((key, value)) = pair else {
+        return Ok(Answer::Pair(None));
+    };
+    let key = Bytes::copied_from(alloc, key)?;
+    Ok(Answer::Pair(Some((key, Bytes::copied_from(alloc, value)?))))
+}
+
+fn answer_of(alloc: Global, wanted: &Wanted) -> Result<Answer, AllocError> {
+    match wanted {
+        Wanted::Done => Ok(Answer::Done),
+        Wanted::Value(value) => value_of(alloc, *value),
+        Wanted::Snapshot(id) => Ok(Answer::Snapshot(*id)),
+        Wanted::Iterator(id) => Ok(Answer::Iterator(*id)),
+        Wanted::Pair(pair) => pair_of(alloc, *pair),
+        Wanted::Worked => Ok(Answer::Worked),
+        Wanted::Idle => Ok(Answer::Idle),
+        Wanted::Refused(error) => Ok(Answer::Refused(*error)),
+    }
+}
 
 fn has_line(alloc: Global, answer: &Answer, line: &str) -> bool {
     matches!(answer_line(alloc, answer), Ok(text) if text.as_str() == line)
 }
 
-fn is_written(alloc: Global, wanted: Wanted<'_>, line: &str) -> bool {
-    match answer_of(alloc, wanted) {
-        Ok(answer) => has_line(alloc, &answer, line),
-        Err(_) => false,
-    }
+fn is_written(alloc: Global, wanted: &Wanted, line: &str) -> bool {
+    matches!(answer_of(alloc, wanted), Ok(answer) if has_line(alloc, &answer, line))
 }
 
 #[test]

@@ -1,7 +1,10 @@
-use crate::sessions::session;
+use crate::sessions::{DEFAULTS, session};
+use engine::Session;
+use ikey::Bytewise;
 use script::{Fault, drive};
-use std::alloc::{AllocError, AllocGlobal, Global};
+use std::alloc::{AllocGlobal, Global};
 use std::io::{self, ErrorKind, Read, Write};
+use std::process::Abort;
 use std::test::Fail;
 use store::MemStore;
 
@@ -33,74 +36,61 @@ const SCRIPTS: [(&str, &str); 9] = [
     ),
 ];
 
-fn is_answered(alloc: Global, script: &str, wanted: &str) -> Result<bool, Fail> {
-    let mut session = session(alloc, MemStore::new(alloc))?;
+type InMemory = Session<MemStore, Bytewise>;
+
+fn in_memory(alloc: Global) -> Result<InMemory, Fail> {
+    session(alloc, MemStore::new(alloc), DEFAULTS)
+}
+
+// What is written for a script, or nothing on a fault.
+fn written(alloc: Global, session: &mut InMemory, script: &str) -> Option<Vec<u8>> {
     let mut out = Vec::new(alloc);
-    let done = drive(alloc, &mut session, script.as_bytes(), &mut out).is_ok();
-    Ok(done && out.as_slice() == wanted.as_bytes())
+    match drive(alloc, session, script.as_bytes(), &mut out) {
+        Ok(()) => Some(out),
+        Err(_) => None,
+    }
+}
+
+fn is_answered(alloc: Global, session: &mut InMemory, script: &str, wanted: &str) -> bool {
+    matches!(written(alloc, session, script), Some(out) if out.as_slice() == wanted.as_bytes())
+}
+
+fn assert_answered(
+    rt: &(impl Abort + AllocGlobal),
+    script: &str,
+    wanted: &str,
+) -> Result<(), Fail> {
+    let mut session = in_memory(rt.alloc())?;
+    assert!(rt;
+        is_answered(rt.alloc(), &mut session, script, wanted),
+        "{script}"
+    );
+    Ok(())
 }
 
 #[test]
 fn scripts_are_answered(rt: HostRuntime) -> Result<(), Fail> {
     for (script, wanted) in SCRIPTS {
-        assert!(rt; is_answered(rt.alloc(), script, wanted)?, "{script}");
+        assert_answered(&rt, script, wanted)?;
     }
     Ok(())
 }
 
-// Runs two scripts one after the other over one store.
-fn is_answered_behind(
-    alloc: Global,
-    first: &str,
-    second: &str,
-    wanted: &str,
-) -> Result<bool, Fail> {
-    let mut session = session(alloc, MemStore::new(alloc))?;
-    let mut out = Vec::new(alloc);
-    let first = drive(alloc, &mut session, first.as_bytes(), &mut out).is_ok();
-    let second = drive(alloc, &mut session, second.as_bytes(), &mut out).is_ok();
-    Ok(first && second && out.as_slice() == wanted.as_bytes())
+// The first script leaves its database open.
+fn is_answered_behind(alloc: Global, session: &mut InMemory) -> bool {
+    is_answered(alloc, session, "open new\nput 61 31\n", "ok\nok\n")
+        && is_answered(
+            alloc,
+            session,
+            "get 61\nopen\nget 61\n",
+            "refused 16 NotOpen\nok\nvalue 31\n",
+        )
 }
 
 #[test]
 fn an_open_database_is_closed_at_the_end(rt: HostRuntime) -> Result<(), Fail> {
-    assert!(rt;
-        is_answered_behind(
-            rt.alloc(),
-            "open new\nput 61 31\n",
-            "get 61\nopen\nget 61\n",
-            "ok\nok\nrefused 16 NotOpen\nok\nvalue 31\n"
-        )?
-    );
-    Ok(())
-}
-
-// A script with a value of a million digits, and how many bytes are written.
-fn long_script(alloc: Global) -> Result<String, AllocError> {
-    let mut script = String::from_str(alloc, "open new\nput 61 ")?;
-    for _ in 0..500_000 {
-        script.push_str("62")?;
-    }
-    script.push_str("\nget 62\nget 61\n")?;
-    Ok(script)
-}
-
-fn written_of(alloc: Global, script: &str) -> Result<Option<usize>, Fail> {
-    let mut session = session(alloc, MemStore::new(alloc))?;
-    let mut out = Vec::new(alloc);
-    let done = drive(alloc, &mut session, script.as_bytes(), &mut out).is_ok();
-    let begins = out.starts_with(b"ok\nok\nnone\nvalue 626262");
-    Ok(if done && begins {
-        Some(out.len())
-    } else {
-        None
-    })
-}
-
-#[test]
-fn long_lines_are_read(rt: HostRuntime) -> Result<(), Fail> {
-    let script = long_script(rt.alloc())?;
-    assert_eq!(rt; written_of(rt.alloc(), script.as_str())?, Some(1_000_018));
+    let mut session = in_memory(rt.alloc())?;
+    assert!(rt; is_answered_behind(rt.alloc(), &mut session));
     Ok(())
 }
 
@@ -131,23 +121,34 @@ const SCRIPT: &str = "open new\nput 61 31\nget 61\nfrob\nget 62\n";
 
 const TEXT: &str = "ok\nok\nvalue 31\nrefused 20 BadLine\nnone\n";
 
+// Whether it has a beginning of the text, as long as its room.
+fn has_beginning(writer: &Short, room: usize) -> bool {
+    writer.taken.len() == room && TEXT.as_bytes().starts_with(writer.taken.as_slice())
+}
+
 // Whether a writer with room for so many bytes has them, and the fault is that of writing.
-fn is_cut(alloc: Global, room: usize) -> Result<bool, Fail> {
-    let mut session = session(alloc, MemStore::new(alloc))?;
+fn is_cut(alloc: Global, session: &mut InMemory, room: usize) -> bool {
     let mut writer = Short {
         taken: Vec::new(alloc),
         room,
     };
-    let result = drive(alloc, &mut session, SCRIPT.as_bytes(), &mut writer);
-    let is_write = matches!(result, Err(Fault::Write(_)));
-    let whole = writer.taken.len() == room;
-    Ok(is_write && whole && TEXT.as_bytes().starts_with(writer.taken.as_slice()))
+    let is_write = matches!(
+        drive(alloc, session, SCRIPT.as_bytes(), &mut writer),
+        Err(Fault::Write(_))
+    );
+    is_write && has_beginning(&writer, room)
+}
+
+fn assert_cut(rt: &(impl Abort + AllocGlobal), room: usize) -> Result<(), Fail> {
+    let mut session = in_memory(rt.alloc())?;
+    assert!(rt; is_cut(rt.alloc(), &mut session, room), "{room}");
+    Ok(())
 }
 
 #[test]
 fn a_writer_that_fails_has_a_beginning_of_the_text(rt: HostRuntime) -> Result<(), Fail> {
     for room in 0..TEXT.len() {
-        assert!(rt; is_cut(rt.alloc(), room)?, "{room}");
+        assert_cut(&rt, room)?;
     }
     Ok(())
 }
@@ -172,25 +173,29 @@ impl Read for Broken<'_> {
     }
 }
 
-// Whether the whole lines of a script that breaks off are answered, and its session stays open.
-fn is_broken_off(alloc: Global, script: &[u8], then: &str, wanted: &str) -> Result<bool, Fail> {
-    let mut session = session(alloc, MemStore::new(alloc))?;
+// Whether the whole lines of a script that breaks off are answered.
+fn is_broken_off(alloc: Global, session: &mut InMemory, script: &[u8], wanted: &str) -> bool {
     let mut out = Vec::new(alloc);
-    let result = drive(alloc, &mut session, Broken { bytes: script }, &mut out);
-    let is_read = matches!(result, Err(Fault::Read(_)));
-    let goes_on = drive(alloc, &mut session, then.as_bytes(), &mut out).is_ok();
-    Ok(is_read && goes_on && out.as_slice() == wanted.as_bytes())
+    let is_read = matches!(
+        drive(alloc, session, Broken { bytes: script }, &mut out),
+        Err(Fault::Read(_))
+    );
+    is_read && out.as_slice() == wanted.as_bytes()
 }
 
+// The session stays open.
 #[test]
 fn a_reader_that_fails_has_its_whole_lines_answered(rt: HostRuntime) -> Result<(), Fail> {
+    let alloc = rt.alloc();
+    let mut session = in_memory(alloc)?;
     assert!(rt;
         is_broken_off(
-            rt.alloc(),
+            alloc,
+            &mut session,
             b"open new\nput 61 31\nget 6",
-            "get 61",
-            "ok\nok\nvalue 31\n"
-        )?
+            "ok\nok\n"
+        )
     );
+    assert!(rt; is_answered(alloc, &mut session, "get 61", "value 31\n"));
     Ok(())
 }

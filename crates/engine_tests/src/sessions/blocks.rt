@@ -1,125 +1,37 @@
 // What is read of tables block by block, and when.
-use super::Command::{First, Get, Iterate, Last, Next, Open, Prev};
-use super::Wanted::{Absent, At, Done, End, Made, Refused, Value};
+use super::tables::FILTERED;
 use super::*;
 use crate::checks::{ONE_ENTRY, directory as with_log};
-use crate::readings::{log_of, put};
+use crate::readings::log_of;
 use crate::watching::WatchedStore;
-use coding::{Damage, Feature, FileKind, put_varint64};
-use engine::Mode::Existing;
+use coding::put_varint64;
 use ikey::{Kind, pack};
-use recover::check;
 use std::test::Fail;
 use table::TableBuilder;
 
-// A table of two data blocks of an entry each, at 0 and at 26: 31 put at the key 61 with sequence 1, and 32 at the key 62
-// with sequence 2. It has one filter for both.
-#[rattlefmt::skip]
-const TWO_BLOCKS: [u8; 220] = [
-    0x00, 0x09, 0x01, 0x61, 0x01, 0x01, 0x00, 0x00, 0x00, 0x00, 0x00, 0x00, 0x31, 0x00, 0x00, 0x00,
-    0x00, 0x01, 0x00, 0x00, 0x00, 0x00, 0x82, 0x7E, 0xF9, 0x3A, 0x00, 0x09, 0x01, 0x62, 0x01, 0x02,
-    0x00, 0x00, 0x00, 0x00, 0x00, 0x00, 0x32, 0x00, 0x00, 0x00, 0x00, 0x01, 0x00, 0x00, 0x00, 0x00,
-    0x76, 0x69, 0xBB, 0x84, 0x18, 0x30, 0x60, 0xC0, 0x80, 0x01, 0x03, 0x00, 0x06, 0x00, 0x00, 0x00,
-    0x00, 0x09, 0x00, 0x00, 0x00, 0x0B, 0x00, 0x10, 0x63, 0xB7, 0xF6, 0x00, 0x22, 0x02, 0x66, 0x69,
-    0x6C, 0x74, 0x65, 0x72, 0x2E, 0x6C, 0x65, 0x76, 0x65, 0x6C, 0x64, 0x62, 0x2E, 0x42, 0x75, 0x69,
-    0x6C, 0x74, 0x69, 0x6E, 0x42, 0x6C, 0x6F, 0x6F, 0x6D, 0x46, 0x69, 0x6C, 0x74, 0x65, 0x72, 0x32,
-    0x34, 0x12, 0x00, 0x00, 0x00, 0x00, 0x01, 0x00, 0x00, 0x00, 0x00, 0x24, 0x5C, 0xED, 0xFE, 0x00,
-    0x09, 0x02, 0x61, 0x01, 0x01, 0x00, 0x00, 0x00, 0x00, 0x00, 0x00, 0x00, 0x15, 0x00, 0x09, 0x02,
-    0x62, 0x01, 0x02, 0x00, 0x00, 0x00, 0x00, 0x00, 0x00, 0x1A, 0x15, 0x00, 0x00, 0x00, 0x00, 0x0E,
-    0x00, 0x00, 0x00, 0x02, 0x00, 0x00, 0x00, 0x00, 0xD7, 0x29, 0x7E, 0x94, 0x4B, 0x2F, 0x7F, 0x28,
-    0x00, 0x00, 0x00, 0x00, 0x00, 0x00, 0x00, 0x00, 0x00, 0x00, 0x00, 0x00, 0x00, 0x00, 0x00, 0x00,
-    0x00, 0x00, 0x00, 0x00, 0x00, 0x00, 0x00, 0x00, 0x00, 0x00, 0x00, 0x00, 0x00, 0x00, 0x00, 0x00,
-    0x00, 0x00, 0x00, 0x00, 0x57, 0xFB, 0x80, 0x8B, 0x24, 0x75, 0x47, 0xDB,
-];
-
-// Log number 3, next file number 6, last sequence 2; that table as the table 5 of level 6.
-const TWO_BLOCKS_EDIT: &[u8] =
-    b"\x02\x03\x03\x06\x04\x02\x07\x06\x05\xdc\x01\x09a\x01\x01\0\0\0\0\0\0\x09b\x01\x02\0\0\0\0\0\0";
-
-const NOT_THE_SUM: DbError = DbError::Corrupt(FileKind::Table, Damage::Checksum);
-
-const NOT_PLAIN: DbError = DbError::Unsupported(Feature::BlockType);
-
-// Bytes of that table that are changed, each by its offset; what a check answers then, if it refuses; and a session.
-struct Changed {
-    bytes: &'static [(usize, u8)],
-    refusal: Option<DbError>,
-    script: &'static [Line<'static>],
-}
-
-#[rattlefmt::skip]
-const CHANGED: &[Changed] = &[
-    Changed { bytes: &[], refusal: None, script: &[
-        (Open(Existing), Done), (Get(b"a"), Value(b"1")), (Get(b"a\0"), Absent), (Get(b"b"), Value(b"2")),
-    ] },
-    // the value of the first entry
-    Changed { bytes: &[(12, 0x30)], refusal: Some(NOT_THE_SUM), script: &[
-        (Open(Existing), Done), (Get(b"a"), Refused(NOT_THE_SUM)), (Get(b"b"), Value(b"2")),
-    ] },
-    // the value of the second entry: the filter denies the key 6100, so that the block isn't read for it
-    Changed { bytes: &[(38, 0x33)], refusal: Some(NOT_THE_SUM), script: &[
-        (Open(Existing), Done), (Get(b"a\0"), Absent), (Get(b"b"), Refused(NOT_THE_SUM)), (Get(b"a"), Value(b"1")),
-        (Iterate, Made(1)), (First(1), At(b"a", b"1")), (Next(1), Refused(NOT_THE_SUM)), (Next(1), Refused(NOT_THE_SUM)),
-        (Prev(1), End), (Last(1), Refused(NOT_THE_SUM)),
-    ] },
-    // the type of the second block, under a checksum that fits
-    Changed { bytes: &[(47, 1), (48, 0x21), (49, 0x85), (50, 0xC2), (51, 0x86)], refusal: Some(NOT_PLAIN), script: &[
-        (Open(Existing), Done), (Get(b"b"), Refused(NOT_PLAIN)), (Get(b"a"), Value(b"1")),
-    ] },
-];
-
-// The directory of that table, with these of its bytes changed.
-fn of_two_blocks(alloc: Global, changes: &[(usize, u8)]) -> Result<MemStore, DbError> {
-    let mut bytes = TWO_BLOCKS;
-    for (place, byte) in changes {
-        if let Some(found) = bytes.get_mut(*place) {
-            *found = *byte;
-        }
-    }
-    let mut store = with_log(alloc, TWO_BLOCKS_EDIT, &[])?;
-    put(&mut store, "000005.ldb", &bytes)?;
-    Ok(store)
-}
-
-// Whether a check of the directory answers so.
-fn is_checked(alloc: Global, changed: &Changed) -> Result<bool, DbError> {
-    let mut store = of_two_blocks(alloc, changed.bytes)?;
-    let refusal = check::<Bytewise, MemStore>(alloc, &mut store).err();
-    Ok(refusal == changed.refusal)
-}
-
-#[test]
-fn a_changed_block_is_refused_by_what_reads_it(rt: HostRuntime) -> Result<(), Fail> {
-    for changed in CHANGED {
-        assert!(rt; is_checked(rt.alloc(), changed)?, "{:?}", changed.refusal);
-        after_script(
-            &rt,
-            of_two_blocks(rt.alloc(), changed.bytes)?,
-            changed.script,
-        )?;
-    }
-    Ok(())
-}
-
-const ITERATED: &[Line<'static>] = &[
-    (Open(Existing), Done),
-    (Iterate, Made(1)),
-    (First(1), At(b"a", b"1")),
-];
+const ITERATED: &[Line<'static>] = &[("open", "ok"), ("iter", "iter 1"), ("first 1", "at 61 31")];
 
 const GONE_ON: &[Line<'static>] = &[
-    (Next(1), Refused(NOT_THE_SUM)),
-    (Next(1), Refused(NOT_THE_SUM)),
-    (Prev(1), End),
+    ("next 1", "refused Corrupt(Table, Checksum)"),
+    ("next 1", "refused Corrupt(Table, Checksum)"),
+    ("prev 1", "end"),
 ];
+
+// The value in the second block changes once the iterator stands in the first one.
+fn assert_reads_late(
+    rt: &(impl Abort + AllocGlobal),
+    session: &mut Session<WatchedStore, Bytewise>,
+) -> Result<(), Fail> {
+    assert_script(rt, session, ITERATED)?;
+    session.store().change(38, 0x33);
+    assert_script(rt, session, GONE_ON)
+}
 
 #[test]
 fn an_iterator_reads_a_block_once_it_comes_to_it(rt: HostRuntime) -> Result<(), Fail> {
-    let store = WatchedStore::new(of_two_blocks(rt.alloc(), &[])?);
-    let mut session = session(rt.alloc(), store)?;
-    assert_script(&rt, &mut session, ITERATED)?;
-    session.store().change(38, 0x33);
-    assert_script(&rt, &mut session, GONE_ON)
+    let store = WatchedStore::new(directory(rt.alloc(), FILTERED)?);
+    let mut session = session(rt.alloc(), store, DEFAULTS)?;
+    assert_reads_late(&rt, &mut session)
 }
 
 // ---- what is kept
@@ -140,46 +52,76 @@ const SECOND_ENTRY: [u8; 176] = [
     0x00, 0x00, 0x00, 0x00, 0x00, 0x00, 0x00, 0x00, 0x57, 0xFB, 0x80, 0x8B, 0x24, 0x75, 0x47, 0xDB,
 ];
 
-// Log number 3, next file number 8, last sequence 2; in level 0 the tables 5 and 7, of one entry each.
-const NEWEST_EDIT: &[u8] =
-    b"\x02\x03\x03\x08\x04\x02\x07\x00\x05\xb0\x01\x09a\x01\x01\0\0\0\0\0\0\x09a\x01\x01\0\0\0\0\0\0\x07\x00\x07\xb0\x01\x09b\x01\x02\0\0\0\0\0\0\x09b\x01\x02\0\0\0\0\0\0";
-
-fn of_level_zero(alloc: Global) -> Result<WatchedStore, DbError> {
-    let mut store = with_log(alloc, NEWEST_EDIT, &[])?;
-    put(&mut store, "000005.ldb", &ONE_ENTRY)?;
-    put(&mut store, "000007.ldb", &SECOND_ENTRY)?;
-    Ok(WatchedStore::new(store))
-}
-
-// Lines, and whether the tables are read for them where a cache has room for many blocks, and for one.
-const READ: &[(Line<'static>, bool, bool)] = &[
-    ((Open(Existing), Done), false, false),
-    ((Get(b"a"), Value(b"1")), true, true),
-    ((Get(b"a"), Value(b"1")), false, false),
-    ((Get(b"b"), Value(b"2")), true, true),
-    ((Get(b"b"), Value(b"2")), false, false),
-    ((Get(b"a"), Value(b"1")), false, true),
-    ((Get(b"c"), Absent), false, false),
+// Log number 3, next file number 8, last sequence 2; in level 0 the tables 5 and 7, of one entry each. Their blocks lie at offset 0.
+#[rattlefmt::skip]
+const LEVEL_ZERO: Files<'static> = &[
+    ("CURRENT", b"MANIFEST-000002\n"),
+    ("MANIFEST-000002", b"K\xd5\x01\xb48\x00\x01\x02\x03\x03\x08\x04\x02\x07\x00\x05\xb0\x01\x09a\x01\x01\x00\x00\x00\x00\x00\x00\x09a\x01\x01\x00\x00\x00\x00\x00\x00\x07\x00\x07\xb0\x01\x09b\x01\x02\x00\x00\x00\x00\x00\x00\x09b\x01\x02\x00\x00\x00\x00\x00\x00"),
+    ("000003.log", b""),
+    ("000005.ldb", &ONE_ENTRY),
+    ("000007.ldb", &SECOND_ENTRY),
 ];
 
-// Both tables' blocks lie at offset 0.
-#[test]
-fn a_block_that_is_kept_is_not_read_again(rt: HostRuntime) -> Result<(), Fail> {
-    for cache_blocks in [1_024, 1] {
-        let mut session = session_with(rt.alloc(), of_level_zero(rt.alloc())?, cache_blocks)?;
-        for (line, with_many, with_one) in READ {
-            let reads = session.store().table_reads();
-            assert_script(&rt, &mut session, &[*line])?;
-            let is_read = reads < session.store().table_reads();
-            let wanted = if cache_blocks == 1 {
-                *with_one
-            } else {
-                *with_many
-            };
-            assert_eq!(rt; is_read, wanted, "{line:?}, of {cache_blocks}");
-        }
+// Lines, and whether the tables are read for them.
+type Reads = &'static [(Line<'static>, bool)];
+
+// Where a cache has room for many blocks.
+const WITH_MANY: Reads = &[
+    (("open", "ok"), false),
+    (("get 61", "value 31"), true),
+    (("get 61", "value 31"), false),
+    (("get 62", "value 32"), true),
+    (("get 62", "value 32"), false),
+    (("get 61", "value 31"), false),
+    (("get 63", "none"), false),
+];
+
+// A cache has room for one block.
+const ONE_BLOCK: Sizes = [4_194_304, 4_096, 2_097_152, 4, 10_485_760, 1];
+
+const WITH_ONE: Reads = &[
+    (("open", "ok"), false),
+    (("get 61", "value 31"), true),
+    (("get 61", "value 31"), false),
+    (("get 62", "value 32"), true),
+    (("get 62", "value 32"), false),
+    (("get 61", "value 31"), true),
+    (("get 63", "none"), false),
+];
+
+// Whether the tables are read for a line.
+fn is_read(
+    rt: &(impl Abort + AllocGlobal),
+    session: &mut Session<WatchedStore, Bytewise>,
+    line: Line<'_>,
+) -> Result<bool, Fail> {
+    let reads = session.store().table_reads();
+    assert_script(rt, session, &[line])?;
+    Ok(reads < session.store().table_reads())
+}
+
+fn assert_reads(
+    rt: &(impl Abort + AllocGlobal),
+    session: &mut Session<WatchedStore, Bytewise>,
+    reads: Reads,
+) -> Result<(), Fail> {
+    for (line, wanted) in reads {
+        assert_eq!(rt; is_read(rt, session, *line)?, *wanted, "{line:?}");
     }
     Ok(())
+}
+
+// A session over level 0 with these options reads so.
+fn assert_kept(rt: &(impl Abort + AllocGlobal), sizes: Sizes, reads: Reads) -> Result<(), Fail> {
+    let store = WatchedStore::new(directory(rt.alloc(), LEVEL_ZERO)?);
+    let mut session = session(rt.alloc(), store, sizes)?;
+    assert_reads(rt, &mut session, reads)
+}
+
+#[test]
+fn a_block_that_is_kept_is_not_read_again(rt: HostRuntime) -> Result<(), Fail> {
+    assert_kept(&rt, DEFAULTS, WITH_MANY)?;
+    assert_kept(&rt, ONE_BLOCK, WITH_ONE)
 }
 
 // ---- what an iterator reads
@@ -214,7 +156,7 @@ fn write_long(alloc: Global, store: &mut MemStore) -> Result<u64, DbError> {
 }
 
 // A directory with that table in level 6.
-fn of_long_values(alloc: Global) -> Result<WatchedStore, DbError> {
+fn of_long_values(alloc: Global) -> Result<MemStore, DbError> {
     let mut store = with_log(alloc, b"", &[])?;
     let length = write_long(alloc, &mut store)?;
     // log number 3, next file number 6, last sequence 256
@@ -226,34 +168,66 @@ fn of_long_values(alloc: Global) -> Result<WatchedStore, DbError> {
         "MANIFEST-000002",
         &log_of(alloc, &[edit.as_slice()])?,
     )?;
-    Ok(WatchedStore::new(store))
+    Ok(store)
 }
 
-const WITH_AN_ITERATOR: &[Line<'static>] = &[(Open(Existing), Done), (Iterate, Made(1))];
+const WITH_AN_ITERATOR: &[Line<'static>] = &[("open", "ok"), ("iter", "iter 1")];
 
-// The pair to which this move leads has the byte as its key, and that byte alone in its value.
-fn assert_shown(
+// Moves, and the byte of the pair to which each leads.
+const MOVES: [(&str, u8); 4] = [("first 1", 0), ("next 1", 1), ("next 1", 2), ("next 1", 3)];
+
+// The pair has the byte as its key, and that byte alone in its value.
+fn is_of(answer: &Answer, byte: u8) -> bool {
+    match answer {
+        Answer::Pair(Some((key, value))) => {
+            key.as_slice() == [byte].as_slice()
+                && value.as_slice().len() == VALUE_LENGTH
+                && value.as_slice().iter().all(|it| *it == byte)
+        }
+        _ => false,
+    }
+}
+
+fn shows(
+    alloc: Global,
+    session: &mut Session<WatchedStore, Bytewise>,
+    line: &str,
+    byte: u8,
+) -> Result<bool, DbError> {
+    let op = op_of(alloc, line)?;
+    Ok(is_of(&session.apply(alloc, &op), byte))
+}
+
+fn shows_all(
+    alloc: Global,
+    session: &mut Session<WatchedStore, Bytewise>,
+) -> Result<bool, DbError> {
+    for (line, byte) in MOVES {
+        if !shows(alloc, session, line, byte)? {
+            return Ok(false);
+        }
+    }
+    Ok(true)
+}
+
+fn assert_reads_little(
     rt: &(impl Abort + AllocGlobal),
     session: &mut Session<WatchedStore, Bytewise>,
-    command: Command<'_>,
-    byte: u8,
 ) -> Result<(), Fail> {
-    let value = vec![in rt.alloc(); byte; VALUE_LENGTH]?;
-    assert_script(rt, session, &[(command, At(&[byte], &value))])
-}
-
-// 16,777,216 bytes of values.
-#[test]
-fn an_iterator_reads_no_more_than_it_shows(rt: HostRuntime) -> Result<(), Fail> {
-    let mut session = session(rt.alloc(), of_long_values(rt.alloc())?)?;
-    assert_script(&rt, &mut session, WITH_AN_ITERATOR)?;
-    for (byte, command) in [First(1), Next(1), Next(1), Next(1)].iter().enumerate() {
-        assert_shown(&rt, &mut session, *command, byte as u8)?;
-    }
+    assert_script(rt, session, WITH_AN_ITERATOR)?;
+    assert!(rt; shows_all(rt.alloc(), session)?);
     let bytes = session.store().bytes_read();
     assert!(rt;
         (4 * VALUE_LENGTH as u64..=4_194_304).contains(&bytes),
         "{bytes}"
     );
     Ok(())
+}
+
+// 16,777,216 bytes of values.
+#[test]
+fn an_iterator_reads_no_more_than_it_shows(rt: HostRuntime) -> Result<(), Fail> {
+    let store = WatchedStore::new(of_long_values(rt.alloc())?);
+    let mut session = session(rt.alloc(), store, DEFAULTS)?;
+    assert_reads_little(&rt, &mut session)
 }

@@ -1,53 +1,32 @@
 // Which files an open leaves, and which it removes.
-use super::Command::{Close, Get, Open, Put};
-use super::Wanted::{Done, Refused, Value};
+use super::cases::{Case, Left, Part, assert_cases};
 use super::*;
 use crate::watching::WatchedStore;
-use coding::{Damage, FileKind};
-use engine::Mode::{Existing, New};
 use std::test::Fail;
 
 const THREE_TIMES: &[Line<'static>] = &[
-    (Open(New), Done),
-    (Close, Done),
-    (Open(Existing), Done),
-    (Close, Done),
-    (Open(Existing), Done),
-    (Close, Done),
+    ("open new", "ok"),
+    ("close", "ok"),
+    ("open", "ok"),
+    ("close", "ok"),
+    ("open", "ok"),
+    ("close", "ok"),
 ];
 
 // The log of the first has an entry, so that it is read again.
 const THREE_TIMES_WITH_AN_ENTRY: &[Line<'static>] = &[
-    (Open(New), Done),
-    (Put(b"a", b"1"), Done),
-    (Close, Done),
-    (Open(Existing), Done),
-    (Close, Done),
-    (Open(Existing), Done),
-    (Get(b"a"), Value(b"1")),
-    (Close, Done),
+    ("open new", "ok"),
+    ("put 61 31", "ok"),
+    ("close", "ok"),
+    ("open", "ok"),
+    ("close", "ok"),
+    ("open", "ok"),
+    ("get 61", "value 31"),
+    ("close", "ok"),
 ];
-
-// A script that never works, and the files that it leaves.
-const UNWORKED: [(&[Line<'static>], &str); 2] = [
-    (THREE_TIMES, "000006.log;CURRENT;LOCK;MANIFEST-000005;"),
-    (
-        THREE_TIMES_WITH_AN_ENTRY,
-        "000002.log;000004.log;000006.log;CURRENT;LOCK;MANIFEST-000005;",
-    ),
-];
-
-#[test]
-fn many_opens_leave_few_files(rt: HostRuntime) -> Result<(), Fail> {
-    for (script, names) in UNWORKED {
-        let mut store = after_script(&rt, MemStore::new(rt.alloc()), script)?;
-        assert_names(&rt, &mut store, names)?;
-    }
-    Ok(())
-}
 
 // A database of no entries, whose log number is 2, beside files of all known shapes that aren't live, and files of other programs.
-const LITTERED: &[(&str, &[u8])] = &[
+const LITTERED: Files<'static> = &[
     ("CURRENT", b"MANIFEST-000005\n"),
     (
         "MANIFEST-000005",
@@ -64,53 +43,74 @@ const LITTERED: &[(&str, &[u8])] = &[
     ("notes.txt", b"mine"),
 ];
 
-const OPENED: &[Line<'static>] = &[(Open(Existing), Done), (Close, Done)];
+const OPENED: &[Line<'static>] = &[("open", "ok"), ("close", "ok")];
 
-const LIVE: &str = "000009.log;CURRENT;LOCK;LOG;MANIFEST-000008;notes.txt;";
-
-#[test]
-fn an_open_removes_what_is_not_live(rt: HostRuntime) -> Result<(), Fail> {
-    let store = directory(rt.alloc(), LITTERED)?;
-    let mut store = after_script(&rt, store, OPENED)?;
-    assert_names(&rt, &mut store, LIVE)?;
-    assert_file(&rt, &mut store, "CURRENT", b"MANIFEST-000008\n")?;
-    assert_file(&rt, &mut store, "LOG", b"2026/11/23")?;
-    assert_file(&rt, &mut store, "notes.txt", b"mine")?;
-    Ok(())
-}
-
-const TORN: &[Line<'static>] = &[
-    (Open(New), Refused(DbError::Exists)),
+// The same beside a log whose one record is damaged.
+const LITTERED_AND_DAMAGED: Files<'static> = &[
+    ("CURRENT", b"MANIFEST-000005\n"),
     (
-        Open(Existing),
-        Refused(DbError::Corrupt(FileKind::Log, Damage::Checksum)),
+        "MANIFEST-000005",
+        b"\x53\x26\xfe\x5b\x22\x00\x01\x01\x1aleveldb.BytewiseComparator\x02\x02\x03\x03\x04\x00",
     ),
+    ("000002.log", b""),
+    ("000001.log", b"\x01"),
+    ("000003.ldb", b"\x01"),
+    ("000003.sst", b"\x01"),
+    ("000004.sst", b"\x01"),
+    ("000007.dbtmp", b"MANIFEST-000007\n"),
+    ("MANIFEST-000001", b"\x01"),
+    ("LOG", b"2026/11/23"),
+    ("notes.txt", b"mine"),
+    ("000006.log", b"\x54\x26\xfe\x5b\x01\x00\x01\x01"),
 ];
 
-const ALL_BESIDE_A_DAMAGED_LOG: &str =
-    "000001.log;000002.log;000003.ldb;000003.sst;000004.sst;000006.log;000007.dbtmp;CURRENT;LOCK;LOG;MANIFEST-000001;MANIFEST-000005;notes.txt;";
+const TORN: &[Line<'static>] = &[
+    ("open new", "refused Exists"),
+    ("open", "refused Corrupt(Log, Checksum)"),
+];
+
+#[rattlefmt::skip]
+const CASES: &[Case] = &[
+    Case { name: "three opens", sizes: DEFAULTS, files: &[], parts: &[
+        Part { script: THREE_TIMES, left: &[Left::Names("000006.log;CURRENT;LOCK;MANIFEST-000005;")] },
+    ] },
+    Case { name: "three opens of an entry", sizes: DEFAULTS, files: &[], parts: &[
+        Part { script: THREE_TIMES_WITH_AN_ENTRY, left: &[Left::Names("000002.log;000004.log;000006.log;CURRENT;LOCK;MANIFEST-000005;")] },
+    ] },
+    Case { name: "what is not live is removed", sizes: DEFAULTS, files: LITTERED, parts: &[
+        Part { script: OPENED, left: &[Left::Names("000009.log;CURRENT;LOCK;LOG;MANIFEST-000008;notes.txt;"), Left::Bytes("CURRENT", b"MANIFEST-000008\n"), Left::Bytes("LOG", b"2026/11/23"), Left::Bytes("notes.txt", b"mine")] },
+    ] },
+    Case { name: "a refused open removes nothing", sizes: DEFAULTS, files: LITTERED_AND_DAMAGED, parts: &[
+        Part { script: TORN, left: &[Left::Names("000001.log;000002.log;000003.ldb;000003.sst;000004.sst;000006.log;000007.dbtmp;CURRENT;LOCK;LOG;MANIFEST-000001;MANIFEST-000005;notes.txt;")] },
+    ] },
+];
 
 #[test]
-fn a_refused_open_removes_nothing(rt: HostRuntime) -> Result<(), Fail> {
-    let mut store = directory(rt.alloc(), LITTERED)?;
-    store.create("000006.log")?;
-    store.append("000006.log", b"\x54\x26\xfe\x5b\x01\x00\x01\x01")?;
-    let mut store = after_script(&rt, store, TORN)?;
-    assert_names(&rt, &mut store, ALL_BESIDE_A_DAMAGED_LOG)
+fn an_accepted_open_removes_what_is_not_live(rt: HostRuntime) -> Result<(), Fail> {
+    assert_cases(&rt, CASES)
 }
 
-const ALL: &str =
-    "000001.log;000002.log;000003.ldb;000003.sst;000004.sst;000007.dbtmp;000009.log;CURRENT;LOCK;LOG;MANIFEST-000001;MANIFEST-000005;MANIFEST-000008;notes.txt;";
+// Opens over files that can't be removed, or can be now.
+fn opened(
+    rt: &(impl Abort + AllocGlobal),
+    store: WatchedStore,
+    keeps: bool,
+) -> Result<WatchedStore, Fail> {
+    store.keep_files(keeps);
+    after_script(rt, store, DEFAULTS, OPENED)
+}
+
+#[rattlefmt::skip]
+const ALL: &str = "000001.log;000002.log;000003.ldb;000003.sst;000004.sst;000007.dbtmp;000009.log;CURRENT;LOCK;LOG;MANIFEST-000001;MANIFEST-000005;MANIFEST-000008;notes.txt;";
 
 const LIVE_AGAIN: &str = "000011.log;CURRENT;LOCK;LOG;MANIFEST-000010;notes.txt;";
 
 #[test]
 fn files_that_cannot_be_removed_are_left_for_the_next_open(rt: HostRuntime) -> Result<(), Fail> {
     let store = WatchedStore::new(directory(rt.alloc(), LITTERED)?);
-    store.keep_files(true);
-    let mut store = after_script(&rt, store, OPENED)?;
-    assert_names(&rt, &mut store, ALL)?;
-    store.keep_files(false);
-    let mut store = after_script(&rt, store, OPENED)?;
-    assert_names(&rt, &mut store, LIVE_AGAIN)
+    let mut store = opened(&rt, store, true)?;
+    assert_eq!(rt; names_of(rt.alloc(), &mut store)?.as_str(), ALL);
+    let mut store = opened(&rt, store, false)?;
+    assert_eq!(rt; names_of(rt.alloc(), &mut store)?.as_str(), LIVE_AGAIN);
+    Ok(())
 }

@@ -1,10 +1,8 @@
 // What is answered, and what is left, where any one call of the store is refused, while compactions are under way and in those that
 // are one command.
-use super::Command::{Close, CompactAll, CompactLevel, Get, Open, Put, Work};
-use super::Wanted::{Absent, Done, Idle, Value, Worked};
 use super::*;
-use crate::refusing::RefusingStore;
-use engine::Mode::Any;
+use crate::watching::WatchedStore;
+use batch::Operation;
 use recover::{Report, TableSummary, check};
 use std::test::Fail;
 
@@ -12,18 +10,44 @@ use std::test::Fail;
 // has a file of its own.
 const SIZES: Sizes = [1, 64, 1, 2, 100, 16];
 
-type Pair = (&'static [u8], &'static [u8]);
+const OPEN: &[&str] = &["open any"];
 
-const PUTS: &[Pair] = &[
-    (b"a", b"1"),
-    (b"b", b"2"),
-    (b"a", b"3"),
-    (b"c", b"4"),
-    (b"b", b"5"),
-    (b"d", b"6"),
+const READ: &[&str] = &["get 61", "get 62", "get 63", "get 64"];
+
+const WORK: &[&str] = &["work 1", "work 1", "work 1"];
+
+// All commands but those behind a close, in pieces.
+const PIECES: &[&[&str]] = &[
+    OPEN,
+    &["put 61 31"],
+    WORK,
+    READ,
+    &["put 62 32"],
+    WORK,
+    READ,
+    &["put 61 33"],
+    WORK,
+    READ,
+    &["put 63 34"],
+    WORK,
+    READ,
+    &["put 62 35"],
+    WORK,
+    READ,
+    &["put 64 36"],
+    WORK,
+    READ,
+    WORK,
+    WORK,
+    WORK,
+    WORK,
+    READ,
+    &["compact 1"],
+    READ,
+    &["put 61 37"],
+    &["compact all"],
+    READ,
 ];
-
-const KEYS: &[&[u8]] = &[b"a", b"b", b"c", b"d"];
 
 // What became of a command.
 #[derive(Clone, Copy, PartialEq, Eq)]
@@ -45,163 +69,125 @@ enum End {
     Wrong,
 }
 
-// A session of whose store the call of one number is refused; the pairs whose puts were done; whether the call came; whether the
-// database has answered since that it is broken; and whether a piece of work was refused before it did.
+// The number of the call that is refused; the first bytes of key and value of each put that was done; whether the call came; whether
+// the database has answered since that it is broken; and whether a piece of work was refused before it did.
 #[derive(Drop)]
-struct Run {
-    session: Session<RefusingStore, Bytewise>,
+struct Record {
     refused: u64,
-    pairs: Vec<Pair>,
+    pairs: Vec<(u8, u8)>,
     has_come: bool,
     is_broken: bool,
     has_refused_work: bool,
 }
 
-impl Run {
-    // The value that was put last at a key.
-    fn last_of(&self, key: &[u8]) -> Wanted<'static> {
-        for (own, value) in self.pairs.iter().rev() {
-            if *own == key {
-                return Value(*value);
-            }
+fn first_of(bytes: &[u8]) -> u8 {
+    bytes.first().copied().unwrap_or(0)
+}
+
+// Whether it is a piece of work, or a compaction.
+fn is_work(op: &Op) -> bool {
+    matches!(op, Op::Work(_)) || matches!(op, Op::CompactLevel(_)) || matches!(op, Op::CompactAll)
+}
+
+impl Record {
+    fn new(alloc: Global, refused: u64) -> Self {
+        Record {
+            refused,
+            pairs: Vec::new(alloc),
+            has_come: false,
+            is_broken: false,
+            has_refused_work: false,
         }
-        Absent
     }
 
-    fn outcome(&mut self, alloc: Global, answer: &Answer, wanted: &[Wanted<'_>]) -> Outcome {
+    // Whether this is the value that was put last at a key.
+    fn is_last(&self, key: u8, value: Option<u8>) -> bool {
+        for (own, last) in self.pairs.iter().rev() {
+            if *own == key {
+                return value == Some(*last);
+            }
+        }
+        value.is_none()
+    }
+
+    // Whether a command is answered as if no call was refused.
+    fn is_as_wanted(&self, op: &Op, answer: &Answer) -> bool {
+        match (op, answer) {
+            (Op::Get(key, _), Answer::Value(Some(value))) => {
+                self.is_last(first_of(key.as_slice()), Some(first_of(value.as_slice())))
+            }
+            (Op::Get(key, _), Answer::Value(None)) => self.is_last(first_of(key.as_slice()), None),
+            (Op::Get(_, _), _) => false,
+            (Op::Work(_), Answer::Worked) => true,
+            (Op::Work(_), Answer::Idle) => true,
+            (_, answer) => *answer == Answer::Done,
+        }
+    }
+
+    // What becomes of a command that was answered behind so many calls: it is answered as if no call was refused; or by Io, where the
+    // call comes in it; or by Broken, from some command on.
+    fn outcome(&mut self, calls: u64, op: &Op, answer: &Answer) -> Outcome {
+        let had_come = self.has_come;
         match answer {
             Answer::Refused(DbError::Io) => {
-                let comes = !self.has_come && self.refused <= self.session.store().calls();
                 self.has_come = true;
-                if comes {
-                    Outcome::Refused
-                } else {
+                if had_come || self.refused > calls {
                     Outcome::Wrong
+                } else {
+                    Outcome::Refused
                 }
             }
             Answer::Refused(DbError::Broken) => {
                 self.is_broken = true;
-                if self.has_come {
+                if had_come {
                     Outcome::Refused
                 } else {
                     Outcome::Wrong
                 }
             }
             _ => {
-                for one in wanted {
-                    if is_answered(alloc, answer, *one) && !self.is_broken {
-                        return Outcome::AsWanted;
-                    }
+                if self.is_as_wanted(op, answer) && !self.is_broken {
+                    Outcome::AsWanted
+                } else {
+                    Outcome::Wrong
                 }
-                Outcome::Wrong
             }
         }
     }
 
-    // A command is answered in one of these ways; or by Io, where the call comes in it; or by Broken, from some command on.
-    fn give(
-        &mut self,
-        alloc: Global,
-        command: Command<'_>,
-        wanted: &[Wanted<'_>],
-    ) -> Result<Outcome, DbError> {
-        let op = op_of(alloc, command)?;
-        let answer = self.session.apply(alloc, &op);
-        Ok(self.outcome(alloc, &answer, wanted))
-    }
-
-    fn open(&mut self, alloc: Global) -> Result<bool, DbError> {
-        self.is_broken = false;
-        let outcome = self.give(alloc, Open(Any), &[Done])?;
-        if outcome == Outcome::Refused {
-            return Ok(self.give(alloc, Open(Any), &[Done])? == Outcome::AsWanted);
+    fn note_pair(&mut self, operation: &Operation) -> Result<(), DbError> {
+        match operation {
+            Operation::Put(key, value) => {
+                self.pairs
+                    .push((first_of(key.as_slice()), first_of(value.as_slice())))?;
+                Ok(())
+            }
+            Operation::Delete(_) => Ok(()),
         }
-        Ok(outcome == Outcome::AsWanted)
     }
 
-    fn put(&mut self, alloc: Global, pair: Pair) -> Result<bool, DbError> {
-        let (key, value) = pair;
-        let outcome = self.give(alloc, Put(key, value), &[Done])?;
-        if outcome == Outcome::AsWanted {
-            self.pairs.push(pair)?;
+    // Notes the puts that were done.
+    fn note(&mut self, op: &Op) -> Result<(), DbError> {
+        if let Op::Write(operations, _) = op {
+            for operation in operations.iter() {
+                self.note_pair(operation)?;
+            }
         }
-        Ok(outcome != Outcome::Wrong)
+        Ok(())
     }
 
-    // A piece of work, or a compaction.
-    fn piece(
-        &mut self,
-        alloc: Global,
-        command: Command<'_>,
-        wanted: &[Wanted<'_>],
-    ) -> Result<bool, DbError> {
+    // Says what became of a command, and notes it.
+    fn judge(&mut self, calls: u64, op: &Op, answer: &Answer) -> Result<Outcome, DbError> {
         let had_come = self.has_come;
-        let outcome = self.give(alloc, command, wanted)?;
-        if outcome == Outcome::Refused && !had_come {
-            self.has_refused_work = true;
+        if matches!(op, Op::Open(_)) {
+            self.is_broken = false;
         }
-        Ok(outcome != Outcome::Wrong)
-    }
-
-    // So many pieces of work, of an entry each.
-    fn work(&mut self, alloc: Global, count: u64) -> Result<bool, DbError> {
-        for _ in 0..count {
-            if !self.piece(alloc, Work(1), &[Worked, Idle])? {
-                return Ok(false);
-            }
+        let outcome = self.outcome(calls, op, answer);
+        if outcome == Outcome::AsWanted {
+            self.note(op)?;
         }
-        Ok(true)
-    }
-
-    // A compaction in one command, and all reads behind it.
-    fn compact(&mut self, alloc: Global, command: Command<'_>) -> Result<bool, DbError> {
-        Ok(self.piece(alloc, command, &[Done])? && self.read(alloc)?)
-    }
-
-    // Each key has the value that was put last.
-    fn read(&mut self, alloc: Global) -> Result<bool, DbError> {
-        for key in KEYS {
-            let wanted = self.last_of(key);
-            if self.give(alloc, Get(key), &[wanted])? == Outcome::Wrong {
-                return Ok(false);
-            }
-        }
-        Ok(true)
-    }
-
-    fn work_and_read(&mut self, alloc: Global, count: u64) -> Result<bool, DbError> {
-        Ok(self.work(alloc, count)? && self.read(alloc)?)
-    }
-
-    fn put_all(&mut self, alloc: Global) -> Result<bool, DbError> {
-        if !self.open(alloc)? {
-            return Ok(false);
-        }
-        for pair in PUTS {
-            if !self.put(alloc, *pair)? || !self.work_and_read(alloc, 3)? {
-                return Ok(false);
-            }
-        }
-        Ok(
-            self.work_and_read(alloc, 12)?
-                && self.compact(alloc, CompactLevel(1))?
-                && self.put(alloc, (b"a", b"7"))?
-                && self.compact(alloc, CompactAll)?,
-        )
-    }
-
-    // Closes, opens, and works until there is no more to do. By now the call has come.
-    fn open_again(&mut self, alloc: Global) -> Result<bool, DbError> {
-        if self.give(alloc, Close, &[Done])? != Outcome::AsWanted && !self.is_broken {
-            return Ok(false);
-        }
-        Ok(
-            self.open(alloc)?
-                && self.read(alloc)?
-                && self.rest(alloc)?
-                && self.read(alloc)?
-                && !self.is_broken,
-        )
+        self.has_refused_work |= outcome == Outcome::Refused && !had_come && is_work(op);
+        Ok(outcome)
     }
 
     fn end(&self) -> End {
@@ -213,79 +199,126 @@ impl Run {
             End::Whole
         }
     }
-
-    // Puts all, opens once more, and says how it ended and how many calls came before it was closed.
-    fn whole(&mut self, alloc: Global) -> Result<(End, u64), DbError> {
-        let has_put = self.put_all(alloc)?;
-        let calls = self.session.store().calls();
-        let end = self.end();
-        if has_put && self.open_again(alloc)? {
-            Ok((end, calls))
-        } else {
-            Ok((End::Wrong, calls))
-        }
-    }
-
-    // The files that are left.
-    fn into_files(self) -> MemStore {
-        let Run { session, .. } = self;
-        session.into_store().into_inner()
-    }
-
-    // Works until there is no more to do.
-    fn rest(&mut self, alloc: Global) -> Result<bool, DbError> {
-        let op = op_of(alloc, Work(2))?;
-        for _ in 0..100 {
-            match self.session.apply(alloc, &op) {
-                Answer::Worked => (),
-                other => return Ok(other == Answer::Idle),
-            }
-        }
-        Ok(false)
-    }
 }
 
-fn count_of(tables: &[TableSummary], level: u32) -> usize {
-    tables.iter().filter(|table| table.level == level).count()
+type Refusing = Session<WatchedStore, Bytewise>;
+
+fn give(
+    alloc: Global,
+    session: &mut Refusing,
+    record: &mut Record,
+    line: &str,
+) -> Result<Outcome, DbError> {
+    let op = op_of(alloc, line)?;
+    let answer = session.apply(alloc, &op);
+    record.judge(session.store().calls(), &op, &answer)
 }
 
-// A check accepts the directory, in which level 0 is below its limit, and no file is left beside those of its tables, `CURRENT`,
-// `LOCK`, the MANIFEST and a log.
-fn is_tidy(alloc: Global, mut store: MemStore) -> Result<bool, Fail> {
-    let files = store.list(alloc)?.len();
-    match check::<Bytewise, MemStore>(alloc, &mut store)? {
-        Report::Good(summary) => {
-            let tables = &summary.tables;
-            Ok(files.checked_sub(4) == Some(tables.len()) && count_of(tables, 0) < 2)
-        }
-        Report::Empty => Ok(false),
+// Gives a command, an open once more where it is refused, and says whether nothing was wrong.
+fn is_right(
+    alloc: Global,
+    session: &mut Refusing,
+    record: &mut Record,
+    line: &str,
+) -> Result<bool, DbError> {
+    let outcome = give(alloc, session, record, line)?;
+    if outcome == Outcome::Refused && line.starts_with("open") {
+        return Ok(give(alloc, session, record, line)? == Outcome::AsWanted);
     }
+    Ok(outcome != Outcome::Wrong)
 }
 
-// A session of whose store the call of this number is refused.
-fn first_run(alloc: Global, refused: u64) -> Result<Run, Fail> {
-    let store = RefusingStore::new(MemStore::new(alloc), refused);
-    Ok(Run {
-        session: session_by(alloc, store, SIZES)?,
-        refused,
-        pairs: Vec::new(alloc),
-        has_come: false,
-        is_broken: false,
-        has_refused_work: false,
-    })
+fn are_right(
+    alloc: Global,
+    session: &mut Refusing,
+    record: &mut Record,
+    lines: &[&str],
+) -> Result<bool, DbError> {
+    for line in lines {
+        if !is_right(alloc, session, record, *line)? {
+            return Ok(false);
+        }
+    }
+    Ok(true)
+}
+
+fn are_all_right(
+    alloc: Global,
+    session: &mut Refusing,
+    record: &mut Record,
+) -> Result<bool, DbError> {
+    for lines in PIECES {
+        if !are_right(alloc, session, record, lines)? {
+            return Ok(false);
+        }
+    }
+    Ok(true)
+}
+
+// Closes, opens, and works until there is no more to do. By now the call has come.
+fn opens_again(
+    alloc: Global,
+    session: &mut Refusing,
+    record: &mut Record,
+) -> Result<bool, DbError> {
+    let closing = give(alloc, session, record, "close")?;
+    if closing != Outcome::AsWanted && !record.is_broken {
+        return Ok(false);
+    }
+    Ok(
+        are_right(alloc, session, record, OPEN)?
+            && are_right(alloc, session, record, READ)?
+            && rests(alloc, session, 2)
+            && are_right(alloc, session, record, READ)?
+            && !record.is_broken,
+    )
+}
+
+// Gives all, opens once more, and says how it ended and how many calls came before it was closed.
+fn whole(
+    alloc: Global,
+    session: &mut Refusing,
+    record: &mut Record,
+) -> Result<(End, u64), DbError> {
+    let is_right = are_all_right(alloc, session, record)?;
+    let calls = session.store().calls();
+    let end = record.end();
+    if is_right && opens_again(alloc, session, record)? {
+        Ok((end, calls))
+    } else {
+        Ok((End::Wrong, calls))
+    }
 }
 
 // How a session of which the call of this number is refused ends, how many calls came before it was closed, and what it leaves.
 fn after_run(alloc: Global, refused: u64) -> Result<(End, u64, MemStore), Fail> {
-    let mut run = first_run(alloc, refused)?;
-    let (end, calls) = run.whole(alloc)?;
-    Ok((end, calls, run.into_files()))
+    let mut record = Record::new(alloc, refused);
+    let store = WatchedStore::refusing(MemStore::new(alloc), refused);
+    let mut session = session(alloc, store, SIZES)?;
+    let (end, calls) = whole(alloc, &mut session, &mut record).unwrap_or((End::Wrong, 0));
+    Ok((end, calls, session.into_store().into_inner()))
+}
+
+// Level 0 is below its limit, and no file is left beside those of the tables, `CURRENT`, `LOCK`, the MANIFEST and a log.
+fn are_tidy(files: usize, tables: &[TableSummary]) -> bool {
+    files.checked_sub(4) == Some(tables.len()) && count_of(tables, 0) < 2
+}
+
+// A check accepts the directory, and it is tidy.
+fn is_tidy(alloc: Global, store: &mut MemStore) -> bool {
+    let Ok(files) = listed(alloc, store) else {
+        return false;
+    };
+    matches!(
+        check::<Bytewise, MemStore>(alloc, store),
+        Ok(Report::Good(summary)) if are_tidy(files.len(), &summary.tables)
+    )
 }
 
 // The same, where what is left has to be tidy.
 fn end_of(alloc: Global, refused: u64) -> Result<(End, u64), Fail> {
-    let (end, calls, files) = after_run(alloc, refused)?;
-    if is_tidy(alloc, files)? {
+    let (end, calls, mut files) = after_run(alloc, refused)?;
+    if is_tidy(alloc, &mut files) {
         Ok((end, calls))
     } else {
         Ok((End::Wrong, calls))

@@ -1,13 +1,7 @@
 // Directories with tables.
-use super::Command::{
-    Close, Delete, First, Get, GetAt, Iterate, IterateAt, Last, Next, Open, Prev, Put, Seek,
-    Snapshot,
-};
-use super::Wanted::{Absent, At, Done, End, Made, Refused, Taken, Value};
+use super::cases::{Case, Left, Part, assert_cases};
 use super::*;
 use coding::{Damage, Feature, FileKind};
-use engine::Mode::Existing;
-use recover::{Report, check};
 use std::test::Fail;
 
 // LevelDB made this directory: it put a, b, c and e, compacted them into level 1, put b and d and deleted c, put a again,
@@ -23,146 +17,218 @@ pub const LEVELS: &[(&str, &[u8])] = &[
 ];
 
 const READ: &[Line<'static>] = &[
-    (Open(Existing), Done),
-    (Get(b"a"), Value(b"11")),
-    (Get(b"b"), Value(b"22")),
-    (Get(b"c"), Absent),
-    (Get(b"d"), Value(b"4")),
-    (Get(b"e"), Value(b"5")),
-    (Get(b""), Absent),
-    (Get(b"f"), Absent),
-    (Iterate, Made(1)),
-    (First(1), At(b"a", b"11")),
-    (Next(1), At(b"b", b"22")),
-    (Next(1), At(b"d", b"4")),
-    (Next(1), At(b"e", b"5")),
-    (Next(1), End),
-    (Last(1), At(b"e", b"5")),
-    (Prev(1), At(b"d", b"4")),
-    (Prev(1), At(b"b", b"22")),
-    (Next(1), At(b"d", b"4")),
-    (Seek(1, b"c"), At(b"d", b"4")),
-    (Prev(1), At(b"b", b"22")),
-    (Prev(1), At(b"a", b"11")),
-    (Prev(1), End),
-    (Seek(1, b"ee"), End),
+    ("open", "ok"),
+    ("get 61", "value 3131"),
+    ("get 62", "value 3232"),
+    ("get 63", "none"),
+    ("get 64", "value 34"),
+    ("get 65", "value 35"),
+    ("get -", "none"),
+    ("get 66", "none"),
+    ("iter", "iter 1"),
+    ("first 1", "at 61 3131"),
+    ("next 1", "at 62 3232"),
+    ("next 1", "at 64 34"),
+    ("next 1", "at 65 35"),
+    ("next 1", "end"),
+    ("last 1", "at 65 35"),
+    ("prev 1", "at 64 34"),
+    ("prev 1", "at 62 3232"),
+    ("next 1", "at 64 34"),
+    ("seek 1 63", "at 64 34"),
+    ("prev 1", "at 62 3232"),
+    ("prev 1", "at 61 3131"),
+    ("prev 1", "end"),
+    ("seek 1 6565", "end"),
 ];
-
-#[test]
-fn tables_of_two_levels_are_read(rt: HostRuntime) -> Result<(), Fail> {
-    after_script(&rt, directory(rt.alloc(), LEVELS)?, READ)?;
-    Ok(())
-}
 
 // What is written lies in front of the tables, for whoever reads later, now and after the next open.
 const WRITTEN: &[Line<'static>] = &[
-    (Open(Existing), Done),
-    (Iterate, Made(1)),
-    (Snapshot, Taken(1)),
-    (Put(b"c", b"3"), Done),
-    (Delete(b"d"), Done),
-    (Get(b"c"), Value(b"3")),
-    (Get(b"d"), Absent),
-    (GetAt(b"c", 1), Absent),
-    (GetAt(b"d", 1), Value(b"4")),
-    (Iterate, Made(2)),
-    (Seek(2, b"c"), At(b"c", b"3")),
-    (Next(2), At(b"e", b"5")),
-    (Seek(1, b"c"), At(b"d", b"4")),
-    (IterateAt(1), Made(3)),
-    (Last(3), At(b"e", b"5")),
-    (Prev(3), At(b"d", b"4")),
-    (Close, Done),
-    (Open(Existing), Done),
-    (Get(b"c"), Value(b"3")),
-    (Get(b"d"), Absent),
-    (Get(b"e"), Value(b"5")),
-    (Get(b"a"), Value(b"11")),
+    ("open", "ok"),
+    ("iter", "iter 1"),
+    ("snapshot", "snapshot 1"),
+    ("put 63 33", "ok"),
+    ("del 64", "ok"),
+    ("get 63", "value 33"),
+    ("get 64", "none"),
+    ("get 63 1", "none"),
+    ("get 64 1", "value 34"),
+    ("iter", "iter 2"),
+    ("seek 2 63", "at 63 33"),
+    ("next 2", "at 65 35"),
+    ("seek 1 63", "at 64 34"),
+    ("iter 1", "iter 3"),
+    ("last 3", "at 65 35"),
+    ("prev 3", "at 64 34"),
+    ("close", "ok"),
+    ("open", "ok"),
+    ("get 63", "value 33"),
+    ("get 64", "none"),
+    ("get 65", "value 35"),
+    ("get 61", "value 3131"),
 ];
-
-#[test]
-fn what_is_written_lies_in_front_of_tables(rt: HostRuntime) -> Result<(), Fail> {
-    after_script(&rt, directory(rt.alloc(), LEVELS)?, WRITTEN)?;
-    Ok(())
-}
-
-fn levels_of(alloc: Global) -> Result<Option<(usize, u64)>, Fail> {
-    let mut store = directory(alloc, LEVELS)?;
-    match check::<Bytewise, MemStore>(alloc, &mut store)? {
-        Report::Empty => Ok(None),
-        Report::Good(summary) => Ok(Some((summary.tables.len(), summary.last_sequence))),
-    }
-}
-
-// So the definition of a consistent directory with tables isn't empty.
-#[test]
-fn the_directory_is_consistent(rt: HostRuntime) -> Result<(), Fail> {
-    assert_eq!(rt; levels_of(rt.alloc())?, Some((3, 8)));
-    Ok(())
-}
-
-// Two data blocks of an entry each, in one table of level 6, whose bytes a test gives.
-fn one_table(alloc: Global, table: &[u8]) -> Result<MemStore, Fail> {
-    directory(
-        alloc,
-        &[
-            ("CURRENT", b"MANIFEST-000002\n"),
-            ("MANIFEST-000002", TWO_BLOCKS_MANIFEST),
-            ("000003.log", b""),
-            ("000005.ldb", table),
-        ],
-    )
-}
 
 #[rattlefmt::skip]
 const TWO_BLOCKS_MANIFEST: &[u8] = b"\x32\xed\x07\x3e\x3b\x00\x01\x01\x1a\x6c\x65\x76\x65\x6c\x64\x62\x2e\x42\x79\x74\x65\x77\x69\x73\x65\x43\x6f\x6d\x70\x61\x72\x61\x74\x6f\x72\x02\x03\x03\x06\x04\x02\x07\x06\x05\x9e\x01\x09\x61\x01\x01\x00\x00\x00\x00\x00\x00\x09\x62\x01\x02\x00\x00\x00\x00\x00\x00";
 
+// Two data blocks of an entry each, in one table of level 6 without a filter.
 #[rattlefmt::skip]
-const TWO_BLOCKS: &[u8] = b"\x00\x09\x01\x61\x01\x01\x00\x00\x00\x00\x00\x00\x31\x00\x00\x00\x00\x01\x00\x00\x00\x00\x82\x7e\xf9\x3a\x00\x09\x01\x62\x01\x02\x00\x00\x00\x00\x00\x00\x32\x00\x00\x00\x00\x01\x00\x00\x00\x00\x76\x69\xbb\x84\x00\x00\x00\x00\x01\x00\x00\x00\x00\xc0\xf2\xa1\xb0\x00\x09\x02\x61\x01\x01\x00\x00\x00\x00\x00\x00\x00\x15\x00\x09\x02\x62\x01\x02\x00\x00\x00\x00\x00\x00\x1a\x15\x00\x00\x00\x00\x0e\x00\x00\x00\x02\x00\x00\x00\x00\xd7\x29\x7e\x94\x34\x08\x41\x28\x00\x00\x00\x00\x00\x00\x00\x00\x00\x00\x00\x00\x00\x00\x00\x00\x00\x00\x00\x00\x00\x00\x00\x00\x00\x00\x00\x00\x00\x00\x00\x00\x00\x00\x00\x00\x57\xfb\x80\x8b\x24\x75\x47\xdb";
+const UNFILTERED: Files<'static> = &[
+    ("CURRENT", b"MANIFEST-000002\n"),
+    ("MANIFEST-000002", TWO_BLOCKS_MANIFEST),
+    ("000003.log", b""),
+    ("000005.ldb", b"\x00\x09\x01\x61\x01\x01\x00\x00\x00\x00\x00\x00\x31\x00\x00\x00\x00\x01\x00\x00\x00\x00\x82\x7e\xf9\x3a\x00\x09\x01\x62\x01\x02\x00\x00\x00\x00\x00\x00\x32\x00\x00\x00\x00\x01\x00\x00\x00\x00\x76\x69\xbb\x84\x00\x00\x00\x00\x01\x00\x00\x00\x00\xc0\xf2\xa1\xb0\x00\x09\x02\x61\x01\x01\x00\x00\x00\x00\x00\x00\x00\x15\x00\x09\x02\x62\x01\x02\x00\x00\x00\x00\x00\x00\x1a\x15\x00\x00\x00\x00\x0e\x00\x00\x00\x02\x00\x00\x00\x00\xd7\x29\x7e\x94\x34\x08\x41\x28\x00\x00\x00\x00\x00\x00\x00\x00\x00\x00\x00\x00\x00\x00\x00\x00\x00\x00\x00\x00\x00\x00\x00\x00\x00\x00\x00\x00\x00\x00\x00\x00\x00\x00\x00\x00\x57\xfb\x80\x8b\x24\x75\x47\xdb"),
+];
 
 // The value of its first entry is changed.
 #[rattlefmt::skip]
-const DAMAGED: &[u8] = b"\x00\x09\x01\x61\x01\x01\x00\x00\x00\x00\x00\x00\x30\x00\x00\x00\x00\x01\x00\x00\x00\x00\x82\x7e\xf9\x3a\x00\x09\x01\x62\x01\x02\x00\x00\x00\x00\x00\x00\x32\x00\x00\x00\x00\x01\x00\x00\x00\x00\x76\x69\xbb\x84\x00\x00\x00\x00\x01\x00\x00\x00\x00\xc0\xf2\xa1\xb0\x00\x09\x02\x61\x01\x01\x00\x00\x00\x00\x00\x00\x00\x15\x00\x09\x02\x62\x01\x02\x00\x00\x00\x00\x00\x00\x1a\x15\x00\x00\x00\x00\x0e\x00\x00\x00\x02\x00\x00\x00\x00\xd7\x29\x7e\x94\x34\x08\x41\x28\x00\x00\x00\x00\x00\x00\x00\x00\x00\x00\x00\x00\x00\x00\x00\x00\x00\x00\x00\x00\x00\x00\x00\x00\x00\x00\x00\x00\x00\x00\x00\x00\x00\x00\x00\x00\x57\xfb\x80\x8b\x24\x75\x47\xdb";
+const UNFILTERED_AND_DAMAGED: Files<'static> = &[
+    ("CURRENT", b"MANIFEST-000002\n"),
+    ("MANIFEST-000002", TWO_BLOCKS_MANIFEST),
+    ("000003.log", b""),
+    ("000005.ldb", b"\x00\x09\x01\x61\x01\x01\x00\x00\x00\x00\x00\x00\x30\x00\x00\x00\x00\x01\x00\x00\x00\x00\x82\x7e\xf9\x3a\x00\x09\x01\x62\x01\x02\x00\x00\x00\x00\x00\x00\x32\x00\x00\x00\x00\x01\x00\x00\x00\x00\x76\x69\xbb\x84\x00\x00\x00\x00\x01\x00\x00\x00\x00\xc0\xf2\xa1\xb0\x00\x09\x02\x61\x01\x01\x00\x00\x00\x00\x00\x00\x00\x15\x00\x09\x02\x62\x01\x02\x00\x00\x00\x00\x00\x00\x1a\x15\x00\x00\x00\x00\x0e\x00\x00\x00\x02\x00\x00\x00\x00\xd7\x29\x7e\x94\x34\x08\x41\x28\x00\x00\x00\x00\x00\x00\x00\x00\x00\x00\x00\x00\x00\x00\x00\x00\x00\x00\x00\x00\x00\x00\x00\x00\x00\x00\x00\x00\x00\x00\x00\x00\x00\x00\x00\x00\x57\xfb\x80\x8b\x24\x75\x47\xdb"),
+];
 
 // Its first block is said to be compressed, under a checksum that fits.
 #[rattlefmt::skip]
-const COMPRESSED: &[u8] = b"\x00\x09\x01\x61\x01\x01\x00\x00\x00\x00\x00\x00\x31\x00\x00\x00\x00\x01\x00\x00\x00\x01\x55\x62\xf4\x40\x00\x09\x01\x62\x01\x02\x00\x00\x00\x00\x00\x00\x32\x00\x00\x00\x00\x01\x00\x00\x00\x00\x76\x69\xbb\x84\x00\x00\x00\x00\x01\x00\x00\x00\x00\xc0\xf2\xa1\xb0\x00\x09\x02\x61\x01\x01\x00\x00\x00\x00\x00\x00\x00\x15\x00\x09\x02\x62\x01\x02\x00\x00\x00\x00\x00\x00\x1a\x15\x00\x00\x00\x00\x0e\x00\x00\x00\x02\x00\x00\x00\x00\xd7\x29\x7e\x94\x34\x08\x41\x28\x00\x00\x00\x00\x00\x00\x00\x00\x00\x00\x00\x00\x00\x00\x00\x00\x00\x00\x00\x00\x00\x00\x00\x00\x00\x00\x00\x00\x00\x00\x00\x00\x00\x00\x00\x00\x57\xfb\x80\x8b\x24\x75\x47\xdb";
+const UNFILTERED_AND_COMPRESSED: Files<'static> = &[
+    ("CURRENT", b"MANIFEST-000002\n"),
+    ("MANIFEST-000002", TWO_BLOCKS_MANIFEST),
+    ("000003.log", b""),
+    ("000005.ldb", b"\x00\x09\x01\x61\x01\x01\x00\x00\x00\x00\x00\x00\x31\x00\x00\x00\x00\x01\x00\x00\x00\x01\x55\x62\xf4\x40\x00\x09\x01\x62\x01\x02\x00\x00\x00\x00\x00\x00\x32\x00\x00\x00\x00\x01\x00\x00\x00\x00\x76\x69\xbb\x84\x00\x00\x00\x00\x01\x00\x00\x00\x00\xc0\xf2\xa1\xb0\x00\x09\x02\x61\x01\x01\x00\x00\x00\x00\x00\x00\x00\x15\x00\x09\x02\x62\x01\x02\x00\x00\x00\x00\x00\x00\x1a\x15\x00\x00\x00\x00\x0e\x00\x00\x00\x02\x00\x00\x00\x00\xd7\x29\x7e\x94\x34\x08\x41\x28\x00\x00\x00\x00\x00\x00\x00\x00\x00\x00\x00\x00\x00\x00\x00\x00\x00\x00\x00\x00\x00\x00\x00\x00\x00\x00\x00\x00\x00\x00\x00\x00\x00\x00\x00\x00\x57\xfb\x80\x8b\x24\x75\x47\xdb"),
+];
 
-const CORRUPT: Wanted<'static> = Refused(DbError::Corrupt(FileKind::Table, Damage::Checksum));
-
-const UNSUPPORTED: Wanted<'static> = Refused(DbError::Unsupported(Feature::BlockType));
+const WHOLE: &[Line<'static>] = &[
+    ("open", "ok"),
+    ("get 61", "value 31"),
+    ("get 62", "value 32"),
+];
 
 // The block that is met answers so in the call that meets it, and the others go on answering. A move backwards looks at the entry
 // in front, for whether it is of the same key.
-fn beside(first: Wanted<'static>) -> [Line<'static>; 11] {
-    [
-        (Open(Existing), Done),
-        (Get(b"a"), first),
-        (Get(b"b"), Value(b"2")),
-        (Get(b"a"), first),
-        (Iterate, Made(1)),
-        (Last(1), first),
-        (Seek(1, b"b"), At(b"b", b"2")),
-        (Prev(1), first),
-        (Prev(1), first),
-        (First(1), first),
-        (Next(1), End),
-    ]
-}
+const BESIDE_DAMAGE: &[Line<'static>] = &[
+    ("open", "ok"),
+    ("get 61", "refused Corrupt(Table, Checksum)"),
+    ("get 62", "value 32"),
+    ("get 61", "refused Corrupt(Table, Checksum)"),
+    ("iter", "iter 1"),
+    ("last 1", "refused Corrupt(Table, Checksum)"),
+    ("seek 1 62", "at 62 32"),
+    ("prev 1", "refused Corrupt(Table, Checksum)"),
+    ("prev 1", "refused Corrupt(Table, Checksum)"),
+    ("first 1", "refused Corrupt(Table, Checksum)"),
+    ("next 1", "end"),
+];
+
+const BESIDE_A_COMPRESSED_BLOCK: &[Line<'static>] = &[
+    ("open", "ok"),
+    ("get 61", "refused Unsupported(BlockType)"),
+    ("get 62", "value 32"),
+    ("get 61", "refused Unsupported(BlockType)"),
+    ("iter", "iter 1"),
+    ("last 1", "refused Unsupported(BlockType)"),
+    ("seek 1 62", "at 62 32"),
+    ("prev 1", "refused Unsupported(BlockType)"),
+    ("prev 1", "refused Unsupported(BlockType)"),
+    ("first 1", "refused Unsupported(BlockType)"),
+    ("next 1", "end"),
+];
+
+// Its edit: log number 3, next file number 6, last sequence 2; the table 5 of level 6.
+#[rattlefmt::skip]
+const FILTERED_MANIFEST: &[u8] = b"\x8f\xdf.\xd5\x1f\x00\x01\x02\x03\x03\x06\x04\x02\x07\x06\x05\xdc\x01\x09a\x01\x01\x00\x00\x00\x00\x00\x00\x09b\x01\x02\x00\x00\x00\x00\x00\x00";
+
+// The same blocks, at 0 and at 26, in a table that has one filter for both.
+#[rattlefmt::skip]
+pub const FILTERED: Files<'static> = &[
+    ("CURRENT", b"MANIFEST-000002\n"),
+    ("MANIFEST-000002", FILTERED_MANIFEST),
+    ("000003.log", b""),
+    ("000005.ldb", b"\x00\x09\x01\x61\x01\x01\x00\x00\x00\x00\x00\x00\x31\x00\x00\x00\x00\x01\x00\x00\x00\x00\x82\x7e\xf9\x3a\x00\x09\x01\x62\x01\x02\x00\x00\x00\x00\x00\x00\x32\x00\x00\x00\x00\x01\x00\x00\x00\x00\x76\x69\xbb\x84\x18\x30\x60\xc0\x80\x01\x03\x00\x06\x00\x00\x00\x00\x09\x00\x00\x00\x0b\x00\x10\x63\xb7\xf6\x00\x22\x02\x66\x69\x6c\x74\x65\x72\x2e\x6c\x65\x76\x65\x6c\x64\x62\x2e\x42\x75\x69\x6c\x74\x69\x6e\x42\x6c\x6f\x6f\x6d\x46\x69\x6c\x74\x65\x72\x32\x34\x12\x00\x00\x00\x00\x01\x00\x00\x00\x00\x24\x5c\xed\xfe\x00\x09\x02\x61\x01\x01\x00\x00\x00\x00\x00\x00\x00\x15\x00\x09\x02\x62\x01\x02\x00\x00\x00\x00\x00\x00\x1a\x15\x00\x00\x00\x00\x0e\x00\x00\x00\x02\x00\x00\x00\x00\xd7\x29\x7e\x94\x4b\x2f\x7f\x28\x00\x00\x00\x00\x00\x00\x00\x00\x00\x00\x00\x00\x00\x00\x00\x00\x00\x00\x00\x00\x00\x00\x00\x00\x00\x00\x00\x00\x00\x00\x00\x00\x00\x00\x00\x00\x57\xfb\x80\x8b\x24\x75\x47\xdb"),
+];
+
+// The value of its first entry is changed.
+#[rattlefmt::skip]
+const FILTERED_FIRST: Files<'static> = &[
+    ("CURRENT", b"MANIFEST-000002\n"),
+    ("MANIFEST-000002", FILTERED_MANIFEST),
+    ("000003.log", b""),
+    ("000005.ldb", b"\x00\x09\x01\x61\x01\x01\x00\x00\x00\x00\x00\x00\x30\x00\x00\x00\x00\x01\x00\x00\x00\x00\x82\x7e\xf9\x3a\x00\x09\x01\x62\x01\x02\x00\x00\x00\x00\x00\x00\x32\x00\x00\x00\x00\x01\x00\x00\x00\x00\x76\x69\xbb\x84\x18\x30\x60\xc0\x80\x01\x03\x00\x06\x00\x00\x00\x00\x09\x00\x00\x00\x0b\x00\x10\x63\xb7\xf6\x00\x22\x02\x66\x69\x6c\x74\x65\x72\x2e\x6c\x65\x76\x65\x6c\x64\x62\x2e\x42\x75\x69\x6c\x74\x69\x6e\x42\x6c\x6f\x6f\x6d\x46\x69\x6c\x74\x65\x72\x32\x34\x12\x00\x00\x00\x00\x01\x00\x00\x00\x00\x24\x5c\xed\xfe\x00\x09\x02\x61\x01\x01\x00\x00\x00\x00\x00\x00\x00\x15\x00\x09\x02\x62\x01\x02\x00\x00\x00\x00\x00\x00\x1a\x15\x00\x00\x00\x00\x0e\x00\x00\x00\x02\x00\x00\x00\x00\xd7\x29\x7e\x94\x4b\x2f\x7f\x28\x00\x00\x00\x00\x00\x00\x00\x00\x00\x00\x00\x00\x00\x00\x00\x00\x00\x00\x00\x00\x00\x00\x00\x00\x00\x00\x00\x00\x00\x00\x00\x00\x00\x00\x00\x00\x57\xfb\x80\x8b\x24\x75\x47\xdb"),
+];
+
+// The value of its second entry is changed.
+#[rattlefmt::skip]
+const FILTERED_SECOND: Files<'static> = &[
+    ("CURRENT", b"MANIFEST-000002\n"),
+    ("MANIFEST-000002", FILTERED_MANIFEST),
+    ("000003.log", b""),
+    ("000005.ldb", b"\x00\x09\x01\x61\x01\x01\x00\x00\x00\x00\x00\x00\x31\x00\x00\x00\x00\x01\x00\x00\x00\x00\x82\x7e\xf9\x3a\x00\x09\x01\x62\x01\x02\x00\x00\x00\x00\x00\x00\x33\x00\x00\x00\x00\x01\x00\x00\x00\x00\x76\x69\xbb\x84\x18\x30\x60\xc0\x80\x01\x03\x00\x06\x00\x00\x00\x00\x09\x00\x00\x00\x0b\x00\x10\x63\xb7\xf6\x00\x22\x02\x66\x69\x6c\x74\x65\x72\x2e\x6c\x65\x76\x65\x6c\x64\x62\x2e\x42\x75\x69\x6c\x74\x69\x6e\x42\x6c\x6f\x6f\x6d\x46\x69\x6c\x74\x65\x72\x32\x34\x12\x00\x00\x00\x00\x01\x00\x00\x00\x00\x24\x5c\xed\xfe\x00\x09\x02\x61\x01\x01\x00\x00\x00\x00\x00\x00\x00\x15\x00\x09\x02\x62\x01\x02\x00\x00\x00\x00\x00\x00\x1a\x15\x00\x00\x00\x00\x0e\x00\x00\x00\x02\x00\x00\x00\x00\xd7\x29\x7e\x94\x4b\x2f\x7f\x28\x00\x00\x00\x00\x00\x00\x00\x00\x00\x00\x00\x00\x00\x00\x00\x00\x00\x00\x00\x00\x00\x00\x00\x00\x00\x00\x00\x00\x00\x00\x00\x00\x00\x00\x00\x00\x57\xfb\x80\x8b\x24\x75\x47\xdb"),
+];
+
+// Its second block is said to be compressed, under a checksum that fits.
+#[rattlefmt::skip]
+const FILTERED_COMPRESSED: Files<'static> = &[
+    ("CURRENT", b"MANIFEST-000002\n"),
+    ("MANIFEST-000002", FILTERED_MANIFEST),
+    ("000003.log", b""),
+    ("000005.ldb", b"\x00\x09\x01\x61\x01\x01\x00\x00\x00\x00\x00\x00\x31\x00\x00\x00\x00\x01\x00\x00\x00\x00\x82\x7e\xf9\x3a\x00\x09\x01\x62\x01\x02\x00\x00\x00\x00\x00\x00\x32\x00\x00\x00\x00\x01\x00\x00\x00\x01\x21\x85\xc2\x86\x18\x30\x60\xc0\x80\x01\x03\x00\x06\x00\x00\x00\x00\x09\x00\x00\x00\x0b\x00\x10\x63\xb7\xf6\x00\x22\x02\x66\x69\x6c\x74\x65\x72\x2e\x6c\x65\x76\x65\x6c\x64\x62\x2e\x42\x75\x69\x6c\x74\x69\x6e\x42\x6c\x6f\x6f\x6d\x46\x69\x6c\x74\x65\x72\x32\x34\x12\x00\x00\x00\x00\x01\x00\x00\x00\x00\x24\x5c\xed\xfe\x00\x09\x02\x61\x01\x01\x00\x00\x00\x00\x00\x00\x00\x15\x00\x09\x02\x62\x01\x02\x00\x00\x00\x00\x00\x00\x1a\x15\x00\x00\x00\x00\x0e\x00\x00\x00\x02\x00\x00\x00\x00\xd7\x29\x7e\x94\x4b\x2f\x7f\x28\x00\x00\x00\x00\x00\x00\x00\x00\x00\x00\x00\x00\x00\x00\x00\x00\x00\x00\x00\x00\x00\x00\x00\x00\x00\x00\x00\x00\x00\x00\x00\x00\x00\x00\x00\x00\x57\xfb\x80\x8b\x24\x75\x47\xdb"),
+];
+
+const WHOLE_FILTERED: &[Line<'static>] = &[
+    ("open", "ok"),
+    ("get 61", "value 31"),
+    ("get 6100", "none"),
+    ("get 62", "value 32"),
+];
+
+const FIRST_CHANGED: &[Line<'static>] = &[
+    ("open", "ok"),
+    ("get 61", "refused Corrupt(Table, Checksum)"),
+    ("get 62", "value 32"),
+];
+
+// The filter denies the key 6100, so that the block isn't read for it.
+const SECOND_CHANGED: &[Line<'static>] = &[
+    ("open", "ok"),
+    ("get 6100", "none"),
+    ("get 62", "refused Corrupt(Table, Checksum)"),
+    ("get 61", "value 31"),
+    ("iter", "iter 1"),
+    ("first 1", "at 61 31"),
+    ("next 1", "refused Corrupt(Table, Checksum)"),
+    ("next 1", "refused Corrupt(Table, Checksum)"),
+    ("prev 1", "end"),
+    ("last 1", "refused Corrupt(Table, Checksum)"),
+];
+
+const SECOND_COMPRESSED: &[Line<'static>] = &[
+    ("open", "ok"),
+    ("get 62", "refused Unsupported(BlockType)"),
+    ("get 61", "value 31"),
+];
+
+#[rattlefmt::skip]
+const CASES: &[Case] = &[
+    Case { name: "tables of two levels are read", sizes: DEFAULTS, files: LEVELS, parts: &[
+        Part { script: READ, left: &[Left::Tables(&[(0, 13, 3), (0, 16, 1), (1, 9, 4)]), Left::LastSequence(8)] },
+    ] },
+    Case { name: "what is written lies in front of tables", sizes: DEFAULTS, files: LEVELS, parts: &[Part { script: WRITTEN, left: &[] }] },
+    Case { name: "a table without a filter", sizes: DEFAULTS, files: UNFILTERED, parts: &[Part { script: WHOLE, left: &[] }] },
+    Case { name: "its first block damaged", sizes: DEFAULTS, files: UNFILTERED_AND_DAMAGED, parts: &[Part { script: BESIDE_DAMAGE, left: &[] }] },
+    Case { name: "its first block compressed", sizes: DEFAULTS, files: UNFILTERED_AND_COMPRESSED, parts: &[Part { script: BESIDE_A_COMPRESSED_BLOCK, left: &[] }] },
+    Case { name: "a table with a filter", sizes: DEFAULTS, files: FILTERED, parts: &[Part { script: WHOLE_FILTERED, left: &[Left::Tables(&[(6, 5, 2)])] }] },
+    Case { name: "its first block changed", sizes: DEFAULTS, files: FILTERED_FIRST, parts: &[
+        Part { script: FIRST_CHANGED, left: &[Left::Refused(DbError::Corrupt(FileKind::Table, Damage::Checksum))] },
+    ] },
+    Case { name: "its second block changed", sizes: DEFAULTS, files: FILTERED_SECOND, parts: &[
+        Part { script: SECOND_CHANGED, left: &[Left::Refused(DbError::Corrupt(FileKind::Table, Damage::Checksum))] },
+    ] },
+    Case { name: "its second block compressed", sizes: DEFAULTS, files: FILTERED_COMPRESSED, parts: &[
+        Part { script: SECOND_COMPRESSED, left: &[Left::Refused(DbError::Unsupported(Feature::BlockType))] },
+    ] },
+];
 
 #[test]
-fn a_block_that_is_not_read_is_refused_where_it_is_met(rt: HostRuntime) -> Result<(), Fail> {
-    let whole = [
-        (Open(Existing), Done),
-        (Get(b"a"), Value(b"1")),
-        (Get(b"b"), Value(b"2")),
-    ];
-    after_script(&rt, one_table(rt.alloc(), TWO_BLOCKS)?, &whole)?;
-    after_script(&rt, one_table(rt.alloc(), DAMAGED)?, &beside(CORRUPT))?;
-    after_script(
-        &rt,
-        one_table(rt.alloc(), COMPRESSED)?,
-        &beside(UNSUPPORTED),
-    )?;
-    Ok(())
+fn tables_are_read_or_refused_where_they_are_met(rt: HostRuntime) -> Result<(), Fail> {
+    assert_cases(&rt, CASES)
 }
