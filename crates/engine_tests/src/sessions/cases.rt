@@ -1,6 +1,6 @@
 // Sessions one behind the other over one store, and what each of them leaves.
 use super::*;
-use recover::{Report, TableSummary, check};
+use recover::{Report, TableSummary};
 
 pub struct Case {
     pub name: &'static str,
@@ -45,22 +45,24 @@ fn are(tables: &[TableSummary], wanted: &[(u32, u64, u64)]) -> bool {
     tables.iter().zip(wanted).all(|(table, one)| (table.level, table.number, table.entries) == *one)
 }
 
+fn tells_tables(report: &Report, tables: &[(u32, u64, u64)]) -> bool {
+    matches!(report, Report::Good(summary) if are(&summary.tables, tables))
+}
+
 pub fn has_tables(alloc: Global, store: &mut MemStore, tables: &[(u32, u64, u64)]) -> bool {
-    matches!(
-        check::<Bytewise, MemStore>(alloc, store),
-        Ok(Report::Good(summary)) if are(&summary.tables, tables)
-    )
+    matches!(checked(alloc, store), Ok(report) if tells_tables(&report, tables))
+}
+
+fn tells_last(report: &Report, sequence: u64) -> bool {
+    matches!(report, Report::Good(summary) if summary.last_sequence == sequence)
 }
 
 fn is_last(alloc: Global, store: &mut MemStore, sequence: u64) -> bool {
-    matches!(
-        check::<Bytewise, MemStore>(alloc, store),
-        Ok(Report::Good(summary)) if summary.last_sequence == sequence
-    )
+    matches!(checked(alloc, store), Ok(report) if tells_last(&report, sequence))
 }
 
 fn is_refused(alloc: Global, store: &mut MemStore, refusal: DbError) -> bool {
-    matches!(check::<Bytewise, MemStore>(alloc, store), Err(error) if error == refusal)
+    matches!(checked(alloc, store), Err(error) if error == refusal)
 }
 
 fn is_left(alloc: Global, store: &mut MemStore, left: &Left) -> bool {

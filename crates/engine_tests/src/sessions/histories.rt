@@ -5,7 +5,7 @@ mod model;
 use super::*;
 use engine::Mode;
 use model::{KEYS, Model, Step};
-use recover::{Report, Summary, check};
+use recover::{Report, Summary};
 use std::test::Fail;
 
 const SIZES: Sizes = [200, 64, 300, 2, 50, 16];
@@ -91,15 +91,14 @@ fn are_tidy(files: usize, summary: &Summary) -> bool {
     files.checked_sub(3) == Some(live) && count_of(tables, 0) < 2 && high < tables.len()
 }
 
+fn tells_tidy(report: &Report, files: usize) -> bool {
+    matches!(report, Report::Good(summary) if are_tidy(files, summary))
+}
+
 // A check accepts what is left, and it is tidy.
 fn is_tidy(alloc: Global, store: &mut MemStore) -> bool {
-    let Ok(files) = listed(alloc, store) else {
-        return false;
-    };
-    matches!(
-        check::<Bytewise, MemStore>(alloc, store),
-        Ok(Report::Good(summary)) if are_tidy(files.len(), &summary)
-    )
+    let files = files_in(alloc, store);
+    matches!(checked(alloc, store), Ok(report) if tells_tidy(&report, files))
 }
 
 #[test]

@@ -3,7 +3,7 @@
 use super::*;
 use crate::watching::WatchedStore;
 use batch::Operation;
-use recover::{Report, TableSummary, check};
+use recover::{Report, TableSummary};
 use std::test::Fail;
 
 // A memory table is sealed with its first entry, level 0 is compacted from two files on, level 1 above 100 bytes, and each key
@@ -304,15 +304,14 @@ fn are_tidy(files: usize, tables: &[TableSummary]) -> bool {
     files.checked_sub(4) == Some(tables.len()) && count_of(tables, 0) < 2
 }
 
+fn tells_tidy(report: &Report, files: usize) -> bool {
+    matches!(report, Report::Good(summary) if are_tidy(files, &summary.tables))
+}
+
 // A check accepts the directory, and it is tidy.
 fn is_tidy(alloc: Global, store: &mut MemStore) -> bool {
-    let Ok(files) = listed(alloc, store) else {
-        return false;
-    };
-    matches!(
-        check::<Bytewise, MemStore>(alloc, store),
-        Ok(Report::Good(summary)) if are_tidy(files.len(), &summary.tables)
-    )
+    let files = files_in(alloc, store);
+    matches!(checked(alloc, store), Ok(report) if tells_tidy(&report, files))
 }
 
 // The same, where what is left has to be tidy.
