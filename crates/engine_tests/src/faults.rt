@@ -1,5 +1,5 @@
 //! Whether a database tells that its store failed, whichever call of it did.
-use crate::refusing::RefusingStore;
+use crate::watching::WatchedStore;
 use batch::Batch;
 use coding::DbError;
 use engine::{Db, Ids, Mode, Options, Progress};
@@ -31,18 +31,16 @@ fn serve<S: Store>(alloc: Global, database: &mut Db<S, Bytewise>) -> Result<(), 
     Ok(())
 }
 
-// What a session over a store whose call of this number is refused comes to: whether the store failed, whether the database
-// tells so, and whether all was answered as if it hadn't. None where it couldn't be opened.
+// A database over a store whose call of this number is refused.
+fn opened(alloc: Global, refused: u64) -> Option<Db<WatchedStore, Bytewise>> {
+    let store = WatchedStore::refusing(MemStore::new(alloc), refused);
+    Db::open(alloc, store, options()?, Mode::New, FIRST).ok()
+}
+
+// What such a database comes to: whether the store failed, whether the database tells so, and whether all was answered as if it
+// hadn't. None where it couldn't be opened.
 fn told(alloc: Global, refused: u64) -> Option<(bool, bool, bool)> {
-    let store = RefusingStore::new(MemStore::new(alloc), refused);
-    let opened: Result<Db<RefusingStore, Bytewise>, _> = Db::open(
-        alloc,
-        store,
-        options()?,
-        Mode::New,
-        FIRST,
-    );
-    let mut database = opened.ok()?;
+    let mut database = opened(alloc, refused)?;
     let served = serve(alloc, &mut database).is_ok();
     let had_fault = database.had_fault();
     let (store, _) = database.close();
