@@ -140,3 +140,9 @@ def write_directory(room, name, manifest, files):
         with open(os.path.join(folder, name_of_file), "wb") as file:
             file.write(text)
     return folder
+
+
+def with_table(room, name, table, **more):
+    """A new folder with a database of this one table, which has the bounds and the size of ONE_TABLE, and of these files."""
+    manifest = Manifest(log=3, next_file=6, last_sequence=1, tables=[(6, 5, len(ONE_TABLE), ("61", 1), ("61", 1))])
+    return write_directory(room, name, manifest, {"000003.log": b"", "000005.ldb": table, **more})

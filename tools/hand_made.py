@@ -1,7 +1,7 @@
 """Checks of tools/program over directories that were made by hand."""
 import os
 
-from files import ONE_TABLE, Manifest, bytes_of, hexadecimal, internal_key, log_file, new_folder, record, write_directory
+from files import ONE_TABLE, Manifest, bytes_of, hexadecimal, internal_key, log_file, new_folder, record, with_table, write_directory
 from listed import check
 from running import ldbtool, want, want_answers, want_entries, want_report
 
@@ -59,11 +59,6 @@ def used_up(room):
     want_answers(two, "open; put 61 31; close; open", "ok; ok; ok; refused 15 NumbersSpent")
 
 
-def with_table(room, name, table, **more):
-    manifest = Manifest(log=3, next_file=6, last_sequence=1, tables=[(6, 5, len(ONE_TABLE), ("61", 1), ("61", 1))])
-    return write_directory(room, name, manifest, {"000003.log": b"", "000005.ldb": table, **more})
-
-
 @check("a table is checked, dumped, and read")
 def table(room):
     folder = with_table(room, "folder", ONE_TABLE)
@@ -86,6 +81,14 @@ def order_of_entries(room):
     folder = with_table(room, "folder", ONE_TABLE, **{"000004.log": log_file([(2, [("63", "33"), ("62", None)]), (4, [("-", "-")])])})
     want_entries(folder, "table 6 5 61 1 put 31", "log 4 63 2 put 33", "log 4 62 3 delete", "log 4 - 4 put -")
     want_report(folder, "good", "last-sequence 4", "table 6 5 1", "log 3 0 clean", "log 4 2 clean")
+
+
+@check("tails, deletes, the empty key and an empty value are printed as such")
+def kinds_of_lines(room):
+    log = log_file([(2, [("-", None)]), (3, [("ff", "-")]), (4, [("62", "32")])])[:-1]
+    folder = with_table(room, "folder", ONE_TABLE, **{"000004.log": log})
+    want_report(folder, "good", "last-sequence 3", "table 6 5 1", "log 3 0 clean", "log 4 2 torn")
+    want_entries(folder, "table 6 5 61 1 put 31", "log 4 - 2 delete", "log 4 ff 3 put -")
 
 
 @check("an empty folder, and other people's files in one")

@@ -1,4 +1,4 @@
-"""Scripts for ldbtool with what must be answered, written down by hand, for the checks of tools/program."""
+"""Scripts and command lines for ldbtool with what must be answered, written down by hand, for the checks of tools/program."""
 
 # each begins in an empty folder
 SCRIPTS = [
@@ -66,4 +66,22 @@ WORKED = [
      ["table 1 7 63 3 put 33", "table 1 11 64 4 put 34", "table 2 8 61 1 put 31", "table 2 12 62 2 put 32"]),
     ("--write-buffer 1", "open new; put 61 31; work 9; work 9; put 62 32; work 9; work 9; get 61; get 62; get 61",
      "ok; ok; worked; worked; ok; worked; worked; value 31; value 32; value 31", ["table 0 4 61 1 put 31", "table 0 6 62 2 put 32"]),
+]  # fmt: skip
+
+# command lines that are wrong
+MISUSES = [
+    [], ["frob", "DIR"], ["run"], ["check"], ["dump"], ["check", "A", "B"], ["run", "A", "B"], ["dump", "--cache-blocks", "1", "DIR"], ["dump", "--write-buffer", "1", "DIR"],
+    ["run", "--frob", "DIR"], ["run", "--cache-blocks", "DIR"], ["--cache-blocks", "1", "run", "DIR"], ["help", "frob"],
+]  # fmt: skip
+
+# the options of `run`: the name, the default and the greatest number of each
+OPTIONS = [
+    ("write-buffer", 4_194_304, 2**30), ("block-bytes", 4_096, 2**20), ("file-bytes", 2_097_152, 2**30),
+    ("level0-files", 4, 1_024), ("base-bytes", 10_485_760, 2**40), ("cache-blocks", 1_024, 65_536),
+]  # fmt: skip
+
+# words that ask for help, and what it has
+TOLD = [
+    ("--help", "Exit status"), ("help run", "refused 20 BadLine"), ("run --help", "value 76616c7565"), ("check -h", "Usage"),
+    ("dump --help", "table LEVEL NUMBER KEY SEQUENCE put VALUE"), ("--version", "ldbtool 0.1.0"),
 ]  # fmt: skip
