@@ -4,7 +4,7 @@
 RT ?= $(firstword $(shell command -v rt 2> /dev/null) $(wildcard /opt/rattle/bin/rt))
 export RT
 
-PROGRAMS := quickstart tables ldbtool
+PROGRAMS := quickstart ldbtool
 
 # Where `make install` puts ldbtool and its page. DESTDIR is put in front of it, as packagers want it.
 PREFIX ?= /usr/local

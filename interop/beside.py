@@ -8,9 +8,9 @@ import tempfile
 sys.path.append(os.path.join(os.path.dirname(os.path.dirname(os.path.abspath(__file__))), "tools"))
 from listed import CHECKS, Wrong, check  # noqa: E402  pylint: disable=wrong-import-position
 
-if len(sys.argv) != 5:
-    sys.exit("usage: checks.py QUICKSTART TABLES LDBTOOL LEVELDB_DRIVER")
-QUICKSTART, TABLES, LDBTOOL, LEVELDB = map(os.path.abspath, sys.argv[1:])
+if len(sys.argv) != 4:
+    sys.exit("usage: checks.py QUICKSTART LDBTOOL LEVELDB_DRIVER")
+QUICKSTART, LDBTOOL, LEVELDB = map(os.path.abspath, sys.argv[1:])
 
 SECONDS = 60
 
@@ -33,6 +33,24 @@ def short(text):
 
 def run(words, **how):
     return subprocess.run(words, capture_output=True, text=True, timeout=SECONDS, **how)
+
+
+def ldbtool(verb, folder, script=None, flags=()):
+    return run([LDBTOOL, verb, *flags, folder], input=script)
+
+
+def prints(verb, folder, script=None, flags=()):
+    """What LDBTOOL prints over a folder that it is to accept."""
+    ran = ldbtool(verb, folder, script, flags)
+    want(ran.returncode == 0, f"ldbtool {verb} ended with status {ran.returncode}: {short(ran.stdout + ran.stderr)}")
+    want(ran.stderr == "", f"ldbtool {verb} complained: {short(ran.stderr)}")
+    return ran.stdout
+
+
+def want_answers(folder, script, wanted, whose, flags=()):
+    """Runs a script, one answer a line, over the folder itself."""
+    found = prints("run", folder, "".join(line + "\n" for line in script), flags)
+    want_lines(found, "".join(line + "\n" for line in wanted), whose)
 
 
 def leveldb_reads(folder, *flags):

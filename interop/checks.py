@@ -1,12 +1,12 @@
 """The checks between this database and LevelDB itself. `interop/run` builds what they need and starts them.
 
-usage: checks.py QUICKSTART TABLES LDBTOOL LEVELDB_DRIVER
+usage: checks.py QUICKSTART LDBTOOL LEVELDB_DRIVER
 
-QUICKSTART, TABLES and LDBTOOL are the programs under test; what is checked of the second stands in tables.py, of the
-third in directories.py, and of the third by turns with LevelDB in turns.py. QUICKSTART opens the folder that it is given,
-prints the value that the key `61` has there ("none" where it has none), writes `61` = `31`, prints the value of `61`, closes,
-and prints the log that it wrote to, each on a line of its own and in hexadecimal. TABLES writes a table of the entries that it is given, and prints those of
-a table. What they must print is taken from LevelDB, or from what LevelDB was told to write, never from themselves.
+QUICKSTART and LDBTOOL are the programs under test; what is checked of the second stands in tables.py, over whole directories
+in directories.py, and by turns with LevelDB in turns.py. QUICKSTART opens the folder that it is given, prints the value that
+the key `61` has there ("none" where it has none), writes `61` = `31`, prints the value of `61`, closes, and prints the log
+that it wrote to, each on a line of its own and in hexadecimal. What they must print is taken from LevelDB, or from what
+LevelDB was told to write, never from themselves.
 
 LevelDB moves what logs hold into a table whenever it opens a folder without reuse_logs. Where a check wants the folder
 as it is, LevelDB therefore reads a copy of it, or opens it with reuse_logs.

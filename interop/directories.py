@@ -11,31 +11,27 @@ import shutil
 import subprocess
 import tempfile
 
-from beside import LDBTOOL, LEVELDB, SECONDS, bytes_of, check, contents, copied, files_of, leveldb, leveldb_reads, run, short, want, want_lines, want_map
+from beside import (
+    LEVELDB,
+    SECONDS,
+    bytes_of,
+    check,
+    contents,
+    copied,
+    files_of,
+    ldbtool,
+    leveldb,
+    leveldb_reads,
+    prints,
+    short,
+    want,
+    want_answers,
+    want_lines,
+    want_map,
+)
 
 SEEDS = range(1, 21)
 CHANGES = 12
-
-
-# ---- the program
-
-
-def ldbtool(verb, folder, script=None, flags=()):
-    return run([LDBTOOL, verb, *flags, folder], input=script)
-
-
-def prints(verb, folder, script=None, flags=()):
-    """What the program prints over a folder that it is to accept."""
-    ran = ldbtool(verb, folder, script, flags)
-    want(ran.returncode == 0, f"ldbtool {verb} ended with status {ran.returncode}: {short(ran.stdout + ran.stderr)}")
-    want(ran.stderr == "", f"ldbtool {verb} complained: {short(ran.stderr)}")
-    return ran.stdout
-
-
-def want_answers(folder, script, wanted, whose):
-    """Runs a script, one answer a line, over the folder itself."""
-    found = prints("run", folder, "".join(line + "\n" for line in script))
-    want_lines(found, "".join(line + "\n" for line in wanted), whose)
 
 
 # ---- what LevelDB says of a directory's files

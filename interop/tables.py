@@ -1,26 +1,32 @@
-"""The checks of TABLES: table files that it writes and LevelDB reads, and LevelDB's that it prints."""
+"""The checks of tables: those that LDBTOOL writes and LevelDB reads, and LevelDB's that LDBTOOL prints.
+
+A table of given entries, with deletes and several versions of a key, is what `work` makes of a memory table: it drops nothing.
+"""
 import os
 import random
 import re
+import shutil
 import struct
+import tempfile
 
 from beside import (
     KEY,
-    TABLES,
     WRITTEN,
     bytes_of,
     check,
+    copied,
     files_of,
+    ldbtool,
     leveldb,
     new_folder,
-    run,
+    prints,
     short,
     spelled,
     want,
+    want_answers,
     want_lines,
 )
 
-TABLE = "000007.ldb"
 FOOTER = 48
 
 
@@ -34,12 +40,12 @@ class Entry:
         return self.key, -self.sequence
 
     def line(self):
-        """The line that TABLES reads and prints."""
+        """The line of a dump, behind the table's level and number."""
         end = "delete" if self.value is None else f"put {spelled(self.value)}"
         return f"{spelled(self.key)} {self.sequence} {end}\n"
 
     def write(self):
-        """The line with which LevelDB writes it."""
+        """The line with which it is written, by LevelDB's driver and by a script."""
         return f"del {spelled(self.key)}" if self.value is None else f"put {spelled(self.key)} {spelled(self.value)}"
 
 
@@ -57,26 +63,44 @@ def map_of(entries):
     return {spelled(entry.key): spelled(entry.value) for entry in newest(entries) if entry.value is not None}
 
 
-def tables_writes(folder, entries, block_bytes):
-    """Has TABLES write the table of these entries: its bytes."""
-    ran = run([TABLES, "write", folder, TABLE, str(block_bytes)], input=lines_of(entries))
-    want(ran.returncode == 0, f"tables ended with status {ran.returncode}: {short(ran.stderr)}")
-    want(ran.stdout == "", f"tables printed {short(ran.stdout)}")
-    return bytes_of(os.path.join(folder, TABLE))
+def rows_of(entries):
+    """Its pairs, by rising keys."""
+    return sorted(map_of(entries).items(), key=lambda pair: pair[0].replace("-", ""))
 
 
-def tables_dumps(folder, name):
-    """Has TABLES print a table, which it is to read."""
-    ran = run([TABLES, "dump", folder, name])
-    want(ran.returncode == 0, f"tables ended with status {ran.returncode}: {short(ran.stderr)}")
-    return ran.stdout
+def by_sequence(entries):
+    written = sorted(entries, key=lambda entry: entry.sequence)
+    want([entry.sequence for entry in written] == list(range(1, len(written) + 1)), "sequences are 1, 2, 3 ..")
+    return written
+
+
+def dumped(folder):
+    """The entries of each table of a directory that a check takes, as LDBTOOL prints them, by the table's number."""
+    want(prints("check", folder).startswith("good\n"), "a check refuses the directory")
+    found = {}
+    for line in prints("dump", folder).splitlines(keepends=True):
+        kind, _, number, entry = line.split(" ", 3)
+        want(kind == "table", f"an entry isn't in a table: {short(line)}")
+        found.setdefault(int(number), []).append(entry)
+    return found
+
+
+def our_table(folder, entries, block_bytes):
+    """Has LDBTOOL make a database of these entries, all of them in one table: its name."""
+    lines = [entry.write() for entry in by_sequence(entries)]
+    script = ["open new", *lines, "work 1", "work 1", "close"]
+    answers = ["ok", *["ok" for _ in lines], "worked", "worked", "ok"]
+    want_answers(folder, script, answers, "a script that writes", ["--write-buffer", "1", "--block-bytes", str(block_bytes)])
+    (name,) = files_of(folder, ".ldb")
+    ((number, found),) = dumped(folder).items()
+    want(name == f"{number:06d}.ldb", f"the entries of {name} are said to be in table {number}")
+    want_lines("".join(found), lines_of(entries), f"of {name}")
+    return name
 
 
 def leveldb_tables(folder, entries, *flags):
     """Has LevelDB write these entries by their sequences, and make tables of its logs: the names."""
-    written = sorted(entries, key=lambda entry: entry.sequence)
-    want([entry.sequence for entry in written] == list(range(1, len(written) + 1)), "LevelDB's sequences are 1, 2, 3 ..")
-    leveldb("write", folder, *flags, lines=["begin", *[entry.write() for entry in written], "end"])
+    leveldb("write", folder, *flags, lines=["begin", *[entry.write() for entry in by_sequence(entries)], "end"])
     leveldb("dump", folder, *flags)
     return files_of(folder, ".ldb")
 
@@ -109,17 +133,22 @@ def some_entries(seed):
     return entries
 
 
-@check("tables: one entry is written byte for byte as LevelDB writes it")
+@check("tables: one entry is written byte for byte as LevelDB writes it, by a flush and by a compaction")
 def same_small_table(room):
-    ours, theirs_folder = new_folder(room), os.path.join(room, "other")
+    flushed, compacted, theirs = new_folder(room, "flushed"), new_folder(room, "compacted"), os.path.join(room, "other")
     entries = [Entry(bytes.fromhex(KEY), 1, bytes.fromhex(WRITTEN))]
-    (name,) = leveldb_tables(theirs_folder, entries, "--filter")
-    wanted = bytes_of(os.path.join(theirs_folder, name))
+    (name,) = leveldb_tables(theirs, entries, "--filter")
+    wanted = bytes_of(os.path.join(theirs, name))
     want(len(wanted) == 176, f"LevelDB's table has {len(wanted)} bytes")
-    found = tables_writes(ours, entries, 4096)
-    want(found == wanted, f"LevelDB's table is {wanted.hex()}, ours {found.hex()}")
-    shown = run([TABLES]).stdout
-    want(shown == f"{wanted.hex()}\n{KEY} 1 put {WRITTEN}\n", f"without arguments tables printed {short(shown)}")
+    our_table(flushed, entries, 4096)
+    # `work` takes the table away that the compaction has read
+    script = ["open new", f"put {KEY} {WRITTEN}", "compact all", "work 1", "close"]
+    want_answers(compacted, script, ["ok", "ok", "ok", "idle", "ok"], "a compaction")
+    want(dumped(compacted) == {5: [f"{KEY} 1 put {WRITTEN}\n"]}, f"a compaction left {dumped(compacted)}")
+    for folder in (flushed, compacted):
+        (name,) = files_of(folder, ".ldb")
+        found = bytes_of(os.path.join(folder, name))
+        want(found == wanted, f"LevelDB's table is {wanted.hex()}, ours {found.hex()}")
 
 
 def like_leveldb(block_bytes):
@@ -145,18 +174,16 @@ def same_large_table(room):
         other = os.path.join(room, f"theirs{block_bytes}")
         (name,) = leveldb_tables(other, entries, "--filter", f"--block-bytes={block_bytes}")
         wanted = bytes_of(os.path.join(other, name))
-        found = tables_writes(folder, entries, block_bytes)
+        found = bytes_of(os.path.join(folder, our_table(folder, entries, block_bytes)))
         at = next((at for at, pair in enumerate(zip(found, wanted)) if pair[0] != pair[1]), min(len(found), len(wanted)))
         want(found == wanted, f"blocks of {block_bytes}: {len(found)} and {len(wanted)} bytes, other from byte {at} on")
 
 
-def read_by_leveldb(folder, entries, seed):
-    """Has LevelDB make a database of our table, and read all of it in every way."""
+def read_by_leveldb(folder, name, entries, seed):
+    """Has LevelDB read all of our table, the only one of a database, in every way."""
     chance = random.Random(seed)
-    wanted = map_of(entries)
-    before = bytes_of(os.path.join(folder, TABLE))
-    leveldb("repair", folder, "--filter")
-    rows = [f"{key} {value}\n" for key, value in sorted(wanted.items(), key=lambda pair: pair[0].replace("-", ""))]
+    wanted, before = map_of(entries), bytes_of(os.path.join(folder, name))
+    rows = [f"{key} {value}\n" for key, value in rows_of(entries)]
     want_lines(leveldb("dump", folder, "--filter"), "".join(rows), "LevelDB, forwards")
     want_lines(leveldb("dump", folder, "--filter", "--backwards"), "".join(reversed(rows)), "LevelDB, backwards")
     keys = [spelled(entry.key) for entry in newest(entries)]
@@ -165,29 +192,33 @@ def read_by_leveldb(folder, entries, seed):
     gets = "".join(wanted.get(key, "none") + "\n" for key in keys)
     want_lines(leveldb("get", folder, "--filter", lines=keys), gets, "LevelDB's gets")
     kept = files_of(folder, ".ldb") + files_of(folder, ".sst")
-    want(kept == [TABLE] and bytes_of(os.path.join(folder, TABLE)) == before, "LevelDB did not read our table as it is")
+    want(kept == [name] and bytes_of(os.path.join(folder, name)) == before, "LevelDB did not read our table as it is")
 
 
-@check("tables, ours to theirs: repaired into a database, LevelDB reads each entry of it, in every way")
+@check("tables, ours to theirs: in our database, and alone where it is repaired into one, LevelDB reads each entry, in every way")
 def tables_to_leveldb(room):
     for seed, block_bytes in ((2, 1), (3, 4096), (4, 65536)):
-        folder = new_folder(room, str(block_bytes))
+        folder, alone = new_folder(room, str(block_bytes)), new_folder(room, f"{block_bytes} alone")
         entries = some_entries(seed)
-        tables_writes(folder, entries, block_bytes)
-        read_by_leveldb(folder, entries, seed)
+        name = our_table(folder, entries, block_bytes)
+        shutil.copy(os.path.join(folder, name), alone)
+        leveldb("repair", alone, "--filter")
+        for it in (folder, alone):
+            read_by_leveldb(it, name, entries, seed)
 
 
 def want_dumped(folder, entries):
-    """Has TABLES print each table of a folder, which together have these entries."""
-    names = files_of(folder, ".ldb")
-    found = [tables_dumps(folder, name).splitlines(keepends=True) for name in names]
+    """Has LDBTOOL print the tables of a directory, which together have these entries: how many there are."""
+    found = dumped(folder)
     wanted = lines_of(entries).splitlines(keepends=True)
-    want_lines("".join(sorted(line for lines in found for line in lines)), "".join(sorted(wanted)), f"of {names}")
+    names = files_of(folder, ".ldb")
+    want(names == [f"{number:06d}.ldb" for number in sorted(found)], f"of {names} the tables {sorted(found)} were printed")
+    want_lines("".join(sorted(line for lines in found.values() for line in lines)), "".join(sorted(wanted)), f"of {names}")
     places = {line: place for place, line in enumerate(wanted)}
-    for lines in found:
+    for lines in found.values():
         order = [places[line] for line in lines]
         want(order == sorted(order), "the entries of a table are not in their order")
-    return names
+    return len(found)
 
 
 @check("tables, theirs to ours: each entry of LevelDB's tables, from its logs and from its compactions")
@@ -216,16 +247,15 @@ def tables_from_leveldb(room):
         # LevelDB takes old files away when it opens a folder.
         leveldb("dump", folder, *flags)
         kept = [entry for entry in newest(entries + later) if entry.value is not None]
-        several += len(want_dumped(folder, kept)) > 1
+        several += want_dumped(folder, kept) > 1
     want(several > 0, "no compaction made several tables")
 
 
-def tables_refuses(folder, name, refusal):
-    """Has TABLES refuse to print a table."""
-    ran = run([TABLES, "dump", folder, name])
-    want(ran.returncode == 1, f"tables ended with status {ran.returncode}, not 1: {short(ran.stdout + ran.stderr)}")
-    want(re.search(rf"\b{refusal}\b", ran.stderr) is not None, f"tables refused, but not with {refusal}: {short(ran.stderr)}")
-    want(ran.stdout == "", f"a table that was refused printed {short(ran.stdout)}")
+def want_refused(folder, refusal):
+    for verb in ("check", "dump"):
+        ran = ldbtool(verb, folder)
+        said = (ran.returncode, ran.stdout, ran.stderr)
+        want(said == (1, f"refused {refusal}\n", ""), f"{verb} of what is to be refused as {refusal}: {short(str(said))}")
 
 
 @check("tables: compressed ones are refused as Unsupported")
@@ -236,18 +266,34 @@ def compressed_tables(room):
         (name,) = leveldb_tables(folder, entries, *flags)
         length = os.path.getsize(os.path.join(folder, name))
         want(length < 50 * len(entries), f"LevelDB's table has {length} bytes, so it did not compress")
-        tables_refuses(folder, name, "Unsupported")
+        want_refused(folder, "6 Unsupported")
+        want_answers(folder, ["open", f"get {entries[0].key.hex()}"], ["ok", "refused 6 Unsupported"], "a get of a compressed block")
 
 
-def want_right_or_refused(folder, name, wanted, what):
-    """Has TABLES print a table that was changed: what it had before, or nothing. Whether it was refused."""
-    ran = run([TABLES, "dump", folder, name])
+REFUSED = re.compile(r"refused (5 Corrupt|6 Unsupported)\n")
+
+
+def want_right_or_refused(folder, wanted, what):
+    """Has LDBTOOL print a table that was changed: what it had before, or a refusal alone. Whether it was refused."""
+    ran = ldbtool("dump", folder)
     if ran.returncode == 0:
         want_lines(ran.stdout, wanted, what)
         return False
-    want(ran.returncode == 1 and ran.stdout == "", f"{what}: status {ran.returncode}, {short(ran.stdout + ran.stderr)}")
-    want(re.search(r"\b(Corrupt|Unsupported)\b", ran.stderr) is not None, f"{what}: refused with {short(ran.stderr)}")
+    refused = ran.returncode == 1 and REFUSED.fullmatch(ran.stdout) is not None and ran.stderr == ""
+    want(refused, f"{what}: status {ran.returncode}, {short(ran.stdout + ran.stderr)}")
     return True
+
+
+def want_walk_or_refusal(folder, rows, what):
+    """Has a script walk over a copy of a table that was changed: each pair that it had before, up to a refusal. Whether there was one."""
+    script = ["open", "iter", "first 1", *["next 1" for _ in rows]]
+    wanted = ["ok", "iter 1", *[f"at {key} {value}" for key, value in rows], "end"]
+    with tempfile.TemporaryDirectory(prefix="interop-") as room:
+        found = prints("run", copied(folder, room), "".join(line + "\n" for line in script)).splitlines(keepends=True)
+    right = next((at for at, line in enumerate(found) if line.startswith("refused ")), len(found))
+    want_lines("".join(found[:right]), "".join(line + "\n" for line in wanted[:right]), f"{what}, a walk")
+    want(right == len(wanted) or REFUSED.fullmatch(found[right]) is not None, f"{what}, a walk: {short(str(found[right:][:1]))}")
+    return right < len(wanted)
 
 
 @check("tables: a changed byte gives the same entries or a refusal")
@@ -256,15 +302,19 @@ def changed_tables(room):
     folder = os.path.join(room, "folder")
     entries = some_entries(20)[:600]
     (name,) = leveldb_tables(folder, entries, "--filter")
-    file, wanted = os.path.join(folder, name), lines_of(entries)
+    file, wanted, rows = os.path.join(folder, name), prints("dump", folder), rows_of(entries)
+    want(list(dumped(folder).values()) == [lines_of(entries).splitlines(keepends=True)], "other entries before any change")
+    want(not want_walk_or_refusal(folder, rows, "before any change"), "a refusal before any change")
     good = bytes_of(file)
-    want_lines(tables_dumps(folder, name), wanted, "before any change")
     places = chance.sample(range(len(good) - FOOTER), 50) + list(range(len(good) - FOOTER - 12, len(good)))
-    refusals = 0
+    refusals = stops = 0
     for place in places:
         changed = bytearray(good)
         changed[place] ^= chance.randrange(1, 256)
         with open(file, "wb") as out:
             out.write(changed)
-        refusals += want_right_or_refused(folder, name, wanted, f"byte {place} of {len(good)} changed")
-    want(refusals > len(places) * 9 // 10, f"only {refusals} of {len(places)} changes were refused")
+        what = f"byte {place} of {len(good)} changed"
+        refusals += want_right_or_refused(folder, wanted, what)
+        stops += want_walk_or_refusal(folder, rows, what)
+    want(refusals > len(places) * 9 // 10, f"only {refusals} of {len(places)} changes were refused by a dump")
+    want(stops > len(places) * 9 // 10, f"only {stops} of {len(places)} changes stopped a walk")

@@ -5,8 +5,8 @@ What the directory has is what was written to it; after each turn both are to fi
 import os
 import random
 
-from beside import check, files_of, leveldb, leveldb_reads, want, want_lines, want_map
-from directories import Layout, pairs_of, prints
+from beside import check, files_of, leveldb, leveldb_reads, prints, want, want_lines, want_map
+from directories import Layout, pairs_of
 
 SEEDS = (1, 2, 3)
 TURNS = 80
