@@ -9,6 +9,8 @@ mod faults;
 #[cfg(test)]
 mod origins;
 #[cfg(test)]
+mod programs;
+#[cfg(test)]
 mod readings;
 #[cfg(test)]
 mod scripts;

@@ -14,6 +14,3 @@ mod task;
 pub use inspect::{check, dump};
 pub use program::{refuse_words, start};
 pub use task::{Numbers, Task, settings};
-
-#[cfg(test)]
-mod tests;

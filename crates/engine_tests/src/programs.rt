@@ -1,0 +1,160 @@
+// What `ldbtool` does for words and streams that are handed in: text and a status.
+use std::alloc::{AllocError, AllocGlobal, Global};
+use std::process::Abort;
+use std::test::Fail;
+use std::{env, fs, process};
+use tool::start;
+
+// What a start wrote, and its status.
+#[derive(Drop)]
+struct Outcome {
+    answers: Vec<u8>,
+    faults: Vec<u8>,
+    status: u8,
+}
+
+// The words of a command line, where `DIR` stands for the folder.
+fn words_of(alloc: Global, words: &[&str], folder: &str) -> Result<Vec<String>, AllocError> {
+    let mut owned = vec![in alloc; String::from_str(alloc, "ldbtool")?]?;
+    for word in words {
+        let word = if *word == "DIR" { folder } else { *word };
+        owned.push(String::from_str(alloc, word)?)?;
+    }
+    Ok(owned)
+}
+
+fn ran(
+    rt: &HostRuntime,
+    words: &[&str],
+    folder: &str,
+    script: &str,
+) -> Result<Outcome, AllocError> {
+    let owned = words_of(rt.alloc(), words, folder)?;
+    let mut answers = Vec::new(rt.alloc());
+    let mut faults = Vec::new(rt.alloc());
+    let status = start(
+        rt,
+        &owned,
+        false,
+        script.as_bytes(),
+        &mut answers,
+        &mut faults,
+    );
+    Ok(Outcome {
+        answers,
+        faults,
+        status,
+    })
+}
+
+const SCRIPT: &str =
+    "open new\nput 6A -\nget 6a\nget 6a 00\nput 61  31\nwork 4294967296\nwrite sync put 61 31";
+
+const ANSWERS: &str =
+    "ok\nok\nvalue -\nrefused 20 BadLine\nrefused 20 BadLine\nrefused 20 BadLine\nok\n";
+
+// What is asked of one folder, one after the other: the words, a script, the status, and what is written. Nothing is written
+// exactly where a fault is said on the side.
+const STEPS: [(&[&str], &str, u8, &str); 15] = [
+    (&[], "", 2, ""),
+    (&["frob", "DIR"], "", 2, ""),
+    (&["run", "--block-bytes", "0", "DIR"], "", 2, ""),
+    (&["run", "--cache-blocks", "65537", "DIR"], "", 2, ""),
+    (&["check", "DIR", "B"], "", 2, ""),
+    (&["dump", "--write-buffer", "1", "DIR"], "", 2, ""),
+    (&["run", "/tmp/ldbtool-there-is-none"], "open new\n", 1, ""),
+    (&["check", "/tmp/ldbtool-there-is-none"], "", 1, ""),
+    (&["--version"], "", 0, "ldbtool 0.1.0\n"),
+    (&["check", "DIR"], "", 0, "empty\n"),
+    (&["run", "DIR"], SCRIPT, 0, ANSWERS),
+    (
+        &["check", "DIR"],
+        "",
+        0,
+        "good\nlast-sequence 2\nlog 2 2 clean\n",
+    ),
+    (
+        &["dump", "DIR"],
+        "",
+        0,
+        "log 2 6a 1 put -\nlog 2 61 2 put 31\n",
+    ),
+    (
+        &["run", "--write-buffer", "1", "DIR"],
+        "open new\nopen\ndel 6a\n",
+        0,
+        "refused 4 Exists\nok\nok\n",
+    ),
+    (
+        &["dump", "DIR"],
+        "",
+        0,
+        "log 2 6a 1 put -\nlog 2 61 2 put 31\nlog 4 6a 3 delete\n",
+    ),
+];
+
+// Whether a start ends so and writes this.
+fn is_done(
+    rt: &HostRuntime,
+    folder: &str,
+    words: &[&str],
+    script: &str,
+    status: u8,
+    wanted: &str,
+) -> bool {
+    match ran(rt, words, folder, script) {
+        Ok(ran) => {
+            ran.status == status
+                && ran.answers.as_slice() == wanted.as_bytes()
+                && ran.faults.is_empty() != wanted.is_empty()
+        }
+        Err(_) => false,
+    }
+}
+
+// An empty folder, of a name that no other run of the tests uses.
+fn empty_folder(rt: &HostRuntime, name: &str) -> Result<String, Fail> {
+    let id = process::id(rt.process());
+    let name = format!(in rt.alloc(); "ldbtool-{name}-{id}")?;
+    let path = env::temp_dir(rt)?.join(rt.alloc(), name.as_str())?;
+    if fs::exists(rt, path.as_path())? {
+        fs::remove_dir_all(rt, path.as_path())?;
+    }
+    fs::create_dir(rt, path.as_path())?;
+    Ok(String::from_str(rt.alloc(), path.as_str())?)
+}
+
+#[test]
+fn a_folder_is_written_checked_and_dumped(rt: HostRuntime) -> Result<(), Fail> {
+    let folder = empty_folder(&rt, "steps")?;
+    for (words, script, status, wanted) in STEPS {
+        assert!(rt;
+            is_done(&rt, folder.as_str(), words, script, status, wanted),
+            "{words:?}"
+        );
+    }
+    fs::remove_dir_all(&rt, folder.as_str())?;
+    Ok(())
+}
+
+#[test]
+fn a_refused_directory_has_status_one(rt: HostRuntime) -> Result<(), Fail> {
+    let folder = empty_folder(&rt, "refused")?;
+    let name = format!(in rt.alloc(); "{}/CURRENT", folder.as_str())?;
+    fs::write(&rt, name.as_str(), b"MANIFEST-000007\n")?;
+    for verb in ["check", "dump"] {
+        assert!(rt;
+            is_done(
+                &rt,
+                folder.as_str(),
+                &[verb, "DIR"],
+                "",
+                1,
+                "refused 5 Corrupt\n"
+            ),
+            "{verb}"
+        );
+    }
+    fs::remove_dir_all(&rt, folder.as_str())?;
+    Ok(())
+}
