@@ -1,6 +1,10 @@
 //! Answers as lines.
 
-ghost use Rattle.std.specs.Prelude.{◌≡◌, IfOk, string_bytes};
+ghost use Rattle.std.specs.Prelude.{◌≡◌, ◌++◌, ◌∷◌, IfOk, OnOk, OnErr, IsAscii, Some, string_bytes};
+ghost use Rattle.std.specs.Fmt.{decimal};
+ghost use Rattle.std.specs.Io.{StartsWith};
+ghost use Rattle.engine.specs.declared.command.Answer.TheVariants as answer;
+ghost use Rattle.hex.specs.Hex.{encode_lower};
 ghost use Rattle.script.specs.Words.{text_of_bytes};
 ghost use Rattle.script.specs.Script.{line_of, refusal_of};
 
@@ -12,33 +16,92 @@ use std::alloc::{AllocError, Global};
 pub fn answer_line(alloc: Global, answer: &Answer) -> Result<String, AllocError>
     ensures { IfOk result (λ line. string_bytes line ≡ line_of answer.now) }
 {
-    match answer {
-        Answer::Done => String::from_str(alloc, "ok"),
-        Answer::Value(None) => String::from_str(alloc, "none"),
-        Answer::Value(Some(value)) => {
-            let value = bytes_text(alloc, value)?;
-            format!(in alloc; "value {value}")
-        }
-        Answer::Snapshot(id) => format!(in alloc; "snapshot {id}"),
-        Answer::Iterator(id) => format!(in alloc; "iter {id}"),
-        Answer::Pair(None) => String::from_str(alloc, "end"),
-        Answer::Pair(Some((key, value))) => {
-            let key = bytes_text(alloc, key)?;
-            let value = bytes_text(alloc, value)?;
-            format!(in alloc; "at {key} {value}")
-        }
-        Answer::Worked => String::from_str(alloc, "worked"),
-        Answer::Idle => String::from_str(alloc, "idle"),
-        Answer::Refused(error) => refused_line(alloc, error),
+    let mut line = Vec::new(alloc);
+    push_line(alloc, &mut line, answer)?;
+    match String::from_utf8(line) {
+        Ok(line) => Ok(line),
+        // (a line is ASCII)
+        Err(_) => unreachable!(),
     }
 }
 
-fn refused_line(alloc: Global, error: &DbError) -> Result<String, AllocError>
-    ensures { IfOk result (λ line. string_bytes line ≡ refusal_of error.now) }
+/// Puts the same behind the text, the digits of byte strings straight into it, since a long script has many. Where there is no
+/// memory for the whole line, a beginning of it may be left.
+pub fn push_line(alloc: Global, text: &mut Vec<u8>, answer: &Answer) -> Result<(), AllocError>
+    ensures ok { OnOk result (text.new.items ≡ text.old.items ++ line_of answer.now) }
+    ensures ascii { IsAscii (line_of answer.now) }
+    ensures err { OnErr result (StartsWith text.new.items text.old.items) }
+{
+    match answer {
+        Answer::Done => text.extend_from_slice(b"ok"),
+        Answer::Value(None) => text.extend_from_slice(b"none"),
+        Answer::Value(Some(value)) => push_with_bytes(text, b"value ", value),
+        Answer::Snapshot(id) => push_with_number(alloc, text, "snapshot", *id),
+        Answer::Iterator(id) => push_with_number(alloc, text, "iter", *id),
+        Answer::Pair(None) => text.extend_from_slice(b"end"),
+        Answer::Pair(Some((key, value))) => push_pair(text, key, value),
+        Answer::Worked => text.extend_from_slice(b"worked"),
+        Answer::Idle => text.extend_from_slice(b"idle"),
+        Answer::Refused(error) => push_refusal(alloc, text, error),
+    }
+}
+
+fn push_refusal(alloc: Global, text: &mut Vec<u8>, error: &DbError) -> Result<(), AllocError>
+    ensures ok { OnOk result (text.new.items ≡ text.old.items ++ refusal_of error.now) }
+    ensures err { OnErr result (text.new.items ≡ text.old.items) }
 {
     let number = error.number();
     let name = error.name();
-    format!(in alloc; "refused {number} {name}")
+    let line = format!(in alloc; "refused {number} {name}")?;
+    text.extend_from_slice(line.as_bytes())
+}
+
+// A word, and a number behind it.
+fn push_with_number(
+    alloc: Global,
+    text: &mut Vec<u8>,
+    word: &str,
+    number: u64,
+) -> Result<(), AllocError>
+    ensures ok { OnOk result (text.new.items ≡ text.old.items ++ (word.now ++ 32 ∷ decimal number)) }
+    ensures err { OnErr result (text.new.items ≡ text.old.items) }
+{
+    let line = format!(in alloc; "{word} {number}")?;
+    text.extend_from_slice(line.as_bytes())
+}
+
+fn push_pair(text: &mut Vec<u8>, key: &Bytes, value: &Bytes) -> Result<(), AllocError>
+    ensures ok { OnOk result (text.new.items ≡ text.old.items ++ line_of (answer.Pair (Some (key.now, value.now)))) }
+    ensures err { OnErr result (StartsWith text.new.items text.old.items) }
+{
+    push_with_bytes(text, b"at ", key)?;
+    push_with_bytes(text, b" ", value)
+}
+
+// A word, and bytes behind it.
+fn push_with_bytes(text: &mut Vec<u8>, word: &[u8], bytes: &Bytes) -> Result<(), AllocError>
+    ensures ok { OnOk result (text.new.items ≡ text.old.items ++ (word.now ++ text_of_bytes bytes.now)) }
+    ensures err { OnErr result (StartsWith text.new.items text.old.items) }
+{
+    text.extend_from_slice(word)?;
+    if bytes.is_empty() {
+        return text.extend_from_slice(b"-");
+    }
+    push_digits(text, bytes.as_slice())
+}
+
+// Two digits for each byte, written where they stay.
+fn push_digits(text: &mut Vec<u8>, bytes: &[u8]) -> Result<(), AllocError>
+    ensures ok { OnOk result (text.new.items ≡ text.old.items ++ encode_lower bytes.now) }
+    ensures err { OnErr result (text.new.items ≡ text.old.items) }
+{
+    let start = text.len();
+    let Some(end) = start.checked_add(bytes.len() * 2) else {
+        return Err(AllocError);
+    };
+    text.resize(end, 0)?;
+    hex::encode_to_slice(bytes, &mut text[start..]).unwrap();
+    Ok(())
 }
 
 /// Bytes as answers and reports write them: in lower-case hexadecimal, `-` where there are none.
