@@ -1,5 +1,5 @@
 -- Compactions that are brought to their end: how their steps compose.
-use Rattle.std.proofs.Common.{◌≡◌, ◌<◌, ◌≤◌, ◌+◌, ◌*◌, ◌^◌, ◌-◌, ℕ, Bool, true, false, max, List, Option, Some, None, IsSome, MatchOption, Result, Ok, Err, MatchResult, OnOk, inl, inr, refl, sym, ap, subst, ◌∙◌, arith}
+use Rattle.std.proofs.Common.{◌≡◌, ◌<◌, ◌≤◌, ◌+◌, ◌^◌, ◌-◌, ℕ, true, false, max, List, Option, Some, None, IsSome, MatchOption, Result, Ok, Err, MatchResult, OnOk, inl, inr, refl, sym, ap, subst, ◌∙◌, arith}
 use Rattle.std.specs.Cmp.{IsTotalOrder}
 use Rattle.coding.specs.declared.error.DbError.{DbError}
 use Rattle.coding.specs.declared.error.DbError.TheVariants as error
@@ -19,6 +19,7 @@ use Rattle.engine.specs.Finishing.{CompactOutcome, EndsJob, HasCome, ServesOn}
 use Rattle.engine.specs.Follows.{LeadsOpen}
 use Rattle.engine.specs.Held.{Held, whole_of}
 use Rattle.engine.specs.Machine.{Machine, entry_count}
+use Rattle.engine.specs.Needed.{IsTakingAll}
 use Rattle.engine.specs.Outcomes.{DbOutcome, IsSame, KeepsViews, MayRefuseLevel, MayRefuseWork}
 use Rattle.engine.specs.Stands.{StandsOpen}
 use Rattle.engine.specs.Upkeep.{Draws}
@@ -237,6 +238,7 @@ pub record Taken {K : Type 0} {g : _} (order : Order) (old new : Seen) (before a
   pub tables : after.tables ≡ before.tables
   pub serves : ServesOn old.facts new.facts before after
   pub memory : LeavesMemories before.memory after.memory
+  pub all : IsTakingAll before → IsTakingAll after
   pub step : (ids : Ids) → LeadsOpen order old new ids before after (λ m n. IsPiece m steps (Ok (tt {0})) n)
 
 pub taken_none : {K : Type 0} {g : _} (order : Order) (source : Seen) (db : Held K g) (work : OpenJob K g) → db.broken ≡ false → db.job ≡ Some work → Taken order source source db db 0
@@ -250,6 +252,7 @@ taken_none order source db work whole is = record {
   tables = refl;
   serves = serves_same source.facts db whole;
   memory = left_there db.memory;
+  all = λ h. h;
   step = λ ids. stays_done order source ids db (λ e. 0) (tt {0});
 }
 
@@ -261,9 +264,9 @@ job_in : {X : Type 0} (a b : X) → Some a ≡ Some b → a ≡ b
 job_in a b is = cc
 
 module _ {K : Type 0} {g : _} (order : Order) (old mid new : Seen) (before between after : Held K g) (steps : ℕ) (t : Taken order old mid before between steps) where
-  pub taken_more : GoesOn 1 between after → IsSome after.job → ServesOn mid.facts new.facts between after → LeavesMemories between.memory after.memory → ((ids : Ids) → LeadsOpen order mid new ids between after (λ m n. IsPiece m 1 (Ok false) n))
-      → Taken order old new before after (steps + 1)
-  taken_more goes some serves memory step = at after.job refl goes.on some
+  pub taken_more : GoesOn 1 between after → IsSome after.job → ServesOn mid.facts new.facts between after → LeavesMemories between.memory after.memory → (IsTakingAll between → IsTakingAll after)
+      → ((ids : Ids) → LeadsOpen order mid new ids between after (λ m n. IsPiece m 1 (Ok false) n)) → Taken order old new before after (steps + 1)
+  taken_more goes some serves memory all step = at after.job refl goes.on some
     where
       at : (o : Option (OpenJob K g)) → after.job ≡ o → MatchOption o (Replaces goes.work.job.plan between.tables after.tables) (λ more. IsFurther goes.work (max 1 1) more × (after.tables ≡ between.tables)) → IsSome o → Taken order old new before after (steps + 1)
       at None is on some = absurd (cc)
@@ -279,6 +282,7 @@ module _ {K : Type 0} {g : _} (order : Order) (old mid new : Seen) (before betwe
             tables = on.1 ∙ t.tables;
             serves = serves_then old.facts mid.facts new.facts before between after t.serves serves;
             memory = left_onward before.memory between.memory after.memory t.memory memory;
+            all = λ h. all (t.all h);
             step = λ ids. piece_done order old new ids before after (steps + 1) false (tt {0}) (then_piece order old mid new ids before between after steps 1 (tt {0}) (Ok false) (t.step ids) (step ids));
           }
 

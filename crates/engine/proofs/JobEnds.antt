@@ -1,8 +1,9 @@
 -- How a call that goes on with a compaction ends.
-use Rattle.std.proofs.Common.{◌≡◌, ◌⊎◌, ◌<◌, ◌≤◌, ◌+◌, ◌^◌, ◌++◌, ℕ, Bool, true, false, List, [], map, Option, Some, None, MatchOption, max, Result, Ok, Err, IsTrue, inl, inr, refl, sym, ap, subst, ◌∙◌, arith, string_bytes}
+use Rattle.std.proofs.Common.{◌≡◌, ◌⊎◌, ◌<◌, ◌≤◌, ◌+◌, ◌^◌, ◌++◌, ℕ, Bool, true, false, List, [], ◌∷◌, map, Contains, Option, Some, None, MatchOption, max, Result, Ok, Err, IsTrue, inl, inr, refl, sym, ap, subst, ◌∙◌, arith, string_bytes}
 use Rattle.std.proofs.lemmas.List.{append-nil, length-append, length-map}
 use Rattle.std.proofs.lemmas.List.Sorted.{Contains-permutation}
 use Rattle.std.specs.Cmp.{IsTotalOrder}
+use Rattle.std.specs.Map.{values_of}
 use Rattle.cache.specs.Tables.{table_at}
 use Rattle.coding.specs.declared.error.DbError.{DbError}
 use Rattle.coding.specs.declared.error.DbError.TheVariants as error
@@ -48,6 +49,7 @@ use Rattle.engine.specs.Compacting.{IsCompacting}
 use Rattle.engine.specs.Follows.{LeadsOpen}
 use Rattle.engine.specs.Held.{Held, entries_of, held, whole_of}
 use Rattle.engine.specs.Machine.{Machine, entry_count, weight}
+use Rattle.engine.specs.Needed.{EndsNeeded, TakesAll, live_sequences}
 use Rattle.engine.specs.Stands.{IsBroken, IsServing}
 use Rattle.engine.specs.Upkeep.{UpkeepRefused}
 use Rattle.engine.specs.Outcomes.{DbOutcome, IsSame}
@@ -55,6 +57,7 @@ use Rattle.engine.specs.Finishing.{HasCome}
 use Rattle.engine.specs.Working.{IsPiece, MayRefusePiece, broken_by, flush_answer}
 use Rattle.engine.proofs.Installing.{broken_install, can_end, serving_installed, serving_uninstalled}
 use Rattle.engine.proofs.JobBounds.{count_within, merged_apart, room_apart_within}
+use Rattle.engine.proofs.NeededEntries.{installed_needed, takes_on}
 use Rattle.engine.proofs.Reading.{long_table}
 use Rattle.engine.proofs.Stepping.{all_came, can_step, gone_on, serving_stepped, the_job}
 use Rattle.engine.proofs.Steps.{serving_of}
@@ -331,6 +334,17 @@ module _ {K : Type 0} {g : _} (order : Order) (total : IsTotalOrder order.cmp) (
                 (serving_installed order kept one lasts new facts mid (drawing m most new.facts) (on m serving f) after (c m serving f) (none_left m serving f) f install has.has installed.version.value.tables (installed_state installed).directory in_order has.ends has.free has.listed
                 refl refl refl refl refl),
           ))
+
+      -- where it has taken all tables, what they have now is needed
+      pub ends_needed : (installed : Installed K) → result ≡ Ok installed → after.job.plan ≡ before.job.plan → after.version ≡ before.version → TakesAll db before → EndsNeeded order old last_seen db (held after_memory (installed_state installed))
+      ends_needed installed said plan version all f given m s =
+          let serving = serving_of order old given db m whole s in
+          let has = subst (λ (r : Result (Installed K) FlushError). Means m serving f r) said (means m serving f) in
+          let can = can_end order kept one lasts new facts mid (drawing m most new.facts) (on m serving f) after (c m serving f) (none_left m serving f) in
+          let takes = takes_on db db before after plan version snapshots refl refl all in
+          installed_needed order new.facts.files facts.files (on m serving f).log.directory.directory after state.version.value.tables can.running.inputs can.running.rest (c m serving f).came can.served.consistent can.running.planned can.served.listed
+          serving.tables.in_order.levels takes.inputs takes.output takes.version has.has (live_sequences (held after_memory (installed_state installed)))
+          (λ sequence i. subst (λ (last : ℕ). Contains (last ∷ values_of state.snapshots.entries) sequence) (sym touches.memory.last) (takes.sequences sequence i))
 
       -- no number more is drawn than entries came
       pub ends_counted : {T : Type 0} (budget_is : most ≤ max budget 1) (merged : after.merged ≡ shown (before.merged + progress.merged)) (few : most ≤ progress.merged) (done : T) (installed : Installed K) → result ≡ Ok installed

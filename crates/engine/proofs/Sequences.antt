@@ -1,12 +1,12 @@
 -- What the sequences hold that a compaction keeps the views of, once they are sorted.
-use Rattle.std.proofs.Common.{◌≡◌, ℕ, Bool, true, false, cond, List, [], ◌∷◌, Option, Some, suc, arith, sym, subst, ◌∙◌, ◌++◌, map, Bor, None, Contains}
+use Rattle.std.proofs.Common.{◌≡◌, ℕ, Bool, true, false, cond, List, [], ◌∷◌, Option, Some, suc, arith, sym, subst, ◌∙◌, ◌++◌, map, Bor, None, Contains, inl, inr}
 use Rattle.std.specs.BTreeMap.{BTreeMap}
 use Rattle.std.specs.Iterator.{Yields}
 use Rattle.std.specs.List.Sorted.{IsPermutation}
 use Rattle.std.specs.Map.{lookup, values_of}
 use Rattle.std.specs.Map.Iter.{TakesFirst, deref}
-use Rattle.std.proofs.lemmas.List.Elements.{Contains-append_left, Contains-push}
-use Rattle.std.proofs.lemmas.List.Sorted.{Contains-permutation}
+use Rattle.std.proofs.lemmas.List.Elements.{Contains-append_left, Contains-push, Contains-push_cases}
+use Rattle.std.proofs.lemmas.List.Sorted.{Contains-permutation, IsPermutation-sym}
 use Rattle.std.proofs.lemmas.Map.Iter.{iter_end}
 use Rattle.engine.specs.Live.{kept_at}
 
@@ -32,3 +32,15 @@ live_kept kept yielded s t u r xs items sorted last pushed start y is step behin
     let all = iter_end deref (values_of kept.entries) yielded s t u r start y is step in
     let among : Contains xs sequence = subst (λ (ys : List ℕ). Contains ys sequence) (sym (pushed ∙ all.0)) (value_found _ kept.entries sequence there) in
     Contains-permutation items sorted sequence moved (subst (λ (ys : List ℕ). Contains ys sequence) (sym behind) (Contains-append_left xs (last ∷ []) sequence among))
+
+-- none is there but the one that was pushed and those of the map
+pub only_kept : (kept : BTreeMap ℕ ℕ) (yielded : List (Bor ℕ)) (s t u : List ℕ) (r : Option (Bor ℕ)) (xs items sorted : List ℕ) (last : ℕ) → xs ≡ map deref yielded → s ≡ values_of kept.entries → Yields (TakesFirst deref) s yielded t → r ≡ None
+    → TakesFirst deref t r u → items ≡ xs ++ last ∷ [] → IsPermutation items sorted → (sequence : ℕ) → Contains sorted sequence → Contains (last ∷ values_of kept.entries) sequence
+only_kept kept yielded s t u r xs items sorted last pushed start y is step behind moved sequence there =
+    let all = iter_end deref (values_of kept.entries) yielded s t u r start y is step in
+    let values : xs ≡ values_of kept.entries = pushed ∙ all.0 in
+    let before : Contains (xs ++ last ∷ []) sequence = subst (λ (ys : List ℕ). Contains ys sequence) behind (Contains-permutation sorted items sequence (IsPermutation-sym items sorted moved) there) in
+    elim (Contains-push_cases xs last sequence before) [
+      | inl value ↦ further sequence last (values_of kept.entries) (subst (λ (ys : List ℕ). Contains ys sequence) values value)
+      | inr same ↦ (0, omega arith, same)
+    ]

@@ -14,7 +14,9 @@ use Rattle.engine.specs.declared.command.Answer.TheVariants as answer
 use Rattle.memtable.specs.Contents.{size_of}
 use Rattle.engine.specs.declared.ids.Ids.{Ids}
 use Rattle.engine.specs.Held.{Held}
-use Rattle.engine.specs.Stands.{store_of, held_in, options_of}
+use Rattle.engine.specs.Machine.{Machine}
+use Rattle.engine.specs.Needed.{HasOnlyNeeded}
+use Rattle.engine.specs.Stands.{Stands, store_of, held_in, options_of}
 use Rattle.engine.specs.StandsDb.{db_store_of, held_by}
 use Rattle.engine.specs.declared.work.Progress.{Progress}
 use Rattle.engine.specs.declared.work.Progress.TheVariants.{Idle}
@@ -68,6 +70,16 @@ Leaves (CompactLevel level) state answer = EmptiesLevel level state answer
 Leaves CompactAll state answer = CompactsWhole state answer
 Leaves _ state answer = Unit {0}
 
+-- While the store is faithful, the tables have only what is needed behind a compaction of all, in each state that the session could be in.
+abbrev pub LeavesOnly : {K : Type 0} {g : _} → Order → Facts → (Machine → Type 0) → Option (Held K g) → Answer → Type 0
+LeavesOnly order facts before (Some db) Done = IsTrue facts.faithful → (m : Machine) → before m → HasOnlyNeeded order facts.files db m
+LeavesOnly order facts before None Done = Unit {0}
+LeavesOnly order facts before state _ = Unit {0}
+
+abbrev pub KeepsOnly : {K : Type 0} {g : _} → Op → Order → Facts → (Machine → Type 0) → Option (Held K g) → Answer → Type 0
+KeepsOnly CompactAll order facts before state answer = LeavesOnly order facts before state answer
+KeepsOnly _ order facts before state answer = Unit {0}
+
 -- No database is open behind a close.
 abbrev pub Shuts : {K : Type 0} {g : _} → Op → Option (Held K g) → Type 0
 Shuts Close state = state ≡ None
@@ -112,6 +124,12 @@ IsCompacted new answer = CompactsWhole (held_in new) answer
 abbrev pub LeavesBy : {S K : Type 0} {g : _} → Op → Session S K g → Answer → Type 0
 LeavesBy op new answer = Leaves op (held_in new) answer
 
+abbrev pub IsOnlyNeeded : {S K : Type 0} {g : _} → Order → (S → Facts) → Session S K g → Session S K g → Answer → Type 0
+IsOnlyNeeded order facts old new answer = LeavesOnly order (facts (store_of new)) (Stands order facts old) (held_in new) answer
+
+abbrev pub NeededBy : {S K : Type 0} {g : _} → Op → Order → (S → Facts) → Session S K g → Session S K g → Answer → Type 0
+NeededBy op order facts old new answer = KeepsOnly op order (facts (store_of new)) (Stands order facts old) (held_in new) answer
+
 abbrev pub OutcomeBy : {S K : Type 0} {g : _} → Op → (S → Facts) → Session S K g → Session S K g → Answer → Type 0
 OutcomeBy {S} {K} {g} op facts old new answer = Outcome (IsAnswerTo op) (keeps_of {K = K} {g = g} op) (facts (store_of old)) (facts (store_of new)) old.ids new.ids (held_in old) (held_in new) answer
 
@@ -134,6 +152,7 @@ pub record Applied {S K : Type 0} {g : _} (order : Order) (facts : S → Facts) 
   pub tells : ToldBy op order facts old new answer
   pub shown : ShownBy op old answer
   pub leaves : LeavesBy op new answer
+  pub needed : NeededBy op order facts old new answer
   pub shut : ShutBy op new
   pub options : options_of new ≡ options_of old
 

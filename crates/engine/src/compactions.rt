@@ -18,6 +18,7 @@ impl<K: KeyOrder> DbState<K> {
     ghost use Rattle.engine.specs.declared.ids.Ids.{Ids};
     ghost use Rattle.engine.specs.Causes.{IsCausedIn, broken_in, level_refusal};
     ghost use Rattle.engine.specs.Finishing.{CompactOutcome, EndsJob, HasNoMemory, IsAllCompacted, IsLevelEmpty, ServesOn};
+    ghost use Rattle.engine.specs.Needed.{EndsNeeded, IsTakingAll, LeavesNeeded};
     ghost use Rattle.engine.specs.Outcomes.{MayRefuseLevel, MayRefuseWork};
     ghost use Rattle.engine.specs.Follows.{LeadsOpen, unit_answer};
     ghost use Rattle.engine.specs.Held.{held, seen_of};
@@ -25,7 +26,7 @@ impl<K: KeyOrder> DbState<K> {
     ghost use Rattle.engine.specs.Working.{IsPiece, MayRefusePiece};
     ghost use Rattle.memories.specs.Places.{LeavesMemories};
     ghost use Rattle.upkeep.specs.Install.{Replaces};
-    ghost use Rattle.versions.specs.Plans.{IsPlanOf};
+    ghost use Rattle.versions.specs.Plans.{IsPlanOf, IsWholePlan};
 
     /// Brings the compaction under way to its end, and then compacts all tables of a level, with those of the next one whose keys meet
     /// theirs, into the next one. It moves no compact pointer. BadLevel: the level isn't one of 0 to 5.
@@ -62,6 +63,8 @@ impl<K: KeyOrder> DbState<K> {
         ensures outcome { CompactOutcome MayRefuseWork (S.facts source.old.tables.store) (S.facts source.new.tables.store) (held source.old.memory self.old) (held source.new.memory self.new) result }
         ensures caused { IsCausedIn (broken_in (held source.old.memory self.old)) source.old.tables.store source.new.tables.store result }
         ensures compacted { OnOk result (IsAllCompacted (held source.new.memory self.new)) }
+        // While the store is faithful, each entry of the tables is one that must be kept.
+        ensures needed { OnOk result (LeavesNeeded (order_of K.name K.cmp) (seen_of S.facts source.old) (seen_of S.facts source.new) (held source.old.memory self.old) (held source.new.memory self.new)) }
     {
         if self.broken {
             return Err(DbError::Broken);
@@ -102,6 +105,7 @@ impl<K: KeyOrder> DbState<K> {
         ensures step { (ids : Ids) → LeadsOpen (order_of K.name K.cmp) (seen_of S.facts source.old) (seen_of S.facts source.new) ids (held source.old.memory self.old) (held source.new.memory self.new) (λ m n. IsPiece m (most_drawn m) result n) }
         ensures outcome { CompactOutcome MayRefusePiece (S.facts source.old.tables.store) (S.facts source.new.tables.store) (held source.old.memory self.old) (held source.new.memory self.new) result }
         ensures compacted { OnOk result (IsAllCompacted (held source.new.memory self.new)) }
+        ensures needed { OnOk result (EndsNeeded (order_of K.name K.cmp) (seen_of S.facts source.old) (seen_of S.facts source.new) (held source.old.memory self.old) (held source.new.memory self.new)) }
     {
         plans_of_tables();
         self.finish_job(alloc, source)?;
@@ -171,6 +175,7 @@ impl<K: KeyOrder> DbState<K> {
         ensures outcome { CompactOutcome MayRefusePiece (S.facts source.old.tables.store) (S.facts source.new.tables.store) (held source.old.memory self.old) (held source.new.memory self.new) result }
         ensures memory { LeavesMemories source.old.memory source.new.memory }
         ensures done { OnOk result (Replaces plan self.old.version.value.tables self.new.version.value.tables) }
+        ensures needed { OnOk result (IsWholePlan self.old.version.value.tables plan → EndsNeeded (order_of K.name K.cmp) (seen_of S.facts source.old) (seen_of S.facts source.new) (held source.old.memory self.old) (held source.new.memory self.new)) }
     {
         self.begin_job(alloc, source, options, plan)?;
         self.finish_job(alloc, source)
@@ -189,6 +194,7 @@ impl<K: KeyOrder> DbState<K> {
         ensures memory { LeavesMemories source.old.memory source.new.memory }
         ensures none { OnOk result (self.new.job ≡ None) }
         ensures done { OnOk result (MatchOption self.old.job (Unit {0}) (λ work. Replaces work.job.plan self.old.version.value.tables self.new.version.value.tables)) }
+        ensures needed { OnOk result (IsTakingAll (held source.old.memory self.old) → EndsNeeded (order_of K.name K.cmp) (seen_of S.facts source.old) (seen_of S.facts source.new) (held source.old.memory self.old) (held source.new.memory self.new)) }
     {
         if self.job.is_none() {
             return Ok(());
@@ -210,6 +216,7 @@ impl<K: KeyOrder> DbState<K> {
         ensures memory { LeavesMemories source.old.memory source.new.memory }
         ensures none { OnOk result (self.new.job ≡ None) }
         ensures done { OnOk result (MatchOption self.old.job (Unit {0}) (λ work. Replaces work.job.plan self.old.version.value.tables self.new.version.value.tables)) }
+        ensures needed { OnOk result (IsTakingAll (held source.old.memory self.old) → EndsNeeded (order_of K.name K.cmp) (seen_of S.facts source.old) (seen_of S.facts source.new) (held source.old.memory self.old) (held source.new.memory self.new)) }
     {
         for _ in 0..u64::MAX {
             if self.advance(alloc, source, 1)? {

@@ -1,8 +1,9 @@
 //! Compactions in slices: the one that is most wanted is begun, and goes on by so many entries a call (LevelDB's db/db_impl.cc,
 //! DBImpl::BackgroundCompaction).
 
-ghost use Rattle.std.specs.Prelude.{◌≡◌, ℕ, max, None, Some, IsSome, false, true, Contains, MatchBool, MatchOption, IfOk, Ok, OnOk};
+ghost use Rattle.std.specs.Prelude.{◌≡◌, ◌∷◌, ℕ, max, None, Some, IsSome, false, true, Contains, MatchBool, MatchOption, IfOk, Ok, OnOk};
 ghost use Rattle.std.specs.List.Sorted.{IsNonDecreasing};
+ghost use Rattle.std.specs.Map.{values_of};
 ghost use Rattle.ikey.specs.Orders.{order_of};
 ghost use Rattle.engine.specs.Live.{kept_at};
 
@@ -28,9 +29,10 @@ impl<K: KeyOrder> DbState<K> {
     ghost use Rattle.engine.specs.OptionValues.{AreInRange};
     ghost use Rattle.engine.specs.declared.work.Progress.TheVariants.{Worked, Idle};
     ghost use Rattle.engine.specs.Finishing.{HasCome, ServesOn};
+    ghost use Rattle.engine.specs.Needed.{EndsNeeded, IsTakingAll};
     ghost use Rattle.engine.specs.Working.{BeginsJob, GoesOn, IsPiece, MayRefusePiece, WantsCompaction};
     ghost use Rattle.memories.specs.Places.{LeavesMemories};
-    ghost use Rattle.versions.specs.Plans.{IsPlanOf};
+    ghost use Rattle.versions.specs.Plans.{IsPlanOf, IsWholePlan};
 
     /// Begins the compaction that is most wanted, and goes on with it by so many entries. Idle where none is wanted.
     pub fn compact<S: Store>(
@@ -77,6 +79,7 @@ impl<K: KeyOrder> DbState<K> {
         ensures outcome { DbOutcome MayRefusePiece (S.facts source.old.tables.store) (S.facts source.new.tables.store) (held source.old.memory self.old) (held source.new.memory self.new) result }
         ensures begun { OnOk result (IsSome self.new.job) }
         ensures none { OnOk result (MatchOption self.new.job ⊥ (λ work. (work.merged ≡ 0) × (work.job.plan ≡ plan))) }
+        ensures all { OnOk result (IsWholePlan self.old.version.value.tables plan → IsTakingAll (held source.new.memory self.new)) }
         ensures stood { OnOk result ((S.facts source.new.tables.store).failures ≡ (S.facts source.old.tables.store).failures) }
         ensures memory { LeavesMemories source.old.memory source.new.memory }
         ensures same { IsSame (held source.old.memory self.old) (held source.new.memory self.new) }
@@ -114,6 +117,8 @@ impl<K: KeyOrder> DbState<K> {
         ensures ended { IfOk result (λ ended. MatchBool ended (self.new.job ≡ None) (IsSome self.new.job)) }
         ensures serves { OnOk result (ServesOn (S.facts source.old.tables.store) (S.facts source.new.tables.store) (held source.old.memory self.old) (held source.new.memory self.new)) }
         ensures memory { LeavesMemories source.old.memory source.new.memory }
+        ensures all { result ≡ Ok false → IsTakingAll (held source.old.memory self.old) → IsTakingAll (held source.new.memory self.new) }
+        ensures needed { result ≡ Ok true → IsTakingAll (held source.old.memory self.old) → EndsNeeded (order_of K.name K.cmp) (seen_of S.facts source.old) (seen_of S.facts source.new) (held source.old.memory self.old) (held source.new.memory self.new) }
         ensures come { result ≡ Ok true → (ids : Ids) → LeadsOpen (order_of K.name K.cmp) (seen_of S.facts source.old) (seen_of S.facts source.new) ids (held source.old.memory self.old) (held source.new.memory self.new) (λ m n. HasCome budget (held source.old.memory self.old) m result n) }
         ensures lock { (S.facts source.new.tables.store).held ≡ (S.facts source.old.tables.store).held }
     {
@@ -158,6 +163,7 @@ impl<K: KeyOrder> DbState<K> {
         ensures rising { IfOk result (λ sequences. IsNonDecreasing sequences.items) }
         ensures last { IfOk result (λ sequences. Contains sequences.items last) }
         ensures live { IfOk result (λ sequences. (id sequence : ℕ) → kept_at self.now.snapshots id ≡ Some sequence → Contains sequences.items sequence) }
+        ensures only { IfOk result (λ sequences. (sequence : ℕ) → Contains sequences.items sequence → Contains (last ∷ values_of self.now.snapshots.entries) sequence) }
     {
         let mut sequences = Vec::with_capacity(alloc, self.snapshots.len() + 1)?;
         for sequence in self.snapshots.values() {

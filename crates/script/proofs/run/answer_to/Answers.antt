@@ -33,6 +33,7 @@ returns-in-Some-clause-done g c =
       tells = c.apply-answer.ensures.tells;
       shown = c.apply-answer.ensures.shown;
       leaves = c.apply-answer.ensures.leaves;
+      needed = c.apply-answer.ensures.needed;
       shut = c.apply-answer.ensures.shut;
       options = c.apply-answer.ensures.options;
     } in
@@ -51,6 +52,7 @@ returns-in-Some-clause-stopped g c =
       tells = c.apply-answer.ensures.tells;
       shown = c.apply-answer.ensures.shown;
       leaves = c.apply-answer.ensures.leaves;
+      needed = c.apply-answer.ensures.needed;
       shut = c.apply-answer.ensures.shut;
       options = c.apply-answer.ensures.options;
     } in

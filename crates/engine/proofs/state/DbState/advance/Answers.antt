@@ -1,8 +1,9 @@
-use Rattle.std.proofs.Common.{◌≡◌, ◌≤◌, ◌+◌, Bool, true, false, List, Option, Some, None, Ok, Err, Result, MatchOption, max, min, refl, sym, ap, subst, ◌∙◌, arith, rules}
+use Rattle.std.proofs.Common.{◌≡◌, ◌≤◌, ◌+◌, ◌∷◌, ℕ, Bool, true, false, List, Option, Some, None, Ok, Err, Result, MatchOption, max, min, refl, sym, ap, subst, ◌∙◌, arith, rules}
 use Rattle.coding.specs.declared.error.DbError.{DbError}
 use Rattle.ikey.specs.Orders.{order_of}
 use Rattle.jobs.specs.declared.open_job.OpenJob.{OpenJob}
 use Rattle.scans.proofs.ScanSteps.{scan_kept}
+use Rattle.std.specs.Map.{values_of}
 use Rattle.edits.specs.declared.field.PlacedTable.{PlacedTable}
 use Rattle.upkeep.specs.Install.{Replaces}
 use Rattle.versions.specs.Levels.{Placement}
@@ -11,9 +12,12 @@ use Rattle.engine.specs.declared.state.DbState.{DbState}
 use Rattle.engine.specs.Finishing.{HasCome, ServesOn}
 use Rattle.engine.specs.Follows.{LeadsOpen}
 use Rattle.engine.specs.Held.{held, seen_of}
+use Rattle.engine.specs.Needed.{EndsNeeded}
 use Rattle.engine.specs.Outcomes.{DbOutcome}
+use Rattle.engine.specs.Stands.{no_ids}
 use Rattle.engine.specs.Working.{IsFurther, IsPiece, MayRefusePiece, broken_by, flush_answer}
-use Rattle.engine.proofs.JobEnds.{ends_counted, ends_gone_on, ends_installed, ends_stopped, ends_unended, stopped_outcome, unended_outcome}
+use Rattle.engine.proofs.JobEnds.{ends_counted, ends_gone_on, ends_installed, ends_needed, ends_stopped, ends_unended, stopped_outcome, unended_outcome}
+use Rattle.engine.proofs.NeededEntries.{takes_on, taking}
 use Rattle.engine.proofs.state.DbState.advance.Goals as goal
 
 pub returns-in_err-progress-clause-step : goal.returns-in_err-progress-clause-step
@@ -78,6 +82,15 @@ returns-then-not-progress-clause-serves g c =
       whole = c.requires.whole;
       views = record { sequence = s.touches.memory.last; snapshots = λ q. refl; iterators = λ q. refl };
     }
+
+pub returns-then-not-progress-clause-all : goal.returns-then-not-progress-clause-all
+returns-then-not-progress-clause-all g c said takes =
+    let state = c.args.self.now in
+    let s = c.in_ok-progress.ensures in
+    let is : state.job ≡ Some c.in-Some.job = search rules in
+    let after : DbState g.row.K.Denot g.K.KeyOrder = record state { directory = record state.directory { numbers = c.step.new.numbers }; job = Some c.step.new.self } in
+    takes_on (held c.args.source.now.memory state) (held c.step.new.source.memory after) c.in-Some.job c.step.new.self s.plan s.version s.snapshots refl (ap (λ (n : ℕ). n ∷ values_of state.snapshots.entries) s.touches.memory.last)
+    (taking (held c.args.source.now.memory state) c.in-Some.job is takes)
 
 pub returns-in-Ok-clause-step : goal.returns-in-Ok-clause-step
 returns-in-Ok-clause-step g c ids =
@@ -166,6 +179,31 @@ returns-in-Ok-clause-come g c said ids =
     (ends_counted order g.met.K.KeyOrder.total (λ scan. scan_kept order.cmp scan) c.one_directory.ensures c.sound_lasts.ensures old new ids state memory after_memory numbers most c.in-Some.job c.step.new.self is c.requires.whole
     s.numbers upto s.touches s.keeps c.args.budget progress s.goes_on s.snapshots s.owns facts ended c.last-last_sequence.result c.last-last_sequence.ensures.is c.deref.result.now.tables (ap (λ (p : Placement). p.tables) c.deref.ensures) (Ok installed)
     i.call i.leaves (omega arith) s.merged (omega arith) true installed refl i.version.in_order)
+
+pub returns-in-Ok-clause-needed : goal.returns-in-Ok-clause-needed
+returns-in-Ok-clause-needed g c said takes =
+    let order = order_of g.K.KeyOrder.name g.K.KeyOrder.cmp in
+    let old = seen_of g.S.Store.facts c.args.source.now in
+    let new = seen_of g.S.Store.facts c.step.new.source in
+    let facts = g.S.Store.facts c.install.new.store in
+    let state = c.args.self.now in
+    let memory = c.args.source.now.memory in
+    let after_memory = c.step.new.source.memory in
+    let numbers = c.step.new.numbers in
+    let most = max c.args.budget 1 in
+    let s = c.in_ok-progress.ensures in
+    let i = c.in-Ok.ensures in
+    let installed = c.in-Ok.installed in
+    let is : state.job ≡ Some c.in-Some.job = search rules in
+    let none : c.take.new.self ≡ None = search rules in
+    let ended : c.in_ok-progress.progress.ended ≡ true = search rules in
+    let after : Option (OpenJob g.row.K.Denot g.K.KeyOrder) → DbState g.row.K.Denot g.K.KeyOrder =
+    λ o. record state { version = installed.version; directory = record state.directory { numbers = numbers; manifest = record state.directory.manifest { end = installed.manifest_end } }; job = o } in
+    let taken : c.take_installed.new.self ≡ after c.take.new.self = c.take_installed.ensures in
+    subst (λ (t : DbState g.row.K.Denot g.K.KeyOrder). EndsNeeded order old (record new { facts = facts }) (held memory state) (held after_memory t)) (sym (taken ∙ ap after none))
+    (ends_needed order g.met.K.KeyOrder.total (λ scan. scan_kept order.cmp scan) c.one_directory.ensures c.sound_lasts.ensures old new no_ids state memory after_memory numbers most c.in-Some.job c.step.new.self is c.requires.whole
+    s.numbers s.drawn s.touches s.keeps c.args.budget c.in_ok-progress.progress s.goes_on s.snapshots s.owns facts ended c.last-last_sequence.result c.last-last_sequence.ensures.is c.deref.result.now.tables (ap (λ (p : Placement). p.tables) c.deref.ensures) (Ok installed)
+    i.call i.leaves installed refl s.plan s.version (taking (held memory state) c.in-Some.job is takes))
 
 pub returns-in-Err-clause-step : goal.returns-in-Err-clause-step
 returns-in-Err-clause-step g c ids =

@@ -1,14 +1,17 @@
-use Rattle.std.proofs.Common.{◌≡◌, ℕ, Some, Err, Result, List, Contains, refl, sym, subst, rules}
+use Rattle.std.proofs.Common.{◌≡◌, ℕ, Some, Err, Result, List, ◌∷◌, Contains, refl, sym, ap, subst, rules}
 use Rattle.coding.specs.declared.error.DbError.{DbError}
 use Rattle.coding.specs.declared.error.DbError.TheVariants.{OutOfMemory}
 use Rattle.ikey.specs.Orders.{order_of}
 use Rattle.scans.proofs.ScanSteps.{scan_kept}
+use Rattle.std.specs.Map.{values_of}
+use Rattle.versions.specs.Levels.{Placement}
 use Rattle.engine.specs.Follows.{LeadsOpen}
 use Rattle.engine.specs.Held.{held, seen_of}
 use Rattle.engine.specs.Outcomes.{DbOutcome}
 use Rattle.engine.specs.Working.{IsPiece, MayRefusePiece}
 use Rattle.engine.proofs.JobEnds.{same_left, stopped_outcome}
 use Rattle.engine.proofs.JobStarts.{ends_begun, ends_unbegun}
+use Rattle.engine.proofs.NeededEntries.{takes_begun}
 use Rattle.engine.proofs.WorkEnds.{ends_full}
 use Rattle.engine.proofs.state.DbState.begin_job.Goals as goal
 
@@ -64,3 +67,12 @@ returns-in_err-job-clause-same g c = same_left c.args.self.now c.args.source.now
 
 pub returns-clause-same : goal.returns-clause-same
 returns-clause-same g c = same_left c.args.self.now c.args.source.now.memory c.begin.new.source.memory (Some c.in_ok-job.job) c.in_ok-job.ensures.leaves.memory
+
+pub returns-clause-all : goal.returns-clause-all
+returns-clause-all g c planned =
+    let state = c.args.self.now in
+    let work = c.in_ok-job.job in
+    let j = c.in_ok-job.ensures in
+    let kept : work.job.selection.snapshots ≡ c.in_ok-snapshots.snapshots.items = search rules in
+    takes_begun state c.args.source.now.memory c.begin.new.source.memory c.args.plan work c.in_ok-snapshots.snapshots.items j.plan (ap (λ (p : Placement). p.tables) j.version) kept j.leaves.memory.last
+    (λ sequence i. subst (λ (last : ℕ). Contains (last ∷ values_of state.snapshots.entries) sequence) c.last.ensures.is (c.in_ok-snapshots.ensures.only sequence i)) planned

@@ -1,9 +1,9 @@
-use Rattle.std.proofs.Common.{◌≡◌, sym, subst, arith, rules}
 use Rattle.ikey.specs.Orders.{order_of}
 use Rattle.engine.specs.Held.{held, seen_of}
 use Rattle.engine.specs.Outcomes.{MayRefuseWork}
 use Rattle.engine.proofs.Emptied.{all_broken, all_broken_caused, all_caused, all_compacted}
 use Rattle.engine.proofs.Finishing.{outcome_all_as, outcome_stays}
+use Rattle.engine.proofs.NeededEnds.{only_left}
 use Rattle.engine.proofs.state.DbState.compact_all.Goals as goal
 
 pub returns-then-self-clause-step : goal.returns-then-self-clause-step
@@ -33,3 +33,13 @@ returns-clause-outcome g c =
 pub returns-clause-caused : goal.returns-clause-caused
 returns-clause-caused g c =
     all_caused (held c.args.source.now.memory c.args.self.now) c.args.source.now.tables.store c.compact_everything.new.source.tables.store c.compact_everything.result c.if-self.false c.compact_everything.ensures.outcome.allowed
+
+pub returns-clause-needed : goal.returns-clause-needed
+returns-clause-needed g c =
+    let order = order_of g.K.KeyOrder.name g.K.KeyOrder.cmp in
+    let old = seen_of g.S.Store.facts c.args.source.now in
+    let new = seen_of g.S.Store.facts c.compact_everything.new.source in
+    let before = held c.args.source.now.memory c.args.self.now in
+    let after = held c.compact_everything.new.source.memory c.compact_everything.new.self in
+    let e = c.compact_everything.ensures in
+    only_left order g.met.K.KeyOrder.total old new before after c.if-self.false c.compact_everything.result e.step e.compacted e.needed

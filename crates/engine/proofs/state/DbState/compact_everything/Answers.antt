@@ -5,14 +5,17 @@ use Rattle.ikey.specs.Orders.{order_of}
 use Rattle.edits.specs.declared.field.PlacedTable.{PlacedTable}
 use Rattle.versions.specs.Levels.{Placement}
 use Rattle.versions.specs.Plans.{IsWholePlan}
+use Rattle.engine.specs.declared.ids.Ids.{Ids}
 use Rattle.engine.specs.Finishing.{CompactOutcome, beyond}
 use Rattle.engine.specs.Follows.{LeadsOpen}
 use Rattle.engine.specs.Held.{held, seen_of}
+use Rattle.engine.specs.Machine.{entry_count}
 use Rattle.engine.specs.Upkeep.{most_drawn}
 use Rattle.engine.specs.Working.{IsPiece, MayRefusePiece}
-use Rattle.engine.proofs.Emptied.{all_last, beyond_most, level_emptied, memory_left, none_there, on_ok}
+use Rattle.engine.proofs.Emptied.{all_last, beyond_most, memory_left, none_there, on_ok}
 use Rattle.engine.proofs.Finishing.{outcome_all, outcome_done, outcome_then, serves_then, stays_done, stays_full, then_bound, within_bound}
 use Rattle.engine.proofs.WorkAnswers.{of_none, of_some}
+use Rattle.engine.proofs.NeededEnds.{needed_behind, needed_none}
 use Rattle.engine.proofs.state.DbState.compact_everything.Goals as goal
 
 pub returns-in_err-finish_job-clause-step : goal.returns-in_err-finish_job-clause-step
@@ -158,3 +161,37 @@ returns-clause-compacted g c =
       memory = memory_left (held c.write_memory.new.source.memory c.write_memory.new.self) (held c.run_job.new.source.memory c.run_job.new.self) c.run_job.ensures.memory c.in_ok-write_memory.ensures.written;
       levels = all_last tables c.run_job.new.self.version.value.tables plan (subst (λ (ts : List PlacedTable). IsWholePlan ts plan) tables_are planned) h;
     }) c.run_job.ensures.done
+
+pub returns-in_default-clause-needed : goal.returns-in_default-clause-needed
+returns-in_default-clause-needed g c =
+    let order = order_of g.K.KeyOrder.name g.K.KeyOrder.cmp in
+    let old = seen_of g.S.Store.facts c.args.source.now in
+    let before = held c.args.source.now.memory c.args.self.now in
+    let mid = seen_of g.S.Store.facts c.finish_job.new.source in
+    let first = held c.finish_job.new.source.memory c.finish_job.new.self in
+    let later = seen_of g.S.Store.facts c.write_memory.new.source in
+    let second = held c.write_memory.new.source.memory c.write_memory.new.self in
+    let tables_are : c.deref.result.now.tables ≡ second.tables = ap (λ (p : Placement). p.tables) c.deref.ensures in
+    let none = of_none (c.deref.result.now.tables ≡ []) (IsWholePlan c.deref.result.now.tables) c.in_ok-plan.field-0 c.in_default.is c.in_ok-plan.ensures in
+    let written = c.in_ok-write_memory.ensures in
+    needed_behind order old mid later before first second c.in_ok-finish_job.ensures.step written.step
+    (needed_behind order mid later later first second second written.step (λ ids. stays_done order later ids second (λ e. 0) (tt {0})) (needed_none order later second written.serves.whole (sym tables_are ∙ none)))
+
+pub returns-clause-needed : goal.returns-clause-needed
+returns-clause-needed g c =
+    let order = order_of g.K.KeyOrder.name g.K.KeyOrder.cmp in
+    let old = seen_of g.S.Store.facts c.args.source.now in
+    let before = held c.args.source.now.memory c.args.self.now in
+    let mid = seen_of g.S.Store.facts c.finish_job.new.source in
+    let first = held c.finish_job.new.source.memory c.finish_job.new.self in
+    let later = seen_of g.S.Store.facts c.write_memory.new.source in
+    let second = held c.write_memory.new.source.memory c.write_memory.new.self in
+    let new = seen_of g.S.Store.facts c.run_job.new.source in
+    let after = held c.run_job.new.source.memory c.run_job.new.self in
+    let plan = c.in-Some.plan in
+    let tables_are : c.deref.result.now.tables ≡ second.tables = ap (λ (p : Placement). p.tables) c.deref.ensures in
+    let planned = of_some (c.deref.result.now.tables ≡ []) (IsWholePlan c.deref.result.now.tables) c.in_ok-plan.field-0 plan c.in-Some.is c.in_ok-plan.ensures in
+    let written = c.in_ok-write_memory.ensures.step in
+    let behind : (ids : Ids) → LeadsOpen order old later ids before second (λ m n. IsPiece m (entry_count m + 0 + 3) (Ok (tt {0})) n) =
+    λ ids. then_bound order old mid later ids before first second (λ k. k + 0) (λ k. 3) (tt {0}) (Ok (tt {0})) (c.in_ok-finish_job.ensures.step ids) (written ids) in
+    on_ok c.run_job.result (λ ends. needed_behind order old later new before second after behind c.run_job.ensures.step (ends (subst (λ (ts : List PlacedTable). IsWholePlan ts plan) tables_are planned))) c.run_job.ensures.needed

@@ -1,9 +1,10 @@
-use Rattle.std.proofs.Common.{◌≡◌, ◌+◌, None, MatchOption, sym, subst}
+use Rattle.std.proofs.Common.{◌≡◌, ◌+◌, None, rules}
 use Rattle.ikey.specs.Orders.{order_of}
 use Rattle.memories.specs.PlaceLaws.{left_there}
 use Rattle.engine.specs.Held.{held, seen_of}
 use Rattle.engine.specs.Working.{MayRefusePiece}
 use Rattle.engine.proofs.Finishing.{outcome_done, serves_same, stays_done}
+use Rattle.engine.proofs.NeededEntries.{not_taking}
 use Rattle.engine.proofs.state.DbState.finish_job.Goals as goal
 
 pub returns-then-is_none-clause-step : goal.returns-then-is_none-clause-step
@@ -21,3 +22,8 @@ returns-then-is_none-clause-serves g c = serves_same (g.S.Store.facts c.args.sou
 
 pub returns-then-is_none-clause-memory : goal.returns-then-is_none-clause-memory
 returns-then-is_none-clause-memory g c = left_there c.args.source.now.memory
+
+pub returns-then-is_none-clause-needed : goal.returns-then-is_none-clause-needed
+returns-then-is_none-clause-needed g c takes =
+    let none : c.args.self.now.job ≡ None = search rules in
+    absurd (not_taking (held c.args.source.now.memory c.args.self.now) none takes)

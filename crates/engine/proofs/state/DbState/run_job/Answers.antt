@@ -6,8 +6,9 @@ use Rattle.engine.specs.Finishing.{CompactOutcome, EndsJob, beyond}
 use Rattle.engine.specs.Follows.{LeadsOpen}
 use Rattle.engine.specs.Held.{held, seen_of}
 use Rattle.engine.specs.Working.{MayRefusePiece}
-use Rattle.engine.proofs.Emptied.{done_of}
+use Rattle.engine.proofs.Emptied.{done_of, on_ok}
 use Rattle.engine.proofs.Finishing.{outcome_of, outcome_then, serves_begun, then_bound, within_bound}
+use Rattle.engine.proofs.NeededEnds.{needed_behind}
 use Rattle.engine.proofs.state.DbState.run_job.Goals as goal
 
 pub returns-in_err-begin_job-clause-step : goal.returns-in_err-begin_job-clause-step
@@ -66,3 +67,15 @@ pub returns-clause-done : goal.returns-clause-done
 returns-clause-done g c =
     let b = c.in_ok-begin_job.ensures in
     done_of c.finish_job.result c.begin_job.new.self.job c.args.plan c.args.self.now.version.value.tables c.begin_job.new.self.version.value.tables c.finish_job.new.self.version.value.tables b.same.tables b.none c.finish_job.ensures.done
+
+pub returns-clause-needed : goal.returns-clause-needed
+returns-clause-needed g c =
+    let order = order_of g.K.KeyOrder.name g.K.KeyOrder.cmp in
+    let old = seen_of g.S.Store.facts c.args.source.now in
+    let before = held c.args.source.now.memory c.args.self.now in
+    let mid = seen_of g.S.Store.facts c.begin_job.new.source in
+    let between = held c.begin_job.new.source.memory c.begin_job.new.self in
+    let new = seen_of g.S.Store.facts c.finish_job.new.source in
+    let after = held c.finish_job.new.source.memory c.finish_job.new.self in
+    let b = c.in_ok-begin_job.ensures in
+    on_ok c.finish_job.result (λ ends whole. needed_behind order old mid new before between after b.step c.finish_job.ensures.step (ends (b.all whole))) c.finish_job.ensures.needed

@@ -1,4 +1,4 @@
-use Rattle.std.proofs.Common.{◌≡◌, ◌<◌, ◌^◌, ◌-◌, true, false, Bool, Some, None, Ok, Err, Result, IsSome, MatchBool, sym, ap, subst, arith, rules}
+use Rattle.std.proofs.Common.{◌≡◌, ◌<◌, ◌^◌, ◌-◌, true, false, Bool, None, Ok, Err, Result, IsSome, MatchBool, sym, ap, subst, arith, rules}
 use Rattle.coding.specs.declared.error.DbError.{DbError}
 use Rattle.ikey.specs.Orders.{order_of}
 use Rattle.memories.specs.PlaceLaws.{left_onward}
@@ -7,6 +7,7 @@ use Rattle.engine.specs.Follows.{LeadsOpen}
 use Rattle.engine.specs.Held.{held, seen_of}
 use Rattle.engine.specs.Working.{IsPiece, MayRefusePiece}
 use Rattle.engine.proofs.Finishing.{job_there, outcome_all, outcome_done, outcome_of, outcome_then, serves_then, taken_all, taken_done, taken_ended, taken_more, taken_none, taken_refused}
+use Rattle.engine.proofs.NeededEnds.{needed_behind}
 use Rattle.engine.proofs.state.DbState.take_steps.Goals as goal
 
 pub loop-init : goal.loop-init
@@ -26,7 +27,7 @@ loop-preserved g c =
     let a = c.in_ok-advance.ensures in
     let going : c.in_ok-advance.field-0 ≡ false = search rules in
     let some = subst (λ (b : Bool). MatchBool b (c.advance.new.self.job ≡ None) (IsSome c.advance.new.self.job)) going a.ended in
-    taken_more order old mid new before between after c.loop.counter c.loop.invariant a.on some a.serves a.memory
+    taken_more order old mid new before between after c.loop.counter c.loop.invariant a.on some a.serves a.memory (a.all (ap (λ (b : Bool). Ok b) going))
     (λ ids. subst (λ (b : Bool). LeadsOpen order mid new ids between after (λ m n. IsPiece m 1 (Ok b) n)) going (a.step ids))
 
 pub returns-in_err-advance-clause-step : goal.returns-in_err-advance-clause-step
@@ -134,3 +135,16 @@ pub returns-clause-outcome : goal.returns-clause-outcome
 returns-clause-outcome g c =
     let facts = g.S.Store.facts in
     outcome_all (facts c.args.source.now.tables.store) (facts c.loop.source.tables.store) (held c.args.source.now.memory c.args.self.now) (held c.loop.source.memory c.loop.self) c.requires.whole c.loop.invariant.serves
+
+pub returns-then-branch-clause-needed : goal.returns-then-branch-clause-needed
+returns-then-branch-clause-needed g c takes =
+    let order = order_of g.K.KeyOrder.name g.K.KeyOrder.cmp in
+    let old = seen_of g.S.Store.facts c.args.source.now in
+    let mid = seen_of g.S.Store.facts c.loop.source in
+    let new = seen_of g.S.Store.facts c.advance.new.source in
+    let before = held c.args.source.now.memory c.args.self.now in
+    let between = held c.loop.source.memory c.loop.self in
+    let after = held c.advance.new.source.memory c.advance.new.self in
+    let a = c.in_ok-advance.ensures in
+    let ended : c.in_ok-advance.field-0 ≡ true = search rules in
+    needed_behind order old mid new before between after c.loop.invariant.step a.step (a.needed (ap (λ (b : Bool). Ok b) ended) (c.loop.invariant.all takes))

@@ -1,4 +1,4 @@
-use Rattle.std.proofs.Common.{◌≡◌, ◌+◌, None, [], length, Result, Ok, Err, sym, ap, subst, ◌∙◌, arith, rules}
+use Rattle.std.proofs.Common.{◌≡◌, ◌+◌, length, Result, Ok, Err, sym, ap, subst, ◌∙◌, arith, rules}
 use Rattle.std.proofs.lemmas.Bool.{eqb-true}
 use Rattle.coding.specs.declared.error.DbError.{DbError}
 use Rattle.ikey.specs.Orders.{order_of}
@@ -8,7 +8,7 @@ use Rattle.engine.specs.Held.{held, seen_of}
 use Rattle.engine.specs.Working.{IsPiece, MayRefusePiece}
 use Rattle.engine.proofs.Emptied.{on_ok}
 use Rattle.engine.proofs.FlushEnds.{no_entries}
-use Rattle.engine.proofs.Finishing.{outcome_by, outcome_done, outcome_of, outcome_then, serves_then, then_bound, within_bound}
+use Rattle.engine.proofs.Finishing.{outcome_by, outcome_of, outcome_then, serves_then, then_bound, within_bound}
 use Rattle.engine.proofs.state.DbState.write_memory.Goals as goal
 
 pub returns-in_err-write_sealed-clause-step : goal.returns-in_err-write_sealed-clause-step

@@ -1,4 +1,3 @@
-use Rattle.std.proofs.Common.{◌≡◌, ◌+◌, None, sym, subst, arith, rules}
 use Rattle.ikey.specs.Orders.{order_of}
 use Rattle.engine.specs.Held.{held, seen_of}
 use Rattle.engine.specs.Working.{MayRefusePiece}
