@@ -4,6 +4,7 @@
 mod answer;
 mod arguments;
 mod batch_words;
+mod digits;
 mod fault;
 mod input;
 mod line;
