@@ -50,12 +50,12 @@ fn told(alloc: Global, refused: u64) -> Option<(bool, bool, bool)> {
 // Some failures are answered by nothing else: those of a removal.
 #[test]
 fn each_failure_of_the_store_is_told(rt: HostRuntime) {
-    let mut unseen = 0;
+    let mut is_unseen = false;
     for refused in 0..60 {
         if let Some((failed, had_fault, served)) = told(rt.alloc(), refused) {
             assert_eq!(rt; had_fault, failed, "call {refused}");
-            unseen += u32::from(failed && served);
+            is_unseen |= failed && served;
         }
     }
-    assert!(rt; unseen > 0);
+    assert!(rt; is_unseen);
 }

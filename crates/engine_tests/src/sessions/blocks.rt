@@ -195,7 +195,7 @@ fn shows(
     byte: u8,
 ) -> Result<bool, DbError> {
     let op = op_of(alloc, line)?;
-    Ok(is_of(&session.apply(alloc, &op), byte))
+    Ok(is_of(&given(alloc, session, &op), byte))
 }
 
 fn shows_all(

@@ -21,7 +21,7 @@ fn is_answered(
     let Ok(Step { op, wanted }) = step else {
         return false;
     };
-    let answer = session.apply(alloc, &op);
+    let answer = given(alloc, session, &op);
     answer == wanted || answer == Answer::Idle && wanted == Answer::Worked
 }
 
@@ -64,7 +64,7 @@ fn ends(alloc: Global, session: &mut Session<MemStore, Bytewise>, model: &mut Mo
 
 // The same as `drawn`, an open in front and the end included.
 fn all(alloc: Global, session: &mut Session<MemStore, Bytewise>, model: &mut Model) -> u64 {
-    if session.apply(alloc, &Op::Open(Mode::Any)) != Answer::Done {
+    if given(alloc, session, &Op::Open(Mode::Any)) != Answer::Done {
         return 0;
     }
     let answered = drawn(alloc, session, model);

@@ -210,7 +210,7 @@ fn give(
     line: &str,
 ) -> Result<Outcome, DbError> {
     let op = op_of(alloc, line)?;
-    let answer = session.apply(alloc, &op);
+    let answer = given(alloc, session, &op);
     record.judge(session.store().calls(), &op, &answer)
 }
 
