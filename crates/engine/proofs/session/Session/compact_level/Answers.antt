@@ -1,5 +1,5 @@
 use Rattle.ikey.specs.Orders.{order_of}
-use Rattle.std.proofs.Common.{◌∙◌, Option, Result, Ok, ap, subst}
+use Rattle.std.proofs.Common.{Option, Result, ap, subst}
 use Rattle.std.specs.Option.{option_map}
 use Rattle.coding.specs.declared.error.DbError.{DbError}
 use Rattle.engine.specs.declared.state.DbState.{DbState}

@@ -1,4 +1,4 @@
-use Rattle.std.proofs.Common.{◌≡◌, ◌<◌, ◌≤◌, sym, subst, arith, rules}
+use Rattle.std.proofs.Common.{arith}
 use Rattle.ikey.specs.Orders.{order_of}
 use Rattle.engine.specs.Held.{held, seen_of}
 use Rattle.engine.specs.Outcomes.{MayRefuseLevel}

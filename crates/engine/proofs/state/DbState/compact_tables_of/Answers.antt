@@ -1,4 +1,4 @@
-use Rattle.std.proofs.Common.{◌≡◌, ◌+◌, ◌*◌, List, [], Result, Ok, Err, sym, ap, subst, ◌∙◌, arith, rules}
+use Rattle.std.proofs.Common.{◌≡◌, ◌+◌, ◌*◌, List, [], Result, Ok, Err, sym, ap, subst, arith, rules}
 use Rattle.coding.specs.declared.error.DbError.{DbError}
 use Rattle.coding.specs.declared.error.DbError.TheVariants.{OutOfMemory}
 use Rattle.ikey.specs.Orders.{order_of}
@@ -10,8 +10,8 @@ use Rattle.engine.specs.Follows.{LeadsOpen}
 use Rattle.engine.specs.Held.{held, seen_of}
 use Rattle.engine.specs.Upkeep.{most_drawn}
 use Rattle.engine.specs.Working.{IsPiece, MayRefusePiece}
-use Rattle.engine.proofs.Emptied.{all_last, beyond_most, level_emptied, memory_left, none_there, on_ok}
-use Rattle.engine.proofs.Finishing.{outcome_all, outcome_done, outcome_then, serves_then, stays_done, stays_full, then_bound, within_bound}
+use Rattle.engine.proofs.Emptied.{beyond_most, level_emptied, on_ok}
+use Rattle.engine.proofs.Finishing.{outcome_all, outcome_done, outcome_then, stays_full, then_bound, within_bound}
 use Rattle.engine.proofs.WorkAnswers.{of_none, of_some}
 use Rattle.engine.proofs.state.DbState.compact_tables_of.Goals as goal
 
