@@ -8,7 +8,6 @@ ghost use Rattle.hex.specs.Hex.{encode_lower};
 ghost use Rattle.script.specs.Words.{text_of_bytes};
 ghost use Rattle.script.specs.Script.{line_of, refusal_of};
 
-use crate::digits::write_digits;
 use coding::{Bytes, DbError};
 use engine::Answer;
 use std::alloc::{AllocError, Global};
@@ -101,7 +100,7 @@ fn push_digits(text: &mut Vec<u8>, bytes: &[u8]) -> Result<(), AllocError>
         return Err(AllocError);
     };
     text.resize(end, 0)?;
-    write_digits(bytes, &mut text[start..]);
+    hex::encode_to_slice(bytes, &mut text[start..]).unwrap();
     Ok(())
 }
 

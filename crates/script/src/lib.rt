@@ -4,7 +4,6 @@
 mod answer;
 mod arguments;
 mod batch_words;
-mod digits;
 mod fault;
 mod input;
 mod line;
