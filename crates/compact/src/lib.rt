@@ -21,8 +21,3 @@ pub use laws::{
 pub use numbers::FileNumbers;
 pub use selection::{Choice, Selection};
 pub use source::HasStore;
-
-#[cfg(test)]
-mod selection_tests;
-#[cfg(test)]
-mod tests;

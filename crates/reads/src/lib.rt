@@ -4,6 +4,3 @@
 mod get;
 
 pub use get::value_in_tables;
-
-#[cfg(test)]
-mod tests;

@@ -7,6 +7,3 @@ pub use laws::{
     answered_place, goes_on, has_ended, is_found, memory_in_front, passed_place, searched_table,
     version_is_kept, version_of_directory, version_of_part,
 };
-
-#[cfg(test)]
-mod tests;

@@ -1,7 +1,5 @@
 // What a builder writes, and what `Table` reads of it.
-ghost use Rattle.std.specs.Prelude.{◌<◌, ◌≤◌, ◌^◌};
-
-use crate::entries::{Seek, add, entry, reads_as, seek_of, write};
+use crate::entries::{Row, Seek, add, entries_of, entry, finds, lists, reads_as, write};
 use crate::files::{NAME, ONE_ENTRY, SEPARATED, store_with};
 use coding::DbError;
 use ikey::{Bytewise, KeyOrder, Kind};
@@ -15,9 +13,7 @@ const OTHER: &str = "000004.log";
 
 // ---- one entry
 
-fn one(alloc: Global) -> Result<KeyValue, DbError> {
-    entry(alloc, b"a", 1, Kind::Put, b"1")
-}
+const ONE: [Row; 1] = [(b"a", 1, Kind::Put, b"1")];
 
 // Whether the file of this name has these bytes.
 fn has_file(alloc: Global, store: &mut MemStore, name: &str, bytes: &[u8]) -> bool {
@@ -40,48 +36,59 @@ fn is_not_created(alloc: Global, store: &mut MemStore) -> bool {
     is_empty && store.len(NAME).is_err()
 }
 
-// A builder of that name with one entry in it.
-fn with_one<S: Store>(
+// The size of a builder of that name with one entry in it.
+fn size_of_one<S: Store>(
     alloc: Global,
     store: &mut S,
     name: &str,
     block_bytes: usize,
-) -> Result<TableBuilder<Bytewise>, DbError> {
-    let entry = one(alloc)?;
-    let mut builder = TableBuilder::new(alloc, name, block_bytes)?;
+) -> Result<u64, DbError> {
+    let entry = entry(alloc, b"a", 1, Kind::Put, b"1")?;
+    let mut builder = TableBuilder::<Bytewise>::new(alloc, name, block_bytes)?;
     add::<Bytewise, S>(&mut builder, store, &entry)?;
-    Ok(builder)
+    Ok(builder.size())
 }
 
 // Whether the file is created by the first entry, and has no bytes before a block is ended.
 fn is_created(alloc: Global, store: &mut MemStore) -> bool {
-    matches!(with_one(alloc, store, NAME, 4096), Ok(builder) if builder.size() == 21)
-        && has_length(store, 0)
+    size_of_one(alloc, store, NAME, 4096) == Ok(21) && has_length(store, 0)
 }
 
 // Whether one entry is written over what was there, and nothing else.
 fn is_written(alloc: Global, store: &mut MemStore) -> Result<bool, DbError> {
-    let length = write::<Bytewise, MemStore>(alloc, store, 4096, &[one(alloc)?])?;
+    let entries = entries_of(alloc, &ONE)?;
+    let length = write::<Bytewise, MemStore>(alloc, store, NAME, 4096, &entries)?;
     Ok(length == 176 && has_file(alloc, store, NAME, &ONE_ENTRY))
 }
 
 #[test]
-fn one_entry_is_written(rt: HostRuntime) -> Result<(), Fail> {
+fn one_entry_is_written(rt: HostRuntime) {
     let mut store = MemStore::new(rt.alloc());
     assert!(rt; is_not_created(rt.alloc(), &mut store));
     assert!(rt; is_created(rt.alloc(), &mut store));
-    assert!(rt; is_written(rt.alloc(), &mut store)?);
-    Ok(())
+    assert_eq!(rt; is_written(rt.alloc(), &mut store), Ok(true));
+}
+
+fn put_other(store: &mut MemStore) -> Result<(), StoreError> {
+    store.create(OTHER)?;
+    store.append(OTHER, b"log")
+}
+
+// Whether there are two files, one of which is the other one, and as it was.
+fn keeps_other(alloc: Global, store: &mut MemStore) -> bool {
+    matches!(store.list(alloc), Ok(names) if names.len() == 2)
+        && has_file(alloc, store, OTHER, b"log")
+}
+
+fn empties_the_old_file(alloc: Global) -> Result<bool, Fail> {
+    let mut store = store_with(alloc, &SEPARATED)?;
+    put_other(&mut store)?;
+    Ok(is_written(alloc, &mut store)? && keeps_other(alloc, &mut store))
 }
 
 #[test]
 fn the_old_file_is_emptied_and_others_stay(rt: HostRuntime) -> Result<(), Fail> {
-    let mut store = store_with(rt.alloc(), &SEPARATED)?;
-    store.create(OTHER)?;
-    store.append(OTHER, b"log")?;
-    assert!(rt; is_written(rt.alloc(), &mut store)?);
-    assert!(rt; has_file(rt.alloc(), &mut store, OTHER, b"log"));
-    assert_eq!(rt; store.list(rt.alloc())?.len(), 2);
+    assert!(rt; empties_the_old_file(rt.alloc())?);
     Ok(())
 }
 
@@ -96,6 +103,12 @@ const SIZES: [(usize, [u64; 3]); 6] = [
     (34, [21, 39, 60]),
     (35, [21, 34, 52]),
     (4096, [21, 34, 47]),
+];
+
+const THREE: [Row; 3] = [
+    (b"a", 1, Kind::Put, b"1"),
+    (b"b", 2, Kind::Put, b"2"),
+    (b"c", 3, Kind::Put, b"3"),
 ];
 
 fn grows(
@@ -115,22 +128,12 @@ fn grows(
     Ok(true)
 }
 
-fn three(alloc: Global) -> Result<[KeyValue; 3], DbError> {
-    Ok([
-        entry(alloc, b"a", 1, Kind::Put, b"1")?,
-        entry(alloc, b"b", 2, Kind::Put, b"2")?,
-        entry(alloc, b"c", 3, Kind::Put, b"3")?,
-    ])
-}
-
 #[test]
 fn the_size_is_that_of_the_blocks(rt: HostRuntime) -> Result<(), Fail> {
-    let entries = three(rt.alloc())?;
+    let entries = entries_of(rt.alloc(), &THREE)?;
     for (block_bytes, sizes) in SIZES {
-        assert!(rt;
-            grows(rt.alloc(), block_bytes, &entries, &sizes)?,
-            "{block_bytes}"
-        );
+        let is = grows(rt.alloc(), block_bytes, &entries, &sizes);
+        assert_eq!(rt; is, Ok(true), "{block_bytes}");
     }
     Ok(())
 }
@@ -148,31 +151,65 @@ fn value_of(number: u32) -> [u8; 3] {
     [a, b, c]
 }
 
-// The puts of the odd numbers, with values of three bytes.
-fn odd_numbers(alloc: Global, count: u32) -> Result<Vec<KeyValue>, DbError>
-    requires { count ≤ 1000 }
-{
+// The odd number of an index, of which there are a thousand at most.
+fn odd(index: u32) -> u32 {
+    index.saturating_mul(2).saturating_add(1)
+}
+
+// The put of an odd number, with a value of three bytes.
+fn odd_entry(alloc: Global, index: u32) -> Result<KeyValue, DbError> {
+    let user = user_key(odd(index));
+    let value = value_of(index);
+    entry(alloc, &user, u64::from(index), Kind::Put, &value)
+}
+
+fn odd_entries(alloc: Global, count: u32) -> Result<Vec<KeyValue>, DbError> {
     let mut entries = Vec::new(alloc);
     for index in 0..count {
-        let user = user_key(2 * index + 1);
-        let value = value_of(index);
-        entries.push(entry(alloc, &user, u64::from(index), Kind::Put, &value)?)?;
+        entries.push(odd_entry(alloc, index)?)?;
     }
     Ok(entries)
 }
 
-// Seeks below, at and above each of them.
-fn odd_seeks(alloc: Global, count: u32) -> Result<Vec<Seek>, DbError>
-    requires { count ≤ 1000 }
-{
-    let mut seeks = Vec::new(alloc);
+// Whether seeks below, at and above the odd number of an index find what they should.
+fn finds_beside(
+    alloc: Global,
+    table: &Table<Bytewise>,
+    store: &mut MemStore,
+    entries: &[KeyValue],
+    index: u32,
+) -> Result<bool, DbError> {
+    let number = odd(index);
+    let place = index as usize;
+    let below = user_key(number.saturating_sub(1));
+    let at = user_key(number);
+    let above = user_key(number.saturating_add(1));
+    Ok(
+        finds(alloc, table, store, entries, (&below, 0, place))?
+            && finds(alloc, table, store, entries, (&at, u64::from(index), place))?
+            && finds(
+                alloc,
+                table,
+                store,
+                entries,
+                (&above, 0, place.saturating_add(1)),
+            )?,
+    )
+}
+
+fn finds_each(
+    alloc: Global,
+    table: &Table<Bytewise>,
+    store: &mut MemStore,
+    entries: &[KeyValue],
+    count: u32,
+) -> Result<bool, DbError> {
     for index in 0..count {
-        let place = index as usize;
-        seeks.push(seek_of(alloc, &user_key(2 * index), 0, place)?)?;
-        seeks.push(seek_of(alloc, &user_key(2 * index + 1), u64::from(index), place)?)?;
-        seeks.push(seek_of(alloc, &user_key(2 * index + 2), 0, place + 1)?)?;
+        if !finds_beside(alloc, table, store, entries, index)? {
+            return Ok(false);
+        }
     }
-    Ok(seeks)
+    Ok(true)
 }
 
 // None of the keys is this number or above. The keys that are asked for differ from them in more than the last byte:
@@ -180,8 +217,17 @@ fn odd_seeks(alloc: Global, count: u32) -> Result<Vec<Seek>, DbError>
 const ELSEWHERE: u32 = 1 << 24;
 
 // Whether the filter admits the key of a number in the block of the entry with this index.
-fn admits(table: &Table<Bytewise>, handles: &[Handle], block: u32, number: u32) -> bool {
-    match handles.get(block as usize) {
+fn admits(
+    table: &Table<Bytewise>,
+    handles: &[Handle],
+    in_block: u32,
+    index: u32,
+    number: u32,
+) -> bool {
+    if in_block == 0 {
+        return false;
+    }
+    match handles.get((index / in_block) as usize) {
         Some(handle) => table.admits(*handle, &user_key(number)),
         None => false,
     }
@@ -194,13 +240,11 @@ fn admitted(
     in_block: u32,
     count: u32,
     numbers: (u32, u32),
-) -> u32
-    requires { 0 < in_block }
-{
+) -> u32 {
     let (mut number, step) = numbers;
     let mut admitted = 0u32;
     for index in 0..count {
-        let is_admitted = admits(table, handles, index / in_block, number);
+        let is_admitted = admits(table, handles, in_block, index, number);
         admitted = admitted.saturating_add(u32::from(is_admitted));
         number = number.saturating_add(step);
     }
@@ -210,42 +254,47 @@ fn admitted(
 // Whether the index has so many blocks, and the filter admits each key in its block and denies nine of ten others.
 fn is_filtered(
     alloc: Global,
-    store: &mut MemStore,
+    table: &Table<Bytewise>,
     in_block: u32,
     count: u32,
     blocks: usize,
-) -> Result<bool, DbError>
-    requires { 0 < in_block }
-{
-    let table = Table::<Bytewise>::open(alloc, store, NAME)?;
+) -> Result<bool, DbError> {
     let handles = table.index(alloc)?;
-    let own = admitted(&table, &handles, in_block, count, (1, 2));
-    let others = admitted(&table, &handles, in_block, count, (ELSEWHERE, 1));
+    let own = admitted(table, &handles, in_block, count, (1, 2));
+    let others = admitted(table, &handles, in_block, count, (ELSEWHERE, 1));
     Ok(handles.len() == blocks && own == count && others.saturating_mul(10) <= count)
 }
 
-// Whether a table of the odd numbers is written and read.
-fn is_table(
+// Bytes that end a block, how many entries that makes a block, entries, and blocks.
+type Case = (usize, u32, u32, usize);
+
+// Whether the table of the odd numbers is read.
+fn is_read(
     alloc: Global,
-    block_bytes: usize,
-    in_block: u32,
-    count: u32,
-    blocks: usize,
-) -> Result<bool, DbError>
-    requires in_block { 0 < in_block }
-    requires count { count ≤ 1000 }
-{
-    let entries = odd_numbers(alloc, count)?;
-    let seeks = odd_seeks(alloc, count)?;
+    store: &mut MemStore,
+    entries: &[KeyValue],
+    case: &Case,
+) -> Result<bool, DbError> {
+    let (_, in_block, count, blocks) = *case;
+    let table = Table::<Bytewise>::open(alloc, store, NAME)?;
+    Ok(
+        lists::<Bytewise, MemStore>(alloc, &table, store, entries)?
+            && finds_each(alloc, &table, store, entries, count)?
+            && is_filtered(alloc, &table, in_block, count, blocks)?,
+    )
+}
+
+// Whether a table of the odd numbers is written and read.
+fn is_table(alloc: Global, case: &Case) -> Result<bool, DbError> {
+    let entries = odd_entries(alloc, case.2)?;
     let mut store = MemStore::new(alloc);
-    write::<Bytewise, MemStore>(alloc, &mut store, block_bytes, &entries)?;
-    let read = reads_as::<Bytewise, MemStore>(alloc, &mut store, &entries, &seeks)?;
-    Ok(read && is_filtered(alloc, &mut store, in_block, count, blocks)?)
+    write::<Bytewise, MemStore>(alloc, &mut store, NAME, case.0, &entries)?;
+    is_read(alloc, &mut store, &entries, case)
 }
 
 // The first of 16 entries has 18 bytes, each other one 15 or 16, a restart 4, and what counts the restarts 4: so 6
 // entries are the first with 100 bytes, and 265 with 4096.
-const TABLES: [(usize, u32, u32, usize); 12] = [
+const TABLES: [Case; 12] = [
     (1, 1, 1, 1),
     (1, 1, 2, 2),
     (1, 1, 17, 17),
@@ -261,13 +310,10 @@ const TABLES: [(usize, u32, u32, usize); 12] = [
 ];
 
 #[test]
-fn what_was_written_is_read(rt: HostRuntime) -> Result<(), Fail> {
-    for (block_bytes, in_block, count, blocks) in TABLES {
-        assert!(rt; 0 < in_block && count <= 1000);
-        let is = is_table(rt.alloc(), block_bytes, in_block, count, blocks)?;
-        assert!(rt; is, "{count} entries, {in_block} a block");
+fn what_was_written_is_read(rt: HostRuntime) {
+    for case in &TABLES {
+        assert_eq!(rt; is_table(rt.alloc(), case), Ok(true), "{case:?}");
     }
-    Ok(())
 }
 
 // ---- versions of one key
@@ -285,7 +331,7 @@ const VERSIONS: [(&[u8], u64, Kind, usize); 8] = [
 ];
 
 // The newest version up to a sequence number, by its place in the list.
-const SEEKS: [(&[u8], u64, usize); 11] = [
+const SEEKS: [Seek; 11] = [
     (b"", 10, 0),
     (b"", 8, 1),
     (b"", 7, 2),
@@ -299,21 +345,23 @@ const SEEKS: [(&[u8], u64, usize); 11] = [
     (b"\xff", 1, 8),
 ];
 
+fn version(
+    alloc: Global,
+    user: &[u8],
+    sequence: u64,
+    kind: Kind,
+    length: usize,
+) -> Result<KeyValue, DbError> {
+    let value = vec![in alloc; b'v'; length]?;
+    entry(alloc, user, sequence, kind, &value)
+}
+
 fn versions(alloc: Global) -> Result<Vec<KeyValue>, DbError> {
     let mut entries = Vec::new(alloc);
     for (user, sequence, kind, length) in VERSIONS {
-        let value = vec![in alloc; b'v'; length]?;
-        entries.push(entry(alloc, user, sequence, kind, &value)?)?;
+        entries.push(version(alloc, user, sequence, kind, length)?)?;
     }
     Ok(entries)
-}
-
-fn version_seeks(alloc: Global) -> Result<Vec<Seek>, DbError> {
-    let mut seeks = Vec::new(alloc);
-    for (user, sequence, place) in SEEKS {
-        seeks.push(seek_of(alloc, user, sequence, place)?)?;
-    }
-    Ok(seeks)
 }
 
 // Whether entries are read again, with blocks ended by so many bytes.
@@ -324,19 +372,16 @@ fn comes_back<K: KeyOrder>(
     seeks: &[Seek],
 ) -> Result<bool, DbError> {
     let mut store = MemStore::new(alloc);
-    write::<K, MemStore>(alloc, &mut store, block_bytes, entries)?;
+    write::<K, MemStore>(alloc, &mut store, NAME, block_bytes, entries)?;
     reads_as::<K, MemStore>(alloc, &mut store, entries, seeks)
 }
 
 #[test]
 fn the_newest_version_is_found_first(rt: HostRuntime) -> Result<(), Fail> {
     let entries = versions(rt.alloc())?;
-    let seeks = version_seeks(rt.alloc())?;
     for block_bytes in [1, 30, 4096] {
-        assert!(rt;
-            comes_back::<Bytewise>(rt.alloc(), block_bytes, &entries, &seeks)?,
-            "{block_bytes}"
-        );
+        let is = comes_back::<Bytewise>(rt.alloc(), block_bytes, &entries, &SEEKS);
+        assert_eq!(rt; is, Ok(true), "{block_bytes}");
     }
     Ok(())
 }
@@ -373,78 +418,56 @@ impl KeyOrder for Falling {
     ghost name_fits = { lit< tt };
 }
 
-fn falling_entries(alloc: Global) -> Result<[KeyValue; 4], DbError> {
-    Ok([
-        entry(alloc, b"c", 1, Kind::Put, b"1")?,
-        entry(alloc, b"b", 3, Kind::Put, b"2")?,
-        entry(alloc, b"b", 2, Kind::Delete, b"")?,
-        entry(alloc, b"", 4, Kind::Put, b"3")?,
-    ])
+const FALLING: [Row; 4] = [
+    (b"c", 1, Kind::Put, b"1"),
+    (b"b", 3, Kind::Put, b"2"),
+    (b"b", 2, Kind::Delete, b""),
+    (b"", 4, Kind::Put, b"3"),
+];
+
+// Whether a table of that order is read in it, and is no table in that of bytes.
+fn is_falling(alloc: Global) -> Result<bool, DbError> {
+    let entries = entries_of(alloc, &FALLING)?;
+    let mut store = MemStore::new(alloc);
+    write::<Falling, MemStore>(alloc, &mut store, NAME, 1, &entries)?;
+    let is_read = reads_as::<Falling, MemStore>(alloc, &mut store, &entries, &[(b"bb", 9, 1)])?;
+    Ok(is_read && is_no_table(alloc, &mut store))
 }
 
 #[test]
-fn a_table_is_in_the_order_of_its_keys(rt: HostRuntime) -> Result<(), Fail> {
-    let entries = falling_entries(rt.alloc())?;
-    let seeks = [seek_of(rt.alloc(), b"bb", 9, 1)?];
-    assert!(rt; comes_back::<Falling>(rt.alloc(), 1, &entries, &seeks)?);
-    Ok(())
-}
-
-#[test]
-fn a_table_of_another_order_is_corrupt(rt: HostRuntime) -> Result<(), Fail> {
-    let entries = falling_entries(rt.alloc())?;
-    let mut store = MemStore::new(rt.alloc());
-    write::<Falling, MemStore>(rt.alloc(), &mut store, 1, &entries)?;
-    assert!(rt; is_no_table(rt.alloc(), &mut store));
-    Ok(())
+fn a_table_is_in_the_order_of_its_keys(rt: HostRuntime) {
+    assert_eq!(rt; is_falling(rt.alloc()), Ok(true));
 }
 
 // ---- failures
 
-// How many bytes the table of three odd numbers has: each block 31, and the rest behind them.
-const BLOCK: u64 = 31;
-
-// Writes the table of three odd numbers, a block each.
+// Writes the table of three odd numbers, a block each: 31 bytes a block, and the rest behind them.
 fn write_three<S: Store>(alloc: Global, store: &mut S) -> Result<u64, DbError> {
-    let entries = odd_numbers(alloc, 3)?;
-    write::<Bytewise, S>(alloc, store, 1, &entries)
+    let entries = odd_entries(alloc, 3)?;
+    write::<Bytewise, S>(alloc, store, NAME, 1, &entries)
 }
 
 fn has_three(alloc: Global, store: &mut MemStore) -> Result<bool, DbError> {
-    let entries = odd_numbers(alloc, 3)?;
+    let entries = odd_entries(alloc, 3)?;
     reads_as::<Bytewise, MemStore>(alloc, store, &entries, &[])
 }
 
 // A store with another file, whose call of this number writes so many bytes and fails.
-fn failing(alloc: Global, call: u64, count: usize) -> Result<FaultStore, DbError> {
-    let inner = beside_another(alloc)?;
+fn failing(alloc: Global, call: u64, count: usize) -> Result<FaultStore, StoreError> {
+    let mut inner = MemStore::new(alloc);
+    put_other(&mut inner)?;
     let faults = Vec::from_array(alloc, [(call, Fault::Part(count))])?;
     Ok(FaultStore::new(inner, faults))
 }
 
 // What is left of a table of three odd numbers, a block each, where the call of this number writes so many bytes and
 // fails. The first call creates the file, the next three append a block each, and the fifth appends the rest.
-fn after_failure(alloc: Global, call: u64, count: usize) -> Result<MemStore, DbError> {
-    let mut store = failing(alloc, call, count)?;
+fn after_failure(alloc: Global, call: u64, count: usize) -> Option<MemStore> {
+    let mut store = failing(alloc, call, count).ok()?;
     match write_three(alloc, &mut store) {
-        Err(DbError::Io) => Ok(store.into_inner()),
-        _ => Err(DbError::BadLine),
+        Err(DbError::Io) => Some(store.into_inner()),
+        _ => None,
     }
-}
-
-// A store with another file.
-fn beside_another(alloc: Global) -> Result<MemStore, DbError> {
-    match with_another(alloc) {
-        Ok(store) => Ok(store),
-        Err(_) => Err(DbError::OutOfMemory),
-    }
-}
-
-fn with_another(alloc: Global) -> Result<MemStore, StoreError> {
-    let mut store = MemStore::new(alloc);
-    store.create(OTHER)?;
-    store.append(OTHER, b"log")?;
-    Ok(store)
 }
 
 fn is_no_table(alloc: Global, store: &mut MemStore) -> bool {
@@ -455,73 +478,78 @@ fn is_no_table(alloc: Global, store: &mut MemStore) -> bool {
 }
 
 // Whether the file then has so many bytes and is no table, and the other file is as before.
-fn leaves_no_table(alloc: Global, call: u64, count: usize, length: u64) -> Result<bool, DbError> {
-    let mut store = after_failure(alloc, call, count)?;
-    let is_long = has_length(&mut store, length);
-    let is_kept = has_file(alloc, &mut store, OTHER, b"log");
-    Ok(is_long && is_kept && is_no_table(alloc, &mut store))
+fn leaves_no_table(alloc: Global, call: u64, count: usize, length: u64) -> bool {
+    match after_failure(alloc, call, count) {
+        Some(mut store) => has_length(&mut store, length)
+            && keeps_other(alloc, &mut store)
+            && is_no_table(alloc, &mut store),
+        None => false,
+    }
 }
 
-// The calls that append blocks, and how many bytes the file has before.
-const BLOCKS: [(u64, u64); 3] = [(2, 0), (3, BLOCK), (4, 2 * BLOCK)];
-
-const PARTS: [u8; 5] = [0, 1, 26, 30, 31];
+// The call that appends a block, how much of it is written, and how long the file is then.
+#[rattlefmt::skip]
+const PARTS: [(u64, usize, u64); 15] = [
+    (2, 0, 0), (2, 1, 1), (2, 26, 26), (2, 30, 30), (2, 31, 31),
+    (3, 0, 31), (3, 1, 32), (3, 26, 57), (3, 30, 61), (3, 31, 62),
+    (4, 0, 62), (4, 1, 63), (4, 26, 88), (4, 30, 92), (4, 31, 93),
+];
 
 #[test]
-fn a_failed_block_leaves_no_table(rt: HostRuntime) -> Result<(), Fail> {
-    for (call, before) in BLOCKS {
-        for count in PARTS {
-            let length = before.saturating_add(u64::from(count));
-            let left = leaves_no_table(rt.alloc(), call, usize::from(count), length)?;
-            assert!(rt; left, "{call}, {count}");
-        }
+fn a_failed_block_leaves_no_table(rt: HostRuntime) {
+    for (call, count, length) in PARTS {
+        assert!(rt;
+            leaves_no_table(rt.alloc(), call, count, length),
+            "{call}, {count}"
+        );
     }
-    Ok(())
 }
 
 // The length of the table, where nothing fails.
 fn length_of_three(alloc: Global) -> Result<u64, DbError> {
-    let mut store = MemStore::new(alloc);
-    write_three(alloc, &mut store)
+    write_three(alloc, &mut MemStore::new(alloc))
 }
 
 #[test]
 fn failed_ends_leave_no_table(rt: HostRuntime) -> Result<(), Fail> {
     let length = length_of_three(rt.alloc())?;
-    for count in 0..length.saturating_sub(3 * BLOCK) {
-        let left = leaves_no_table(rt.alloc(), 5, count as usize, 3 * BLOCK + count)?;
-        assert!(rt; left, "{count}");
+    for count in 0..length.saturating_sub(93) {
+        let length = count.saturating_add(93);
+        assert!(rt;
+            leaves_no_table(rt.alloc(), 5, count as usize, length),
+            "{count}"
+        );
     }
     Ok(())
 }
 
-fn is_whole_once_all_was_written(alloc: Global) -> Result<bool, DbError> {
-    let mut store = after_failure(alloc, 5, usize::MAX)?;
-    has_three(alloc, &mut store)
+fn is_whole_once_all_was_written(alloc: Global) -> bool {
+    match after_failure(alloc, 5, usize::MAX) {
+        Some(mut store) => has_three(alloc, &mut store) == Ok(true),
+        None => false,
+    }
 }
 
-fn is_whole_once_written_again(alloc: Global) -> Result<bool, DbError> {
-    let mut store = after_failure(alloc, 3, 7)?;
-    write_three(alloc, &mut store)?;
-    has_three(alloc, &mut store)
+fn is_whole_once_written_again(alloc: Global) -> bool {
+    match after_failure(alloc, 3, 7) {
+        Some(mut store) => write_three(alloc, &mut store).is_ok()
+            && has_three(alloc, &mut store) == Ok(true),
+        None => false,
+    }
 }
 
 // The store did all of it and failed then, or the table is written once more: it is there.
 #[test]
-fn a_table_is_whole_where_all_of_it_was_written(rt: HostRuntime) -> Result<(), Fail> {
-    assert!(rt; is_whole_once_all_was_written(rt.alloc())?);
-    assert!(rt; is_whole_once_written_again(rt.alloc())?);
-    Ok(())
-}
-
-fn is_refused(alloc: Global, store: &mut FileStore, name: &str) -> bool {
-    matches!(with_one(alloc, store, name, 1), Err(DbError::Io))
+fn a_table_is_whole_where_all_of_it_was_written(rt: HostRuntime) {
+    assert!(rt; is_whole_once_all_was_written(rt.alloc()));
+    assert!(rt; is_whole_once_written_again(rt.alloc()));
 }
 
 // A store over a folder makes no file within another folder.
 #[test]
 fn a_file_that_is_not_created_is_a_failure(rt: HostRuntime) -> Result<(), Fail> {
     let mut store = FileStore::open(&rt, ".")?;
-    assert!(rt; is_refused(rt.alloc(), &mut store, "none/000005.ldb"));
+    let size = size_of_one(rt.alloc(), &mut store, "none/000005.ldb", 1);
+    assert_eq!(rt; size, Err(DbError::Io));
     Ok(())
 }

@@ -1,4 +1,4 @@
-use crate::files::{ONE_ENTRY, SEPARATED};
+use crate::files::{ONE_ENTRY, SEPARATED, store_with};
 use block::{Block, BlockCursor};
 use cache::{BlockCache, ReadBlock, TableCache};
 use coding::DbError;
@@ -8,7 +8,7 @@ use std::alloc::Global;
 use std::num::NonZeroUsize;
 use std::rc::Rc;
 use std::test::*;
-use store::{FaultStore, MemStore, Store};
+use store::{FaultStore, MemStore, Store, StoreError};
 use table::{Handle, Table};
 
 // The first blocks of both tables lie there; the second block of the second one lies at 26.
@@ -23,26 +23,33 @@ const SECOND: Handle = Handle {
 };
 
 // A store that counts its calls: table 5 has one entry, and table 7, under its old name, two blocks.
-fn two_tables(alloc: Global) -> Result<FaultStore, Fail> {
-    let mut store = MemStore::new(alloc);
-    store.create("000005.ldb")?;
-    store.append("000005.ldb", &ONE_ENTRY)?;
+fn two_tables(alloc: Global) -> Result<FaultStore, DbError> {
+    match both(alloc) {
+        Ok(store) => Ok(FaultStore::new(store, Vec::new(alloc))),
+        Err(_) => Err(DbError::OutOfMemory),
+    }
+}
+
+fn both(alloc: Global) -> Result<MemStore, StoreError> {
+    let mut store = store_with(alloc, &ONE_ENTRY)?;
     store.create("000007.sst")?;
     store.append("000007.sst", &SEPARATED)?;
-    Ok(FaultStore::new(store, Vec::new(alloc)))
+    Ok(store)
+}
+
+fn capacity_of(count: usize) -> Result<NonZeroUsize, DbError> {
+    match NonZeroUsize::new(count) {
+        Some(capacity) => Ok(capacity),
+        None => Err(DbError::BadLine),
+    }
 }
 
 // Of capacity 0, the cache that keeps nothing.
-fn blocks_for(alloc: Global, capacity: usize) -> Result<BlockCache<Bytewise>, Fail> {
-    let Some(capacity) = NonZeroUsize::new(capacity) else {
-        return Ok(BlockCache::none());
-    };
-    Ok(BlockCache::new(alloc, capacity)?)
-}
-
-fn tables_for(alloc: Global, capacity: usize) -> Result<TableCache<Bytewise>, Fail> {
-    let capacity = NonZeroUsize::new(capacity).ok_or("a capacity")?;
-    Ok(TableCache::new(alloc, capacity)?)
+fn blocks_for(alloc: Global, capacity: usize) -> Result<BlockCache<Bytewise>, DbError> {
+    match NonZeroUsize::new(capacity) {
+        Some(capacity) => Ok(BlockCache::new(alloc, capacity)?),
+        None => Ok(BlockCache::none()),
+    }
 }
 
 // The value of a block's first entry.
@@ -135,20 +142,54 @@ fn is_so(
     has_value(alloc, found, wanted.value) && is_read == wanted.is_read && kept == wanted.kept
 }
 
-// Whether each is so, one after another, in a cache of that capacity.
-fn are_so(alloc: Global, capacity: usize, fetches: &[Fetch]) -> Result<bool, Fail> {
-    let mut store = two_tables(alloc)?;
-    let mut tables = tables_for(alloc, 2)?;
-    let five = tables.get_table(alloc, &mut store, 5)?;
-    let seven = tables.get_table(alloc, &mut store, 7)?;
-    let mut blocks = blocks_for(alloc, capacity)?;
+// Whether each is so, one after another.
+fn all_are_so(
+    alloc: Global,
+    store: &mut FaultStore,
+    blocks: &mut BlockCache<Bytewise>,
+    tables: (&Table<Bytewise>, &Table<Bytewise>),
+    fetches: &[Fetch],
+) -> bool {
     for fetch in fetches {
-        let table = if fetch.number == 5 { &*five } else { &*seven };
-        if !is_so(alloc, &mut store, &mut blocks, table, fetch) {
-            return Ok(false);
+        let table = if fetch.number == 5 {
+            tables.0
+        } else {
+            tables.1
+        };
+        if !is_so(alloc, store, blocks, table, fetch) {
+            return false;
         }
     }
-    Ok(true)
+    true
+}
+
+// The same in a cache of that capacity.
+fn are_so(alloc: Global, capacity: usize, fetches: &[Fetch]) -> Result<bool, DbError> {
+    let mut store = two_tables(alloc)?;
+    let five = Table::<Bytewise>::open(alloc, &mut store, "000005.ldb")?;
+    let seven = Table::<Bytewise>::open(alloc, &mut store, "000007.sst")?;
+    let mut blocks = blocks_for(alloc, capacity)?;
+    Ok(all_are_so(alloc, &mut store, &mut blocks, (&five, &seven), fetches))
+}
+
+// How many blocks a cache keeps, and what is asked of it.
+const FETCHES: [(usize, &[Fetch]); 5] = [
+    (4, &TWO_TABLES),
+    (1, &ROOM_FOR_ONE),
+    (0, &NOTHING_KEPT),
+    (2, &REFUSED),
+    (2, &OF_TWO_SIZES),
+];
+
+#[test]
+fn blocks_are_kept_by_table_place_and_size(rt: HostRuntime) {
+    for (capacity, fetches) in FETCHES {
+        assert_eq!(rt;
+            are_so(rt.alloc(), capacity, fetches),
+            Ok(true),
+            "{capacity}"
+        );
+    }
 }
 
 // Whether a block that was fetched is read without the store.
@@ -156,73 +197,95 @@ fn is_kept(
     alloc: Global,
     store: &mut FaultStore,
     blocks: &mut BlockCache<Bytewise>,
-) -> Result<bool, DbError> {
-    let table = Table::<Bytewise>::open(alloc, store, "000005.ldb")?;
+    table: &Table<Bytewise>,
+) -> bool {
     let is_empty = blocks.is_empty();
-    let first = blocks.fetch(alloc, store, &table, 5, FIRST);
+    let first = blocks.fetch(alloc, store, table, 5, FIRST);
     let calls = store.calls();
-    let again = blocks.read_block(alloc, store, &table, 5, FIRST);
+    let again = blocks.read_block(alloc, store, table, 5, FIRST);
     let are_read = has_value(alloc, first, Some(0x31)) && has_value(alloc, again, Some(0x31));
-    Ok(is_empty && are_read && blocks.len() == 1 && store.calls() == calls)
+    is_empty && are_read && blocks.len() == 1 && store.calls() == calls
 }
 
-#[test]
-fn a_kept_block_is_not_read_again(rt: HostRuntime) -> Result<(), Fail> {
-    let mut store = two_tables(rt.alloc())?;
-    let mut blocks = blocks_for(rt.alloc(), 2)?;
-    assert!(rt; is_kept(rt.alloc(), &mut store, &mut blocks)?);
-    Ok(())
-}
-
-#[test]
-fn blocks_of_two_tables_at_one_offset_stay_apart(rt: HostRuntime) -> Result<(), Fail> {
-    assert!(rt; are_so(rt.alloc(), 4, &TWO_TABLES)?);
-    Ok(())
-}
-
-#[test]
-fn the_least_recently_used_block_goes(rt: HostRuntime) -> Result<(), Fail> {
-    assert!(rt; are_so(rt.alloc(), 1, &ROOM_FOR_ONE)?);
-    Ok(())
-}
-
-#[test]
-fn a_cache_that_keeps_nothing_reads_again(rt: HostRuntime) -> Result<(), Fail> {
-    assert!(rt; are_so(rt.alloc(), 0, &NOTHING_KEPT)?);
-    Ok(())
-}
-
-#[test]
-fn refusals_are_not_kept(rt: HostRuntime) -> Result<(), Fail> {
-    assert!(rt; are_so(rt.alloc(), 2, &REFUSED)?);
-    Ok(())
-}
-
-#[test]
-fn a_block_of_another_size_is_read(rt: HostRuntime) -> Result<(), Fail> {
-    assert!(rt; are_so(rt.alloc(), 2, &OF_TWO_SIZES)?);
-    Ok(())
-}
-
-#[test]
-fn a_kept_table_is_not_opened_again(rt: HostRuntime) -> Result<(), Fail> {
-    let alloc = rt.alloc();
+fn keeps_a_block(alloc: Global) -> Result<bool, DbError> {
     let mut store = two_tables(alloc)?;
-    let mut tables = tables_for(alloc, 1)?;
-    assert!(rt; tables.is_empty());
-    tables.get_table(alloc, &mut store, 7)?;
+    let mut blocks = blocks_for(alloc, 2)?;
+    let table = Table::<Bytewise>::open(alloc, &mut store, "000005.ldb")?;
+    Ok(is_kept(alloc, &mut store, &mut blocks, &table))
+}
+
+#[test]
+fn a_kept_block_is_not_read_again(rt: HostRuntime) {
+    assert_eq!(rt; keeps_a_block(rt.alloc()), Ok(true));
+}
+
+// ---- tables
+
+// A table that is asked for, by its number; how many blocks it has, or none where it is missing; whether the store is asked for it; and
+// whether it is evicted then.
+type Opening = (u64, Option<usize>, bool, bool);
+
+// In a cache of one table.
+const OPENINGS: [Opening; 4] = [
+    (7, Some(2), true, false),
+    (7, Some(2), false, false),
+    (5, Some(1), true, true),
+    (6, None, true, false),
+];
+
+// Whether a table with so many blocks was answered, or none as damaged.
+fn has_blocks(
+    alloc: Global,
+    found: Result<Rc<Table<Bytewise>>, DbError>,
+    blocks: Option<usize>,
+) -> bool {
+    match found {
+        Ok(table) => matches!(table.index(alloc), Ok(index) if Some(index.len()) == blocks),
+        Err(DbError::Corrupt(_, _)) => blocks.is_none(),
+        Err(_) => false,
+    }
+}
+
+// Whether an opening is so, and the table is kept unless it is missing or evicted.
+fn opens(
+    alloc: Global,
+    store: &mut FaultStore,
+    tables: &mut TableCache<Bytewise>,
+    opening: &Opening,
+) -> bool {
+    let (number, blocks, is_read, is_evicted) = *opening;
+    if number == 0 {
+        return false;
+    }
     let calls = store.calls();
-    let table = tables.get_table(alloc, &mut store, 7)?;
-    assert_eq!(rt; table.index(alloc)?.len(), 2);
-    assert_eq!(rt; store.calls(), calls);
-    tables.get_table(alloc, &mut store, 5)?;
-    assert_eq!(rt; tables.len(), 1);
-    tables.evict(5);
-    assert_eq!(rt; tables.len(), 0);
-    let missing = tables.get_table(alloc, &mut store, 6);
-    assert!(rt; matches!(missing, Err(DbError::Corrupt(_, _))));
-    assert_eq!(rt; tables.len(), 0);
-    Ok(())
+    let found = tables.get_table(alloc, store, number);
+    let is_asked = calls < store.calls();
+    let is_one = (tables.len() == 1) == blocks.is_some();
+    if is_evicted {
+        tables.evict(number);
+    }
+    let is_left = (tables.len() == 1) == (blocks.is_some() && !is_evicted);
+    has_blocks(alloc, found, blocks) && is_asked == is_read && is_one && is_left
+}
+
+fn opens_each(alloc: Global, store: &mut FaultStore, tables: &mut TableCache<Bytewise>) -> bool {
+    for opening in &OPENINGS {
+        if !opens(alloc, store, tables, opening) {
+            return false;
+        }
+    }
+    true
+}
+
+fn keeps_tables(alloc: Global) -> Result<bool, DbError> {
+    let mut store = two_tables(alloc)?;
+    let mut tables = TableCache::new(alloc, capacity_of(1)?)?;
+    Ok(tables.is_empty() && opens_each(alloc, &mut store, &mut tables))
+}
+
+#[test]
+fn a_kept_table_is_not_opened_again(rt: HostRuntime) {
+    assert_eq!(rt; keeps_tables(rt.alloc()), Ok(true));
 }
 
 // What is done to the tables of a store: to begin to keep what is read, to end that, or to read the first block of table 5.
@@ -269,11 +332,17 @@ fn goes_so(
     is_done && is_read == wanted.1 && are_kept
 }
 
-#[test]
-fn tables_are_kept_from_begin_to_end(rt: HostRuntime) -> Result<(), Fail> {
-    let mut source = Tables::<Bytewise, FaultStore>::over(two_tables(rt.alloc())?);
+fn keeps_while_asked(alloc: Global) -> Result<bool, DbError> {
+    let mut source = Tables::<Bytewise, FaultStore>::over(two_tables(alloc)?);
     for turn in TURNS {
-        assert!(rt; goes_so(rt.alloc(), &mut source, turn));
+        if !goes_so(alloc, &mut source, turn) {
+            return Ok(false);
+        }
     }
-    Ok(())
+    Ok(true)
+}
+
+#[test]
+fn tables_are_kept_from_begin_to_end(rt: HostRuntime) {
+    assert_eq!(rt; keeps_while_asked(rt.alloc()), Ok(true));
 }

@@ -4,8 +4,8 @@ ghost use Rattle.edits.specs.Edit.{IsProper, IsInOrder};
 ghost use Rattle.upkeep.specs.Level0.{HaveSequences};
 
 use crate::files::ONE_ENTRY;
-use crate::row_cursors::empty_layout;
-use crate::stores::{Step, perform};
+use crate::layouts::version_of;
+use crate::stores::{Step, does};
 use coding::DbError;
 use compact::FileNumbers;
 use edits::{Edit, Field, encode_edit};
@@ -18,7 +18,7 @@ use upkeep::{
     CurrentManifest, FlushError, FlushPlan, LiveTables, Removal, append_edit, begin_log,
     flush_edit, flush_memory, remove_files, write_level0,
 };
-use versions::{LiveNumbers, Version};
+use versions::LiveNumbers;
 
 // ---- the MANIFEST
 
@@ -65,17 +65,15 @@ fn put_both<S: Store>(alloc: Global, store: &mut S) -> Result<u64, DbError> {
     append_edit(alloc, store, &manifest, &second_edit(alloc)?)
 }
 
-fn holds<S: Store>(alloc: Global, store: &mut S, bytes: &[u8]) -> bool {
-    matches!(perform(alloc, store, Step::Holds(NAME, bytes)), Ok(true))
+fn are_behind(alloc: Global, store: &mut MemStore) -> bool {
+    store.create(NAME).is_ok()
+        && put_both(alloc, store) == Ok(20)
+        && does(alloc, store, Step::Holds(NAME, BOTH))
 }
 
 #[test]
-fn edits_stand_behind_the_manifest(rt: HostRuntime) -> Result<(), Fail> {
-    let mut store = MemStore::new(rt.alloc());
-    store.create(NAME)?;
-    assert_eq!(rt; put_both(rt.alloc(), &mut store), Ok(BOTH.len() as u64));
-    assert!(rt; holds(rt.alloc(), &mut store, BOTH));
-    Ok(())
+fn edits_stand_behind_the_manifest(rt: HostRuntime) {
+    assert!(rt; are_behind(rt.alloc(), &mut MemStore::new(rt.alloc())));
 }
 
 // The number of the append that fails, how many bytes it writes, and what of the MANIFEST is there then.
@@ -87,22 +85,26 @@ const FAILURES: &[(u64, usize, &[u8])] = &[
     (4, 11, BOTH),
 ];
 
+// A store with an empty file of this name, whose call of this number fails behind so many bytes.
+fn failing(alloc: Global, name: &str, call: u64, count: usize) -> Result<FaultStore, StoreError> {
+    let faults = Vec::from_array(alloc, [(call, Fault::Part(count))])?;
+    let mut store = FaultStore::new(MemStore::new(alloc), faults);
+    store.create(name)?;
+    Ok(store)
+}
+
 // Whether the append with this fault answers Io and leaves these bytes.
 fn fails(alloc: Global, call: u64, count: usize, bytes: &[u8]) -> Result<bool, StoreError> {
-    let mut faults = Vec::new(alloc);
-    faults.push((call, Fault::Part(count)))?;
-    let mut store = FaultStore::new(MemStore::new(alloc), faults);
-    store.create(NAME)?;
-    let refused = matches!(put_both(alloc, &mut store), Err(DbError::Io));
-    Ok(refused && holds(alloc, &mut store.into_inner(), bytes))
+    let mut store = failing(alloc, NAME, call, count)?;
+    let refused = put_both(alloc, &mut store) == Err(DbError::Io);
+    Ok(refused && does(alloc, &mut store.into_inner(), Step::Holds(NAME, bytes)))
 }
 
 #[test]
-fn failed_edits_leave_a_beginning(rt: HostRuntime) -> Result<(), Fail> {
+fn failed_edits_leave_a_beginning(rt: HostRuntime) {
     for (call, count, bytes) in FAILURES {
-        assert!(rt; fails(rt.alloc(), *call, *count, bytes)?);
+        assert_eq!(rt; fails(rt.alloc(), *call, *count, bytes), Ok(true));
     }
-    Ok(())
 }
 
 // ---- logs
@@ -115,53 +117,39 @@ fn begins(
     number: u64,
     name: &str,
 ) -> bool {
-    let Ok((begun, begun_name)) = begin_log(alloc, store, numbers) else {
-        return false;
-    };
-    let there = matches!(perform(alloc, store, Step::Holds(name, b"")), Ok(true));
-    begun == number && begun_name.as_str() == name && there
+    match begin_log(alloc, store, numbers) {
+        Ok((begun, begun_name)) => begun == number
+            && begun_name.as_str() == name
+            && does(alloc, store, Step::Holds(name, b"")),
+        Err(_) => false,
+    }
 }
 
-#[test]
-fn logs_have_the_next_numbers(rt: HostRuntime) -> Result<(), Fail> {
-    let mut store = MemStore::new(rt.alloc());
+fn begins_two(alloc: Global, store: &mut MemStore) -> bool {
     let mut numbers = FileNumbers { next: 999_999 };
-    assert!(rt; begins(rt.alloc(), &mut store, &mut numbers, 999_999, "999999.log"));
-    assert!(rt;
-        begins(
-            rt.alloc(),
-            &mut store,
-            &mut numbers,
-            1_000_000,
-            "1000000.log"
-        )
-    );
-    assert!(rt;
-        matches!(
-            perform(
-                rt.alloc(),
-                &mut store,
-                Step::Names("1000000.log;999999.log;")
-            ),
-            Ok(true)
-        )
-    );
-    Ok(())
+    begins(alloc, store, &mut numbers, 999_999, "999999.log")
+        && begins(alloc, store, &mut numbers, 1_000_000, "1000000.log")
+        && does(alloc, store, Step::Names("1000000.log;999999.log;"))
 }
 
 #[test]
-fn no_log_has_a_number_beyond_the_last(rt: HostRuntime) -> Result<(), Fail> {
-    let mut store = MemStore::new(rt.alloc());
+fn logs_have_the_next_numbers(rt: HostRuntime) {
+    assert!(rt; begins_two(rt.alloc(), &mut MemStore::new(rt.alloc())));
+}
+
+// Whether no log has a number beyond the last, and none is drawn.
+fn begins_none(alloc: Global, store: &mut MemStore) -> bool {
     let mut numbers = FileNumbers { next: 1 << 62 };
-    assert!(rt;
-        matches!(
-            begin_log(rt.alloc(), &mut store, &mut numbers),
-            Err(DbError::NumbersSpent)
-        )
-    );
-    assert_eq!(rt; numbers.next, 1 << 62);
-    assert!(rt; matches!(perform(rt.alloc(), &mut store, Step::Names("")), Ok(true)));
-    Ok(())
+    matches!(
+        begin_log(alloc, store, &mut numbers),
+        Err(DbError::NumbersSpent)
+    ) && numbers.next == 1 << 62
+        && does(alloc, store, Step::Names(""))
+}
+
+#[test]
+fn no_log_has_a_number_beyond_the_last(rt: HostRuntime) {
+    assert!(rt; begins_none(rt.alloc(), &mut MemStore::new(rt.alloc())));
 }
 
 // ---- flushes
@@ -205,12 +193,26 @@ fn puts_table(alloc: Global, previous: u64, bytes: &[u8]) -> Result<bool, DbErro
 }
 
 #[test]
-fn edits_of_flushes_have_their_tables(rt: HostRuntime) -> Result<(), Fail> {
+fn edits_of_flushes_have_their_tables(rt: HostRuntime) {
     for (previous, bytes) in FLUSH_EDITS {
-        assert!(rt; matches!(puts_table(rt.alloc(), *previous, bytes), Ok(true)));
+        assert_eq!(rt; puts_table(rt.alloc(), *previous, bytes), Ok(true));
     }
-    Ok(())
 }
+
+fn flush_manifest(alloc: Global) -> Result<CurrentManifest, DbError> {
+    Ok(CurrentManifest {
+        number: 2,
+        name: String::from_str(alloc, FLUSH_MANIFEST)?,
+        end: 0,
+    })
+}
+
+const PLAN: FlushPlan = FlushPlan {
+    log_number: 3,
+    previous_log_number: 0,
+    last_sequence: 1,
+    block_bytes: 4096,
+};
 
 // Flushes it behind an empty MANIFEST into a version without tables, with the next number of these. The answer is where the
 // MANIFEST ends, and whether the new version has the table 4.
@@ -222,54 +224,29 @@ fn flushes<S: Store>(
     let Ok(memory) = sealed(alloc) else {
         return Err(FlushError::Before(DbError::OutOfMemory));
     };
-    let Ok(version) = empty_version(alloc) else {
+    let Ok(version) = version_of(alloc, &[], None) else {
         return Err(FlushError::Before(DbError::OutOfMemory));
     };
-    let Ok(name) = String::from_str(alloc, FLUSH_MANIFEST) else {
+    let Ok(manifest) = flush_manifest(alloc) else {
         return Err(FlushError::Before(DbError::OutOfMemory));
     };
-    let manifest = CurrentManifest {
-        number: 2,
-        name,
-        end: 0,
-    };
-    let plan = FlushPlan {
-        log_number: 3,
-        previous_log_number: 0,
-        last_sequence: 1,
-        block_bytes: 4096,
-    };
-    let flushed = flush_memory(alloc, store, &memory, &version, &manifest, numbers, plan)?;
+    let flushed = flush_memory(alloc, store, &memory, &version, &manifest, numbers, PLAN)?;
     Ok((flushed.manifest_end, flushed.version.has_number(4)))
 }
 
-fn empty_version(alloc: Global) -> Result<Version<Bytewise>, DbError> {
-    let layout = empty_layout(alloc)?;
-    match Version::new(alloc, &layout) {
-        Ok(version) => Ok(version),
-        Err(_) => Err(DbError::OutOfMemory),
-    }
-}
-
-fn is_there(alloc: Global, store: &mut MemStore, name: &str, bytes: &[u8]) -> bool {
-    matches!(perform(alloc, store, Step::Holds(name, bytes)), Ok(true))
+// Whether a flush makes a table and its edit.
+fn is_flushed(alloc: Global, store: &mut MemStore) -> bool {
+    let mut numbers = FileNumbers { next: 4 };
+    store.create(FLUSH_MANIFEST).is_ok()
+        && matches!(flushes(alloc, store, &mut numbers), Ok((38, true)))
+        && numbers.next == 5
+        && does(alloc, store, Step::Holds("000004.ldb", &ONE_ENTRY))
+        && does(alloc, store, Step::Holds(FLUSH_MANIFEST, FLUSHED))
 }
 
 #[test]
-fn a_flush_makes_a_table_and_its_edit(rt: HostRuntime) -> Result<(), Fail> {
-    let mut store = MemStore::new(rt.alloc());
-    store.create(FLUSH_MANIFEST)?;
-    let mut numbers = FileNumbers { next: 4 };
-    assert!(rt;
-        matches!(
-            flushes(rt.alloc(), &mut store, &mut numbers),
-            Ok((38, true))
-        )
-    );
-    assert!(rt; is_there(rt.alloc(), &mut store, "000004.ldb", &ONE_ENTRY));
-    assert!(rt; is_there(rt.alloc(), &mut store, FLUSH_MANIFEST, FLUSHED));
-    assert_eq!(rt; numbers.next, 5);
-    Ok(())
+fn a_flush_makes_a_table_and_its_edit(rt: HostRuntime) {
+    assert!(rt; is_flushed(rt.alloc(), &mut MemStore::new(rt.alloc())));
 }
 
 // The number of the append that fails, of a block, of what stands behind the blocks or of the edit, and how the flush is refused.
@@ -281,34 +258,29 @@ const REFUSALS: &[(u64, FlushError)] = &[
 
 // Whether the flush is refused so where this append fails.
 fn refuses(alloc: Global, call: u64, refusal: FlushError) -> Result<bool, StoreError> {
-    let mut faults = Vec::new(alloc);
-    faults.push((call, Fault::Part(0)))?;
-    let mut store = FaultStore::new(MemStore::new(alloc), faults);
-    store.create(FLUSH_MANIFEST)?;
+    let mut store = failing(alloc, FLUSH_MANIFEST, call, 0)?;
     let mut numbers = FileNumbers { next: 4 };
     Ok(matches!(flushes(alloc, &mut store, &mut numbers), Err(error) if error == refusal))
 }
 
 #[test]
-fn flushes_are_refused_before_their_edit_or_at_it(rt: HostRuntime) -> Result<(), Fail> {
+fn flushes_are_refused_before_their_edit_or_at_it(rt: HostRuntime) {
     for (call, refusal) in REFUSALS {
-        assert!(rt; refuses(rt.alloc(), *call, *refusal)?, "{call}");
+        assert_eq!(rt; refuses(rt.alloc(), *call, *refusal), Ok(true), "{call}");
     }
-    Ok(())
+}
+
+// Whether no flush draws a number beyond the last.
+fn flushes_none(alloc: Global, store: &mut MemStore) -> bool {
+    let mut numbers = FileNumbers { next: 1 << 62 };
+    let flushed = flushes(alloc, store, &mut numbers);
+    matches!(flushed, Err(FlushError::Before(DbError::NumbersSpent)))
+        && does(alloc, store, Step::Names(""))
 }
 
 #[test]
-fn no_flush_draws_a_number_beyond_the_last(rt: HostRuntime) -> Result<(), Fail> {
-    let mut store = MemStore::new(rt.alloc());
-    let mut numbers = FileNumbers { next: 1 << 62 };
-    assert!(rt;
-        matches!(
-            flushes(rt.alloc(), &mut store, &mut numbers),
-            Err(FlushError::Before(DbError::NumbersSpent))
-        )
-    );
-    assert!(rt; matches!(perform(rt.alloc(), &mut store, Step::Names("")), Ok(true)));
-    Ok(())
+fn no_flush_draws_a_number_beyond_the_last(rt: HostRuntime) {
+    assert!(rt; flushes_none(rt.alloc(), &mut MemStore::new(rt.alloc())));
 }
 
 // ---- removal
@@ -372,13 +344,12 @@ fn leaves(alloc: Global, case: &Case) -> Result<bool, StoreError> {
         remove_files(alloc, &mut store, &numbers, &Tables(case.tables)),
         Ok(removal) if is_whole(&removal, case.unused)
     );
-    Ok(removed && matches!(perform(alloc, &mut store, Step::Names(case.left)), Ok(true)))
+    Ok(removed && does(alloc, &mut store, Step::Names(case.left)))
 }
 
 #[test]
-fn live_files_are_left(rt: HostRuntime) -> Result<(), Fail> {
+fn live_files_are_left(rt: HostRuntime) {
     for case in CASES {
-        assert!(rt; leaves(rt.alloc(), case)?);
+        assert_eq!(rt; leaves(rt.alloc(), case), Ok(true));
     }
-    Ok(())
 }

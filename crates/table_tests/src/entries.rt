@@ -6,14 +6,21 @@ use std::alloc::Global;
 use store::Store;
 use table::{KeyValue, Table, TableBuilder};
 
-/// A target, and how many entries stand before the one that is found.
-#[derive(Drop)]
-pub struct Seek {
-    pub target: Bytes,
-    pub place: usize,
+/// An entry: a user key, a sequence number, a kind and a value.
+pub type Row = (&'static [u8], u64, Kind, &'static [u8]);
+
+/// A user key and a sequence, and how many entries stand before the newest of the key up to the sequence.
+pub type Seek = (&'static [u8], u64, usize);
+
+/// An internal key. A sequence past the largest is the test's fault, and no line.
+pub fn key(alloc: Global, user: &[u8], sequence: u64, kind: Kind) -> Result<Bytes, DbError> {
+    if sequence >= SEQUENCE_END {
+        return Err(DbError::BadLine);
+    }
+    Ok(Bytes::from_vec(pack(alloc, user, sequence, kind)?))
 }
 
-/// An entry. A sequence past the largest is the test's fault, and no line.
+/// An entry with its internal key.
 pub fn entry(
     alloc: Global,
     user: &[u8],
@@ -27,18 +34,12 @@ pub fn entry(
     })
 }
 
-/// An internal key.
-pub fn key(alloc: Global, user: &[u8], sequence: u64, kind: Kind) -> Result<Bytes, DbError> {
-    if sequence >= SEQUENCE_END {
-        return Err(DbError::BadLine);
+pub fn entries_of(alloc: Global, rows: &[Row]) -> Result<Vec<KeyValue>, DbError> {
+    let mut entries = Vec::new(alloc);
+    for (user, sequence, kind, value) in rows {
+        entries.push(entry(alloc, user, *sequence, *kind, value)?)?;
     }
-    Ok(Bytes::from_vec(pack(alloc, user, sequence, kind)?))
-}
-
-/// The newest of a user key up to a sequence, by its place.
-pub fn seek_of(alloc: Global, user: &[u8], sequence: u64, place: usize) -> Result<Seek, DbError> {
-    let target = key(alloc, user, sequence, Kind::Put)?;
-    Ok(Seek { target, place })
+    Ok(entries)
 }
 
 /// Adds an entry whose key is above the last one.
@@ -53,14 +54,15 @@ pub fn add<K: KeyOrder, S: Store>(
     builder.add(store, entry.key.as_slice(), entry.value.as_slice())
 }
 
-/// Writes the table of entries, of which there is at least one, and answers its length.
+/// Writes the table of entries into the file of this name, and answers its length. There is at least one entry.
 pub fn write<K: KeyOrder, S: Store>(
     alloc: Global,
     store: &mut S,
+    name: &str,
     block_bytes: usize,
     entries: &[KeyValue],
 ) -> Result<u64, DbError> {
-    let mut builder = TableBuilder::<K>::new(alloc, NAME, block_bytes)?;
+    let mut builder = TableBuilder::<K>::new(alloc, name, block_bytes)?;
     for entry in entries {
         add::<K, S>(&mut builder, store, entry)?;
     }
@@ -75,7 +77,18 @@ fn is_same(a: &KeyValue, b: &KeyValue) -> bool {
 }
 
 fn are_same(a: &[KeyValue], b: &[KeyValue]) -> bool {
-    a.len() == b.len() && a.iter().zip(b).all(|(a, b)| is_same(a, b))
+    for (a, b) in a.iter().zip(b) {
+        if !is_same(a, b) {
+            return false;
+        }
+    }
+    a.len() == b.len()
+}
+
+/// Whether these are the entries.
+pub fn is_listed(alloc: Global, found: &[KeyValue], rows: &[Row]) -> Result<bool, DbError> {
+    let wanted = entries_of(alloc, rows)?;
+    Ok(are_same(found, &wanted))
 }
 
 fn is_found(found: &Option<KeyValue>, wanted: Option<&KeyValue>) -> bool {
@@ -86,7 +99,21 @@ fn is_found(found: &Option<KeyValue>, wanted: Option<&KeyValue>) -> bool {
     }
 }
 
-fn finds<K: KeyOrder, S: Store>(
+/// Whether a seek of the newest version of a key up to a sequence finds the entry of this place.
+pub fn finds<K: KeyOrder, S: Store>(
+    alloc: Global,
+    table: &Table<K>,
+    store: &mut S,
+    entries: &[KeyValue],
+    seek: (&[u8], u64, usize),
+) -> Result<bool, DbError> {
+    let (user, sequence, place) = seek;
+    let target = key(alloc, user, sequence, Kind::Put)?;
+    let found = table.seek(alloc, store, target.as_slice())?;
+    Ok(is_found(&found, entries.get(place)))
+}
+
+fn finds_all<K: KeyOrder, S: Store>(
     alloc: Global,
     table: &Table<K>,
     store: &mut S,
@@ -94,23 +121,24 @@ fn finds<K: KeyOrder, S: Store>(
     seeks: &[Seek],
 ) -> Result<bool, DbError> {
     for seek in seeks {
-        let found = table.seek(alloc, store, seek.target.as_slice())?;
-        if !is_found(&found, entries.get(seek.place)) {
+        if !finds::<K, S>(alloc, table, store, entries, *seek)? {
             return Ok(false);
         }
     }
     Ok(true)
 }
 
-fn lists<K: KeyOrder, S: Store>(
+/// Whether the table has these entries, as they are listed and as they are checked.
+pub fn lists<K: KeyOrder, S: Store>(
     alloc: Global,
     table: &Table<K>,
     store: &mut S,
     entries: &[KeyValue],
 ) -> Result<bool, DbError> {
-    let checked = table.check_entries(alloc, store)?;
-    let found = table.entries(alloc, store)?;
-    Ok(are_same(&found, entries) && are_same(&checked, entries))
+    Ok(
+        are_same(&table.check_entries(alloc, store)?, entries)
+            && are_same(&table.entries(alloc, store)?, entries),
+    )
 }
 
 /// Whether the table in the store has these entries, and each seek finds its own.
@@ -121,8 +149,8 @@ pub fn reads_as<K: KeyOrder, S: Store>(
     seeks: &[Seek],
 ) -> Result<bool, DbError> {
     let table = Table::<K>::open(alloc, store, NAME)?;
-    if !lists::<K, S>(alloc, &table, store, entries)? {
-        return Ok(false);
-    }
-    finds::<K, S>(alloc, &table, store, entries, seeks)
+    Ok(
+        lists::<K, S>(alloc, &table, store, entries)?
+            && finds_all::<K, S>(alloc, &table, store, entries, seeks)?,
+    )
 }

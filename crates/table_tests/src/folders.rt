@@ -1,9 +1,8 @@
 // What a store over a folder of the system does.
-use crate::stores::{CALLS, Step, assert_missing, assert_reads, assert_steps, perform};
-use std::alloc::{AllocError, AllocGlobal, Global};
+use crate::stores::{CALLS, Row, Step, first_wrong, perform};
+use std::alloc::{AllocError, Global};
 use std::os::unix::fs::PermissionsExt;
-use std::process::Abort;
-use std::test::Fail;
+use std::test::*;
 use std::{env, fs, process};
 use store::{FileStore, Store, StoreError};
 
@@ -20,133 +19,122 @@ fn fresh_folder(rt: &HostRuntime, test: &str) -> Result<String, Fail> {
 }
 
 // The path of a name in a folder.
-fn within(rt: &HostRuntime, folder: &str, name: &str) -> Result<String, Fail> {
-    Ok(format!(in rt.alloc(); "{folder}/{name}")?)
+fn within(rt: &HostRuntime, folder: &str, name: &str) -> Result<String, AllocError> {
+    format!(in rt.alloc(); "{folder}/{name}")
 }
+
+// The first step of a store over the folder that answers otherwise, by its place.
+fn first_wrong_in(
+    rt: &HostRuntime,
+    folder: &str,
+    rows: &[Row],
+) -> Result<Option<usize>, StoreError> {
+    let mut store = FileStore::open(rt, folder)?;
+    Ok(first_wrong(rt.alloc(), &mut store, rows))
+}
+
+// Names that no file has, or can have.
+const NOT_THERE: &[Row] = &[
+    (Step::Create("there"), Ok(true)),
+    (Step::Append("there", b"kept"), Ok(true)),
+    (Step::Misses(""), Ok(true)),
+    (Step::Holds("there", b"kept"), Ok(true)),
+    (Step::Names("there;"), Ok(true)),
+    (Step::Misses("."), Ok(true)),
+    (Step::Holds("there", b"kept"), Ok(true)),
+    (Step::Names("there;"), Ok(true)),
+    (Step::Misses(".."), Ok(true)),
+    (Step::Holds("there", b"kept"), Ok(true)),
+    (Step::Names("there;"), Ok(true)),
+    (Step::Misses("a/b"), Ok(true)),
+    (Step::Holds("there", b"kept"), Ok(true)),
+    (Step::Names("there;"), Ok(true)),
+    (Step::Misses("../there"), Ok(true)),
+    (Step::Holds("there", b"kept"), Ok(true)),
+    (Step::Names("there;"), Ok(true)),
+    (Step::Misses("nul\0nul"), Ok(true)),
+    (Step::Holds("there", b"kept"), Ok(true)),
+    (Step::Names("there;"), Ok(true)),
+    (Step::Remove("there"), Ok(true)),
+];
 
 #[test]
 fn a_folder_keeps_what_was_written(rt: HostRuntime) -> Result<(), Fail> {
     let folder = fresh_folder(&rt, "keeps")?;
-    let mut store = FileStore::open(&rt, folder.as_str())?;
-    assert_steps(&rt, &mut store, CALLS);
-    for name in ["missing", "", ".", "..", "a/b", "../there", "nul\0nul"] {
-        assert_missing(&rt, &mut store, name);
+    for rows in [CALLS, NOT_THERE, NAMED] {
+        assert_eq!(rt; first_wrong_in(&rt, folder.as_str(), rows), Ok(None));
     }
-    assert_reads(&rt, &mut store)?;
     fs::remove_dir_all(&rt, folder.as_str())?;
     Ok(())
 }
 
-#[test]
-fn names_are_any_text_that_a_file_can_have(rt: HostRuntime) -> Result<(), Fail> {
-    let folder = fresh_folder(&rt, "names")?;
-    let mut store = FileStore::open(&rt, folder.as_str())?;
-    for name in [
-        " ",
-        "a b",
-        "-rf",
-        ".hidden",
-        "*?[",
-        "'\"\\",
-        "line\nend",
-        "größe",
-        "日本",
-    ] {
-        let mut joined = String::from_str(rt.alloc(), name)?;
-        joined.push(';')?;
-        let steps = [
-            (Step::Create(name), Ok(true)),
-            (Step::Append(name, name.as_bytes()), Ok(true)),
-            (Step::Holds(name, name.as_bytes()), Ok(true)),
-            (Step::Names(joined.as_str()), Ok(true)),
-            (Step::Remove(name), Ok(true)),
-        ];
-        assert_steps(&rt, &mut store, steps.as_slice());
-    }
-    let long = "x".repeat(rt.alloc(), 256)?;
-    let steps = [
-        (Step::Create(long.as_str()), Err(StoreError::Device)),
-        (Step::Names(""), Ok(true)),
-    ];
-    assert_steps(&rt, &mut store, steps.as_slice());
-    fs::remove_dir_all(&rt, folder.as_str())?;
-    Ok(())
-}
+// A name of 256 bytes.
+const LONG: &str =
+    "xxxxxxxxxxxxxxxxxxxxxxxxxxxxxxxxxxxxxxxxxxxxxxxxxxxxxxxxxxxxxxxxxxxxxxxxxxxxxxxxxxxxxxxxxxxxxxxxxxxxxxxxxxxxxxxxxxxxxxxxxxxxxxxxxxxxxxxxxxxxxxxxxxxxxxxxxxxxxxxxxxxxxxxxxxxxxxxxxxxxxxxxxxxxxxxxxxxxxxxxxxxxxxxxxxxxxxxxxxxxxxxxxxxxxxxxxxxxxxxxxxxxxxxxxxxxxxxx";
 
-const WRITTEN: &[(Step<'static>, Result<bool, StoreError>)] = &[
-    (Step::Create("000003.log"), Ok(true)),
-    (Step::Append("000003.log", b"first"), Ok(true)),
+// Names are any text that a file can have.
+const NAMED: &[Row] = &[
+    (Step::Create(" "), Ok(true)),
+    (Step::Append(" ", b" "), Ok(true)),
+    (Step::Holds(" ", b" "), Ok(true)),
+    (Step::Names(" ;"), Ok(true)),
+    (Step::Remove(" "), Ok(true)),
+    (Step::Create("a b"), Ok(true)),
+    (Step::Append("a b", b"a b"), Ok(true)),
+    (Step::Holds("a b", b"a b"), Ok(true)),
+    (Step::Names("a b;"), Ok(true)),
+    (Step::Remove("a b"), Ok(true)),
+    (Step::Create("-rf"), Ok(true)),
+    (Step::Append("-rf", b"-rf"), Ok(true)),
+    (Step::Holds("-rf", b"-rf"), Ok(true)),
+    (Step::Names("-rf;"), Ok(true)),
+    (Step::Remove("-rf"), Ok(true)),
+    (Step::Create(".hidden"), Ok(true)),
+    (Step::Append(".hidden", b".hidden"), Ok(true)),
+    (Step::Holds(".hidden", b".hidden"), Ok(true)),
+    (Step::Names(".hidden;"), Ok(true)),
+    (Step::Remove(".hidden"), Ok(true)),
+    (Step::Create("*?["), Ok(true)),
+    (Step::Append("*?[", b"*?["), Ok(true)),
+    (Step::Holds("*?[", b"*?["), Ok(true)),
+    (Step::Names("*?[;"), Ok(true)),
+    (Step::Remove("*?["), Ok(true)),
+    (Step::Create("'\"\\"), Ok(true)),
+    (Step::Append("'\"\\", b"'\"\\"), Ok(true)),
+    (Step::Holds("'\"\\", b"'\"\\"), Ok(true)),
+    (Step::Names("'\"\\;"), Ok(true)),
+    (Step::Remove("'\"\\"), Ok(true)),
+    (Step::Create("line\nend"), Ok(true)),
+    (Step::Append("line\nend", b"line\nend"), Ok(true)),
+    (Step::Holds("line\nend", b"line\nend"), Ok(true)),
+    (Step::Names("line\nend;"), Ok(true)),
+    (Step::Remove("line\nend"), Ok(true)),
+    (Step::Create("größe"), Ok(true)),
+    (Step::Append("größe", b"gr\xc3\xb6\xc3\x9fe"), Ok(true)),
+    (Step::Holds("größe", b"gr\xc3\xb6\xc3\x9fe"), Ok(true)),
+    (Step::Names("größe;"), Ok(true)),
+    (Step::Remove("größe"), Ok(true)),
+    (Step::Create("日本"), Ok(true)),
+    (Step::Append("日本", b"\xe6\x97\xa5\xe6\x9c\xac"), Ok(true)),
+    (Step::Holds("日本", b"\xe6\x97\xa5\xe6\x9c\xac"), Ok(true)),
+    (Step::Names("日本;"), Ok(true)),
+    (Step::Remove("日本"), Ok(true)),
+    (Step::Create(LONG), Err(StoreError::Device)),
+    (Step::Names(""), Ok(true)),
 ];
 
-const GONE_ON: &[(Step<'static>, Result<bool, StoreError>)] = &[
-    (Step::Holds("000003.log", b"first"), Ok(true)),
-    (Step::Append("000003.log", b", second"), Ok(true)),
-    (Step::Rename("000003.log", "000004.log"), Ok(true)),
-    (Step::Append("000004.log", b", third"), Ok(true)),
-];
+// ---- two stores over one folder
 
-#[test]
-fn another_store_reads_the_files_and_goes_on(rt: HostRuntime) -> Result<(), Fail> {
-    let folder = fresh_folder(&rt, "another")?;
-    let mut store = FileStore::open(&rt, folder.as_str())?;
-    assert_steps(&rt, &mut store, WRITTEN);
-    let mut other = FileStore::open(&rt, folder.as_str())?;
-    assert_steps(&rt, &mut other, GONE_ON);
-    let path = within(&rt, folder.as_str(), "000004.log")?;
-    let text = fs::read_to_string(&rt, path.as_str())?;
-    assert_eq!(rt; text.as_str(), "first, second, third");
-    fs::remove_dir_all(&rt, folder.as_str())?;
-    Ok(())
-}
+// Whether it is a step of the second one, the step, and what it answers.
+type Turn = (bool, Step<'static>, Result<bool, StoreError>);
 
-#[test]
-fn only_plain_files_are_listed(rt: HostRuntime) -> Result<(), Fail> {
-    let folder = fresh_folder(&rt, "plain")?;
-    let inner = within(&rt, folder.as_str(), "inner")?;
-    fs::create_dir(&rt, inner.as_str())?;
-    let mut store = FileStore::open(&rt, folder.as_str())?;
-    assert_missing(&rt, &mut store, "inner");
-    let steps = [
-        (Step::Create("inner"), Err(StoreError::Device)),
-        (Step::Create("000005.ldb"), Ok(true)),
-        (Step::Rename("000005.ldb", "inner"), Err(StoreError::Device)),
-        (Step::Names("000005.ldb;"), Ok(true)),
-    ];
-    assert_steps(&rt, &mut store, steps.as_slice());
-    assert!(rt; fs::metadata(&rt, inner.as_str())?.is_dir());
-    fs::remove_dir_all(&rt, folder.as_str())?;
-    Ok(())
-}
-
-#[test]
-fn only_a_folder_is_opened(rt: HostRuntime) -> Result<(), Fail> {
-    let folder = fresh_folder(&rt, "opened")?;
-    let missing = within(&rt, folder.as_str(), "missing")?;
-    let opened = FileStore::open(&rt, missing.as_str());
-    assert_eq!(rt; opened.err(), Some(StoreError::Missing));
-
-    let file = within(&rt, folder.as_str(), "file")?;
-    fs::write(&rt, file.as_str(), "a file in its place")?;
-    let opened = FileStore::open(&rt, file.as_str());
-    assert_eq!(rt; opened.err(), Some(StoreError::Device));
-    let below = within(&rt, file.as_str(), "below")?;
-    let opened = FileStore::open(&rt, below.as_str());
-    assert_eq!(rt; opened.err(), Some(StoreError::Device));
-
-    // The superuser opens a folder without permissions all the same.
-    let closed = within(&rt, folder.as_str(), "closed")?;
-    fs::create_dir(&rt, closed.as_str())?;
-    fs::set_permissions(&rt, closed.as_str(), fs::Permissions::from_mode(0))?;
-    let is_refused = fs::open(&rt, closed.as_str()).is_err();
-    let opened = FileStore::open(&rt, closed.as_str());
-    assert_eq!(rt; opened.err(), is_refused.then_some(StoreError::Device));
-    fs::set_permissions(&rt, closed.as_str(), fs::Permissions::from_mode(0o700))?;
-    fs::remove_dir_all(&rt, folder.as_str())?;
-    Ok(())
-}
-
-// Steps of a store, or of another one over its folder.
-const LOCKED: &[(bool, Step<'static>, Result<bool, StoreError>)] = &[
+const GONE_ON: &[Turn] = &[
+    (false, Step::Create("000003.log"), Ok(true)),
+    (false, Step::Append("000003.log", b"first"), Ok(true)),
+    (true, Step::Holds("000003.log", b"first"), Ok(true)),
+    (true, Step::Append("000003.log", b", second"), Ok(true)),
+    (true, Step::Rename("000003.log", "000004.log"), Ok(true)),
+    (true, Step::Append("000004.log", b", third"), Ok(true)),
     (false, Step::Lock, Ok(true)),
     (true, Step::Lock, Ok(false)),
     // a read of LOCK doesn't free it
@@ -158,35 +146,144 @@ const LOCKED: &[(bool, Step<'static>, Result<bool, StoreError>)] = &[
 ];
 
 // A store that is gone holds no lock.
-const ALONE: &[(Step<'static>, Result<bool, StoreError>)] = &[
+const ALONE: &[Row] = &[
     (Step::Lock, Ok(true)),
     (Step::Unlock, Ok(true)),
     (Step::Remove("LOCK"), Ok(true)),
 ];
 
-fn assert_locked(rt: &(impl Abort + AllocGlobal), store: &mut FileStore, other: &mut FileStore) {
-    for (is_other, step, wanted) in LOCKED {
+// The first turn that answers otherwise, by its place.
+fn first_wrong_turn(alloc: Global, store: &mut FileStore, other: &mut FileStore) -> Option<usize> {
+    for (place, (is_other, step, wanted)) in GONE_ON.iter().enumerate() {
         let turn = if *is_other { &mut *other } else { &mut *store };
-        let answered = perform(rt.alloc(), turn, *step);
-        assert_eq!(rt; answered, *wanted, "{step:?}");
+        if perform(alloc, turn, *step) != *wanted {
+            return Some(place);
+        }
     }
+    None
+}
+
+// The same of another store over the folder of this one.
+fn first_wrong_beside(
+    rt: &HostRuntime,
+    folder: &str,
+    store: &mut FileStore,
+) -> Result<Option<usize>, StoreError> {
+    let mut other = FileStore::open(rt, folder)?;
+    Ok(first_wrong_turn(rt.alloc(), store, &mut other))
+}
+
+// Whether two stores take their turns, and the first one goes on behind them.
+fn take_turns(rt: &HostRuntime, folder: &str) -> Result<bool, StoreError> {
+    let mut store = FileStore::open(rt, folder)?;
+    let beside = first_wrong_beside(rt, folder, &mut store)?;
+    Ok(beside.is_none() && first_wrong(rt.alloc(), &mut store, ALONE).is_none())
+}
+
+fn has_text(rt: &HostRuntime, folder: &str, name: &str, text: &str) -> Result<bool, Fail> {
+    let path = within(rt, folder, name)?;
+    Ok(fs::read_to_string(rt, path.as_str())?.as_str() == text)
 }
 
 #[test]
-fn the_lock_is_denied_to_another_store(rt: HostRuntime) -> Result<(), Fail> {
-    let folder = fresh_folder(&rt, "lock")?;
-    let mut store = FileStore::open(&rt, folder.as_str())?;
-    let mut other = FileStore::open(&rt, folder.as_str())?;
-    assert_locked(&rt, &mut store, &mut other);
-    drop(other);
-    assert_steps(&rt, &mut store, ALONE);
-    // A folder has the lock's name.
-    let in_the_way = within(&rt, folder.as_str(), "LOCK")?;
-    fs::create_dir(&rt, in_the_way.as_str())?;
-    assert_steps(&rt, &mut store, &[(Step::Lock, Err(StoreError::Device))]);
+fn another_store_reads_the_files_and_goes_on(rt: HostRuntime) -> Result<(), Fail> {
+    let folder = fresh_folder(&rt, "another")?;
+    assert_eq!(rt; take_turns(&rt, folder.as_str()), Ok(true));
+    assert!(rt; has_text(&rt, folder.as_str(), "000004.log", "first, second, third")?);
     fs::remove_dir_all(&rt, folder.as_str())?;
     Ok(())
 }
+
+// ---- folders within a folder
+
+// Only plain files are listed, and a folder that has the lock's name is in its way.
+const PLAIN: &[Row] = &[
+    (Step::Create("there"), Ok(true)),
+    (Step::Append("there", b"kept"), Ok(true)),
+    (Step::Misses("inner"), Ok(true)),
+    (Step::Holds("there", b"kept"), Ok(true)),
+    (Step::Names("there;"), Ok(true)),
+    (Step::Remove("there"), Ok(true)),
+    (Step::Create("inner"), Err(StoreError::Device)),
+    (Step::Create("000005.ldb"), Ok(true)),
+    (Step::Rename("000005.ldb", "inner"), Err(StoreError::Device)),
+    (Step::Lock, Err(StoreError::Device)),
+    (Step::Names("000005.ldb;"), Ok(true)),
+];
+
+fn make_folder(rt: &HostRuntime, folder: &str, name: &str) -> Result<(), Fail> {
+    let path = within(rt, folder, name)?;
+    fs::create_dir(rt, path.as_str())?;
+    Ok(())
+}
+
+fn is_folder(rt: &HostRuntime, folder: &str, name: &str) -> Result<bool, Fail> {
+    let path = within(rt, folder, name)?;
+    Ok(fs::metadata(rt, path.as_str())?.is_dir())
+}
+
+#[test]
+fn only_plain_files_are_listed(rt: HostRuntime) -> Result<(), Fail> {
+    let folder = fresh_folder(&rt, "plain")?;
+    make_folder(&rt, folder.as_str(), "inner")?;
+    make_folder(&rt, folder.as_str(), "LOCK")?;
+    assert_eq!(rt; first_wrong_in(&rt, folder.as_str(), PLAIN), Ok(None));
+    assert!(rt; is_folder(&rt, folder.as_str(), "inner")?);
+    fs::remove_dir_all(&rt, folder.as_str())?;
+    Ok(())
+}
+
+// ---- what isn't a folder
+
+// How the opening of a path within the folder is refused.
+fn refusal(rt: &HostRuntime, folder: &str, name: &str) -> Result<Option<StoreError>, AllocError> {
+    let path = within(rt, folder, name)?;
+    Ok(FileStore::open(rt, path.as_str()).err())
+}
+
+const NO_FOLDERS: [(&str, StoreError); 3] = [
+    ("missing", StoreError::Missing),
+    ("file", StoreError::Device),
+    ("file/below", StoreError::Device),
+];
+
+fn make_file(rt: &HostRuntime, folder: &str) -> Result<(), Fail> {
+    let path = within(rt, folder, "file")?;
+    fs::write(rt, path.as_str(), "a file in its place")?;
+    Ok(())
+}
+
+fn permit(rt: &HostRuntime, path: &str, mode: u32) -> Result<(), Fail> {
+    fs::set_permissions(rt, path, fs::Permissions::from_mode(mode))?;
+    Ok(())
+}
+
+// Whether a folder without permissions is refused. The superuser opens it all the same.
+fn is_closed(rt: &HostRuntime, folder: &str) -> Result<bool, Fail> {
+    let path = within(rt, folder, "closed")?;
+    permit(rt, path.as_str(), 0)?;
+    let wanted = fs::open(rt, path.as_str())
+        .is_err()
+        .then_some(StoreError::Device);
+    let is_so = refusal(rt, folder, "closed")? == wanted;
+    permit(rt, path.as_str(), 0o700)?;
+    Ok(is_so)
+}
+
+#[test]
+fn only_a_folder_is_opened(rt: HostRuntime) -> Result<(), Fail> {
+    let folder = fresh_folder(&rt, "opened")?;
+    make_file(&rt, folder.as_str())?;
+    make_folder(&rt, folder.as_str(), "closed")?;
+    for (name, wanted) in NO_FOLDERS {
+        assert_eq!(rt; refusal(&rt, folder.as_str(), name), Ok(Some(wanted)));
+    }
+    assert!(rt; is_closed(&rt, folder.as_str())?);
+    fs::remove_dir_all(&rt, folder.as_str())?;
+    Ok(())
+}
+
+// ---- many files
 
 // More files than are kept open at once.
 const MANY: u32 = 1_100;
@@ -208,45 +305,66 @@ fn open_descriptors(rt: &HostRuntime) -> Result<usize, Fail> {
     Ok(count)
 }
 
-// Makes each file, with its number's text in it.
-fn make_many(alloc: Global, store: &mut FileStore) -> Result<(), Fail> {
+// Makes the file of a number, with its name as its text.
+fn make(alloc: Global, store: &mut FileStore, number: u32) -> Result<(), StoreError> {
+    let name = name_of(alloc, number)?;
+    store.create(name.as_str())?;
+    store.append(name.as_str(), name.as_str().as_bytes())
+}
+
+fn make_many(alloc: Global, store: &mut FileStore) -> Result<(), StoreError> {
     for number in 0..MANY {
-        let name = name_of(alloc, number)?;
-        store.create(name.as_str())?;
-        store.append(name.as_str(), name.as_str().as_bytes())?;
+        make(alloc, store, number)?;
     }
     Ok(())
 }
 
-// Whether each file is read as it was made.
-fn are_many(alloc: Global, store: &mut FileStore) -> Result<bool, Fail> {
-    for number in 0..MANY {
-        let name = name_of(alloc, number)?;
-        let read = store.read_at(alloc, name.as_str(), 0, 100)?;
-        if read.as_slice() != name.as_str().as_bytes() {
-            return Ok(false);
-        }
-    }
-    Ok(true)
+// Whether a file is read as it was made.
+fn is_made(alloc: Global, store: &mut FileStore, number: u32) -> Result<bool, StoreError> {
+    let name = name_of(alloc, number)?;
+    perform(
+        alloc,
+        store,
+        Step::Reads(name.as_str(), 0, 100, name.as_str().as_bytes()),
+    )
 }
 
-// Each is read twice, rising: so each is opened again, however many of the others stay open.
+fn are_made(alloc: Global, store: &mut FileStore) -> bool {
+    for number in 0..MANY {
+        if is_made(alloc, store, number) != Ok(true) {
+            return false;
+        }
+    }
+    true
+}
+
+// Behind the name of each of some files.
+const APPENDED: &[Row] = &[
+    (Step::Append("000000.ldb", b"+"), Ok(true)),
+    (Step::Reads("000000.ldb", 10, 100, b"+"), Ok(true)),
+    (Step::Append("000299.ldb", b"+"), Ok(true)),
+    (Step::Reads("000299.ldb", 10, 100, b"+"), Ok(true)),
+    (Step::Append("001099.ldb", b"+"), Ok(true)),
+    (Step::Reads("001099.ldb", 10, 100, b"+"), Ok(true)),
+];
+
+// How many more descriptors are open, once many files were made and each was read twice, rising: so each is opened again,
+// however many of the others stay open. None where one isn't read as it was written.
+fn kept_open(rt: &HostRuntime, folder: &str) -> Result<Option<usize>, Fail> {
+    let before = open_descriptors(rt)?;
+    let mut store = FileStore::open(rt, folder)?;
+    make_many(rt.alloc(), &mut store)?;
+    let are_read = are_made(rt.alloc(), &mut store) && are_made(rt.alloc(), &mut store);
+    let kept = open_descriptors(rt)?.saturating_sub(before);
+    let is_so = are_read && first_wrong(rt.alloc(), &mut store, APPENDED).is_none();
+    Ok(is_so.then_some(kept))
+}
+
 #[test]
 fn many_files_stay_readable_and_few_stay_open(rt: HostRuntime) -> Result<(), Fail> {
-    let alloc = rt.alloc();
     let folder = fresh_folder(&rt, "many")?;
-    let before = open_descriptors(&rt)?;
-    let mut store = FileStore::open(&rt, folder.as_str())?;
-    make_many(alloc, &mut store)?;
-    assert!(rt; are_many(alloc, &mut store)?);
-    assert!(rt; are_many(alloc, &mut store)?);
-    let kept = open_descriptors(&rt)?.saturating_sub(before);
-    assert_eq!(rt; kept, KEPT_OPEN + 1, "with the folder's own");
-    for name in ["000000.ldb", "000299.ldb", "001099.ldb"] {
-        store.append(name, b"+")?;
-        let read = store.read_at(alloc, name, 10, 100)?;
-        assert_eq!(rt; read.as_slice(), b"+".as_slice(), "{name}");
-    }
+    let kept = kept_open(&rt, folder.as_str())?;
+    assert_eq!(rt; kept, Some(KEPT_OPEN + 1), "with the folder's own");
     fs::remove_dir_all(&rt, folder.as_str())?;
     Ok(())
 }

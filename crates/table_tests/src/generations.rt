@@ -2,6 +2,7 @@
 
 ghost use Rattle.std.specs.Prelude.{◌≡◌, IfOk};
 
+use crate::written::is_value;
 use batch::Operation;
 use coding::{Bytes, Damage, DbError, FileKind};
 use cursor::Cursor;
@@ -55,6 +56,7 @@ const SECOND_PAIRS: [Pair; 2] = [
 ];
 
 // It reads the table of one generation.
+#[derive(Drop)]
 struct Reader {
     generation: u64,
 }
@@ -99,49 +101,17 @@ fn seal(memories: &mut MemoryTables<Bytewise>, alloc: Global) -> Result<(), Allo
     Ok(())
 }
 
-// The first batch in the sealed table, and the second one in the current one.
-fn two_tables(alloc: Global) -> Result<MemoryTables<Bytewise>, AllocError> {
-    let mut memories = MemoryTables::empty(alloc);
-    write(&mut memories, alloc, &FIRST)?;
-    seal(&mut memories, alloc)?;
-    write(&mut memories, alloc, &SECOND)?;
-    Ok(memories)
-}
-
-fn same_value(found: Option<Option<Bytes>>, wanted: Option<Option<&[u8]>>) -> bool {
-    match (found, wanted) {
-        (None, None) => true,
-        (Some(None), Some(None)) => true,
-        (Some(Some(value)), Some(Some(bytes))) => value.as_slice() == bytes,
-        _ => false,
-    }
-}
-
 fn finds(
     memories: &MemoryTables<Bytewise>,
     alloc: Global,
     wanted: &[Found],
 ) -> Result<bool, AllocError> {
     for (key, sequence, value) in wanted {
-        if !same_value(memories.value(alloc, key, u64::from(*sequence))?, *value) {
+        if !is_value(&memories.value(alloc, key, u64::from(*sequence))?, *value) {
             return Ok(false);
         }
     }
     Ok(true)
-}
-
-fn finds_in_both(alloc: Global) -> Result<bool, AllocError> {
-    let mut memories = two_tables(alloc)?;
-    if !finds(&memories, alloc, &WHILE_SEALED)? {
-        return Ok(false);
-    }
-    memories.flushed();
-    finds(&memories, alloc, &ONCE_FLUSHED)
-}
-
-#[test]
-fn a_value_is_sought_in_the_current_table_and_then_in_the_sealed_one(rt: HostRuntime) {
-    assert_eq!(rt; finds_in_both(rt.alloc()), Ok(true));
 }
 
 // Whether the pairs from the place on are these.
@@ -160,6 +130,35 @@ fn shows(
     Ok(!cursor.stands())
 }
 
+// The same from the first place, and from the one in front of the last.
+fn shows_from_its_ends(
+    cursor: &mut MemoriesCursor<Bytewise>,
+    alloc: Global,
+    memories: &mut MemoryTables<Bytewise>,
+    pairs: &[Pair; 2],
+) -> Result<bool, DbError> {
+    cursor.first(alloc, memories)?;
+    let is_shown = shows(cursor, alloc, memories, pairs)?;
+    cursor.last(alloc, memories)?;
+    if !cursor.stands() {
+        return Ok(false);
+    }
+    cursor.prev(alloc, memories)?;
+    Ok(is_shown && shows(cursor, alloc, memories, pairs)?)
+}
+
+// The same from the first entry of `a` on.
+fn shows_what_is_sought(
+    cursor: &mut MemoriesCursor<Bytewise>,
+    alloc: Global,
+    memories: &mut MemoryTables<Bytewise>,
+    pairs: &[Pair; 2],
+) -> Result<bool, DbError> {
+    let target = pack(alloc, b"a", 9, Kind::Put)?;
+    cursor.seek(alloc, memories, &target)?;
+    shows(cursor, alloc, memories, pairs)
+}
+
 // Whether a cursor over the table of a generation up to a sequence walks over these pairs, of which the second is of `b`.
 fn walks(
     memories: &mut MemoryTables<Bytewise>,
@@ -170,34 +169,10 @@ fn walks(
 ) -> Result<bool, DbError> {
     let mut cursor = MemoriesCursor::new(alloc, generation, u64::from(sequence));
     cursor.begins(memories);
-    cursor.first(alloc, memories)?;
-    if !shows(&mut cursor, alloc, memories, pairs)? {
-        return Ok(false);
-    }
-    cursor.last(alloc, memories)?;
-    if !cursor.stands() {
-        return Ok(false);
-    }
-    cursor.prev(alloc, memories)?;
-    if !shows(&mut cursor, alloc, memories, pairs)? {
-        return Ok(false);
-    }
-    let target = pack(alloc, b"a", 9, Kind::Put)?;
-    cursor.seek(alloc, memories, &target)?;
-    shows(&mut cursor, alloc, memories, pairs)
-}
-
-fn reads_each_table(alloc: Global) -> Result<bool, DbError> {
-    let mut memories = two_tables(alloc)?;
     Ok(
-        walks(&mut memories, alloc, 0, 2, &FIRST_PAIRS)?
-            && walks(&mut memories, alloc, 1, 5, &SECOND_PAIRS)?,
+        shows_from_its_ends(&mut cursor, alloc, memories, pairs)?
+            && shows_what_is_sought(&mut cursor, alloc, memories, pairs)?,
     )
-}
-
-#[test]
-fn a_cursor_reads_the_table_of_its_generation(rt: HostRuntime) {
-    assert_eq!(rt; reads_each_table(rt.alloc()), Ok(true));
 }
 
 fn is_missing(memories: &mut MemoryTables<Bytewise>, alloc: Global, generation: u64) -> bool {
@@ -208,28 +183,149 @@ fn is_missing(memories: &mut MemoryTables<Bytewise>, alloc: Global, generation: 
     )
 }
 
-// Whether the sealed table stays although nobody reads it, a flushed one stays for its reader, and then goes.
-fn drops_what_is_unused(alloc: Global) -> Result<bool, DbError> {
-    let mut memories = two_tables(alloc)?;
-    memories.drop_unused(&Reader { generation: 7 });
-    memories.forget(0);
-    if !walks(&mut memories, alloc, 0, 2, &FIRST_PAIRS)? {
-        return Ok(false);
-    }
-    memories.flushed();
-    seal(&mut memories, alloc)?;
-    memories.flushed();
-    memories.drop_unused(&Reader { generation: 0 });
-    if !walks(&mut memories, alloc, 0, 2, &FIRST_PAIRS)? || !is_missing(&mut memories, alloc, 1) {
-        return Ok(false);
-    }
-    memories.forget(0);
-    Ok(is_missing(&mut memories, alloc, 0) && !is_missing(&mut memories, alloc, 2))
+// Whether a cursor over the first pairs reads on through a seal that is taken back.
+fn reads_on(memories: &mut MemoryTables<Bytewise>, alloc: Global) -> Result<bool, DbError> {
+    let mut cursor = MemoriesCursor::new(alloc, 0, 2);
+    cursor.begins(memories);
+    cursor.first(alloc, memories)?;
+    seal(memories, alloc)?;
+    memories.unseal();
+    Ok(shows(&mut cursor, alloc, memories, &FIRST_PAIRS)? && memories.generation() == 0)
 }
+
+// The size of the current table, the last sequence, the generation of the current table, and that of the sealed one with how many
+// entries it has.
+type Counts = (usize, u64, u64, Option<(u64, usize)>);
+
+fn sealed_is(memories: &MemoryTables<Bytewise>, wanted: Option<(u64, usize)>) -> bool {
+    match (memories.sealed(), wanted) {
+        (None, None) => memories.sealed_generation().is_none(),
+        (Some(table), Some((generation, entries))) => table.len() == entries
+            && memories.sealed_generation() == Some(generation),
+        (Some(_), None) => false,
+        (None, Some(_)) => false,
+    }
+}
+
+fn counts(memories: &MemoryTables<Bytewise>, wanted: &Counts) -> bool {
+    let (size, last, generation, sealed) = *wanted;
+    memories.are_bounded();
+    memories.size() == size
+        && memories.is_empty() == (size == 0)
+        && memories.last() == last
+        && memories.generation() == generation
+        && sealed_is(memories, sealed)
+}
+
+// What is done to memory tables, or asked of them.
+#[derive(Clone, Copy)]
+enum Turn {
+    Write(&'static [Write]),
+    Seal,
+    Unseal,
+    Flushed,
+    // only the table of this generation is read from then on, of those that are kept for readers
+    Use(u64),
+    Forget(u64),
+    Finds(&'static [Found]),
+    // a cursor over the table of a generation up to a sequence walks over these pairs
+    Walks(u64, u32, &'static [Pair; 2]),
+    Misses(u64),
+    // not so
+    Has(u64),
+    Counts(Counts),
+    ReadsOn,
+}
+
+// What changes them.
+fn change(
+    memories: &mut MemoryTables<Bytewise>,
+    alloc: Global,
+    turn: Turn,
+) -> Result<(), AllocError> {
+    match turn {
+        Turn::Write(writes) => write(memories, alloc, writes)?,
+        Turn::Seal => seal(memories, alloc)?,
+        Turn::Unseal => memories.unseal(),
+        Turn::Flushed => memories.flushed(),
+        Turn::Use(generation) => memories.drop_unused(&Reader { generation }),
+        Turn::Forget(generation) => memories.forget(generation),
+        _ => {}
+    }
+    Ok(())
+}
+
+// Whether what is asked is so.
+fn is_so(
+    memories: &mut MemoryTables<Bytewise>,
+    alloc: Global,
+    turn: Turn,
+) -> Result<bool, DbError> {
+    match turn {
+        Turn::Finds(found) => Ok(finds(memories, alloc, found)?),
+        Turn::Walks(generation, sequence, pairs) => {
+            walks(memories, alloc, generation, sequence, pairs)
+        }
+        Turn::Misses(generation) => Ok(is_missing(memories, alloc, generation)),
+        Turn::Has(generation) => Ok(!is_missing(memories, alloc, generation)),
+        Turn::Counts(wanted) => Ok(counts(memories, &wanted)),
+        Turn::ReadsOn => reads_on(memories, alloc),
+        _ => Ok(true),
+    }
+}
+
+// The first turn of a script at which something isn't so, by its place.
+fn first_wrong(
+    memories: &mut MemoryTables<Bytewise>,
+    alloc: Global,
+    script: &[Turn],
+) -> Result<Option<usize>, DbError> {
+    for (place, turn) in script.iter().enumerate() {
+        change(memories, alloc, *turn)?;
+        if !is_so(memories, alloc, *turn)? {
+            return Ok(Some(place));
+        }
+    }
+    Ok(None)
+}
+
+fn wrong_from_empty(alloc: Global, script: &[Turn]) -> Result<Option<usize>, DbError> {
+    let mut memories = MemoryTables::empty(alloc);
+    first_wrong(&mut memories, alloc, script)
+}
+
+#[rattlefmt::skip]
+const SCRIPTS: [&[Turn]; 4] = [
+    // A value is sought in the current table and then in the sealed one.
+    &[
+        Turn::Write(&FIRST), Turn::Seal, Turn::Write(&SECOND), Turn::Finds(&WHILE_SEALED), Turn::Flushed, Turn::Finds(&ONCE_FLUSHED),
+    ],
+    // A cursor reads the table of its generation.
+    &[
+        Turn::Write(&FIRST), Turn::Seal, Turn::Write(&SECOND), Turn::Walks(0, 2, &FIRST_PAIRS), Turn::Walks(1, 5, &SECOND_PAIRS),
+    ],
+    // The sealed table stays although nobody reads it, a flushed one stays for its reader, and then goes.
+    &[
+        Turn::Write(&FIRST), Turn::Seal, Turn::Write(&SECOND), Turn::Use(7), Turn::Forget(0), Turn::Walks(0, 2, &FIRST_PAIRS),
+        Turn::Flushed, Turn::Seal, Turn::Flushed, Turn::Use(0), Turn::Walks(0, 2, &FIRST_PAIRS), Turn::Misses(1),
+        Turn::Forget(0), Turn::Misses(0), Turn::Has(2),
+    ],
+    // A seal is taken back, but not one behind which something is written.
+    &[
+        Turn::Write(&FIRST), Turn::ReadsOn, Turn::Seal, Turn::Write(&SECOND), Turn::Unseal, Turn::Finds(&WHILE_SEALED),
+    ],
+];
 
 #[test]
 fn tables_stay_while_they_are_sealed_or_read(rt: HostRuntime) {
-    assert_eq!(rt; drops_what_is_unused(rt.alloc()), Ok(true));
+    changes_are_kept::<Bytewise>();
+    for (number, script) in SCRIPTS.iter().enumerate() {
+        assert_eq!(rt;
+            wrong_from_empty(rt.alloc(), script),
+            Ok(None),
+            "script {number}"
+        );
+    }
 }
 
 fn entry(alloc: Global) -> Result<Entry, AllocError>
@@ -242,56 +338,18 @@ fn entry(alloc: Global) -> Result<Entry, AllocError>
     })
 }
 
-// Whether the current table, its size and the sealed one are what they are to be.
-fn counts(alloc: Global) -> Result<bool, AllocError> {
+// A table of one entry, which is sealed then and leaves an empty one.
+#[rattlefmt::skip]
+const OF_ONE: [Turn; 3] = [
+    Turn::Counts((16, 4, 0, None)), Turn::Seal, Turn::Counts((0, 4, 1, Some((0, 1)))),
+];
+
+fn wrong_from_one(alloc: Global) -> Result<Option<usize>, DbError> {
     let mut memories = MemoryTables::<Bytewise>::of(alloc, &[entry(alloc)?], 4)?;
-    let whole = memories.size() == 16 && !memories.is_empty() && memories.last() == 4;
-    let alone = memories.generation() == 0 && memories.sealed().is_none();
-    memories.are_bounded();
-    seal(&mut memories, alloc)?;
-    let emptied = memories.is_empty() && memories.size() == 0 && memories.last() == 4;
-    let sealed = match memories.sealed() {
-        None => false,
-        Some(table) => table.len() == 1,
-    };
-    let known = memories.generation() == 1 && memories.sealed_generation() == Some(0);
-    Ok(whole && alone && emptied && sealed && known)
+    first_wrong(&mut memories, alloc, &OF_ONE)
 }
 
 #[test]
 fn a_sealed_table_leaves_an_empty_one(rt: HostRuntime) {
-    assert_eq!(rt; counts(rt.alloc()), Ok(true));
-}
-
-// Whether a cursor reads on through a seal that is taken back.
-fn reads_on(memories: &mut MemoryTables<Bytewise>, alloc: Global) -> Result<bool, DbError> {
-    let mut cursor = MemoriesCursor::new(alloc, 0, 2);
-    cursor.begins(memories);
-    cursor.first(alloc, memories)?;
-    seal(memories, alloc)?;
-    memories.unseal();
-    shows(&mut cursor, alloc, memories, &FIRST_PAIRS)
-}
-
-// The same, and whether another seal stays, behind which something is written.
-fn takes_a_seal_back(alloc: Global) -> Result<bool, DbError> {
-    let mut memories = MemoryTables::empty(alloc);
-    write(&mut memories, alloc, &FIRST)?;
-    if !reads_on(&mut memories, alloc)? || memories.generation() != 0 {
-        return Ok(false);
-    }
-    seal(&mut memories, alloc)?;
-    write(&mut memories, alloc, &SECOND)?;
-    memories.unseal();
-    Ok(finds(&memories, alloc, &WHILE_SEALED)?)
-}
-
-#[test]
-fn a_seal_is_taken_back(rt: HostRuntime) {
-    assert_eq!(rt; takes_a_seal_back(rt.alloc()), Ok(true));
-}
-
-#[test]
-fn laws_hold(rt: HostRuntime) {
-    changes_are_kept::<Bytewise>();
+    assert_eq!(rt; wrong_from_one(rt.alloc()), Ok(None));
 }

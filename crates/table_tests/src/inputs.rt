@@ -1,96 +1,96 @@
 //! What a compaction reads.
 
-use crate::row_cursors::{Turn, empty_layout, placed, stands_on, step, write_table};
-use cache::{BlockCache, TableCache};
-use compact::HasStore;
-use cursor::{Cursor, Merge};
-use edits::Field;
-use ikey::Bytewise;
+use crate::layouts::{TableRow, version_of};
+use crate::walks::{Pair, Turn, first_elsewhere};
+use crate::written::{File, cached, counted};
+use coding::DbError;
+use cursor::Merge;
+use ikey::{Bytewise, Kind};
 use memories::MemoryTables;
 use scans::{
     SourceCursor, Sources, inputs_read_apart, merge_stays, merge_tables, moves_read_no_memory,
 };
-use sources::Tables;
 use std::alloc::Global;
-use std::num::NonZeroUsize;
 use std::rc::Rc;
 use std::test::*;
-use store::{FaultStore, MemStore};
+use store::FaultStore;
 use versions::Version;
 
-// The tables of a directory: their level, their number, the name of their file, and user keys, each put at the sequence 5.
-const TABLES: [(u32, u64, &str, [&[u8]; 2]); 4] = [
-    (0, 4, "000004.ldb", [b"a", b"e"]),
-    (0, 5, "000005.ldb", [b"b", b"f"]),
-    (1, 6, "000006.ldb", [b"c", b"d"]),
-    (1, 7, "000007.ldb", [b"g", b"h"]),
+const PUT: Kind = Kind::Put;
+
+// The tables of a directory.
+const FILES: [File; 4] = [
+    ("000004.ldb", &[(b"a", 5, PUT, b"a"), (b"e", 5, PUT, b"e")]),
+    ("000005.ldb", &[(b"b", 5, PUT, b"b"), (b"f", 5, PUT, b"f")]),
+    ("000006.ldb", &[(b"c", 5, PUT, b"c"), (b"d", 5, PUT, b"d")]),
+    ("000007.ldb", &[(b"g", 5, PUT, b"g"), (b"h", 5, PUT, b"h")]),
 ];
 
-const USERS: [&[u8]; 8] = [b"a", b"b", b"c", b"d", b"e", b"f", b"g", b"h"];
+// Where they stand.
+const PLACES: [TableRow; 4] = [
+    TableRow(0, 4, 1, b"a", 5, b"e", 5),
+    TableRow(0, 5, 1, b"b", 5, b"f", 5),
+    TableRow(1, 6, 1, b"c", 5, b"d", 5),
+    TableRow(1, 7, 1, b"g", 5, b"h", 5),
+];
 
-// A store with these tables.
-pub fn source_of(alloc: Global) -> Result<Sources<Bytewise, FaultStore>, Fail> {
-    let mut written = FaultStore::new(MemStore::new(alloc), Vec::new(alloc));
-    for (_, _, name, users) in TABLES {
-        write_table(alloc, &mut written, name, &users)?;
-    }
+/// A source that reads them, and has no memory.
+pub fn source_of(alloc: Global) -> Result<Sources<Bytewise, FaultStore>, DbError> {
     Ok(Sources {
-        tables: Tables {
-            store: FaultStore::new(written.into_inner(), Vec::new(alloc)),
-            tables: TableCache::new(alloc, NonZeroUsize::new(4).ok_or("a capacity")?)?,
-            blocks: BlockCache::new(alloc, NonZeroUsize::new(1).ok_or("a capacity")?)?,
-        },
+        tables: cached(alloc, counted(alloc, &FILES, 1)?, 4, 1)?,
         memory: MemoryTables::empty(alloc),
     })
 }
 
-// A version with them.
-pub fn version_of(alloc: Global) -> Result<Rc<Version<Bytewise>>, Fail> {
-    let mut edit = Vec::new(alloc);
-    for (level, number, _, users) in TABLES {
-        edit.push(Field::NewFile(placed(alloc, level, number, &users)?))?;
-    }
-    let layout = empty_layout(alloc)?;
-    let Ok(empty) = Version::<Bytewise>::new(alloc, &layout) else {
-        return Err("no version".into());
-    };
-    let Ok(version) = empty.after(alloc, &edit) else {
-        return Err("no version".into());
-    };
-    Ok(Rc::new(alloc, version)?)
+/// The version that has them.
+pub fn version_over(alloc: Global) -> Result<Rc<Version<Bytewise>>, DbError> {
+    Ok(Rc::new(alloc, version_of(alloc, &PLACES, None)?)?)
 }
 
-// A cursor over all of them. It has opened none.
-fn merge_of(
+// A cursor over all of them.
+fn merge_of(alloc: Global) -> Result<Merge<Bytewise, SourceCursor<Bytewise>>, DbError> {
+    let version = version_over(alloc)?;
+    Ok(merge_tables(alloc, &version)?)
+}
+
+// The keys and values of all, one after the other.
+const MERGED: [(Turn, Option<Pair>); 9] = [
+    (Turn::First, Some((b"a\x01\x05\0\0\0\0\0\0", b"a"))),
+    (Turn::Next, Some((b"b\x01\x05\0\0\0\0\0\0", b"b"))),
+    (Turn::Next, Some((b"c\x01\x05\0\0\0\0\0\0", b"c"))),
+    (Turn::Next, Some((b"d\x01\x05\0\0\0\0\0\0", b"d"))),
+    (Turn::Next, Some((b"e\x01\x05\0\0\0\0\0\0", b"e"))),
+    (Turn::Next, Some((b"f\x01\x05\0\0\0\0\0\0", b"f"))),
+    (Turn::Next, Some((b"g\x01\x05\0\0\0\0\0\0", b"g"))),
+    (Turn::Next, Some((b"h\x01\x05\0\0\0\0\0\0", b"h"))),
+    (Turn::Next, None),
+];
+
+// From nowhere there is no move on.
+const NOWHERE: [(Turn, Option<Pair>); 1] = [(Turn::Next, None)];
+
+// Whether the tables are merged, and none was opened before the first move.
+fn are_merged(
+    merge: &mut Merge<Bytewise, SourceCursor<Bytewise>>,
     alloc: Global,
     source: &mut Sources<Bytewise, FaultStore>,
-) -> Result<Merge<Bytewise, SourceCursor<Bytewise>>, Fail> {
-    let version = version_of(alloc)?;
-    let merge = merge_tables(alloc, &version)?;
-    if HasStore::<FaultStore>::store_mut(source).calls() != 0 {
-        return Err("a table was opened".into());
-    }
-    Ok(merge)
+) -> Result<bool, DbError> {
+    let is_nowhere = first_elsewhere(merge, alloc, source, &NOWHERE)?.is_none();
+    let is_unread = source.tables.store.calls() == 0;
+    let is_merged = first_elsewhere(merge, alloc, source, &MERGED)?.is_none();
+    Ok(is_nowhere && is_unread && is_merged)
 }
 
-fn stands<S, C: Cursor<Bytewise, S>>(cursor: &C, _source: &S) -> bool {
-    cursor.stands()
+fn merges_all(alloc: Global) -> Result<bool, DbError> {
+    let mut source = source_of(alloc)?;
+    let mut merge = merge_of(alloc)?;
+    are_merged(&mut merge, alloc, &mut source)
 }
 
 #[test]
-fn tables_of_all_levels_are_merged(rt: HostRuntime) -> Result<(), Fail> {
+fn tables_of_all_levels_are_merged(rt: HostRuntime) {
     merge_stays::<Bytewise>();
     moves_read_no_memory::<Bytewise, FaultStore>();
     inputs_read_apart::<Bytewise, FaultStore>();
-    let alloc = rt.alloc();
-    let mut source = source_of(alloc)?;
-    let mut merge = merge_of(alloc, &mut source)?;
-    assert!(rt; !stands(&merge, &source));
-    step(&mut merge, alloc, &mut source, Turn::First)?;
-    for user in USERS {
-        assert!(rt; stands_on(&merge, &source, user));
-        step(&mut merge, alloc, &mut source, Turn::Next)?;
-    }
-    assert!(rt; !stands(&merge, &source));
-    Ok(())
+    assert_eq!(rt; merges_all(rt.alloc()), Ok(true));
 }

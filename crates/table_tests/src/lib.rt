@@ -1,10 +1,14 @@
-//! Tests of stores, tables, memory tables, cursors, versions and caches.
+//! Tests of stores, tables, memory tables, cursors, versions, caches and compactions.
 #![tactic(auto)]
 
 #[cfg(test)]
 mod building;
 #[cfg(test)]
 mod caches;
+#[cfg(test)]
+mod choices;
+#[cfg(test)]
+mod compactions;
 #[cfg(test)]
 mod cursors;
 #[cfg(test)]
@@ -20,9 +24,13 @@ mod folders;
 #[cfg(test)]
 mod generations;
 #[cfg(test)]
+mod gets;
+#[cfg(test)]
 mod inputs;
 #[cfg(test)]
 mod job_steps;
+#[cfg(test)]
+mod layouts;
 #[cfg(test)]
 mod memory_cursors;
 #[cfg(test)]
@@ -32,6 +40,8 @@ mod reading;
 #[cfg(test)]
 mod row_cursors;
 #[cfg(test)]
+mod search_laws;
+#[cfg(test)]
 mod sizes;
 #[cfg(test)]
 mod stores;
@@ -39,3 +49,7 @@ mod stores;
 mod table_cursors;
 #[cfg(test)]
 mod version_sets;
+#[cfg(test)]
+mod walks;
+#[cfg(test)]
+mod written;

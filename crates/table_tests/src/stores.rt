@@ -1,11 +1,10 @@
 // What stores in memory do, by the calls of a database.
-use std::alloc::{AllocGlobal, Global};
-use std::process::Abort;
-use std::test::Fail;
+use std::alloc::Global;
+use std::test::*;
 use store::{Fault, FaultStore, MemStore, Store, StoreError};
 
 // A call of a store, or a look at its files that answers whether they are so.
-#[derive(Clone, Copy, Debug)]
+#[derive(Clone, Copy)]
 pub enum Step<'a> {
     Create(&'a str),
     Append(&'a str, &'a [u8]),
@@ -16,23 +15,54 @@ pub enum Step<'a> {
     Unlock,
     // a file has these bytes and no more
     Holds(&'a str, &'a [u8]),
+    // a read of a file, from the offset and of so many bytes, gives these
+    Reads(&'a str, u64, usize, &'a [u8]),
+    // no file has this name, as each call says
+    Misses(&'a str),
     // these are the names of all files, in order and each ended by a semicolon
     Names(&'a str),
 }
 
+/// A step, and what it answers.
+pub type Row = (Step<'static>, Result<bool, StoreError>);
+
 pub fn perform<S: Store>(alloc: Global, store: &mut S, step: Step<'_>) -> Result<bool, StoreError> {
     match step {
-        Step::Create(name) => store.create(name)?,
-        Step::Append(name, bytes) => store.append(name, bytes)?,
-        Step::Sync(name) => store.sync(name)?,
-        Step::Rename(from, to) => store.rename(from, to)?,
-        Step::Remove(name) => store.remove(name)?,
-        Step::Lock => return store.lock(),
-        Step::Unlock => store.unlock()?,
-        Step::Holds(name, bytes) => return holds(alloc, store, name, bytes),
-        Step::Names(joined) => return Ok(names(alloc, store)?.as_str() == joined),
+        Step::Create(name) => done(store.create(name)),
+        Step::Append(name, bytes) => done(store.append(name, bytes)),
+        Step::Sync(name) => done(store.sync(name)),
+        Step::Rename(from, to) => done(store.rename(from, to)),
+        Step::Remove(name) => done(store.remove(name)),
+        Step::Lock => store.lock(),
+        Step::Unlock => done(store.unlock()),
+        Step::Holds(name, bytes) => holds(alloc, store, name, bytes),
+        Step::Reads(name, offset, count, bytes) => reads(alloc, store, name, offset, count, bytes),
+        Step::Misses(name) => Ok(misses(store, name) && has_no_bytes(alloc, store, name)),
+        Step::Names(joined) => Ok(names(alloc, store)?.as_str() == joined),
     }
-    Ok(true)
+}
+
+/// Whether the step is done, and is so.
+pub fn does<S: Store>(alloc: Global, store: &mut S, step: Step<'_>) -> bool {
+    matches!(perform(alloc, store, step), Ok(true))
+}
+
+fn done(answer: Result<(), StoreError>) -> Result<bool, StoreError> {
+    match answer {
+        Ok(()) => Ok(true),
+        Err(error) => Err(error),
+    }
+}
+
+fn reads<S: Store>(
+    alloc: Global,
+    store: &mut S,
+    name: &str,
+    offset: u64,
+    count: usize,
+    bytes: &[u8],
+) -> Result<bool, StoreError> {
+    Ok(store.read_at(alloc, name, offset, count)?.as_slice() == bytes)
 }
 
 fn holds<S: Store>(
@@ -41,9 +71,26 @@ fn holds<S: Store>(
     name: &str,
     bytes: &[u8],
 ) -> Result<bool, StoreError> {
-    let read = store.read_at(alloc, name, 0, bytes.len().saturating_add(1))?;
     let len = store.len(name)?;
-    Ok(read.as_slice() == bytes && len == bytes.len() as u64)
+    let is_read = reads(alloc, store, name, 0, bytes.len().saturating_add(1), bytes)?;
+    Ok(is_read && len == bytes.len() as u64)
+}
+
+// The calls that change a file of this name. There is one that is named `there`.
+fn misses<S: Store>(store: &mut S, name: &str) -> bool {
+    is_failure(store.append(name, b"x"))
+        && is_failure(store.sync(name))
+        && is_failure(store.remove(name))
+        && is_failure(store.rename(name, "there"))
+}
+
+fn is_failure(answer: Result<(), StoreError>) -> bool {
+    matches!(answer, Err(StoreError::Device))
+}
+
+fn has_no_bytes<S: Store>(alloc: Global, store: &mut S, name: &str) -> bool {
+    matches!(store.len(name), Err(StoreError::Missing))
+        && matches!(store.read_at(alloc, name, 0, 1), Err(StoreError::Missing))
 }
 
 fn names<S: Store>(alloc: Global, store: &mut S) -> Result<String, StoreError> {
@@ -57,20 +104,19 @@ fn names<S: Store>(alloc: Global, store: &mut S) -> Result<String, StoreError> {
     Ok(joined)
 }
 
-// Takes each step, and compares what it answers.
-pub fn assert_steps<S: Store>(
-    rt: &(impl Abort + AllocGlobal),
-    store: &mut S,
-    steps: &[(Step<'_>, Result<bool, StoreError>)],
-) {
-    for (step, wanted) in steps {
-        let answered = perform(rt.alloc(), store, *step);
-        assert_eq!(rt; answered, *wanted, "{step:?}");
+/// The first step that answers otherwise, by its place.
+pub fn first_wrong<S: Store>(alloc: Global, store: &mut S, rows: &[Row]) -> Option<usize> {
+    for (place, (step, wanted)) in rows.iter().enumerate() {
+        if perform(alloc, store, *step) != *wanted {
+            return Some(place);
+        }
     }
+    None
 }
 
-// Each call where it is done, and a lock that is denied.
-pub const CALLS: &[(Step<'static>, Result<bool, StoreError>)] = &[
+/// Each call where it is done, a lock that is denied, reads from an offset to the smaller of their end and the file's, and each call
+/// at a name that no file has.
+pub const CALLS: &[Row] = &[
     (Step::Names(""), Ok(true)),
     (Step::Create("000001.dbtmp"), Ok(true)),
     (Step::Holds("000001.dbtmp", b""), Ok(true)),
@@ -108,127 +154,104 @@ pub const CALLS: &[(Step<'static>, Result<bool, StoreError>)] = &[
     (Step::Remove("CURRENT"), Ok(true)),
     (Step::Remove("LOCK"), Ok(true)),
     (Step::Names(""), Ok(true)),
+    (Step::Create("000007.ldb"), Ok(true)),
+    (Step::Append("000007.ldb", b"abcdef"), Ok(true)),
+    (Step::Reads("000007.ldb", 0, 6, b"abcdef"), Ok(true)),
+    (Step::Reads("000007.ldb", 2, 3, b"cde"), Ok(true)),
+    (Step::Reads("000007.ldb", 4, 100, b"ef"), Ok(true)),
+    (Step::Reads("000007.ldb", 4, 1 << 40, b"ef"), Ok(true)),
+    (Step::Reads("000007.ldb", 3, 0, b""), Ok(true)),
+    (Step::Reads("000007.ldb", 6, 1, b""), Ok(true)),
+    (Step::Reads("000007.ldb", 7, 1, b""), Ok(true)),
+    (Step::Reads("000007.ldb", 1 << 40, 1 << 40, b""), Ok(true)),
+    (Step::Reads("000007.ldb", u64::MAX, 5, b""), Ok(true)),
+    (Step::Remove("000007.ldb"), Ok(true)),
+    (Step::Create("there"), Ok(true)),
+    (Step::Append("there", b"kept"), Ok(true)),
+    (Step::Misses("missing"), Ok(true)),
+    (Step::Holds("missing", b""), Err(StoreError::Missing)),
+    (Step::Holds("there", b"kept"), Ok(true)),
+    (Step::Names("there;"), Ok(true)),
+    (Step::Remove("there"), Ok(true)),
+    (Step::Names(""), Ok(true)),
 ];
-
-// Each call at a name that no file has.
-pub fn assert_missing<S: Store>(rt: &(impl Abort + AllocGlobal), store: &mut S, name: &str) {
-    let steps = [
-        (Step::Create("there"), Ok(true)),
-        (Step::Append("there", b"kept"), Ok(true)),
-        (Step::Append(name, b"x"), Err(StoreError::Device)),
-        (Step::Sync(name), Err(StoreError::Device)),
-        (Step::Remove(name), Err(StoreError::Device)),
-        (Step::Rename(name, "there"), Err(StoreError::Device)),
-        (Step::Holds(name, b""), Err(StoreError::Missing)),
-        (Step::Holds("there", b"kept"), Ok(true)),
-        (Step::Names("there;"), Ok(true)),
-        (Step::Remove("there"), Ok(true)),
-    ];
-    assert_steps(rt, store, steps.as_slice());
-    assert_eq!(rt; store.len(name), Err(StoreError::Missing), "{name}");
-}
-
-// An offset, a count, and the bytes of the file `abcdef` that a read of them gives.
-const READS: &[(u64, usize, &[u8])] = &[
-    (0, 6, b"abcdef"),
-    (2, 3, b"cde"),
-    (4, 100, b"ef"),
-    (4, 1 << 40, b"ef"),
-    (3, 0, b""),
-    (6, 1, b""),
-    (7, 1, b""),
-    (1 << 40, 1 << 40, b""),
-    (u64::MAX, 5, b""),
-];
-
-// A read gives the bytes from its offset to the smaller of its end and the file's.
-pub fn assert_reads<S: Store>(
-    rt: &(impl Abort + AllocGlobal),
-    store: &mut S,
-) -> Result<(), StoreError> {
-    store.create("000007.ldb")?;
-    store.append("000007.ldb", b"abcdef")?;
-    for (offset, count, bytes) in READS {
-        let read = store.read_at(rt.alloc(), "000007.ldb", *offset, *count)?;
-        assert_eq!(rt; read.as_slice(), *bytes, "{count} from {offset}");
-    }
-    store.remove("000007.ldb")
-}
 
 #[test]
-fn memory_keeps_what_was_written(rt: HostRuntime) -> Result<(), Fail> {
+fn memory_keeps_what_was_written(rt: HostRuntime) {
     let mut store = MemStore::new(rt.alloc());
-    assert_steps(&rt, &mut store, CALLS);
-    assert_missing(&rt, &mut store, "missing");
-    assert_reads(&rt, &mut store)?;
-    Ok(())
+    assert_eq!(rt; first_wrong(rt.alloc(), &mut store, CALLS), None);
 }
 
 #[test]
-fn no_fault_changes_no_call(rt: HostRuntime) -> Result<(), Fail> {
-    let alloc = rt.alloc();
-    let mut store = FaultStore::new(MemStore::new(alloc), Vec::new(alloc));
-    assert_steps(&rt, &mut store, CALLS);
-    assert_missing(&rt, &mut store, "missing");
-    assert_reads(&rt, &mut store)?;
-    Ok(())
+fn no_fault_changes_no_call(rt: HostRuntime) {
+    let mut store = FaultStore::new(MemStore::new(rt.alloc()), Vec::new(rt.alloc()));
+    assert_eq!(rt; first_wrong(rt.alloc(), &mut store, CALLS), None);
 }
 
-const BEFORE_A_COPY: &[(Step<'static>, Result<bool, StoreError>)] = &[
+const BEFORE_A_COPY: &[Row] = &[
     (Step::Create("a"), Ok(true)),
     (Step::Append("a", b"first"), Ok(true)),
     (Step::Lock, Ok(true)),
 ];
 
-const OF_THE_COPY: &[(Step<'static>, Result<bool, StoreError>)] = &[
+const OF_THE_COPY: &[Row] = &[
     (Step::Names("LOCK;a;"), Ok(true)),
     (Step::Lock, Ok(true)),
     (Step::Append("a", b"+"), Ok(true)),
     (Step::Holds("a", b"first+"), Ok(true)),
 ];
 
-const BEHIND_A_COPY: &[(Step<'static>, Result<bool, StoreError>)] = &[(
-    Step::Holds("a", b"first"),
-    Ok(true),
-)];
-
-#[test]
-fn a_copy_has_the_files_alone(rt: HostRuntime) -> Result<(), Fail> {
-    let mut store = MemStore::new(rt.alloc());
-    assert_steps(&rt, &mut store, BEFORE_A_COPY);
-    let mut copy = store.copy()?;
-    assert_steps(&rt, &mut copy, OF_THE_COPY);
-    assert_steps(&rt, &mut store, BEHIND_A_COPY);
-    Ok(())
+// Whether a copy is made of the store, and does as it should.
+fn is_copied(alloc: Global, store: &MemStore) -> bool {
+    match store.copy() {
+        Ok(mut copy) => first_wrong(alloc, &mut copy, OF_THE_COPY).is_none(),
+        Err(_) => false,
+    }
 }
 
 #[test]
-fn a_fault_writes_a_part_of_its_append(rt: HostRuntime) -> Result<(), Fail> {
-    let alloc = rt.alloc();
-    let parts = [(3, 2), (4, 9), (6, 0), (7, 1)];
-    let mut faults = Vec::new(alloc);
-    for (call, count) in parts {
-        faults.push((call, Fault::Part(count)))?;
-    }
+fn a_copy_has_the_files_alone(rt: HostRuntime) {
+    let mut store = MemStore::new(rt.alloc());
+    assert_eq!(rt; first_wrong(rt.alloc(), &mut store, BEFORE_A_COPY), None);
+    assert!(rt; is_copied(rt.alloc(), &store));
+    assert!(rt; does(rt.alloc(), &mut store, Step::Holds("a", b"first")));
+}
+
+const PARTS: [(u64, Fault); 4] = [
+    (3, Fault::Part(2)),
+    (4, Fault::Part(9)),
+    (6, Fault::Part(0)),
+    (7, Fault::Part(1)),
+];
+
+const PARTLY: &[Row] = &[
+    (Step::Create("log"), Ok(true)),
+    (Step::Append("log", b"-"), Ok(true)),
+    (Step::Append("log", b"abc"), Err(StoreError::Device)),
+    (Step::Append("log", b"de"), Err(StoreError::Device)),
+    (Step::Append("log", b"f"), Ok(true)),
+    (Step::Append("log", b"gh"), Err(StoreError::Device)),
+    (Step::Sync("log"), Ok(true)),
+];
+
+// Whether a store with those faults counts these calls, and has written what each left of its bytes.
+fn writes_parts(alloc: Global) -> Result<bool, StoreError> {
+    let faults = Vec::from_array(alloc, PARTS)?;
     let mut store = FaultStore::new(MemStore::new(alloc), faults);
-    let steps = [
-        (Step::Create("log"), Ok(true)),
-        (Step::Append("log", b"-"), Ok(true)),
-        (Step::Append("log", b"abc"), Err(StoreError::Device)),
-        (Step::Append("log", b"de"), Err(StoreError::Device)),
-        (Step::Append("log", b"f"), Ok(true)),
-        (Step::Append("log", b"gh"), Err(StoreError::Device)),
-        (Step::Sync("log"), Ok(true)),
-    ];
-    assert_steps(&rt, &mut store, steps.as_slice());
-    assert_eq!(rt; store.calls(), 7);
-    let mut inner = store.into_inner();
-    assert_steps(
-        &rt,
-        &mut inner,
-        &[(Step::Holds("log", b"-abdef"), Ok(true))],
-    );
-    Ok(())
+    let is_so = first_wrong(alloc, &mut store, PARTLY).is_none() && store.calls() == 7;
+    Ok(
+        is_so
+            && does(
+                alloc,
+                &mut store.into_inner(),
+                Step::Holds("log", b"-abdef"),
+            ),
+    )
+}
+
+#[test]
+fn a_fault_writes_a_part_of_its_append(rt: HostRuntime) {
+    assert_eq!(rt; writes_parts(rt.alloc()), Ok(true));
 }
 
 // The writing calls of a small life of a directory.
@@ -250,6 +273,13 @@ const LIFE: [Step<'static>; 12] = [
     Step::Unlock,
 ];
 
+// Whether a directory has had it. This takes no memory.
+fn has_lived(store: &mut MemStore) -> bool {
+    matches!(store.len("000004.log"), Ok(0))
+        && matches!(store.len("LOCK"), Ok(0))
+        && matches!(store.len("CURRENT"), Err(StoreError::Missing))
+}
+
 // Whether two stores have the same files.
 fn are_same(alloc: Global, a: &mut MemStore, b: &mut MemStore) -> Result<bool, StoreError> {
     if names(alloc, a)?.as_str() != names(alloc, b)?.as_str() {
@@ -264,37 +294,44 @@ fn are_same(alloc: Global, a: &mut MemStore, b: &mut MemStore) -> Result<bool, S
     Ok(true)
 }
 
-// Takes a step, and again where it was out of memory, which must have changed nothing.
-fn persist(
-    rt: &(impl Abort + AllocGlobal),
+// A copy, made once more where there was no memory.
+fn copied(store: &MemStore) -> Result<MemStore, StoreError> {
+    match store.copy() {
+        Ok(copy) => Ok(copy),
+        Err(_) => store.copy(),
+    }
+}
+
+// Whether a step that was refused changed nothing, for want of memory, and is done once more.
+fn is_done_again(
+    alloc: Global,
+    before: &mut MemStore,
     store: &mut MemStore,
     step: Step<'_>,
-) -> Result<(), StoreError> {
-    let mut before = match store.copy() {
-        Ok(copy) => copy,
-        Err(_) => store.copy()?,
-    };
-    if let Err(error) = perform(rt.alloc(), store, step) {
-        assert_eq!(rt; error, StoreError::Memory, "{step:?}");
-        assert_eq!(rt;
-            are_same(rt.alloc(), &mut before, store),
-            Ok(true),
-            "{step:?}"
-        );
-        assert_eq!(rt; perform(rt.alloc(), store, step), Ok(true), "{step:?}");
+    error: StoreError,
+) -> bool {
+    error == StoreError::Memory
+        && are_same(alloc, before, store) == Ok(true)
+        && does(alloc, store, step)
+}
+
+// Whether a step is done, or changed nothing and is done once more.
+fn persists(alloc: Global, store: &mut MemStore, step: Step<'_>) -> bool {
+    match copied(store) {
+        Ok(mut before) => match perform(alloc, store, step) {
+            Ok(_) => true,
+            Err(error) => is_done_again(alloc, &mut before, store, step, error),
+        },
+        Err(_) => false,
     }
-    Ok(())
 }
 
 // To be run with each allocation failing in turn.
 #[test]
-fn out_of_memory_changes_nothing(rt: HostRuntime) -> Result<(), Fail> {
+fn out_of_memory_changes_nothing(rt: HostRuntime) {
     let mut store = MemStore::new(rt.alloc());
     for step in LIFE {
-        persist(&rt, &mut store, step)?;
+        assert!(rt; persists(rt.alloc(), &mut store, step));
     }
-    assert_eq!(rt; store.len("000004.log"), Ok(0));
-    assert_eq!(rt; store.len("LOCK"), Ok(0));
-    assert_eq!(rt; store.len("CURRENT"), Err(StoreError::Missing));
-    Ok(())
+    assert!(rt; has_lived(&mut store));
 }

@@ -1,8 +1,8 @@
-ghost use Rattle.std.specs.Prelude.{◌≡◌, length, IfOk};
-
-use coding::Bytes;
-use edits::{Edit, Field, FileName, Layout, PlacedTable, TableFile};
-use ikey::{Bytewise, KeyOrder, Kind, pack};
+// What a version tells of its tables, and which compactions it plans.
+use crate::layouts::{Pointer, TableRow, key_of, layout_of, placed, version_of};
+use coding::DbError;
+use edits::{Edit, Field, FileName, PlacedTable};
+use ikey::{Bytewise, KeyOrder};
 use std::alloc::{AllocError, Global};
 use std::test::*;
 use versions::{
@@ -10,88 +10,30 @@ use versions::{
     plans_of_tables, searches_reach, user_of,
 };
 
-mod plans;
+// The numbers of the inputs, the output level, and the largest user key of the moved pointer.
+type Plan = (&'static [u64], u32, Option<&'static [u8]>);
 
-// A table by its level, number and size, its first user key and sequence, and its last.
+// What is asked of a version, and what it answers.
 #[derive(Clone, Copy)]
-struct Row(u32, u64, u64, &'static [u8], u32, &'static [u8], u32);
-
-fn key_of(alloc: Global, user: &[u8], sequence: u32) -> Result<Bytes, AllocError> {
-    Ok(Bytes::from_vec(pack(alloc, user, u64::from(sequence), Kind::Put)?))
-}
-
-fn table_of(alloc: Global, row: &Row) -> Result<PlacedTable, AllocError> {
-    let Row(level, number, size, first, first_sequence, last, last_sequence) = *row;
-    let smallest = key_of(alloc, first, first_sequence)?;
-    let largest = key_of(alloc, last, last_sequence)?;
-    Ok(PlacedTable {
-        level,
-        table: TableFile {
-            number,
-            size,
-            smallest,
-            largest,
-        },
-    })
-}
-
-fn layout_of(
-    alloc: Global,
-    rows: &[Row],
-    pointer: Option<(u32, &[u8], u32)>,
-) -> Result<Layout, AllocError>
-    ensures { IfOk result (λ layout. length layout.compact_pointers.items ≡ 7) }
-{
-    let mut tables = Vec::new(alloc);
-    for row in rows {
-        tables.push(table_of(alloc, row)?)?;
-    }
-    Ok(Layout {
-        log_number: 0,
-        previous_log_number: 0,
-        next_file_number: 100,
-        last_sequence: 100,
-        compact_pointers: pointers_of(alloc, pointer)?,
-        tables,
-    })
-}
-
-// No compact pointer but this one.
-fn pointers_of(
-    alloc: Global,
-    pointer: Option<(u32, &[u8], u32)>,
-) -> Result<Vec<Option<Bytes>>, AllocError>
-    ensures { IfOk result (λ pointers. length pointers.items ≡ 7) }
-{
-    let mut pointers = Vec::new(alloc);
-    for level in 0..7 {
-        pointers.push(pointer_at(alloc, level, pointer)?)?;
-    }
-    Ok(pointers)
-}
-
-fn pointer_at(
-    alloc: Global,
-    level: u32,
-    pointer: Option<(u32, &[u8], u32)>,
-) -> Result<Option<Bytes>, AllocError> {
-    match pointer {
-        Some((own, user, sequence)) if own == level => Ok(Some(key_of(alloc, user, sequence)?)),
-        Some(_) => Ok(None),
-        None => Ok(None),
-    }
-}
-
-fn version_of(
-    alloc: Global,
-    rows: &[Row],
-    pointer: Option<(u32, &[u8], u32)>,
-) -> Result<Version<Bytewise>, Fail> {
-    let layout = layout_of(alloc, rows, pointer)?;
-    match Version::new(alloc, &layout) {
-        Ok(version) => Ok(version),
-        Err(_) => Err(Fail::from("the tables can't stand in a version")),
-    }
+enum Look {
+    // the tables of a level, by their numbers
+    Level(u32, &'static [u64]),
+    All(&'static [u64]),
+    // the one table of a level in which a user key and a sequence are sought
+    Found(u32, &'static [u8], u32, Option<u64>),
+    // the next table in which that is sought, from a place on, and its place
+    Searched(&'static [u8], u32, usize, Option<(u64, usize)>),
+    // whether no table below a level has a user key
+    Free(u32, &'static [u8], bool),
+    // whether each table of a level has a user key, or none has
+    Covered(u32, &'static [u8], bool),
+    // the user key of a level's compact pointer
+    Points(u32, Option<&'static [u8]>),
+    // the compaction that is wanted, where level 0 is full with so many files, and level 1 with so many bytes
+    Picks(u64, u64, Option<Plan>),
+    // the compaction of a level, or of all
+    PlansLevel(u32, Option<Plan>),
+    PlansAll(Option<Plan>),
 }
 
 fn have_numbers(tables: &[PlacedTable], numbers: &[u64]) -> bool {
@@ -103,149 +45,307 @@ fn have_numbers(tables: &[PlacedTable], numbers: &[u64]) -> bool {
     tables.len() == numbers.len()
 }
 
-#[test]
-fn tables_stand_by_number_in_level_0_and_by_key_below(rt: HostRuntime) -> Result<(), Fail> {
-    let alloc = rt.alloc();
-    let version = version_of(
-        alloc,
-        &[
-            Row(0, 7, 1, b"a", 9, b"z", 9),
-            Row(0, 9, 1, b"b", 9, b"c", 9),
-            Row(1, 2, 1, b"m", 5, b"p", 5),
-            Row(1, 4, 1, b"a", 5, b"c", 5),
-            Row(1, 6, 1, b"c", 4, b"d", 5),
-            Row(2, 3, 1, b"k", 1, b"k", 1),
-        ],
-        None,
-    )?;
-    assert!(rt; have_numbers(version.level(0), &[7, 9]));
-    assert!(rt; have_numbers(version.level(1), &[4, 6, 2]));
-    assert!(rt; have_numbers(version.level(2), &[3]));
-    assert!(rt; have_numbers(version.level(3), &[]));
-    assert!(rt; have_numbers(version.tables(), &[7, 9, 4, 6, 2, 3]));
-    Ok(())
-}
-
-#[test]
-fn overlapping_tables_are_refused(rt: HostRuntime) -> Result<(), Fail> {
-    let alloc = rt.alloc();
-    for rows in [
-        [
-            Row(1, 2, 1, b"a", 5, b"c", 5),
-            Row(1, 3, 1, b"c", 5, b"d", 5),
-        ],
-        [
-            Row(1, 2, 1, b"a", 5, b"c", 5),
-            Row(1, 3, 1, b"b", 5, b"b", 5),
-        ],
-        [
-            Row(1, 2, 1, b"a", 5, b"c", 5),
-            Row(2, 2, 1, b"b", 5, b"b", 5),
-        ],
-        [
-            Row(1, 2, 1, b"c", 5, b"a", 5),
-            Row(2, 3, 1, b"b", 5, b"b", 5),
-        ],
-    ] {
-        let layout = layout_of(alloc, &rows, None)?;
-        assert!(rt; Version::<Bytewise>::new(alloc, &layout).is_err());
+fn is_user(key: Option<&[u8]>, user: Option<&[u8]>) -> bool {
+    match (key, user) {
+        (Some(key), Some(user)) => user_of(key) == user,
+        (None, None) => true,
+        (Some(_), None) => false,
+        (None, Some(_)) => false,
     }
-    Ok(())
 }
 
-#[test]
-fn one_table_of_a_level_is_found(rt: HostRuntime) -> Result<(), Fail> {
-    let alloc = rt.alloc();
-    let version = version_of(
-        alloc,
-        &[
-            Row(1, 2, 1, b"a", 9, b"c", 6),
-            Row(1, 3, 1, b"c", 5, b"d", 5),
-            Row(1, 4, 1, b"f", 5, b"g", 5),
-        ],
-        None,
-    )?;
-    for (user, sequence, number) in [
-        (b"".as_slice(), 1, Some(2)),
-        (b"c", 7, Some(2)),
-        (b"c", 6, Some(2)),
-        (b"c", 5, Some(3)),
-        (b"e", 5, Some(4)),
-        (b"g", 5, Some(4)),
-        (b"g", 4, None),
-    ] {
-        let key = key_of(alloc, user, sequence)?;
-        let found = version.find(1, key.as_slice());
-        match found {
-            Some(placed) => assert_eq!(rt; Some(placed.table.number), number),
-            None => assert!(rt; number.is_none()),
+fn pointer_of(plan: &JobPlan) -> Option<&[u8]> {
+    match &plan.compact_pointer {
+        Some(key) => Some(key.as_slice()),
+        None => None,
+    }
+}
+
+fn is_plan(found: Option<JobPlan>, wanted: Option<Plan>) -> bool {
+    match (found, wanted) {
+        (Some(plan), Some((inputs, level, user))) => {
+            have_numbers(&plan.inputs, inputs)
+                && plan.output_level == level
+                && is_user(pointer_of(&plan), user)
+        }
+        (None, None) => true,
+        (Some(_), None) => false,
+        (None, Some(_)) => false,
+    }
+}
+
+fn is_found(
+    alloc: Global,
+    version: &Version<Bytewise>,
+    level: u32,
+    target: (&[u8], u32),
+    number: Option<u64>,
+) -> Result<bool, DbError> {
+    let key = key_of(alloc, target.0, target.1)?;
+    if level == 0 || level >= 7 {
+        return Ok(false);
+    }
+    Ok(match version.find(level, key.as_slice()) {
+        Some(placed) => Some(placed.table.number) == number,
+        None => number.is_none(),
+    })
+}
+
+fn is_searched(
+    alloc: Global,
+    version: &Version<Bytewise>,
+    target: (&[u8], u32),
+    from: usize,
+    wanted: Option<(u64, usize)>,
+) -> Result<bool, DbError> {
+    let key = key_of(alloc, target.0, target.1)?;
+    Ok(match version.next_searched(key.as_slice(), from) {
+        Some((place, placed)) => Some((placed.table.number, place)) == wanted,
+        None => wanted.is_none(),
+    })
+}
+
+fn are_covered(version: &Version<Bytewise>, level: u32, user: &[u8], wanted: bool) -> bool {
+    if level >= 7 {
+        return false;
+    }
+    for placed in version.level(level) {
+        if covers::<Bytewise>(placed, user) != wanted {
+            return false;
         }
     }
-    Ok(())
+    true
+}
+
+fn is_picked(
+    alloc: Global,
+    version: &Version<Bytewise>,
+    files: u64,
+    bytes: u64,
+    wanted: Option<Plan>,
+) -> Result<bool, DbError> {
+    if files == 0 || bytes > 1 << 40 {
+        return Ok(false);
+    }
+    Ok(is_plan(version.pick(alloc, files, bytes)?, wanted))
+}
+
+fn is_planned(
+    alloc: Global,
+    version: &Version<Bytewise>,
+    level: u32,
+    wanted: Option<Plan>,
+) -> Result<bool, DbError> {
+    if level >= 6 {
+        return Ok(false);
+    }
+    Ok(is_plan(version.plan_level(alloc, level)?, wanted))
+}
+
+fn is_so(alloc: Global, version: &Version<Bytewise>, look: Look) -> Result<bool, DbError> {
+    match look {
+        Look::Level(level, numbers) => {
+            Ok(level < 7 && have_numbers(version.level(level), numbers))
+        }
+        Look::All(numbers) => Ok(have_numbers(version.tables(), numbers)),
+        Look::Found(level, user, sequence, number) => {
+            is_found(alloc, version, level, (user, sequence), number)
+        }
+        Look::Searched(user, sequence, from, wanted) => {
+            is_searched(alloc, version, (user, sequence), from, wanted)
+        }
+        Look::Free(level, user, free) => {
+            Ok(0 < level && level < 7 && version.is_free_below(level, user) == free)
+        }
+        Look::Covered(level, user, wanted) => Ok(are_covered(version, level, user, wanted)),
+        Look::Points(level, user) => Ok(is_user(version.compact_pointer(level), user)),
+        Look::Picks(files, bytes, wanted) => is_picked(alloc, version, files, bytes, wanted),
+        Look::PlansLevel(level, wanted) => is_planned(alloc, version, level, wanted),
+        Look::PlansAll(wanted) => Ok(is_plan(version.plan_all(alloc)?, wanted)),
+    }
+}
+
+// The first look that isn't so, by its place.
+fn first_wrong(
+    alloc: Global,
+    version: &Version<Bytewise>,
+    looks: &[Look],
+) -> Result<Option<usize>, DbError> {
+    for (place, look) in looks.iter().enumerate() {
+        if !is_so(alloc, version, *look)? {
+            return Ok(Some(place));
+        }
+    }
+    Ok(None)
+}
+
+// Tables, a compact pointer, and looks at their version.
+type Case = (&'static [TableRow], Option<Pointer>, &'static [Look]);
+
+// Four tables of level 2, of which two share the user key `c`.
+const LEVEL_2: [TableRow; 4] = [
+    TableRow(2, 11, 60, b"a", 5, b"b", 5),
+    TableRow(2, 12, 60, b"c", 9, b"c", 5),
+    TableRow(2, 13, 60, b"c", 4, b"e", 5),
+    TableRow(2, 14, 60, b"g", 5, b"h", 5),
+];
+
+#[rattlefmt::skip]
+const CASES: [Case; 16] = [
+    // Tables stand by number in level 0 and by key below.
+    (
+        &[
+            TableRow(0, 7, 1, b"a", 9, b"z", 9), TableRow(0, 9, 1, b"b", 9, b"c", 9), TableRow(1, 2, 1, b"m", 5, b"p", 5),
+            TableRow(1, 4, 1, b"a", 5, b"c", 5), TableRow(1, 6, 1, b"c", 4, b"d", 5), TableRow(2, 3, 1, b"k", 1, b"k", 1),
+        ],
+        None,
+        &[Look::Level(0, &[7, 9]), Look::Level(1, &[4, 6, 2]), Look::Level(2, &[3]), Look::Level(3, &[]), Look::All(&[7, 9, 4, 6, 2, 3])],
+    ),
+    // One table of a level is found.
+    (
+        &[TableRow(1, 2, 1, b"a", 9, b"c", 6), TableRow(1, 3, 1, b"c", 5, b"d", 5), TableRow(1, 4, 1, b"f", 5, b"g", 5)],
+        None,
+        &[
+            Look::Found(1, b"", 1, Some(2)), Look::Found(1, b"c", 7, Some(2)), Look::Found(1, b"c", 6, Some(2)), Look::Found(1, b"c", 5, Some(3)),
+            Look::Found(1, b"e", 5, Some(4)), Look::Found(1, b"g", 5, Some(4)), Look::Found(1, b"g", 4, None),
+        ],
+    ),
+    // Tables are searched from the newest down.
+    (
+        &[
+            TableRow(0, 7, 1, b"a", 9, b"z", 9), TableRow(0, 8, 1, b"d", 9, b"e", 9), TableRow(0, 9, 1, b"b", 9, b"c", 9),
+            TableRow(1, 2, 1, b"a", 5, b"c", 5), TableRow(2, 3, 1, b"d", 5, b"f", 5), TableRow(6, 4, 1, b"c", 4, b"d", 4),
+        ],
+        None,
+        &[
+            Look::Searched(b"c", 9, 0, Some((9, 0))), Look::Searched(b"c", 9, 1, Some((7, 2))), Look::Searched(b"c", 9, 3, Some((2, 3))),
+            Look::Searched(b"c", 9, 4, Some((4, 8))), Look::Searched(b"c", 9, 9, None),
+        ],
+    ),
+    // Keys are free below a level.
+    (
+        &[
+            TableRow(0, 9, 1, b"a", 9, b"z", 9), TableRow(1, 2, 1, b"a", 9, b"c", 6), TableRow(2, 3, 1, b"d", 5, b"f", 5),
+            TableRow(3, 4, 1, b"h", 5, b"h", 4), TableRow(3, 5, 1, b"h", 3, b"k", 3),
+        ],
+        None,
+        &[
+            Look::Free(1, b"b", true), Look::Free(1, b"d", false), Look::Free(1, b"f", false), Look::Free(2, b"f", true),
+            Look::Free(2, b"h", false), Look::Free(2, b"k", false), Look::Free(3, b"h", true),
+            Look::Covered(0, b"a", true), Look::Covered(1, b"c", true), Look::Covered(1, b"d", false),
+        ],
+    ),
+    // Nothing is picked where no level needs it.
+    (&[], None, &[Look::Picks(2, 1, None), Look::PlansAll(None)]),
+    (
+        &[
+            TableRow(0, 9, 1000, b"a", 9, b"z", 9), TableRow(1, 2, 60, b"a", 5, b"c", 5), TableRow(1, 3, 40, b"e", 5, b"f", 5),
+            TableRow(2, 4, 1000, b"a", 3, b"z", 3), TableRow(6, 5, 1_000_000_000, b"a", 1, b"z", 1),
+        ],
+        None,
+        &[Look::Picks(2, 100, None)],
+    ),
+    // Level 0 is compacted whole and first.
+    (
+        &[
+            TableRow(0, 8, 1, b"c", 9, b"d", 9), TableRow(0, 9, 1, b"h", 9, b"k", 9), TableRow(1, 2, 60, b"a", 5, b"b", 5),
+            TableRow(1, 3, 60, b"b", 4, b"c", 5), TableRow(1, 4, 60, b"e", 5, b"f", 5), TableRow(1, 5, 60, b"l", 5, b"m", 5),
+        ],
+        None,
+        &[Look::Picks(2, 1, Some((&[8, 9, 2, 3, 4], 1, None)))],
+    ),
+    // Compactions begin behind the pointer.
+    (&LEVEL_2, None, &[Look::Picks(4, 23, Some((&[11], 3, Some(b"b")))), Look::Picks(2, 24, None)]),
+    (&LEVEL_2, Some((2, b"a", 1)), &[Look::Picks(4, 23, Some((&[11], 3, Some(b"b"))))]),
+    (
+        &LEVEL_2,
+        Some((2, b"b", 5)),
+        &[
+            Look::Picks(4, 23, Some((&[12, 13], 3, Some(b"e")))),
+            // Levels are planned whole.
+            Look::PlansLevel(2, Some((&[11, 12, 13, 14], 3, None))),
+            Look::PlansLevel(1, None),
+            Look::PlansAll(Some((&[11, 12, 13, 14], 6, None))),
+        ],
+    ),
+    (&LEVEL_2, Some((2, b"c", 5)), &[Look::Picks(4, 23, Some((&[12, 13], 3, Some(b"e"))))]),
+    (&LEVEL_2, Some((2, b"e", 4)), &[Look::Picks(4, 23, Some((&[14], 3, Some(b"h"))))]),
+    (&LEVEL_2, Some((2, b"h", 5)), &[Look::Picks(4, 23, Some((&[11], 3, Some(b"b"))))]),
+    (&LEVEL_2, Some((1, b"h", 5)), &[Look::Picks(4, 23, Some((&[11], 3, Some(b"b"))))]),
+    // The next level widens the range.
+    (
+        &[
+            TableRow(1, 2, 60, b"d", 15, b"f", 15), TableRow(1, 3, 60, b"h", 15, b"h", 11), TableRow(1, 4, 60, b"h", 10, b"k", 15),
+            TableRow(2, 5, 1, b"a", 5, b"c", 5), TableRow(2, 6, 1, b"c", 4, b"d", 5), TableRow(2, 7, 1, b"f", 5, b"g", 5),
+            TableRow(2, 8, 1, b"g", 4, b"h", 5), TableRow(2, 9, 1, b"m", 4, b"n", 5),
+        ],
+        None,
+        &[Look::Picks(2, 100, Some((&[2, 5, 6, 7, 8], 2, Some(b"f"))))],
+    ),
+    // What deeper tables cover is not free.
+    (
+        &[TableRow(2, 4, 176, b"b", 1, b"d", 1)],
+        None,
+        &[Look::Free(1, b"b", false), Look::Free(1, b"a", true)],
+    ),
+];
+
+// The first look of a case that isn't so.
+fn wrong_in(alloc: Global, case: &Case) -> Result<Option<usize>, DbError> {
+    let version = version_of(alloc, case.0, case.1)?;
+    first_wrong(alloc, &version, case.2)
 }
 
 #[test]
-fn tables_are_searched_from_the_newest_down(rt: HostRuntime) -> Result<(), Fail> {
-    let alloc = rt.alloc();
-    let version = version_of(
-        alloc,
-        &[
-            Row(0, 7, 1, b"a", 9, b"z", 9),
-            Row(0, 8, 1, b"d", 9, b"e", 9),
-            Row(0, 9, 1, b"b", 9, b"c", 9),
-            Row(1, 2, 1, b"a", 5, b"c", 5),
-            Row(2, 3, 1, b"d", 5, b"f", 5),
-            Row(6, 4, 1, b"c", 4, b"d", 4),
-        ],
-        None,
-    )?;
-    let key = key_of(alloc, b"c", 9)?;
-    for (from, number, place) in [(0, 9, 0), (1, 7, 2), (3, 2, 3), (4, 4, 8)] {
-        let (found, placed) = version
-            .next_searched(key.as_slice(), from)
-            .ok_or("a table")?;
-        assert_eq!(rt; placed.table.number, number);
-        assert_eq!(rt; found, place);
+fn versions_tell_of_their_tables(rt: HostRuntime) {
+    for (place, case) in CASES.iter().enumerate() {
+        assert_eq!(rt; wrong_in(rt.alloc(), case), Ok(None), "{place}");
     }
-    assert!(rt; version.next_searched(key.as_slice(), 9).is_none());
     searches_reach();
-    Ok(())
+    one_user_key();
+    one_more_edit();
+}
+
+// ---- what can't stand in a version
+
+const REFUSED: [[TableRow; 2]; 4] = [
+    [
+        TableRow(1, 2, 1, b"a", 5, b"c", 5),
+        TableRow(1, 3, 1, b"c", 5, b"d", 5),
+    ],
+    [
+        TableRow(1, 2, 1, b"a", 5, b"c", 5),
+        TableRow(1, 3, 1, b"b", 5, b"b", 5),
+    ],
+    [
+        TableRow(1, 2, 1, b"a", 5, b"c", 5),
+        TableRow(2, 2, 1, b"b", 5, b"b", 5),
+    ],
+    [
+        TableRow(1, 2, 1, b"c", 5, b"a", 5),
+        TableRow(2, 3, 1, b"b", 5, b"b", 5),
+    ],
+];
+
+fn is_refused(alloc: Global, rows: &[TableRow]) -> Result<bool, AllocError> {
+    let layout = layout_of(alloc, rows, None)?;
+    Ok(Version::<Bytewise>::new(alloc, &layout).is_err())
 }
 
 #[test]
-fn keys_are_free_below_a_level(rt: HostRuntime) -> Result<(), Fail> {
-    let alloc = rt.alloc();
-    let version = version_of(
-        alloc,
-        &[
-            Row(0, 9, 1, b"a", 9, b"z", 9),
-            Row(1, 2, 1, b"a", 9, b"c", 6),
-            Row(2, 3, 1, b"d", 5, b"f", 5),
-            Row(3, 4, 1, b"h", 5, b"h", 4),
-            Row(3, 5, 1, b"h", 3, b"k", 3),
-        ],
-        None,
-    )?;
-    for (level, user, free) in [
-        (1, b"b".as_slice(), true),
-        (1, b"d", false),
-        (1, b"f", false),
-        (2, b"f", true),
-        (2, b"h", false),
-        (2, b"k", false),
-        (3, b"h", true),
-    ] {
-        assert_eq!(rt; version.is_free_below(level, user), free);
+fn overlapping_tables_are_refused(rt: HostRuntime) {
+    for rows in &REFUSED {
+        assert_eq!(rt; is_refused(rt.alloc(), rows), Ok(true));
     }
-    for placed in version.level(0) {
-        assert!(rt; covers::<Bytewise>(placed, b"a"));
-    }
-    for placed in version.level(1) {
-        assert!(rt; covers::<Bytewise>(placed, b"c"));
-        assert!(rt; !covers::<Bytewise>(placed, b"d"));
-    }
-    Ok(())
 }
+
+// ---- edits
+
+const BEFORE: [TableRow; 3] = [
+    TableRow(1, 2, 1, b"a", 9, b"b", 9),
+    TableRow(1, 4, 1, b"c", 9, b"d", 9),
+    TableRow(2, 3, 1, b"b", 5, b"c", 5),
+];
 
 // The edit of a compaction of tables 2 and 3 into 7 and 8.
 fn compaction(alloc: Global) -> Result<Edit, AllocError> {
@@ -253,73 +353,125 @@ fn compaction(alloc: Global) -> Result<Edit, AllocError> {
     edit.push(Field::CompactPointer(1, key_of(alloc, b"c", 5)?))?;
     edit.push(Field::DeletedFile(1, 2))?;
     edit.push(Field::DeletedFile(2, 3))?;
-    edit.push(Field::NewFile(table_of(alloc, &Row(2, 7, 1, b"b", 9, b"c", 9))?))?;
-    edit.push(Field::NewFile(table_of(alloc, &Row(2, 8, 1, b"a", 9, b"a", 9))?))?;
+    edit.push(Field::NewFile(placed(alloc, &TableRow(2, 7, 1, b"b", 9, b"c", 9))?))?;
+    edit.push(Field::NewFile(placed(alloc, &TableRow(2, 8, 1, b"a", 9, b"a", 9))?))?;
     Ok(edit)
 }
 
-const BEFORE: [Row; 3] = [
-    Row(1, 2, 1, b"a", 9, b"b", 9),
-    Row(1, 4, 1, b"c", 9, b"d", 9),
-    Row(2, 3, 1, b"b", 5, b"c", 5),
+// The version behind it, where the edit fits.
+fn compacted(alloc: Global, version: &Version<Bytewise>) -> Result<Version<Bytewise>, DbError> {
+    let edit = compaction(alloc)?;
+    match version.after(alloc, edit.fields()) {
+        Ok(after) => Ok(after),
+        Err(_) => Err(DbError::BadLine),
+    }
+}
+
+const UNCHANGED: [Look; 2] = [Look::All(&[2, 4, 3]), Look::Points(1, None)];
+
+const CHANGED: [Look; 3] = [
+    Look::All(&[4, 8, 7]),
+    Look::Points(1, Some(b"c")),
+    Look::Points(2, Some(b"q")),
 ];
 
-#[test]
-fn an_edit_leaves_another_version(rt: HostRuntime) -> Result<(), Fail> {
-    let alloc = rt.alloc();
+// Whether the edit leaves another version, which it doesn't fit again.
+fn is_changed(alloc: Global, version: &Version<Bytewise>) -> Result<bool, DbError> {
+    let after = compacted(alloc, version)?;
+    Ok(first_wrong(alloc, &after, &CHANGED)?.is_none() && compacted(alloc, &after).is_err())
+}
+
+fn is_left(alloc: Global) -> Result<bool, DbError> {
     let version = version_of(alloc, &BEFORE, Some((2, b"q", 1)))?;
-    let edit = compaction(alloc)?;
-    let Ok(after) = version.after(alloc, edit.fields()) else {
-        return Err(Fail::from("the edit fits"));
-    };
-    assert!(rt; have_numbers(version.tables(), &[2, 4, 3]));
-    assert!(rt; have_numbers(after.tables(), &[4, 8, 7]));
-    assert!(rt; version.compact_pointer(1).is_none());
-    let moved = after.compact_pointer(1).ok_or("a pointer")?;
-    assert_eq!(rt; user_of(moved), b"c".as_slice());
-    let kept = after.compact_pointer(2).ok_or("a pointer")?;
-    assert_eq!(rt; user_of(kept), b"q".as_slice());
-    assert!(rt; after.after(alloc, edit.fields()).is_err());
-    one_user_key();
-    one_more_edit();
-    Ok(())
+    Ok(is_changed(alloc, &version)? && first_wrong(alloc, &version, &UNCHANGED)?.is_none())
 }
 
 #[test]
-fn pinned_versions_keep_their_tables(rt: HostRuntime) -> Result<(), Fail> {
-    let alloc = rt.alloc();
-    let mut versions = Versions::new(alloc, version_of(alloc, &BEFORE, None)?)?;
-    let numbers = LiveNumbers {
-        manifest_number: 1,
-        log_number: 5,
-        previous_log_number: 3,
-    };
+fn an_edit_leaves_another_version(rt: HostRuntime) {
+    assert_eq!(rt; is_left(rt.alloc()), Ok(true));
+}
+
+// ---- pinned versions
+
+const NUMBERS: LiveNumbers = LiveNumbers {
+    manifest_number: 1,
+    log_number: 5,
+    previous_log_number: 3,
+};
+
+// Files, and whether they are live while the version before the compaction is pinned.
+#[rattlefmt::skip]
+const FILES: [(FileName, bool); 12] = [
+    (FileName::Current, true), (FileName::Lock, true), (FileName::Log(3), true), (FileName::Log(4), false), (FileName::Log(6), true),
+    (FileName::Manifest(1), true), (FileName::Manifest(2), false), (FileName::Temporary(1), false),
+    (FileName::Table(2), true), (FileName::OldTable(3), true), (FileName::Table(8), true), (FileName::Table(9), false),
+];
+
+fn are_live(versions: &Versions<Bytewise>) -> bool {
+    for (file, is_live) in FILES {
+        if versions.is_live(&NUMBERS, file) != is_live {
+            return false;
+        }
+    }
+    true
+}
+
+fn has_current(versions: &Versions<Bytewise>, numbers: &[u64]) -> bool {
+    have_numbers(versions.current().tables(), numbers)
+}
+
+// Whether the tables of a pinned version are live behind the next one, and go once it isn't pinned.
+fn keeps_what_is_pinned(alloc: Global, before: Version<Bytewise>) -> Result<bool, DbError> {
+    let next = compacted(alloc, &before)?;
+    let mut versions = Versions::new(alloc, before)?;
     let id = versions.pin();
-    let Ok(next) = versions.current().after(alloc, compaction(alloc)?.fields()) else {
-        return Err(Fail::from("the edit fits"));
-    };
     versions.reserve()?;
     versions.install(next);
-    assert!(rt; have_numbers(versions.current().tables(), &[4, 8, 7]));
-    assert!(rt; have_numbers(versions.pinned(id).tables(), &[2, 4, 3]));
-    for (file, live) in [
-        (FileName::Current, true),
-        (FileName::Lock, true),
-        (FileName::Log(3), true),
-        (FileName::Log(4), false),
-        (FileName::Log(6), true),
-        (FileName::Manifest(1), true),
-        (FileName::Manifest(2), false),
-        (FileName::Temporary(1), false),
-        (FileName::Table(2), true),
-        (FileName::OldTable(3), true),
-        (FileName::Table(8), true),
-        (FileName::Table(9), false),
-    ] {
-        assert_eq!(rt; versions.is_live(&numbers, file), live);
-    }
+    let are_kept = have_numbers(versions.pinned(id).tables(), &[2, 4, 3]) && are_live(&versions);
     versions.unpin(id);
-    assert!(rt; !versions.is_live(&numbers, FileName::Table(2)));
-    assert!(rt; versions.has_table(4));
-    Ok(())
+    let is_gone = !versions.is_live(&NUMBERS, FileName::Table(2)) && versions.has_table(4);
+    Ok(are_kept && is_gone && has_current(&versions, &[4, 8, 7]))
+}
+
+fn keeps_pinned(alloc: Global) -> Result<bool, DbError> {
+    keeps_what_is_pinned(alloc, version_of(alloc, &BEFORE, None)?)
+}
+
+#[test]
+fn pinned_versions_keep_their_tables(rt: HostRuntime) {
+    assert_eq!(rt; keeps_pinned(rt.alloc()), Ok(true));
+}
+
+// ---- the inputs of a compaction
+
+const WITH_LEVEL_3: [TableRow; 5] = [
+    TableRow(1, 2, 60, b"a", 15, b"z", 15),
+    TableRow(2, 11, 60, b"a", 5, b"b", 5),
+    TableRow(2, 13, 60, b"c", 4, b"e", 5),
+    TableRow(3, 3, 60, b"d", 1, b"g", 1),
+    TableRow(3, 4, 60, b"k", 1, b"m", 1),
+];
+
+// The version over the inputs of the compaction of all of level 2.
+fn over_level_2<K: KeyOrder>(alloc: Global, version: &Version<K>) -> Result<Version<K>, DbError> {
+    plans_of_tables();
+    inputs_in_order();
+    let _tables = version.tables();
+    match version.plan_level(alloc, 2)? {
+        Some(plan) => Ok(Version::over_inputs(alloc, &plan)?),
+        None => Err(DbError::BadLine),
+    }
+}
+
+const OF_INPUTS: [Look; 2] = [Look::All(&[11, 13, 3]), Look::Points(2, None)];
+
+fn has_inputs(alloc: Global) -> Result<bool, DbError> {
+    let version = version_of(alloc, &WITH_LEVEL_3, Some((2, b"b", 5)))?;
+    let inputs = over_level_2(alloc, &version)?;
+    Ok(first_wrong(alloc, &inputs, &OF_INPUTS)?.is_none())
+}
+
+#[test]
+fn inputs_stand_in_a_version_of_their_own(rt: HostRuntime) {
+    assert_eq!(rt; has_inputs(rt.alloc()), Ok(true));
 }

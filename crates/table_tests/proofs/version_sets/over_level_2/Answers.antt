@@ -1,5 +1,5 @@
 use Rattle.std.proofs.Common.{arith}
-use Rattle.table_tests.proofs.version_sets.plans.over_level_2.Goals as goal
+use Rattle.table_tests.proofs.version_sets.over_level_2.Goals as goal
 
 pub over_inputs-requires : goal.over_inputs-requires
 over_inputs-requires g c =

@@ -2,7 +2,7 @@ use Rattle.std.proofs.Common.{◌≡◌, Bool, true, false, sym}
 use Rattle.std.specs.Bool.{MatchBool}
 use Rattle.std.proofs.lemmas.List.Sorted.{non_decreasing_from_is_sorted}
 use mathlib.Core.Bool.{true≢false}
-use Rattle.compact.proofs.tests.is_rising.Goals as goal
+use Rattle.table_tests.proofs.compactions.is_rising.Goals as goal
 
 match-true : {A : Type 0} (B : Type 0) (r : Bool) → MatchBool r A B → r ≡ true → A
 match-true B true h e = h

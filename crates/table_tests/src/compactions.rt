@@ -1,17 +1,19 @@
+//! Jobs that compact tables.
 ghost use Rattle.std.specs.Prelude.{◌≡◌, ◌<◌, ◌^◌, true};
 ghost use Rattle.std.specs.List.Sorted.{IsNonDecreasing};
 
-use super::*;
+use crate::entries::{Row, entries_of, is_listed};
+use crate::layouts::{TableRow, placed, version_of};
 use coding::{Bytes, Damage, DbError, FileKind};
+use compact::{DeeperFiles, FileNumbers, FilesBelow, HasStore, Job};
 use cursor::{Cursor, ListCursor, Merge};
-use edits::{Edit, Field, Layout, PlacedTable, TableFile};
-use ikey::{Bytewise, KeyOrder, Kind, pack, unpack};
-use std::alloc::{AllocError, AllocGlobal, Global};
-use std::process::Abort;
+use edits::{Edit, Field, PlacedTable};
+use ikey::{Bytewise, KeyOrder, Kind};
+use std::alloc::{AllocError, Global};
 use std::test::*;
-use store::{Fault, FaultStore, MemStore, Store};
+use store::{Fault, FaultStore, MemStore, Store, StoreError};
 use table::{KeyValue, Table};
-use versions::{JobPlan, Version};
+use versions::JobPlan;
 
 // ---- a source without caches, and inputs in memory
 
@@ -115,34 +117,23 @@ impl<K: KeyOrder, S: Store> Cursor<K, Alone<S>> for InMemory<K> {
     ghost leaves_more = { λ fewer more old new less k. k };
 }
 
-type Entry = (&'static [u8], u64, Kind, &'static [u8]);
-
-fn pairs_of(alloc: Global, entries: &[Entry]) -> Result<Vec<KeyValue>, AllocError> {
-    let mut pairs = Vec::new(alloc);
-    for (user, sequence, kind, value) in entries {
-        if *sequence < 1 << 56 {
-            pairs.push(KeyValue {
-                key: Bytes::from_vec(pack(alloc, *user, *sequence, *kind)?),
-                value: Bytes::copied_from(alloc, *value)?,
-            })?;
-        }
-    }
-    Ok(pairs)
-}
-
 type Inputs = Merge<Bytewise, InMemory<Bytewise>>;
 
-fn inputs_of(alloc: Global, inputs: &[&[Entry]]) -> Result<Inputs, AllocError> {
-    let mut cursors = Vec::new(alloc);
-    for entries in inputs {
-        cursors.push(InMemory {
-            list: ListCursor::new(pairs_of(alloc, *entries)?),
-        })?;
-    }
-    Merge::new(alloc, cursors)
+fn input_of(alloc: Global, entries: &[Row]) -> Result<InMemory<Bytewise>, DbError> {
+    Ok(InMemory {
+        list: ListCursor::new(entries_of(alloc, entries)?),
+    })
 }
 
-// ---- what both files of tests use
+fn inputs_of(alloc: Global, inputs: &[&[Row]]) -> Result<Inputs, DbError> {
+    let mut cursors = Vec::new(alloc);
+    for entries in inputs {
+        cursors.push(input_of(alloc, entries)?)?;
+    }
+    Ok(Merge::new(alloc, cursors)?)
+}
+
+// ---- what the choices of entries use too
 
 // Whether deeper files cover the keys `a` and `b`.
 #[derive(Clone, Copy)]
@@ -181,37 +172,37 @@ pub fn is_rising(numbers: &[u64]) -> bool
 // ---- jobs
 
 struct Case {
-    inputs: &'static [&'static [Entry]],
+    inputs: &'static [&'static [Row]],
     // of all inputs
     count: u32,
     snapshots: &'static [u64],
     deeper: Deeper,
     file_bytes: u64,
     // the entries of each table that is written
-    tables: &'static [&'static [Entry]],
+    tables: &'static [&'static [Row]],
 }
 
-const A4: Entry = (b"a", 4, Kind::Delete, b"");
+const A4: Row = (b"a", 4, Kind::Delete, b"");
 
-const VALUED_A4: Entry = (b"a", 4, Kind::Delete, b"value");
+const VALUED_A4: Row = (b"a", 4, Kind::Delete, b"value");
 
-const A3: Entry = (b"a", 3, Kind::Put, b"33");
+const A3: Row = (b"a", 3, Kind::Put, b"33");
 
-const A2: Entry = (b"a", 2, Kind::Put, b"32");
+const A2: Row = (b"a", 2, Kind::Put, b"32");
 
-const A1: Entry = (b"a", 1, Kind::Put, b"31");
+const A1: Row = (b"a", 1, Kind::Put, b"31");
 
-const NEW_A: Entry = (b"a", 5, Kind::Put, b"5");
+const NEW_A: Row = (b"a", 5, Kind::Put, b"5");
 
-const OLD_A: Entry = (b"a", 1, Kind::Put, b"1");
+const OLD_A: Row = (b"a", 1, Kind::Put, b"1");
 
-const NEW_B: Entry = (b"b", 4, Kind::Delete, b"");
+const NEW_B: Row = (b"b", 4, Kind::Delete, b"");
 
-const OLD_B: Entry = (b"b", 2, Kind::Put, b"2");
+const OLD_B: Row = (b"b", 2, Kind::Put, b"2");
 
-const C: Entry = (b"c", 3, Kind::Put, b"3");
+const C: Row = (b"c", 3, Kind::Put, b"3");
 
-const GONE_A: Entry = (b"a", 5, Kind::Delete, b"");
+const GONE_A: Row = (b"a", 5, Kind::Delete, b"");
 
 const NO_DEEPER: Deeper = Deeper { a: false, b: false };
 
@@ -232,24 +223,19 @@ const CASES: [Case; 7] = [
     Case { inputs: &[&[NEW_A, OLD_B], &[OLD_A, C], &[NEW_B]], count: 5, snapshots: &[1, 2, 5], deeper: NO_DEEPER, file_bytes: 1 << 20, tables: &[&[NEW_A, OLD_A, NEW_B, OLD_B, C]] },
 ];
 
-fn placed(alloc: Global, level: u32, number: u64) -> Result<PlacedTable, AllocError> {
-    Ok(PlacedTable {
-        level,
-        table: TableFile {
-            number,
-            size: 176,
-            smallest: Bytes::from_vec(pack(alloc, b"b", 1, Kind::Put)?),
-            largest: Bytes::from_vec(pack(alloc, b"d", 1, Kind::Put)?),
-        },
-    })
-}
+// The tables that a job takes, as it names them. They need not be there.
+const INPUTS: [TableRow; 3] = [
+    TableRow(2, 4, 176, b"b", 1, b"d", 1),
+    TableRow(1, 7, 176, b"b", 1, b"d", 1),
+    TableRow(1, 5, 176, b"b", 1, b"d", 1),
+];
 
 // From levels 1 and 2 to level 2.
 fn plan(alloc: Global) -> Result<JobPlan, AllocError> {
     let mut inputs = Vec::new(alloc);
-    inputs.push(placed(alloc, 2, 4)?)?;
-    inputs.push(placed(alloc, 1, 7)?)?;
-    inputs.push(placed(alloc, 1, 5)?)?;
+    for row in &INPUTS {
+        inputs.push(placed(alloc, row)?)?;
+    }
     Ok(JobPlan {
         inputs,
         output_level: 2,
@@ -258,6 +244,22 @@ fn plan(alloc: Global) -> Result<JobPlan, AllocError> {
 }
 
 type TestJob = Job<Bytewise, Inputs>;
+
+// How many entries are left behind a slice, where it says how much it merged, and whether that was the end.
+fn left_behind<S: Store + Drop>(
+    alloc: Global,
+    job: &mut TestJob,
+    source: &mut Alone<S>,
+    numbers: &mut FileNumbers,
+    deeper: &Deeper,
+    slice: (u32, u32),
+) -> Result<Option<u32>, DbError> {
+    let (left, budget) = slice;
+    let progress = job.slice(alloc, source, numbers, deeper, budget)?;
+    let rest = left.saturating_sub(progress.merged);
+    let is_so = progress.merged == budget.max(1).min(left) && progress.ended == (rest == 0);
+    Ok(is_so.then_some(rest))
+}
 
 // Whether each slice says how much it merged, up to the end.
 fn merges_all<S: Store + Drop>(
@@ -270,16 +272,10 @@ fn merges_all<S: Store + Drop>(
 ) -> Result<bool, DbError> {
     let mut left = case.count;
     for _ in 0..case.count.saturating_add(1) {
-        let progress = job.slice(alloc, source, numbers, &case.deeper, budget)?;
-        if progress.merged != budget.max(1).min(left) {
-            return Ok(false);
-        }
-        left = left.saturating_sub(progress.merged);
-        if progress.ended != (left == 0) {
-            return Ok(false);
-        }
-        if progress.ended {
-            return Ok(true);
+        match left_behind(alloc, job, source, numbers, &case.deeper, (left, budget))? {
+            Some(0) => return Ok(true),
+            Some(rest) => left = rest,
+            None => return Ok(false),
         }
     }
     Ok(false)
@@ -314,56 +310,59 @@ fn edit_of<S: Store + Drop>(
     Ok(Some(edit))
 }
 
-fn is_entry(pair: &KeyValue, entry: Entry) -> bool {
-    let (user, sequence, kind, value) = entry;
-    match unpack(pair.key.as_slice()) {
-        Some(key) => {
-            key.user == user
-                && key.sequence == sequence
-                && key.kind == kind
-                && pair.value.as_slice() == value
-        }
-        None => false,
-    }
-}
-
-// Whether the table has these entries, and the edit says so.
+// Whether the table's file has the size that the edit says, and the table these entries.
 fn has_table(
     alloc: Global,
     store: &mut MemStore,
     placed: &PlacedTable,
-    entries: &[Entry],
+    entries: &[Row],
 ) -> Result<bool, DbError> {
     let name = match placed.table.number {
         9 => "000009.ldb",
         10 => "000010.ldb",
         _ => "000011.ldb",
     };
+    let is_long = matches!(store.len(name), Ok(size) if size == placed.table.size);
     let table = Table::<Bytewise>::open(alloc, store, name)?;
     let pairs = table.entries(alloc, store)?;
     Ok(
-        placed.level == 2
-            && Some(placed.table.size) == store.len(name).ok()
-            && pairs.len() == entries.len()
-            && pairs
-                .iter()
-                .zip(entries)
-                .all(|(pair, entry)| is_entry(pair, *entry))
-            && pairs
-                .first()
-                .is_some_and(|pair| pair.key == placed.table.smallest)
-            && pairs
-                .last()
-                .is_some_and(|pair| pair.key == placed.table.largest),
+        is_long
+            && placed.level == 2
+            && is_listed(alloc, &pairs, entries)?
+            && spans(placed, pairs.first(), pairs.last()),
     )
 }
 
-// Whether the edit has the inputs' tables as gone, and these as new.
+// Whether the first and the last entry have the table's smallest and largest key.
+fn spans(placed: &PlacedTable, first: Option<&KeyValue>, last: Option<&KeyValue>) -> bool {
+    matches!(first, Some(pair) if pair.key == placed.table.smallest)
+        && matches!(last, Some(pair) if pair.key == placed.table.largest)
+}
+
+// Whether these are the new tables.
+fn are_made(
+    alloc: Global,
+    store: &mut MemStore,
+    made: &[Field],
+    tables: &[&[Row]],
+) -> Result<bool, DbError> {
+    for (field, entries) in made.iter().zip(tables) {
+        let Field::NewFile(placed) = field else {
+            return Ok(false);
+        };
+        if !has_table(alloc, store, placed, entries)? {
+            return Ok(false);
+        }
+    }
+    Ok(made.len() == tables.len())
+}
+
+// Whether the edit has the inputs' tables as gone, and these as new, and no other file is there.
 fn has_tables(
     alloc: Global,
     store: &mut MemStore,
     edit: &Edit,
-    tables: &[&[Entry]],
+    tables: &[&[Row]],
 ) -> Result<bool, DbError> {
     let [
         Field::NextFileNumber(next),
@@ -377,20 +376,10 @@ fn has_tables(
     else {
         return Ok(false);
     };
-    if *next != (tables.len() as u64).saturating_add(9) || key.as_slice() != b"pointer".as_slice() {
-        return Ok(false);
-    }
-    for (field, entries) in made.iter().zip(tables) {
-        match field {
-            Field::NewFile(placed) => {
-                if !has_table(alloc, store, placed, *entries)? {
-                    return Ok(false);
-                }
-            }
-            _ => return Ok(false),
-        }
-    }
-    Ok(made.len() == tables.len())
+    let is_numbered = *next == (tables.len() as u64).saturating_add(9);
+    let is_moved = key.as_slice() == b"pointer".as_slice();
+    let are_alone = matches!(store.list(alloc), Ok(names) if names.len() == tables.len());
+    Ok(is_numbered && is_moved && are_alone && are_made(alloc, store, made, tables)?)
 }
 
 // Whether the case's job, in slices of this budget, writes its tables and no others.
@@ -399,25 +388,29 @@ fn holds(alloc: Global, case: &Case, budget: u32) -> Result<bool, DbError> {
         store: MemStore::new(alloc),
     };
     match edit_of(alloc, &mut source, case, budget, 9)? {
-        Some(edit) => Ok(
-            has_tables(alloc, &mut source.store, &edit, case.tables)?
-                && source
-                    .store
-                    .list(alloc)
-                    .is_ok_and(|names| names.len() == case.tables.len()),
-        ),
+        Some(edit) => has_tables(alloc, &mut source.store, &edit, case.tables),
         None => Ok(false),
     }
 }
 
-#[test]
-fn jobs_write_what_must_be_kept(rt: HostRuntime) -> Result<(), Fail> {
-    for case in &CASES {
-        for budget in [0, 1, 2, 3, 100] {
-            assert!(rt; holds(rt.alloc(), case, budget)?, "{budget}");
+fn holds_at_each_budget(alloc: Global, case: &Case) -> Result<bool, DbError> {
+    for budget in [0, 1, 2, 3, 100] {
+        if !holds(alloc, case, budget)? {
+            return Ok(false);
         }
     }
-    Ok(())
+    Ok(true)
+}
+
+#[test]
+fn jobs_write_what_must_be_kept(rt: HostRuntime) {
+    for (place, case) in CASES.iter().enumerate() {
+        assert_eq!(rt;
+            holds_at_each_budget(rt.alloc(), case),
+            Ok(true),
+            "case {place}"
+        );
+    }
 }
 
 #[rattlefmt::skip]
@@ -439,73 +432,60 @@ fn is_refused(alloc: Global, case: &Case, next: u64, error: DbError) -> bool {
 }
 
 #[test]
-fn refusals_say_why(rt: HostRuntime) -> Result<(), Fail> {
+fn refusals_say_why(rt: HostRuntime) {
     for (case, next, error) in &REFUSED {
         assert!(rt; is_refused(rt.alloc(), case, *next, *error), "{error}");
     }
-    Ok(())
+}
+
+// A store with an input's file, whose call of this number fails behind three bytes.
+fn failing(alloc: Global, call: u64) -> Result<FaultStore, StoreError> {
+    let mut files = MemStore::new(alloc);
+    files.create("000004.ldb")?;
+    files.append("000004.ldb", b"in")?;
+    let faults = Vec::from_array(alloc, [(call, Fault::Part(3))])?;
+    Ok(FaultStore::new(files, faults))
+}
+
+fn keeps_input(alloc: Global, store: &mut MemStore) -> bool {
+    matches!(store.read_at(alloc, "000004.ldb", 0, 9), Ok(bytes) if bytes.as_slice() == b"in".as_slice())
 }
 
 // Whether a job is refused whose store fails at the call of this number, and leaves its inputs; None where it does
 // anything else.
-fn fails_at(alloc: Global, case: &Case, call: u64) -> Result<Option<bool>, AllocError> {
-    let mut files = MemStore::new(alloc);
-    let written = files.create("000004.ldb").is_ok() && files.append("000004.ldb", b"in").is_ok();
-    let mut faults = Vec::new(alloc);
-    faults.push((call, Fault::Part(3)))?;
-    let mut source = Alone {
-        store: FaultStore::new(files, faults),
+fn fails_at(alloc: Global, case: &Case, call: u64) -> Option<bool> {
+    let store = failing(alloc, call).ok()?;
+    let mut source = Alone { store };
+    let is_failed = match edit_of(alloc, &mut source, case, 100, 9) {
+        Ok(Some(_)) => false,
+        Err(DbError::Io) => true,
+        _ => return None,
     };
-    let answer = edit_of(alloc, &mut source, case, 100, 9);
-    let mut files = source.store.into_inner();
-    let kept = files
-        .read_at(alloc, "000004.ldb", 0, 9)
-        .is_ok_and(|bytes| bytes.as_slice() == b"in".as_slice());
-    Ok(match answer {
-        Ok(Some(_)) => Some(false).filter(|_| written && kept),
-        Err(DbError::Io) => Some(true).filter(|_| written && kept),
-        _ => None,
-    })
+    keeps_input(alloc, &mut source.store.into_inner()).then_some(is_failed)
 }
 
-#[test]
-fn a_failing_store_is_answered(rt: HostRuntime) -> Result<(), Fail> {
+// At how many of the calls a job is refused.
+fn failures_of(alloc: Global, case: &Case) -> Option<u64> {
     let mut failed = 0u64;
     for call in 1..40 {
-        if fails_at(rt.alloc(), &CASES[5], call)?.ok_or("another answer")? {
+        if fails_at(alloc, case, call)? {
             failed = failed.saturating_add(1);
         }
     }
-    // The three tables are appended to twice each.
-    assert_eq!(rt; failed, 6);
-    Ok(())
+    Some(failed)
 }
 
-// Whether the version of these tables, by level, covers the key below level 1.
-fn covers_below(alloc: Global, levels: &[u32], user: &[u8]) -> Result<bool, DbError> {
-    let mut tables = Vec::new(alloc);
-    for (level, number) in levels.iter().zip(4..) {
-        tables.push(placed(alloc, *level, number)?)?;
-    }
-    let mut compact_pointers = Vec::new(alloc);
-    for _ in 0..7 {
-        compact_pointers.push(None)?;
-    }
-    if compact_pointers.len() != 7 {
-        return Ok(false);
-    }
-    let version = Version::<Bytewise>::new(
-        alloc,
-        &Layout {
-            log_number: 0,
-            previous_log_number: 0,
-            next_file_number: 100,
-            last_sequence: 100,
-            compact_pointers,
-            tables,
-        },
-    )
-    .map_err(|_| DbError::OutOfMemory)?;
+// The three tables are appended to twice each.
+#[test]
+fn a_failing_store_is_answered(rt: HostRuntime) {
+    assert_eq!(rt; failures_of(rt.alloc(), &CASES[5]), Some(6));
+}
+
+// ---- deeper tables
+
+// Whether the version of these tables covers the key below level 1.
+fn covers_below(alloc: Global, rows: &[TableRow], user: &[u8]) -> Result<bool, DbError> {
+    let version = version_of(alloc, rows, None)?;
     let files = FilesBelow {
         version: &version,
         level: 1,
@@ -514,14 +494,17 @@ fn covers_below(alloc: Global, levels: &[u32], user: &[u8]) -> Result<bool, DbEr
 }
 
 #[rattlefmt::skip]
-const COVERED: [(&[u32], &[u8], bool); 5] = [
-    (&[2], b"b", true), (&[1, 3], b"d", true), (&[0, 1], b"c", false), (&[2], b"a", false), (&[6], b"e", false),
+const COVERED: [(&[TableRow], &[u8], bool); 5] = [
+    (&[TableRow(2, 4, 176, b"b", 1, b"d", 1)], b"b", true),
+    (&[TableRow(1, 4, 176, b"b", 1, b"d", 1), TableRow(3, 5, 176, b"b", 1, b"d", 1)], b"d", true),
+    (&[TableRow(0, 4, 176, b"b", 1, b"d", 1), TableRow(1, 5, 176, b"b", 1, b"d", 1)], b"c", false),
+    (&[TableRow(2, 4, 176, b"b", 1, b"d", 1)], b"a", false),
+    (&[TableRow(6, 4, 176, b"b", 1, b"d", 1)], b"e", false),
 ];
 
 #[test]
-fn deeper_tables_cover_keys(rt: HostRuntime) -> Result<(), Fail> {
-    for (levels, user, covered) in COVERED {
-        assert_eq!(rt; covers_below(rt.alloc(), levels, user)?, covered);
+fn deeper_tables_cover_keys(rt: HostRuntime) {
+    for (rows, user, is_covered) in COVERED {
+        assert_eq!(rt; covers_below(rt.alloc(), rows, user), Ok(is_covered));
     }
-    Ok(())
 }

@@ -1,4 +1,9 @@
-use super::*;
+//! Laws of searches through the tables of a version.
+
+use search::{
+    answered_place, goes_on, has_ended, is_found, memory_in_front, passed_place, searched_table,
+    version_is_kept, version_of_directory, version_of_part,
+};
 use std::test::*;
 
 #[test]
