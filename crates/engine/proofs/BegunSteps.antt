@@ -1,5 +1,6 @@
 -- An open up to where its database is made, step by step.
-use Rattle.std.proofs.Common.{◌≡◌, ℕ, ◌+◌, List, ◌++◌, map, Result, Ok, IsTrue, inl, inr, refl, sym, ap, subst, ◌∙◌, arith, append-nil}
+use Rattle.std.proofs.Common.{◌≡◌, ℕ, ◌+◌, ◌<◌, List, [], ◌∷◌, ◌++◌, map, Option, None, Result, Ok, IsTrue, inl, inr, refl, sym, ap, subst, ◌∙◌, arith, append-nil}
+use Rattle.std.specs.Option.{option_and_then}
 use Rattle.coding.specs.declared.error.DbError.{DbError}
 use Rattle.store.specs.Files.{Facts, Files}
 use Rattle.ikey.specs.Orders.{Order}
@@ -7,10 +8,12 @@ use Rattle.ikey.specs.declared.entry.Entry.{Entry}
 use Rattle.edits.specs.Layout.{fields_of}
 use Rattle.edits.specs.Names.{name_of}
 use Rattle.edits.specs.declared.field.PlacedTable.{PlacedTable}
+use Rattle.edits.specs.declared.layout.Layout.{Layout}
 use Rattle.edits.specs.declared.names.FileName.TheVariants.{Manifest}
-use Rattle.memories.specs.Memories.{Memories, logged_in}
+use Rattle.memories.specs.Memories.{Memories, inserts_of, logged_in, older_at, sealed_inserts}
 use Rattle.recover.specs.Changes.{RecoveredLaw, ManifestEndsAt, empty_log}
 use Rattle.recover.specs.Directory.{EndsAt}
+use Rattle.recover.specs.Logs.{AreLive, LogContent, NumbersRise}
 use Rattle.recover.specs.Numbers.{IsFree}
 use Rattle.recover.specs.Tables.{TableContent}
 use Rattle.versions.specs.Levels.{Lists}
@@ -89,6 +92,20 @@ sealed_says memory found others a b entries used s = record {
 sealed_logged : (memory : Memories) (entries : List Entry) (used : ℕ) → IsSealedOf memory entries used → logged_in memory ≡ entries
 sealed_logged memory entries used s = let front = s.sealed in let back = s.current in (λ i. front i ++ back i) ∙ append-nil entries
 
+-- ---- logs in front of the last one
+
+rise_to : (low : ℕ) (before : List LogContent) (last : LogContent) → NumbersRise low (before ++ last ∷ []) → low < last.number
+rise_to low [] last h = h.0
+rise_to low (content ∷ before) last h = let first = h.0 in let later = rise_to content.number before last h.1 in omega (arith, first, later)
+
+-- there are none where it is the first that is live
+none_in_front : (layout : Layout) (low : ℕ) (before : List LogContent) (last : LogContent) → layout.log_number ≡ last.number → layout.previous_log_number ≡ 0 → AreLive layout (before ++ last ∷ []) → NumbersRise low (before ++ last ∷ []) → before ≡ []
+none_in_front layout low [] last log previous live rise = refl
+none_in_front layout low (content ∷ before) last log previous live rise = absurd (elim live.0 [
+  | inl le ↦ (let less = rise_to content.number before last rise.1 in omega (arith, le, log, less))
+  | inr one ↦ (let is = one.0 in let some = one.1 in omega (arith, is, some, previous))
+])
+
 -- ---- what is known of the directory
 
 -- both say which logs are live, and so the same
@@ -99,15 +116,29 @@ same_logs found a b c d (inl k) (inr l) = absurd (k.0 l.0)
 same_logs found a b c d (inr k) (inl l) = absurd (l.0 k.0)
 
 module _ (order : Order) (files : Files) (found : Found) (end : ℕ) (tables : List TableContent) (entries : List Entry) (used : ℕ) (r : HasRewritten order files found end tables entries used) where
+  -- where nothing was found, the new log is the first that is live
+  none_before : (memory : Memories) → IsSealedOf memory entries used → entries ≡ found.entries.items → memory.sealed ≡ None → r.before ≡ []
+  none_before memory s says none =
+      let nothing : sealed_inserts memory ≡ [] = ap (λ (o : Option ℕ). inserts_of (option_and_then (older_at memory.older) o)) none in
+      let layout = r.log.directory.layout in
+      let L : List LogContent → Type 0 = λ logs. AreLive layout logs in
+      let N : List LogContent → Type 0 = λ logs. NumbersRise 0 logs in
+      elim r.live [
+        | inl some ↦ absurd (some.0 (sym says ∙ sym s.sealed ∙ nothing))
+        | inr first ↦ none_in_front layout 0 r.before (empty_log (found.number + 1)) first.1 first.2 (subst L r.logs r.log.consistent.live) (subst N r.logs r.log.consistent.rising)
+      ]
+
   -- what was found is sealed, and nothing else is in memory
-  logs_begun : (memory : Memories) → IsSealedOf memory entries used → HasLogs r.log.directory (found.number + 1) memory
-  logs_begun memory s = record {
+  logs_begun : (memory : Memories) → IsSealedOf memory entries used → entries ≡ found.entries.items → HasLogs r.log.directory (found.number + 1) memory
+  logs_begun memory s says = record {
     sealed = r.before;
     current = empty_log (found.number + 1);
     logs = r.logs;
     number = refl;
     sealed_are = s.sealed ∙ r.in_front;
     current_are = s.current;
+    front = none_before memory s says;
+    some = λ none. s.unsealed (sym s.sealed ∙ none);
   }
 
   known_begun : (name : List ℕ) (state : DirectoryState) → name ≡ name_of (Manifest found.number) → IsKnownAfter found name end state → IsFree order files (found.number + 2)
@@ -154,7 +185,7 @@ begun_has order files found end tables entries used r name begun memory lists ma
         in_logs = r.log.in_logs;
         spent = r.log.spent;
       };
-      logs = subst (λ (n : ℕ). HasLogs d n begun.memory) (sym made.number) (logs_begun order files found end tables entries used r begun.memory memory);
+      logs = subst (λ (n : ℕ). HasLogs d n begun.memory) (sym made.number) (logs_begun order files found end tables entries used r begun.memory memory (sym memory.sealed ∙ made.memory.sealed));
       knows = subst (λ (n : ℕ). KnowsDirectory order files d n begun.directory) (sym made.number)
           (known_begun order files found end tables entries used r name begun.directory made.named made.known free);
     }

@@ -156,6 +156,7 @@ module _ {K : Type 0} {g : _} (order : Order) (kept : (scan : Scan K g) → Scan
         log_cleaned =
             let logs = serving.log.logs in
             let knows = serving.log.knows in
+            let still : memory.sealed ≡ db.memory.sealed = ap (λ (one : Memories). one.sealed) used.others in
             record {
               named = serving.log.named;
               directory = record {
@@ -166,7 +167,7 @@ module _ {K : Type 0} {g : _} (order : Order) (kept : (scan : Scan K g) → Scan
                 in_logs = logged_same ∙ a.in_logs;
                 spent = last_same ∙ a.spent;
               };
-              logs = record { sealed = logs.sealed; current = logs.current; logs = logs.logs; number = logs.number; sealed_are = sealed_same ∙ logs.sealed_are; current_are = current_same ∙ logs.current_are };
+              logs = record { sealed = logs.sealed; current = logs.current; logs = logs.logs; number = logs.number; sealed_are = sealed_same ∙ logs.sealed_are; current_are = current_same ∙ logs.current_are; front = λ none. logs.front (sym still ∙ none); some = λ none. still ∙ logs.some (sym sealed_same ∙ none) };
               knows = record {
                 first_log = knows.first_log;
                 forward = knows.forward;

@@ -28,6 +28,7 @@ one_end (a ∷ xs) (b ∷ ys) x y e =
 pub logs_extended : (d e : Directory) (log : ℕ) (old new : Memories) (more : List Entry) → IsExtended d e more → IsWritten old new more → HasLogs d log old → HasLogs e log new
 logs_extended d e log old new more x written h =
     let same = one_end h.sealed x.before h.current x.last (sym h.logs ∙ x.old) in
+    let sealed : new.sealed ≡ old.sealed = ap (λ (m : Memories). m.sealed) written.others in
     record {
       sealed = x.before;
       current = x.next;
@@ -35,6 +36,8 @@ logs_extended d e log old new more x written h =
       number = x.number ∙ ap (λ (c : LogContent). c.number) (sym same.1) ∙ h.number;
       sealed_are = ap sealed_inserts written.others ∙ h.sealed_are ∙ ap logged same.0;
       current_are = written.inserts ∙ ap (λ (es : List Entry). es ++ more) (h.current_are ∙ ap (λ (c : LogContent). batch_entries c.batches) same.1) ∙ sym x.entries;
+      front = λ none. sym same.0 ∙ h.front (sym sealed ∙ none);
+      some = λ none. sealed ∙ h.some (sym (ap sealed_inserts written.others) ∙ none);
     }
 
 -- No other part is changed.

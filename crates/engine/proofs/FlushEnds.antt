@@ -197,7 +197,7 @@ module _ {K : Type 0} {g : _} (order : Order) (kept : (scan : Scan K g) → Scan
         log = record {
           named = h.log.named;
           directory = record { directory = a.directory; consistent = a.consistent; ends = a.ends; in_tables = a.in_tables; in_logs = logged_same ∙ a.in_logs; spent = a.spent };
-          logs = record { sealed = logs.sealed; current = logs.current; logs = logs.logs; number = logs.number; sealed_are = sym none ∙ logs.sealed_are; current_are = logs.current_are };
+          logs = record { sealed = logs.sealed; current = logs.current; logs = logs.logs; number = logs.number; sealed_are = sym none ∙ logs.sealed_are; current_are = logs.current_are; front = λ gone. logs.front (logs.some none); some = λ gone. refl };
           knows = record { first_log = knows.first_log; forward = knows.forward; previous_log = knows.previous_log; number = knows.number; named = knows.named; ends = knows.ends; free = knows.free };
         };
         tables = record { version = h.tables.version; in_order = h.tables.in_order; sound = h.tables.sound; drawn = h.tables.drawn };

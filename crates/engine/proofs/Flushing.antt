@@ -223,7 +223,7 @@ module _ {K : Type 0} {g : _} (order : Order) (kept : (scan : Scan K g) → Scan
               in_logs = in_current;
               spent = a.spent ∙ sym f.used;
             };
-            logs = record { sealed = []; current = current; logs = refl; number = serving.log.logs.number; sealed_are = refl; current_are = serving.log.logs.current_are };
+            logs = record { sealed = []; current = current; logs = refl; number = serving.log.logs.number; sealed_are = refl; current_are = serving.log.logs.current_are; front = λ none. refl; some = λ none. refl };
             knows = record {
               first_log = f.flush.log_number ∙ serving.log.logs.number ∙ sym first_log;
               forward = omega (arith, first_log);

@@ -223,7 +223,7 @@ module _ {K : Type 0} {g : _} (order : Order) (kept : (scan : Scan K g) → Scan
                 in_logs = a.in_logs;
                 spent = a.spent ∙ sym has.used;
               };
-              logs = record { sealed = logs.sealed; current = logs.current; logs = logs.logs; number = logs.number; sealed_are = logs.sealed_are; current_are = logs.current_are };
+              logs = record { sealed = logs.sealed; current = logs.current; logs = logs.logs; number = logs.number; sealed_are = logs.sealed_are; current_are = logs.current_are; front = logs.front; some = logs.some };
               knows = record {
                 first_log = has.compaction.log_number ∙ knows.first_log ∙ sym first_log;
                 forward = (let forward = knows.forward in omega (arith, forward, first_log));
@@ -287,7 +287,7 @@ module _ {K : Type 0} {g : _} (order : Order) (kept : (scan : Scan K g) → Scan
           record {
             named = serving.log.named;
             directory = record { directory = d; consistent = has.served.consistent; ends = has.kept.ends db.log.number db.log.end a.ends; in_tables = a.in_tables; in_logs = a.in_logs; spent = a.spent };
-            logs = record { sealed = logs.sealed; current = logs.current; logs = logs.logs; number = logs.number; sealed_are = logs.sealed_are; current_are = logs.current_are };
+            logs = record { sealed = logs.sealed; current = logs.current; logs = logs.logs; number = logs.number; sealed_are = logs.sealed_are; current_are = logs.current_are; front = logs.front; some = logs.some };
             knows = record {
               first_log = knows.first_log;
               forward = knows.forward;

@@ -213,6 +213,8 @@ module _ {K : Type 0} {g : _} (order : Order) (kept : (scan : Scan K g) → Scan
             number = h.logs.number;
             sealed_are = left_sealed db.memory memory left ∙ h.logs.sealed_are;
             current_are = left.inserts ∙ h.logs.current_are;
+            front = λ none. h.logs.front (sym left.sealed ∙ none);
+            some = λ none. left.sealed ∙ h.logs.some (sym (left_sealed db.memory memory left) ∙ none);
           };
           knows = record {
             first_log = knows.first_log;

@@ -1,5 +1,5 @@
 -- What the sealing of the memory table and a new log leave of an open database.
-use Rattle.std.proofs.Common.{true, ◌≡◌, ◌⊎◌, ℕ, ◌+◌, ◌≤◌, ◌<◌, ◌^◌, List, [], ◌++◌, max, Option, Some, None, IsTrue, IsSome, inl, inr, refl, sym, ap, subst, ◌∙◌, arith, string_bytes}
+use Rattle.std.proofs.Common.{true, ◌≡◌, ◌⊎◌, ℕ, ◌+◌, ◌≤◌, ◌<◌, ◌^◌, List, [], ◌++◌, length, max, Option, Some, None, IsTrue, IsSome, inl, inr, refl, sym, ap, subst, ◌∙◌, arith, string_bytes}
 use Rattle.std.proofs.lemmas.List.{append-nil}
 use Rattle.std.specs.FinMap.{get}
 use Rattle.cache.specs.Tables.{table_at}
@@ -92,6 +92,12 @@ module _ {K : Type 0} {g : _} (order : Order) (source : Seen) (db : Held K g) (m
 
 -- ---- a new log
 
+not_both : {P : Type 0} (sealed : Option ℕ) (generation : ℕ) → sealed ≡ Some generation → sealed ≡ None → P
+not_both sealed generation is none = absurd (let bad : Some generation ≡ None = sym is ∙ none in cc)
+
+not_empty : {P : Type 0} (inserts : List Entry) → 0 < length inserts → inserts ≡ [] → P
+not_empty inserts filled none = absurd (let empty = ap (λ (es : List Entry). length es) none in omega (arith, filled, empty))
+
 -- a cursor over a memory table reads on where that is sealed
 abbrev pub SealKept : (List ℕ → List ℕ → Ordering) → Type 0
 SealKept cmp = (cursor : MemoriesPlace) (old new : Memories) → IsSome (table_in old cursor.generation) → IsSealed old new → KeepsMemories cmp cursor old new
@@ -155,7 +161,7 @@ module _ {K : Type 0} {g : _} (order : Order) (kept : (scan : Scan K g) → Scan
 
   -- ---- it is there
 
-  module _ (memory : Memories) (log : CurrentLog) (state : DirectoryState) (unsealed : db.memory.sealed ≡ None) (sealed : IsSealed db.memory memory) (inserts : sealed_inserts memory ≡ db.memory.current.inserts)
+  module _ (memory : Memories) (log : CurrentLog) (state : DirectoryState) (unsealed : db.memory.sealed ≡ None) (filled : 0 < length db.memory.current.inserts) (sealed : IsSealed db.memory memory) (inserts : sealed_inserts memory ≡ db.memory.current.inserts)
       (has : HasNewLog order facts.files d next) (ends : ManifestEndsAt order facts.files d.manifest db.directory.manifest.end d.edits d.layout) (freed : IsFree order facts.files (next + 1))
       (log_number : log.number ≡ next) (log_name : string_bytes log.name ≡ name_of (Log next)) (log_end : log.end ≡ 0)
       (number : state.manifest.number ≡ db.directory.manifest.number) (name : state.manifest.name ≡ db.directory.manifest.name) (end : state.manifest.end ≡ db.directory.manifest.end)
@@ -198,6 +204,8 @@ module _ {K : Type 0} {g : _} (order : Order) (kept : (scan : Scan K g) → Scan
             number = sym log_number;
             sealed_are = inserts ∙ sym (ap (λ (es : List Entry). es ++ db.memory.current.inserts) none_sealed) ∙ a.in_logs;
             current_are = current_now;
+            front = λ none. not_both memory.sealed db.memory.generation sealed.sealed none;
+            some = λ none. not_empty db.memory.current.inserts filled (sym inserts ∙ none);
           };
           knows = record {
             first_log = knows.first_log ∙ sym first_log;

@@ -111,6 +111,8 @@ module _ {K : Type 0} {g : _} (order : Order) (kept : (scan : Scan K g) → Scan
               number = logs.number;
               sealed_are = left_sealed db.memory memory touches.memory ∙ logs.sealed_are;
               current_are = touches.memory.inserts ∙ logs.current_are;
+              front = λ none. logs.front (sym touches.memory.sealed ∙ none);
+              some = λ none. touches.memory.sealed ∙ logs.some (sym (left_sealed db.memory memory touches.memory) ∙ none);
             };
             knows = record {
               first_log = knows.first_log;

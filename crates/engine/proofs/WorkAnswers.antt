@@ -151,7 +151,7 @@ shows_worked options budget before after (inl h) = inl (some_job before.job h.wo
     some_job o x is = subst (λ (p : Option _). IsSome p) (sym is) refl
 shows_worked options budget before after (inr (inl h)) = inr (inl h.was)
 shows_worked options budget before after (inr (inr (inl h))) = inr (inr (inl h.0))
-shows_worked options budget before after (inr (inr (inr h))) = inr (inr (inr (λ within. let wanted = h.job.wanted within in (wanted.0, wanted.1))))
+shows_worked options budget before after (inr (inr (inr h))) = inr (inr (inr (h.job.wanted.0, h.job.wanted.1)))
 
 pub shows_idle : {K : Type 0} {g : _} (options : OptionValues) (budget : ℕ) (before after : Held K g) → DoesWork options budget before after (Ok progress.Idle) → ShowsWork options (Some before) Idle
 shows_idle options budget before after h = h.0

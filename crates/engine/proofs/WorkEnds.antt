@@ -1,5 +1,5 @@
 -- What an open database is, and the machine, when files were removed or a new log was begun, however that ends.
-use Rattle.std.proofs.Common.{◌≡◌, ℕ, ◌+◌, ◌≤◌, ◌<◌, true, false, List, Some, None, Ok, Err, IsTrue, inl, inr, refl, ap, subst, ◌∙◌, arith, String}
+use Rattle.std.proofs.Common.{◌≡◌, ℕ, ◌+◌, ◌≤◌, ◌<◌, true, false, List, length, Some, None, Ok, Err, IsTrue, inl, inr, refl, ap, subst, ◌∙◌, arith, String}
 use Rattle.std.specs.FinMap.{get}
 use Rattle.std.specs.declared.alloc.Global.{Global}
 use Rattle.cache.specs.Tables.{KeptTable, table_at}
@@ -102,16 +102,16 @@ module _ {K : Type 0} {g : _} (order : Order) (kept : (scan : Scan K g) → Scan
   abbrev drawn : DbState K g
   drawn = record state { directory = record state.directory { numbers = numbers } }
 
-  pub ends_sealed : (number : ℕ) (name : String Global) (sealed : Memories) → memory.sealed ≡ None → IsSealed memory sealed → sealed_inserts sealed ≡ memory.current.inserts
+  pub ends_sealed : (number : ℕ) (name : String Global) (sealed : Memories) → memory.sealed ≡ None → 0 < length memory.current.inserts → IsSealed memory sealed → sealed_inserts sealed ≡ memory.current.inserts
       → DrawsLog old.facts facts next numbers.next (Ok (number, name)) → BeginsLog {T = ℕ × String Global} order old.facts facts next numbers.next (Ok (number, name))
       → LeadsOpen order old (record old { facts = facts }) ids (held memory state) (held sealed (record drawn { log = record { number = number; name = name; end = 0 } })) (λ m n. IsPiece m 1 (Ok (tt {0})) n)
-  ends_sealed number name sealed unsealed is inserts draws_log begins =
+  ends_sealed number name sealed unsealed filled is inserts draws_log begins =
       serves_on order old (record old { facts = facts }) ids (held memory state) (held sealed (record drawn { log = record { number = number; name = name; end = 0 } })) 1 (Ok (tt {0})) whole whole touches.faithful touches.failures touches.denials
       (λ m f same serving.
       let knows = serving.log.knows in
       let d = serving.log.directory.directory in (
         draws m 1 facts,
-        serving_sealed order kept one lasts law seals old facts (held memory state) m serving f draws_log.3 (begins.others f) sealed (record { number = number; name = name; end = 0 }) (record state.directory { numbers = numbers }) unsealed is inserts
+        serving_sealed order kept one lasts law seals old facts (held memory state) m serving f draws_log.3 (begins.others f) sealed (record { number = number; name = name; end = 0 }) (record state.directory { numbers = numbers }) unsealed filled is inserts
             (begins.ok f d serving.log.directory.consistent knows.free) (begins.manifest f d.manifest state.directory.manifest.end d.edits d.layout knows.ends) (subst (λ (n : ℕ). IsFree order facts.files n) draws_log.2 (begins.free f knows.free))
             draws_log.0 draws_log.1 refl refl refl refl refl refl draws_log.2,
       ))

@@ -13,15 +13,17 @@ use Rattle.engine.specs.declared.command.Answer.TheVariants.{Done, Value, Worked
 use Rattle.engine.specs.declared.command.Answer.TheVariants as answer
 use Rattle.memtable.specs.Contents.{size_of}
 use Rattle.engine.specs.declared.ids.Ids.{Ids}
+use Rattle.engine.specs.ExactFiles.{LeavesExactlyLive}
 use Rattle.engine.specs.Held.{Held}
 use Rattle.engine.specs.Machine.{Machine}
 use Rattle.engine.specs.Needed.{HasOnlyNeeded}
 use Rattle.engine.specs.Stands.{Stands, store_of, held_in, options_of}
-use Rattle.engine.specs.StandsDb.{db_store_of, held_by}
+use Rattle.engine.specs.StandsDb.{db_store_of, held_by, seen_by}
 use Rattle.engine.specs.declared.work.Progress.{Progress}
 use Rattle.engine.specs.declared.work.Progress.TheVariants.{Idle}
-use Rattle.engine.specs.OptionValues.{OptionValues, AreInRange}
+use Rattle.engine.specs.OptionValues.{OptionValues}
 use Rattle.engine.specs.Finishing.{CompactOutcome, IsAllCompacted, IsLevelEmpty}
+use Rattle.engine.specs.WithinBudget.{EndsWithin}
 use Rattle.engine.specs.Working.{WantsCompaction, DoesWork, HasLiveOnly, LosesDead, HasNoWork}
 use Rattle.engine.specs.declared.session.Session.{Session}
 use Rattle.engine.specs.declared.db.Db.{Db}
@@ -44,7 +46,7 @@ IsRead key snapshot state _ = Unit {0}
 -- Work is done where a compaction is under way, a memory table is sealed or full, or a level wants a compaction, and else there is none.
 abbrev pub ShowsWork : {K : Type 0} {g : _} → OptionValues → Option (Held K g) → Answer → Type 0
 ShowsWork options (Some db) Worked =
-    IsSome db.job ⊎ IsSome db.memory.sealed ⊎ (options.write_buffer ≤ size_of db.memory.current.inserts) ⊎ (AreInRange options → (level : ℕ) × WantsCompaction options db level)
+    IsSome db.job ⊎ IsSome db.memory.sealed ⊎ (options.write_buffer ≤ size_of db.memory.current.inserts) ⊎ ((level : ℕ) × WantsCompaction options db level)
 ShowsWork options (Some db) answer.Idle = HasNoWork options db
 ShowsWork options state _ = Unit {0}
 
@@ -201,6 +203,14 @@ DbTidies facts old new result = result ≡ Ok Idle → IsTrue (facts (db_store_o
 -- Live files and those of other programs stay then.
 abbrev pub DbRemoves : {S K : Type 0} {g : _} → (S → Facts) → Db S K g → Db S K g → Result Progress DbError → Type 0
 DbRemoves facts old new result = result ≡ Ok Idle → IsTrue (facts (db_store_of new)).faithful → LosesDead (facts (db_store_of old)) (facts (db_store_of new)) (held_by new)
+
+-- The files are exactly the live ones then.
+abbrev pub DbExact : {S K : Type 0} {g : _} → Order → (S → Facts) → Db S K g → Db S K g → Result Progress DbError → Type 0
+DbExact order facts old new result = LeavesExactlyLive order (seen_by facts old) (seen_by facts new) (held_by old) (held_by new) result
+
+-- A compaction that it brought to its end had no more entries left than the budget has.
+abbrev pub DbEndsWithin : {S K : Type 0} {g : _} → Order → (S → Facts) → ℕ → Db S K g → Db S K g → Result Progress DbError → Type 0
+DbEndsWithin order facts budget old new result = EndsWithin order old.options budget (seen_by facts old) (seen_by facts new) (held_by old) (held_by new) result
 
 -- what a compaction of it leaves
 abbrev pub DbCompacts : {S K T : Type 0} {g : _} → (DbError → Type 0) → (S → Facts) → Db S K g → Db S K g → Result T DbError → Type 0

@@ -1,5 +1,5 @@
 -- What an open database knows of its directory, beside the entries: the parts that flushes, compactions and new logs change.
-use Rattle.std.specs.Prelude.{◌≡◌, ℕ, ◌≤◌, List, [], ◌∷◌, ◌++◌, string_bytes}
+use Rattle.std.specs.Prelude.{◌≡◌, ℕ, ◌≤◌, None, List, [], ◌∷◌, ◌++◌, string_bytes}
 use Rattle.edits.specs.Names.{name_of}
 use Rattle.edits.specs.declared.names.FileName.TheVariants.{Manifest}
 use Rattle.ikey.specs.Orders.{Order}
@@ -12,7 +12,7 @@ use Rattle.store.specs.Files.{Files}
 use Rattle.engine.specs.declared.directory.DirectoryState.{DirectoryState}
 
 -- The last log of the directory has this number, and the entries of the current memory table; those in front of it have the sealed
--- one's.
+-- one's. Where no table is sealed there are none in front, and one that is sealed has entries.
 pub record HasLogs (d : Directory) (log : ℕ) (memory : Memories) : Type 0 where
   pub sealed : List LogContent
   pub current : LogContent
@@ -20,6 +20,8 @@ pub record HasLogs (d : Directory) (log : ℕ) (memory : Memories) : Type 0 wher
   pub number : current.number ≡ log
   pub sealed_are : sealed_inserts memory ≡ logged sealed
   pub current_are : memory.current.inserts ≡ batch_entries current.batches
+  pub front : memory.sealed ≡ None → sealed ≡ []
+  pub some : sealed_inserts memory ≡ [] → memory.sealed ≡ None
 
 -- The database knows which logs the directory reads, which MANIFEST is current and where that ends, so that an edit can be put behind
 -- it, and a number from which on none is taken.

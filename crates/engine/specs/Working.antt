@@ -21,7 +21,7 @@ use Rattle.engine.specs.declared.directory.DirectoryState.{DirectoryState}
 use Rattle.engine.specs.Durable.{LeavesFile}
 use Rattle.engine.specs.Held.{Held}
 use Rattle.engine.specs.InUse.{IsTableUsed}
-use Rattle.engine.specs.OptionValues.{OptionValues, AreInRange}
+use Rattle.engine.specs.OptionValues.{OptionValues}
 use Rattle.jobs.specs.Running.{shown}
 use Rattle.jobs.specs.declared.open_job.OpenJob.{OpenJob}
 use Rattle.upkeep.specs.declared.flush.FlushError.{FlushError}
@@ -107,7 +107,7 @@ WantsCompaction options db level = (level < 6) × Needs options.level0_files opt
 -- inputs.
 pub record BeginsJob {K : Type 0} {g : _} (options : OptionValues) (budget : ℕ) (before after : Held K g) : Type 0 where
   pub plan : JobPlan
-  pub wanted : AreInRange options → (level : ℕ) × WantsCompaction options before level × (plan.output_level ≡ level + 1)
+  pub wanted : (level : ℕ) × WantsCompaction options before level × (plan.output_level ≡ level + 1)
   pub begun : MatchOption after.job (Replaces plan before.tables after.tables) (λ work. (work.job.plan ≡ plan) × (work.merged ≡ shown (max budget 1)) × (after.tables ≡ before.tables))
 
 -- That is so where nothing else was to be done.
@@ -118,7 +118,7 @@ pub record Begins {K : Type 0} {g : _} (options : OptionValues) (budget : ℕ) (
 -- Where it is, and no level wants a compaction, there is no work.
 pub record HasNoWork {K : Type 0} {g : _} (options : OptionValues) (db : Held K g) : Type 0 where
   pub ease : IsAtEase options db
-  pub unwanted : AreInRange options → (level : ℕ) → WantsCompaction options db level → ⊥
+  pub unwanted : (level : ℕ) → WantsCompaction options db level → ⊥
 
 -- Work goes on with the compaction under way; writes a table where one is sealed; seals the memory table where that is full; begins a
 -- compaction that is wanted; and else there is none.

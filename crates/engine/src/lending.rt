@@ -1,6 +1,7 @@
 //! What a session lends while no database is open: its store, of which nothing is kept in memory.
 
-ghost use Rattle.std.specs.Prelude.{◌≡◌};
+ghost use Rattle.std.specs.Prelude.{◌≡◌, []};
+ghost use Rattle.memories.specs.Memories.{IsAlone};
 
 use ikey::KeyOrder;
 use memories::MemoryTables;
@@ -21,7 +22,9 @@ pub fn sources_over<K: KeyOrder, S: Store>(alloc: Global, store: S) -> Sources<K
 
 /// Keeps nothing beside the store any more.
 pub fn forget<K: KeyOrder, S: Store>(alloc: Global, source: &mut Sources<K, S>)
-    ensures { source.new.tables.store ≡ source.old.tables.store }
+    ensures store { source.new.tables.store ≡ source.old.tables.store }
+    ensures tables { (source.new.tables.tables.tables ≡ []) × (source.new.tables.blocks.blocks ≡ []) }
+    ensures memory { IsAlone source.new.memory × (source.new.memory.current.inserts ≡ []) }
 {
     source.tables.end();
     source.memory = MemoryTables::empty(alloc);

@@ -1,7 +1,7 @@
 //! Compactions in slices: the one that is most wanted is begun, and goes on by so many entries a call (LevelDB's db/db_impl.cc,
 //! DBImpl::BackgroundCompaction).
 
-ghost use Rattle.std.specs.Prelude.{◌≡◌, ◌∷◌, ℕ, max, None, Some, IsSome, false, true, Contains, MatchBool, MatchOption, IfOk, Ok, OnOk};
+ghost use Rattle.std.specs.Prelude.{◌≡◌, ◌∷◌, ℕ, max, None, Some, IsSome, IsTrue, false, true, Contains, MatchBool, MatchOption, IfOk, Ok, OnOk};
 ghost use Rattle.std.specs.List.Sorted.{IsNonDecreasing};
 ghost use Rattle.std.specs.Map.{values_of};
 ghost use Rattle.ikey.specs.Orders.{order_of};
@@ -26,10 +26,10 @@ impl<K: KeyOrder> DbState<K> {
     ghost use Rattle.engine.specs.Follows.{LeadsOpen};
     ghost use Rattle.engine.specs.Held.{held, seen_of};
     ghost use Rattle.engine.specs.Outcomes.{DbOutcome, IsSame};
-    ghost use Rattle.engine.specs.OptionValues.{AreInRange};
     ghost use Rattle.engine.specs.declared.work.Progress.TheVariants.{Worked, Idle};
     ghost use Rattle.engine.specs.Finishing.{HasCome, ServesOn};
     ghost use Rattle.engine.specs.Needed.{EndsNeeded, IsTakingAll};
+    ghost use Rattle.engine.specs.WithinBudget.{HasLeftUpTo, SlicesUpTo};
     ghost use Rattle.engine.specs.Working.{BeginsJob, GoesOn, IsPiece, MayRefusePiece, WantsCompaction};
     ghost use Rattle.memories.specs.Places.{LeavesMemories};
     ghost use Rattle.versions.specs.Plans.{IsPlanOf, IsWholePlan};
@@ -47,7 +47,8 @@ impl<K: KeyOrder> DbState<K> {
         ensures step { (ids : Ids) → LeadsOpen (order_of K.name K.cmp) (seen_of S.facts source.old) (seen_of S.facts source.new) ids (held source.old.memory self.old) (held source.new.memory self.new) (λ m n. IsPiece m (max budget 1) result n) }
         ensures outcome { DbOutcome MayRefusePiece (S.facts source.old.tables.store) (S.facts source.new.tables.store) (held source.old.memory self.old) (held source.new.memory self.new) result }
         ensures begins { result ≡ Ok Worked → BeginsJob options.now budget (held source.old.memory self.old) (held source.new.memory self.new) }
-        ensures unwanted { result ≡ Ok Idle → AreInRange options.now → (level : ℕ) → WantsCompaction options.now (held source.old.memory self.old) level → ⊥ }
+        ensures unwanted { result ≡ Ok Idle → (level : ℕ) → WantsCompaction options.now (held source.old.memory self.old) level → ⊥ }
+        ensures few { result ≡ Ok Worked → self.new.job ≡ None → IsTrue (S.facts source.new.tables.store).faithful → SlicesUpTo (order_of K.name K.cmp) (seen_of S.facts source.old) (held source.old.memory self.old) (max budget 1) }
         ensures idle { result ≡ Ok Idle → (source.new ≡ source.old) × (self.new ≡ self.old) }
         ensures lock { (S.facts source.new.tables.store).held ≡ (S.facts source.old.tables.store).held }
     {
@@ -119,6 +120,7 @@ impl<K: KeyOrder> DbState<K> {
         ensures memory { LeavesMemories source.old.memory source.new.memory }
         ensures all { result ≡ Ok false → IsTakingAll (held source.old.memory self.old) → IsTakingAll (held source.new.memory self.new) }
         ensures needed { result ≡ Ok true → IsTakingAll (held source.old.memory self.old) → EndsNeeded (order_of K.name K.cmp) (seen_of S.facts source.old) (seen_of S.facts source.new) (held source.old.memory self.old) (held source.new.memory self.new) }
+        ensures few { result ≡ Ok true → IsTrue (S.facts source.new.tables.store).faithful → HasLeftUpTo (order_of K.name K.cmp) (seen_of S.facts source.old) (held source.old.memory self.old) (max budget 1) }
         ensures come { result ≡ Ok true → (ids : Ids) → LeadsOpen (order_of K.name K.cmp) (seen_of S.facts source.old) (seen_of S.facts source.new) ids (held source.old.memory self.old) (held source.new.memory self.new) (λ m n. HasCome budget (held source.old.memory self.old) m result n) }
         ensures lock { (S.facts source.new.tables.store).held ≡ (S.facts source.old.tables.store).held }
     {

@@ -1,7 +1,7 @@
 //! What an open database does beside its commands: the removal of files, flushes, and new logs (LevelDB's db/db_impl.cc,
 //! DBImpl::RemoveObsoleteFiles, CompactMemTable and MakeRoomForWrite).
 
-ghost use Rattle.std.specs.Prelude.{◌≡◌, ℕ, max, None, IsSome, false, if◌then◌else◌, IsTrue, IfOk, Ok, OnOk};
+ghost use Rattle.std.specs.Prelude.{◌≡◌, ◌<◌, ℕ, length, max, None, IsSome, false, if◌then◌else◌, IsTrue, IfOk, Ok, OnOk};
 ghost use Rattle.engine.specs.Working.{ClosesTables, refused_as};
 ghost use Rattle.ikey.specs.Orders.{order_of};
 
@@ -33,11 +33,13 @@ impl<K: KeyOrder> DbState<K> {
     ghost use Rattle.engine.specs.declared.ids.Ids.{Ids};
     ghost use Rattle.engine.specs.declared.work.Progress.TheVariants.{Idle};
     ghost use Rattle.engine.specs.Causes.{IsCausedIn, broken_in};
+    ghost use Rattle.engine.specs.ExactFiles.{LeavesExactlyLive};
     ghost use Rattle.engine.specs.Follows.{LeadsOpen};
     ghost use Rattle.engine.specs.Finishing.{ServesOn};
     ghost use Rattle.engine.specs.Held.{held, seen_of};
     ghost use Rattle.engine.specs.Outcomes.{DbOutcome, IsSame, MayRefuseWork};
     ghost use Rattle.engine.specs.Upkeep.{Works};
+    ghost use Rattle.engine.specs.WithinBudget.{EndsWithin};
     ghost use Rattle.engine.specs.Working.{DoesWork, HasLiveOnly, IsPiece, IsSameMemory, LosesDead, MayRefusePiece, SealsMemory, WritesTable, broken_by, flush_answer, work_answer};
 
     /// Removes the files that aren't live, and then does the first of these that there is to do: goes on with the compaction under
@@ -54,8 +56,12 @@ impl<K: KeyOrder> DbState<K> {
         ensures outcome { DbOutcome MayRefuseWork (S.facts source.old.tables.store) (S.facts source.new.tables.store) (held source.old.memory self.old) (held source.new.memory self.new) result }
         ensures caused { IsCausedIn (broken_in (held source.old.memory self.old)) source.old.tables.store source.new.tables.store result }
         ensures does { DoesWork options.now budget (held source.old.memory self.old) (held source.new.memory self.new) result }
+        // A compaction that it brought to its end had no more entries left than the budget has, while the store is faithful.
+        ensures within { EndsWithin (order_of K.name K.cmp) options.now budget (seen_of S.facts source.old) (seen_of S.facts source.new) (held source.old.memory self.old) (held source.new.memory self.new) result }
         // Where there is none, all files are live, unless one couldn't be removed.
         ensures tidy { result ≡ Ok Idle → IsTrue (S.facts source.new.tables.store).faithful → (S.facts source.new.tables.store).failures ≡ (S.facts source.old.tables.store).failures → HasLiveOnly (S.facts source.new.tables.store).files (held source.new.memory self.new) }
+        // They are exactly those that a database without work needs then: of the logs the one that writes go to.
+        ensures exact { LeavesExactlyLive (order_of K.name K.cmp) (seen_of S.facts source.old) (seen_of S.facts source.new) (held source.old.memory self.old) (held source.new.memory self.new) result }
         // All files that are live stay then, and those of other programs.
         ensures removes { result ≡ Ok Idle → IsTrue (S.facts source.new.tables.store).faithful → LosesDead (S.facts source.old.tables.store) (S.facts source.new.tables.store) (held source.new.memory self.new) }
         ensures lock { (S.facts source.new.tables.store).held ≡ (S.facts source.old.tables.store).held }
@@ -114,6 +120,7 @@ impl<K: KeyOrder> DbState<K> {
         ensures step { (ids : Ids) → LeadsOpen (order_of K.name K.cmp) (seen_of S.facts source.old) (seen_of S.facts source.new) ids (held source.old.memory self.old) (held source.new.memory self.new) (λ m n. IsPiece m (max budget 1) result n) }
         ensures outcome { DbOutcome MayRefusePiece (S.facts source.old.tables.store) (S.facts source.new.tables.store) (held source.old.memory self.old) (held source.new.memory self.new) result }
         ensures does { DoesWork options.now budget (held source.old.memory self.old) (held source.new.memory self.new) result }
+        ensures within { EndsWithin (order_of K.name K.cmp) options.now budget (seen_of S.facts source.old) (seen_of S.facts source.new) (held source.old.memory self.old) (held source.new.memory self.new) result }
         ensures idle { result ≡ Ok Idle → (source.new ≡ source.old) × (self.new ≡ self.old) }
         ensures lock { (S.facts source.new.tables.store).held ≡ (S.facts source.old.tables.store).held }
     {
@@ -137,6 +144,7 @@ impl<K: KeyOrder> DbState<K> {
         ensures step { (ids : Ids) → LeadsOpen (order_of K.name K.cmp) (seen_of S.facts source.old) (seen_of S.facts source.new) ids (held source.old.memory self.old) (held source.new.memory self.new) (λ m n. IsPiece m (max budget 1) result n) }
         ensures outcome { DbOutcome MayRefusePiece (S.facts source.old.tables.store) (S.facts source.new.tables.store) (held source.old.memory self.old) (held source.new.memory self.new) result }
         ensures does { DoesWork options.now budget (held source.old.memory self.old) (held source.new.memory self.new) result }
+        ensures within { EndsWithin (order_of K.name K.cmp) options.now budget (seen_of S.facts source.old) (seen_of S.facts source.new) (held source.old.memory self.old) (held source.new.memory self.new) result }
         ensures idle { result ≡ Ok Idle → (source.new ≡ source.old) × (self.new ≡ self.old) }
         ensures lock { (S.facts source.new.tables.store).held ≡ (S.facts source.old.tables.store).held }
     {
@@ -214,6 +222,7 @@ impl<K: KeyOrder> DbState<K> {
         requires whole { self.old.broken ≡ false }
         requires idle { self.old.job ≡ None }
         requires unsealed { source.old.memory.sealed ≡ None }
+        requires filled { 0 < length source.old.memory.current.inserts }
         ensures step { (ids : Ids) → LeadsOpen (order_of K.name K.cmp) (seen_of S.facts source.old) (seen_of S.facts source.new) ids (held source.old.memory self.old) (held source.new.memory self.new) (λ m n. IsPiece m 1 result n) }
         ensures outcome { DbOutcome MayRefusePiece (S.facts source.old.tables.store) (S.facts source.new.tables.store) (held source.old.memory self.old) (held source.new.memory self.new) result }
         ensures does { OnOk result (SealsMemory (held source.old.memory self.old) (held source.new.memory self.new)) }

@@ -11,13 +11,14 @@ use Rattle.versions.specs.declared.plan.JobPlan.{JobPlan}
 use Rattle.engine.specs.declared.state.DbState.{DbState}
 use Rattle.engine.specs.Finishing.{HasCome, ServesOn}
 use Rattle.engine.specs.Follows.{LeadsOpen}
-use Rattle.engine.specs.Held.{held, seen_of}
+use Rattle.engine.specs.Held.{held, seen_of, whole_in}
 use Rattle.engine.specs.Needed.{EndsNeeded}
 use Rattle.engine.specs.Outcomes.{DbOutcome}
 use Rattle.engine.specs.Stands.{no_ids}
 use Rattle.engine.specs.Working.{IsFurther, IsPiece, MayRefusePiece, broken_by, flush_answer}
 use Rattle.engine.proofs.JobEnds.{ends_counted, ends_gone_on, ends_installed, ends_needed, ends_stopped, ends_unended, stopped_outcome, unended_outcome}
 use Rattle.engine.proofs.NeededEntries.{takes_on, taking}
+use Rattle.engine.proofs.WithinBudget.{few_left}
 use Rattle.engine.proofs.state.DbState.advance.Goals as goal
 
 pub returns-in_err-progress-clause-step : goal.returns-in_err-progress-clause-step
@@ -204,6 +205,16 @@ returns-in-Ok-clause-needed g c said takes =
     (ends_needed order g.met.K.KeyOrder.total (λ scan. scan_kept order.cmp scan) c.one_directory.ensures c.sound_lasts.ensures old new no_ids state memory after_memory numbers most c.in-Some.job c.step.new.self is c.requires.whole
     s.numbers s.drawn s.touches s.keeps c.args.budget c.in_ok-progress.progress s.goes_on s.snapshots s.owns facts ended c.last-last_sequence.result c.last-last_sequence.ensures.is c.deref.result.now.tables (ap (λ (p : Placement). p.tables) c.deref.ensures) (Ok installed)
     i.call i.leaves installed refl s.plan s.version (taking (held memory state) c.in-Some.job is takes))
+
+pub returns-in-Ok-clause-few : goal.returns-in-Ok-clause-few
+returns-in-Ok-clause-few g c said f =
+    let order = order_of g.K.KeyOrder.name g.K.KeyOrder.cmp in
+    let old = seen_of g.S.Store.facts c.args.source.now in
+    let state = c.args.self.now in
+    let progress = c.in_ok-progress.progress in
+    let is : state.job ≡ Some c.in-Some.job = search rules in
+    let ended : progress.ended ≡ true = search rules in
+    few_left order old (whole_in g.S.Store.facts c.step.new.source) (held c.args.source.now.memory state) c.in-Some.job c.step.new.self c.step.new.numbers.next c.args.budget progress is ended c.in_ok-progress.ensures.goes_on (c.in-Ok.ensures.call.faithful f)
 
 pub returns-in-Err-clause-step : goal.returns-in-Err-clause-step
 returns-in-Err-clause-step g c ids =

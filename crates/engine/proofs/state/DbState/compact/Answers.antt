@@ -10,11 +10,13 @@ use Rattle.engine.specs.declared.work.Progress.TheVariants.{Worked, Idle}
 use Rattle.engine.specs.Follows.{LeadsOpen}
 use Rattle.engine.specs.Held.{held, seen_of}
 use Rattle.engine.specs.Outcomes.{DbOutcome}
+use Rattle.engine.specs.Stands.{no_ids}
 use Rattle.engine.specs.Working.{IsPiece, MayRefusePiece}
 use Rattle.engine.proofs.JobEnds.{outcome_behind}
 use Rattle.engine.proofs.WorkAnswers.{begun_further, of_some, picked_level, then_piece}
 use Rattle.engine.proofs.WorkEnds.{ends_full, ends_idle}
 use Rattle.engine.proofs.WorkSteps.{piece_done, piece_failed, piece_within}
+use Rattle.engine.proofs.WithinBudget.{ended_of, not_some, slices_begun}
 use Rattle.engine.proofs.state.DbState.compact.Goals as goal
 
 pub returns-in_err-plan-clause-step : goal.returns-in_err-plan-clause-step
@@ -92,9 +94,20 @@ returns-clause-begins g c = λ done.
     let b = c.in_ok-begin_job.ensures in
     record {
       plan = c.in-Some.plan;
-      wanted = λ within.
-          picked_level g.K.KeyOrder.cmp c.level0_files.result c.base_bytes.result c.args.options.now.level0_files c.args.options.now.base_bytes c.deref.result.now c.args.self.now.version.value.tables c.in-Some.plan
-          (c.level0_files.ensures.is within.6) (c.base_bytes.ensures.is within.9) (ap (λ (p : Placement). p.tables) c.deref.ensures)
+      wanted = picked_level g.K.KeyOrder.cmp c.level0_files.result c.base_bytes.result c.args.options.now.level0_files c.args.options.now.base_bytes c.deref.result.now c.args.self.now.version.value.tables c.in-Some.plan
+          c.level0_files.ensures.is c.base_bytes.ensures.is (ap (λ (p : Placement). p.tables) c.deref.ensures)
           (of_some _ (λ plan. IsPicked g.K.KeyOrder.cmp c.level0_files.result c.base_bytes.result c.deref.result.now plan) c.in_ok-plan.field-0 c.in-Some.plan c.in-Some.is c.in_ok-plan.ensures.picked);
       begun = begun_further c.args.budget c.in-Some.plan (held c.args.source.now.memory c.args.self.now) (held c.begin_job.new.source.memory c.begin_job.new.self) (held c.advance.new.source.memory c.advance.new.self) b.same.tables b.none c.in_ok-advance.ensures.on;
     }
+
+pub returns-clause-few : goal.returns-clause-few
+returns-clause-few g c worked gone f =
+    let order = order_of g.K.KeyOrder.name g.K.KeyOrder.cmp in
+    let old = seen_of g.S.Store.facts c.args.source.now in
+    let mid = seen_of g.S.Store.facts c.begin_job.new.source in
+    let before = held c.args.source.now.memory c.args.self.now in
+    let between = held c.begin_job.new.source.memory c.begin_job.new.self in
+    let b = c.in_ok-begin_job.ensures in
+    let a = c.in_ok-advance.ensures in
+    let ended = ended_of _ _ c.in_ok-advance.field-0 a.ended (λ some. not_some c.advance.new.self.job gone some) in
+    slices_begun order old mid before between (max c.args.budget 1) (λ work. work.job.plan ≡ c.in-Some.plan) b.step ((a.step no_ids).faithful f) b.same.tables c.requires.none b.none (a.few (ap (λ (e : _). Ok e) ended) f)

@@ -1,4 +1,4 @@
-use Rattle.std.proofs.Common.{◌≡◌, max, Result, Err, sym, subst, rules}
+use Rattle.std.proofs.Common.{◌≡◌, max, Result, Ok, Err, ap, sym, subst, rules}
 use Rattle.coding.specs.declared.error.DbError.{DbError}
 use Rattle.ikey.specs.Orders.{order_of}
 use Rattle.engine.specs.declared.work.Progress.{Progress}
@@ -7,6 +7,7 @@ use Rattle.engine.specs.Follows.{LeadsOpen}
 use Rattle.engine.specs.Held.{held, seen_of}
 use Rattle.engine.specs.Working.{IsPiece}
 use Rattle.engine.proofs.WorkSteps.{piece_done, piece_failed}
+use Rattle.engine.proofs.WithinBudget.{ended_of, not_some, slices_itself}
 use Rattle.engine.proofs.state.DbState.do_piece.Goals as goal
 
 pub returns-in_err-advance-clause-step : goal.returns-in_err-advance-clause-step
@@ -24,3 +25,10 @@ pub returns-then-is_some-clause-step : goal.returns-then-is_some-clause-step
 returns-then-is_some-clause-step g c ids =
     piece_done (order_of g.K.KeyOrder.name g.K.KeyOrder.cmp) (seen_of g.S.Store.facts c.args.source.now) (seen_of g.S.Store.facts c.advance.new.source) ids (held c.args.source.now.memory c.args.self.now) (held c.advance.new.source.memory c.advance.new.self)
     (max c.args.budget 1) c.in_ok-advance.field-0 Worked (c.in_ok-advance.ensures.step ids)
+
+pub returns-then-is_some-clause-within : goal.returns-then-is_some-clause-within
+returns-then-is_some-clause-within g c worked which gone f =
+    let order = order_of g.K.KeyOrder.name g.K.KeyOrder.cmp in
+    let a = c.in_ok-advance.ensures in
+    let ended = ended_of _ _ c.in_ok-advance.field-0 a.ended (λ some. not_some c.advance.new.self.job gone some) in
+    slices_itself order (seen_of g.S.Store.facts c.args.source.now) (held c.args.source.now.memory c.args.self.now) (max c.args.budget 1) (a.few (ap (λ (e : _). Ok e) ended) f)

@@ -1,4 +1,4 @@
-use Rattle.std.proofs.Common.{◌≡◌, max, Result, Ok, Err, sym, subst, arith, rules}
+use Rattle.std.proofs.Common.{◌≡◌, max, Result, Ok, Err, inl, inr, sym, subst, arith, rules}
 use Rattle.coding.specs.declared.error.DbError.{DbError}
 use Rattle.ikey.specs.Orders.{order_of}
 use Rattle.engine.specs.declared.work.Progress.{Progress}
@@ -7,6 +7,7 @@ use Rattle.engine.specs.Follows.{LeadsOpen}
 use Rattle.engine.specs.Held.{held, seen_of}
 use Rattle.engine.specs.Working.{IsPiece}
 use Rattle.engine.proofs.WorkSteps.{piece_done, piece_failed, piece_within}
+use Rattle.engine.proofs.WithinBudget.{not_some}
 use Rattle.engine.proofs.state.DbState.do_unless_compacting.Goals as goal
 
 pub returns-in_err-flush-clause-step : goal.returns-in_err-flush-clause-step
@@ -50,3 +51,12 @@ returns-clause-step g c ids =
     let before = held c.args.source.now.memory c.args.self.now in
     let after = held c.seal.new.source.memory c.seal.new.self in
     piece_done order old new ids before after (max c.args.budget 1) (tt {0}) Worked (piece_within order old new ids before after 1 (max c.args.budget 1) (Ok (tt {0})) (omega arith) (c.in_ok-seal.ensures.step ids))
+
+pub returns-then-is_some-clause-within : goal.returns-then-is_some-clause-within
+returns-then-is_some-clause-within g c worked which gone f = absurd (elim which [
+  | inl some ↦ not_some c.args.self.now.job c.requires.idle some
+  | inr ease ↦ not_some c.args.source.now.memory.sealed ease.none c.in_ok-flush.ensures.does.was
+])
+
+pub returns-then-size-write_buffer-clause-within : goal.returns-then-size-write_buffer-clause-within
+returns-then-size-write_buffer-clause-within g c worked which gone f = c.compact.ensures.few worked gone f

@@ -26,7 +26,7 @@ returns-in-Ok-clause-step g c ids =
     let source = seen_of g.S.Store.facts c.args.source.now in
     let ensures = c.in-Ok.ensures in
     ends_sealed order (λ scan. scan_kept order.cmp scan) c.one_directory.ensures c.sound_lasts.ensures c.same_view.ensures c.changes_are_kept.ensures.sealed source (g.S.Store.facts c.begin_log.new.store) ids c.args.self.now c.args.source.now.memory c.begin_log.new.numbers
-    c.requires.whole ensures.call c.in-Ok.number c.in-Ok.name c.seal.new.self c.requires.unsealed c.in_ok-seal.ensures.ok c.in_ok-seal.ensures.inserts ensures.drawn (ensures.begins order)
+    c.requires.whole ensures.call c.in-Ok.number c.in-Ok.name c.seal.new.self c.requires.unsealed c.requires.filled c.in_ok-seal.ensures.ok c.in_ok-seal.ensures.inserts ensures.drawn (ensures.begins order)
 
 pub returns-in-Err-clause-step : goal.returns-in-Err-clause-step
 returns-in-Err-clause-step g c ids =

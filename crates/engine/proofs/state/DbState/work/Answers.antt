@@ -1,13 +1,16 @@
-use Rattle.std.proofs.Common.{◌≡◌, ◌+◌, ◌<◌, max, false, Result, Ok, Err, sym, subst, arith, rules}
+use Rattle.std.proofs.Common.{◌≡◌, ◌+◌, ◌<◌, ◌∙◌, max, false, Result, Ok, Err, ap, inl, inr, refl, sym, subst, arith, rules}
 use Rattle.coding.specs.declared.error.DbError.{DbError}
 use Rattle.ikey.specs.Orders.{order_of}
 use Rattle.engine.specs.declared.work.Progress.{Progress}
 use Rattle.engine.specs.Follows.{LeadsOpen}
 use Rattle.engine.specs.Held.{held, seen_of}
+use Rattle.engine.specs.Stands.{no_ids}
 use Rattle.engine.specs.Upkeep.{Works}
 use Rattle.engine.specs.Working.{refused_as, work_answer}
+use Rattle.engine.proofs.ExactFiles.{leaves_exactly}
 use Rattle.engine.proofs.WorkAnswers.{caused_met, does_on, failures_rose, then_piece, then_refused, works, works_broken}
 use Rattle.engine.proofs.WorkSteps.{piece_failed}
+use Rattle.engine.proofs.WithinBudget.{at_ease_on, slices_behind}
 use Rattle.engine.proofs.state.DbState.work.Goals as goal
 
 pub returns-then-self-clause-step : goal.returns-then-self-clause-step
@@ -63,3 +66,28 @@ returns-in-Err-clause-step g c ids =
     subst (λ (r : DbError). LeadsOpen order old new ids before after (λ m n. Works m c.args.budget (work_answer (Err r)) n)) (sym c.refusal.ensures)
     (works order old new ids before after c.args.budget (0 + max c.args.budget 1) (Err (refused_as complete e)) (omega arith) c.if-self.false
     (then_refused order old mid new ids before between after (max c.args.budget 1) complete e rose c.in-Err.ensures.outcome.failures (cleaned.step ids) (c.in-Err.ensures.step ids)))
+
+pub returns-in-Ok-clause-tidy : goal.returns-in-Ok-clause-tidy
+returns-in-Ok-clause-tidy g c = search rules
+
+pub returns-in-Ok-clause-exact : goal.returns-in-Ok-clause-exact
+returns-in-Ok-clause-exact g c =
+    let order = order_of g.K.KeyOrder.name g.K.KeyOrder.cmp in
+    let old = seen_of g.S.Store.facts c.args.source.now in
+    let new = seen_of g.S.Store.facts c.do_piece.new.source in
+    let before = held c.args.source.now.memory c.args.self.now in
+    let after = held c.do_piece.new.source.memory c.do_piece.new.self in
+    leaves_exactly order old new before after c.args.options.now c.args.budget c.in-Ok.progress (returns-in-Ok-clause-step g c) (λ is. ap (λ s. s.broken) (c.in-Ok.ensures.idle is).1 ∙ c.if-self.false)
+    (returns-in-Ok-clause-tidy g c) (returns-in-Ok-clause-does g c)
+
+pub returns-in-Ok-clause-within : goal.returns-in-Ok-clause-within
+returns-in-Ok-clause-within g c worked which gone f =
+    let order = order_of g.K.KeyOrder.name g.K.KeyOrder.cmp in
+    let old = seen_of g.S.Store.facts c.args.source.now in
+    let mid = seen_of g.S.Store.facts c.clean.new.source in
+    let before = held c.args.source.now.memory c.args.self.now in
+    let between = held c.clean.new.source.memory c.args.self.now in
+    let cleaned = c.in_ok-complete.ensures in
+    let piece = c.in-Ok.ensures in
+    let inner = piece.within worked (elim which [ inl some ↦ inl some | inr ease ↦ inr (at_ease_on c.args.options.now before c.clean.new.source.memory cleaned.memory ease) ]) gone f in
+    slices_behind order old mid before between (max c.args.budget 1) cleaned.step ((piece.step no_ids).faithful f) refl refl inner

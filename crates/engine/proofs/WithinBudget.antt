@@ -1,0 +1,89 @@
+-- That a slice which ends a compaction has merged no more entries than its budget has.
+use Rattle.std.proofs.Common.{◌≡◌, ◌⊎◌, ◌++◌, ◌≤◌, ℕ, Bool, true, false, List, length, max, Option, Some, None, Result, Ok, IsSome, IsTrue, MatchBool, MatchOption, inl, inr, refl, sym, ap, subst, ◌∙◌, arith, append-nil}
+use Rattle.std.proofs.lemmas.List.{length-append}
+use Rattle.compact.specs.declared.job.Progress.{Progress as Merged}
+use Rattle.ikey.specs.Entries.{InternalEntry}
+use Rattle.ikey.specs.Orders.{Order}
+use Rattle.jobs.specs.Stepping.{CanStep, GoesOn}
+use Rattle.jobs.specs.declared.open_job.OpenJob.{OpenJob}
+use Rattle.memories.specs.Memories.{Memories}
+use Rattle.memtable.specs.Contents.{size_of}
+use Rattle.recover.specs.Directory.{Directory}
+use Rattle.scans.specs.Whole.{Whole}
+use Rattle.sources.specs.Tables.{Seen}
+use Rattle.engine.specs.declared.ids.Ids.{Ids}
+use Rattle.engine.specs.Follows.{LeadsOpen}
+use Rattle.engine.specs.Held.{Held, whole_of}
+use Rattle.engine.specs.Machine.{Machine}
+use Rattle.engine.specs.OptionValues.{OptionValues}
+use Rattle.engine.specs.Stands.{StandsOpen}
+use Rattle.engine.specs.WithinBudget.{HasLeftUpTo, IsBeforeSlice, SlicesUpTo}
+use Rattle.engine.specs.Working.{IsAtEase, IsSameMemory}
+
+-- all that were left came
+pub few_left : {K : Type 0} {g : _} (order : Order) (old : Seen) (mid : Whole) (db : Held K g) (work more : OpenJob K g) (next budget : ℕ) (progress : Merged) → db.job ≡ Some work → progress.ended ≡ true
+    → GoesOn order (whole_of old db) mid db.directory.numbers.next next budget work more progress → IsTrue mid.seen.facts.faithful → HasLeftUpTo order old db (max budget 1)
+few_left {K} {g} order old mid db work more next budget progress is ended goes f =
+    let Few : OpenJob K g → Type 0 = λ one. (d : Directory) (came left : List InternalEntry) → CanStep order (whole_of old db) db.directory.numbers.next d one came left → length left ≤ max budget 1 in
+    subst (λ (job : Option (OpenJob K g)). MatchOption job ⊥ Few) (sym is) (λ d came left can.
+    let s = goes f d came left can in
+    let whole : left ≡ s.0 = s.2 ∙ ap (λ (back : List InternalEntry). s.0 ++ back) (s.3.ended ended) ∙ append-nil s.0 in
+    let count = ap (λ (entries : List InternalEntry). length entries) whole in
+    let long = s.3.long in
+    let most = s.3.most in
+    omega (arith, count, long, most))
+
+-- ---- where it began
+
+pub slices_itself : {K : Type 0} {g : _} (order : Order) (old : Seen) (db : Held K g) (most : ℕ) → HasLeftUpTo order old db most → SlicesUpTo order old db most
+slices_itself order old db most few = (old, db, record { stands = λ ids m s. (m, s); tables = refl; job = inl refl }, few)
+
+first_of : {X : Type 0} (P Q : X → Type 0) (o : Option X) → MatchOption o ⊥ (λ x. P x × Q x) → MatchOption o ⊥ P
+first_of P Q None h = h
+first_of P Q (Some x) h = h.0
+
+-- with a compaction that was begun
+pub slices_begun : {K : Type 0} {g : _} (order : Order) (old between : Seen) (before mid : Held K g) (most : ℕ) (Q : OpenJob K g → Type 0) {P : Machine → Machine → Type 0} → ((ids : Ids) → LeadsOpen order old between ids before mid P) → IsTrue between.facts.faithful
+    → mid.tables ≡ before.tables → before.job ≡ None → MatchOption mid.job ⊥ (λ work. (work.merged ≡ 0) × Q work) → HasLeftUpTo order between mid most → SlicesUpTo order old before most
+slices_begun {K} {g} order old between before mid most Q leads f tables none begun few = (
+  between,
+  mid,
+  record {
+    stands = λ ids m s. let one = (leads ids).moved f m s in (one.0, one.2);
+    tables = tables;
+    job = inr (none, first_of (λ (work : OpenJob K g). work.merged ≡ 0) Q mid.job begun);
+  },
+  few,
+)
+
+-- behind a piece that leaves tables and compaction
+pub slices_behind : {K : Type 0} {g : _} (order : Order) (old mid : Seen) (before between : Held K g) (most : ℕ) {P : Machine → Machine → Type 0} → ((ids : Ids) → LeadsOpen order old mid ids before between P) → IsTrue mid.facts.faithful
+    → between.tables ≡ before.tables → between.job ≡ before.job → SlicesUpTo order mid between most → SlicesUpTo order old before most
+slices_behind {K} {g} order old mid before between most leads f tables same inner = (
+  inner.0,
+  inner.1,
+  record {
+    stands = λ ids m s. let one = (leads ids).moved f m s in inner.2.stands ids one.0 one.2;
+    tables = inner.2.tables ∙ tables;
+    job = elim inner.2.job [ inl is ↦ inl (is ∙ same) | inr begun ↦ inr (sym same ∙ begun.0, begun.1) ];
+  },
+  inner.3,
+)
+
+-- ---- when it is asked
+
+pub at_ease_on : {K : Type 0} {g : _} (options : OptionValues) (before : Held K g) (memory : Memories) → IsSameMemory before.memory memory → IsAtEase options before → IsAtEase options (record before { memory = memory })
+at_ease_on options before memory same h = record {
+  idle = h.idle;
+  none = same.sealed ∙ h.none;
+  small = (let size : size_of memory.current.inserts ≡ size_of before.memory.current.inserts = ap (λ c. size_of c.inserts) same.current in let least = h.small in omega (arith, size, least));
+}
+
+-- the end that a slice answers
+pub ended_of : (P Q : Type 0) (ended : Bool) → MatchBool ended P Q → (Q → ⊥) → ended ≡ true
+ended_of P Q true h other = refl
+ended_of P Q false h other = absurd (other h)
+
+pub not_some : {X : Type 0} (o : Option X) → o ≡ None → IsSome o → ⊥
+not_some None is some = cc
+not_some (Some x) is some = cc

@@ -1,0 +1,48 @@
+-- Which files a database has where there is no work (LevelDB's db/db_impl.cc, DBImpl::RemoveObsoleteFiles).
+use Rattle.std.specs.Prelude.{◌≡◌, ℕ, true, IsTrue, Some, IsSome, Result, Ok}
+use Rattle.std.specs.FinMap.{contains_key, get}
+use Rattle.cache.specs.Tables.{table_at}
+use Rattle.coding.specs.declared.error.DbError.{DbError}
+use Rattle.edits.specs.Names.{IsFileName, name_of}
+use Rattle.edits.specs.declared.names.FileName.{FileName}
+use Rattle.edits.specs.declared.names.FileName.TheVariants.{Current, Lock, Log, Table, OldTable, Manifest, Temporary}
+use Rattle.ikey.specs.Orders.{Order}
+use Rattle.scans.specs.Scans.{tables_of}
+use Rattle.scans.specs.declared.scan.Scan.{Scan}
+use Rattle.sources.specs.Tables.{Seen}
+use Rattle.store.specs.Files.{Files}
+use Rattle.versions.specs.Keeping.{HasNumber}
+use Rattle.engine.specs.declared.ids.Ids.{Ids}
+use Rattle.engine.specs.declared.work.Progress.{Progress}
+use Rattle.engine.specs.declared.work.Progress.TheVariants as progress
+use Rattle.engine.specs.Held.{Held}
+use Rattle.engine.specs.InUse.{IsTableRead}
+use Rattle.engine.specs.Live.{kept_at}
+use Rattle.engine.specs.Machine.{Machine}
+use Rattle.engine.specs.Stands.{StandsOpen}
+
+-- the file is `CURRENT`, the lock, the MANIFEST, the log that writes go to, or a table of the version or of that of an open iterator
+abbrev pub IsLiveAtEase : {K : Type 0} {g : _} → Held K g → FileName → Type 0
+IsLiveAtEase db Current = Unit {0}
+IsLiveAtEase db Lock = Unit {0}
+IsLiveAtEase db (Log n) = n ≡ db.log.number
+IsLiveAtEase db (Table n) = IsTableRead db.tables db.iterators n
+IsLiveAtEase db (OldTable n) = IsTableRead db.tables db.iterators n
+IsLiveAtEase db (Manifest n) = n ≡ db.directory.manifest.number
+IsLiveAtEase db (Temporary n) = ⊥
+
+-- These are the files of a known shape, and all of them but the lock's, of which nothing is said, are there, a table's under one of its
+-- names.
+pub record HasExactlyLive {K : Type 0} {g : _} (files : Files) (db : Held K g) : Type 0 where
+  pub only : (file : FileName) → IsFileName file → contains_key files (name_of file) ≡ true → IsLiveAtEase db file
+  pub current : IsSome (get files (name_of Current))
+  pub manifest : IsSome (get files (name_of (Manifest db.directory.manifest.number)))
+  pub log : IsSome (get files (name_of (Log db.log.number)))
+  pub tables : (number : ℕ) → HasNumber number db.tables → IsSome (table_at files number)
+  pub pinned : (id : ℕ) (scan : Scan K g) → kept_at db.iterators id ≡ Some scan → (number : ℕ) → HasNumber number (tables_of scan) → IsSome (table_at files number)
+
+-- Where there is no work and no call failed, that is so, while the store is faithful, from each state of the machine that the database
+-- could be in before.
+abbrev pub LeavesExactlyLive : {K : Type 0} {g : _} → Order → Seen → Seen → Held K g → Held K g → Result Progress DbError → Type 0
+LeavesExactlyLive order old new before after result =
+    result ≡ Ok progress.Idle → IsTrue new.facts.faithful → new.facts.failures ≡ old.facts.failures → (ids : Ids) (m : Machine) → StandsOpen order old ids before m → HasExactlyLive new.facts.files after
