@@ -1,6 +1,5 @@
 -- That a slice which ends a compaction has merged no more entries than its budget has.
-use Rattle.std.proofs.Common.{◌≡◌, ◌⊎◌, ◌++◌, ◌≤◌, ℕ, Bool, true, false, List, length, max, Option, Some, None, Result, Ok, IsSome, IsTrue, MatchBool, MatchOption, inl, inr, refl, sym, ap, subst, ◌∙◌, arith, append-nil}
-use Rattle.std.proofs.lemmas.List.{length-append}
+use Rattle.std.proofs.Common.{◌≡◌, ◌++◌, ◌≤◌, ℕ, Bool, true, false, List, length, max, Option, Some, None, Result, Ok, IsSome, IsTrue, MatchBool, MatchOption, inl, inr, refl, sym, ap, subst, ◌∙◌, arith, append-nil}
 use Rattle.compact.specs.declared.job.Progress.{Progress as Merged}
 use Rattle.ikey.specs.Entries.{InternalEntry}
 use Rattle.ikey.specs.Orders.{Order}
