@@ -34,8 +34,8 @@ few_left {K} {g} order old mid db work more next budget progress is ended goes f
 
 -- ---- where it began
 
-pub slices_itself : {K : Type 0} {g : _} (order : Order) (old : Seen) (db : Held K g) (most : ℕ) → HasLeftUpTo order old db most → SlicesUpTo order old db most
-slices_itself order old db most few = (old, db, record { stands = λ ids m s. (m, s); tables = refl; job = inl refl }, few)
+pub slices_itself : {K : Type 0} {g : _} (order : Order) (old : Seen) (db : Held K g) (most : ℕ) → db.broken ≡ false → HasLeftUpTo order old db most → SlicesUpTo order old db most
+slices_itself order old db most whole few = (old, db, record { stands = λ ids m s. (m, s); whole = whole; tables = refl; job = inl refl }, few)
 
 first_of : {X : Type 0} (P Q : X → Type 0) (o : Option X) → MatchOption o ⊥ (λ x. P x × Q x) → MatchOption o ⊥ P
 first_of P Q None h = h
@@ -43,12 +43,13 @@ first_of P Q (Some x) h = h.0
 
 -- with a compaction that was begun
 pub slices_begun : {K : Type 0} {g : _} (order : Order) (old between : Seen) (before mid : Held K g) (most : ℕ) (Q : OpenJob K g → Type 0) {P : Machine → Machine → Type 0} → ((ids : Ids) → LeadsOpen order old between ids before mid P) → IsTrue between.facts.faithful
-    → mid.tables ≡ before.tables → before.job ≡ None → MatchOption mid.job ⊥ (λ work. (work.merged ≡ 0) × Q work) → HasLeftUpTo order between mid most → SlicesUpTo order old before most
-slices_begun {K} {g} order old between before mid most Q leads f tables none begun few = (
+    → mid.broken ≡ false → mid.tables ≡ before.tables → before.job ≡ None → MatchOption mid.job ⊥ (λ work. (work.merged ≡ 0) × Q work) → HasLeftUpTo order between mid most → SlicesUpTo order old before most
+slices_begun {K} {g} order old between before mid most Q leads f whole tables none begun few = (
   between,
   mid,
   record {
     stands = λ ids m s. let one = (leads ids).moved f m s in (one.0, one.2);
+    whole = whole;
     tables = tables;
     job = inr (none, first_of (λ (work : OpenJob K g). work.merged ≡ 0) Q mid.job begun);
   },
@@ -63,6 +64,7 @@ slices_behind {K} {g} order old mid before between most leads f tables same inne
   inner.1,
   record {
     stands = λ ids m s. let one = (leads ids).moved f m s in inner.2.stands ids one.0 one.2;
+    whole = inner.2.whole;
     tables = inner.2.tables ∙ tables;
     job = elim inner.2.job [ inl is ↦ inl (is ∙ same) | inr begun ↦ inr (sym same ∙ begun.0, begun.1) ];
   },

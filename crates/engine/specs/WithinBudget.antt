@@ -1,5 +1,5 @@
 -- That no call of work merges more entries than its budget has, also where it brings a compaction to its end.
-use Rattle.std.specs.Prelude.{◌≡◌, ◌⊎◌, ◌≤◌, ℕ, IsTrue, IsSome, None, List, length, max, MatchOption, Result, Ok}
+use Rattle.std.specs.Prelude.{◌≡◌, ◌⊎◌, ◌≤◌, ℕ, false, IsTrue, IsSome, None, List, length, max, MatchOption, Result, Ok}
 use Rattle.coding.specs.declared.error.DbError.{DbError}
 use Rattle.ikey.specs.Entries.{InternalEntry}
 use Rattle.ikey.specs.Orders.{Order}
@@ -20,10 +20,11 @@ abbrev pub HasLeftUpTo : {K : Type 0} {g : _} → Order → Seen → Held K g �
 HasLeftUpTo order source db most =
     MatchOption db.job ⊥ (λ work. (d : Directory) (came left : List InternalEntry) → CanStep order (whole_of source db) db.directory.numbers.next d work came left → length left ≤ most)
 
--- A state that the call came through, with the compaction that was under way before, or with one that it had begun, to which nothing
+-- A state that the call came through, not broken, with the compaction that was under way before, or with one that it had begun, to which nothing
 -- had come.
 pub record IsBeforeSlice {K : Type 0} {g : _} (order : Order) (old between : Seen) (before mid : Held K g) : Type 0 where
   pub stands : (ids : Ids) (m : Machine) → StandsOpen order old ids before m → (n : Machine) × StandsOpen order between ids mid n
+  pub whole : mid.broken ≡ false
   pub tables : mid.tables ≡ before.tables
   pub job : (mid.job ≡ before.job) ⊎ ((before.job ≡ None) × MatchOption mid.job ⊥ (λ work. work.merged ≡ 0))
 

@@ -110,4 +110,4 @@ returns-clause-few g c worked gone f =
     let b = c.in_ok-begin_job.ensures in
     let a = c.in_ok-advance.ensures in
     let ended = ended_of _ _ c.in_ok-advance.field-0 a.ended (λ some. not_some c.advance.new.self.job gone some) in
-    slices_begun order old mid before between (max c.args.budget 1) (λ work. work.job.plan ≡ c.in-Some.plan) b.step ((a.step no_ids).faithful f) b.same.tables c.requires.none b.none (a.few (ap (λ (e : _). Ok e) ended) f)
+    slices_begun order old mid before between (max c.args.budget 1) (λ work. work.job.plan ≡ c.in-Some.plan) b.step ((a.step no_ids).faithful f) b.whole b.same.tables c.requires.none b.none (a.few (ap (λ (e : _). Ok e) ended) f)

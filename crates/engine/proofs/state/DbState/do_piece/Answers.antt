@@ -31,4 +31,4 @@ returns-then-is_some-clause-within g c worked which gone f =
     let order = order_of g.K.KeyOrder.name g.K.KeyOrder.cmp in
     let a = c.in_ok-advance.ensures in
     let ended = ended_of _ _ c.in_ok-advance.field-0 a.ended (λ some. not_some c.advance.new.self.job gone some) in
-    slices_itself order (seen_of g.S.Store.facts c.args.source.now) (held c.args.source.now.memory c.args.self.now) (max c.args.budget 1) (a.few (ap (λ (e : _). Ok e) ended) f)
+    slices_itself order (seen_of g.S.Store.facts c.args.source.now) (held c.args.source.now.memory c.args.self.now) (max c.args.budget 1) c.requires.whole (a.few (ap (λ (e : _). Ok e) ended) f)
