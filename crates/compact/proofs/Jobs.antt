@@ -16,7 +16,7 @@ use Rattle.compact.specs.Choosing.{Choosing, Chooses, Precedes, ComesBehind, wri
 use Rattle.compact.specs.declared.job.Job.{Job}
 use Rattle.std.specs.List.{AllByRecursion}
 use Rattle.compact.specs.Merging.{AreDisjoint, IsWellKept, IsMerging, IsUpTo, HasPassed, ReadsApart, IsJob, IsBetween, KeepsMine}
-use Rattle.compact.specs.Outputs.{Written, HasWritten, IsMine, IsNumberAtHand, IsToCome, RefusesEntry, WritesTables}
+use Rattle.compact.specs.Outputs.{Written, IsWriting, IsMine, IsNumberAtHand, IsToCome, RefusesEntry, WritesTables}
 use Rattle.compact.proofs.Merges.{merge-step, merging-none, mine-before}
 use Rattle.compact.proofs.Passing.{passed-more}
 use Rattle.compact.proofs.Writing.{refuses-as, writes-more}
@@ -103,16 +103,18 @@ module _ {C H S : Type 0} (cmp : Cmp) (deep : List ℕ → Bool) (facts : S → 
       → IsKey over entry.key
       → ((last_key : Key) (x : Entry) → IsKey last last_key → IsUpTo cmp x last_key → Precedes cmp x (entry_of entry))
       → ((xs ys : List Entry) → ComesBehind cmp xs (entry_of entry) → Chooses cmp deep c xs ys → Chooses cmp deep e (xs ++ entry_of entry ∷ []) (ys ++ written_for choice e.released (entry_of entry)))
-      → (IsTrue (facts store).faithful → (pairs : List Pair) (kept : List InternalEntry) → ArePairs pairs kept → HasWritten cmp w (facts held) next pairs
-      → (new : List Pair) × (added : List InternalEntry) × HasWritten cmp u (facts store) more new × ArePairs new (kept ++ added) × (map entry_of added ≡ written_for choice e.released (entry_of entry)) × AllByRecursion IsWellKept added)
+      → (IsTrue (facts store).faithful → (pairs : List Pair) (kept : List InternalEntry) → ArePairs pairs kept → IsWriting cmp w (facts held) next pairs
+      → (new : List Pair) × (added : List InternalEntry) × IsWriting cmp u (facts store) more new × ArePairs new (kept ++ added) × (map entry_of added ≡ written_for choice e.released (entry_of entry)) × AllByRecursion IsWellKept added)
       → IsJob cmp deep facts store_of with_store gathers lists keeps goes_over last cursor c w source next came (entry ∷ rest)
       → IsJob cmp deep facts store_of with_store gathers lists keeps goes_over over moved e u after more (came ++ entry ∷ []) rest
   job-step last over cursor moved c e w u source held store after next more came entry rest choice is writes le fits keeps_mine moves stays t over_is order chosen wrote h =
       let mine : (n : ℕ) → IsMine u more n → IsMine w next n = λ n is_mine. mine-before w u next more n le fits keeps_mine is_mine in
       let r = writes-move cursor moved source held store after (IsMine w next) is writes stays in
+      let merged = merge-step cmp deep (facts held) (facts store) (facts (store_of after)) last over c e w u next more came entry choice over_is (r.files t) order chosen (wrote (r.faithful t)) h.goes_on
+      (subst (λ (s : S). IsMerging cmp deep last c w (facts s) next came) (sym is) h.merging) in
       record {
-        merging = merge-step cmp deep (facts held) (facts store) (facts (store_of after)) last over c e w u next more came entry choice over_is (r.files t) order chosen (wrote (r.faithful t))
-            (subst (λ (s : S). IsMerging cmp deep last c w (facts s) next came) (sym is) h.merging);
+        merging = merged.0;
+        goes_on = merged.1;
         left = moves-on cursor moved source held store after (IsMine w next) came entry rest is writes h.apart h.ungathered moves stays t h.left;
         apart = apart-on facts store_of with_store gathers keeps cursor moved (IsMine w next) (IsMine u more) mine stays.same h.apart;
         ungathered = λ n kept_of is_mine. elim (left cursor (with_store source store) after stays.left n kept_of) [
@@ -139,13 +141,14 @@ module _ {K C H S : Type 0} (cmp : Cmp) (deep : List ℕ → Bool) (facts : S �
 pub starts : {C H S : Type 0} (cmp : Cmp) (deep : List ℕ → Bool) (facts : S → Facts) (store_of : H → S) (with_store : H → S → H) (gathers : H → ℕ → Type 0) (facts_of : H → Facts) (lists : C → H → Listed → Type 0) (keeps : C → H → H → Type 0) (limited : C → H → Type 0) (leaves : (ℕ → Type 0) → H → H → Type 0) (goes_over : C → ℕ → Type 0)
     → ((h : H) → facts_of h ≡ facts (store_of h)) → ((cursor : C) (h i : H) → leaves (goes_over cursor) h i → (n : ℕ) → gathers i n → gathers h n ⊎ goes_over cursor n) → (last : List ℕ) (cursor moved : C) (c : Choosing) (w : Written) (source after : H) (next : ℕ) (at : Listed)
     → w ≡ record { closed = []; at_hand = None } → last ≡ []
-    → Chooses cmp deep c [] [] → HasWritten cmp w (facts (store_of after)) next []
+    → Chooses cmp deep c [] [] → IsWriting cmp w (facts (store_of after)) next []
     → Moves facts_of lists cursor moved source after moved_on to_first → Stays facts_of keeps limited leaves goes_over cursor moved source after
     → IsTrue (facts (store_of after)).faithful → lists cursor source at → ReadsApart facts store_of with_store gathers keeps cursor (IsToCome next)
     → AreDisjoint (gathers source) (IsToCome next) → AreDisjoint (goes_over cursor) (IsToCome next)
     → IsJob cmp deep facts store_of with_store gathers lists keeps goes_over last moved c w after next [] at.entries
 starts cmp deep facts store_of with_store gathers facts_of lists keeps limited leaves goes_over are left last cursor moved c w source after next at none empty chooses written moves stays t h apart ungathered outside = record {
-  merging = merging-none cmp deep last c w (facts (store_of after)) next empty chooses written;
+  merging = merging-none cmp deep last c w (facts (store_of after)) next empty chooses written.written;
+  goes_on = written.goes_on;
   left = moves (subst (λ (f : Facts). IsTrue f.faithful) (sym (are after)) t) at h;
   apart = apart-on facts store_of with_store gathers keeps cursor moved (IsToCome next) (IsMine w next) (λ n is. mine-next w next n none is) stays.same apart;
   ungathered = λ n kept_of is. elim (left cursor source after stays.left n kept_of) [

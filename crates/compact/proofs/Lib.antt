@@ -1,5 +1,6 @@
 pub mod Choices
 pub mod Editing
+pub mod Ends
 pub mod Keeping
 pub mod Leavings
 pub mod Merges

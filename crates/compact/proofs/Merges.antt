@@ -25,7 +25,7 @@ use Rattle.compact.specs.Choosing.{Choosing, Chooses, Precedes, ComesBehind, del
 use Rattle.ikey.specs.Entries.{InternalEntry, Pair, IsPair, entry_of, kind_of, value_of}
 use Rattle.store.specs.Files.{Facts}
 use Rattle.table.specs.Table.{ArePairs}
-use Rattle.compact.specs.Outputs.{table_name, Filling, AreClosed, IsAtHand, Written, HasWritten, IsMine, IsMineUpTo, WritesTables}
+use Rattle.compact.specs.Outputs.{table_name, Filling, AreClosed, IsAtHand, Written, HasWritten, IsWriting, IsOpen, IsMine, IsMineUpTo, WritesTables}
 use Rattle.compact.specs.Merging.{IsWellKept, KeepsMine, kept_delete, IsUpTo, IsMerging}
 use Rattle.compact.proofs.Loads.{well-append}
 use Rattle.compact.proofs.Parts.{Among-push}
@@ -130,6 +130,7 @@ written-same cmp w a b next pairs same h = record {
   closed_are = closed-same cmp a b same w.closed h.tables h.closed_are;
   rest_is = at-hand-same cmp a b same w.at_hand h.rest h.rest_is;
   all = h.all;
+  ends = h.ends;
   closed_numbers = h.closed_numbers;
   number = h.number;
 }
@@ -158,34 +159,36 @@ pub merge-step : (cmp : List ℕ → List ℕ → Ordering) (deep : List ℕ →
     → IsKey over entry.key → d.files ≡ b.files
     → ((last_key : Key) (x : Entry) → IsKey last last_key → IsUpTo cmp x last_key → Precedes cmp x (entry_of entry))
     → ((xs ys : List Entry) → ComesBehind cmp xs (entry_of entry) → Chooses cmp deep c xs ys → Chooses cmp deep e (xs ++ entry_of entry ∷ []) (ys ++ written_for choice e.released (entry_of entry)))
-    → ((pairs : List Pair) (kept : List InternalEntry) → ArePairs pairs kept → HasWritten cmp w a next pairs
-    → (new : List Pair) × (added : List InternalEntry) × HasWritten cmp u b more new × ArePairs new (kept ++ added) × (map entry_of added ≡ written_for choice e.released (entry_of entry)) × AllByRecursion IsWellKept added)
-    → IsMerging cmp deep last c w a next came → IsMerging cmp deep over e u d more (came ++ entry ∷ [])
-merge-step cmp deep a b d last over c e w u next more came entry choice over_is files order chosen wrote h =
+    → ((pairs : List Pair) (kept : List InternalEntry) → ArePairs pairs kept → IsWriting cmp w a next pairs
+    → (new : List Pair) × (added : List InternalEntry) × IsWriting cmp u b more new × ArePairs new (kept ++ added) × (map entry_of added ≡ written_for choice e.released (entry_of entry)) × AllByRecursion IsWellKept added)
+    → IsOpen w → IsMerging cmp deep last c w a next came → IsMerging cmp deep over e u d more (came ++ entry ∷ []) × IsOpen u
+merge-step cmp deep a b d last over c e w u next more came entry choice over_is files order chosen wrote further h =
     let behind : ComesBehind cmp (map entry_of came) (entry_of entry) = λ x m. let last_bound = h.bound x m in order last_bound.0 x last_bound.1 last_bound.2 in
-    let new = wrote h.written h.kept h.written_are h.has_written in
+    let new = wrote h.written h.kept h.written_are (record { written = h.has_written; goes_on = further }) in
     let all : map entry_of came ++ entry_of entry ∷ [] ≡ map entry_of (came ++ entry ∷ []) = sym (map-append entry_of came (entry ∷ [])) in
     let out : map entry_of h.kept ++ written_for choice e.released (entry_of entry) ≡ map entry_of (h.kept ++ new.1) =
-    ap (λ l. map entry_of h.kept ++ l) (sym new.4) ∙ sym (map-append entry_of h.kept new.1) in
-    record {
-      written = new.0;
-      kept = h.kept ++ new.1;
-      written_are = new.3;
-      well_kept = well-append h.kept new.1 h.well_kept new.5;
-      has_written = written-same cmp u b d more new.0 files new.2;
-      chooses = subst (λ (xs : List Entry). Chooses cmp deep e xs (map entry_of (h.kept ++ new.1))) all
-          (subst (Chooses cmp deep e (map entry_of came ++ entry_of entry ∷ [])) out (chosen (map entry_of came) (map entry_of h.kept) behind h.chooses));
-      last_is = inr (entry, among-last came entry, over_is);
-      bound = λ x m. (
-        entry.key,
-        over_is,
-        elim (Among-push (map entry_of came) (entry_of entry) x (subst (λ (xs : List Entry). Among xs x) (sym all) m)) [
-          | inl n ↦ up-to cmp x entry.key entry.value (behind x n)
-          | inr same ↦ inr (ap (λ (o : Entry). o.key) same, let at : x.sequence ≡ entry.key.sequence = ap (λ (o : Entry). o.sequence) same in omega (arith, at))
-        ],
-      );
-      sorted = λ name. subst (AreSorted (order_of name cmp)) all (sorted-push (order_of name cmp) (map entry_of came) (entry_of entry) (h.sorted name) behind);
-    }
+    ap (λ l. map entry_of h.kept ++ l) (sym new.4) ∙ sym (map-append entry_of h.kept new.1) in (
+      record {
+        written = new.0;
+        kept = h.kept ++ new.1;
+        written_are = new.3;
+        well_kept = well-append h.kept new.1 h.well_kept new.5;
+        has_written = written-same cmp u b d more new.0 files new.2.written;
+        chooses = subst (λ (xs : List Entry). Chooses cmp deep e xs (map entry_of (h.kept ++ new.1))) all
+            (subst (Chooses cmp deep e (map entry_of came ++ entry_of entry ∷ [])) out (chosen (map entry_of came) (map entry_of h.kept) behind h.chooses));
+        last_is = inr (entry, among-last came entry, over_is);
+        bound = λ x m. (
+          entry.key,
+          over_is,
+          elim (Among-push (map entry_of came) (entry_of entry) x (subst (λ (xs : List Entry). Among xs x) (sym all) m)) [
+            | inl n ↦ up-to cmp x entry.key entry.value (behind x n)
+            | inr same ↦ inr (ap (λ (o : Entry). o.key) same, let at : x.sequence ≡ entry.key.sequence = ap (λ (o : Entry). o.sequence) same in omega (arith, at))
+          ],
+        );
+        sorted = λ name. subst (AreSorted (order_of name cmp)) all (sorted-push (order_of name cmp) (map entry_of came) (entry_of entry) (h.sorted name) behind);
+      },
+      new.2.goes_on,
+    )
 
 -- ---- before the first entry, and behind the last
 

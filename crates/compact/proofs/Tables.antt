@@ -93,7 +93,7 @@ has-after b d built name file is same h =
 
 -- ---- what may be added
 
-last-behind : (previous : Option (List ℕ)) (front rest : List Pair) → (rest ≡ [] → ⊥) → last_key_from previous (front ++ rest) ≡ last_key rest
+pub last-behind : (previous : Option (List ℕ)) (front rest : List Pair) → (rest ≡ [] → ⊥) → last_key_from previous (front ++ rest) ≡ last_key rest
 last-behind previous [] [] some = absurd (some refl)
 last-behind previous [] (pair ∷ rest) some = refl
 last-behind previous (pair ∷ front) rest some = last-behind (Some pair.key) front rest some

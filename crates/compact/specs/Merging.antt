@@ -20,7 +20,7 @@ use Rattle.store.specs.Files.{Facts}
 use Rattle.table.specs.Table.{ArePairs}
 use Rattle.ikey.specs.Views.{Among}
 use Rattle.compact.specs.Choosing.{Choosing, Chooses}
-use Rattle.compact.specs.Outputs.{Written, HasWritten, IsNumberAtHand, IsMine, IsMineUpTo, WritesTables}
+use Rattle.compact.specs.Outputs.{Written, HasWritten, IsOpen, IsNumberAtHand, IsMine, IsMineUpTo, WritesTables}
 
 -- ---- what came
 
@@ -77,6 +77,7 @@ ReadsApart {C} {H} {S} facts store_of with_store gathers keeps cursor mine =
 pub record IsJob {C H S : Type 0} (cmp : Cmp) (deep : List ℕ → Bool) (facts : S → Facts) (store_of : H → S) (with_store : H → S → H) (gathers : H → ℕ → Type 0) (lists : C → H → Listed → Type 0) (keeps : C → H → H → Type 0) (over : C → ℕ → Type 0)
     (last : List ℕ) (cursor : C) (c : Choosing) (w : Written) (source : H) (next : ℕ) (came rest : List InternalEntry) : Type 0 where
   pub merging : IsMerging cmp deep last c w (facts (store_of source)) next came
+  pub goes_on : IsOpen w
   pub left : HasPassed lists cursor source came rest
   pub apart : ReadsApart facts store_of with_store gathers keeps cursor (IsMine w next)
   pub ungathered : AreDisjoint (gathers source) (IsMine w next)

@@ -85,7 +85,10 @@ returns-in_err-write_chosen-clause-refused g c =
     none.1 (subst (λ (f : Facts). IsTrue f.faithful) (sym same_new) t) h.merging.written h.merging.kept (rewritten entry)
     (is-rewritten c.as_slice-3.result.now c.kept_value.result.now c.as_slice-4.result.now entry k.kind (subst (λ (bytes : List ℕ). IsKey bytes entry.key) (sym c.as_slice-3.ensures.value) over_is) (ap (λ (x : Key). x.kind) same) (c.as_slice-4.ensures.value ∙ c.in_ok-set_bytes-2.ensures ∙ value_is) c.kept_value.ensures)
     (ap (λ (x : Key). x.user) same) h.merging.written_are
-    (subst (λ s. HasWritten g.K.KeyOrder.cmp c.args.self.now.outputs (g.S.Store.facts s) c.args.numbers.now.next h.merging.written) (sym c.store_mut.ensures.value) h.merging.has_written)
+    (record {
+      written = subst (λ s. HasWritten g.K.KeyOrder.cmp c.args.self.now.outputs (g.S.Store.facts s) c.args.numbers.now.next h.merging.written) (sym c.store_mut.ensures.value) h.merging.has_written;
+      goes_on = h.goes_on;
+    })
     (writes-rise g.K.KeyOrder.cmp (g.D.DeeperFiles.covers c.args.deeper.now) c.take.new.self c.in-Some.key.user.now c.released.result.now c.in_ok-choice.choice came rest h.merging.kept entry
     none.0 (ap (λ (x : Key). x.user) same) c.released.ensures.value (g.met.C.Cursor.rises c.args.self.now.cursor c.args.source.now at h.left) chosen))
     (λ long t came entry rest h.
@@ -105,7 +108,10 @@ returns-in_err-write_chosen-clause-refused g c =
     (long.1 (subst (λ (f : Facts). IsTrue f.faithful) (sym same_new) t) h.merging.written h.merging.kept (rewritten entry)
     (is-rewritten c.as_slice-3.result.now c.kept_value.result.now c.as_slice-4.result.now entry k.kind (subst (λ (bytes : List ℕ). IsKey bytes entry.key) (sym c.as_slice-3.ensures.value) over_is) (ap (λ (x : Key). x.kind) same) (c.as_slice-4.ensures.value ∙ c.in_ok-set_bytes-2.ensures ∙ value_is) c.kept_value.ensures)
     (ap (λ (x : Key). x.user) same) (well-rewritten entry) h.merging.written_are
-    (subst (λ s. HasWritten g.K.KeyOrder.cmp c.args.self.now.outputs (g.S.Store.facts s) c.args.numbers.now.next h.merging.written) (sym c.store_mut.ensures.value) h.merging.has_written))))
+    (record {
+      written = subst (λ s. HasWritten g.K.KeyOrder.cmp c.args.self.now.outputs (g.S.Store.facts s) c.args.numbers.now.next h.merging.written) (sym c.store_mut.ensures.value) h.merging.has_written;
+      goes_on = h.goes_on;
+    }))))
     c.in_err-write_chosen.ensures.refused)
 
 pub returns-in_err-next-clause-writes : goal.returns-in_err-next-clause-writes
