@@ -141,6 +141,7 @@ module _ {K : Type 0} {g : Ghosts K} {H S : Type 0} (order : Order) (v : View H 
     entries = r.same;
     own_sequences = r.own;
     merging = j.merging;
+    goes_on = j.goes_on;
     stands = seen_lists order.cmp v view work.job.cursor b _ j.left;
     no_memory = moved_read_none order.cmp (whole_of v) v.with_memory view.remembered a merge work.job.cursor same none;
     over = λ n read. subst (λ (q : JobPlan). HasNumber q.inputs.items n) (sym plan_is) (over n (within n read));

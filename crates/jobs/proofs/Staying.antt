@@ -65,6 +65,7 @@ written_on cmp w a b next more pairs le n k h = record {
   closed_are = closed_on cmp a b w.closed h.tables (λ number at. k number (inr at)) h.closed_are;
   rest_is = at_hand_on cmp a b w.at_hand w.closed next h.rest n.at_hand (λ number at. k number (inl at)) h.rest_is;
   all = h.all;
+  ends = h.ends;
   closed_numbers = numbers_on next more w.closed le h.closed_numbers;
   number = apart_on w.at_hand w.closed next more le h.number;
 }
@@ -93,6 +94,7 @@ stays order work old new next more d e came left r l =
         bound = r.merging.bound;
         sorted = r.merging.sorted;
       };
+      goes_on = r.goes_on;
       stands = m.lists _ r.stands;
       no_memory = r.no_memory;
       over = r.over;

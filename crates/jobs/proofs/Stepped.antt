@@ -61,6 +61,7 @@ module _ {K : Type 0} {g : Ghosts K} {H S : Type 0} (order : Order) (v : View H 
       → IsRunning order (whole_of v h) next d work came left → IsJobOver order v deep work h next came left
   runs lasts d work deep h next came left fits is r = record {
     merging = subst (λ (known : List ℕ → Bool). IsMerging order.cmp known work.job.last.items work.job.selection work.job.outputs (v.facts (v.store_of h)) next came) (sym is) r.merging;
+    goes_on = r.goes_on;
     left = read_lists order.cmp v view work.job.cursor h _ r.stands;
     apart = reads_apart order.cmp v view work.job.cursor lasts (is_to_write work next) (λ n mine. mine_small work.job.outputs next n fits r.numbered mine) r.no_memory (λ n over mine. r.outside n (r.over n over) mine);
     ungathered = r.unkept;
@@ -136,6 +137,7 @@ module _ {K : Type 0} {g : Ghosts K} {H S : Type 0} (order : Order) (v : View H 
         entries = subst (λ (l : List InternalEntry). SameEntries (map entry_of l) (tabled r.inputs)) all r.entries;
         own_sequences = subst HaveOwnSequences all r.own_sequences;
         merging = subst (λ (known : List ℕ → Bool). IsMerging order.cmp known after.job.last.items after.job.selection after.job.outputs (v.facts (v.store_of b)) more (came ++ front)) same_deep j.merging;
+        goes_on = j.goes_on;
         stands = seen_lists order.cmp v view after.job.cursor b _ j.left;
         no_memory = moved_read_none order.cmp (whole_of v) v.with_memory view.remembered a before.job.cursor after.job.cursor leaves.same r.no_memory;
         over = λ n over. subst (λ (q : JobPlan). HasNumber q.inputs.items n) (sym plan) (r.over n (leaves.within n over));

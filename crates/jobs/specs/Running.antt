@@ -2,7 +2,7 @@
 use Rattle.std.specs.Prelude.{◌≡◌, ◌≤◌, ◌-◌, ◌^◌, ℕ, Bool, List, ◌++◌, length, map, min}
 use Rattle.compact.specs.Deeper.{is_covered_below}
 use Rattle.compact.specs.Merging.{AreDisjoint, HasPassed, HaveOwnSequences, IsMerging}
-use Rattle.compact.specs.Outputs.{AreNumbered, IsMine}
+use Rattle.compact.specs.Outputs.{AreNumbered, IsMine, IsOpen}
 use Rattle.cursor.specs.Places.{Cmp}
 use Rattle.ikey.specs.Entries.{InternalEntry, entry_of}
 use Rattle.ikey.specs.Orders.{Order}
@@ -49,6 +49,7 @@ pub record IsRunning {K : Type 0} {g : _} (order : Order) (whole : Whole) (next 
   pub entries : SameEntries (map entry_of (came ++ left)) (tabled inputs)
   pub own_sequences : HaveOwnSequences (came ++ left)
   pub merging : IsMerging order.cmp (deep_of order.cmp work) work.job.last.items work.job.selection work.job.outputs whole.seen.facts next came
+  pub goes_on : IsOpen work.job.outputs
   pub stands : HasPassed (ListsMerged order.cmp) work.job.cursor whole came left
   pub no_memory : ReadsNoMemory order.cmp work.job.cursor
   pub over : (number : ℕ) → goes_over work number → is_input work number
