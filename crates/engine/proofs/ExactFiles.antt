@@ -14,7 +14,7 @@ use Rattle.jobs.specs.declared.open_job.OpenJob.{OpenJob}
 use Rattle.recover.proofs.Memberships.{one_of_tables}
 use Rattle.recover.specs.Directory.{Directory}
 use Rattle.recover.specs.Logs.{InLogs, IsLive, LogContent}
-use Rattle.recover.specs.Tables.{TableContent}
+use Rattle.recover.specs.Tables.{HasTable, TableContent}
 use Rattle.scans.specs.Scans.{tables_of}
 use Rattle.scans.specs.declared.scan.Scan.{Scan}
 use Rattle.sources.specs.Tables.{Seen}
@@ -80,15 +80,21 @@ module _ {K : Type 0} {g : _} (order : Order) (source : Seen) (db : Held K g) (m
   live_at_ease idle none (Manifest n) named there live = live
   live_at_ease idle none (Temporary n) named there live = live
 
-  table_there : (number : ℕ) → HasNumber number db.tables → IsSome (table_at source.facts.files number)
-  table_there number has =
+  table_of_version : (number : ℕ) → HasNumber number db.tables → (content : TableContent) × HasTable order source.facts.files content × (content.placed.table.number ≡ number)
+  table_of_version number has =
       let a = serving.log.directory in
       let listed = as_listed db.tables number has in
       let here : Contains (placed_in serving.contents) listed.0 = all_contains (Contains (placed_in serving.contents)) db.tables listed.0 serving.tables.version.only listed.1 in
       let content = content_at d.tables listed.0 (contains_among (placed_in d.tables) listed.0 (subst (λ (contents : List TableContent). Contains (placed_in contents) listed.0) a.in_tables here)) in
-      let is : content.0.placed.table.number ≡ number = ap (λ (p : PlacedTable). p.table.number) content.2 ∙ listed.2 in
-      let table = one_of_tables order source.facts.files d.tables content.0 a.consistent.tables content.1 in
-      subst (λ (k : ℕ). IsSome (table_at source.facts.files k)) is (some_of (table_at source.facts.files content.0.placed.table.number) table.bytes table.there)
+      (content.0, one_of_tables order source.facts.files d.tables content.0 a.consistent.tables content.1, ap (λ (p : PlacedTable). p.table.number) content.2 ∙ listed.2)
+
+  pub table_numbered : (number : ℕ) → HasNumber number db.tables → IsNumbered number
+  table_numbered number has = let found = table_of_version number has in subst IsNumbered found.2 found.1.numbered
+
+  table_there : (number : ℕ) → HasNumber number db.tables → IsSome (table_at source.facts.files number)
+  table_there number has =
+      let found = table_of_version number has in
+      subst (λ (k : ℕ). IsSome (table_at source.facts.files k)) found.2 (some_of (table_at source.facts.files found.0.placed.table.number) found.1.bytes found.1.there)
 
   pinned_there : (id : ℕ) (scan : Scan K g) → kept_at db.iterators id ≡ Some scan → (number : ℕ) → HasNumber number (tables_of scan) → IsSome (table_at source.facts.files number)
   pinned_there id scan there number has =
@@ -114,7 +120,7 @@ IsIdle result = result ≡ Ok progress.Idle
 
 pub leaves_exactly : {K : Type 0} {g : _} (order : Order) (old new : Seen) (before after : Held K g) (options : OptionValues) (budget : ℕ) (done : Progress)
     → ((ids : Ids) → LeadsOpen order old new ids before after (λ m n. Works m budget (work_answer (Ok done)) n)) → (IsIdle (Ok done) → after.broken ≡ false)
-    → (IsIdle (Ok done) → IsTrue new.facts.faithful → new.facts.failures ≡ old.facts.failures → HasLiveOnly new.facts.files after) → DoesWork options budget before after (Ok done) → LeavesExactlyLive order old new before after (Ok done)
+    → (IsIdle (Ok done) → IsTrue new.facts.faithful → new.facts.failures ≡ old.facts.failures → HasLiveOnly new.facts.files after) → DoesWork order.cmp options budget before after (Ok done) → LeavesExactlyLive order old new before after (Ok done)
 leaves_exactly order old new before after options budget progress.Idle step whole tidy does is f same ids m s =
     let moved = (step ids).moved f m s in
     let ease = does.1.ease in

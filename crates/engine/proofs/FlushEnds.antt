@@ -172,7 +172,7 @@ module _ {K : Type 0} {g : _} (order : Order) (kept : (scan : Scan K g) → Scan
       (λ m f same serving.
       let done = has f m serving in (
         draws m 1 facts,
-        serving_flushed order kept one lasts law flushes old facts before m serving plan numbers.next (stays_below m serving f) (names_below m serving f) (sound_still m serving f) done.free upto.1 end version.value.tables (with_table end version).directory entries in_order done refl refl refl refl refl refl upto.0,
+        serving_flushed order kept one lasts law flushes old facts before m serving plan numbers.next (stays_below m serving f) (names_below m serving f) (sound_still m serving f) done.free upto.1 end version.value.tables version.value.compact_pointers (with_table end version).directory entries in_order done refl refl refl refl refl refl upto.0,
       )))
 
 -- ---- an empty sealed table

@@ -1,5 +1,5 @@
 -- What a flush leaves of an open database.
-use Rattle.std.proofs.Common.{true, ◌≡◌, ◌≢◌, ℕ, ◌+◌, ◌≤◌, ◌<◌, ◌^◌, List, [], ◌∷◌, ◌++◌, map, Some, None, MatchOption, IsTrue, inl, inr, refl, sym, ap, subst, ◌∙◌, arith, string_bytes}
+use Rattle.std.proofs.Common.{true, ◌≡◌, ◌≢◌, ℕ, ◌+◌, ◌≤◌, ◌<◌, ◌^◌, List, [], ◌∷◌, ◌++◌, map, Option, Some, None, MatchOption, IsTrue, inl, inr, refl, sym, ap, subst, ◌∙◌, arith, string_bytes}
 use Rattle.std.proofs.lemmas.List.{append-nil}
 use Rattle.std.specs.FinMap.{get}
 use Rattle.std.specs.declared.cmp.Ordering.{Ordering}
@@ -188,7 +188,7 @@ module _ {K : Type 0} {g : _} (order : Order) (kept : (scan : Scan K g) → Scan
 
     -- ---- the table is in the directory
 
-    module _ (end : ℕ) (tables : List PlacedTable) (state : DirectoryState) (entries : List Entry) (in_order : AreInOrder order.cmp tables) (has : IsFlushed order old.facts.files facts.files next after end entries tables d sealed current)
+    module _ (end : ℕ) (tables : List PlacedTable) (pointers : List (Option (List ℕ))) (state : DirectoryState) (entries : List Entry) (in_order : AreInOrder order.cmp tables) (has : IsFlushed order old.facts.files facts.files next after end entries tables d sealed current)
         (number : state.manifest.number ≡ db.directory.manifest.number) (name : state.manifest.name ≡ db.directory.manifest.name) (ends : state.manifest.end ≡ end) (first_log : state.first_log ≡ db.log.number) (previous_log : state.previous_log ≡ 0)
         (next_is : state.numbers.next ≡ after) (le : next ≤ after) where
       abbrev f : HasFlushed order old.facts.files facts.files next after entries d sealed current
@@ -201,7 +201,7 @@ module _ {K : Type 0} {g : _} (order : Order) (kept : (scan : Scan K g) → Scan
       memory = record db.memory { sealed = None }
 
       abbrev pub flushed_db : Held K g
-      flushed_db = record db { memory = memory; tables = tables; directory = state }
+      flushed_db = record db { memory = memory; tables = tables; compact_pointers = pointers; directory = state }
 
       in_current : db.memory.current.inserts ≡ logged (current ∷ [])
       in_current = serving.log.logs.current_are ∙ sym (append-nil (batch_entries current.batches))

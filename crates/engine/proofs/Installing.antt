@@ -1,5 +1,5 @@
 -- What the end of a compaction leaves of an open database.
-use Rattle.std.proofs.Common.{true, ◌≡◌, ◌≢◌, ℕ, ◌+◌, ◌≤◌, List, [], ◌∷◌, ◌++◌, map, Some, None, IsTrue, inl, inr, refl, sym, ap, subst, ◌∙◌, arith, string_bytes}
+use Rattle.std.proofs.Common.{true, ◌≡◌, ◌≢◌, ℕ, ◌+◌, ◌≤◌, List, [], ◌∷◌, ◌++◌, map, Option, Some, None, IsTrue, inl, inr, refl, sym, ap, subst, ◌∙◌, arith, string_bytes}
 use Rattle.std.specs.FinMap.{get}
 use Rattle.cache.specs.Tables.{table_at}
 use Rattle.compact.specs.Laws.{AreApart, SeesAsOne}
@@ -203,11 +203,11 @@ module _ {K : Type 0} {g : _} (order : Order) (kept : (scan : Scan K g) → Scan
       logged_now : tabled has.contents ++ logged_in db.memory ≡ entries_in e
       logged_now = ap (λ (es : List Entry). tabled has.contents ++ es) a.in_logs
 
-      module _ (tables : List PlacedTable) (state : DirectoryState) (in_order : AreInOrder order.cmp tables) (ends : ManifestEndsAt order facts.files d.manifest state.manifest.end (d.edits ++ has.edit ∷ []) has.next) (free : IsFree order facts.files next)
+      module _ (tables : List PlacedTable) (pointers : List (Option (List ℕ))) (state : DirectoryState) (in_order : AreInOrder order.cmp tables) (ends : ManifestEndsAt order facts.files d.manifest state.manifest.end (d.edits ++ has.edit ∷ []) has.next) (free : IsFree order facts.files next)
           (listed : Lists (placed_in has.contents) tables) (number : state.manifest.number ≡ db.directory.manifest.number) (name : state.manifest.name ≡ db.directory.manifest.name) (first_log : state.first_log ≡ db.directory.first_log)
           (previous_log : state.previous_log ≡ db.directory.previous_log) (next_is : state.numbers.next ≡ next) where
         abbrev pub installed_db : Held K g
-        installed_db = record db { tables = tables; directory = state; job = None }
+        installed_db = record db { tables = tables; compact_pointers = pointers; directory = state; job = None }
 
         abbrev log_installed : HasLog order facts.files has.contents installed_db
         log_installed =

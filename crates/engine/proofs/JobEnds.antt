@@ -331,7 +331,7 @@ module _ {K : Type 0} {g : _} (order : Order) (total : IsTotalOrder order.cmp) (
           let has = subst (λ (r : Result (Installed K) FlushError). Means m serving f r) said (means m serving f) in (
             draws m most facts,
             once m serving f last_seen (held after_memory (installed_state installed))
-                (serving_installed order kept one lasts new facts mid (drawing m most new.facts) (on m serving f) after (c m serving f) (none_left m serving f) f install has.has installed.version.value.tables (installed_state installed).directory in_order has.ends has.free has.listed
+                (serving_installed order kept one lasts new facts mid (drawing m most new.facts) (on m serving f) after (c m serving f) (none_left m serving f) f install has.has installed.version.value.tables installed.version.value.compact_pointers (installed_state installed).directory in_order has.ends has.free has.listed
                 refl refl refl refl refl),
           ))
 

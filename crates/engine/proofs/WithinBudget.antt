@@ -1,6 +1,9 @@
 -- That a slice which ends a compaction has merged no more entries than its budget has.
 use Rattle.std.proofs.Common.{◌≡◌, ◌++◌, ◌≤◌, ℕ, Bool, true, false, List, length, max, Option, Some, None, Result, Ok, IsSome, IsTrue, MatchBool, MatchOption, inl, inr, refl, sym, ap, subst, ◌∙◌, arith, append-nil}
+use Rattle.std.specs.Option.{option_or}
+use Rattle.cache.specs.Tables.{table_at}
 use Rattle.compact.specs.declared.job.Progress.{Progress as Merged}
+use Rattle.edits.specs.declared.names.FileName.TheVariants.{OldTable, Table}
 use Rattle.ikey.specs.Entries.{InternalEntry}
 use Rattle.ikey.specs.Orders.{Order}
 use Rattle.jobs.specs.Stepping.{CanStep, GoesOn}
@@ -10,6 +13,8 @@ use Rattle.memtable.specs.Contents.{size_of}
 use Rattle.recover.specs.Directory.{Directory}
 use Rattle.scans.specs.Whole.{Whole}
 use Rattle.sources.specs.Tables.{Seen}
+use Rattle.store.specs.Files.{Files}
+use Rattle.versions.specs.Keeping.{HasNumber}
 use Rattle.engine.specs.declared.ids.Ids.{Ids}
 use Rattle.engine.specs.Follows.{LeadsOpen}
 use Rattle.engine.specs.Held.{Held, whole_of}
@@ -17,7 +22,11 @@ use Rattle.engine.specs.Machine.{Machine}
 use Rattle.engine.specs.OptionValues.{OptionValues}
 use Rattle.engine.specs.Stands.{StandsOpen}
 use Rattle.engine.specs.WithinBudget.{HasLeftUpTo, IsBeforeSlice, SlicesUpTo}
-use Rattle.engine.specs.Working.{IsAtEase, IsSameMemory}
+use Rattle.engine.specs.InUse.{IsTableUsed}
+use Rattle.engine.specs.Working.{IsAtEase, IsSameMemory, LosesDead}
+use Rattle.engine.proofs.ExactFiles.{table_numbered}
+use Rattle.engine.proofs.Opened.{live_stays}
+use Rattle.engine.proofs.Steps.{serving_of}
 
 -- all that were left came
 pub few_left : {K : Type 0} {g : _} (order : Order) (old : Seen) (mid : Whole) (db : Held K g) (work more : OpenJob K g) (next budget : ℕ) (progress : Merged) → db.job ≡ Some work → progress.ended ≡ true
@@ -32,10 +41,25 @@ few_left {K} {g} order old mid db work more next budget progress is ended goes f
     let most = s.3.most in
     omega (arith, count, long, most))
 
+-- ---- the files of its tables
+
+-- those of the tables of the version stay
+abbrev pub KeepsTableFiles : {K : Type 0} {g : _} → Order → Seen → Seen → Held K g → Type 0
+KeepsTableFiles order old new before = (ids : Ids) (m : Machine) → StandsOpen order old ids before m → (number : ℕ) → HasNumber number before.tables → table_at new.facts.files number ≡ table_at old.facts.files number
+
+-- they do where only what isn't live is removed
+pub tables_stay : {K : Type 0} {g : _} (order : Order) (old new : Seen) (before between : Held K g) → between.tables ≡ before.tables → between.job ≡ before.job → between.iterators ≡ before.iterators → before.broken ≡ false
+    → LosesDead old.facts new.facts between → KeepsTableFiles order old new before
+tables_stay order old new before between tables job iterators whole loses ids m s number has =
+    let numbered = table_numbered order old before m (serving_of order old ids before m whole s) number has in
+    let live : IsTableUsed between.tables between.job between.iterators number = inl (inl (subst (HasNumber number) (sym tables) has)) in
+    let stays = live_stays old.facts new.facts between loses in
+    λ i. option_or ((stays (Table number) numbered live).0 i) ((stays (OldTable number) numbered live).0 i)
+
 -- ---- where it began
 
 pub slices_itself : {K : Type 0} {g : _} (order : Order) (old : Seen) (db : Held K g) (most : ℕ) → db.broken ≡ false → HasLeftUpTo order old db most → SlicesUpTo order old db most
-slices_itself order old db most whole few = (old, db, record { stands = λ ids m s. (m, s); whole = whole; tables = refl; job = inl refl }, few)
+slices_itself order old db most whole few = (old, db, record { stands = λ ids m s. (m, s); whole = whole; tables = refl; files = λ ids m s number has. refl; job = inl refl }, few)
 
 first_of : {X : Type 0} (P Q : X → Type 0) (o : Option X) → MatchOption o ⊥ (λ x. P x × Q x) → MatchOption o ⊥ P
 first_of P Q None h = h
@@ -43,14 +67,15 @@ first_of P Q (Some x) h = h.0
 
 -- with a compaction that was begun
 pub slices_begun : {K : Type 0} {g : _} (order : Order) (old between : Seen) (before mid : Held K g) (most : ℕ) (Q : OpenJob K g → Type 0) {P : Machine → Machine → Type 0} → ((ids : Ids) → LeadsOpen order old between ids before mid P) → IsTrue between.facts.faithful
-    → mid.broken ≡ false → mid.tables ≡ before.tables → before.job ≡ None → MatchOption mid.job ⊥ (λ work. (work.merged ≡ 0) × Q work) → HasLeftUpTo order between mid most → SlicesUpTo order old before most
-slices_begun {K} {g} order old between before mid most Q leads f whole tables none begun few = (
+    → mid.broken ≡ false → mid.tables ≡ before.tables → between.facts.files ≡ old.facts.files → before.job ≡ None → MatchOption mid.job ⊥ (λ work. (work.merged ≡ 0) × Q work) → HasLeftUpTo order between mid most → SlicesUpTo order old before most
+slices_begun {K} {g} order old between before mid most Q leads f whole tables files none begun few = (
   between,
   mid,
   record {
     stands = λ ids m s. let one = (leads ids).moved f m s in (one.0, one.2);
     whole = whole;
     tables = tables;
+    files = λ ids m s number has. ap (λ (there : Files). table_at there number) files;
     job = inr (none, first_of (λ (work : OpenJob K g). work.merged ≡ 0) Q mid.job begun);
   },
   few,
@@ -58,14 +83,17 @@ slices_begun {K} {g} order old between before mid most Q leads f whole tables no
 
 -- behind a piece that leaves tables and compaction
 pub slices_behind : {K : Type 0} {g : _} (order : Order) (old mid : Seen) (before between : Held K g) (most : ℕ) {P : Machine → Machine → Type 0} → ((ids : Ids) → LeadsOpen order old mid ids before between P) → IsTrue mid.facts.faithful
-    → between.tables ≡ before.tables → between.job ≡ before.job → SlicesUpTo order mid between most → SlicesUpTo order old before most
-slices_behind {K} {g} order old mid before between most leads f tables same inner = (
+    → between.tables ≡ before.tables → between.job ≡ before.job → KeepsTableFiles order old mid before → SlicesUpTo order mid between most → SlicesUpTo order old before most
+slices_behind {K} {g} order old mid before between most leads f tables same files inner = (
   inner.0,
   inner.1,
   record {
     stands = λ ids m s. let one = (leads ids).moved f m s in inner.2.stands ids one.0 one.2;
     whole = inner.2.whole;
     tables = inner.2.tables ∙ tables;
+    files = λ ids m s number has.
+        let one = (leads ids).moved f m s in
+        inner.2.files ids one.0 one.2 number (subst (HasNumber number) (sym tables) has) ∙ files ids m s number has;
     job = elim inner.2.job [ inl is ↦ inl (is ∙ same) | inr begun ↦ inr (sym same ∙ begun.0, begun.1) ];
   },
   inner.3,

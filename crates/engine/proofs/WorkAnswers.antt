@@ -1,8 +1,8 @@
 -- What work answers, of what its pieces do.
 use Rattle.std.proofs.Common.{◌≡◌, ℕ, ◌+◌, ◌≤◌, ◌<◌, max, Bool, true, false, if◌then◌else◌, Option, Some, None, Result, Ok, Err, IsTrue, IsSome, MatchOption, List, inl, inr, refl, sym, ap, subst, ◌∙◌, arith}
 use Rattle.std.proofs.lemmas.Bool.{cases_order}
-use Rattle.std.specs.declared.cmp.Ordering.{Ordering}
 use Rattle.coding.specs.declared.error.DbError.{DbError}
+use Rattle.cursor.specs.Places.{Cmp}
 use Rattle.coding.specs.declared.error.DbError.TheVariants as error
 use Rattle.edits.specs.declared.field.PlacedTable.{PlacedTable}
 use Rattle.ikey.specs.Orders.{Order}
@@ -14,7 +14,7 @@ use Rattle.sources.specs.Tables.{Seen}
 use Rattle.store.specs.Files.{Facts}
 use Rattle.upkeep.specs.Install.{Replaces}
 use Rattle.versions.specs.Levels.{Placement}
-use Rattle.versions.specs.Plans.{IsPicked, Needs}
+use Rattle.versions.specs.Plans.{IsPicked}
 use Rattle.versions.specs.declared.plan.JobPlan.{JobPlan}
 use Rattle.engine.specs.declared.ids.Ids.{Ids}
 use Rattle.engine.specs.declared.work.Progress.{Progress}
@@ -124,10 +124,10 @@ at_ease options before memory same h = record {
   small = (let size : size_of memory.current.inserts ≡ size_of before.memory.current.inserts = ap (λ c. size_of c.inserts) same.current in let least = h.small in omega (arith, size, least));
 }
 
-pub does_on : {K : Type 0} {g : _} (before : Held K g) (memory : Memories) (after : Held K g) (options : OptionValues) (budget : ℕ) (result : Result Progress DbError) → IsSameMemory before.memory memory → DoesWork options budget (record before { memory = memory }) after result
-    → DoesWork options budget before after result
-does_on before memory after options budget (Ok progress.Worked) same (inl h) = inl (record { work = h.work; was = h.was; on = h.on })
-does_on before memory after options budget (Ok progress.Worked) same (inr (inl h)) = inr (inl (record {
+pub does_on : {K : Type 0} {g : _} (cmp : Cmp) (before : Held K g) (memory : Memories) (after : Held K g) (options : OptionValues) (budget : ℕ) (result : Result Progress DbError) → IsSameMemory before.memory memory → DoesWork cmp options budget (record before { memory = memory }) after result
+    → DoesWork cmp options budget before after result
+does_on cmp before memory after options budget (Ok progress.Worked) same (inl h) = inl (record { work = h.work; was = h.was; on = h.on })
+does_on cmp before memory after options budget (Ok progress.Worked) same (inr (inl h)) = inr (inl (record {
   idle = h.idle;
   was = subst IsSome same.sealed h.was;
   gone = h.gone;
@@ -135,26 +135,26 @@ does_on before memory after options budget (Ok progress.Worked) same (inr (inl h
   still = h.still;
   table = elim h.table [ inl none ↦ inl (sym same.sealed_are ∙ none) | inr table ↦ inr table ];
 }))
-does_on before memory after options budget (Ok progress.Worked) same (inr (inr (inl h))) = inr (inr (inl (
+does_on cmp before memory after options budget (Ok progress.Worked) same (inr (inr (inl h))) = inr (inr (inl (
   (let size : size_of memory.current.inserts ≡ size_of before.memory.current.inserts = ap (λ c. size_of c.inserts) same.current in let most_is = h.0 in omega (arith, size, most_is)),
   record { idle = h.1.idle; none = sym same.sealed ∙ h.1.none; sealed = h.1.sealed ∙ ap (λ c. c.inserts) same.current; is = h.1.is; still = h.1.still; empty = h.1.empty; log = h.1.log; begins = h.1.begins },
 )))
-does_on before memory after options budget (Ok progress.Worked) same (inr (inr (inr h))) = inr (inr (inr (record { ease = at_ease options before memory same h.ease; job = record { plan = h.job.plan; wanted = h.job.wanted; begun = h.job.begun } })))
-does_on before memory after options budget (Ok progress.Idle) same h = (record { ease = at_ease options before memory same h.0.ease; unwanted = h.0.unwanted }, h.1)
-does_on before memory after options budget (Err e) same h = tt
+does_on cmp before memory after options budget (Ok progress.Worked) same (inr (inr (inr h))) = inr (inr (inr (record { ease = at_ease options before memory same h.ease; job = record { plan = h.job.plan; picked = h.job.picked; begun = h.job.begun } })))
+does_on cmp before memory after options budget (Ok progress.Idle) same h = (record { ease = at_ease options before memory same h.0.ease; unwanted = h.0.unwanted }, h.1)
+does_on cmp before memory after options budget (Err e) same h = tt
 
 -- what it shows of what there was
-pub shows_worked : {K : Type 0} {g : _} (options : OptionValues) (budget : ℕ) (before after : Held K g) → DoesWork options budget before after (Ok progress.Worked) → ShowsWork options (Some before) Worked
-shows_worked options budget before after (inl h) = inl (some_job before.job h.work h.was)
+pub shows_worked : {K : Type 0} {g : _} (cmp : Cmp) (options : OptionValues) (budget : ℕ) (before after : Held K g) → DoesWork cmp options budget before after (Ok progress.Worked) → ShowsWork options (Some before) Worked
+shows_worked cmp options budget before after (inl h) = inl (some_job before.job h.work h.was)
   where
     some_job : {X : Type 0} (o : Option X) (x : X) → o ≡ Some x → IsSome o
     some_job o x is = subst (λ (p : Option _). IsSome p) (sym is) refl
-shows_worked options budget before after (inr (inl h)) = inr (inl h.was)
-shows_worked options budget before after (inr (inr (inl h))) = inr (inr (inl h.0))
-shows_worked options budget before after (inr (inr (inr h))) = inr (inr (inr (h.job.wanted.0, h.job.wanted.1)))
+shows_worked cmp options budget before after (inr (inl h)) = inr (inl h.was)
+shows_worked cmp options budget before after (inr (inr (inl h))) = inr (inr (inl h.0))
+shows_worked cmp options budget before after (inr (inr (inr h))) = inr (inr (inr (h.job.picked.level, (h.job.picked.least.within, h.job.picked.least.needs))))
 
-pub shows_idle : {K : Type 0} {g : _} (options : OptionValues) (budget : ℕ) (before after : Held K g) → DoesWork options budget before after (Ok progress.Idle) → ShowsWork options (Some before) Idle
-shows_idle options budget before after h = h.0
+pub shows_idle : {K : Type 0} {g : _} (cmp : Cmp) (options : OptionValues) (budget : ℕ) (before after : Held K g) → DoesWork cmp options budget before after (Ok progress.Idle) → ShowsWork options (Some before) Idle
+shows_idle cmp options budget before after h = h.0
 
 -- so many came of those of a compaction that was begun at once, or all
 pub begun_further : {K : Type 0} {g : _} (budget : ℕ) (plan : JobPlan) (before mid after : Held K g) → mid.tables ≡ before.tables → MatchOption mid.job ⊥ (λ work. (work.merged ≡ 0) × (work.job.plan ≡ plan)) → GoesOn budget mid after
@@ -177,10 +177,7 @@ of_some A P o x is h = subst (λ (p : Option _). MatchOption p A P) is h
 pub of_none : {X : Type 0} (A : Type 0) (P : X → Type 0) (o : Option X) → o ≡ None → MatchOption o A P → A
 of_none A P o is h = subst (λ (p : Option _). MatchOption p A P) is h
 
--- it is that of a level that wants a compaction
-pub picked_level : (cmp : List ℕ → List ℕ → Ordering) (files base level0_files base_bytes : ℕ) (version : Placement) (tables : List PlacedTable) (plan : JobPlan) → files ≡ level0_files → base ≡ base_bytes → version.tables ≡ tables → IsPicked cmp files base version plan
-    → (level : ℕ) × ((level < 6) × Needs level0_files base_bytes tables level) × (plan.output_level ≡ level + 1)
-picked_level cmp files base level0_files base_bytes version tables plan files_are base_is tables_are picked =
-    let level = picked.level in
-    let needs = subst (λ (n : ℕ). Needs n base_bytes tables level) files_are (subst (λ (n : ℕ). Needs files n tables level) base_is (subst (λ (ts : List PlacedTable). Needs files base ts level) tables_are picked.least.needs)) in
-    (level, (picked.least.within, needs), picked.behind.chosen.output)
+-- it is picked for the version, by what the options say
+pub picked_for : (cmp : Cmp) (files base level0_files base_bytes : ℕ) (version tables : Placement) (plan : JobPlan) → files ≡ level0_files → base ≡ base_bytes → version ≡ tables → IsPicked cmp files base version plan → IsPicked cmp level0_files base_bytes tables plan
+picked_for cmp files base level0_files base_bytes version tables plan files_are base_is same picked =
+    subst (λ (n : ℕ). IsPicked cmp n base_bytes tables plan) files_are (subst (λ (n : ℕ). IsPicked cmp files n tables plan) base_is (subst (λ (v : Placement). IsPicked cmp files base v plan) same picked))

@@ -4,6 +4,7 @@ use Rattle.std.specs.Option.{option_or}
 use Rattle.batch.specs.Batch.{first_refusal}
 use Rattle.batch.specs.declared.operation.Operation.{Operation}
 use Rattle.coding.specs.declared.error.DbError.{DbError}
+use Rattle.cursor.specs.Places.{Cmp}
 use Rattle.store.specs.Files.{Facts}
 use Rattle.ikey.specs.Orders.{Order}
 use Rattle.engine.specs.declared.command.Op.{Op}
@@ -193,8 +194,8 @@ abbrev pub DbRead : {S K : Type 0} {g : _} → List ℕ → Option ℕ → Db S 
 DbRead key snapshot db result = IsReadBy key snapshot (held_by db) result
 
 -- which piece of work it did
-abbrev pub DbWorks : {S K : Type 0} {g : _} → ℕ → Db S K g → Db S K g → Result Progress DbError → Type 0
-DbWorks budget old new result = DoesWork old.options budget (held_by old) (held_by new) result
+abbrev pub DbWorks : {S K : Type 0} {g : _} → Cmp → ℕ → Db S K g → Db S K g → Result Progress DbError → Type 0
+DbWorks cmp budget old new result = DoesWork cmp old.options budget (held_by old) (held_by new) result
 
 -- Where there was none, all files are live, unless one couldn't be removed.
 abbrev pub DbTidies : {S K : Type 0} {g : _} → (S → Facts) → Db S K g → Db S K g → Result Progress DbError → Type 0

@@ -11,15 +11,17 @@ use Rattle.scans.specs.declared.scan.Scan.{Scan}
 use Rattle.scans.specs.declared.source.Sources.{Sources}
 use Rattle.sources.specs.Tables.{Seen, seen}
 use Rattle.store.specs.Files.{Facts}
+use Rattle.versions.specs.Levels.{Placement}
 use Rattle.engine.specs.declared.directory.DirectoryState.{DirectoryState}
 use Rattle.engine.specs.declared.log.CurrentLog.{CurrentLog}
 use Rattle.engine.specs.declared.state.DbState.{DbState}
 
--- Its memory tables, the tables of its version, the log that writes go to, what it knows of its directory beside, the compaction that is
+-- Its memory tables, the tables of its version and the compact pointers, the log that writes go to, what it knows of its directory beside, the compaction that is
 -- under way, if one is, the last sequence that each live snapshot sees, the open iterators, and whether it is broken.
 pub record Held (K : Type 0) (g : _) : Type 0 where
   pub memory : Memories
   pub tables : List PlacedTable
+  pub compact_pointers : List (Option (List ℕ))
   pub log : CurrentLog
   pub directory : DirectoryState
   pub job : Option (OpenJob K g)
@@ -32,6 +34,7 @@ abbrev pub held : {K : Type 0} {g : _} → Memories → DbState K g → Held K g
 held memory state = record {
   memory = memory;
   tables = state.version.value.tables;
+  compact_pointers = state.version.value.compact_pointers;
   log = state.log;
   directory = state.directory;
   job = state.job;
@@ -39,6 +42,10 @@ held memory state = record {
   iterators = state.iterators;
   broken = state.broken;
 }
+
+-- its version
+abbrev pub version_of : {K : Type 0} {g : _} → Held K g → Placement
+version_of db = record { tables = db.tables; compact_pointers = db.compact_pointers }
 
 -- what is known of a store, and kept of its tables
 abbrev pub seen_of : {S K : Type 0} → (S → Facts) → Sources K S → Seen

@@ -1,11 +1,13 @@
 -- That no call of work merges more entries than its budget has, also where it brings a compaction to its end.
 use Rattle.std.specs.Prelude.{◌≡◌, ◌⊎◌, ◌≤◌, ℕ, false, IsTrue, IsSome, None, List, length, max, MatchOption, Result, Ok}
+use Rattle.cache.specs.Tables.{table_at}
 use Rattle.coding.specs.declared.error.DbError.{DbError}
 use Rattle.ikey.specs.Entries.{InternalEntry}
 use Rattle.ikey.specs.Orders.{Order}
 use Rattle.jobs.specs.Stepping.{CanStep}
 use Rattle.recover.specs.Directory.{Directory}
 use Rattle.sources.specs.Tables.{Seen}
+use Rattle.versions.specs.Keeping.{HasNumber}
 use Rattle.engine.specs.declared.ids.Ids.{Ids}
 use Rattle.engine.specs.declared.work.Progress.{Progress}
 use Rattle.engine.specs.declared.work.Progress.TheVariants.{Worked}
@@ -20,12 +22,13 @@ abbrev pub HasLeftUpTo : {K : Type 0} {g : _} → Order → Seen → Held K g �
 HasLeftUpTo order source db most =
     MatchOption db.job ⊥ (λ work. (d : Directory) (came left : List InternalEntry) → CanStep order (whole_of source db) db.directory.numbers.next d work came left → length left ≤ most)
 
--- A state that the call came through, not broken, with the compaction that was under way before, or with one that it had begun, to which nothing
--- had come.
+-- A state that the call came through, not broken, with the tables that there were before and what their files held, and with the compaction
+-- that was under way, or with one that it had begun, to which nothing had come.
 pub record IsBeforeSlice {K : Type 0} {g : _} (order : Order) (old between : Seen) (before mid : Held K g) : Type 0 where
   pub stands : (ids : Ids) (m : Machine) → StandsOpen order old ids before m → (n : Machine) × StandsOpen order between ids mid n
   pub whole : mid.broken ≡ false
   pub tables : mid.tables ≡ before.tables
+  pub files : (ids : Ids) (m : Machine) → StandsOpen order old ids before m → (number : ℕ) → HasNumber number before.tables → table_at between.facts.files number ≡ table_at old.facts.files number
   pub job : (mid.job ≡ before.job) ⊎ ((before.job ≡ None) × MatchOption mid.job ⊥ (λ work. work.merged ≡ 0))
 
 -- It came through one in which no more than so many were left.

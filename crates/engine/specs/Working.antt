@@ -2,13 +2,14 @@
 use Rattle.std.specs.Prelude.{◌≡◌, ◌⊎◌, ◌<◌, ◌≤◌, ◌+◌, ℕ, Bool, true, if◌then◌else◌, Some, None, IsSome, MatchOption, max, List, [], Contains, Result, Ok, Err, MatchResult}
 use Rattle.cache.specs.Tables.{KeptTable}
 use Rattle.coding.specs.declared.error.DbError.{DbError}
+use Rattle.cursor.specs.Places.{Cmp}
 use Rattle.coding.specs.declared.error.DbError.TheVariants as error
 use Rattle.edits.specs.Layout.{inserted}
 use Rattle.edits.specs.declared.field.TableFile.{TableFile}
 use Rattle.memories.specs.Memories.{Memories, sealed_inserts}
 use Rattle.memtable.specs.Contents.{size_of}
 use Rattle.versions.specs.Levels.{Lists}
-use Rattle.versions.specs.Plans.{Needs}
+use Rattle.versions.specs.Plans.{IsPicked, Needs}
 use Rattle.std.specs.FinMap.{contains_key, get}
 use Rattle.edits.specs.Names.{IsFileName, name_of}
 use Rattle.edits.specs.declared.names.FileName.{FileName}
@@ -19,7 +20,7 @@ use Rattle.versions.specs.declared.live.LiveNumbers.{LiveNumbers}
 use Rattle.versions.specs.declared.plan.JobPlan.{JobPlan}
 use Rattle.engine.specs.declared.directory.DirectoryState.{DirectoryState}
 use Rattle.engine.specs.Durable.{LeavesFile}
-use Rattle.engine.specs.Held.{Held}
+use Rattle.engine.specs.Held.{Held, version_of}
 use Rattle.engine.specs.InUse.{IsTableUsed}
 use Rattle.engine.specs.OptionValues.{OptionValues}
 use Rattle.jobs.specs.Running.{shown}
@@ -103,30 +104,30 @@ pub record IsAtEase {K : Type 0} {g : _} (options : OptionValues) (db : Held K g
 abbrev pub WantsCompaction : {K : Type 0} {g : _} → OptionValues → Held K g → ℕ → Type 0
 WantsCompaction options db level = (level < 6) × Needs options.level0_files options.base_bytes db.tables level
 
--- The compaction of a level that wants one was begun. So many entries of its inputs came; or all, and its outputs are in the place of its
+-- The compaction that is most wanted was begun. So many entries of its inputs came; or all, and its outputs are in the place of its
 -- inputs.
-pub record BeginsJob {K : Type 0} {g : _} (options : OptionValues) (budget : ℕ) (before after : Held K g) : Type 0 where
+pub record BeginsJob {K : Type 0} {g : _} (cmp : Cmp) (options : OptionValues) (budget : ℕ) (before after : Held K g) : Type 0 where
   pub plan : JobPlan
-  pub wanted : (level : ℕ) × WantsCompaction options before level × (plan.output_level ≡ level + 1)
+  pub picked : IsPicked cmp options.level0_files options.base_bytes (version_of before) plan
   pub begun : MatchOption after.job (Replaces plan before.tables after.tables) (λ work. (work.job.plan ≡ plan) × (work.merged ≡ shown (max budget 1)) × (after.tables ≡ before.tables))
 
 -- That is so where nothing else was to be done.
-pub record Begins {K : Type 0} {g : _} (options : OptionValues) (budget : ℕ) (before after : Held K g) : Type 0 where
+pub record Begins {K : Type 0} {g : _} (cmp : Cmp) (options : OptionValues) (budget : ℕ) (before after : Held K g) : Type 0 where
   pub ease : IsAtEase options before
-  pub job : BeginsJob options budget before after
+  pub job : BeginsJob cmp options budget before after
 
 -- Where it is, and no level wants a compaction, there is no work.
 pub record HasNoWork {K : Type 0} {g : _} (options : OptionValues) (db : Held K g) : Type 0 where
   pub ease : IsAtEase options db
   pub unwanted : (level : ℕ) → WantsCompaction options db level → ⊥
 
--- Work goes on with the compaction under way; writes a table where one is sealed; seals the memory table where that is full; begins a
--- compaction that is wanted; and else there is none.
-abbrev pub DoesWork : {K : Type 0} {g : _} → OptionValues → ℕ → Held K g → Held K g → Result Progress DbError → Type 0
-DoesWork options budget before after (Ok progress.Worked) =
-    GoesOn budget before after ⊎ WritesTable before after ⊎ ((options.write_buffer ≤ size_of before.memory.current.inserts) × SealsMemory before after) ⊎ Begins options budget before after
-DoesWork options budget before after (Ok progress.Idle) = HasNoWork options before × HasNoWork options after
-DoesWork options budget before after (Err e) = Unit {0}
+-- Work goes on with the compaction under way; writes a table where one is sealed; seals the memory table where that is full; begins the
+-- compaction that is most wanted; and else there is none.
+abbrev pub DoesWork : {K : Type 0} {g : _} → Cmp → OptionValues → ℕ → Held K g → Held K g → Result Progress DbError → Type 0
+DoesWork cmp options budget before after (Ok progress.Worked) =
+    GoesOn budget before after ⊎ WritesTable before after ⊎ ((options.write_buffer ≤ size_of before.memory.current.inserts) × SealsMemory before after) ⊎ Begins cmp options budget before after
+DoesWork cmp options budget before after (Ok progress.Idle) = HasNoWork options before × HasNoWork options after
+DoesWork cmp options budget before after (Err e) = Unit {0}
 
 -- ---- files
 

@@ -46,7 +46,7 @@ impl<K: KeyOrder> DbState<K> {
         requires none { self.old.job ≡ None }
         ensures step { (ids : Ids) → LeadsOpen (order_of K.name K.cmp) (seen_of S.facts source.old) (seen_of S.facts source.new) ids (held source.old.memory self.old) (held source.new.memory self.new) (λ m n. IsPiece m (max budget 1) result n) }
         ensures outcome { DbOutcome MayRefusePiece (S.facts source.old.tables.store) (S.facts source.new.tables.store) (held source.old.memory self.old) (held source.new.memory self.new) result }
-        ensures begins { result ≡ Ok Worked → BeginsJob options.now budget (held source.old.memory self.old) (held source.new.memory self.new) }
+        ensures begins { result ≡ Ok Worked → BeginsJob K.cmp options.now budget (held source.old.memory self.old) (held source.new.memory self.new) }
         ensures unwanted { result ≡ Ok Idle → (level : ℕ) → WantsCompaction options.now (held source.old.memory self.old) level → ⊥ }
         ensures few { result ≡ Ok Worked → self.new.job ≡ None → IsTrue (S.facts source.new.tables.store).faithful → SlicesUpTo (order_of K.name K.cmp) (seen_of S.facts source.old) (held source.old.memory self.old) (max budget 1) }
         ensures idle { result ≡ Ok Idle → (source.new ≡ source.old) × (self.new ≡ self.old) }
@@ -81,6 +81,7 @@ impl<K: KeyOrder> DbState<K> {
         ensures begun { OnOk result (IsSome self.new.job) }
         ensures none { OnOk result (MatchOption self.new.job ⊥ (λ work. (work.merged ≡ 0) × (work.job.plan ≡ plan))) }
         ensures all { OnOk result (IsWholePlan self.old.version.value.tables plan → IsTakingAll (held source.new.memory self.new)) }
+        ensures files { IsTrue (S.facts source.new.tables.store).faithful → (S.facts source.new.tables.store).files ≡ (S.facts source.old.tables.store).files }
         ensures stood { OnOk result ((S.facts source.new.tables.store).failures ≡ (S.facts source.old.tables.store).failures) }
         ensures memory { LeavesMemories source.old.memory source.new.memory }
         ensures same { IsSame (held source.old.memory self.old) (held source.new.memory self.new) }

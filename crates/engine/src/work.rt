@@ -55,7 +55,7 @@ impl<K: KeyOrder> DbState<K> {
         ensures step { (ids : Ids) → LeadsOpen (order_of K.name K.cmp) (seen_of S.facts source.old) (seen_of S.facts source.new) ids (held source.old.memory self.old) (held source.new.memory self.new) (λ m n. Works m budget (work_answer result) n) }
         ensures outcome { DbOutcome MayRefuseWork (S.facts source.old.tables.store) (S.facts source.new.tables.store) (held source.old.memory self.old) (held source.new.memory self.new) result }
         ensures caused { IsCausedIn (broken_in (held source.old.memory self.old)) source.old.tables.store source.new.tables.store result }
-        ensures does { DoesWork options.now budget (held source.old.memory self.old) (held source.new.memory self.new) result }
+        ensures does { DoesWork K.cmp options.now budget (held source.old.memory self.old) (held source.new.memory self.new) result }
         // A compaction that it brought to its end had no more entries left than the budget has, while the store is faithful.
         ensures within { EndsWithin (order_of K.name K.cmp) options.now budget (seen_of S.facts source.old) (seen_of S.facts source.new) (held source.old.memory self.old) (held source.new.memory self.new) result }
         // Where there is none, all files are live, unless one couldn't be removed.
@@ -119,7 +119,7 @@ impl<K: KeyOrder> DbState<K> {
         requires whole { self.old.broken ≡ false }
         ensures step { (ids : Ids) → LeadsOpen (order_of K.name K.cmp) (seen_of S.facts source.old) (seen_of S.facts source.new) ids (held source.old.memory self.old) (held source.new.memory self.new) (λ m n. IsPiece m (max budget 1) result n) }
         ensures outcome { DbOutcome MayRefusePiece (S.facts source.old.tables.store) (S.facts source.new.tables.store) (held source.old.memory self.old) (held source.new.memory self.new) result }
-        ensures does { DoesWork options.now budget (held source.old.memory self.old) (held source.new.memory self.new) result }
+        ensures does { DoesWork K.cmp options.now budget (held source.old.memory self.old) (held source.new.memory self.new) result }
         ensures within { EndsWithin (order_of K.name K.cmp) options.now budget (seen_of S.facts source.old) (seen_of S.facts source.new) (held source.old.memory self.old) (held source.new.memory self.new) result }
         ensures idle { result ≡ Ok Idle → (source.new ≡ source.old) × (self.new ≡ self.old) }
         ensures lock { (S.facts source.new.tables.store).held ≡ (S.facts source.old.tables.store).held }
@@ -143,7 +143,7 @@ impl<K: KeyOrder> DbState<K> {
         requires idle { self.old.job ≡ None }
         ensures step { (ids : Ids) → LeadsOpen (order_of K.name K.cmp) (seen_of S.facts source.old) (seen_of S.facts source.new) ids (held source.old.memory self.old) (held source.new.memory self.new) (λ m n. IsPiece m (max budget 1) result n) }
         ensures outcome { DbOutcome MayRefusePiece (S.facts source.old.tables.store) (S.facts source.new.tables.store) (held source.old.memory self.old) (held source.new.memory self.new) result }
-        ensures does { DoesWork options.now budget (held source.old.memory self.old) (held source.new.memory self.new) result }
+        ensures does { DoesWork K.cmp options.now budget (held source.old.memory self.old) (held source.new.memory self.new) result }
         ensures within { EndsWithin (order_of K.name K.cmp) options.now budget (seen_of S.facts source.old) (seen_of S.facts source.new) (held source.old.memory self.old) (held source.new.memory self.new) result }
         ensures idle { result ≡ Ok Idle → (source.new ≡ source.old) × (self.new ≡ self.old) }
         ensures lock { (S.facts source.new.tables.store).held ≡ (S.facts source.old.tables.store).held }

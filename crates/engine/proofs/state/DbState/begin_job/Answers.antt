@@ -76,3 +76,12 @@ returns-clause-all g c planned =
     let kept : work.job.selection.snapshots ≡ c.in_ok-snapshots.snapshots.items = search rules in
     takes_begun state c.args.source.now.memory c.begin.new.source.memory c.args.plan work c.in_ok-snapshots.snapshots.items j.plan (ap (λ (p : Placement). p.tables) j.version) kept j.leaves.memory.last
     (λ sequence i. subst (λ (last : ℕ). Contains (last ∷ values_of state.snapshots.entries) sequence) c.last.ensures.is (c.in_ok-snapshots.ensures.only sequence i)) planned
+
+pub returns-in_err-snapshots-clause-files : goal.returns-in_err-snapshots-clause-files
+returns-in_err-snapshots-clause-files g c f = refl
+
+pub returns-in_err-job-clause-files : goal.returns-in_err-job-clause-files
+returns-in_err-job-clause-files g c f = c.in_err-job.ensures.leaves.carries.reads.files f
+
+pub returns-clause-files : goal.returns-clause-files
+returns-clause-files g c f = c.in_ok-job.ensures.leaves.carries.reads.files f

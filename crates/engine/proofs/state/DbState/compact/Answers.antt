@@ -3,7 +3,6 @@ use Rattle.coding.specs.declared.error.DbError.{DbError}
 use Rattle.coding.specs.declared.error.DbError.TheVariants.{OutOfMemory}
 use Rattle.ikey.specs.Orders.{order_of}
 use Rattle.scans.proofs.ScanSteps.{scan_kept}
-use Rattle.versions.specs.Levels.{Placement}
 use Rattle.versions.specs.Plans.{IsPicked}
 use Rattle.engine.specs.declared.work.Progress.{Progress}
 use Rattle.engine.specs.declared.work.Progress.TheVariants.{Worked, Idle}
@@ -13,7 +12,7 @@ use Rattle.engine.specs.Outcomes.{DbOutcome}
 use Rattle.engine.specs.Stands.{no_ids}
 use Rattle.engine.specs.Working.{IsPiece, MayRefusePiece}
 use Rattle.engine.proofs.JobEnds.{outcome_behind}
-use Rattle.engine.proofs.WorkAnswers.{begun_further, of_some, picked_level, then_piece}
+use Rattle.engine.proofs.WorkAnswers.{begun_further, of_some, picked_for, then_piece}
 use Rattle.engine.proofs.WorkEnds.{ends_full, ends_idle}
 use Rattle.engine.proofs.WorkSteps.{piece_done, piece_failed, piece_within}
 use Rattle.engine.proofs.WithinBudget.{ended_of, not_some, slices_begun}
@@ -94,8 +93,8 @@ returns-clause-begins g c = λ done.
     let b = c.in_ok-begin_job.ensures in
     record {
       plan = c.in-Some.plan;
-      wanted = picked_level g.K.KeyOrder.cmp c.level0_files.result c.base_bytes.result c.args.options.now.level0_files c.args.options.now.base_bytes c.deref.result.now c.args.self.now.version.value.tables c.in-Some.plan
-          c.level0_files.ensures.is c.base_bytes.ensures.is (ap (λ (p : Placement). p.tables) c.deref.ensures)
+      picked = picked_for g.K.KeyOrder.cmp c.level0_files.result c.base_bytes.result c.args.options.now.level0_files c.args.options.now.base_bytes c.deref.result.now c.args.self.now.version.value c.in-Some.plan
+          c.level0_files.ensures.is c.base_bytes.ensures.is c.deref.ensures
           (of_some _ (λ plan. IsPicked g.K.KeyOrder.cmp c.level0_files.result c.base_bytes.result c.deref.result.now plan) c.in_ok-plan.field-0 c.in-Some.plan c.in-Some.is c.in_ok-plan.ensures.picked);
       begun = begun_further c.args.budget c.in-Some.plan (held c.args.source.now.memory c.args.self.now) (held c.begin_job.new.source.memory c.begin_job.new.self) (held c.advance.new.source.memory c.advance.new.self) b.same.tables b.none c.in_ok-advance.ensures.on;
     }
@@ -110,4 +109,4 @@ returns-clause-few g c worked gone f =
     let b = c.in_ok-begin_job.ensures in
     let a = c.in_ok-advance.ensures in
     let ended = ended_of _ _ c.in_ok-advance.field-0 a.ended (λ some. not_some c.advance.new.self.job gone some) in
-    slices_begun order old mid before between (max c.args.budget 1) (λ work. work.job.plan ≡ c.in-Some.plan) b.step ((a.step no_ids).faithful f) b.whole b.same.tables c.requires.none b.none (a.few (ap (λ (e : _). Ok e) ended) f)
+    slices_begun order old mid before between (max c.args.budget 1) (λ work. work.job.plan ≡ c.in-Some.plan) b.step ((a.step no_ids).faithful f) b.whole b.same.tables (b.files ((a.step no_ids).faithful f)) c.requires.none b.none (a.few (ap (λ (e : _). Ok e) ended) f)

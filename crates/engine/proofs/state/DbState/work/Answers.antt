@@ -10,7 +10,7 @@ use Rattle.engine.specs.Working.{refused_as, work_answer}
 use Rattle.engine.proofs.ExactFiles.{leaves_exactly}
 use Rattle.engine.proofs.WorkAnswers.{caused_met, does_on, failures_rose, then_piece, then_refused, works, works_broken}
 use Rattle.engine.proofs.WorkSteps.{piece_failed}
-use Rattle.engine.proofs.WithinBudget.{at_ease_on, slices_behind}
+use Rattle.engine.proofs.WithinBudget.{at_ease_on, slices_behind, tables_stay}
 use Rattle.engine.proofs.state.DbState.work.Goals as goal
 
 pub returns-then-self-clause-step : goal.returns-then-self-clause-step
@@ -48,7 +48,7 @@ returns-in-Ok-clause-step g c ids =
 
 pub returns-in-Ok-clause-does : goal.returns-in-Ok-clause-does
 returns-in-Ok-clause-does g c =
-    does_on (held c.args.source.now.memory c.args.self.now) c.clean.new.source.memory (held c.do_piece.new.source.memory c.do_piece.new.self) c.args.options.now c.args.budget (Ok c.in-Ok.progress) c.in_ok-complete.ensures.memory c.in-Ok.ensures.does
+    does_on g.K.KeyOrder.cmp (held c.args.source.now.memory c.args.self.now) c.clean.new.source.memory (held c.do_piece.new.source.memory c.do_piece.new.self) c.args.options.now c.args.budget (Ok c.in-Ok.progress) c.in_ok-complete.ensures.memory c.in-Ok.ensures.does
 
 pub returns-in-Err-clause-step : goal.returns-in-Err-clause-step
 returns-in-Err-clause-step g c ids =
@@ -90,4 +90,6 @@ returns-in-Ok-clause-within g c worked which gone f =
     let cleaned = c.in_ok-complete.ensures in
     let piece = c.in-Ok.ensures in
     let inner = piece.within worked (elim which [ inl some ↦ inl some | inr ease ↦ inr (at_ease_on c.args.options.now before c.clean.new.source.memory cleaned.memory ease) ]) gone f in
-    slices_behind order old mid before between (max c.args.budget 1) cleaned.step ((piece.step no_ids).faithful f) refl refl inner
+    let mid_faithful = (piece.step no_ids).faithful f in
+    slices_behind order old mid before between (max c.args.budget 1) cleaned.step mid_faithful refl refl
+    (tables_stay order old mid before between refl refl refl c.if-self.false (cleaned.removes mid_faithful)) inner
