@@ -9,7 +9,7 @@ use Rattle.edits.specs.declared.field.TableFile.{TableFile}
 use Rattle.ikey.specs.Entries.{Pair}
 use Rattle.ikey.specs.Keys.{Key, IsKey}
 use Rattle.store.specs.Files.{Facts}
-use Rattle.compact.specs.Outputs.{first_key, Filling, AreClosed, IsAtHand, Written, HasWritten, EndsBefore, EndsApart, EndAtUserKeys, HandsOther, IsOpen}
+use Rattle.compact.specs.Outputs.{first_key, Filling, AreClosed, IsAtHand, Written, HasWritten, EndsBefore, EndAtUserKeys, HandsOther, IsOpen}
 use Rattle.compact.proofs.Tables.{last-behind}
 
 abbrev joined : List (List Pair) → List Pair

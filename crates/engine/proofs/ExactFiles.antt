@@ -30,7 +30,7 @@ use Rattle.engine.specs.Held.{Held, whole_of}
 use Rattle.engine.specs.InUse.{IsJobTable, IsTableRead, IsTableUsed}
 use Rattle.engine.specs.Iterators.{IsWalk}
 use Rattle.engine.specs.Live.{IsBoth, kept_at}
-use Rattle.engine.specs.Machine.{Machine, Walk}
+use Rattle.engine.specs.Machine.{Machine}
 use Rattle.engine.specs.OptionValues.{OptionValues}
 use Rattle.engine.specs.Stands.{IsServing}
 use Rattle.engine.specs.Upkeep.{Works}

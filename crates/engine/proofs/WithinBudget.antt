@@ -1,5 +1,5 @@
 -- That a slice which ends a compaction has merged no more entries than its budget has.
-use Rattle.std.proofs.Common.{◌≡◌, ◌++◌, ◌≤◌, ℕ, Bool, true, false, List, length, max, Option, Some, None, Result, Ok, IsSome, IsTrue, MatchBool, MatchOption, inl, inr, refl, sym, ap, subst, ◌∙◌, arith, append-nil}
+use Rattle.std.proofs.Common.{◌≡◌, ◌++◌, ◌≤◌, ℕ, Bool, true, false, List, length, max, Option, Some, None, IsSome, IsTrue, MatchBool, MatchOption, inl, inr, refl, sym, ap, subst, ◌∙◌, arith, append-nil}
 use Rattle.std.specs.Option.{option_or}
 use Rattle.cache.specs.Tables.{table_at}
 use Rattle.compact.specs.declared.job.Progress.{Progress as Merged}
@@ -21,7 +21,7 @@ use Rattle.engine.specs.Held.{Held, whole_of}
 use Rattle.engine.specs.Machine.{Machine}
 use Rattle.engine.specs.OptionValues.{OptionValues}
 use Rattle.engine.specs.Stands.{StandsOpen}
-use Rattle.engine.specs.WithinBudget.{HasLeftUpTo, IsBeforeSlice, SlicesUpTo}
+use Rattle.engine.specs.WithinBudget.{HasLeftUpTo, SlicesUpTo}
 use Rattle.engine.specs.InUse.{IsTableUsed}
 use Rattle.engine.specs.Working.{IsAtEase, IsSameMemory, LosesDead}
 use Rattle.engine.proofs.ExactFiles.{table_numbered}

@@ -27,8 +27,6 @@ use Rattle.engine.specs.Serving.{not_serving}
 use Rattle.engine.specs.Stands.{StandsClosed}
 use Rattle.engine.specs.Upkeep.{UpkeepRefused, Works}
 use Rattle.engine.specs.OptionValues.{OptionValues}
-use Rattle.engine.specs.declared.command.Answer.TheVariants.{Worked, Idle}
-use Rattle.engine.specs.Applied.{ShowsWork}
 use Rattle.engine.specs.Working.{DoesWork, GoesOn, IsAtEase, IsFurther, IsPiece, IsSameMemory, MayRefusePiece, refused_as, work_answer}
 use Rattle.engine.proofs.Steps.{broken_cause, broken_of, by_cause, closed_cause, no_cause, serving_of}
 use Rattle.engine.proofs.WorkSteps.{piece_failed, pieces_on, works_as}
@@ -142,19 +140,6 @@ does_on cmp before memory after options budget (Ok progress.Worked) same (inr (i
 does_on cmp before memory after options budget (Ok progress.Worked) same (inr (inr (inr h))) = inr (inr (inr (record { ease = at_ease options before memory same h.ease; job = record { plan = h.job.plan; picked = h.job.picked; begun = h.job.begun } })))
 does_on cmp before memory after options budget (Ok progress.Idle) same h = (record { ease = at_ease options before memory same h.0.ease; unwanted = h.0.unwanted }, h.1)
 does_on cmp before memory after options budget (Err e) same h = tt
-
--- what it shows of what there was
-pub shows_worked : {K : Type 0} {g : _} (cmp : Cmp) (options : OptionValues) (budget : ℕ) (before after : Held K g) → DoesWork cmp options budget before after (Ok progress.Worked) → ShowsWork options (Some before) Worked
-shows_worked cmp options budget before after (inl h) = inl (some_job before.job h.work h.was)
-  where
-    some_job : {X : Type 0} (o : Option X) (x : X) → o ≡ Some x → IsSome o
-    some_job o x is = subst (λ (p : Option _). IsSome p) (sym is) refl
-shows_worked cmp options budget before after (inr (inl h)) = inr (inl h.was)
-shows_worked cmp options budget before after (inr (inr (inl h))) = inr (inr (inl h.0))
-shows_worked cmp options budget before after (inr (inr (inr h))) = inr (inr (inr (h.job.picked.level, (h.job.picked.least.within, h.job.picked.least.needs))))
-
-pub shows_idle : {K : Type 0} {g : _} (cmp : Cmp) (options : OptionValues) (budget : ℕ) (before after : Held K g) → DoesWork cmp options budget before after (Ok progress.Idle) → ShowsWork options (Some before) Idle
-shows_idle cmp options budget before after h = h.0
 
 -- so many came of those of a compaction that was begun at once, or all
 pub begun_further : {K : Type 0} {g : _} (budget : ℕ) (plan : JobPlan) (before mid after : Held K g) → mid.tables ≡ before.tables → MatchOption mid.job ⊥ (λ work. (work.merged ≡ 0) × (work.job.plan ≡ plan)) → GoesOn budget mid after
