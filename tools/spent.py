@@ -1,0 +1,70 @@
+"""What provers have paid, crate by crate: the processor seconds of those that an `rt ci` starts, read from /proc while they run."""
+import os
+import threading
+
+from repository import ROOT, crates
+
+TICKS = os.sysconf("SC_CLK_TCK")
+EVERY = 1.0
+
+PROOF, TESTS, EDITS = "proof", "tests", "edits"
+
+
+def words_of(process):
+    with open(f"/proc/{process}/cmdline", "rb") as it:
+        return it.read().decode(errors="replace").split("\0")
+
+
+def used_by(process):
+    """When it started, and the seconds that it and what it waited for have used."""
+    with open(f"/proc/{process}/stat", encoding="utf-8", errors="replace") as it:
+        fields = it.read().rpartition(")")[2].split()
+    return int(fields[19]), sum(map(int, fields[11:15])) / TICKS
+
+
+class Spent(threading.Thread):
+    """Looks at the provers of a run until it is told to stop."""
+
+    def __init__(self, run):
+        super().__init__(daemon=True)
+        self.edited = f"/rt-edit-{run}-"
+        self.ended = threading.Event()
+        # by process and start: the crate, what it was for, and its seconds
+        self.seen = {}
+
+    def run(self):
+        while not self.ended.wait(EVERY):
+            for process in filter(str.isdigit, os.listdir("/proc")):
+                try:
+                    self.look(process)
+                except (OSError, ValueError, IndexError):
+                    # (it has ended)
+                    pass
+
+    def look(self, process):
+        words = words_of(process)
+        if os.path.basename(words[0]) != "rattle" or "--crate-name" not in words:
+            return
+        folder = os.readlink(f"/proc/{process}/cwd")
+        if self.edited in folder:
+            what = EDITS
+        elif folder.startswith(f"{ROOT}/crates/"):
+            what = TESTS if "--test" in words else PROOF
+        else:
+            return
+        start, seconds = used_by(process)
+        self.seen[int(process), start] = words[words.index("--crate-name") + 1], what, start, seconds
+
+    def rows(self):
+        """A line for each crate of which something was proved: its proof, the proof of its tests, the first of its edits and each further one."""
+        self.ended.set()
+        self.join()
+        for crate in crates():
+            mine = [it for it in self.seen.values() if it[0] == crate]
+            if not mine:
+                continue
+            paid = {what: [seconds for _, kind, _, seconds in sorted(mine, key=lambda it: it[2]) if kind == what] for what in (PROOF, TESTS, EDITS)}
+            first, further = paid[EDITS][:1], paid[EDITS][1:]
+            tried = f"{first[0]:.0f} + {sum(further) / max(1, len(further)):.0f}" if first else "-"
+            shown = [f"{sum(paid[it]):.0f}" if paid[it] else "-" for it in (PROOF, TESTS)]
+            yield f"| `{crate}` | {shown[0]} | {shown[1]} | {tried} |"
