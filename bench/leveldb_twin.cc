@@ -2,6 +2,8 @@
 //
 //   leveldb_twin WORKLOAD N DIR    runs a workload over the database of a folder, which must exist
 //
+// filllog is here alone: it is fillrandom with a write buffer that takes all of it, so that a long log is left for both to open.
+//
 // Keys, values, their order and the line that is printed are those of crates/bench, and so are the options. Nothing is compressed, and
 // checksums are verified. Status 1 where LevelDB refuses, with its words on standard error, and 2 where the command line is wrong.
 
@@ -251,6 +253,8 @@ const std::map<std::string, Workload>& Workloads() {
       {"fillseq", [](DB* db, uint64_t n, Tally* tally) { return PutEach(db, Keys::Rising(), n, false, tally); }},
       {"fillrandom",
        [](DB* db, uint64_t n, Tally* tally) { return PutEach(db, Keys::Drawn(kWritten, n), n, false, tally); }},
+      {"filllog",
+       [](DB* db, uint64_t n, Tally* tally) { return PutEach(db, Keys::Drawn(kWritten, n), n, false, tally); }},
       {"overwrite",
        [](DB* db, uint64_t n, Tally* tally) { return PutEach(db, Keys::Drawn(kRewritten, n), n, false, tally); }},
       {"fillsync",
@@ -282,12 +286,12 @@ const std::map<std::string, Workload>& Workloads() {
   return workloads;
 }
 
-Status Run(const Workload& workload, uint64_t number, const std::string& folder, Tally* tally) {
+Status Run(const Workload& workload, size_t write_buffer, uint64_t number, const std::string& folder, Tally* tally) {
   const std::unique_ptr<leveldb::Cache> cache(leveldb::NewLRUCache(8 << 20));
   const std::unique_ptr<const leveldb::FilterPolicy> filter(leveldb::NewBloomFilterPolicy(10));
   leveldb::Options options;
   options.create_if_missing = true;
-  options.write_buffer_size = 4194304;
+  options.write_buffer_size = write_buffer;
   options.block_size = 4096;
   options.max_file_size = 2097152;
   options.block_cache = cache.get();
@@ -319,7 +323,8 @@ int main(int count, char** words) {
     return kFailed;
   }
   Tally tally;
-  const Status status = Run(found->second, number, folder, &tally);
+  const size_t write_buffer = name == "filllog" ? 64 << 20 : 4 << 20;
+  const Status status = Run(found->second, write_buffer, number, folder, &tally);
   if (!status.ok()) {
     std::cerr << "leveldb_twin: " << name << ": " << status.ToString() << "\n";
     return kFailed;

@@ -1,7 +1,8 @@
-"""What bench/run writes: a table, a chart, and the part of a page between two lines."""
+"""What bench/run writes: tables, a chart, and the parts of a page between two lines."""
 import sys
 
 BEGIN = "<!-- bench/run writes from here -->"
+GROWTH = "<!-- bench/run growth writes from here -->"
 END = "<!-- to here -->"
 
 # the chart's measures, in its own units
@@ -28,15 +29,26 @@ def table_of(rows):
     return "\n".join(lines)
 
 
-def put_between(path, text):
-    """Puts a text in the place of what stands between the two lines of a page."""
+def growth_of(sizes, rows):
+    """What an entry takes of processors at each size, in microseconds, and how often that of the smallest size."""
+    lines = [f"| Workload | | {' | '.join(f'N = {it:,}' for it in sizes)} | growth |", f"|---|---|{'---:|' * (len(sizes) + 1)}"]
+    for name, sides in rows:
+        for side, seconds in zip(("ours", "LevelDB"), sides):
+            each = [it / size * 1e6 for it, size in zip(seconds, sizes)]
+            lines.append(f"| `{name}` | {side} | {' | '.join(f'{it:.2f}' for it in each)} | {each[-1] / each[0]:.2f} |")
+    return "\n".join(lines)
+
+
+def put_between(path, begin, text):
+    """Puts a text in the place of what stands between two lines of a page."""
     with open(path, encoding="utf-8") as file:
         page = file.read()
-    if page.count(BEGIN) != 1 or page.count(END) != 1:
-        sys.exit(f"bench: {path} has not its two lines, {BEGIN} and {END}")
-    front, behind = page.split(BEGIN)[0], page.split(END)[1]
+    front, found, rest = page.partition(begin)
+    _, ended, behind = rest.partition(END)
+    if not found or not ended:
+        sys.exit(f"bench: {path} has not its two lines, {begin} and {END}")
     with open(path, "w", encoding="utf-8") as file:
-        file.write(f"{front}{BEGIN}\n{text}\n{END}{behind}")
+        file.write(f"{front}{begin}\n{text}\n{END}{behind}")
 
 
 # ---- the chart
