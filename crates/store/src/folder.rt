@@ -71,7 +71,9 @@ impl Folder {
         let mut names = Vec::new(alloc);
         for entry in fs::read_dir(&self.rt, self.path.as_str())? {
             let entry = entry?;
-            if self.is_plain(entry.path().as_str())? {
+            // a file that is open was seen to be plain
+            let is_open = self.kept.contains_key(entry.file_name());
+            if is_open || self.is_plain(entry.path().as_str())? {
                 names.push(String::from_str(alloc, entry.file_name())?)?;
             }
         }
@@ -91,12 +93,12 @@ impl Folder {
         offset: u64,
         count: usize,
     ) -> Result<Vec<u8>, StoreError> {
+        // the calls of most are on a file that is open: its name is looked up once
+        if let Some(kept) = self.kept.get(name) {
+            return read_from(alloc, &kept.file, offset, count);
+        }
         let file = self.kept_file(name, false)?;
-        let count = count_within(file, offset, count)?;
-        let mut bytes = vec![in alloc; 0u8; count]?;
-        let read = fill(file, bytes.as_mut_slice(), offset)?;
-        bytes.truncate(read);
-        Ok(bytes)
+        read_from(alloc, file, offset, count)
     }
 
     /// Makes an empty file, or empties the one that is there.
@@ -120,8 +122,13 @@ impl Folder {
 
     /// Adds bytes at the end. Once it writes, a failure is Device, since it may have written some of them.
     pub fn append(&mut self, name: &str, bytes: &[u8]) -> Result<(), StoreError> {
-        let mut file = self.kept_file(name, true)?;
-        file.write_all(bytes).map_err(|_| StoreError::Device)
+        if let Some(kept) = self.kept.get(name) {
+            if kept.appends {
+                return append_to(&kept.file, bytes);
+            }
+        }
+        let file = self.kept_file(name, true)?;
+        append_to(file, bytes)
     }
 
     /// Syncs a file, and before it the folder where its names changed, as LevelDB does before it syncs its MANIFEST
@@ -241,6 +248,20 @@ fn open_with(rt: &HostRuntime, options: &OpenOptions, path: &str) -> io::Result<
     } else {
         file.try_clone()
     }
+}
+
+// The bytes of a file from an offset on, so many of them or up to its end.
+fn read_from(alloc: Global, file: &File, offset: u64, count: usize) -> Result<Vec<u8>, StoreError> {
+    let count = count_within(file, offset, count)?;
+    let mut bytes = vec![in alloc; 0u8; count]?;
+    let read = fill(file, bytes.as_mut_slice(), offset)?;
+    bytes.truncate(read);
+    Ok(bytes)
+}
+
+// Adds bytes at the end of a file, or some of them.
+fn append_to(mut file: &File, bytes: &[u8]) -> Result<(), StoreError> {
+    file.write_all(bytes).map_err(|_| StoreError::Device)
 }
 
 // How many bytes to read: of a large count, or far out, no more than are there.
