@@ -10,4 +10,4 @@ mod writing;
 pub use limits::{refusal, refusal_with_one_more};
 pub use operation::Operation;
 pub use write_batch::{Batch, one_batch};
-pub use writing::{encode_operations, encoding_length};
+pub use writing::{encode_operations, encode_operations_into, encoding_length};

@@ -10,7 +10,8 @@ use coding::{DbError, put_fixed32, put_fixed64, put_string};
 use std::alloc::{AllocError, Global};
 
 /// The bytes of the batch of these operations, the first of which has this sequence (LevelDB's
-/// `WriteBatch::rep_`, its db/write_batch.cc). Their room is taken once, before a byte is written.
+/// `WriteBatch::rep_`, its db/write_batch.cc). Their room is taken once, before a byte is written. It fails only where
+/// memory does.
 pub fn encode_operations(
     alloc: Global,
     sequence: u64,
@@ -23,8 +24,28 @@ pub fn encode_operations(
     ensures written { IfOk result (λ bytes. IsBatch bytes.items sequence operations.now) }
     ensures memory { IsOkUnless result DbError.OutOfMemory }
 {
+    let mut out = Vec::new(alloc);
+    encode_operations_into(&mut out, sequence, operations)?;
+    Ok(out)
+}
+
+/// The same in place of what `out` holds, whose room is used again. Where memory fails, some other bytes are left.
+pub fn encode_operations_into(
+    out: &mut Vec<u8>,
+    sequence: u64,
+    operations: &[Operation],
+) -> Result<(), DbError>
+    requires first { sequence < 2 ^ 56 }
+    requires last { sequence + length operations.now ≤ 2 ^ 56 }
+    requires fits { first_refusal [] operations.now ≡ None }
+    ensures written { OnOk result (IsBatch out.new.items sequence operations.now) }
+    ensures memory { IsOkUnless result DbError.OutOfMemory }
+{
     let size = length_of(operations)?;
-    Ok(encoded(alloc, size, sequence, operations)?)
+    out.clear();
+    out.reserve(size)?;
+    put_batch(out, sequence, operations)?;
+    Ok(())
 }
 
 /// The bytes of a batch, in a vector with room for `capacity` bytes from the start.
@@ -41,10 +62,22 @@ pub fn encoded(
     ensures { IfOk result (λ bytes. IsBatch bytes.items sequence operations.now) }
 {
     let mut out = Vec::with_capacity(alloc, capacity)?;
-    put_fixed64(&mut out, sequence)?;
-    put_fixed32(&mut out, operations.len() as u32)?;
-    put_operations(&mut out, operations)?;
+    put_batch(&mut out, sequence, operations)?;
     Ok(out)
+}
+
+// Writes a batch where nothing is written yet, or a beginning of it where memory runs out.
+fn put_batch(out: &mut Vec<u8>, sequence: u64, operations: &[Operation]) -> Result<(), AllocError>
+    requires empty { out.old.items ≡ [] }
+    requires first { sequence < 2 ^ 56 }
+    requires last { sequence + length operations.now ≤ 2 ^ 56 }
+    requires count { length operations.now < 2 ^ 32 }
+    requires strings { All CanBeEncoded operations.now }
+    ensures { OnOk result (IsBatch out.new.items sequence operations.now) }
+{
+    put_fixed64(out, sequence)?;
+    put_fixed32(out, operations.len() as u32)?;
+    put_operations(out, operations)
 }
 
 // Writes the operations at the end, or a beginning of them where memory runs out.

@@ -29,15 +29,30 @@ impl LogWriter {
         ensures length { IfOk result (λ added. length added.items ≡ appends.added_length (32768 - position % 32768) (length payload.now)) }
         ensures memory { IsOkUnless result DbError.OutOfMemory }
     {
-        let room = BLOCK_LENGTH - (position % BLOCK_LENGTH as u64) as usize;
-        let mut out = Vec::with_capacity(alloc, added_length(room, payload.len()))?;
-        if room < HEADER_LENGTH {
-            put_zeros(&mut out, room)?;
-            put_fragments(&mut out, BLOCK_LENGTH, payload)?;
-        } else {
-            put_fragments(&mut out, room, payload)?;
-        }
+        let mut out = Vec::new(alloc);
+        Self::encode_into(&mut out, position, payload)?;
         Ok(out)
+    }
+
+    /// The same in place of what `out` holds, whose room is used again. Where memory fails, some other bytes are left.
+    pub fn encode_into(out: &mut Vec<u8>, position: u64, payload: &[u8]) -> Result<(), DbError>
+        ensures appends { OnOk result ((bytes : List ℕ) (records : List (List ℕ))
+            → length bytes ≡ position → IsLog bytes records Clean
+            → IsLog (bytes ++ out.new.items) (records ++ payload.now ∷ []) Clean) }
+        ensures longest { OnOk result (IsWritten (32768 - position % 32768) payload.now out.new.items) }
+        ensures length { OnOk result (length out.new.items ≡ appends.added_length (32768 - position % 32768) (length payload.now)) }
+        ensures memory { IsOkUnless result DbError.OutOfMemory }
+    {
+        let room = BLOCK_LENGTH - (position % BLOCK_LENGTH as u64) as usize;
+        out.clear();
+        out.reserve(added_length(room, payload.len()))?;
+        if room < HEADER_LENGTH {
+            put_zeros(out, room)?;
+            put_fragments(out, BLOCK_LENGTH, payload)?;
+        } else {
+            put_fragments(out, room, payload)?;
+        }
+        Ok(())
     }
 }
 
