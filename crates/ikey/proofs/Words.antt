@@ -19,13 +19,13 @@ rises (suc k) m n (x ∷ xs) [] p q h lt = absurd (omega (arith, q))
 rises (suc k) m n (x ∷ xs) (y ∷ ys) p q h lt =
     rises k (m * 256 + x) (n * 256 + y) xs ys (omega (arith, p)) (omega (arith, q)) (λ i. h (suc i)) (omega (arith, h 0, lt))
 
-less-is : (x y : ℕ) → x < y → nat_cmp x y ≡ Less
+pub less-is : (x y : ℕ) → x < y → nat_cmp x y ≡ Less
 less-is x y lt = ap (λ (b : Bool). cond b Less (cond (x == y) Equal Greater)) (lt-ltb x y lt)
 
 greater-is : (x y : ℕ) → y < x → nat_cmp x y ≡ Greater
 greater-is x y lt = grind (arith, lt)
 
-tied-is : (x y : ℕ) → x ≡ y → nat_cmp x y ≡ Equal
+pub tied-is : (x y : ℕ) → x ≡ y → nat_cmp x y ≡ Equal
 tied-is x y e = ap (nat_cmp x) (sym e) ∙ tied_itself nat_cmp_total x
 
 pub bytes-drop : (k : ℕ) (xs : List ℕ) → AreBytes xs → AreBytes (drop k xs)

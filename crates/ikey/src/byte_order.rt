@@ -1,7 +1,8 @@
 //! Bytes compared a word at a time.
 
-ghost use Rattle.std.specs.Prelude.{◌≡◌, ◌<◌, ◌≤◌, List, ℕ, length, take, drop, get_or, IfSome};
+ghost use Rattle.std.specs.Prelude.{◌≡◌, ◌<◌, ◌≤◌, ◌++◌, List, ℕ, length, take, drop, get_or, IfSome, MatchBool, ⊤};
 ghost use Rattle.std.specs.Ordering.{nat_cmp};
+ghost use Rattle.std.specs.declared.cmp.Ordering.TheVariants.{Less};
 ghost use Rattle.std.specs.Cmp.Lexicographic.{slice_cmp};
 ghost use Rattle.ikey.specs.Words.{big_endian};
 
@@ -72,6 +73,21 @@ fn compare_rest(a: &[u8], b: &[u8]) -> Ordering
         right = right_rest;
     }
     left.cmp(right)
+}
+
+/// Whether the byte of `a` at `shared` is smaller than the first of `rest`: then `a` comes before its first `shared`
+/// bytes and `rest`. Where one of the two isn't there, the answer is false.
+#[inline(always)]
+pub fn is_less_behind(a: &[u8], shared: usize, rest: &[u8]) -> bool
+    ensures { MatchBool result (slice_cmp nat_cmp a.now (take shared a.now ++ rest.now) ≡ Less) ⊤ }
+{
+    let Some(x) = a.get(shared) else {
+        return false;
+    };
+    let Some(y) = rest.first() else {
+        return false;
+    };
+    *x < *y
 }
 
 // The number that the first eight bytes spell, and the bytes behind them.

@@ -1,14 +1,15 @@
 //! The order of user keys, which a database is told (LevelDB's include/leveldb/comparator.h).
 
-ghost use Rattle.std.specs.Prelude.{◌≡◌, ◌<◌, ◌^◌, List, ℕ, length, codes};
+ghost use Rattle.std.specs.Prelude.{◌≡◌, ◌<◌, ◌^◌, ◌++◌, List, ℕ, length, take, codes, MatchBool, ⊤};
 ghost use Rattle.std.proofs.Common.{lit<};
 ghost use Rattle.std.specs.Ordering.{nat_cmp};
 ghost use Rattle.std.specs.declared.cmp.Ordering.{Ordering};
+ghost use Rattle.std.specs.declared.cmp.Ordering.TheVariants.{Less};
 ghost use Rattle.std.specs.Cmp.{IsTotalOrder};
 ghost use Rattle.std.specs.Cmp.Lexicographic.{slice_cmp, nat_list_cmp_total};
 ghost use Rattle.std.specs.FinMap.{IsAntisymmetric, slice_cmp-IsAntisymmetric, nat_cmp-IsAntisymmetric};
 
-use crate::byte_order::compare_bytes;
+use crate::byte_order::{compare_bytes, is_less_behind};
 use std::cmp::Ordering;
 
 /// A total order of byte strings, with the name under which a database records it.
@@ -24,6 +25,11 @@ pub trait KeyOrder {
     /// How two user keys compare.
     fn compare(a: &[u8], b: &[u8]) -> Ordering
         ensures { result ≡ cmp a.now b.now };
+
+    /// A quick look at the first byte of `rest`: true says that `a` is below the key of its first `shared` bytes and
+    /// `rest`, and false says nothing.
+    fn is_plainly_below(a: &[u8], shared: usize, rest: &[u8]) -> bool
+        ensures { MatchBool result (cmp a.now (take shared a.now ++ rest.now) ≡ Less) ⊤ };
 
     ghost total: { IsTotalOrder cmp };
 
@@ -48,6 +54,11 @@ impl KeyOrder for Bytewise {
 
     fn compare(a: &[u8], b: &[u8]) -> Ordering {
         compare_bytes(a, b)
+    }
+
+    #[inline(always)]
+    fn is_plainly_below(a: &[u8], shared: usize, rest: &[u8]) -> bool {
+        is_less_behind(a, shared, rest)
     }
 
     ghost total = { nat_list_cmp_total };

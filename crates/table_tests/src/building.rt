@@ -411,6 +411,10 @@ impl KeyOrder for Falling {
         b.cmp(a)
     }
 
+    fn is_plainly_below(_a: &[u8], _shared: usize, _rest: &[u8]) -> bool {
+        false
+    }
+
     ghost total = { back_total nat_list_cmp_total };
 
     ghost exact = { λ a b e. sym (slice_cmp-IsAntisymmetric nat_cmp-IsAntisymmetric b a e) };
