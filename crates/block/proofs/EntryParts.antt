@@ -1,5 +1,5 @@
 -- The parts of an entry, read one after the other.
-use Rattle.std.proofs.Common.{◌≡◌, ℕ, ◌^◌, ◌<◌, List, ◌++◌, length, take, refl, sym, ap, ◌∙◌, arith}
+use Rattle.std.proofs.Common.{◌≡◌, ℕ, ◌^◌, ◌<◌, ◌≤◌, List, [], ◌∷◌, ◌++◌, length, take, drop, get_or, refl, sym, ap, ◌∙◌, arith}
 use Rattle.std.proofs.lemmas.List.{length-append, take_at}
 use Rattle.coding.specs.Varint.{IsVarint}
 use Rattle.coding.proofs.Fronts.{varint_front}
@@ -15,6 +15,11 @@ NoNumber bytes = (number : ℕ) (front behind : List ℕ) → number < 2 ^ 32 �
 
 abbrev pub NoEntry : List ℕ → Type 0
 NoEntry bytes = (shared : ℕ) (rest value front behind : List ℕ) → IsEntry shared rest value front → bytes ≡ front ++ behind → ⊥
+
+-- one byte below 128 is a number
+pub one_byte : (bytes : List ℕ) (n : ℕ) → 1 ≤ length bytes → get_or bytes 0 0 < 128 → n ≡ get_or bytes 0 0 → Reads bytes n (drop 1 bytes)
+one_byte [] n some small e = absurd (omega (arith, some))
+one_byte (b ∷ bytes) n some small e = (b ∷ [], (small, e), refl)
 
 pub no_number : (bytes : List ℕ) → ((value used : ℕ) → value < 2 ^ 32 → IsVarint (take used bytes) value → ⊥) → NoNumber bytes
 no_number bytes none number front behind small p e =

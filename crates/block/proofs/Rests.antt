@@ -192,8 +192,3 @@ none_at_end below offset previous waiting some (pair ∷ pairs, later, w, h, a) 
 pub some_left : (xs : List ℕ) → eqb (length xs) 0 ≡ false → 0 < length xs
 some_left [] e = absurd cc
 some_left (x ∷ xs) e = omega arith
-
--- the same rest under other names
-pub renamed : (below : List ℕ → List ℕ → Type 0) (m n : ℕ) (key other more later behind : List ℕ) → m ≡ n → key ≡ other → more ≡ later → RestOf below m key more behind → RestOf below n other later behind
-renamed below m n key other more later behind e k w h =
-    subst (λ (z : ℕ). RestOf below z other later behind) e (subst (λ (z : List ℕ). RestOf below m z later behind) k (subst (λ (z : List ℕ). RestOf below m key z behind) w h))

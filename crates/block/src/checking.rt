@@ -1,6 +1,6 @@
 //! Checking the entries of a block against its restarts and its order.
 
-ghost use Rattle.std.specs.Prelude.{◌≡◌, ◌<◌, ◌^◌, ◌++◌, List, ℕ, None, length, IfErr, IfOk, IfNone, IfSome};
+ghost use Rattle.std.specs.Prelude.{◌≡◌, ◌<◌, ◌≤◌, ◌^◌, ◌++◌, List, ℕ, None, length, take, IfErr, IfOk, IfNone, IfSome, MatchBool, OnOk};
 ghost use Rattle.std.specs.List.{flat_map};
 ghost use Rattle.coding.specs.Errors.{RefusesOnly};
 ghost use Rattle.coding.specs.Fixed.{fixed32};
@@ -10,11 +10,11 @@ ghost use Rattle.block.specs.Block.{IsBody, AreAbove};
 use crate::entry::entry_at;
 use coding::{Damage, ReadError, get_fixed32};
 use ikey::EntryOrder;
-use std::alloc::Global;
+use std::alloc::{AllocError, Global};
 use std::mem;
 
 /// Whether the bytes are entries whose keys rise in the order O, and the restarts are offsets of entries that
-/// share nothing, the first of them 0. Two keys are kept at a time.
+/// share nothing, the first of them 0. At most two keys are kept at a time.
 pub fn check_entries<O: EntryOrder>(
     alloc: Global,
     body: &[u8],
@@ -31,8 +31,8 @@ pub fn check_entries<O: EntryOrder>(
             _ => Err(ReadError::Corrupt(Damage::Order)),
         };
     }
-    let mut previous = Vec::new(alloc);
     let mut key = Vec::new(alloc);
+    let mut spare = Vec::new(alloc);
     let mut rest = body;
     let mut waiting = restarts;
     while !rest.is_empty() {
@@ -40,13 +40,11 @@ pub fn check_entries<O: EntryOrder>(
         let Some((entry, behind)) = entry_at(rest) else {
             return Err(ReadError::Corrupt(Damage::Length));
         };
-        if entry.shared > previous.len() {
+        if entry.shared > key.len() {
             return Err(ReadError::Corrupt(Damage::Length));
         }
-        key.clear();
-        key.extend_from_slice(&previous[..entry.shared])?;
-        key.extend_from_slice(entry.rest)?;
-        if offset > 0 && !O::is_below(&previous, &key) {
+        let rises = next_key::<O>(&mut key, &mut spare, entry.shared, entry.rest)?;
+        if offset > 0 && !rises {
             return Err(ReadError::Corrupt(Damage::Order));
         }
         if let Some(later) = behind_restart(waiting, offset) {
@@ -55,7 +53,6 @@ pub fn check_entries<O: EntryOrder>(
             }
             waiting = later;
         }
-        mem::swap(&mut previous, &mut key);
         rest = behind;
     }
     if !waiting.is_empty() {
@@ -65,6 +62,31 @@ pub fn check_entries<O: EntryOrder>(
         Some(_) => Ok(()),
         None => Err(ReadError::Corrupt(Damage::Order)),
     }
+}
+
+// Makes the next key of the one before it, and says whether it is above that one. Mostly one byte tells, and the front
+// that both share then stays where it is.
+fn next_key<O: EntryOrder>(
+    key: &mut Vec<u8>,
+    spare: &mut Vec<u8>,
+    shared: usize,
+    rest: &[u8],
+) -> Result<bool, AllocError>
+    requires { shared ≤ length key.old.items }
+    ensures key { OnOk result (key.new.items ≡ take shared key.old.items ++ rest.now) }
+    ensures rises { IfOk result (λ rises. MatchBool rises (O.below key.old.items key.new.items) (O.below key.old.items key.new.items → ⊥)) }
+{
+    if O::is_plainly_below(key, shared, rest) {
+        key.truncate(shared);
+        key.extend_from_slice(rest)?;
+        return Ok(true);
+    }
+    spare.clear();
+    spare.extend_from_slice(&key[..shared])?;
+    spare.extend_from_slice(rest)?;
+    let rises = O::is_below(key, spare);
+    mem::swap(key, spare);
+    Ok(rises)
 }
 
 // The restarts behind the first one, where that is this offset.

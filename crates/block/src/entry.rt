@@ -37,8 +37,21 @@ pub fn entry_at(bytes: &[u8]) -> Option<(Entry<'_>, &[u8])>
     ))
 }
 
-// The number of at most 32 bits at the front, and the bytes behind it.
+// The number of at most 32 bits at the front, and the bytes behind it. Mostly it takes one byte.
+#[inline(always)]
 fn length_at(bytes: &[u8]) -> Option<(usize, &[u8])>
+    ensures range { IfSome result (λ found. found.0 < 2 ^ 32) }
+    ensures found { IfSome result (λ found. (front : List ℕ) × IsVarint front found.0 × (bytes.now ≡ front ++ found.1.now)) }
+    ensures none { IfNone result ((number : ℕ) (front behind : List ℕ) → number < 2 ^ 32 → IsVarint front number → bytes.now ≡ front ++ behind → ⊥) }
+{
+    match bytes {
+        [first, behind @ ..] if *first < 128 => Some((usize::from(*first), behind)),
+        _ => long_length_at(bytes),
+    }
+}
+
+// The same, of however many bytes.
+fn long_length_at(bytes: &[u8]) -> Option<(usize, &[u8])>
     ensures range { IfSome result (λ found. found.0 < 2 ^ 32) }
     ensures found { IfSome result (λ found. (front : List ℕ) × IsVarint front found.0 × (bytes.now ≡ front ++ found.1.now)) }
     ensures none { IfNone result ((number : ℕ) (front behind : List ℕ) → number < 2 ^ 32 → IsVarint front number → bytes.now ≡ front ++ behind → ⊥) }

@@ -1,17 +1,17 @@
-use Rattle.std.proofs.Common.{◌≡◌, ◌+◌, ◌-◌, ◌^◌, ◌<◌, ◌≤◌, ◌++◌, List, ℕ, [], length, take, refl, sym, ap, subst, ◌∙◌, arith}
+use Rattle.std.proofs.Common.{◌≡◌, ◌+◌, ◌-◌, ◌<◌, ◌≤◌, ◌++◌, List, ℕ, [], length, sym, ap, subst, ◌∙◌, arith}
 use Rattle.std.proofs.lemmas.Bool.{eqb-true}
 use Rattle.std.proofs.lemmas.List.{length-append, nil_from_length}
 use Rattle.coding.specs.Fixed.{fixed32}
-use Rattle.std.proofs.Common.{Bor, append_assoc}
-use Rattle.block.proofs.checking.check_entries.Goals.{else-offset-gt0-via-then-offset-gt0+else-not-is_below, else-offset-gt0-via-else-offset-gt0, in-Some-behind_restart+else-entry-gt0, in_default-behind_restart}
-use Rattle.block.proofs.Rests.{RestOf, renamed, some_left, no_entry, shares_too_much, does_not_rise, on_taken, on_skipped, shares_at_restart, back_taken, back_skipped, rest_of_body, body_of_rest, rest_at_end, none_at_end}
+use Rattle.std.proofs.Common.{append_assoc}
+use Rattle.block.proofs.checking.check_entries.Goals.{else-offset-gt0-via-then-offset-gt0+else-not-rises, else-offset-gt0-via-else-offset-gt0}
+use Rattle.block.proofs.Rests.{RestOf, some_left, no_entry, shares_too_much, does_not_rise, on_taken, on_skipped, shares_at_restart, back_taken, back_skipped, rest_of_body, body_of_rest, rest_at_end, none_at_end}
 use Rattle.block.proofs.checking.check_entries.Goals as goal
 
 pub returns-in_default-entry_at-clause-refused : goal.returns-in_default-entry_at-clause-refused
 returns-in_default-entry_at-clause-refused g c pairs list w h a =
     let below = g.O.EntryOrder.below in
     let some = some_left c.args.body.now (sym c.if-is_empty.ensures) in
-    no_entry below (length c.loop-rest.invariant.front) c.loop-rest.previous.items c.loop-rest.waiting.now c.loop-rest.rest.now (some_left c.loop-rest.rest.now (sym c.loop-rest-test.ensures)) c.in_default-entry_at.ensures.none
+    no_entry below (length c.loop-rest.invariant.front) c.loop-rest.key.items c.loop-rest.waiting.now c.loop-rest.rest.now (some_left c.loop-rest.rest.now (sym c.loop-rest-test.ensures)) c.in_default-entry_at.ensures.none
     (c.loop-rest.invariant.onward (rest_of_body below c.args.restarts.now c.args.body.now pairs list some w h a))
 
 pub returns-then-entry-len-clause-refused : goal.returns-then-entry-len-clause-refused
@@ -19,22 +19,18 @@ returns-then-entry-len-clause-refused g c pairs list w h a =
     let below = g.O.EntryOrder.below in
     let some = some_left c.args.body.now (sym c.if-is_empty.ensures) in
     let e = c.in-Some.ensures.found in
-    shares_too_much below (length c.loop-rest.invariant.front) c.loop-rest.previous.items c.loop-rest.waiting.now c.loop-rest.rest.now c.in-Some.entry.shared c.in-Some.entry.rest.now c.in-Some.entry.value.now e.0 c.in-Some.behind.now e.1 e.2
+    shares_too_much below (length c.loop-rest.invariant.front) c.loop-rest.key.items c.loop-rest.waiting.now c.loop-rest.rest.now c.in-Some.entry.shared c.in-Some.entry.rest.now c.in-Some.entry.value.now e.0 c.in-Some.behind.now e.1 e.2
     (omega (arith, c.if-entry-len.true, c.len.ensures))
     (c.loop-rest.invariant.onward (rest_of_body below c.args.restarts.now c.args.body.now pairs list some w h a))
 
-pub returns-then-not-is_below-clause-refused : goal.returns-then-not-is_below-clause-refused
-returns-then-not-is_below-clause-refused g c pairs list w h a =
+pub returns-then-not-rises-clause-refused : goal.returns-then-not-rises-clause-refused
+returns-then-not-rises-clause-refused g c pairs list w h a =
     let below = g.O.EntryOrder.below in
     let some = some_left c.args.body.now (sym c.if-is_empty.ensures) in
     let e = c.in-Some.ensures.found in
-    let previous = c.loop-rest.previous.items in
-    let key = c.extend_from_slice-in-loop-rest.new.self.items in
-    let key_is : key ≡ take c.in-Some.entry.shared previous ++ c.in-Some.entry.rest.now =
-    rw (c.in_ok-extend_from_slice-2.ensures.items, c.in_ok-extend_from_slice.ensures.items, c.clear.ensures.items, c.deref.ensures.value) refl in
     let front_is : length c.args.body.now ≡ length c.loop-rest.invariant.front + length c.loop-rest.rest.now = ap length c.loop-rest.invariant.parts ∙ length-append c.loop-rest.invariant.front c.loop-rest.rest.now in
-    does_not_rise below (length c.loop-rest.invariant.front) previous c.loop-rest.waiting.now c.loop-rest.rest.now c.in-Some.entry.shared c.in-Some.entry.rest.now c.in-Some.entry.value.now e.0 c.in-Some.behind.now key e.1 e.2 key_is
-    (omega (arith, c.if-offset-gt0.true, front_is)) (rw (c.deref-then-offset-gt0.ensures.value, c.deref-then-offset-gt0-2.ensures.value) at c.if-not-is_below.ensures)
+    does_not_rise below (length c.loop-rest.invariant.front) c.loop-rest.key.items c.loop-rest.waiting.now c.loop-rest.rest.now c.in-Some.entry.shared c.in-Some.entry.rest.now c.in-Some.entry.value.now e.0 c.in-Some.behind.now c.next_key.new.key.items e.1 e.2
+    c.in_ok-rises.ensures.key (omega (arith, c.if-offset-gt0.true, front_is)) (rw c.if-not-rises.true at c.in_ok-rises.ensures.rises)
     (c.loop-rest.invariant.onward (rest_of_body below c.args.restarts.now c.args.body.now pairs list some w h a))
 
 pub returns-then-entry-gt0-clause-refused : goal.returns-then-entry-gt0-clause-refused
@@ -47,9 +43,41 @@ returns-then-entry-gt0-clause-refused g c pairs list w h a =
     let front_is : length c.args.body.now ≡ length front + length rest = ap length c.loop-rest.invariant.parts ∙ length-append front rest in
     let at : length c.args.body.now - length rest ≡ length front = omega (arith, front_is) in
     let later = c.in-Some-behind_restart.later.now in
-    shares_at_restart below (length front) c.loop-rest.previous.items c.loop-rest.waiting.now rest c.in-Some.entry.shared c.in-Some.entry.rest.now c.in-Some.entry.value.now e.0 c.in-Some.behind.now later e.1 e.2
+    shares_at_restart below (length front) c.loop-rest.key.items c.loop-rest.waiting.now rest c.in-Some.entry.shared c.in-Some.entry.rest.now c.in-Some.entry.value.now e.0 c.in-Some.behind.now later e.1 e.2
     (omega (arith, c.requires, front_is)) (subst (λ (n : ℕ). c.loop-rest.waiting.now ≡ fixed32 n ++ later) at c.in-Some-behind_restart.ensures.found) c.if-entry-gt0.true
     (c.loop-rest.invariant.onward (rest_of_body below c.args.restarts.now c.args.body.now pairs list some w h a))
+
+pub loop-rest-preserved-else-entry-gt0 : goal.loop-rest-preserved-else-entry-gt0
+loop-rest-preserved-else-entry-gt0 g c =
+    let below = g.O.EntryOrder.below in
+    let e = c.in-Some.ensures.found in
+    let front = c.loop-rest.invariant.front in
+    let rest = c.loop-rest.rest.now in
+    let previous = c.loop-rest.key.items in
+    let waiting = c.loop-rest.waiting.now in
+    let behind = c.in-Some.behind.now in
+    let s = c.in-Some.entry.shared in
+    let r = c.in-Some.entry.rest.now in
+    let v = c.in-Some.entry.value.now in
+    let key = c.next_key.new.key.items in
+    let key_is = c.in_ok-rises.ensures.key in
+    let front_is : length c.args.body.now ≡ length front + length rest = ap length c.loop-rest.invariant.parts ∙ length-append front rest in
+    let at : length c.args.body.now - length rest ≡ length front = omega (arith, front_is) in
+    let long = length-append front e.0 in
+    let le : s ≤ length previous = omega (arith, c.if-entry-len.false, c.len.ensures) in
+    let up : 0 < length front → below previous key = elim c.else-offset-gt0.branch [
+      | else-offset-gt0-via-then-offset-gt0+else-not-rises w ↦ λ some. rw w.if-not-rises.false at c.in_ok-rises.ensures.rises
+      | else-offset-gt0-via-else-offset-gt0 w ↦ λ some. absurd (omega (arith, w.if-offset-gt0.false, some, front_is))
+    ] in
+    let later = c.in-Some-behind_restart.later.now in
+    let here = subst (λ (n : ℕ). waiting ≡ fixed32 n ++ later) at c.in-Some-behind_restart.ensures.found in
+    record {
+      front = front ++ e.0;
+      parts = c.loop-rest.invariant.parts ∙ ap (λ (z : List ℕ). front ++ z) e.2 ∙ sym (append_assoc front e.0 behind);
+      back = λ h. c.loop-rest.invariant.back (back_taken below (length front) previous waiting rest s r v e.0 behind key later e.1 e.2 le key_is up (omega (arith, c.if-entry-gt0.false)) here
+          (subst (λ (n : ℕ). RestOf below n key later behind) long h));
+      onward = λ h. subst (λ (n : ℕ). RestOf below n key later behind) (sym long) (on_taken below (length front) previous waiting rest s r v e.0 behind key later e.1 e.2 key_is (omega (arith, c.requires, front_is)) here (c.loop-rest.invariant.onward h));
+    }
 
 pub loop-rest-preserved : goal.loop-rest-preserved
 loop-rest-preserved g c =
@@ -57,59 +85,38 @@ loop-rest-preserved g c =
     let e = c.in-Some.ensures.found in
     let front = c.loop-rest.invariant.front in
     let rest = c.loop-rest.rest.now in
-    let previous = c.loop-rest.previous.items in
+    let previous = c.loop-rest.key.items in
     let waiting = c.loop-rest.waiting.now in
     let behind = c.in-Some.behind.now in
     let s = c.in-Some.entry.shared in
     let r = c.in-Some.entry.rest.now in
     let v = c.in-Some.entry.value.now in
-    let key = c.extend_from_slice-in-loop-rest.new.self.items in
-    let key_is : key ≡ take s previous ++ r =
-    rw (c.in_ok-extend_from_slice-2.ensures.items, c.in_ok-extend_from_slice.ensures.items, c.clear.ensures.items, c.deref.ensures.value) refl in
-    let swapped : c.swap.new.x.items ≡ key = rw c.swap.ensures.x_after refl in
+    let key = c.next_key.new.key.items in
+    let key_is = c.in_ok-rises.ensures.key in
     let front_is : length c.args.body.now ≡ length front + length rest = ap length c.loop-rest.invariant.parts ∙ length-append front rest in
     let at : length c.args.body.now - length rest ≡ length front = omega (arith, front_is) in
-    let fits : length front + length rest < 2 ^ 32 = omega (arith, c.requires, front_is) in
     let long = length-append front e.0 in
     let le : s ≤ length previous = omega (arith, c.if-entry-len.false, c.len.ensures) in
-    let parts : c.args.body.now ≡ (front ++ e.0) ++ behind = c.loop-rest.invariant.parts ∙ ap (λ (z : List ℕ). front ++ z) e.2 ∙ sym (append_assoc front e.0 behind) in
     let up : 0 < length front → below previous key = elim c.else-offset-gt0.branch [
-      | else-offset-gt0-via-then-offset-gt0+else-not-is_below w ↦ λ some. rw (w.deref-then-offset-gt0.ensures.value, w.deref-then-offset-gt0-2.ensures.value) at w.if-not-is_below.ensures
+      | else-offset-gt0-via-then-offset-gt0+else-not-rises w ↦ λ some. rw w.if-not-rises.false at c.in_ok-rises.ensures.rises
       | else-offset-gt0-via-else-offset-gt0 w ↦ λ some. absurd (omega (arith, w.if-offset-gt0.false, some, front_is))
     ] in
-    elim c.match-behind_restart.branch [
-      | in-Some-behind_restart+else-entry-gt0 w ↦
-          let later = w.in-Some-behind_restart.later.now in
-          let here = subst (λ (n : ℕ). waiting ≡ fixed32 n ++ later) at w.in-Some-behind_restart.ensures.found in
-          let waits : c.match-behind_restart.waiting.now ≡ later = ap (λ (z : Bor (List ℕ)). z.now) w.waiting-is in
-          record {
-            front = front ++ e.0;
-            parts = parts;
-            back = λ h. c.loop-rest.invariant.back (back_taken below (length front) previous waiting rest s r v e.0 behind key later e.1 e.2 le key_is up (omega (arith, w.if-entry-gt0.false)) here
-                (renamed below (length (front ++ e.0)) (length front + length e.0) c.swap.new.x.items key c.match-behind_restart.waiting.now later behind long swapped waits h));
-            onward = λ h. renamed below (length front + length e.0) (length (front ++ e.0)) key c.swap.new.x.items later c.match-behind_restart.waiting.now behind (sym long) (sym swapped) (sym waits)
-                (on_taken below (length front) previous waiting rest s r v e.0 behind key later e.1 e.2 key_is fits here (c.loop-rest.invariant.onward h));
-          }
-      | in_default-behind_restart w ↦
-          let none = subst (λ (n : ℕ). (later : List ℕ) → waiting ≡ fixed32 n ++ later → ⊥) at w.in_default-behind_restart.ensures.none in
-          let waits : c.match-behind_restart.waiting.now ≡ waiting = ap (λ (z : Bor (List ℕ)). z.now) w.waiting-is in
-          record {
-            front = front ++ e.0;
-            parts = parts;
-            back = λ h. c.loop-rest.invariant.back (back_skipped below (length front) previous waiting rest s r v e.0 behind key e.1 e.2 le key_is up
-                (renamed below (length (front ++ e.0)) (length front + length e.0) c.swap.new.x.items key c.match-behind_restart.waiting.now waiting behind long swapped waits h));
-            onward = λ h. renamed below (length front + length e.0) (length (front ++ e.0)) key c.swap.new.x.items waiting c.match-behind_restart.waiting.now behind (sym long) (sym swapped) (sym waits)
-                (on_skipped below (length front) previous waiting rest s r v e.0 behind key e.1 e.2 key_is none (c.loop-rest.invariant.onward h));
-          }
-    ]
+    let none = subst (λ (n : ℕ). (later : List ℕ) → waiting ≡ fixed32 n ++ later → ⊥) at c.in_default-behind_restart.ensures.none in
+    record {
+      front = front ++ e.0;
+      parts = c.loop-rest.invariant.parts ∙ ap (λ (z : List ℕ). front ++ z) e.2 ∙ sym (append_assoc front e.0 behind);
+      back = λ h. c.loop-rest.invariant.back (back_skipped below (length front) previous waiting rest s r v e.0 behind key e.1 e.2 le key_is up
+          (subst (λ (n : ℕ). RestOf below n key waiting behind) long h));
+      onward = λ h. subst (λ (n : ℕ). RestOf below n key waiting behind) (sym long) (on_skipped below (length front) previous waiting rest s r v e.0 behind key e.1 e.2 key_is none (c.loop-rest.invariant.onward h));
+    }
 
 pub returns-then-not-is_empty-clause-refused : goal.returns-then-not-is_empty-clause-refused
 returns-then-not-is_empty-clause-refused g c pairs list w h a =
     let below = g.O.EntryOrder.below in
     let some = some_left c.args.body.now (sym c.if-is_empty.ensures) in
     let ended : c.loop-rest.rest.now ≡ [] = nil_from_length c.loop-rest.rest.now (eqb-true _ _ (sym c.loop-rest-test.ensures)) in
-    none_at_end below (length c.loop-rest.invariant.front) c.loop-rest.previous.items c.loop-rest.waiting.now (some_left c.loop-rest.waiting.now (sym c.if-not-is_empty.ensures))
-    (subst (λ (v : List ℕ). RestOf below (length c.loop-rest.invariant.front) c.loop-rest.previous.items c.loop-rest.waiting.now v) ended
+    none_at_end below (length c.loop-rest.invariant.front) c.loop-rest.key.items c.loop-rest.waiting.now (some_left c.loop-rest.waiting.now (sym c.if-not-is_empty.ensures))
+    (subst (λ (v : List ℕ). RestOf below (length c.loop-rest.invariant.front) c.loop-rest.key.items c.loop-rest.waiting.now v) ended
     (c.loop-rest.invariant.onward (rest_of_body below c.args.restarts.now c.args.body.now pairs list some w h a)))
 
 pub returns-in-Some-behind_restart-2-clause-found : goal.returns-in-Some-behind_restart-2-clause-found
@@ -119,6 +126,6 @@ returns-in-Some-behind_restart-2-clause-found g c =
     let ended : c.loop-rest.rest.now ≡ [] = nil_from_length c.loop-rest.rest.now (eqb-true _ _ (sym c.loop-rest-test.ensures)) in
     let taken : c.loop-rest.waiting.now ≡ [] = nil_from_length c.loop-rest.waiting.now (eqb-true _ _ (sym c.if-not-is_empty.ensures)) in
     let front = c.loop-rest.invariant.front in
-    let previous = c.loop-rest.previous.items in
+    let previous = c.loop-rest.key.items in
     body_of_rest below c.args.restarts.now c.args.body.now c.in-Some-behind_restart-2.field-0.now some c.requires c.in-Some-behind_restart-2.ensures.found
     (c.loop-rest.invariant.back (subst (λ (v : List ℕ). RestOf below (length front) previous c.loop-rest.waiting.now v) (sym ended) (subst (λ (v : List ℕ). RestOf below (length front) previous v []) (sym taken) (rest_at_end below (length front) previous))))

@@ -7,8 +7,8 @@ abbrev pub invariant-loop-rest : goal.invariant-loop-rest
 invariant-loop-rest g l = record {
   front : List ℕ;
   parts : l.body ≡ front ++ l.rest;
-  back : RestOf g.O.EntryOrder.below (length front) l.previous.items l.waiting l.rest → RestOf g.O.EntryOrder.below 0 [] l.restarts l.body;
-  onward : RestOf g.O.EntryOrder.below 0 [] l.restarts l.body → RestOf g.O.EntryOrder.below (length front) l.previous.items l.waiting l.rest;
+  back : RestOf g.O.EntryOrder.below (length front) l.key.items l.waiting l.rest → RestOf g.O.EntryOrder.below 0 [] l.restarts l.body;
+  onward : RestOf g.O.EntryOrder.below 0 [] l.restarts l.body → RestOf g.O.EntryOrder.below (length front) l.key.items l.waiting l.rest;
 }
 
 abbrev pub decreases-loop-rest : goal.decreases-loop-rest
