@@ -112,6 +112,57 @@ fn bytes_are_ordered_by_the_first_that_differs(rt: HostRuntime) {
     }
 }
 
+// A key, how much of it the next one shares, the next one's rest, and what a quick look says where both are plain
+// byte strings and where they are internal keys.
+const LOOKS: [(&[u8], usize, &[u8], bool, bool); 6] = [
+    (
+        b"ab\x01\x07\0\0\0\0\0\0",
+        1,
+        b"c\x01\x07\0\0\0\0\0\0",
+        true,
+        true,
+    ),
+    (
+        b"ab\x01\x07\0\0\0\0\0\0",
+        1,
+        b"b\x01\x08\0\0\0\0\0\0",
+        false,
+        false,
+    ),
+    (
+        b"ab\0\x07\0\0\0\0\0\0",
+        2,
+        b"\x01\x07\0\0\0\0\0\0",
+        true,
+        false,
+    ),
+    (
+        b"b\x01\x07\0\0\0\0\0\0",
+        0,
+        b"a\x01\x07\0\0\0\0\0\0",
+        false,
+        false,
+    ),
+    (b"short", 1, b"t", true, false),
+    (b"ab", 2, b"c", false, false),
+];
+
+fn looks_so(a: &[u8], shared: usize, rest: &[u8], plain: bool, internal: bool) -> bool {
+    Plain::is_plainly_below(a, shared, rest) == plain
+        && Bytewise::is_plainly_below(a, shared, rest) == plain
+        && Internal::<Bytewise>::is_plainly_below(a, shared, rest) == internal
+}
+
+#[test]
+fn a_quick_look_sees_one_byte(rt: HostRuntime) {
+    for (a, shared, rest, plain, internal) in LOOKS {
+        assert!(rt;
+            looks_so(a, shared, rest, plain, internal),
+            "{a:?} {rest:?}"
+        );
+    }
+}
+
 // Keys, and how the first key of `a` at sequence 7 stands to each.
 const SEEK_KEY: &[u8] = b"a\x01\x07\0\0\0\0\0\0";
 
