@@ -29,7 +29,8 @@ impl LogWriter {
         ensures length { IfOk result (λ added. length added.items ≡ appends.added_length (32768 - position % 32768) (length payload.now)) }
         ensures memory { IsOkUnless result DbError.OutOfMemory }
     {
-        let mut out = Vec::new(alloc);
+        let room = BLOCK_LENGTH - (position % BLOCK_LENGTH as u64) as usize;
+        let mut out = Vec::with_capacity(alloc, added_length(room, payload.len()))?;
         Self::encode_into(&mut out, position, payload)?;
         Ok(out)
     }
