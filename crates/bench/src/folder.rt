@@ -38,9 +38,13 @@ fn counted(text: &str) -> Option<u64> {
     }
 }
 
+// From how many tables of level 0 on they are merged. LevelDB begins to with 4, and comes to it when it has 8 in most cases, since its
+// thread is busy: `bench/run` prints how many it merged. Here nothing waits, so that 8 is what makes both merge as many at once.
+const LEVEL0_FILES: u64 = 8;
+
 // The sizes of LevelDB's db_bench, with a cache of 8 MB.
 fn options() -> Option<Options> {
-    Options::new(4_194_304, 4096, 2_097_152, 4, 10_485_760, 2048)
+    Options::new(4_194_304, 4096, 2_097_152, LEVEL0_FILES, 10_485_760, 2048)
 }
 
 /// Prints the line of a workload, or says why it was refused, and answers the exit status.
