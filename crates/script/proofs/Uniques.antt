@@ -7,15 +7,14 @@ use Rattle.engine.specs.declared.command.Mode.{Mode}
 use Rattle.engine.specs.declared.command.Mode.TheVariants.{Existing, New, Any}
 use Rattle.engine.specs.declared.command.Op.{Op}
 use Rattle.engine.specs.declared.command.Op.TheVariants as op
-use Rattle.std.specs.Fmt.{decimal}
 use Rattle.std.specs.Str.Parse.{AllDigits}
-use Rattle.std.proofs.lemmas.Fmt.{digits_decimal, decimal_nonempty}
+use Rattle.std.proofs.lemmas.Fmt.{digits_decimal}
 use Rattle.std.proofs.lemmas.Str.Parse.{numerals_by_value, tells_digits, digit_at}
 use Rattle.script.specs.declared.verb.Verb.{Verb}
 use Rattle.script.specs.declared.verb.Verb.TheVariants as verb
 use Rattle.script.specs.Verbs.{name_of}
-use Rattle.script.specs.Words.{words_of, IsNumber, IsByteString, Reads}
-use Rattle.script.specs.Script.{Says, Spells, IsSame, IsWrite, IsPut, IsDelete, IsNumberAlone, TakesNumber, AreSnapshot, AreOperations, mode_words, sync_words}
+use Rattle.script.specs.Words.{IsNumber, IsByteString, Reads}
+use Rattle.script.specs.Script.{AreCommand, Says, Spells, IsSame, IsWrite, IsPut, IsDelete, IsNumberAlone, TakesNumber, AreSnapshot, AreOperations, mode_words, sync_words}
 use Rattle.script.proofs.Lines.{head, tail}
 use Rattle.script.proofs.Numbers.{one_number}
 use Rattle.script.proofs.Batches.{one_byte_string, one_put, one_delete, one_batch, sync_is_no_operation}
@@ -176,20 +175,20 @@ says_one line a b h g =
     let rest = tail (name_of h.0) (name_of g.0) h.1 g.1 e in
     one_spelling g.0 g.1 a b (subst (λ (x : Verb). Spells x g.1 a) v (subst (λ (w : List (List ℕ)). Spells h.0 w a) rest h.3)) g.3
 
--- ---- what a line doesn't say
+-- ---- what words don't say
 
--- no verb is its first word
-pub no_verb : (line word : List ℕ) (rest : List (List ℕ)) → words_of line ≡ word ∷ rest → ((v : Verb) → word ≡ name_of v → ⊥) → (command : Op) → Says line command → ⊥
-no_verb line word rest is none command s = none s.0 (head word (name_of s.0) rest s.1 (sym is ∙ s.2))
+-- no verb is the first
+pub no_verb : (words : List (List ℕ)) (word : List ℕ) (rest : List (List ℕ)) → words ≡ word ∷ rest → ((v : Verb) → word ≡ name_of v → ⊥) → (command : Op) → AreCommand words command → ⊥
+no_verb words word rest is none command s = none s.0 (head word (name_of s.0) rest s.1 (sym is ∙ s.2))
 
--- the words behind it are no arguments of its verb
-pub no_rest : (line word : List ℕ) (rest : List (List ℕ)) (v : Verb) → words_of line ≡ word ∷ rest → word ≡ name_of v → ((command : Op) → Spells v rest command → ⊥)
-    → (command : Op) → Says line command → ⊥
-no_rest line word rest v is named none command s =
+-- the words behind the first are no arguments of its verb
+pub no_rest : (words : List (List ℕ)) (word : List ℕ) (rest : List (List ℕ)) (v : Verb) → words ≡ word ∷ rest → word ≡ name_of v → ((command : Op) → Spells v rest command → ⊥)
+    → (command : Op) → AreCommand words command → ⊥
+no_rest words word rest v is named none command s =
     let e = sym is ∙ s.2 in
     let same_verb = one_verb s.0 v (sym (head word (name_of s.0) rest s.1 e) ∙ named) in
     none command (subst (λ (x : Verb). Spells x rest command) same_verb (subst (λ (w : List (List ℕ)). Spells s.0 w command) (sym (tail word (name_of s.0) rest s.1 e)) s.3))
 
-pub says_by : (line word : List ℕ) (rest : List (List ℕ)) (v : Verb) (read : Option Op) → words_of line ≡ word ∷ rest → word ≡ name_of v → Reads (Spells v rest) read → Reads (Says line) read
-says_by line word rest v None is named reads = no_rest line word rest v is named reads
-says_by line word rest v (Some command) is named reads = (v, rest, is ∙ ap (λ (w : List ℕ). w ∷ rest) named, reads)
+pub says_by : (words : List (List ℕ)) (word : List ℕ) (rest : List (List ℕ)) (v : Verb) (read : Option Op) → words ≡ word ∷ rest → word ≡ name_of v → Reads (Spells v rest) read → Reads (AreCommand words) read
+says_by words word rest v None is named reads = no_rest words word rest v is named reads
+says_by words word rest v (Some command) is named reads = (v, rest, is ∙ ap (λ (w : List ℕ). w ∷ rest) named, reads)

@@ -100,10 +100,14 @@ Spells verb.Work words command = TakesNumber 32 words op.Work command
 Spells verb.Compact words command = IsCompaction words command
 Spells verb.Close words command = (words ≡ []) × (command ≡ op.Close)
 
--- a line says a command: its words are a verb's name and what that verb takes
+-- the words are a command's: a verb's name and what that verb takes
+abbrev pub AreCommand : List (List ℕ) → Op → Type 0
+AreCommand words command =
+    (first : Verb) × (rest : List (List ℕ)) × (words ≡ name_of first ∷ rest) × Spells first rest command
+
+-- a line says a command by its words
 abbrev pub Says : List ℕ → Op → Type 0
-Says line command =
-    (first : Verb) × (rest : List (List ℕ)) × (words_of line ≡ name_of first ∷ rest) × Spells first rest command
+Says line command = AreCommand (words_of line) command
 
 -- the same command: lists of operations are compared, and not the memory that holds them
 abbrev pub IsSame : Op → Op → Type 0

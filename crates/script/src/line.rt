@@ -3,7 +3,7 @@
 ghost use Rattle.std.specs.Prelude.{IfOk, ℕ, List};
 ghost use Rattle.engine.specs.declared.command.Op.{Op as OpValue};
 ghost use Rattle.script.specs.Words.{texts_of, Reads};
-ghost use Rattle.script.specs.Script.{Spells, Says, IsSame};
+ghost use Rattle.script.specs.Script.{AreCommand, Spells, Says, IsSame};
 
 use crate::arguments::{
     read_alone, read_compaction, read_get, read_mode, read_number_alone, read_seek,
@@ -11,16 +11,30 @@ use crate::arguments::{
 };
 use crate::batch_words::{read_batch, read_delete_alone, read_put_alone};
 use crate::verb::{Verb, read_verb};
-use crate::word::split_words;
+use crate::word::{few_words, split_words};
 use engine::Op;
 use std::alloc::{AllocError, Global};
+
+// How many words a line may have for which no memory is taken: all but those of `write`.
+const FEW: usize = 4;
 
 /// The command that a line says, without the newline that ends it, or `None` where it says none.
 pub fn read_line(alloc: Global, line: &[u8]) -> Result<Option<Op>, AllocError>
     ensures { IfOk result (Reads (Says line.now)) }
 {
+    let mut room: [&[u8]; FEW] = [b""; FEW];
+    if let Some(count) = few_words(line, &mut room) {
+        return read_words(alloc, &room[..count]);
+    }
     let words = split_words(alloc, line)?;
-    let [first, rest @ ..] = words.as_slice() else {
+    read_words(alloc, words.as_slice())
+}
+
+// The command that these words say.
+fn read_words(alloc: Global, words: &[&[u8]]) -> Result<Option<Op>, AllocError>
+    ensures { IfOk result (Reads (AreCommand (texts_of words.now))) }
+{
+    let [first, rest @ ..] = words else {
         return Ok(None);
     };
     let Some(verb) = read_verb(first) else {

@@ -1,6 +1,6 @@
 //! Words: numbers, byte strings, and the cutting of a line into words.
 
-ghost use Rattle.std.specs.Prelude.{◌≡◌, ℕ, true, false, IfOk};
+ghost use Rattle.std.specs.Prelude.{◌≡◌, ◌≤◌, ℕ, true, false, take, length, IfOk, IfSome};
 ghost use Rattle.script.specs.Words.{words_of, texts_of, IsNumber, IsPlain, IsByteString, Reads};
 
 use coding::Bytes;
@@ -12,6 +12,22 @@ pub fn split_words(alloc: Global, line: &[u8]) -> Result<Vec<&[u8]>, AllocError>
     ensures { IfOk result (λ words. texts_of words.items ≡ words_of line.now) }
 {
     line.split(|byte| *byte == b' ').collect(alloc)
+}
+
+/// How many words a line has, and these in front of the room, where they find room: so most lines take no memory for them.
+pub fn few_words<'a>(line: &'a [u8], room: &mut [&'a [u8]]) -> Option<usize>
+    ensures within { IfSome result (λ count. count ≤ length room.new) }
+    ensures words { IfSome result (λ count. texts_of (take count room.new) ≡ words_of line.now) }
+{
+    let mut count = 0;
+    for word in line.split(|byte| *byte == b' ') {
+        if count >= room.len() {
+            return None;
+        }
+        room[count] = word;
+        count += 1;
+    }
+    Some(count)
 }
 
 /// The number that a word writes in decimal, with no sign and no zero in front, where it is below 2^64.
