@@ -11,11 +11,11 @@ use store::Store;
 
 // After how many writes a piece of work is done, and of how many entries. LevelDB compacts on a thread of its own; here the writer
 // does it. Work removes files of no use first, for which it lists the folder, so that seldom and much is cheaper than often and
-// little; and a compaction merges an entry a few times on its way down, so that eight entries for each one written keep level 0
-// near its limit.
+// little; and an entry is merged a few times on its way down, so that six for each one written keep level 0 at its limit. (With much
+// less, compactions take so long that the memory table, which is only sealed between them, grows to several times its size.)
 const WRITES_A_PIECE: u64 = 1000;
 
-const PIECE: u32 = 8000;
+const PIECE: u32 = 6000;
 
 // Of how many entries a piece is where nobody waits for it.
 const LONG_PIECE: u32 = 1_000_000;
