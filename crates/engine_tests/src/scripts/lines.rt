@@ -137,7 +137,7 @@ fn lines_say_commands(rt: HostRuntime) {
 }
 
 // Each says no command.
-const BAD_LINES: [&[u8]; 70] = [
+const BAD_LINES: [&[u8]; 72] = [
     b"",
     b" ",
     b"  ",
@@ -173,6 +173,8 @@ const BAD_LINES: [&[u8]; 70] = [
     b"write get 61",
     b"get",
     b"get 61 62 63",
+    b"get 61 1 2 3",
+    b"next 1 2 3 4 5",
     b"get 61 x",
     b"get 61 00",
     b"get 61 +1",
