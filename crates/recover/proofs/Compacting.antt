@@ -10,7 +10,7 @@ use Rattle.ikey.specs.Sources.{ComesBefore, AreSorted, SameEntries}
 use Rattle.recover.specs.Tables.{TableContent, HasTable, HasTables, InTables, tabled, AreApart, AreNewer, AreTwoTables, AreTables}
 use Rattle.recover.specs.Logs.{IsLive, logged}
 use Rattle.recover.specs.Directory.{HasManifest, Directory, IsConsistent}
-use Rattle.recover.specs.Changes.{AgreeBeside, AreParted, IsCompaction, IsReplacement, compacted, CompactionLaw, ReplacementLaw}
+use Rattle.recover.specs.Changes.{AgreeBeside, AreParted, IsCompaction, compacted, CompactionLaw}
 use Rattle.recover.proofs.Keeping.{keep_tables, keep_logs, live_of, same_live, all_live}
 use Rattle.recover.proofs.Adding.{among_split}
 use Rattle.recover.proofs.Memberships.{among_front, among_back, from_tabled, to_tabled, each_table, one_of_tables, in_part, from_rest, among_contents, among_chosen, among_rest}
@@ -77,7 +77,7 @@ level_tables order level (c ∷ contents) some levels h =
 
 module _ (order : Order) (old new : Files) (d : Directory) (edits : List (List Field)) (next : Layout) (inputs rest outputs contents : List TableContent) (level : ℕ)
     (h : IsConsistent order old d) (m : HasManifest order new d.manifest edits next) (a : AgreeBeside old new d)
-    (has : (output : TableContent) → InTables outputs output → HasTable order new output) (c : IsReplacement order d next inputs rest outputs contents level) where
+    (has : (output : TableContent) → InTables outputs output → HasTable order new output) (c : IsCompaction order d next inputs rest outputs contents level) where
   -- an entry of an output is one of an input
   from_input : (output : TableContent) (e : Entry) → InTables outputs output → Among output.entries e → (input : TableContent) × InTables inputs input × Among input.entries e
   from_input output e i p = from_tabled inputs e (c.taken e (to_tabled outputs output e i p))
@@ -142,7 +142,7 @@ module _ (order : Order) (old new : Files) (d : Directory) (edits : List (List F
     all = λ n num live there.
         let was : IsLive d.layout n = same_live next d.layout n c.log_number c.previous_log_number live in
         h.all n num was (ap is_some (sym (a.logs n num was)) ∙ there);
-    apart = parted_tables order contents outputs rest c.new_tables c.apart (rest_tables order d.tables inputs rest c.old_tables h.apart) two;
+    apart = parted_tables order contents outputs rest c.new_tables (level_tables order level outputs c.positive c.levels c.sorted) (rest_tables order d.tables inputs rest c.old_tables h.apart) two;
     newer = λ e f i j key. h.newer e f i (was_tabled f j) key;
     sequences = h.sequences;
     recorded = λ f i. let le : f.sequence ≤ d.layout.last_sequence = h.recorded f (was_tabled f i) in omega (arith, le, c.last_sequence);
@@ -172,27 +172,10 @@ three contents chosen rest logs h e = (to, from)
           ]
         ]
 
-pub replace : ReplacementLaw
-replace order old new d edits next inputs rest outputs contents level h m a has c = (
+pub compact : CompactionLaw
+compact order old new d edits next inputs rest outputs contents level h m a has c = (
   consistent order old new d edits next inputs rest outputs contents level h m a has c,
   three d.tables inputs rest (logged d.logs) c.old_tables,
   three contents outputs rest (logged d.logs) c.new_tables,
   omega (arith, c.last_sequence),
 )
-
-pub compact : CompactionLaw
-compact order old new d edits next inputs rest outputs contents level h m a has c =
-    replace order old new d edits next inputs rest outputs contents level h m a has
-    (record {
-      old_tables = c.old_tables;
-      replaceable = c.replaceable;
-      positive = c.positive;
-      levels = c.levels;
-      taken = c.taken;
-      apart = level_tables order level outputs c.positive c.levels c.sorted;
-      new_tables = c.new_tables;
-      tables = c.tables;
-      log_number = c.log_number;
-      previous_log_number = c.previous_log_number;
-      last_sequence = c.last_sequence;
-    })

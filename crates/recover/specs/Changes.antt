@@ -21,7 +21,7 @@ use Rattle.table.specs.Writing.{KeepsOthers}
 use Rattle.recover.specs.Entries.{entries_of}
 use Rattle.ikey.specs.Views.{Among}
 use Rattle.ikey.specs.Sources.{ComesBefore, AreSorted, SameEntries}
-use Rattle.recover.specs.Tables.{table_at, TableContent, HasTable, InTables, tabled, AreNewer, AreTables}
+use Rattle.recover.specs.Tables.{table_at, TableContent, HasTable, InTables, tabled, AreNewer}
 use Rattle.recover.specs.Logs.{LogContent, IsLive, batch_entries, logged}
 use Rattle.recover.specs.Directory.{Directory, IsConsistent, HasManifest, EndsAt, entries_in, used_in}
 use Rattle.recover.specs.Laws.{AddsRecord, AddsAllOrNothing, IsSameLayout}
@@ -185,30 +185,6 @@ abbrev pub CompactionLaw : Type 0
 CompactionLaw = (order : Order) (old new : Files) (d : Directory) (edits : List (List Field)) (next : Layout) (inputs rest outputs contents : List TableContent) (level : ℕ)
     → IsConsistent order old d → HasManifest order new d.manifest edits next → AgreeBeside old new d
     → ((output : TableContent) → InTables outputs output → HasTable order new output) → IsCompaction order d next inputs rest outputs contents level
-    → IsConsistent order new (compacted d edits next contents)
-    × SameEntries (entries_in d) (tabled inputs ++ (tabled rest ++ logged d.logs))
-    × SameEntries (entries_in (compacted d edits next contents)) (tabled outputs ++ (tabled rest ++ logged d.logs))
-    × (used_in (compacted d edits next contents) ≡ used_in d)
-
--- The same of outputs that only lie apart, in whatever order they stand.
-pub record IsReplacement (order : Order) (d : Directory) (next : Layout) (inputs rest outputs contents : List TableContent) (level : ℕ) : Type 0 where
-  pub old_tables : AreParted d.tables inputs rest
-  pub replaceable : MayReplace order inputs rest level
-  pub positive : 0 < level
-  pub levels : (output : TableContent) → InTables outputs output → output.placed.level ≡ level
-  pub taken : (entry : Entry) → Among (tabled outputs) entry → Among (tabled inputs) entry
-  pub apart : AreTables order outputs
-  pub new_tables : AreParted contents outputs rest
-  pub tables : map (λ content. content.placed) contents ≡ next.tables.items
-  pub log_number : next.log_number ≡ d.layout.log_number
-  pub previous_log_number : next.previous_log_number ≡ d.layout.previous_log_number
-  pub last_sequence : next.last_sequence ≡ used_in d
-
--- It leaves what a compaction leaves.
-abbrev pub ReplacementLaw : Type 0
-ReplacementLaw = (order : Order) (old new : Files) (d : Directory) (edits : List (List Field)) (next : Layout) (inputs rest outputs contents : List TableContent) (level : ℕ)
-    → IsConsistent order old d → HasManifest order new d.manifest edits next → AgreeBeside old new d
-    → ((output : TableContent) → InTables outputs output → HasTable order new output) → IsReplacement order d next inputs rest outputs contents level
     → IsConsistent order new (compacted d edits next contents)
     × SameEntries (entries_in d) (tabled inputs ++ (tabled rest ++ logged d.logs))
     × SameEntries (entries_in (compacted d edits next contents)) (tabled outputs ++ (tabled rest ++ logged d.logs))
