@@ -2,7 +2,7 @@ use crate::sessions::{DEFAULTS, session};
 use engine::Session;
 use ikey::Bytewise;
 use script::{Fault, drive};
-use std::alloc::{AllocGlobal, Global};
+use std::alloc::{AllocError, AllocGlobal, Global};
 use std::io::{self, ErrorKind, Read, Write};
 use std::process::Abort;
 use std::test::Fail;
@@ -82,6 +82,39 @@ fn assert_answered(
 fn scripts_are_answered(rt: HostRuntime) -> Result<(), Fail> {
     for (script, wanted) in SCRIPTS {
         assert_answered(&rt, script, wanted)?;
+    }
+    Ok(())
+}
+
+// A line of so many letters says no command, and decides where in the buffer of 65,536 bytes the three lines behind it lie.
+fn is_answered_behind_letters(
+    alloc: Global,
+    session: &mut InMemory,
+    length: usize,
+) -> Result<bool, AllocError> {
+    let mut script = vec![in alloc; b'x'; length]?;
+    script.extend_from_slice(b"\nopen new\nput 61 31\nget 61\n")?;
+    let mut out = Vec::new(alloc);
+    let is_run = run(alloc, session, script.as_slice(), &mut out).is_ok();
+    Ok(is_run && out.as_slice() == b"refused 20 BadLine\nok\nok\nvalue 31\n".as_slice())
+}
+
+fn assert_answered_behind_letters(
+    rt: &(impl Abort + AllocGlobal),
+    length: usize,
+) -> Result<(), Fail> {
+    let mut session = in_memory(rt.alloc())?;
+    assert!(rt;
+        is_answered_behind_letters(rt.alloc(), &mut session, length)?,
+        "{length}"
+    );
+    Ok(())
+}
+
+#[test]
+fn lines_across_the_edge_of_the_buffer_are_answered(rt: HostRuntime) -> Result<(), Fail> {
+    for length in 65_500..65_540 {
+        assert_answered_behind_letters(&rt, length)?;
     }
     Ok(())
 }
