@@ -10,12 +10,13 @@ use std::alloc::Global;
 use store::Store;
 
 // After how many writes a piece of work is done, and of how many entries. LevelDB compacts on a thread of its own; here the writer
-// does it. Work removes files of no use first, for which it lists the folder, so that seldom and much is cheaper than often and
-// little; and an entry is merged a few times on its way down, so that six for each one written keep level 0 at its limit. (With much
-// less, compactions take so long that the memory table, which is only sealed between them, grows to several times its size.)
-const WRITES_A_PIECE: u64 = 1000;
+// does it. Work removes files of no use first, for which it lists the folder, and writes and merges put each other's data out of the
+// processor's caches, so that seldom and much is cheaper than often and little: a tenth less than with half as much each 1,000 writes.
+// An entry is merged a few times on its way down, so that six for each one written keep level 0 at its limit. (With much less,
+// compactions take so long that the memory table, which is only sealed between them, grows to several times its size.)
+const WRITES_A_PIECE: u64 = 2000;
 
-const PIECE: u32 = 6000;
+const PIECE: u32 = 12_000;
 
 // Of how many entries a piece is where nobody waits for it.
 const LONG_PIECE: u32 = 1_000_000;
@@ -70,10 +71,11 @@ pub fn put_batches<S: Store>(
 ) -> Result<Tally, DbError> {
     let mut values = Values::new(alloc)?;
     let mut tally = Tally::new();
-    for _ in 0..count / BATCHED {
+    for i in 0..count / BATCHED {
         let batch = filled_batch(alloc, &mut keys, &mut values, &mut tally)?;
         db.write(alloc, &batch, false)?;
-        db.work(alloc, PIECE)?;
+        let last = i.saturating_mul(BATCHED).saturating_add(BATCHED - 1);
+        work_after(alloc, db, last)?;
     }
     Ok(tally)
 }
