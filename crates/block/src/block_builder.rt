@@ -65,6 +65,20 @@ impl<O: EntryOrder> BlockBuilder<O> {
         }
     }
 
+    /// The same, in the memory of a vector, whose bytes are dropped: so one block is built in the memory of another that was
+    /// written.
+    pub fn reusing(alloc: Global, interval: usize, room: Vec<u8>) -> Self
+        requires { 0 < interval }
+        ensures { result ≡ record { interval = interval; pairs = [] } }
+    {
+        let mut out = room;
+        out.clear();
+        BlockBuilder {
+            out,
+            ..BlockBuilder::new(alloc, interval)
+        }
+    }
+
     /// Whether the key is above the last one that was added, so that `add` may be called with it.
     pub fn is_above_last(&self, key: &[u8]) -> bool
         ensures { MatchBool result (ForSome (last_key self.now.pairs) (λ last. O.below last key.now)) (ForSome (last_key self.now.pairs) (λ last. O.below last key.now) → ⊥) }

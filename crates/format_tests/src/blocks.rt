@@ -104,16 +104,32 @@ const TWO_MOVES: Moves = &[
     (Move::Next, None),
 ];
 
-fn builds_two(alloc: Global) -> Result<bool, AllocError> {
-    let mut builder = BlockBuilder::<Plain>::new(alloc, 16);
-    let empty = builder.size();
+// The bytes of the two pairs in a new block.
+fn bytes_of_two(empty: BlockBuilder<Plain>) -> Result<Option<Vec<u8>>, AllocError> {
+    let mut builder = empty;
+    let size_before = builder.size();
     let is_first = add(&mut builder, b"abc", b"1");
     let rises = !builder.is_above_last(b"abc") && !builder.is_above_last(b"abb");
     let is_second = add(&mut builder, b"abd", b"2");
     let size = builder.size();
     let bytes = builder.finish()?;
-    let is_added = is_first && rises && is_second;
-    Ok(is_added && empty == 8 && size == 20 && bytes.as_slice() == TWO.as_slice())
+    if is_first && rises && is_second && size_before == 8 && size == 20 {
+        Ok(Some(bytes))
+    } else {
+        Ok(None)
+    }
+}
+
+// Builds the block, and once more in the memory of the first.
+fn builds_two(alloc: Global) -> Result<bool, AllocError> {
+    let Some(first) = bytes_of_two(BlockBuilder::new(alloc, 16))? else {
+        return Ok(false);
+    };
+    let is_two = first.as_slice() == TWO.as_slice();
+    let Some(second) = bytes_of_two(BlockBuilder::reusing(alloc, 16, first))? else {
+        return Ok(false);
+    };
+    Ok(is_two && second.as_slice() == TWO.as_slice())
 }
 
 #[test]

@@ -43,6 +43,8 @@ pub struct TableBuilder<K: KeyOrder> {
     index: BlockBuilder<Internal<K>>,
     block: BlockBuilder<Internal<K>>,
     filter: FilterBuilder,
+    // the memory of the block before, for the next one
+    spare: Vec<u8>,
     alloc: Global,
 }
 
@@ -93,6 +95,7 @@ impl<K: KeyOrder> TableBuilder<K> {
             index: BlockBuilder::new(alloc, INDEX_INTERVAL),
             block: BlockBuilder::new(alloc, DATA_INTERVAL),
             filter: FilterBuilder::new(alloc),
+            spare: Vec::new(alloc),
             alloc,
         })
     }
@@ -243,10 +246,9 @@ impl<K: KeyOrder> TableBuilder<K> {
         ensures stood { OnOk result ((S.facts store.new).failures ≡ (S.facts store.old).failures) }
         ensures refused { IfErr result (λ e. WriteRefuses e (S.facts store.old) (S.facts store.new) (NeedsLongIndex self.old self.old.block)) }
     {
-        let block = mem::replace(
-            &mut self.block,
-            BlockBuilder::new(self.alloc, DATA_INTERVAL),
-        );
+        let room = mem::replace(&mut self.spare, Vec::new(self.alloc));
+        let next = BlockBuilder::reusing(self.alloc, DATA_INTERVAL, room);
+        let block = mem::replace(&mut self.block, next);
         let handle = Handle {
             offset: self.offset,
             size: block.size() as u64,
@@ -256,6 +258,7 @@ impl<K: KeyOrder> TableBuilder<K> {
         put_trailer(&mut bytes)?;
         append(store, &self.name, &bytes)?;
         self.offset = handle.offset + (handle.size + TRAILER_LENGTH as u64);
+        self.spare = bytes;
         Ok(())
     }
 }

@@ -30,7 +30,7 @@ invariant_of-self g c =
     let key = c.last_key.result.now in
     let behind : key ≡ key_behind [] b.block.pairs = c.last_key.ensures ∙ ap (λ (v : Added). key_behind [] v.pairs) c.replace-block.ensures.value in
     let last : last_key b.block.pairs ≡ Some key = some_last b.block.pairs key (subst (λ (v : Building). IsSome (last_key v.block)) (sym c.self.view_is) c.requires.some) behind in
-    kept_place g.K.KeyOrder.cmp g.met.K.KeyOrder.total b.offset b.index b.block c.push_place.new.index c.replace-block.new.dest key c.self.invariant last c.push_place.ensures.kept c.push_place.ensures.few (c.replace-block.ensures.after ∙ c.new.ensures)
+    kept_place g.K.KeyOrder.cmp g.met.K.KeyOrder.total b.offset b.index b.block c.push_place.new.index c.replace-block.new.dest key c.self.invariant last c.push_place.ensures.kept c.push_place.ensures.few (c.replace-block.ensures.after ∙ c.reusing-next.ensures)
 
 pub invariant_of-self-in_err-bytes : goal.invariant_of-self-in_err-bytes
 invariant_of-self-in_err-bytes g c =
@@ -38,7 +38,7 @@ invariant_of-self-in_err-bytes g c =
     let key = c.last_key.result.now in
     let behind : key ≡ key_behind [] b.block.pairs = c.last_key.ensures ∙ ap (λ (v : Added). key_behind [] v.pairs) c.replace-block.ensures.value in
     let last : last_key b.block.pairs ≡ Some key = some_last b.block.pairs key (subst (λ (v : Building). IsSome (last_key v.block)) (sym c.self.view_is) c.requires.some) behind in
-    kept_place g.K.KeyOrder.cmp g.met.K.KeyOrder.total b.offset b.index b.block c.push_place.new.index c.replace-block.new.dest key c.self.invariant last c.push_place.ensures.kept c.push_place.ensures.few (c.replace-block.ensures.after ∙ c.new.ensures)
+    kept_place g.K.KeyOrder.cmp g.met.K.KeyOrder.total b.offset b.index b.block c.push_place.new.index c.replace-block.new.dest key c.self.invariant last c.push_place.ensures.kept c.push_place.ensures.few (c.replace-block.ensures.after ∙ c.reusing-next.ensures)
 
 pub invariant_of-self-in_err-put_trailer : goal.invariant_of-self-in_err-put_trailer
 invariant_of-self-in_err-put_trailer g c =
@@ -46,7 +46,7 @@ invariant_of-self-in_err-put_trailer g c =
     let key = c.last_key.result.now in
     let behind : key ≡ key_behind [] b.block.pairs = c.last_key.ensures ∙ ap (λ (v : Added). key_behind [] v.pairs) c.replace-block.ensures.value in
     let last : last_key b.block.pairs ≡ Some key = some_last b.block.pairs key (subst (λ (v : Building). IsSome (last_key v.block)) (sym c.self.view_is) c.requires.some) behind in
-    kept_place g.K.KeyOrder.cmp g.met.K.KeyOrder.total b.offset b.index b.block c.push_place.new.index c.replace-block.new.dest key c.self.invariant last c.push_place.ensures.kept c.push_place.ensures.few (c.replace-block.ensures.after ∙ c.new.ensures)
+    kept_place g.K.KeyOrder.cmp g.met.K.KeyOrder.total b.offset b.index b.block c.push_place.new.index c.replace-block.new.dest key c.self.invariant last c.push_place.ensures.kept c.push_place.ensures.few (c.replace-block.ensures.after ∙ c.reusing-next.ensures)
 
 pub invariant_of-self-in_err-append : goal.invariant_of-self-in_err-append
 invariant_of-self-in_err-append g c =
@@ -54,7 +54,7 @@ invariant_of-self-in_err-append g c =
     let key = c.last_key.result.now in
     let behind : key ≡ key_behind [] b.block.pairs = c.last_key.ensures ∙ ap (λ (v : Added). key_behind [] v.pairs) c.replace-block.ensures.value in
     let last : last_key b.block.pairs ≡ Some key = some_last b.block.pairs key (subst (λ (v : Building). IsSome (last_key v.block)) (sym c.self.view_is) c.requires.some) behind in
-    kept_place g.K.KeyOrder.cmp g.met.K.KeyOrder.total b.offset b.index b.block c.push_place.new.index c.replace-block.new.dest key c.self.invariant last c.push_place.ensures.kept c.push_place.ensures.few (c.replace-block.ensures.after ∙ c.new.ensures)
+    kept_place g.K.KeyOrder.cmp g.met.K.KeyOrder.total b.offset b.index b.block c.push_place.new.index c.replace-block.new.dest key c.self.invariant last c.push_place.ensures.kept c.push_place.ensures.few (c.replace-block.ensures.after ∙ c.reusing-next.ensures)
 
 pub invariant_of-self-2 : goal.invariant_of-self-2
 invariant_of-self-2 g c =
@@ -64,7 +64,7 @@ invariant_of-self-2 g c =
     let last : last_key b.block.pairs ≡ Some key = some_last b.block.pairs key (subst (λ (v : Building). IsSome (last_key v.block)) (sym c.self.view_is) c.requires.some) behind in
     let added = c.in_ok-push_place.ensures.added in
     let place : Pair = record { key = key; value = added.0 } in
-    let kept = kept_place g.K.KeyOrder.cmp g.met.K.KeyOrder.total b.offset b.index b.block c.push_place.new.index c.replace-block.new.dest key c.self.invariant last c.push_place.ensures.kept c.push_place.ensures.few (c.replace-block.ensures.after ∙ c.new.ensures) in
+    let kept = kept_place g.K.KeyOrder.cmp g.met.K.KeyOrder.total b.offset b.index b.block c.push_place.new.index c.replace-block.new.dest key c.self.invariant last c.push_place.ensures.kept c.push_place.ensures.few (c.replace-block.ensures.after ∙ c.reusing-next.ensures) in
     kept_moved g.K.KeyOrder.cmp b.offset c.size.result b.index b.block c.push_place.new.index c.replace-block.new.dest place c.self.invariant kept added.2 c.size.ensures.range
 
 pub returns-in_err-push_place-clause-refused : goal.returns-in_err-push_place-clause-refused
@@ -105,4 +105,4 @@ returns-clause-ended g c =
     } in
     subst (λ (v : Building). IsEnded g.K.KeyOrder.cmp v next old new) c.self.view_is
     (block_ended g.K.KeyOrder.cmp (string_bytes b.name) b.block_bytes b.created b.offset b.filter b.index b.block c.push_place.new.index c.replace-block.new.dest key bytes c.size.result old new
-    c.self.invariant.index_interval c.self.invariant.block_interval (c.replace-block.ensures.after ∙ c.new.ensures) long same last is c.in_ok-push_place.ensures.added appended)
+    c.self.invariant.index_interval c.self.invariant.block_interval (c.replace-block.ensures.after ∙ c.reusing-next.ensures) long same last is c.in_ok-push_place.ensures.added appended)
