@@ -62,6 +62,11 @@ class Keys {
 
   Slice NextMissing() {
     NextKey();
+    return Slice(text_, kKeyBytes - 1);
+  }
+
+  Slice NextNear() {
+    NextKey();
     text_[kKeyBytes - 1] = '.';
     return Slice(text_, kKeyBytes);
   }
@@ -181,11 +186,11 @@ Status DeleteEach(DB* db, Keys keys, uint64_t count, Tally* tally) {
   return Status::OK();
 }
 
-Status GetEach(DB* db, Keys keys, bool missing, uint64_t count, Tally* tally) {
+Status GetEach(DB* db, Keys keys, Slice (Keys::*next)(), uint64_t count, Tally* tally) {
   const leveldb::ReadOptions reading = Reading();
   std::string value;
   for (uint64_t i = 0; i < count; i++) {
-    const Slice key = missing ? keys.NextMissing() : keys.NextKey();
+    const Slice key = (keys.*next)();
     const Status status = db->Get(reading, key, &value);
     if (status.ok()) {
       tally->Count(key, value);
@@ -263,11 +268,13 @@ const std::map<std::string, Workload>& Workloads() {
        }},
       {"fillbatch", [](DB* db, uint64_t n, Tally* tally) { return PutBatches(db, Keys::Rising(), n, tally); }},
       {"readrandom",
-       [](DB* db, uint64_t n, Tally* tally) { return GetEach(db, Keys::Drawn(kRead, n), false, n, tally); }},
+       [](DB* db, uint64_t n, Tally* tally) { return GetEach(db, Keys::Drawn(kRead, n), &Keys::NextKey, n, tally); }},
       {"readmissing",
-       [](DB* db, uint64_t n, Tally* tally) { return GetEach(db, Keys::Drawn(kRead, n), true, n, tally); }},
+       [](DB* db, uint64_t n, Tally* tally) { return GetEach(db, Keys::Drawn(kRead, n), &Keys::NextMissing, n, tally); }},
+      {"readnear",
+       [](DB* db, uint64_t n, Tally* tally) { return GetEach(db, Keys::Drawn(kRead, n), &Keys::NextNear, n, tally); }},
       {"readhot",
-       [](DB* db, uint64_t n, Tally* tally) { return GetEach(db, Keys::Drawn(kRead, n / 100), false, n, tally); }},
+       [](DB* db, uint64_t n, Tally* tally) { return GetEach(db, Keys::Drawn(kRead, n / 100), &Keys::NextKey, n, tally); }},
       {"readseq", [](DB* db, uint64_t, Tally* tally) { return Walk(db, false, tally); }},
       {"readreverse", [](DB* db, uint64_t, Tally* tally) { return Walk(db, true, tally); }},
       {"seekrandom",

@@ -72,8 +72,16 @@ impl Keys {
         self.text.as_slice()
     }
 
-    /// The next key with its last digit replaced, so that it lies among the keys and is none of them.
+    /// The next key without its last digit, so that it lies among the keys and is none of them (LevelDB's
+    /// benchmarks/db_bench.cc, `ReadMissing`).
     pub fn next_missing(&mut self) -> &[u8] {
+        let _ = self.next_key();
+        self.text.get(..KEY_BYTES - 1).unwrap_or(&[])
+    }
+
+    /// The next key with its last digit replaced, so that it lies among the keys and is none of them: the filter's hash tells
+    /// such keys badly apart.
+    pub fn next_near(&mut self) -> &[u8] {
         let _ = self.next_key();
         self.text[KEY_BYTES - 1] = b'.';
         self.text.as_slice()

@@ -22,7 +22,7 @@ pub fn get_each<S: Store>(
     Ok(tally)
 }
 
-/// Gets the values of keys that aren't there.
+/// Gets the values of keys without their last digit, which aren't there.
 pub fn get_missing<S: Store>(
     alloc: Global,
     db: &mut Db<S, Bytewise>,
@@ -32,6 +32,20 @@ pub fn get_missing<S: Store>(
     let mut tally = Tally::new();
     for _ in 0..count {
         get(alloc, db, keys.next_missing(), &mut tally)?;
+    }
+    Ok(tally)
+}
+
+/// Gets the values of keys with another last byte, which aren't there.
+pub fn get_near<S: Store>(
+    alloc: Global,
+    db: &mut Db<S, Bytewise>,
+    mut keys: Keys,
+    count: u64,
+) -> Result<Tally, DbError> {
+    let mut tally = Tally::new();
+    for _ in 0..count {
+        get(alloc, db, keys.next_near(), &mut tally)?;
     }
     Ok(tally)
 }

@@ -1,7 +1,7 @@
 // One workload over the database of a store.
 
 use crate::entries::Keys;
-use crate::gets::{get_each, get_missing};
+use crate::gets::{get_each, get_missing, get_near};
 use crate::tally::Tally;
 use crate::walks::{seek_each, walk_backwards, walk_forwards};
 use crate::workload::Workload;
@@ -60,6 +60,7 @@ fn run_in<S: Store>(
         Workload::FillBatch => put_batches(alloc, db, Keys::rising(), number),
         Workload::ReadRandom => get_each(alloc, db, Keys::drawn(READ, number), number),
         Workload::ReadMissing => get_missing(alloc, db, Keys::drawn(READ, number), number),
+        Workload::ReadNear => get_near(alloc, db, Keys::drawn(READ, number), number),
         Workload::ReadHot => get_each(alloc, db, Keys::drawn(READ, number / 100), number),
         Workload::ReadSeq => walk_forwards(alloc, db),
         Workload::ReadReverse => walk_backwards(alloc, db),

@@ -14,8 +14,10 @@ pub enum Workload {
     FillBatch,
     /// N gets of drawn keys.
     ReadRandom,
-    /// N gets of keys that aren't there.
+    /// N gets of drawn keys without their last digit, which aren't there.
     ReadMissing,
+    /// N gets of drawn keys with another last byte, which aren't there.
+    ReadNear,
     /// N gets of drawn keys among the lowest hundredth.
     ReadHot,
     /// All entries forwards.
@@ -35,7 +37,7 @@ pub enum Workload {
 }
 
 /// Each workload with its name, in an order in which they can run on one folder.
-pub const WORKLOADS: [(&str, Workload); 15] = [
+pub const WORKLOADS: [(&str, Workload); 16] = [
     ("fillseq", Workload::FillSeq),
     ("fillbatch", Workload::FillBatch),
     ("fillsync", Workload::FillSync),
@@ -46,6 +48,7 @@ pub const WORKLOADS: [(&str, Workload); 15] = [
     ("settle", Workload::Settle),
     ("readrandom", Workload::ReadRandom),
     ("readmissing", Workload::ReadMissing),
+    ("readnear", Workload::ReadNear),
     ("readhot", Workload::ReadHot),
     ("readseq", Workload::ReadSeq),
     ("readreverse", Workload::ReadReverse),
