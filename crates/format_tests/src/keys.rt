@@ -88,11 +88,34 @@ fn user_keys_rise_and_sequences_fall(rt: HostRuntime) {
     }
 }
 
-const RISING: [&[u8]; 8] = [
+// Those of seven bytes and more are each the front of the next, and then each once more with another last byte.
+const RISING: [&[u8]; 30] = [
     b"",
     b"\0",
     b"\0\0",
     b"\x01",
+    b"abcdefg",
+    b"abcdefgh",
+    b"abcdefghi",
+    b"abcdefghijklmno",
+    b"abcdefghijklmnop",
+    b"abcdefghijklmnopq",
+    b"abcdefghijklmnopqrstuvw",
+    b"abcdefghijklmnopqrstuvwx",
+    b"abcdefghijklmnopqrstuvwxy",
+    b"abcdefghijklmnopqrstuvwxyzabcdefg",
+    b"abcdefghijklmnopqrstuvwxyzabcdefghijklmn",
+    b"abcdefghijklmnopqrstuvwxyzabcdefghijklm\xff",
+    b"abcdefghijklmnopqrstuvwxyzabcdef\xff",
+    b"abcdefghijklmnopqrstuvwx\xff",
+    b"abcdefghijklmnopqrstuvw\xff",
+    b"abcdefghijklmnopqrstuv\xff",
+    b"abcdefghijklmnop\xff",
+    b"abcdefghijklmno\xff",
+    b"abcdefghijklmn\xff",
+    b"abcdefgh\xff",
+    b"abcdefg\xff",
+    b"abcdef\xff",
     b"\x7f\xff",
     b"\x80",
     b"\xff",

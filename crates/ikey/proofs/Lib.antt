@@ -1,3 +1,4 @@
 pub mod Behind
+pub mod Fronts
 pub mod Words
 pub mod SearchedSources

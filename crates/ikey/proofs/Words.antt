@@ -22,7 +22,7 @@ rises (suc k) m n (x ∷ xs) (y ∷ ys) p q h lt =
 pub less-is : (x y : ℕ) → x < y → nat_cmp x y ≡ Less
 less-is x y lt = ap (λ (b : Bool). cond b Less (cond (x == y) Equal Greater)) (lt-ltb x y lt)
 
-greater-is : (x y : ℕ) → y < x → nat_cmp x y ≡ Greater
+pub greater-is : (x y : ℕ) → y < x → nat_cmp x y ≡ Greater
 greater-is x y lt = grind (arith, lt)
 
 pub tied-is : (x y : ℕ) → x ≡ y → nat_cmp x y ≡ Equal
@@ -63,18 +63,17 @@ word-greater (suc k) n (x ∷ xs) (y ∷ ys) p q h j lt =
     by (inr (inl l)) rest = absurd (omega (arith, lt, rises k (n * 256 + x) (n * 256 + y) xs ys (omega (arith, p)) (omega (arith, q)) (λ i. h (suc i)) (omega (arith, l))))
     by (inr (inr g)) rest = ap (λ (o : Ordering). ordering_then o (slice_cmp nat_cmp xs ys)) (greater-is x y g)
 
--- behind equal words the rest decides
-pub word-same : (k n : ℕ) (xs ys : List ℕ) → k ≤ length xs → k ≤ length ys → AreBytes xs → AreBytes ys
-    → big_endian n (take k xs) ≡ big_endian n (take k ys) → slice_cmp nat_cmp (drop k xs) (drop k ys) ≡ slice_cmp nat_cmp xs ys
-word-same zero n xs ys p q h j e = refl
-word-same (suc k) n [] ys p q h j e = absurd (omega (arith, p))
-word-same (suc k) n (x ∷ xs) [] p q h j e = absurd (omega (arith, q))
-word-same (suc k) n (x ∷ xs) (y ∷ ys) p q h j e =
-    by (cases_order x y) (λ s. word-same k (n * 256 + x) xs ys (omega (arith, p)) (omega (arith, q)) (λ i. h (suc i)) (λ i. j (suc i))
+-- equal words are equal bytes
+pub word-agree : (k n : ℕ) (xs ys : List ℕ) → k ≤ length xs → k ≤ length ys → AreBytes xs → AreBytes ys
+    → big_endian n (take k xs) ≡ big_endian n (take k ys) → take k xs ≡ take k ys
+word-agree zero n xs ys p q h j e = refl
+word-agree (suc k) n [] ys p q h j e = absurd (omega (arith, p))
+word-agree (suc k) n (x ∷ xs) [] p q h j e = absurd (omega (arith, q))
+word-agree (suc k) n (x ∷ xs) (y ∷ ys) p q h j e =
+    by (cases_order x y) (λ s. word-agree k (n * 256 + x) xs ys (omega (arith, p)) (omega (arith, q)) (λ i. h (suc i)) (λ i. j (suc i))
     (e ∙ ap (λ (v : ℕ). big_endian (n * 256 + v) (take k ys)) (sym s)))
   where
-    by : (x ≡ y) ⊎ ((x < y) ⊎ (y < x)) → (x ≡ y → slice_cmp nat_cmp (drop k xs) (drop k ys) ≡ slice_cmp nat_cmp xs ys)
-        → slice_cmp nat_cmp (drop k xs) (drop k ys) ≡ slice_cmp nat_cmp (x ∷ xs) (y ∷ ys)
-    by (inl s) rest = rest s ∙ ap (λ (o : Ordering). ordering_then o (slice_cmp nat_cmp xs ys)) (sym (tied-is x y s))
+    by : (x ≡ y) ⊎ ((x < y) ⊎ (y < x)) → (x ≡ y → take k xs ≡ take k ys) → take (suc k) (x ∷ xs) ≡ take (suc k) (y ∷ ys)
+    by (inl s) rest = let more = rest s in λ i. s i ∷ more i
     by (inr (inl l)) rest = absurd (omega (arith, e, rises k (n * 256 + x) (n * 256 + y) xs ys (omega (arith, p)) (omega (arith, q)) (λ i. h (suc i)) (omega (arith, l))))
     by (inr (inr g)) rest = absurd (omega (arith, e, rises k (n * 256 + y) (n * 256 + x) ys xs (omega (arith, q)) (omega (arith, p)) (λ i. j (suc i)) (omega (arith, g))))

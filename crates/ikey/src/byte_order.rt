@@ -1,6 +1,6 @@
 //! Bytes compared a word at a time.
 
-ghost use Rattle.std.specs.Prelude.{◌≡◌, ◌<◌, ◌≤◌, ◌++◌, List, ℕ, length, take, drop, get_or, IfSome, MatchBool, ⊤};
+ghost use Rattle.std.specs.Prelude.{◌≡◌, ◌+◌, ◌<◌, ◌≤◌, ◌++◌, ℕ, min, length, take, drop, get_or, MatchBool, ⊤};
 ghost use Rattle.std.specs.Ordering.{nat_cmp};
 ghost use Rattle.std.specs.declared.cmp.Ordering.TheVariants.{Less};
 ghost use Rattle.std.specs.Cmp.Lexicographic.{slice_cmp};
@@ -9,70 +9,112 @@ ghost use Rattle.ikey.specs.Words.{big_endian};
 use std::cmp::Ordering;
 
 /// The order of the first byte that differs, where a proper prefix comes first. Eight bytes are compared as one number,
-/// the first of which weighs most.
+/// the first of which weighs most. So are the last eight that both have, though some of them were compared before: these
+/// are equal, and an equal front decides nothing.
 #[inline(always)]
 pub fn compare_bytes(a: &[u8], b: &[u8]) -> Ordering
     ensures { result ≡ slice_cmp nat_cmp a.now b.now }
 {
-    let Some((x, a_rest)) = first_word(a) else {
-        return a.cmp(b);
-    };
-    let Some((y, b_rest)) = first_word(b) else {
-        return a.cmp(b);
-    };
+    if a.len() < 8 || b.len() < 8 {
+        return compare_short(a, b);
+    }
+    let x = word_at(a, 0);
+    let y = word_at(b, 0);
     if x < y {
         return Ordering::Less;
     }
     if y < x {
         return Ordering::Greater;
     }
-    compare_second(a_rest, b_rest)
+    compare_second(a, b)
 }
 
-// The same behind the first word. Mostly one of two words decides, and a loop over both costs more than two tests.
+// The same for less than a word, apart so that callers in hot loops stay small.
+#[inline(never)]
+fn compare_short(a: &[u8], b: &[u8]) -> Ordering
+    ensures { result ≡ slice_cmp nat_cmp a.now b.now }
+{
+    a.cmp(b)
+}
+
+// The same where the first words are equal. Up to sixteen bytes the second word is the last one, so that no loop is
+// needed; and of longer keys mostly one of two words decides.
 #[inline(always)]
 fn compare_second(a: &[u8], b: &[u8]) -> Ordering
+    requires a_has_word { 8 ≤ length a.now }
+    requires b_has_word { 8 ≤ length b.now }
+    requires same { take 8 a.now ≡ take 8 b.now }
     ensures { result ≡ slice_cmp nat_cmp a.now b.now }
 {
-    let Some((x, a_rest)) = first_word(a) else {
-        return a.cmp(b);
-    };
-    let Some((y, b_rest)) = first_word(b) else {
-        return a.cmp(b);
-    };
+    let last = a.len().min(b.len()) - 8;
+    let at = last.min(8);
+    let x = word_at(a, at);
+    let y = word_at(b, at);
     if x < y {
         return Ordering::Less;
     }
     if y < x {
         return Ordering::Greater;
     }
-    compare_rest(a_rest, b_rest)
+    if last <= 8 {
+        return a.len().cmp(&b.len());
+    }
+    compare_rest(a, b)
 }
 
-// The same behind the second word.
+// The same where the first two words are equal, and more follows.
 #[inline(never)]
 fn compare_rest(a: &[u8], b: &[u8]) -> Ordering
+    requires a_has_words { 16 ≤ length a.now }
+    requires b_has_words { 16 ≤ length b.now }
+    requires same { take 16 a.now ≡ take 16 b.now }
     ensures { result ≡ slice_cmp nat_cmp a.now b.now }
 {
-    let mut left = a;
-    let mut right = b;
-    for _ in 0..a.len() {
-        let Some((x, left_rest)) = first_word(left) else {
-            return left.cmp(right);
-        };
-        let Some((y, right_rest)) = first_word(right) else {
-            return left.cmp(right);
-        };
+    let last = a.len().min(b.len()) - 8;
+    let mut at = 16;
+    while at < last {
+        let x = word_at(a, at);
+        let y = word_at(b, at);
         if x < y {
             return Ordering::Less;
         }
         if y < x {
             return Ordering::Greater;
         }
-        left = left_rest;
-        right = right_rest;
+        at += 8;
     }
-    left.cmp(right)
+    compare_last(a, b, last)
+}
+
+// The same where all in front of the shorter one's last word is equal.
+#[inline(always)]
+fn compare_last(a: &[u8], b: &[u8], last: usize) -> Ordering
+    requires is_last { last + 8 ≡ min (length a.now) (length b.now) }
+    requires same { take last a.now ≡ take last b.now }
+    ensures { result ≡ slice_cmp nat_cmp a.now b.now }
+{
+    let x = word_at(a, last);
+    let y = word_at(b, last);
+    if x < y {
+        return Ordering::Less;
+    }
+    if y < x {
+        return Ordering::Greater;
+    }
+    a.len().cmp(&b.len())
+}
+
+// The number that eight bytes spell. The slice of just eight leaves no test of its length for run time.
+#[inline(always)]
+fn word_at(bytes: &[u8], at: usize) -> u64
+    requires { at + 8 ≤ length bytes.now }
+    ensures small { (i : ℕ) → get_or bytes.now i 0 < 256 }
+    ensures word { result ≡ big_endian 0 (take 8 (drop at bytes.now)) }
+{
+    let Some((word, _)) = bytes[at..at + 8].split_first_chunk::<8>() else {
+        unreachable!()
+    };
+    u64::from_be_bytes(*word)
 }
 
 /// Whether the byte of `a` at `shared` is smaller than the first of `rest`: then `a` comes before its first `shared`
@@ -88,14 +130,4 @@ pub fn is_less_behind(a: &[u8], shared: usize, rest: &[u8]) -> bool
         return false;
     };
     *x < *y
-}
-
-// The number that the first eight bytes spell, and the bytes behind them.
-#[inline(always)]
-fn first_word(bytes: &[u8]) -> Option<(u64, &[u8])>
-    ensures small { (i : ℕ) → get_or bytes.now i 0 < 256 }
-    ensures word { IfSome result (λ (word : _). (8 ≤ length bytes.now) × (word.0 ≡ big_endian 0 (take 8 bytes.now)) × (word.1.now ≡ drop 8 bytes.now)) }
-{
-    let (front, rest) = bytes.split_first_chunk::<8>()?;
-    Some((u64::from_be_bytes(*front), rest))
 }

@@ -1,24 +1,22 @@
-use Rattle.std.proofs.Common.{◌∙◌, sym, refl, arith, subst}
-use Rattle.ikey.proofs.Words.{AreBytes, bytes-drop, word-less, word-greater, word-same}
+use Rattle.std.proofs.Common.{◌-◌, sym, arith}
+use Rattle.ikey.proofs.Fronts.{agree-less, less-at, greater-at, same-at}
 use Rattle.ikey.proofs.byte_order.compare_rest.Goals as goal
-
-pub loop-init : goal.loop-init
-loop-init c = (λ i. omega (arith, c.type_inv.a i), λ i. omega (arith, c.type_inv.b i), refl)
 
 pub returns-then-x-y : goal.returns-then-x-y
 returns-then-x-y c =
-    let x = c.in-Some.ensures.word in let y = c.in-Some-first_word.ensures.word in
-    sym (word-less 8 0 c.loop.left.now c.loop.right.now x.0 y.0 c.loop.invariant.0 c.loop.invariant.1 (omega (arith, x.1, y.1, c.if-x-y.true))) ∙ c.loop.invariant.2
+    sym (less-at c.loop-at.at c.args.a.now c.args.b.now (omega (arith, c.requires.a_has_words, c.requires.b_has_words, c.min-last.ensures, c.loop-at-test.true)) (omega (arith, c.requires.a_has_words, c.requires.b_has_words, c.min-last.ensures, c.loop-at-test.true)) c.word_at-x.ensures.small c.word_at-y.ensures.small c.loop-at.invariant
+    (omega (arith, c.word_at-x.ensures.word, c.word_at-y.ensures.word, c.if-x-y.true)))
 
 pub returns-then-y-x : goal.returns-then-y-x
 returns-then-y-x c =
-    let x = c.in-Some.ensures.word in let y = c.in-Some-first_word.ensures.word in
-    sym (word-greater 8 0 c.loop.left.now c.loop.right.now x.0 y.0 c.loop.invariant.0 c.loop.invariant.1 (omega (arith, x.1, y.1, c.if-y-x.true))) ∙ c.loop.invariant.2
+    sym (greater-at c.loop-at.at c.args.a.now c.args.b.now (omega (arith, c.requires.a_has_words, c.requires.b_has_words, c.min-last.ensures, c.loop-at-test.true)) (omega (arith, c.requires.a_has_words, c.requires.b_has_words, c.min-last.ensures, c.loop-at-test.true)) c.word_at-x.ensures.small c.word_at-y.ensures.small c.loop-at.invariant
+    (omega (arith, c.word_at-x.ensures.word, c.word_at-y.ensures.word, c.if-y-x.true)))
 
-pub loop-preserved : goal.loop-preserved
-loop-preserved c =
-    let x = c.in-Some.ensures.word in let y = c.in-Some-first_word.ensures.word in (
-      subst AreBytes (sym x.2) (bytes-drop 8 c.loop.left.now c.loop.invariant.0),
-      subst AreBytes (sym y.2) (bytes-drop 8 c.loop.right.now c.loop.invariant.1),
-      rw (x.2, y.2) (word-same 8 0 c.loop.left.now c.loop.right.now x.0 y.0 c.loop.invariant.0 c.loop.invariant.1 (omega (arith, x.1, y.1, c.if-x-y.false, c.if-y-x.false))) ∙ c.loop.invariant.2,
-    )
+pub loop-at-preserved : goal.loop-at-preserved
+loop-at-preserved c =
+    same-at c.loop-at.at c.args.a.now c.args.b.now (omega (arith, c.requires.a_has_words, c.requires.b_has_words, c.min-last.ensures, c.loop-at-test.true)) (omega (arith, c.requires.a_has_words, c.requires.b_has_words, c.min-last.ensures, c.loop-at-test.true)) c.word_at-x.ensures.small c.word_at-y.ensures.small c.loop-at.invariant
+    (omega (arith, c.word_at-x.ensures.word, c.word_at-y.ensures.word, c.if-x-y.false, c.if-y-x.false))
+
+pub compare_last-requires-clause-same : goal.compare_last-requires-clause-same
+compare_last-requires-clause-same c =
+    agree-less (c.min-last.result - 8) c.loop-at.at c.args.a.now c.args.b.now (omega (arith, c.loop-at-test.false)) c.loop-at.invariant
