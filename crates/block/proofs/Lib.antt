@@ -10,3 +10,4 @@ pub mod Rests
 pub mod Seeks
 pub mod Trailers
 pub mod Walks
+pub mod Words

@@ -1,7 +1,8 @@
 //! One entry of a block (LevelDB's table/block_builder.cc).
 
-ghost use Rattle.std.specs.Prelude.{◌≡◌, ◌<◌, ◌≤◌, ◌-◌, ◌^◌, ◌++◌, List, ℕ, nat_eq, length, take, drop, OnOk, IfNone, IfSome};
+ghost use Rattle.std.specs.Prelude.{◌≡◌, ◌<◌, ◌≤◌, ◌+◌, ◌-◌, ◌^◌, ◌++◌, List, ℕ, nat_eq, length, take, drop, OnOk, IfNone, IfSome};
 ghost use Rattle.std.specs.List.{common_prefix_len};
+ghost use Rattle.coding.specs.Fixed.{fixed64};
 ghost use Rattle.coding.specs.Varint.{IsVarint};
 ghost use Rattle.block.specs.Block.{IsEntry};
 
@@ -98,7 +99,52 @@ pub fn shared_length(a: &[u8], b: &[u8]) -> usize
     ensures in_a { result ≤ length a.now }
     ensures in_b { result ≤ length b.now }
 {
+    // Eight bytes are compared as one number.
     let mut shared = 0;
+    while let Some((x, y)) = words_at(a, b, shared) {
+        if x != y {
+            return shared + shared_in_words(x, y);
+        }
+        shared += 8;
+    }
+    shared_from(a, b, shared)
+}
+
+// The numbers that the eight bytes from `start` on spell in each, where both have so many.
+#[inline(always)]
+fn words_at(a: &[u8], b: &[u8], start: usize) -> Option<(u64, u64)>
+    ensures first { IfSome result (λ words. (start + 8 ≤ length a.now) × (take 8 (drop start a.now) ≡ fixed64 words.0)) }
+    ensures second { IfSome result (λ words. (start + 8 ≤ length b.now) × (take 8 (drop start b.now) ≡ fixed64 words.1)) }
+{
+    Some((word_at(a, start)?, word_at(b, start)?))
+}
+
+// The number that the eight bytes from `start` on spell, the first of which weighs least.
+#[inline(always)]
+fn word_at(bytes: &[u8], start: usize) -> Option<u64>
+    ensures word { IfSome result (λ word. (start + 8 ≤ length bytes.now) × (take 8 (drop start bytes.now) ≡ fixed64 word)) }
+{
+    let (front, _) = bytes.get(start..)?.split_first_chunk::<8>()?;
+    Some(u64::from_le_bytes(*front))
+}
+
+// How many bytes are the same before the first that differs: it has the lowest bit that differs.
+#[inline(always)]
+fn shared_in_words(x: u64, y: u64) -> usize
+    requires differ { x ≡ y → ⊥ }
+    ensures small { result < 8 }
+    ensures value { result ≡ common_prefix_len nat_eq (fixed64 x) (fixed64 y) }
+{
+    ((x ^ y).trailing_zeros() / 8) as usize
+}
+
+// How many bytes are the same where the first `start` are: byte by byte.
+fn shared_from(a: &[u8], b: &[u8], start: usize) -> usize
+    requires in_a { start ≤ length a.now }
+    requires in_b { start ≤ length b.now }
+    ensures value { result ≡ start + common_prefix_len nat_eq (drop start a.now) (drop start b.now) }
+{
+    let mut shared = start;
     while shared < a.len() && shared < b.len() && a[shared] == b[shared] {
         shared += 1;
     }

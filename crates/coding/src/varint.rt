@@ -8,6 +8,7 @@ use std::alloc::AllocError;
 
 /// Appends a number of at most 32 bits, in one to five bytes. Refused only where there is no memory
 /// for them.
+#[inline(always)]
 pub fn put_varint32(out: &mut Vec<u8>, value: u32) -> Result<(), AllocError>
     ensures ok { OnOk result (AppendsVarint out.old.items out.new.items value) }
     ensures err { OnErr result (out.new.items ≡ out.old.items) }
@@ -17,7 +18,21 @@ pub fn put_varint32(out: &mut Vec<u8>, value: u32) -> Result<(), AllocError>
 
 /// Appends a number of at most 64 bits, in one to ten bytes. Refused only where there is no memory
 /// for them.
+#[inline(always)]
 pub fn put_varint64(out: &mut Vec<u8>, value: u64) -> Result<(), AllocError>
+    ensures ok { OnOk result (AppendsVarint out.old.items out.new.items value) }
+    ensures err { OnErr result (out.new.items ≡ out.old.items) }
+{
+    if value >= 128 {
+        return put_long_varint(out, value);
+    }
+    // Most numbers are this short.
+    out.push(value as u8)?;
+    Ok(())
+}
+
+// The same, of however many bytes.
+fn put_long_varint(out: &mut Vec<u8>, value: u64) -> Result<(), AllocError>
     ensures ok { OnOk result (AppendsVarint out.old.items out.new.items value) }
     ensures err { OnErr result (out.new.items ≡ out.old.items) }
 {

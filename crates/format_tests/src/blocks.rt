@@ -142,6 +142,42 @@ fn two_entries_share_their_front(rt: HostRuntime) -> Result<(), Fail> {
     Ok(())
 }
 
+type Front = (&'static [u8], &'static [u8], &'static [u8]);
+
+// Two keys, and the block of both without values. They share 7, 8, 9, 15, 16 and 17 bytes, 3 and 15 before others that
+// are the same, and the whole of the first.
+#[rattlefmt::skip]
+const FRONTS: [Front; 10] = [
+    (b"abcdefgx", b"abcdefgy", b"\0\x08\0abcdefgx\x07\x01\0y\0\0\0\0\x01\0\0\0"),
+    (b"abcdefghx", b"abcdefghy", b"\0\x09\0abcdefghx\x08\x01\0y\0\0\0\0\x01\0\0\0"),
+    (b"abcdefghix", b"abcdefghiy", b"\0\x0a\0abcdefghix\x09\x01\0y\0\0\0\0\x01\0\0\0"),
+    (b"abcdefghijklmnox", b"abcdefghijklmnoy", b"\0\x10\0abcdefghijklmnox\x0f\x01\0y\0\0\0\0\x01\0\0\0"),
+    (b"abcdefghijklmnopx", b"abcdefghijklmnopy", b"\0\x11\0abcdefghijklmnopx\x10\x01\0y\0\0\0\0\x01\0\0\0"),
+    (b"abcdefghijklmnopqx", b"abcdefghijklmnopqy", b"\0\x12\0abcdefghijklmnopqx\x11\x01\0y\0\0\0\0\x01\0\0\0"),
+    (b"abcXefghijklmnop", b"abcYefghijklmnop", b"\0\x10\0abcXefghijklmnop\x03\x0d\0Yefghijklmnop\0\0\0\0\x01\0\0\0"),
+    (b"abcdefghijklmnoXqrstuvwx", b"abcdefghijklmnoYqrstuvwx", b"\0\x18\0abcdefghijklmnoXqrstuvwx\x0f\x09\0Yqrstuvwx\0\0\0\0\x01\0\0\0"),
+    (b"abcdefgh", b"abcdefghi", b"\0\x08\0abcdefgh\x08\x01\0i\0\0\0\0\x01\0\0\0"),
+    (b"abcdefghijklmnop", b"abcdefghijklmnopq", b"\0\x10\0abcdefghijklmnop\x10\x01\0q\0\0\0\0\x01\0\0\0"),
+];
+
+fn has_bytes(alloc: Global, first: &[u8], second: &[u8], block: &[u8]) -> Result<bool, AllocError> {
+    let mut builder = BlockBuilder::<Plain>::new(alloc, 16);
+    let is_added = add(&mut builder, first, b"") && add(&mut builder, second, b"");
+    let bytes = builder.finish()?;
+    Ok(is_added && bytes.as_slice() == block)
+}
+
+#[test]
+fn fronts_of_any_length_are_shared(rt: HostRuntime) -> Result<(), Fail> {
+    for (first, second, block) in FRONTS {
+        assert!(rt; has_bytes(rt.alloc(), first, second, block)?, "{second:?}");
+        let mut cursor = opened::<Plain>(rt.alloc(), block)?;
+        cursor.last()?;
+        assert!(rt; is_on(&cursor, second, b""), "{second:?}");
+    }
+    Ok(())
+}
+
 // The block of the keys 0 to 16 without values.
 const SEVENTEEN: &[u8] =
     b"\0\x01\0\x00\0\x01\0\x01\0\x01\0\x02\0\x01\0\x03\0\x01\0\x04\0\x01\0\x05\0\x01\0\x06\0\x01\0\x07\0\x01\0\x08\0\x01\0\x09\0\x01\0\x0a\0\x01\0\x0b\0\x01\0\x0c\0\x01\0\x0d\0\x01\0\x0e\0\x01\0\x0f\0\x01\0\x10\0\0\0\0\x40\0\0\0\x02\0\0\0";
