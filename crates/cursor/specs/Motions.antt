@@ -80,6 +80,11 @@ IsBest cmp end all to n (Some best) =
 abbrev pub StandAt : {C S : Type 0} → (C → S → Listed → Type 0) → List (Child C) → S → List (List InternalEntry) → (List InternalEntry → Option ℕ) → Type 0
 StandAt lists children source all to = Each children all (λ i child list. lists child.cursor source (listed list (to list)))
 
+-- this is the key of the entry on which the child of this index stands
+abbrev pub HasKey : {C S : Type 0} → (C → S → Listed → Type 0) → List (Child C) → S → ℕ → List ℕ → Type 0
+HasKey {C} lists children source index key =
+    (child : Child C) (at : Listed) (n : ℕ) (entry : InternalEntry) → slice_get children index ≡ Some child → lists child.cursor source at → at.place ≡ Some n → slice_get at.entries n ≡ Some entry → IsKey key entry.key
+
 -- the first entry that fails a test, or the last that passes it
 abbrev pub end_place : End → (InternalEntry → Bool) → List InternalEntry → Option ℕ
 end_place Least test = ahead test
