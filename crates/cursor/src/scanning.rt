@@ -14,7 +14,7 @@ ghost use Rattle.cursor.specs.Searches.{Wanders, SearchesOn, AnswersOn, LooksOn,
 use crate::copying::copy_to;
 use crate::cursor::Cursor;
 use coding::{Damage, DbError, FileKind};
-use ikey::{InternalKey, KeyOrder, Kind, unpack};
+use ikey::{InternalKey, KeyOrder, Kind, same_bytes, unpack};
 use std::alloc::{AllocError, Global};
 use std::cmp::Ordering;
 
@@ -99,7 +99,7 @@ fn is_hidden(hides: bool, hidden: &[u8], user: &[u8]) -> bool
     if !hides {
         return false;
     }
-    hidden == user
+    same_bytes(hidden, user)
 }
 
 /// Goes back from the cursor's entry to the newest entry up to the sequence of the greatest user key that has a put
@@ -182,7 +182,7 @@ fn is_other(has: bool, found: &[u8], user: &[u8]) -> bool
     if !has {
         return false;
     }
-    found != user
+    !same_bytes(found, user)
 }
 
 fn is_below<K: KeyOrder>(user: &[u8], bound: Option<&[u8]>) -> bool

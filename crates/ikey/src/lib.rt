@@ -1,6 +1,7 @@
 //! Entries and their internal keys: a user key, the sequence number of a write and its kind; and the orders of keys.
 #![tactic(auto)]
 
+mod byte_equality;
 mod byte_order;
 mod entry;
 mod entry_order;
@@ -9,6 +10,7 @@ mod internal_key_order;
 mod key_order;
 mod laws;
 
+pub use byte_equality::same_bytes;
 pub use entry::Entry;
 pub use entry_order::{EntryOrder, Internal, Plain};
 pub use internal_key::{

@@ -1,11 +1,9 @@
 -- What a search for a user key has found.
-use Rattle.std.proofs.Common.{◌≡◌, ◌-◌, ◌<◌, ◌≤◌, inl, inr, ℕ, zero, suc, Bool, true, false, Some, None, List, [], ◌∷◌, ◌++◌, refl, sym, ap, subst, ◌∙◌, arith}
+use Rattle.std.proofs.Common.{◌≡◌, ◌-◌, ◌<◌, ◌≤◌, inl, inr, ℕ, zero, suc, Bool, true, false, Some, None, List, [], ◌∷◌, ◌++◌, sym, subst, ◌∙◌, arith}
 use Rattle.std.specs.List.{AllByRecursion, slice_get}
 use Rattle.std.specs.declared.cmp.Ordering.{Ordering}
-use Rattle.std.specs.Prelude.{not, ◌==◌, MatchBool}
+use Rattle.std.specs.Prelude.{◌==◌, MatchBool}
 use Rattle.std.proofs.lemmas.Bool.{eqb-true, eqb-false}
-use Rattle.std.specs.Str.{bytes_eq}
-use Rattle.std.proofs.lemmas.Slice.Eq.{bytes_eq-Decides}
 use Rattle.std.specs.Cmp.{IsTotalOrder}
 use Rattle.std.specs.FinMap.{IsAntisymmetric}
 use Rattle.ikey.specs.declared.entry.Entry.{Entry}
@@ -16,17 +14,6 @@ use Rattle.memtable.specs.Newest.{HasEntry, IsNew}
 use Rattle.memtable.specs.Places.{IsPlace}
 use Rattle.memtable.proofs.Befores.{newer-from, seen-from, before-keys}
 use Rattle.memtable.proofs.Orders.{all-map, all-append, all-back, among-all, ordered-all, all-numbered, HasNumber}
-
-negated : (b : Bool) → false ≡ not b → b ≡ true
-negated true e = refl
-negated false e = let no : false ≡ true = e in cc
-
--- what a comparison of two keys says
-pub keys-same : (xs ys : List ℕ) → false ≡ not (bytes_eq xs ys) → xs ≡ ys
-keys-same xs ys e = (bytes_eq-Decides xs ys).0 (negated (bytes_eq xs ys) e)
-
-pub keys-differ : (xs ys : List ℕ) → true ≡ not (bytes_eq xs ys) → xs ≡ ys → ⊥
-keys-differ xs ys e same = let both : true ≡ false = e ∙ ap not ((bytes_eq-Decides xs ys).1 same) in cc
 
 get-among : (entries : List Entry) (i : ℕ) (entry : Entry) → slice_get entries i ≡ Some entry → Among entries entry
 get-among [] i entry e = let no : None ≡ Some entry = e in cc

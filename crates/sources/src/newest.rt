@@ -13,7 +13,7 @@ use crate::table_search::{Aim, search_on};
 use crate::tables::Tables;
 use block::BlockCursor;
 use coding::{Bytes, DbError};
-use ikey::{Internal, KeyOrder, Kind, seek_key, unpack};
+use ikey::{Internal, KeyOrder, Kind, same_bytes, seek_key, unpack};
 use std::alloc::{AllocError, Global};
 use store::Store;
 use table::Table;
@@ -69,7 +69,7 @@ fn is_denied<K: KeyOrder>(table: &Table<K>, start: usize, key: &[u8]) -> bool
     let Some(bound) = unpack(place.key.as_slice()) else {
         return false;
     };
-    if bound.user == key {
+    if same_bytes(bound.user, key) {
         return false;
     }
     if table.admits(place.handle, key) {
@@ -91,7 +91,7 @@ fn value_at<K: KeyOrder>(
     let Some(found) = unpack(cursor.key()) else {
         return Ok(None);
     };
-    if found.user != key {
+    if !same_bytes(found.user, key) {
         return Ok(None);
     }
     match found.kind {
