@@ -18,3 +18,4 @@ pub mod Widths
 pub mod Searched
 pub mod Reached
 pub mod Inputs
+pub mod Deeper

@@ -1,11 +1,12 @@
 -- The tables that are searched for a key.
-use Rattle.std.proofs.Common.{◌≡◌, ℕ, ◌+◌, ◌-◌, ◌<◌, ◌≤◌, false, IsTrue, inl, inr, Option, Some, None, List, length, get_or, sym, ap, ◌∙◌, subst, arith, All, MatchOption}
+use Rattle.std.proofs.Common.{◌≡◌, ℕ, ◌+◌, ◌-◌, ◌<◌, ◌≤◌, false, IsTrue, inl, inr, List, length, get_or, sym, ap, ◌∙◌, subst, arith, All, HoldsAt, ◌⊎◌}
 use Rattle.std.proofs.lemmas.Bool.{cases_lt, false≢true}
 use Rattle.std.specs.declared.cmp.Ordering.{Ordering}
 use Rattle.edits.specs.declared.field.PlacedTable.{PlacedTable}
-use Rattle.versions.specs.Levels.{tables_at}
+use Rattle.versions.specs.Levels.{tables_at, tables_before, tables_from}
 use Rattle.versions.specs.Ranges.{covers, user_of}
-use Rattle.versions.specs.Searches.{EndsBelow, IsFound, IsSearchedAt}
+use Rattle.versions.specs.Searches.{EndsBelow, IsFound, IsSearchedAt, IsSearchedIn, IsSearchedFirst, IsSearchedNext}
+use Rattle.versions.proofs.Deeper.{first_level, from_same}
 
 pub none_found : (cmp : List ℕ → List ℕ → Ordering) (key : List ℕ) (own : List PlacedTable) (placed : PlacedTable) → All (EndsBelow cmp key) own → IsFound cmp key own placed → ⊥
 none_found cmp key own placed all found = found.3 (subst (EndsBelow cmp key) (found.2 placed) (all found.0 placed found.1))
@@ -24,24 +25,56 @@ one_found cmp key own a b f h =
 pub not_searched : (cmp : List ℕ → List ℕ → Ordering) (key user : List ℕ) (own : List PlacedTable) (a b : PlacedTable) → IsFound cmp key own a → covers cmp a user ≡ false → IsFound cmp key own b → IsTrue (covers cmp b user) → ⊥
 not_searched cmp key user own a b f no' h yes' = false≢true (sym no' ∙ ap (λ p. covers cmp p user) (one_found cmp key own a b f h) ∙ yes')
 
-module _ (cmp : List ℕ → List ℕ → Ordering) (key : List ℕ) (tables newest : List PlacedTable) (place level : ℕ)
-    (same : newest ≡ tables_at 0 tables) (low : length newest ≤ place) (high : place < length newest + 6) (is : level ≡ place - length newest + 1) where
-  none_deeper : ((placed : PlacedTable) → IsFound cmp key (tables_at level tables) placed → IsTrue (covers cmp placed (user_of key)) → ⊥)
-      → (placed : PlacedTable) → IsSearchedAt cmp key tables place placed → ⊥
-  none_deeper h placed (inl first, covered) = absurd (omega (arith, first.0, low, ap length same))
-  none_deeper h placed (inr found, covered) =
-      let one : found.0 + 1 ≡ level = omega (arith, found.2, low, is, ap length same) in
-      h placed (subst (λ l. IsFound cmp key (tables_at l tables) placed) one found.3) covered
+-- ---- the places of level 0
 
-  -- what a deeper level answers is what is searched at its place
-  pub deeper_searched : {R : Type 0} (now : R → PlacedTable) (o : Option R)
-      → MatchOption o ((placed : PlacedTable) → IsFound cmp key (tables_at level tables) placed → IsTrue (covers cmp placed (user_of key)) → ⊥)
-      (λ placed. IsFound cmp key (tables_at level tables) (now placed) × IsTrue (covers cmp (now placed) (user_of key)))
-      → MatchOption o ((placed : PlacedTable) → IsSearchedAt cmp key tables place placed → ⊥) (λ placed. IsSearchedAt cmp key tables place (now placed))
-  deeper_searched now None h = none_deeper h
-  deeper_searched now (Some r) h =
-      let above : ℕ = place - length newest in
-      (inr (above, omega (arith, low, high), omega (arith, low, ap length same), subst (λ l. IsFound cmp key (tables_at l tables) (now r)) is h.0), h.1)
+module _ (cmp : List ℕ → List ℕ → Ordering) (key : List ℕ) (tables newest : List PlacedTable) (same : newest ≡ tables_before 1 tables) where
+  newest_is : newest ≡ tables_at 0 tables
+  newest_is = same ∙ first_level tables
+
+  pub newest_next : (from place : ℕ) (placed : PlacedTable) → from ≤ place → place < length newest → HoldsAt (λ other. other ≡ placed) newest (length newest - 1 - place) → IsTrue (covers cmp placed (user_of key))
+      → ((other : ℕ) (passed : PlacedTable) → from ≤ other → other < place → IsSearchedAt cmp key tables other passed → ⊥) → IsSearchedNext cmp key tables from place placed
+  newest_next from place placed le lt here covered first =
+      record {
+        behind = le;
+        within = omega (arith, lt, ap length newest_is);
+        here = subst (λ ts. (((place < length ts) × HoldsAt (λ other. other ≡ placed) ts (length ts - 1 - place)) ⊎ ((above : ℕ) × (above < 6) × (place ≡ length ts + above) × IsFound cmp key (tables_at (above + 1) tables) placed)) × IsTrue (covers cmp placed (user_of key))) newest_is (inl (lt, here), covered);
+        first = first;
+      }
+
+  pub newest_none : (place : ℕ) → place < length newest → ((placed : PlacedTable) → HoldsAt (λ other. other ≡ placed) newest (length newest - 1 - place) → IsTrue (covers cmp placed (user_of key)) → ⊥)
+      → (placed : PlacedTable) → IsSearchedAt cmp key tables place placed → ⊥
+  newest_none place lt none placed (inl first, covered) = none placed (subst (λ ts. HoldsAt (λ other. other ≡ placed) ts (length ts - 1 - place)) (sym newest_is) first.1) covered
+  newest_none place lt none placed (inr found, covered) = omega (arith, lt, found.2, ap length newest_is)
+
+  -- ---- those of the deeper levels, where nothing is searched at the places of level 0
+
+  module _ (deeper : List PlacedTable) (rest : deeper ≡ tables_from 1 tables) (from end : ℕ) (all : length newest ≤ end) (before : (other : ℕ) (passed : PlacedTable) → from ≤ other → other < end → IsSearchedAt cmp key tables other passed → ⊥) where
+    deeper_is : (above : ℕ) → tables_at (above + 1) deeper ≡ tables_at (above + 1) tables
+    deeper_is above = ap (tables_at (above + 1)) rest ∙ from_same tables 1 (above + 1) (omega arith)
+
+    passed_deeper : (other : ℕ) (passed : PlacedTable) → from ≤ other → IsSearchedAt cmp key tables other passed → (above : ℕ) × (above < 6) × (other ≡ length newest + above) × IsSearchedIn cmp key deeper (above + 1) passed
+    passed_deeper other passed low (inl first, covered) = absurd (before other passed low (omega (arith, first.0, all, ap length newest_is)) (inl first, covered))
+    passed_deeper other passed low (inr found, covered) =
+        (found.0, found.1, omega (arith, found.2, ap length newest_is), (subst (λ ts. IsFound cmp key ts passed) (sym (deeper_is found.0)) found.3, covered))
+
+    pub none_behind : (above : ℕ) → above ≡ from - length newest → 6 ≤ above → (place : ℕ) (placed : PlacedTable) → from ≤ place → IsSearchedAt cmp key tables place placed → ⊥
+    none_behind above e le place placed low is = let h = passed_deeper place placed low is in omega (arith, e, le, h.1, h.2, low)
+
+    pub deeper_none : (start : ℕ) → start ≡ from - length newest + 1 → ((level : ℕ) (placed : PlacedTable) → start ≤ level → IsSearchedIn cmp key deeper level placed → ⊥)
+        → (place : ℕ) (placed : PlacedTable) → from ≤ place → IsSearchedAt cmp key tables place placed → ⊥
+    deeper_none start e none place placed low is = let h = passed_deeper place placed low is in none (h.0 + 1) placed (omega (arith, e, h.2, low)) h.3
+
+    pub deeper_next : (start level : ℕ) (placed : PlacedTable) → start ≡ from - length newest + 1 → IsSearchedFirst cmp key deeper start level placed → IsSearchedNext cmp key tables from (length newest + level - 1) placed
+    deeper_next start level placed e found =
+        let above : ℕ = level - 1 in
+        let one : level ≡ above + 1 = omega (arith, e, found.behind) in
+        let here = subst (λ l. IsFound cmp key (tables_at l deeper) placed) one found.here.0 in
+        record {
+          behind = omega (arith, e, found.behind);
+          within = omega (arith, e, found.behind, found.within, ap length newest_is);
+          here = (inr (above, omega (arith, found.within, one), omega (arith, one, ap length newest_is), subst (λ ts. IsFound cmp key ts placed) (deeper_is above) here), found.here.1);
+          first = λ other passed low high is. let h = passed_deeper other passed low is in found.first (h.0 + 1) passed (omega (arith, e, h.2, low)) (omega (arith, one, h.2, high)) h.3;
+        }
 
 -- ---- from one place to the next
 
@@ -52,12 +85,3 @@ none_more P from place before here other passed low high is =
       | inl less ↦ before other passed low less is
       | inr more ↦ let same : other ≡ place = omega (arith, more, high) in here passed (subst (λ n. P n passed) same is)
     ]
-
-searched_within : (cmp : List ℕ → List ℕ → Ordering) (key : List ℕ) (tables : List PlacedTable) (place : ℕ) (placed : PlacedTable) → IsSearchedAt cmp key tables place placed → place < length (tables_at 0 tables) + 6
-searched_within cmp key tables place placed (inl first, _) = omega (arith, first.0)
-searched_within cmp key tables place placed (inr found, _) = omega (arith, found.1, found.2)
-
-pub none_behind : (cmp : List ℕ → List ℕ → Ordering) (key : List ℕ) (tables newest : List PlacedTable) (from end : ℕ) → newest ≡ tables_at 0 tables → length newest + 6 ≤ end
-    → ((other : ℕ) (passed : PlacedTable) → from ≤ other → other < end → IsSearchedAt cmp key tables other passed → ⊥)
-    → (place : ℕ) (placed : PlacedTable) → from ≤ place → IsSearchedAt cmp key tables place placed → ⊥
-none_behind cmp key tables newest from end same le before place placed low is = before place placed low (omega (arith, searched_within cmp key tables place placed is, ap length same, le)) is

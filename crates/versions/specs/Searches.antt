@@ -40,6 +40,17 @@ pub record IsSearchedNext (cmp : List ℕ → List ℕ → Ordering) (key : List
   pub here : IsSearchedAt cmp key tables place placed
   pub first : (other : ℕ) (passed : PlacedTable) → from ≤ other → other < place → IsSearchedAt cmp key tables other passed → ⊥
 
+-- the same at a deeper level
+abbrev pub IsSearchedIn : (List ℕ → List ℕ → Ordering) → List ℕ → List PlacedTable → ℕ → PlacedTable → Type 0
+IsSearchedIn cmp key tables level placed = IsFound cmp key (tables_at level tables) placed × IsTrue (covers cmp placed (user_of key))
+
+-- the table is the first that is searched from the one level on, and it is at the other
+pub record IsSearchedFirst (cmp : List ℕ → List ℕ → Ordering) (key : List ℕ) (tables : List PlacedTable) (from level : ℕ) (placed : PlacedTable) : Type 0 where
+  pub behind : from ≤ level
+  pub within : level < 7
+  pub here : IsSearchedIn cmp key tables level placed
+  pub first : (other : ℕ) (passed : PlacedTable) → from ≤ other → other < level → IsSearchedIn cmp key tables other passed → ⊥
+
 -- the table ends with the user key of the key, and not below the key; and all of it comes before the other table
 abbrev pub EndsAt : (List ℕ → List ℕ → Ordering) → List ℕ → PlacedTable → PlacedTable → Type 0
 EndsAt cmp key placed other =

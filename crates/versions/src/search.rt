@@ -1,13 +1,14 @@
 //! Which tables are searched for a key, and in which order (LevelDB's db/version_set.cc,
 //! `Version::ForEachOverlapping`).
 
-ghost use Rattle.std.specs.Prelude.{◌≡◌, ◌<◌, ◌≤◌, ◌+◌, ◌-◌, ℕ, length, IsTrue, MatchOption, HoldsAt};
+ghost use Rattle.std.specs.Prelude.{◌≡◌, ◌<◌, ◌≤◌, ◌-◌, ℕ, length, IsTrue, MatchOption, AllPairs, HoldsAt};
+ghost use Rattle.ikey.specs.Below.{IsBelowInternal};
 ghost use Rattle.edits.specs.declared.field.PlacedTable.{PlacedTable as Placed};
-ghost use Rattle.versions.specs.Levels.{AreInOrder, tables_at};
+ghost use Rattle.versions.specs.Levels.{AreInOrder};
 ghost use Rattle.versions.specs.Ranges.{covers, user_of};
-ghost use Rattle.versions.specs.Searches.{IsFound, IsSearchedAt, IsSearchedNext};
+ghost use Rattle.versions.specs.Searches.{IsFound, IsSearchedAt, IsSearchedFirst, IsSearchedIn, IsSearchedNext};
 
-use crate::searching::{covers, find_at, level_of};
+use crate::searching::{covers, find_in, split_levels};
 use crate::user_key::user_of;
 use edits::{LEVELS, PlacedTable};
 use ikey::KeyOrder;
@@ -30,46 +31,44 @@ fn in_level_0<'a, K: KeyOrder>(
     Some(placed)
 }
 
-// The table of a deeper level that is searched.
-fn in_level<'a, K: KeyOrder>(
-    tables: &'a [PlacedTable],
-    key: &[u8],
-    level: u32,
-) -> Option<&'a PlacedTable>
-    requires low { 0 < level }
-    requires level { level < 7 }
-    requires order { AreInOrder K.cmp tables.now }
+// The table that is searched, of those of a deeper level.
+fn in_level<'a, K: KeyOrder>(own: &'a [PlacedTable], key: &[u8]) -> Option<&'a PlacedTable>
+    requires { AllPairs (λ a b. IsBelowInternal K.cmp a.table.largest b.table.largest) own.now }
     ensures { MatchOption result
-        ((placed : Placed) → IsFound K.cmp key.now (tables_at level tables.now) placed → IsTrue (covers K.cmp placed (user_of key.now)) → ⊥)
-        (λ placed. IsFound K.cmp key.now (tables_at level tables.now) placed.now × IsTrue (covers K.cmp placed.now (user_of key.now))) }
+        ((placed : Placed) → IsFound K.cmp key.now own.now placed → IsTrue (covers K.cmp placed (user_of key.now)) → ⊥)
+        (λ placed. IsFound K.cmp key.now own.now placed.now × IsTrue (covers K.cmp placed.now (user_of key.now))) }
 {
-    let Some(placed) = find_at::<K>(tables, level, key) else {
+    let Some(found) = find_in::<K>(own, key) else {
         return None;
     };
-    if !covers::<K>(placed, user_of(key)) {
+    if !covers::<K>(found, user_of(key)) {
         return None;
     }
-    Some(placed)
+    Some(found)
 }
 
-// The table that is searched at this place, if there is one.
-fn searched_at<'a, K: KeyOrder>(
+// The first table that is searched from this level on, a deeper one, and its level. Each turn takes the tables of one level
+// off the front, so that levels without tables take no turn.
+fn next_deeper<'a, K: KeyOrder>(
     tables: &'a [PlacedTable],
-    newest: &'a [PlacedTable],
     key: &[u8],
-    place: usize,
-) -> Option<&'a PlacedTable>
-    requires within { place < length newest.now + 6 }
-    requires newest { newest.now ≡ tables_at 0 tables.now }
+    from: u32,
+) -> Option<(u32, &'a PlacedTable)>
+    requires low { 0 < from }
     requires order { AreInOrder K.cmp tables.now }
     ensures { MatchOption result
-        ((placed : Placed) → IsSearchedAt K.cmp key.now tables.now place placed → ⊥)
-        (λ placed. IsSearchedAt K.cmp key.now tables.now place placed.now) }
+        ((level : ℕ) (placed : Placed) → from ≤ level → IsSearchedIn K.cmp key.now tables.now level placed → ⊥)
+        (λ found. IsSearchedFirst K.cmp key.now tables.now from found.0 found.1.now) }
 {
-    if place < newest.len() {
-        return in_level_0::<K>(newest, key, place);
+    let (_, mut rest) = split_levels(tables, from);
+    while let Some(first) = rest.first() {
+        let (own, deeper) = split_levels(rest, first.level + 1);
+        if let Some(placed) = in_level::<K>(own, key) {
+            return Some((first.level, placed));
+        }
+        rest = deeper;
     }
-    in_level::<K>(tables, key, (place - newest.len()) as u32 + 1)
+    None
 }
 
 /// The first table, of those of a version, that is searched for this internal key at this place or behind it, and
@@ -84,11 +83,19 @@ pub fn next_searched<'a, K: KeyOrder>(
         ((place : ℕ) (placed : Placed) → from ≤ place → IsSearchedAt K.cmp key.now tables.now place placed → ⊥)
         (λ found. IsSearchedNext K.cmp key.now tables.now from found.0 found.1.now) }
 {
-    let newest = level_of(tables, 0);
-    for place in from..newest.len() + (LEVELS as usize - 1) {
-        if let Some(placed) = searched_at::<K>(tables, newest, key, place) {
+    let (newest, deeper) = split_levels(tables, 1);
+    for place in from..newest.len() {
+        if let Some(placed) = in_level_0::<K>(newest, key, place) {
             return Some((place, placed));
         }
     }
-    None
+    // Behind the places of level 0 there is one for each deeper level. This many of those lie in front of `from`.
+    let above = from.saturating_sub(newest.len());
+    if above >= LEVELS as usize - 1 {
+        return None;
+    }
+    let Some((level, placed)) = next_deeper::<K>(deeper, key, above as u32 + 1) else {
+        return None;
+    };
+    Some((newest.len() + level as usize - 1, placed))
 }
