@@ -2,8 +2,8 @@ use coding::Bytes;
 use ikey::{
     Bytewise, Entry, EntryOrder, Internal, InternalKey, KeyOrder, Kind, Plain, SEQUENCE_END,
     all_come_before, answered_in_row, compare_keys, first_found, newest_in_front, none_found,
-    one_key, pack, same_view, searched_by_two, searched_when_grown, searched_when_replaced,
-    seek_key, sorted_in_row, sought_in_order, unpack, unseen_in_front,
+    one_key, pack, same_bytes, same_view, searched_by_two, searched_when_grown,
+    searched_when_replaced, seek_key, sorted_in_row, sought_in_order, unpack, unseen_in_front,
 };
 use std::alloc::{AllocError, Global};
 use std::cmp::Ordering;
@@ -128,7 +128,9 @@ fn bytes_are_ordered_by_the_first_that_differs(rt: HostRuntime) {
     for (i, a) in RISING.iter().enumerate() {
         for (k, b) in RISING.iter().enumerate() {
             assert!(rt;
-                Bytewise::compare(a, b) == i.cmp(&k) && Plain::is_below(a, b) == (i < k),
+                Bytewise::compare(a, b) == i.cmp(&k)
+                    && Plain::is_below(a, b) == (i < k)
+                    && same_bytes(a, b) == (i == k),
                 "{i} and {k}"
             );
         }
