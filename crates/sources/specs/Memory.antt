@@ -1,5 +1,5 @@
 -- Cursors over memory tables (LevelDB's db/memtable.cc, MemTableIterator).
-use Rattle.std.specs.Prelude.{◌≡◌, ◌≤◌, ◌++◌, ℕ, true, false, List, ◌∷◌, Option, Some, None, length, map}
+use Rattle.std.specs.Prelude.{◌≡◌, ◌≤◌, ◌++◌, ℕ, true, false, List, [], ◌∷◌, Option, Some, None, length, map}
 use Rattle.std.specs.FinMap.{empty}
 use Rattle.std.specs.List.{AllByRecursion}
 use Rattle.store.specs.Files.{Facts}
@@ -54,7 +54,7 @@ KeepsMemory cmp cursor old new = up_to cursor.sequence (ordered cmp old.inserts)
 
 -- a memory table reads no store
 abbrev pub memory_facts : Facts
-memory_facts = record { files = empty; synced = λ name. None; faithful = true; held = false; failures = 0; denials = 0 }
+memory_facts = record { files = empty; synced = λ name. None; calls = []; faithful = true; held = false; failures = 0; denials = 0 }
 
 -- ---- parts of moves
 

@@ -23,20 +23,21 @@ use Rattle.std.proofs.lemmas.Map.Text.{btree_map_updates_text, is_eq-slice_cmp}
 use Rattle.store.specs.Files.{Files, Synced, Renames, made_if_missing, with_synced, renamed}
 use Rattle.store.specs.declared.mem_file.MemFile.{MemFile}
 use Rattle.store.specs.MemStore.{files_of, synced_of}
+use Rattle.store.specs.Past.{Holds, bytes_of, synced_in}
 
 abbrev Tree : Type 0
 Tree = BTreeMap (String Global) (MemFile)
 
-abbrev bytes_of : MemFile → List ℕ
-bytes_of v = v.bytes
+abbrev content_of : MemFile → List ℕ
+content_of v = v.bytes
 
-found : (es : List (String Global × MemFile)) (q : List ℕ) → find (slice_cmp nat_cmp) q (map (λ e. (string_bytes e.0, e.1.bytes)) es) ≡ option_map bytes_of (lookup (λ k. is_eq (slice_cmp nat_cmp q (string_bytes k))) es)
+found : (es : List (String Global × MemFile)) (q : List ℕ) → find (slice_cmp nat_cmp) q (map (λ e. (string_bytes e.0, e.1.bytes)) es) ≡ option_map content_of (lookup (λ k. is_eq (slice_cmp nat_cmp q (string_bytes k))) es)
 found [] q = refl
 found (e ∷ es) q =
-    elim (is_eq (slice_cmp nat_cmp q (string_bytes e.0))) as (λ b. cond b (Some e.1.bytes) (find (slice_cmp nat_cmp) q (map (λ e. (string_bytes e.0, e.1.bytes)) es)) ≡ option_map bytes_of (cond b (Some e.1) (lookup (λ k. is_eq (slice_cmp nat_cmp q (string_bytes k))) es))) [ true ↦ refl | false ↦ found es q ]
+    elim (is_eq (slice_cmp nat_cmp q (string_bytes e.0))) as (λ b. cond b (Some e.1.bytes) (find (slice_cmp nat_cmp) q (map (λ e. (string_bytes e.0, e.1.bytes)) es)) ≡ option_map content_of (cond b (Some e.1) (lookup (λ k. is_eq (slice_cmp nat_cmp q (string_bytes k))) es))) [ true ↦ refl | false ↦ found es q ]
 
 -- what the files have at a name
-pub get-files_of : (m : Tree) (q : List ℕ) → get (files_of m.entries) q ≡ option_map bytes_of (get_by_text m q)
+pub get-files_of : (m : Tree) (q : List ℕ) → get (files_of m.entries) q ≡ option_map content_of (get_by_text m q)
 get-files_of m q = get-from_entries nat_list_cmp_total (map (λ e. (string_bytes e.0, e.1.bytes)) m.entries) q ∙ found m.entries q
 
 pub same_files : (m n : Files) → ((q : List ℕ) → get m q ≡ get n q) → m ≡ n
@@ -47,12 +48,12 @@ turned : (bs q : List ℕ) → bytes_eq bs q ≡ eq_by_cmp (slice_cmp nat_cmp) q
 turned bs q = sym (is_eq-slice_cmp bs q) ∙ (eq_by_cmp_equiv nat_list_cmp_total).symm bs q
 
 -- after a change of the map at one name
-pub updated : (bs : List ℕ) (m n : Tree) (w : Option (MemFile)) → UpdatesBy string_cmp (λ k. slice_cmp nat_cmp bs (string_bytes k)) m n w → (q : List ℕ) → get (files_of n.entries) q ≡ cond (eq_by_cmp (slice_cmp nat_cmp) q bs) (option_map bytes_of w) (get (files_of m.entries) q)
+pub updated : (bs : List ℕ) (m n : Tree) (w : Option (MemFile)) → UpdatesBy string_cmp (λ k. slice_cmp nat_cmp bs (string_bytes k)) m n w → (q : List ℕ) → get (files_of n.entries) q ≡ cond (eq_by_cmp (slice_cmp nat_cmp) q bs) (option_map content_of w) (get (files_of m.entries) q)
 updated bs m n w u q =
-    get-files_of n q ∙ ap (option_map bytes_of) (btree_map_updates_text bs m n w u q)
-    ∙ elim (bytes_eq bs q) as (λ b. option_map bytes_of (cond b w (get_by_text m q)) ≡ cond b (option_map bytes_of w) (option_map bytes_of (get_by_text m q))) [ true ↦ refl | false ↦ refl ]
-    ∙ ap (λ b. cond b (option_map bytes_of w) (option_map bytes_of (get_by_text m q))) (turned bs q)
-    ∙ ap (cond (eq_by_cmp (slice_cmp nat_cmp) q bs) (option_map bytes_of w)) (sym (get-files_of m q))
+    get-files_of n q ∙ ap (option_map content_of) (btree_map_updates_text bs m n w u q)
+    ∙ elim (bytes_eq bs q) as (λ b. option_map content_of (cond b w (get_by_text m q)) ≡ cond b (option_map content_of w) (option_map content_of (get_by_text m q))) [ true ↦ refl | false ↦ refl ]
+    ∙ ap (λ b. cond b (option_map content_of w) (option_map content_of (get_by_text m q))) (turned bs q)
+    ∙ ap (cond (eq_by_cmp (slice_cmp nat_cmp) q bs) (option_map content_of w)) (sym (get-files_of m q))
 
 pub files-insert : (name file : List ℕ) (k : String Global) (m n : Tree) (v : MemFile) → string_bytes k ≡ name → v.bytes ≡ file → Updates string_cmp m n k (Some v) → files_of n.entries ≡ insert (files_of m.entries) name file
 files-insert name file k m n v is_name is_file u =
@@ -84,10 +85,10 @@ insert_same files name file is = same_files _ _ (λ q. get-insert nat_list_cmp_t
 
 -- the file that a look-up found
 pub get-found : (m : Tree) (name : List ℕ) (v : MemFile) → get_by_text m name ≡ Some v → get (files_of m.entries) name ≡ Some v.bytes
-get-found m name v is = get-files_of m name ∙ ap (option_map bytes_of) is
+get-found m name v is = get-files_of m name ∙ ap (option_map content_of) is
 
 pub get-missed : (m : Tree) (name : List ℕ) → get_by_text m name ≡ None → get (files_of m.entries) name ≡ None
-get-missed m name is = get-files_of m name ∙ ap (option_map bytes_of) is
+get-missed m name is = get-files_of m name ∙ ap (option_map content_of) is
 
 both : (a b : Bool) → a ≡ true → b ≡ true → (a && b) ≡ true
 both a b p q = λ i. p i && q i
@@ -118,7 +119,7 @@ exchanged true true x y z apart = absurd (apart refl refl)
 exchanged true false x y z apart = refl
 exchanged false b x y z apart = refl
 
-same_name : (q name : List ℕ) → eq_by_cmp (slice_cmp nat_cmp) q name ≡ true → q ≡ name
+pub same_name : (q name : List ℕ) → eq_by_cmp (slice_cmp nat_cmp) q name ≡ true → q ≡ name
 same_name q name is = slice_cmp-IsAntisymmetric nat_cmp-IsAntisymmetric q name (equal_of (slice_cmp nat_cmp q name) is)
 
 -- a file that is put before another is taken away
@@ -143,7 +144,7 @@ insert-remove files name file = same_files _ _ (λ q.
 
 -- a test for a file
 pub is_some-files_of : (m : Tree) (q : List ℕ) → is_some (get (files_of m.entries) q) ≡ is_some (get_by_text m q)
-is_some-files_of m q = ap is_some (get-files_of m q) ∙ elim (get_by_text m q) as (λ o. is_some (option_map bytes_of o) ≡ is_some o) [ None ↦ refl | Some v ↦ refl ]
+is_some-files_of m q = ap is_some (get-files_of m q) ∙ elim (get_by_text m q) as (λ o. is_some (option_map content_of o) ≡ is_some o) [ None ↦ refl | Some v ↦ refl ]
 
 pub apart_of : (a b : List ℕ) → true ≡ not (bytes_eq a b) → a ≡ b → ⊥
 apart_of a b test same = true≢false (test ∙ ap not (ap (bytes_eq a) (sym same) ∙ sym (is_eq-slice_cmp a a) ∙ ap is_eq (tied_itself nat_list_cmp_total a)))
@@ -170,7 +171,7 @@ found_apart o x is none = let clash : Some x ≡ None = sym is ∙ none in absur
 pub present_apart : {X P : Type 0} (o : Option X) → is_some o ≡ true → o ≡ None → P
 present_apart o present none = absurd (true≢false (sym present ∙ ap is_some none))
 
-some_with : (o : Option (List ℕ)) → is_some o ≡ true → (x : List ℕ) × (o ≡ Some x)
+pub some_with : (o : Option (List ℕ)) → is_some o ≡ true → (x : List ℕ) × (o ≡ Some x)
 some_with None e = absurd (true≢false (sym e))
 some_with (Some x) e = (x, refl)
 
@@ -189,7 +190,7 @@ get-insert_other files from to file apart = get-insert nat_list_cmp_total files 
     other true h = absurd (h refl)
     other false h = refl
 
-get-insert_same : (files : Files) (name file : List ℕ) → get (insert files name file) name ≡ Some file
+pub get-insert_same : (files : Files) (name file : List ℕ) → get (insert files name file) name ≡ Some file
 get-insert_same files name file = get-insert nat_list_cmp_total files name file name ∙ ap (λ b. cond b (Some file) (get files name)) (ap is_eq (tied_itself nat_list_cmp_total name))
 
 insert_twice : (files : Files) (name file last : List ℕ) → insert (insert files name file) name last ≡ insert files name last
@@ -325,3 +326,45 @@ same_look_up (e ∷ es) (f ∷ fs) h q =
 -- a copy of a map has the same synced
 pub synced-clone : (m n : Tree) → IsClone (λ s t. string_bytes t ≡ string_bytes s) (λ v w. w ≡ v) m n → synced_of n.entries ≡ synced_of m.entries
 synced-clone m n h = λ i q. same_look_up m.entries n.entries h q i
+
+-- ---- what a name holds
+
+pub held_at : (m : Tree) (name : List ℕ) (held : Option MemFile) → held ≡ get_by_text m name → Holds (record { files = files_of m.entries; synced = synced_of m.entries }) name held
+held_at m name held is = (get-files_of m name ∙ ap (option_map content_of) (sym is), ap kept_of (sym is))
+
+pub held_by_key : (name : List ℕ) (k : String Global) (m : Tree) (held : Option MemFile) → string_bytes k ≡ name → held ≡ tree.get string_cmp m k → Holds (record { files = files_of m.entries; synced = synced_of m.entries }) name held
+held_by_key name k m held is old = held_at m name held (old ∙ ap (get_by_text m) is)
+
+-- what is synced of a file stays where another is taken away
+pub synced_other : (m n : Tree) (from to : List ℕ) → (from ≡ to → ⊥) → Changed from m n None → synced_of m.entries to ≡ synced_of n.entries to
+synced_other m n from to apart u = sym (ap (λ (s : Synced). s to) (synced-change from m n None u) ∙ other (eq_by_cmp (slice_cmp nat_cmp) to from) (λ same. apart (sym (same_name to from same))))
+  where
+    other : (b : Bool) → (b ≡ true → ⊥) → cond b None (synced_of m.entries to) ≡ synced_of m.entries to
+    other true h = absurd (h refl)
+    other false h = refl
+
+-- ---- tests
+
+pub same_eq : (a b : List ℕ) → true ≡ bytes_eq a b → a ≡ b
+same_eq a b test = same_name a b (is_eq-slice_cmp a b ∙ sym test)
+
+pub apart_eq : (a b : List ℕ) → false ≡ bytes_eq a b → a ≡ b → ⊥
+apart_eq a b test same = true≢false (sym (test ∙ ap (bytes_eq a) (sym same) ∙ sym (is_eq-slice_cmp a a) ∙ ap is_eq (tied_itself nat_list_cmp_total a)))
+
+-- ---- a file that was made where it was missing, and what stood there
+
+pub none_of_missing : (files : Files) (name : List ℕ) (made : Bool) → made ≡ true → is_some (get files name) ≡ cond made false true → get files name ≡ None
+none_of_missing files name made is test = none_of (get files name) (sym (test ∙ ap (λ b. cond b false true) is))
+
+pub made_new : (files new : Files) (name : List ℕ) (made : Bool) → made ≡ true → is_some (get files name) ≡ cond made false true → new ≡ made_if_missing files name → new ≡ insert files name []
+made_new files new name made is test so = so ∙ ap (λ b. cond b files (insert files name [])) (test ∙ ap (λ b. cond b false true) is)
+
+pub made_not : (files new : Files) (name : List ℕ) (made : Bool) → made ≡ false → is_some (get files name) ≡ cond made false true → new ≡ made_if_missing files name → new ≡ files
+made_not files new name made is test so = so ∙ ap (λ b. cond b files (insert files name [])) (test ∙ ap (λ b. cond b false true) is)
+
+pub held_unless : (m : Tree) (mid : Files) (kept : Synced) (to : List ℕ) (made : Bool) (held : Option MemFile) → is_some (get (files_of m.entries) to) ≡ cond made false true
+    → mid ≡ made_if_missing (files_of m.entries) to → kept ≡ synced_of m.entries → Holds (record { files = mid; synced = kept }) to held
+    → Holds (record { files = files_of m.entries; synced = synced_of m.entries }) to (cond made None held)
+held_unless m mid kept to true held test is same h = held_at m to None (sym (none_of (get_by_text m to) (sym (sym (is_some-files_of m to) ∙ test))))
+held_unless m mid kept to false held test is same h =
+    (ap (λ (f : Files). get f to) (sym (made_not (files_of m.entries) mid to false refl test is)) ∙ h.0, ap (λ (s : Synced). s to) (sym same) ∙ h.1)

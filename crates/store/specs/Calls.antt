@@ -1,8 +1,8 @@
 -- What each call of a store keeps to, whichever store it is.
-use Rattle.std.specs.Prelude.{◌≡◌, ◌≢◌, ◌⊎◌, ◌<◌, ◌≤◌, IsTrue, Result, Err, OnOk}
+use Rattle.std.specs.Prelude.{◌≡◌, ◌≢◌, ◌⊎◌, ◌<◌, ◌≤◌, ◌++◌, ◌∷◌, [], ℕ, List, take, IsTrue, Result, Err, OnOk, OnErr}
 use Rattle.store.specs.declared.error.StoreError.{StoreError}
 use Rattle.store.specs.declared.error.StoreError.TheVariants.{Memory, Device}
-use Rattle.store.specs.Files.{Facts, Files, Synced}
+use Rattle.store.specs.Files.{Facts, Files, Synced, Change, Addition, Call, Does, disk_of}
 
 -- Once a store has returned something else than what was written, that is so for good. The counts don't fall.
 -- A call raises the count of failures exactly where it answers Device.
@@ -34,3 +34,30 @@ pub record Changes {T : Type 0} (old new : Facts) (result : Result T StoreError)
   pub ok : IsTrue new.faithful → OnOk result (done old.files new.files)
   pub device : IsTrue new.faithful → result ≡ Err Device → part old.files new.files
   pub memory : IsTrue new.faithful → result ≡ Err Memory → new.files ≡ old.files
+
+-- A call that is none of those that change something.
+abbrev pub KeepsCalls : Facts → Facts → Type 0
+KeepsCalls old new = IsTrue new.faithful → new.calls ≡ old.calls
+
+-- This was done, and is noted with what it found.
+abbrev pub Adds : Facts → Facts → Change → Type 0
+Adds old new change = (new.calls ≡ old.calls ++ (record { found = disk_of old; change = change }) ∷ []) × Does change old.files new.files
+
+-- All is as it was: such a call needn't be noted.
+abbrev pub Idles : Facts → Facts → Type 0
+Idles old new = (new.calls ≡ old.calls) × (disk_of new ≡ disk_of old)
+
+-- A call that may change something did so, whatever it answers, and is noted; or it did nothing, as one that was out of memory.
+pub record Notes {T : Type 0} (old new : Facts) (result : Result T StoreError) (change : Change) : Type 0 where
+  pub noted : IsTrue new.faithful → Idles old new ⊎ Adds old new change
+  pub memory : IsTrue new.faithful → result ≡ Err Memory → new.calls ≡ old.calls
+
+-- An append is noted with as many of its bytes as came behind the file.
+pub record NotesAppend {T : Type 0} (old new : Facts) (result : Result T StoreError) (name bytes : List ℕ) : Type 0 where
+  pub noted : IsTrue new.faithful → Idles old new ⊎ ((n : ℕ) × Adds old new (Addition name (take n bytes)))
+  pub memory : IsTrue new.faithful → result ≡ Err Memory → new.calls ≡ old.calls
+
+-- What is synced is noted where the sync was accepted.
+pub record NotesSync {T : Type 0} (old new : Facts) (result : Result T StoreError) (change : Change) : Type 0 where
+  pub ok : IsTrue new.faithful → OnOk result (Adds old new change)
+  pub err : IsTrue new.faithful → OnErr result (new.calls ≡ old.calls)

@@ -1,5 +1,5 @@
 -- What is known of a store over a folder: its counts, whether it holds the lock, and nothing of the files.
-use Rattle.std.specs.Prelude.{Bool, false, None}
+use Rattle.std.specs.Prelude.{Bool, false, None, []}
 use Rattle.std.specs.FinMap.{empty}
 use Rattle.std.specs.declared.io.ErrorKind.{ErrorKind}
 use Rattle.std.specs.declared.io.ErrorKind.TheVariants.{NotFound, OutOfMemory}
@@ -12,6 +12,7 @@ abbrev pub counted_facts : Bool → Counters → Facts
 counted_facts held counters = record {
   files = empty;
   synced = λ name. None;
+  calls = [];
   faithful = false;
   held = held;
   failures = counters.failures;

@@ -1,7 +1,10 @@
 pub mod MemFile
 pub mod Files
+pub mod Stops
+pub mod Losses
 pub mod Calls
 pub mod MemStore
+pub mod Past
 pub mod MemFacts
 pub mod FileFacts
 pub mod FaultFacts

@@ -1,5 +1,5 @@
 // A store over a folder of the system.
-ghost use Rattle.std.specs.Prelude.{◌≡◌, ◌≢◌, ◌<◌, ◌≤◌, IfOk, OnOk, IfErr, None, true, false};
+ghost use Rattle.std.specs.Prelude.{◌≡◌, ◌≢◌, ◌<◌, ◌≤◌, IfOk, OnOk, IfErr, None, [], true, false};
 ghost use Rattle.std.specs.FinMap.{empty};
 ghost use Rattle.store.specs.FileFacts.{counted_facts};
 ghost use Rattle.store.specs.Calls.{Counts};
@@ -36,7 +36,7 @@ impl FileStore {
     /// The files of a folder that exists. Missing where nothing is at the path, and Device where something else than
     /// a folder is there, or one that this process may not open.
     pub fn open(rt: &HostRuntime, folder: &str) -> Result<FileStore, StoreError>
-        ensures { IfOk result (λ store. counted_facts store.held store.counters ≡ record { files = empty; synced = λ name. None; faithful = false; held = false; failures = 0; denials = 0 }) }
+        ensures { IfOk result (λ store. counted_facts store.held store.counters ≡ record { files = empty; synced = λ name. None; calls = []; faithful = false; held = false; failures = 0; denials = 0 }) }
     {
         Ok(FileStore {
             folder: Folder::open(rt, folder)?,

@@ -6,12 +6,15 @@ mod error;
 mod fault_store;
 mod file_store;
 mod folder;
+mod laws;
 mod mem_file;
 mod memory;
+mod past;
 mod store;
 
 pub use error::StoreError;
 pub use fault_store::{Fault, FaultStore};
 pub use file_store::FileStore;
+pub use laws::{left_now, left_since, lost_since};
 pub use memory::MemStore;
 pub use store::Store;

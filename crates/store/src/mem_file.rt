@@ -39,12 +39,11 @@ impl MemFile {
         self.bytes.as_slice()
     }
 
-    /// Makes it a new file.
-    pub fn clear(&mut self)
-        ensures { self.new ≡ record { bytes = []; synced = None } }
+    /// How many of its bytes are synced, if it ever was.
+    pub fn synced_length(&self) -> Option<usize>
+        ensures { self.now.synced ≡ front_of self.now.bytes result }
     {
-        self.synced = None;
-        self.bytes.clear();
+        self.synced
     }
 
     /// Adds bytes at its end.

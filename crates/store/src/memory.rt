@@ -1,15 +1,19 @@
 // A store in memory, which is faithful.
-ghost use Rattle.std.specs.Prelude.{◌≡◌, ◌≢◌, ◌+◌, ◌≤◌, ◌^◌, [], List, ℕ, Some, None, true, false, take, drop, IfOk, OnOk, OnErr, IfErr, IsSome};
+ghost use Rattle.std.specs.Prelude.{◌≡◌, ◌≢◌, ◌+◌, ◌++◌, ◌≤◌, ◌^◌, [], List, ℕ, Some, None, true, false, take, drop, length, IfOk, OnOk, OnErr, IfErr, IsSome, IfSome, if◌then◌else◌};
 ghost use Rattle.std.specs.FinMap as map;
 ghost use Rattle.std.specs.FinMap.{insert};
 ghost use Rattle.store.specs.Files.{Renames, made_if_missing, with_synced, renamed};
+ghost use Rattle.store.specs.MemFile.{front_of};
 ghost use Rattle.store.specs.MemStore.{files_of, synced_of};
+ghost use Rattle.store.specs.Past.{Holds};
 
 use crate::counters::Counters;
 use crate::mem_file::MemFile;
+use crate::past::{Past, keep, make_room, room_for};
 use crate::{Store, StoreError};
 use std::alloc::{AllocError, Global};
 use std::collections::BTreeMap;
+use std::mem;
 
 const LOCK: &str = "LOCK";
 
@@ -17,10 +21,14 @@ const LOCK: &str = "LOCK";
 ///
 /// One bound on that: a call that must answer Device also raises the count of failures, and the counter has
 /// 64 bits. From the failure of number 2^64 - 1 on nothing more is claimed of what the store returns.
+///
+/// It keeps of each call that changes something what undoes it, and makes room for that before the call acts: a file that
+/// was removed or replaced, and of an append the length before it.
 #[derive(Drop)]
 pub struct MemStore {
     alloc: Global,
     files: BTreeMap<String, MemFile>,
+    past: Vec<Past>,
     locked: bool,
     counters: Counters,
 }
@@ -31,11 +39,12 @@ impl MemStore {
 
     /// An empty directory.
     pub fn new(alloc: Global) -> Self
-        ensures { mem_facts result ≡ record { files = empty; synced = λ name. None; faithful = true; held = false; failures = 0; denials = 0 } }
+        ensures { mem_facts result ≡ record { files = empty; synced = λ name. None; calls = []; faithful = true; held = false; failures = 0; denials = 0 } }
     {
         MemStore {
             alloc,
             files: BTreeMap::new(alloc),
+            past: Vec::new(alloc),
             locked: false,
             counters: Counters::new(),
         }
@@ -43,15 +52,24 @@ impl MemStore {
 
     /// A directory with a copy of each file, synced as it is here, its lock free and its counts 0.
     pub fn copy(&self) -> Result<MemStore, StoreError>
-        ensures copied { IfOk result (λ copy. mem_facts copy ≡ record (mem_facts self.now) { faithful = true; held = false; failures = 0; denials = 0 }) }
+        ensures copied { IfOk result (λ copy. mem_facts copy ≡ record (mem_facts self.now) { calls = []; faithful = true; held = false; failures = 0; denials = 0 }) }
         ensures memory { IfErr result (λ error. error ≡ StoreError.Memory) }
     {
-        Ok(MemStore {
-            alloc: self.alloc,
-            files: self.files.clone()?,
+        let files = self.files.clone()?;
+        Ok(MemStore::of(self.alloc, files))
+    }
+
+    // A directory that begins with these files.
+    fn of(alloc: Global, files: BTreeMap<String, MemFile>) -> MemStore
+        ensures { mem_facts result ≡ record { files = files_of files.entries; synced = synced_of files.entries; calls = []; faithful = true; held = false; failures = 0; denials = 0 } }
+    {
+        MemStore {
+            alloc,
+            files,
+            past: Vec::new(alloc),
             locked: false,
             counters: Counters::new(),
-        })
+        }
     }
 
     // Answers Device for a call that failed, and counts it: behind the last failure that can be counted it answers Ok.
@@ -104,47 +122,58 @@ impl Store for MemStore {
     }
 
     fn create(&mut self, name: &str) -> Result<(), StoreError> {
-        match self.files.get_mut(name) {
-            None => Ok(put(&mut self.files, self.alloc, name, MemFile::new(self.alloc))?),
-            Some(file) => {
-                file.clear();
-                Ok(())
-            }
-        }
+        let known = room_for(&mut self.past, self.alloc, name)?;
+        let held = put(&mut self.files, self.alloc, name, MemFile::new(self.alloc))?;
+        keep(&mut self.past, Past::Made(known, held));
+        Ok(())
     }
 
     fn append(&mut self, name: &str, bytes: &[u8]) -> Result<(), StoreError> {
-        match self.files.get_mut(name) {
-            None => self.fail(),
-            Some(file) => Ok(file.append(bytes)?),
+        if !self.files.contains_key(name) {
+            return self.fail();
         }
+        let known = room_for(&mut self.past, self.alloc, name)?;
+        let length = add_bytes(&mut self.files, name, bytes)?;
+        keep(&mut self.past, Past::Grown(known, length));
+        Ok(())
     }
 
     fn sync(&mut self, name: &str) -> Result<(), StoreError> {
-        match self.files.get_mut(name) {
-            None => self.fail(),
-            Some(file) => {
-                file.sync();
-                Ok(())
-            }
+        if !self.files.contains_key(name) {
+            return self.fail();
         }
+        let Ok(known) = room_for(&mut self.past, self.alloc, name) else {
+            return self.fail();
+        };
+        let count = sync_file(&mut self.files, name);
+        keep(&mut self.past, Past::Kept(known, count));
+        Ok(())
     }
 
     fn rename(&mut self, from: &str, to: &str) -> Result<(), StoreError> {
         if !self.files.contains_key(from) {
             return self.fail();
         }
-        if from != to {
-            make_if_missing(&mut self.files, self.alloc, to)?;
-            move_file(&mut self.files, from, to);
+        if from == to {
+            return Ok(());
         }
+        let known = room_for(&mut self.past, self.alloc, from)?;
+        let known_to = String::from_str(self.alloc, to)?;
+        let made = make_if_missing(&mut self.files, self.alloc, to)?;
+        let held = move_file(&mut self.files, from, to);
+        let held = unless(made, held);
+        keep(&mut self.past, Past::Moved(known, known_to, held));
         Ok(())
     }
 
     fn remove(&mut self, name: &str) -> Result<(), StoreError> {
-        if self.files.remove(name).is_none() {
+        let Ok(known) = room_for(&mut self.past, self.alloc, name) else {
             return self.fail();
-        }
+        };
+        let Some(file) = self.files.remove(name) else {
+            return self.fail();
+        };
+        keep(&mut self.past, Past::Taken(known, file));
         Ok(())
     }
 
@@ -152,8 +181,13 @@ impl Store for MemStore {
         if self.locked {
             return self.counters.deny();
         }
-        make_if_missing(&mut self.files, self.alloc, LOCK)?;
+        make_room(&mut self.past)?;
+        let made = make_if_missing(&mut self.files, self.alloc, LOCK)?;
         self.locked = true;
+        if !made {
+            return Ok(true);
+        }
+        keep(&mut self.past, Past::Locked);
         Ok(true)
     }
 
@@ -163,50 +197,103 @@ impl Store for MemStore {
     }
 }
 
-// Puts a file under a name, in place of the one that has it.
+// Puts a file under a name, and answers the one that had it.
 fn put(
     files: &mut BTreeMap<String, MemFile>,
     alloc: Global,
     name: &str,
     file: MemFile,
-) -> Result<(), AllocError>
+) -> Result<Option<MemFile>, AllocError>
     ensures ok { OnOk result (files_of files.new.entries ≡ insert (files_of files.old.entries) name.now file.bytes) }
     ensures synced { OnOk result (synced_of files.new.entries ≡ with_synced (synced_of files.old.entries) name.now file.synced) }
+    ensures held { IfOk result (Holds (record { files = files_of files.old.entries; synced = synced_of files.old.entries }) name.now) }
     ensures err { OnErr result (files.new.entries ≡ files.old.entries) }
 {
     let name = String::from_str(alloc, name)?;
-    files.insert(name, file)?;
-    Ok(())
+    let held = files.insert(name, file)?;
+    Ok(held)
 }
 
-// Makes an empty file where there is none.
+// Makes an empty file where there is none, and answers whether it did.
 fn make_if_missing(
     files: &mut BTreeMap<String, MemFile>,
     alloc: Global,
     name: &str,
-) -> Result<(), AllocError>
+) -> Result<bool, AllocError>
     ensures ok { OnOk result (files_of files.new.entries ≡ made_if_missing (files_of files.old.entries) name.now) }
     ensures synced { OnOk result (synced_of files.new.entries ≡ synced_of files.old.entries) }
+    ensures made { IfOk result (λ made. map.contains_key (files_of files.old.entries) name.now ≡ (if made then false else true)) }
     ensures err { OnErr result (files.new.entries ≡ files.old.entries) }
 {
     if files.contains_key(name) {
-        return Ok(());
+        return Ok(false);
     }
-    put(files, alloc, name, MemFile::new(alloc))
+    put(files, alloc, name, MemFile::new(alloc))?;
+    Ok(true)
 }
 
-// Takes a file from its name and puts it in the place of another.
-fn move_file(files: &mut BTreeMap<String, MemFile>, from: &str, to: &str)
+// Takes a file from its name and puts it in the place of another, which it answers.
+fn move_file(files: &mut BTreeMap<String, MemFile>, from: &str, to: &str) -> Option<MemFile>
     ensures moved { (bytes : List ℕ) → map.get (files_of files.old.entries) from.now ≡ Some bytes → IsSome (map.get (files_of files.old.entries) to.now)
         → from.now ≢ to.now → files_of files.new.entries ≡ insert (map.remove (files_of files.old.entries) from.now) to.now bytes }
     ensures synced { IsSome (map.get (files_of files.old.entries) from.now) → IsSome (map.get (files_of files.old.entries) to.now)
         → from.now ≢ to.now → synced_of files.new.entries ≡ renamed (synced_of files.old.entries) from.now to.now }
+    ensures held { IsSome (map.get (files_of files.old.entries) from.now) → from.now ≢ to.now
+        → Holds (record { files = files_of files.old.entries; synced = synced_of files.old.entries }) to.now result }
 {
     let Some(file) = files.remove(from) else {
-        return;
+        return None;
     };
     if let Some(place) = files.get_mut(to) {
-        *place = file;
+        return Some(mem::replace(place, file));
+    }
+    None
+}
+
+// The file, unless its name had none before.
+fn unless(made: bool, held: Option<MemFile>) -> Option<MemFile>
+    ensures { result ≡ (if made then None else held) }
+{
+    if made {
+        return None;
+    }
+    held
+}
+
+// Adds bytes to a file that is there, and answers how many it had.
+fn add_bytes(
+    files: &mut BTreeMap<String, MemFile>,
+    name: &str,
+    bytes: &[u8],
+) -> Result<usize, AllocError>
+    ensures ok { IfOk result (λ count. (before : List ℕ) → map.get (files_of files.old.entries) name.now ≡ Some before
+        → (count ≡ length before) × (files_of files.new.entries ≡ insert (files_of files.old.entries) name.now (before ++ bytes.now))) }
+    ensures synced { synced_of files.new.entries ≡ synced_of files.old.entries }
+    ensures err { OnErr result (files_of files.new.entries ≡ files_of files.old.entries) }
+{
+    match files.get_mut(name) {
+        None => Ok(0),
+        Some(file) => {
+            let count = file.bytes().len();
+            file.append(bytes)?;
+            Ok(count)
+        }
+    }
+}
+
+// Takes what a file has now for synced, and answers how many of its bytes were.
+fn sync_file(files: &mut BTreeMap<String, MemFile>, name: &str) -> Option<usize>
+    ensures files { files_of files.new.entries ≡ files_of files.old.entries }
+    ensures synced { synced_of files.new.entries ≡ with_synced (synced_of files.old.entries) name.now (map.get (files_of files.old.entries) name.now) }
+    ensures count { (bytes : List ℕ) → map.get (files_of files.old.entries) name.now ≡ Some bytes → synced_of files.old.entries name.now ≡ front_of bytes result }
+{
+    match files.get_mut(name) {
+        None => None,
+        Some(file) => {
+            let count = file.synced_length();
+            file.sync();
+            count
+        }
     }
 }
 

@@ -1,8 +1,8 @@
 // What a database asks of a directory, and what it may rely on.
 ghost use Rattle.std.specs.Prelude.{◌≡◌, ◌≢◌, ◌⊎◌, ◌<◌, List, ℕ, [], length, take, drop, map, string_bytes, IfOk, OnOk, OnErr, None, IsTrue, IsSome, true, false};
 ghost use Rattle.std.specs.FinMap as map;
-ghost use Rattle.store.specs.Files.{Facts, Lists, Appends, AppendsBeginning, Renames, Removes, Locks, MayLock, with_synced, renamed};
-ghost use Rattle.store.specs.Calls.{Counts, Keeps, KeepsSynced, Changes, ChangesSynced};
+ghost use Rattle.store.specs.Files.{Facts, Lists, Appends, AppendsBeginning, Renames, Removes, Locks, MayLock, with_synced, renamed, Creation, Sync, Move, Removal, LockFile};
+ghost use Rattle.store.specs.Calls.{Counts, Keeps, KeepsSynced, KeepsCalls, Changes, ChangesSynced, Notes, NotesAppend, NotesSync};
 
 use crate::StoreError;
 use std::alloc::Global;
@@ -21,8 +21,8 @@ use std::alloc::Global;
 /// rename carries along. LevelDB relies on one thing more, and so do we: that a rename comes to the device no later than
 /// what is synced behind it.
 pub trait Store {
-    /// The files, what of them is synced, whether it was faithful so far, whether it holds the lock, and its counts of
-    /// failures and of denied locks.
+    /// The files, what of them is synced, the calls that changed something, whether it was faithful so far, whether it
+    /// holds the lock, and its counts of failures and of denied locks.
     ghost facts: { Self → Facts };
 
     /// How often a call failed so far: the failures of the facts, without a call of the device.
@@ -38,6 +38,7 @@ pub trait Store {
             Lists (facts self.old).files (map string_bytes names.items)) }
         ensures same { Keeps (facts self.old) (facts self.new) }
         ensures synced { KeepsSynced (facts self.old) (facts self.new) }
+        ensures calls { KeepsCalls (facts self.old) (facts self.new) }
         ensures missing { result ≢ Err StoreError.Missing };
 
     /// The length of a file in bytes.
@@ -50,7 +51,8 @@ pub trait Store {
         ensures missing { IsTrue (facts self.new).faithful → result ≡ Err StoreError.Missing →
             map.get (facts self.old).files name.now ≡ None }
         ensures same { Keeps (facts self.old) (facts self.new) }
-        ensures synced { KeepsSynced (facts self.old) (facts self.new) };
+        ensures synced { KeepsSynced (facts self.old) (facts self.new) }
+        ensures calls { KeepsCalls (facts self.old) (facts self.new) };
 
     /// The bytes of a file from `offset` on, `count` of them or up to its end.
     fn read_at(
@@ -68,7 +70,8 @@ pub trait Store {
         ensures missing { IsTrue (facts self.new).faithful → result ≡ Err StoreError.Missing →
             map.get (facts self.old).files name.now ≡ None }
         ensures same { Keeps (facts self.old) (facts self.new) }
-        ensures synced { KeepsSynced (facts self.old) (facts self.new) };
+        ensures synced { KeepsSynced (facts self.old) (facts self.new) }
+        ensures calls { KeepsCalls (facts self.old) (facts self.new) };
 
     /// Makes an empty file, or empties the one that is there. A call that fails with Device may have done so.
     fn create(&mut self, name: &str) -> Result<(), StoreError>
@@ -80,6 +83,7 @@ pub trait Store {
             (λ old new. (new ≡ old) ⊎ (new ≡ map.insert old name.now [])) }
         ensures synced { ChangesSynced (facts self.old) (facts self.new) result
             (λ synced. with_synced synced name.now None) (λ old new. new ≡ map.insert old name.now []) }
+        ensures calls { Notes (facts self.old) (facts self.new) result (Creation name.now) }
         ensures missing { result ≢ Err StoreError.Missing };
 
     /// Adds bytes at the end of a file. A call that fails with Device may have added a beginning of them.
@@ -91,6 +95,7 @@ pub trait Store {
             (λ old new. Appends old new name.now bytes.now)
             (λ old new. AppendsBeginning old new name.now bytes.now) }
         ensures synced { KeepsSynced (facts self.old) (facts self.new) }
+        ensures calls { NotesAppend (facts self.old) (facts self.new) result name.now bytes.now }
         ensures absent { IsTrue (facts self.new).faithful → map.get (facts self.old).files name.now ≡ None → result ≡ Err StoreError.Device }
         ensures missing { result ≢ Err StoreError.Missing };
 
@@ -102,6 +107,7 @@ pub trait Store {
         ensures present { IsTrue (facts self.new).faithful → OnOk result (IsSome (map.get (facts self.old).files name.now)) }
         ensures same { Keeps (facts self.old) (facts self.new) }
         ensures synced { IsTrue (facts self.new).faithful → OnOk result ((facts self.new).synced ≡ with_synced (facts self.old).synced name.now (map.get (facts self.old).files name.now)) }
+        ensures calls { NotesSync (facts self.old) (facts self.new) result (Sync name.now) }
         ensures unsynced { IsTrue (facts self.new).faithful → OnErr result ((facts self.new).synced ≡ (facts self.old).synced) }
         ensures absent { IsTrue (facts self.new).faithful → map.get (facts self.old).files name.now ≡ None → result ≡ Err StoreError.Device }
         ensures missing { result ≢ Err StoreError.Missing }
@@ -117,6 +123,7 @@ pub trait Store {
             (λ old new. (new ≡ old) ⊎ Renames old new from.now to.now) }
         ensures synced { ChangesSynced (facts self.old) (facts self.new) result
             (λ synced. renamed synced from.now to.now) (λ old new. Renames old new from.now to.now) }
+        ensures calls { Notes (facts self.old) (facts self.new) result (Move from.now to.now) }
         ensures absent { IsTrue (facts self.new).faithful → map.get (facts self.old).files from.now ≡ None → result ≡ Err StoreError.Device }
         ensures missing { result ≢ Err StoreError.Missing };
 
@@ -130,6 +137,7 @@ pub trait Store {
             (λ old new. (new ≡ old) ⊎ Removes old new name.now) }
         ensures synced { ChangesSynced (facts self.old) (facts self.new) result
             (λ synced. with_synced synced name.now None) (λ old new. Removes old new name.now) }
+        ensures calls { Notes (facts self.old) (facts self.new) result (Removal name.now) }
         ensures absent { IsTrue (facts self.new).faithful → map.get (facts self.old).files name.now ≡ None → result ≡ Err StoreError.Device }
         ensures missing { result ≢ Err StoreError.Missing }
         ensures memory { result ≢ Err StoreError.Memory };
@@ -145,6 +153,7 @@ pub trait Store {
         ensures untaken { result ≢ Ok true → (facts self.new).held ≡ (facts self.old).held }
         ensures files { Changes (facts self.old) (facts self.new) result MayLock MayLock }
         ensures synced { KeepsSynced (facts self.old) (facts self.new) }
+        ensures calls { Notes (facts self.old) (facts self.new) result LockFile }
         ensures held { IsTrue (facts self.new).faithful → result ≡ Ok true → Locks (facts self.old).files (facts self.new).files }
         ensures missing { result ≢ Err StoreError.Missing };
 
@@ -156,6 +165,7 @@ pub trait Store {
         ensures kept { OnErr result ((facts self.new).held ≡ (facts self.old).held) }
         ensures same { Keeps (facts self.old) (facts self.new) }
         ensures synced { KeepsSynced (facts self.old) (facts self.new) }
+        ensures calls { KeepsCalls (facts self.old) (facts self.new) }
         ensures missing { result ≢ Err StoreError.Missing }
         ensures memory { result ≢ Err StoreError.Memory };
 }

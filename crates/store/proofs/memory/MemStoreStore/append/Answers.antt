@@ -1,39 +1,48 @@
-use Rattle.std.proofs.Common.{Some, sym, ap, ◌∙◌, rules}
-use Rattle.store.specs.Files.{with_synced}
-use Rattle.store.specs.MemStore.{synced_of}
-use Rattle.store.specs.declared.mem_file.MemFile.{MemFile}
-use Rattle.store.proofs.MemFiles.{synced-change, synced-found, synced_same, files-write, insert_same, get-found, found_apart}
-use Rattle.store.proofs.Outcomes.{changed_nothing, changed}
+use Rattle.std.proofs.Common.{◌≡◌, ◌++◌, ◌∷◌, List, [], ap, ◌∙◌, refl, sym, length}
+use Rattle.std.specs.FinMap.{get, insert}
+use Rattle.store.specs.Files.{Disk}
+use Rattle.store.specs.MemStore.{files_of, synced_of}
+use Rattle.store.specs.declared.past.Past.{Past}
+use Rattle.store.specs.declared.past.Past.TheVariants.{Grown}
+use Rattle.store.proofs.MemFiles.{is_some-files_of, some_with, present_apart}
+use Rattle.store.proofs.Outcomes.{changed}
+use Rattle.store.proofs.Undoing.{notes_append, appends_none, grown_back, grown_change}
 use Rattle.store.proofs.memory.MemStoreStore.append.Goals as goal
 
-pub returns-in_err-append-in-Some-clause-files : goal.returns-in_err-append-in-Some-clause-files
-returns-in_err-append-in-Some-clause-files c =
-    let at = get-found c.args.self.now.files c.args.name.now c.in-Some.file.now (sym c.in-Some.ensures.value) in
-    changed_nothing _ _ _ _ _ c.from_residual.ensures.1
-    (files-write c.args.name.now c.in-Some.file.now.bytes c.args.self.now.files (c.get_mut.follows.lender c.append.new.self) c.append.new.self (ap (λ (v : MemFile). v.bytes) c.in_err-append-in-Some.ensures.err) ((c.get_mut.follows.holds c.append.new.self).3 (search rules))
-    ∙ insert_same _ _ _ at)
+pub returns-in_err-known-clause-absent : goal.returns-in_err-known-clause-absent
+returns-in_err-known-clause-absent c = λ _ none. present_apart _ (is_some-files_of c.args.self.now.files c.args.name.now ∙ sym c.if-not-contains_key.ensures) none
 
-pub returns-in_ok-append-in-Some-clause-files : goal.returns-in_ok-append-in-Some-clause-files
-returns-in_ok-append-in-Some-clause-files c =
-    let at = get-found c.args.self.now.files c.args.name.now c.in-Some.file.now (sym c.in-Some.ensures.value) in
-    changed _ _ _ _ _ (c.in-Some.file.now.bytes, at, files-write c.args.name.now _ c.args.self.now.files (c.get_mut.follows.lender c.append.new.self) c.append.new.self (ap (λ (v : MemFile). v.bytes) c.in_ok-append-in-Some.ensures.ok) ((c.get_mut.follows.holds c.append.new.self).3 (search rules)))
+pub returns-in_err-length-clause-absent : goal.returns-in_err-length-clause-absent
+returns-in_err-length-clause-absent c = λ _ none. present_apart _ (is_some-files_of c.args.self.now.files c.args.name.now ∙ sym c.if-not-contains_key.ensures) none
 
-pub returns-in_err-append-in-Some-clause-absent : goal.returns-in_err-append-in-Some-clause-absent
-returns-in_err-append-in-Some-clause-absent c = λ _ none. found_apart _ _ (get-found c.args.self.now.files c.args.name.now c.in-Some.file.now (sym c.in-Some.ensures.value)) none
+pub returns-in_err-length-clause-calls : goal.returns-in_err-length-clause-calls
+returns-in_err-length-clause-calls c = appends_none _ _ _ c.args.self.now.past.items c.room_for.new.past.items _ _ refl refl c.in_ok-known.ensures.past
+    (λ i. record { files = c.in_err-length.ensures.err i; synced = c.add_bytes.ensures.synced i })
 
-pub returns-in_ok-append-in-Some-clause-absent : goal.returns-in_ok-append-in-Some-clause-absent
-returns-in_ok-append-in-Some-clause-absent c = λ _ none. found_apart _ _ (get-found c.args.self.now.files c.args.name.now c.in-Some.file.now (sym c.in-Some.ensures.value)) none
+pub returns-clause-absent : goal.returns-clause-absent
+returns-clause-absent c = λ _ none. present_apart _ (is_some-files_of c.args.self.now.files c.args.name.now ∙ sym c.if-not-contains_key.ensures) none
 
-pub returns-in_err-append-in-Some-clause-synced : goal.returns-in_err-append-in-Some-clause-synced
-returns-in_err-append-in-Some-clause-synced c = λ _.
-    let synced = synced_of c.args.self.now.files.entries in
-    synced-change c.args.name.now c.args.self.now.files (c.get_mut.follows.lender c.append.new.self) (Some c.append.new.self) ((c.get_mut.follows.holds c.append.new.self).3 (search rules))
-    ∙ ap (λ (v : MemFile). with_synced synced c.args.name.now v.synced) c.in_err-append-in-Some.ensures.err
-    ∙ synced_same synced c.args.name.now c.in-Some.file.now.synced (synced-found c.args.self.now.files c.args.name.now c.in-Some.file.now (sym c.in-Some.ensures.value))
+pub returns-clause-files : goal.returns-clause-files
+returns-clause-files c =
+    let there = some_with (get (files_of c.args.self.now.files.entries) c.args.name.now) (is_some-files_of c.args.self.now.files c.args.name.now ∙ sym c.if-not-contains_key.ensures) in
+    changed _ _ _ _ _ (there.0, there.1, (c.in_ok-length.ensures.ok there.0 there.1).1)
 
-pub returns-in_ok-append-in-Some-clause-synced : goal.returns-in_ok-append-in-Some-clause-synced
-returns-in_ok-append-in-Some-clause-synced c = λ _.
-    let synced = synced_of c.args.self.now.files.entries in
-    synced-change c.args.name.now c.args.self.now.files (c.get_mut.follows.lender c.append.new.self) (Some c.append.new.self) ((c.get_mut.follows.holds c.append.new.self).3 (search rules))
-    ∙ ap (λ (v : MemFile). with_synced synced c.args.name.now v.synced) c.in_ok-append-in-Some.ensures.ok
-    ∙ synced_same synced c.args.name.now c.in-Some.file.now.synced (synced-found c.args.self.now.files c.args.name.now c.in-Some.file.now (sym c.in-Some.ensures.value))
+pub returns-clause-calls : goal.returns-clause-calls
+returns-clause-calls c =
+    let name = c.args.name.now in
+    let bytes = c.args.bytes.now in
+    let old = c.args.self.now.files.entries in
+    let new = c.add_bytes.new.files.entries in
+    let k = c.in_ok-known.known in
+    let count = c.in_ok-length.length in
+    let there = some_with (get (files_of old) name) (is_some-files_of c.args.self.now.files name ∙ sym c.if-not-contains_key.ensures) in
+    let before = there.0 in
+    let grown = c.in_ok-length.ensures.ok before there.1 in
+    let kept : synced_of new ≡ synced_of old = c.add_bytes.ensures.synced in
+    let found : Disk = record { files = files_of old; synced = synced_of old } in
+    let now : Disk = record { files = files_of new; synced = synced_of new } in
+    notes_append _ _ _ c.args.self.now.past.items c.keep.new.past.items (Grown k count) name bytes refl refl
+    (c.keep.ensures ∙ ap (λ (l : List Past). l ++ Grown k count ∷ []) c.in_ok-known.ensures.past)
+    (grown_back k count found now name before bytes c.in_ok-known.ensures.name grown.0 there.1 grown.1 kept)
+    (grown_change k count found now name before bytes c.in_ok-known.ensures.name grown.0 grown.1)
+    (before, there.1, grown.1)

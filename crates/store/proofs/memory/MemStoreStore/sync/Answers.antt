@@ -1,27 +1,30 @@
-use Rattle.std.proofs.Common.{Some, sym, ap, ◌∙◌, rules}
+use Rattle.std.proofs.Common.{◌≡◌, ◌++◌, ◌∷◌, List, [], ap, ◌∙◌, refl, sym}
 use Rattle.std.specs.FinMap.{get}
-use Rattle.store.specs.Files.{with_synced}
+use Rattle.store.specs.Files.{Disk, Sync, with_synced}
 use Rattle.store.specs.MemStore.{files_of, synced_of}
-use Rattle.store.proofs.MemFiles.{files-write, insert_same, get-found, found_apart, synced-change}
-use Rattle.std.proofs.Common.{is_some}
+use Rattle.store.specs.declared.past.Past.{Past}
+use Rattle.store.specs.declared.past.Past.TheVariants.{Kept}
+use Rattle.store.proofs.MemFiles.{is_some-files_of, some_with, present_apart}
+use Rattle.store.proofs.Undoing.{notes_sync, kept_back}
 use Rattle.store.proofs.memory.MemStoreStore.sync.Goals as goal
 
-pub returns-in-Some-clause-present : goal.returns-in-Some-clause-present
-returns-in-Some-clause-present c = λ _. ap is_some (get-found c.args.self.now.files c.args.name.now c.in-Some.file.now (sym c.in-Some.ensures.value))
+pub returns-clause-present : goal.returns-clause-present
+returns-clause-present c = λ _. is_some-files_of c.args.self.now.files c.args.name.now ∙ sym c.if-not-contains_key.ensures
 
-pub returns-in-Some-clause-same : goal.returns-in-Some-clause-same
-returns-in-Some-clause-same c = λ _.
-    let at = get-found c.args.self.now.files c.args.name.now c.in-Some.file.now (sym c.in-Some.ensures.value) in
-    files-write c.args.name.now c.in-Some.file.now.bytes c.args.self.now.files (c.get_mut.follows.lender c.sync.new.self) c.sync.new.self (ap (λ v. v.bytes) c.sync.ensures) ((c.get_mut.follows.holds c.sync.new.self).3 (search rules))
-    ∙ insert_same _ _ _ at
+pub returns-clause-absent : goal.returns-clause-absent
+returns-clause-absent c = λ _ none. present_apart _ (is_some-files_of c.args.self.now.files c.args.name.now ∙ sym c.if-not-contains_key.ensures) none
 
-pub returns-in-Some-clause-synced : goal.returns-in-Some-clause-synced
-returns-in-Some-clause-synced c = λ _.
-    let at = get-found c.args.self.now.files c.args.name.now c.in-Some.file.now (sym c.in-Some.ensures.value) in
-    let synced = synced_of c.args.self.now.files.entries in
-    synced-change c.args.name.now c.args.self.now.files (c.get_mut.follows.lender c.sync.new.self) (Some c.sync.new.self) ((c.get_mut.follows.holds c.sync.new.self).3 (search rules))
-    ∙ ap (λ v. with_synced synced c.args.name.now v.synced) c.sync.ensures
-    ∙ ap (with_synced synced c.args.name.now) (sym at)
-
-pub returns-in-Some-clause-absent : goal.returns-in-Some-clause-absent
-returns-in-Some-clause-absent c = λ _ none. found_apart _ _ (get-found c.args.self.now.files c.args.name.now c.in-Some.file.now (sym c.in-Some.ensures.value)) none
+pub returns-clause-calls : goal.returns-clause-calls
+returns-clause-calls c =
+    let name = c.args.name.now in
+    let old = c.args.self.now.files.entries in
+    let new = c.sync_file-count.new.files.entries in
+    let k = c.in-Ok.known in
+    let count = c.sync_file-count.result in
+    let there = some_with (get (files_of old) name) (is_some-files_of c.args.self.now.files name ∙ sym c.if-not-contains_key.ensures) in
+    let found : Disk = record { files = files_of old; synced = synced_of old } in
+    let now : Disk = record { files = files_of new; synced = synced_of new } in
+    notes_sync _ _ _ c.args.self.now.past.items c.keep.new.past.items (Kept k count) (Sync name) refl refl
+    (c.keep.ensures ∙ ap (λ (l : List Past). l ++ Kept k count ∷ []) c.in-Ok.ensures.past)
+    (kept_back k count found now name there.0 (get (files_of old) name) c.in-Ok.ensures.name there.1 c.sync_file-count.ensures.files c.sync_file-count.ensures.synced (c.sync_file-count.ensures.count there.0 there.1))
+    (ap Sync c.in-Ok.ensures.name) c.sync_file-count.ensures.files

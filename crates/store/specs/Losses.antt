@@ -1,0 +1,70 @@
+-- What a loss of power may leave of a directory. What is assumed of the device (ext4 and XFS with ordered data):
+--
+-- - An accepted sync keeps what the file held then, and all names as they were then.
+-- - Behind that, names reach the device in the order of the calls that changed them: those of one moment are found, and no
+--   mixture of two.
+-- - Of each file a beginning of what was added to it is found, with what of it was synced at least. A file keeps to that
+--   whatever name it has by then: what was moved is found under its old name or the new one, what was taken away, or replaced,
+--   may be back.
+-- - Nothing else stands in a file: no byte that was never written to it.
+use Rattle.std.specs.Prelude.{◌≡◌, ◌⊎◌, ◌≤◌, ℕ, Bool, true, false, List, [], ◌∷◌, ◌++◌, Option, Some, None, length, take, drop, if◌then◌else◌}
+use Rattle.std.specs.Cmp.Lexicographic.{slice_cmp}
+use Rattle.std.specs.FinMap.{get, contains_key}
+use Rattle.std.specs.Option.{option_map_or}
+use Rattle.std.specs.Ordering.{nat_cmp, eq_by_cmp}
+use Rattle.store.specs.Files.{Facts, Files, Disk, disk_of, Call, Change, Creation, Addition, Sync, Move, Removal, LockFile}
+
+abbrev pub same_name : List ℕ → List ℕ → Bool
+same_name a b = eq_by_cmp (slice_cmp nat_cmp) a b
+
+-- The name with which the file of this name goes on, or none, where it was taken away or replaced.
+abbrev pub name_behind : Change → List ℕ → Option (List ℕ)
+name_behind (Creation name) q = if same_name q name then None else Some q
+name_behind (Addition name bytes) q = Some q
+name_behind (Sync name) q = Some q
+name_behind (Move from to) q = if same_name q from then Some to else (if same_name q to then None else Some q)
+name_behind (Removal name) q = if same_name q name then None else Some q
+name_behind LockFile q = Some q
+
+-- What the file that had this name in front of these calls held last, and what of it was synced.
+abbrev pub held_last : List Call → Disk → List ℕ → Option (List ℕ) × Option (List ℕ)
+held_last [] now q = (get now.files q, now.synced q)
+held_last (call ∷ calls) now q = option_map_or (held_last calls now) (name_behind call.change q) (get call.found.files q, call.found.synced q)
+
+-- these bytes begin with those
+abbrev pub BeginsWith : List ℕ → List ℕ → Type 0
+BeginsWith bytes front = (rest : List ℕ) × (bytes ≡ front ++ rest)
+
+-- The names are those of a moment, behind which these calls were made. Each file has a beginning of what it held last, with what of it was synced at least.
+pub record IsLost (at : Files) (since : List Call) (now : Disk) (lost : Files) : Type 0 where
+  pub names : (q : List ℕ) → contains_key lost q ≡ contains_key at q
+  pub beginning : (q bytes : List ℕ) → get lost q ≡ Some bytes → (held : List ℕ) × ((held_last since now q).0 ≡ Some held) × BeginsWith held bytes
+  pub kept : (q bytes synced : List ℕ) → get lost q ≡ Some bytes → (held_last since now q).1 ≡ Some synced → BeginsWith bytes synced
+
+-- The names as one of these calls found them, or as they are now.
+abbrev pub IsLostSince : List Call → Disk → Files → Type 0
+IsLostSince [] now lost = IsLost now.files [] now lost
+IsLostSince (call ∷ calls) now lost = IsLost call.found.files (call ∷ calls) now lost ⊎ IsLostSince calls now lost
+
+abbrev pub is_sync : Change → Bool
+is_sync (Sync name) = true
+is_sync _ = false
+
+-- the calls behind the last sync, where these came before
+abbrev pub behind_sync : List Call → List Call → List Call
+behind_sync since [] = since
+behind_sync since (call ∷ calls) = behind_sync (if is_sync call.change then [] else since ++ call ∷ []) calls
+
+-- the disk that the first of these calls found, or as it is now
+abbrev pub disk_before : List Call → Disk → Disk
+disk_before [] now = now
+disk_before (call ∷ calls) now = call.found
+
+-- A loss of power at some moment since that one may have left these files.
+abbrev pub Lost : Facts → ℕ → Files → Type 0
+Lost facts t lost = (m : ℕ) × (t ≤ m) × (m ≤ length facts.calls)
+    × IsLostSince (behind_sync [] (take m facts.calls)) (disk_before (drop m facts.calls) (disk_of facts)) lost
+
+-- What it may leave since a moment it may leave since an earlier one.
+abbrev pub LostSinceLaw : Type 0
+LostSinceLaw = (facts : Facts) (s t : ℕ) (lost : Files) → s ≤ t → Lost facts t lost → Lost facts s lost

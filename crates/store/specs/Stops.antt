@@ -1,0 +1,47 @@
+-- What a stop of the process may leave of a directory. It frees the lock.
+use Rattle.std.specs.Prelude.{◌≡◌, ◌⊎◌, ◌++◌, ℕ, List, [], ◌∷◌, length, drop}
+use Rattle.store.specs.Files.{Facts, Files, Call, Change, Creation, Addition, Sync, Move, Removal, LockFile, AppendsBeginning, Does}
+
+-- What a stop in the middle of a call may leave: it was done wholly or not at all, or a beginning of its bytes stands
+-- behind the file.
+abbrev pub MayLeave : Change → Files → Files → Type 0
+MayLeave (Addition name bytes) old new = AppendsBeginning old new name bytes
+MayLeave (Creation name) old new = (new ≡ old) ⊎ Does (Creation name) old new
+MayLeave (Sync name) old new = (new ≡ old) ⊎ Does (Sync name) old new
+MayLeave (Move from to) old new = (new ≡ old) ⊎ Does (Move from to) old new
+MayLeave (Removal name) old new = (new ≡ old) ⊎ Does (Removal name) old new
+MayLeave LockFile old new = (new ≡ old) ⊎ Does LockFile old new
+
+-- a stop in the middle of one of these calls
+abbrev pub LeftDuring : List Call → Files → Type 0
+LeftDuring [] files = ⊥
+LeftDuring (call ∷ calls) files = MayLeave call.change call.found.files files ⊎ LeftDuring calls files
+
+-- A moment is told by the number of calls that had changed something. It doesn't fall.
+abbrev pub moment : Facts → ℕ
+moment facts = length facts.calls
+
+-- A stop at some moment since that one may have left these files: now, or in the middle of a call since.
+abbrev pub Left : Facts → ℕ → Files → Type 0
+Left facts t files = (files ≡ facts.files) ⊎ LeftDuring (drop t facts.calls) files
+
+-- A stop at any moment since old leaves files that have P. It composes.
+pub record LeavesOnly (old new : Facts) (P : Files → Type 0) : Type 0 where
+  pub more : List Call
+  pub calls : new.calls ≡ old.calls ++ more
+  pub during : (files : Files) → LeftDuring more files → P files
+  pub now : P new.files
+
+-- ---- laws
+
+-- The files as they are now are among them, and since now there are no others.
+abbrev pub LeftNowLaw : Type 0
+LeftNowLaw = (facts : Facts) (t : ℕ) (files : Files) → Left facts t facts.files × (Left facts (moment facts) files → files ≡ facts.files)
+
+-- Since an earlier moment: now, or in the middle of one of the calls since.
+abbrev pub LeftSinceLaw : Type 0
+LeftSinceLaw = (old new : Facts) (more : List Call) (files : Files) → new.calls ≡ old.calls ++ more → Left new (moment old) files → (files ≡ new.files) ⊎ LeftDuring more files
+
+-- In the middle of some calls or of those behind them.
+abbrev pub LeftBothLaw : Type 0
+LeftBothLaw = (first second : List Call) (files : Files) → LeftDuring (first ++ second) files → LeftDuring first files ⊎ LeftDuring second files
