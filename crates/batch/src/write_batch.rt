@@ -8,13 +8,9 @@ use crate::limits::{HEADER_LENGTH, length_with_delete, length_with_put};
 use crate::operation::Operation;
 use crate::reading::{header_of, operations_of};
 use crate::writing::encoded;
-use coding::{Bytes, Damage, DbError, ReadError};
+use coding::{Bytes, Damage, DbError, ReadError, SEQUENCE_END};
 use std::alloc::Global;
 use std::marker::Model;
-
-// Sequences are below this, since an internal key keeps a sequence in 56 bits (LevelDB's
-// db/dbformat.h, `kMaxSequenceNumber`).
-const SEQUENCE_END: u64 = 1 << 56;
 
 /// Operations that are applied together, in order; contracts see the list of them. A batch that `new`,
 /// `put` and `delete` made is within the limits of `refusal`; one that was decoded may pass them.

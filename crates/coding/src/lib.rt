@@ -9,6 +9,7 @@ mod byte_string;
 mod checksum;
 mod error;
 mod fixed;
+mod sequence;
 mod string;
 mod varint;
 
@@ -16,5 +17,6 @@ pub use byte_string::Bytes;
 pub use checksum::{crc32c, mask, unmask};
 pub use error::{Damage, DbError, Feature, FileKind, ReadError};
 pub use fixed::{get_fixed32, get_fixed64, put_fixed32, put_fixed64};
+pub use sequence::SEQUENCE_END;
 pub use string::{get_string, put_string};
 pub use varint::{get_varint32, get_varint64, one_varint, put_varint32, put_varint64};

@@ -49,7 +49,7 @@ pub passed-more : {C H : Type 0} (lists : C → H → Listed → Type 0) (cursor
     → HasPassed lists cursor source (came ++ entry ∷ []) rest
 passed-more lists cursor source came entry rest h = subst (lists cursor source) (moved came entry rest) h
 
--- ---- slices
+-- ---- steps
 
 pub front-more : (rest front back behind : List InternalEntry) (entry : InternalEntry) → rest ≡ front ++ back → back ≡ entry ∷ behind → rest ≡ (front ++ entry ∷ []) ++ behind
 front-more rest front back behind entry e f = e ∙ ap (λ l. front ++ l) f ∙ sym (append_assoc front (entry ∷ []) behind)

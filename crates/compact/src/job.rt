@@ -1,4 +1,4 @@
-//! Compactions in slices (LevelDB's db/db_impl.cc, DoCompactionWork).
+//! Compactions in steps (LevelDB's db/db_impl.cc, DoCompactionWork).
 
 ghost use Rattle.std.specs.Prelude.{◌≡◌, ◌<◌, ◌⊎◌, true, false};
 ghost use Rattle.std.specs.declared.cmp.Ordering.TheVariants.{Less};
@@ -12,20 +12,18 @@ ghost use Rattle.compact.specs.Merging.{IsUpTo};
 use crate::chosen::{set_bytes, write_chosen};
 use crate::deeper::DeeperFiles;
 use crate::job_edit::edit_of;
-use crate::numbers::FileNumbers;
 use crate::outputs::Outputs;
 use crate::selection::Selection;
-use crate::source::HasStore;
 use coding::{Damage, DbError, FileKind};
 use cursor::Cursor;
-use edits::Edit;
+use edits::{Edit, FileNumbers};
 use ikey::{KeyOrder, Kind, unpack};
 use std::alloc::Global;
 use std::cmp::Ordering;
-use store::Store;
+use store::{HasStore, Store};
 use versions::JobPlan;
 
-/// What a slice of a job has done.
+/// What a step of a job has done.
 #[derive(Clone, Copy, Debug, PartialEq, Eq)]
 pub struct Progress {
     /// How many entries of the inputs it has merged.
@@ -108,10 +106,10 @@ impl<K: KeyOrder, C: Drop> Job<K, C> {
     }
 
     /// Merges so many entries, or one for 0, or all that are left where those are fewer. `deeper` is to be the same in
-    /// each slice. Corrupt where two entries of a user key have one sequence number, or where the inputs aren't what the
+    /// each step. Corrupt where two entries of a user key have one sequence number, or where the inputs aren't what the
     /// cursor was made for. After an `Err` the job is to be given up: the files that it wrote are no part of the database, and its
     /// inputs are as they were.
-    pub fn slice<S: Store, H: HasStore<S>, D: DeeperFiles>(
+    pub fn step<S: Store, H: HasStore<S>, D: DeeperFiles>(
         &mut self,
         alloc: Global,
         source: &mut H,

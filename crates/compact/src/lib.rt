@@ -7,17 +7,13 @@ mod deeper;
 mod job;
 mod job_edit;
 mod laws;
-mod numbers;
-mod open_table;
+mod new_table;
 mod outputs;
 mod selection;
-mod source;
 
 pub use deeper::{DeeperFiles, FilesBelow};
 pub use job::{Job, Progress};
 pub use laws::{
     needed_is_needed, one_choice, pairs_are_left, still_numbered, views_are_kept, views_are_of_sets,
 };
-pub use numbers::FileNumbers;
 pub use selection::{Choice, Selection};
-pub use source::HasStore;

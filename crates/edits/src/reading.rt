@@ -8,13 +8,11 @@ ghost use Rattle.edits.specs.Edit.{IsField, IsEdit, IsPastLimit, IsWithinLimit, 
 ghost use Rattle.edits.specs.declared.field.Field.{Field as FieldValue};
 
 use crate::field::Field;
+use crate::numbers::NUMBER_END;
 use crate::spelling::{level_at, long_at, placed_at, sequence_at, string_at};
 use crate::version_edit::Edit;
 use coding::{Damage, Feature, ReadError};
 use std::alloc::Global;
-
-// Tables have numbers below this.
-const TABLE_NUMBER_END: u64 = 1 << 62;
 
 /// The edit that a record of a MANIFEST is (LevelDB's doc/impl.md, "Manifest", and its db/version_edit.cc,
 /// `VersionEdit::DecodeFrom`): all of the bytes, fields in any order, a tag once or more often. No bytes
@@ -120,8 +118,8 @@ fn is_past_limit(field: &Field) -> bool
     ensures { MatchBool result (IsPastLimit field.now) (IsWithinLimit field.now) }
 {
     match field {
-        Field::NewFile(placed) => placed.table.number >= TABLE_NUMBER_END,
-        Field::DeletedFile(_, number) => *number >= TABLE_NUMBER_END,
+        Field::NewFile(placed) => placed.table.number >= NUMBER_END,
+        Field::DeletedFile(_, number) => *number >= NUMBER_END,
         Field::Comparator(_)
         | Field::LogNumber(_)
         | Field::NextFileNumber(_)

@@ -8,8 +8,8 @@ ghost use Rattle.edits.specs.Edit.{IsLong, IsSequence, IsLevel, IsTableNumber, I
 
 use crate::field::{PlacedTable, TableFile};
 use coding::{
-    Bytes, Damage, ReadError, get_string, get_varint32, get_varint64, put_string, put_varint32,
-    put_varint64,
+    Bytes, Damage, ReadError, SEQUENCE_END, get_string, get_varint32, get_varint64, put_string,
+    put_varint32, put_varint64,
 };
 use std::alloc::{AllocError, Global};
 
@@ -32,7 +32,7 @@ pub fn sequence_at(bytes: &[u8]) -> Result<(u64, &[u8]), ReadError>
     ensures refused { IfErr result (λ e. RefusesOnly e (BeginsNone IsSequence bytes.now)) }
 {
     let (n, rest) = long_at(bytes)?;
-    if n >= 1 << 56 {
+    if n >= SEQUENCE_END {
         return Err(ReadError::Corrupt(Damage::Number));
     }
     Ok((n, rest))

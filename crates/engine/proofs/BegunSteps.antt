@@ -10,7 +10,7 @@ use Rattle.edits.specs.Names.{name_of}
 use Rattle.edits.specs.declared.field.PlacedTable.{PlacedTable}
 use Rattle.edits.specs.declared.layout.Layout.{Layout}
 use Rattle.edits.specs.declared.names.FileName.TheVariants.{Manifest}
-use Rattle.memories.specs.Memories.{Memories, inserts_of, logged_in, older_at, sealed_inserts}
+use Rattle.memtables.specs.Memories.{Memories, inserts_of, logged_in, older_at, sealed_inserts}
 use Rattle.recover.specs.Changes.{RecoveredLaw, ManifestEndsAt, empty_log}
 use Rattle.recover.specs.Directory.{EndsAt}
 use Rattle.recover.specs.Logs.{AreLive, LogContent, NumbersRise}

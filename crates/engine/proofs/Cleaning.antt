@@ -6,24 +6,24 @@ use Rattle.std.specs.Option.{option_and_then}
 use Rattle.cache.specs.Tables.{KeptTable, IsNameOf, table_at}
 use Rattle.edits.specs.Names.{IsNumbered, name_of}
 use Rattle.edits.specs.declared.names.FileName.TheVariants.{OldTable, Table}
-use Rattle.jobs.specs.declared.open_job.OpenJob.{OpenJob}
+use Rattle.running_job.specs.declared.open_job.OpenJob.{OpenJob}
 use Rattle.edits.specs.declared.field.PlacedTable.{PlacedTable}
 use Rattle.ikey.specs.Orders.{Order}
-use Rattle.memories.specs.Changes.{IsUsed, KeepsUsed}
-use Rattle.memories.specs.Memories.{Memories, inserts_of, logged_in, older_at, sealed_inserts}
-use Rattle.memories.specs.Places.{MemoriesPlace, KeepsMemories}
+use Rattle.memtables.specs.Changes.{IsUsed, KeepsUsed}
+use Rattle.memtables.specs.Memories.{Memories, inserts_of, logged_in, older_at, sealed_inserts}
+use Rattle.memtables.specs.Places.{MemoriesPlace, KeepsMemories}
 use Rattle.recover.specs.Directory.{Directory, IsConsistent}
 use Rattle.recover.specs.Laws.{OneDirectoryLaw}
 use Rattle.recover.specs.Tables.{InTables, TableContent}
 use Rattle.recover.proofs.Adding.{table_of}
-use Rattle.scans.specs.Scans.{KeepsScan}
-use Rattle.scans.specs.Scanning.{ScanIsKept}
-use Rattle.scans.specs.declared.scan.Scan.{Scan}
-use Rattle.sources.specs.Tables.{Seen, IsSound, KeepsOf, SoundLasts}
-use Rattle.sources.proofs.Sounding.{same_file, same_table}
+use Rattle.db_cursor.specs.Scans.{KeepsScan}
+use Rattle.db_cursor.specs.Scanning.{ScanIsKept}
+use Rattle.db_cursor.specs.declared.scan.Scan.{Scan}
+use Rattle.table_access.specs.Tables.{Seen, IsSound, KeepsOf, SoundLasts}
+use Rattle.table_access.proofs.Sounding.{same_file, same_table}
 use Rattle.store.specs.Files.{Facts}
 use Rattle.table.specs.Reading.{HasFile}
-use Rattle.upkeep.specs.Removal.{AreNumbersOf, KeepsParts, KeepsTable, ListsUnused}
+use Rattle.directory_writes.specs.Removal.{AreNumbersOf, KeepsParts, KeepsTable, ListsUnused}
 use Rattle.engine.specs.Directory.{CanAppend}
 use Rattle.engine.specs.Held.{Held, whole_of}
 use Rattle.engine.specs.InUse.{IsJobTable, IsMemoryUsed, IsTableUsed}

@@ -18,28 +18,28 @@ use Rattle.edits.specs.declared.names.FileName.TheVariants.{OldTable, Table}
 use Rattle.ikey.specs.Entries.{entry_of}
 use Rattle.ikey.specs.Orders.{Order}
 use Rattle.ikey.specs.Views.{Among}
-use Rattle.jobs.specs.Running.{IsRunning, is_input, is_to_write}
-use Rattle.jobs.specs.Staying.{LeavesTables}
-use Rattle.jobs.specs.declared.open_job.OpenJob.{OpenJob}
-use Rattle.jobs.proofs.Staying.{stays_beside}
+use Rattle.running_job.specs.Running.{IsRunning, is_input, is_to_write}
+use Rattle.running_job.specs.Staying.{LeavesTables}
+use Rattle.running_job.specs.declared.open_job.OpenJob.{OpenJob}
+use Rattle.running_job.proofs.Staying.{stays_beside}
 use Rattle.recover.proofs.Adding.{table_of}
 use Rattle.recover.proofs.Memberships.{from_chosen}
 use Rattle.recover.specs.Changes.{AreParted}
 use Rattle.recover.specs.Directory.{Directory, IsConsistent}
 use Rattle.recover.specs.Numbers.{IsFree}
 use Rattle.recover.specs.Tables.{InTables, TableContent}
-use Rattle.rows.specs.InRows.{HasNumber}
-use Rattle.scans.specs.Scans.{tables_of}
-use Rattle.scans.specs.Whole.{Whole}
-use Rattle.scans.specs.declared.scan.Scan.{Scan}
-use Rattle.sources.proofs.Sounding.{same_table}
-use Rattle.sources.specs.Tables.{IsSound, KeepsOf}
+use Rattle.level_cursor.specs.InRows.{HasNumber}
+use Rattle.db_cursor.specs.Scans.{tables_of}
+use Rattle.db_cursor.specs.Whole.{Whole}
+use Rattle.db_cursor.specs.declared.scan.Scan.{Scan}
+use Rattle.table_access.proofs.Sounding.{same_table}
+use Rattle.table_access.specs.Tables.{IsSound, KeepsOf}
 use Rattle.store.specs.Files.{Files}
-use Rattle.upkeep.proofs.JobTables.{among_contains, among_placed, contains_among, content_at}
-use Rattle.upkeep.proofs.JobWritten.{hand_below}
-use Rattle.upkeep.proofs.TableFiles.{below_placed}
-use Rattle.upkeep.specs.Compactions.{placed_in}
-use Rattle.upkeep.specs.JobWrites.{OwnsNone}
+use Rattle.directory_writes.proofs.JobTables.{among_contains, among_placed, contains_among, content_at}
+use Rattle.directory_writes.proofs.JobWritten.{hand_below}
+use Rattle.directory_writes.proofs.TableFiles.{below_placed}
+use Rattle.directory_writes.specs.Compactions.{placed_in}
+use Rattle.directory_writes.specs.JobWrites.{OwnsNone}
 use Rattle.versions.proofs.Pairs.{among_contained}
 use Rattle.versions.specs.Levels.{Lists}
 use Rattle.engine.specs.Compacting.{IsCompacting}

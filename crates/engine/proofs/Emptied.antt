@@ -8,15 +8,15 @@ use Rattle.coding.specs.declared.error.DbError.{DbError}
 use Rattle.coding.specs.declared.error.DbError.TheVariants as error
 use Rattle.edits.specs.declared.field.PlacedTable.{PlacedTable}
 use Rattle.ikey.specs.Orders.{Order}
-use Rattle.jobs.specs.declared.open_job.OpenJob.{OpenJob}
-use Rattle.sources.specs.Tables.{Seen}
+use Rattle.running_job.specs.declared.open_job.OpenJob.{OpenJob}
+use Rattle.table_access.specs.Tables.{Seen}
 use Rattle.store.specs.Files.{Facts}
-use Rattle.upkeep.specs.Install.{Replaces}
+use Rattle.directory_writes.specs.Install.{Replaces}
 use Rattle.versions.proofs.Pairs.{filtered}
 use Rattle.versions.specs.Levels.{tables_at}
 use Rattle.versions.specs.Plans.{IsLevelPlan, IsWholePlan}
 use Rattle.versions.specs.declared.plan.JobPlan.{JobPlan}
-use Rattle.memories.specs.Places.{LeavesMemories}
+use Rattle.memtables.specs.Places.{LeavesMemories}
 use Rattle.engine.specs.declared.ids.Ids.{Ids}
 use Rattle.engine.specs.Causes.{IsCausedIn, IsMet, broken_in, level_refusal}
 use Rattle.engine.specs.Finishing.{HasNoMemory, beyond}

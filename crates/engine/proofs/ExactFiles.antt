@@ -10,16 +10,16 @@ use Rattle.edits.specs.declared.field.PlacedTable.{PlacedTable}
 use Rattle.edits.specs.declared.names.FileName.{FileName}
 use Rattle.edits.specs.declared.names.FileName.TheVariants.{Current, Lock, Log, Table, OldTable, Manifest, Temporary}
 use Rattle.ikey.specs.Orders.{Order}
-use Rattle.jobs.specs.declared.open_job.OpenJob.{OpenJob}
+use Rattle.running_job.specs.declared.open_job.OpenJob.{OpenJob}
 use Rattle.recover.proofs.Memberships.{one_of_tables}
 use Rattle.recover.specs.Directory.{Directory}
 use Rattle.recover.specs.Logs.{InLogs, IsLive, LogContent}
 use Rattle.recover.specs.Tables.{HasTable, TableContent}
-use Rattle.scans.specs.Scans.{tables_of}
-use Rattle.scans.specs.declared.scan.Scan.{Scan}
-use Rattle.sources.specs.Tables.{Seen}
-use Rattle.upkeep.proofs.JobTables.{contains_among, content_at}
-use Rattle.upkeep.specs.Compactions.{placed_in}
+use Rattle.db_cursor.specs.Scans.{tables_of}
+use Rattle.db_cursor.specs.declared.scan.Scan.{Scan}
+use Rattle.table_access.specs.Tables.{Seen}
+use Rattle.directory_writes.proofs.JobTables.{contains_among, content_at}
+use Rattle.directory_writes.specs.Compactions.{placed_in}
 use Rattle.versions.specs.Keeping.{HasNumber}
 use Rattle.engine.specs.declared.ids.Ids.{Ids}
 use Rattle.engine.specs.declared.work.Progress.{Progress}

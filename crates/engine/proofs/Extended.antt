@@ -3,8 +3,8 @@ use Rattle.std.proofs.Common.{◌≡◌, ℕ, List, [], ◌∷◌, ◌++◌, len
 use Rattle.std.proofs.lemmas.List.{length-append}
 use Rattle.ikey.specs.Orders.{Order}
 use Rattle.ikey.specs.declared.entry.Entry.{Entry}
-use Rattle.memories.specs.Changes.{IsWritten}
-use Rattle.memories.specs.Memories.{Memories, sealed_inserts}
+use Rattle.memtables.specs.Changes.{IsWritten}
+use Rattle.memtables.specs.Memories.{Memories, sealed_inserts}
 use Rattle.recover.specs.Changes.{IsExtended, ManifestEndsAt}
 use Rattle.recover.specs.Directory.{Directory}
 use Rattle.recover.specs.Logs.{LogContent, batch_entries, logged}

@@ -5,13 +5,13 @@ use Rattle.coding.specs.declared.error.DbError.{DbError}
 use Rattle.coding.specs.declared.error.DbError.TheVariants as error
 use Rattle.edits.specs.declared.field.PlacedTable.{PlacedTable}
 use Rattle.ikey.specs.Orders.{Order}
-use Rattle.jobs.specs.Running.{shown}
-use Rattle.jobs.specs.declared.open_job.OpenJob.{OpenJob}
-use Rattle.memories.specs.PlaceLaws.{left_onward, left_there}
-use Rattle.memories.specs.Places.{LeavesMemories}
-use Rattle.sources.specs.Tables.{Seen}
+use Rattle.running_job.specs.Running.{shown}
+use Rattle.running_job.specs.declared.open_job.OpenJob.{OpenJob}
+use Rattle.memtables.specs.PlaceLaws.{left_onward, left_there}
+use Rattle.memtables.specs.Places.{LeavesMemories}
+use Rattle.table_access.specs.Tables.{Seen}
 use Rattle.store.specs.Files.{Facts}
-use Rattle.upkeep.specs.Install.{Replaces}
+use Rattle.directory_writes.specs.Install.{Replaces}
 use Rattle.versions.specs.declared.plan.JobPlan.{JobPlan}
 use Rattle.engine.specs.declared.ids.Ids.{Ids}
 use Rattle.engine.specs.Compacting.{IsCompacting}

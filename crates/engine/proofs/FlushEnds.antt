@@ -4,7 +4,7 @@ use Rattle.std.specs.declared.alloc.Global.{Global}
 use Rattle.std.specs.declared.rc.Rc.{Rc}
 use Rattle.coding.specs.declared.error.DbError.{DbError}
 use Rattle.coding.specs.declared.error.DbError.TheVariants as error
-use Rattle.compact.specs.declared.numbers.FileNumbers.{FileNumbers}
+use Rattle.edits.specs.declared.numbers.FileNumbers.{FileNumbers}
 use Rattle.edits.specs.Names.{name_of}
 use Rattle.edits.specs.declared.field.PlacedTable.{PlacedTable}
 use Rattle.edits.specs.declared.names.FileName.TheVariants.{Table}
@@ -12,22 +12,22 @@ use Rattle.ikey.specs.Orders.{Order}
 use Rattle.ikey.specs.Sources.{SameViewLaw}
 use Rattle.ikey.specs.declared.entry.Entry.{Entry}
 use Rattle.ikey.proofs.SearchedSources.{among_back, among_front}
-use Rattle.memories.specs.Memories.{Memories, logged_in, sealed_inserts}
+use Rattle.memtables.specs.Memories.{Memories, logged_in, sealed_inserts}
 use Rattle.recover.specs.Directory.{Directory}
 use Rattle.recover.specs.Entries.{RiseAbove}
 use Rattle.recover.specs.Laws.{OneDirectoryLaw}
 use Rattle.recover.specs.Logs.{LogContent}
 use Rattle.recover.specs.Tables.{tabled}
-use Rattle.scans.specs.Scanning.{ScanIsKept}
-use Rattle.scans.specs.declared.scan.Scan.{Scan}
-use Rattle.sources.specs.Tables.{Seen, IsSound, SoundLasts}
+use Rattle.db_cursor.specs.Scanning.{ScanIsKept}
+use Rattle.db_cursor.specs.declared.scan.Scan.{Scan}
+use Rattle.table_access.specs.Tables.{Seen, IsSound, SoundLasts}
 use Rattle.store.specs.Files.{Facts}
-use Rattle.upkeep.specs.Flush.{CanFlush, DrawsTable, FlushMeans, FlushTouches, IsCorrupt, IsFlushed, MayBeFlushed, RefusesFlush, RefusesTable}
+use Rattle.directory_writes.specs.Flush.{CanFlush, DrawsTable, FlushMeans, FlushTouches, IsCorrupt, IsFlushed, MayBeFlushed, RefusesFlush, RefusesTable}
 use Rattle.compact.specs.Rooms.{room_of}
-use Rattle.upkeep.specs.Level0.{IsTooLarge}
-use Rattle.upkeep.specs.declared.flush.FlushError.{FlushError}
-use Rattle.upkeep.specs.declared.flush.FlushError.TheVariants.{Before, Edit}
-use Rattle.upkeep.specs.declared.flush.FlushPlan.{FlushPlan}
+use Rattle.directory_writes.specs.Level0.{IsTooLarge}
+use Rattle.directory_writes.specs.declared.flush.FlushError.{FlushError}
+use Rattle.directory_writes.specs.declared.flush.FlushError.TheVariants.{Before, Edit}
+use Rattle.directory_writes.specs.declared.flush.FlushPlan.{FlushPlan}
 use Rattle.versions.specs.Levels.{AreInOrder, Placement}
 use Rattle.engine.specs.declared.ids.Ids.{Ids}
 use Rattle.engine.specs.declared.state.DbState.{DbState}

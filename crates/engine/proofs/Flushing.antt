@@ -13,10 +13,10 @@ use Rattle.edits.specs.declared.names.FileName.TheVariants.{Manifest, Table, Old
 use Rattle.ikey.specs.Orders.{Order}
 use Rattle.ikey.specs.Sources.{SameEntries, SameViewLaw}
 use Rattle.ikey.specs.declared.entry.Entry.{Entry}
-use Rattle.memories.specs.Memories.{Memories, logged_in, sealed_inserts}
-use Rattle.memories.specs.Places.{MemoriesPlace, KeepsMemories}
-use Rattle.jobs.proofs.Staying.{stays as job_stays}
-use Rattle.jobs.specs.Running.{deep_of}
+use Rattle.memtables.specs.Memories.{Memories, logged_in, sealed_inserts}
+use Rattle.memtables.specs.Places.{MemoriesPlace, KeepsMemories}
+use Rattle.running_job.proofs.Staying.{stays as job_stays}
+use Rattle.running_job.specs.Running.{deep_of}
 use Rattle.recover.specs.Changes.{ManifestEndsAt, flushed, with_content}
 use Rattle.recover.specs.Numbers.{IsFree}
 use Rattle.recover.specs.Directory.{Directory, IsConsistent, entries_in, used_in}
@@ -24,15 +24,15 @@ use Rattle.recover.specs.Laws.{OneDirectoryLaw}
 use Rattle.recover.specs.Logs.{LogContent, batch_entries, logged}
 use Rattle.recover.specs.Report.{IsLongTable, AnyHasBytes}
 use Rattle.recover.specs.Tables.{TableContent, tabled}
-use Rattle.scans.specs.Scans.{KeepsScan}
-use Rattle.scans.specs.Scanning.{ScanIsKept}
-use Rattle.scans.specs.declared.scan.Scan.{Scan}
-use Rattle.sources.specs.Tables.{Seen, IsSound, KeepsOf, SoundLasts}
-use Rattle.sources.proofs.Sounding.{same_file, same_table}
+use Rattle.db_cursor.specs.Scans.{KeepsScan}
+use Rattle.db_cursor.specs.Scanning.{ScanIsKept}
+use Rattle.db_cursor.specs.declared.scan.Scan.{Scan}
+use Rattle.table_access.specs.Tables.{Seen, IsSound, KeepsOf, SoundLasts}
+use Rattle.table_access.proofs.Sounding.{same_file, same_table}
 use Rattle.store.specs.Files.{Facts}
-use Rattle.upkeep.specs.Flush.{CanFlush, FlushTouches, HasFlushed, IsFlushed, IsUnflushed, MayBeFlushed, PassesNoLimit}
-use Rattle.upkeep.specs.declared.flush.FlushPlan.{FlushPlan}
-use Rattle.upkeep.proofs.PlansKept.{flushed_plan}
+use Rattle.directory_writes.specs.Flush.{CanFlush, FlushTouches, HasFlushed, IsFlushed, IsUnflushed, MayBeFlushed, PassesNoLimit}
+use Rattle.directory_writes.specs.declared.flush.FlushPlan.{FlushPlan}
+use Rattle.directory_writes.proofs.PlansKept.{flushed_plan}
 use Rattle.versions.specs.Levels.{AreInOrder, Lists}
 use Rattle.engine.specs.declared.directory.DirectoryState.{DirectoryState}
 use Rattle.engine.specs.Directory.{CanAppend, IsReadable}

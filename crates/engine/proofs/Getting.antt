@@ -12,13 +12,13 @@ use Rattle.edits.specs.declared.field.PlacedTable.{PlacedTable}
 use Rattle.ikey.specs.Orders.{Order}
 use Rattle.ikey.specs.Sources.{IsAnswer, FrontLaw, BehindLaw, SameViewLaw}
 use Rattle.ikey.specs.Views.{IsUnseen}
-use Rattle.memories.specs.Memories.{logged_in}
-use Rattle.memories.specs.PlaceLaws.{left_there}
-use Rattle.reads.specs.Gets.{HasNoTablesOf, IsOneTooLong, SaysOfAll}
-use Rattle.scans.specs.Scanning.{ScanIsKept}
-use Rattle.scans.specs.declared.scan.Scan.{Scan}
-use Rattle.search.specs.Laws.{VersionLaw}
-use Rattle.sources.specs.Tables.{Seen, Carries}
+use Rattle.memtables.specs.Memories.{logged_in}
+use Rattle.memtables.specs.PlaceLaws.{left_there}
+use Rattle.version_get.specs.Gets.{HasNoTablesOf, IsOneTooLong, SaysOfAll}
+use Rattle.db_cursor.specs.Scanning.{ScanIsKept}
+use Rattle.db_cursor.specs.declared.scan.Scan.{Scan}
+use Rattle.version_laws.specs.Laws.{VersionLaw}
+use Rattle.table_access.specs.Tables.{Seen, Carries}
 use Rattle.table.specs.Reading.{IsErrorStill}
 use Rattle.store.specs.Files.{Facts}
 use Rattle.table.specs.Reading.{Reads}

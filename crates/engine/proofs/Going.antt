@@ -12,14 +12,14 @@ use Rattle.coding.specs.declared.error.DbError.{DbError}
 use Rattle.coding.specs.declared.error.DbError.TheVariants as error
 use Rattle.cursor.specs.Moves.{Refuses}
 use Rattle.ikey.specs.Orders.{Order}
-use Rattle.memories.specs.PlaceLaws.{left_logged}
-use Rattle.scans.specs.Scanning.{ScanIsKept}
-use Rattle.scans.specs.Scans.{IsScanLimited, ListsMerged, tables_of}
-use Rattle.scans.specs.Whole.{Whole}
-use Rattle.memories.specs.Memories.{Memories}
-use Rattle.scans.specs.declared.scan.Scan.{Scan}
-use Rattle.search.specs.Laws.{VersionLaw}
-use Rattle.sources.specs.Tables.{Seen}
+use Rattle.memtables.specs.PlaceLaws.{left_logged}
+use Rattle.db_cursor.specs.Scanning.{ScanIsKept}
+use Rattle.db_cursor.specs.Scans.{IsScanLimited, ListsMerged, tables_of}
+use Rattle.db_cursor.specs.Whole.{Whole}
+use Rattle.memtables.specs.Memories.{Memories}
+use Rattle.db_cursor.specs.declared.scan.Scan.{Scan}
+use Rattle.version_laws.specs.Laws.{VersionLaw}
+use Rattle.table_access.specs.Tables.{Seen}
 use Rattle.table.specs.Reading.{IsStill}
 use Rattle.store.specs.Files.{Facts}
 use Rattle.engine.specs.declared.command.Answer.{Answer}

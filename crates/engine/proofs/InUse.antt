@@ -8,10 +8,10 @@ use Rattle.std.proofs.lemmas.Map.Iter.{iter_end, iter_turn}
 use Rattle.std.proofs.lemmas.Option.{get_or_from_slice_get}
 use Rattle.std.proofs.lemmas.List.Elements.{All-map, All-push}
 use Rattle.edits.specs.declared.field.PlacedTable.{PlacedTable}
-use Rattle.jobs.specs.declared.open_job.OpenJob.{OpenJob}
-use Rattle.rows.specs.InRows as rows
-use Rattle.scans.specs.Scans.{reads_memory, tables_of}
-use Rattle.scans.specs.declared.scan.Scan.{Scan}
+use Rattle.running_job.specs.declared.open_job.OpenJob.{OpenJob}
+use Rattle.level_cursor.specs.InRows as rows
+use Rattle.db_cursor.specs.Scans.{reads_memory, tables_of}
+use Rattle.db_cursor.specs.declared.scan.Scan.{Scan}
 use Rattle.versions.specs.Keeping as versions
 use Rattle.engine.specs.InUse.{AnyIterator, IsMemoryUsed, IsTableUsed}
 use Rattle.engine.specs.Live.{kept_at}

@@ -15,11 +15,11 @@ use Rattle.ikey.specs.Entries.{InternalEntry, entry_of}
 use Rattle.ikey.specs.Orders.{Order}
 use Rattle.ikey.specs.Views.{Among, Contents, IsView}
 use Rattle.ikey.specs.declared.entry.Entry.{Entry}
-use Rattle.jobs.specs.Ending.{CanEnd}
-use Rattle.jobs.specs.Running.{IsRunning, deep_of}
-use Rattle.jobs.specs.declared.open_job.OpenJob.{OpenJob}
-use Rattle.memories.specs.Memories.{logged_in}
-use Rattle.memories.specs.PlaceLaws.{left_kept}
+use Rattle.running_job.specs.Ending.{CanEnd}
+use Rattle.running_job.specs.Running.{IsRunning, deep_of}
+use Rattle.running_job.specs.declared.open_job.OpenJob.{OpenJob}
+use Rattle.memtables.specs.Memories.{logged_in}
+use Rattle.memtables.specs.PlaceLaws.{left_kept}
 use Rattle.recover.proofs.Memberships.{among_chosen, among_contents, among_rest}
 use Rattle.recover.specs.Changes.{ManifestEndsAt, compacted}
 use Rattle.recover.specs.Directory.{Directory, IsConsistent, entries_in}
@@ -28,16 +28,16 @@ use Rattle.recover.specs.Logs.{logged}
 use Rattle.recover.specs.Numbers.{IsFree}
 use Rattle.recover.specs.Report.{IsLongTable, AnyHasBytes}
 use Rattle.recover.specs.Tables.{TableContent, tabled}
-use Rattle.scans.specs.Scanning.{ScanIsKept}
-use Rattle.scans.specs.Scans.{KeepsScan}
-use Rattle.scans.specs.declared.scan.Scan.{Scan}
-use Rattle.sources.proofs.Sounding.{same_file, same_table}
-use Rattle.sources.specs.Tables.{IsSound, KeepsOf, Seen, SoundLasts}
+use Rattle.db_cursor.specs.Scanning.{ScanIsKept}
+use Rattle.db_cursor.specs.Scans.{KeepsScan}
+use Rattle.db_cursor.specs.declared.scan.Scan.{Scan}
+use Rattle.table_access.proofs.Sounding.{same_file, same_table}
+use Rattle.table_access.specs.Tables.{IsSound, KeepsOf, Seen, SoundLasts}
 use Rattle.store.specs.Files.{Facts}
-use Rattle.upkeep.proofs.PlansMade.{planned_apart}
-use Rattle.upkeep.specs.Compactions.{placed_in}
-use Rattle.upkeep.specs.Flush.{KeepsParts, PassesNoLimit}
-use Rattle.upkeep.specs.Install.{HasInstalled, InstallTouches, IsUninstalled, MayBeInstalled}
+use Rattle.directory_writes.proofs.PlansMade.{planned_apart}
+use Rattle.directory_writes.specs.Compactions.{placed_in}
+use Rattle.directory_writes.specs.Flush.{KeepsParts, PassesNoLimit}
+use Rattle.directory_writes.specs.Install.{HasInstalled, InstallTouches, IsUninstalled, MayBeInstalled}
 use Rattle.versions.specs.Levels.{AreInOrder, Lists}
 use Rattle.engine.specs.declared.directory.DirectoryState.{DirectoryState}
 use Rattle.engine.specs.Accounted.{AreAccounted}

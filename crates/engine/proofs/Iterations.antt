@@ -8,12 +8,12 @@ use Rattle.coding.specs.declared.error.DbError.TheVariants as error
 use Rattle.cursor.specs.Moves.{Refuses}
 use Rattle.cursor.specs.Views.{Walked}
 use Rattle.cursor.specs.Walks.{key_before}
-use Rattle.scans.specs.Pairs.{pair_on}
-use Rattle.scans.specs.Scanning.{IsScanned, ReadsAs, TakesBack}
-use Rattle.rows.specs.InRows.{HasNumber}
-use Rattle.scans.specs.Scans.{IsOnePastLimit, IsScan, IsScanLimited, reads_table, tables_of}
-use Rattle.scans.specs.Whole.{Whole}
-use Rattle.scans.specs.declared.scan.Scan.{Scan}
+use Rattle.db_cursor.specs.Pairs.{pair_on}
+use Rattle.db_cursor.specs.Scanning.{IsScanned, ReadsAs, TakesBack}
+use Rattle.level_cursor.specs.InRows.{HasNumber}
+use Rattle.db_cursor.specs.Scans.{IsOnePastLimit, IsScan, IsScanLimited, reads_table, tables_of}
+use Rattle.db_cursor.specs.Whole.{Whole}
+use Rattle.db_cursor.specs.declared.scan.Scan.{Scan}
 use Rattle.store.specs.Files.{Facts}
 use Rattle.engine.specs.Causes.{IsMet}
 use Rattle.engine.specs.Iterators.{walked_of, destination}

@@ -13,9 +13,9 @@ use Rattle.ikey.specs.Entries.{InternalEntry, entry_of}
 use Rattle.ikey.specs.Keys.{Key, key_cmp}
 use Rattle.ikey.specs.Orders.{Order}
 use Rattle.ikey.specs.Views.{Among}
-use Rattle.jobs.specs.declared.open_job.OpenJob.{OpenJob}
-use Rattle.scans.specs.Scans.{ListsMerged}
-use Rattle.scans.specs.Whole.{Whole}
+use Rattle.running_job.specs.declared.open_job.OpenJob.{OpenJob}
+use Rattle.db_cursor.specs.Scans.{ListsMerged}
+use Rattle.db_cursor.specs.Whole.{Whole}
 use Rattle.engine.specs.Accounted.{AreAccounted, entry_weight}
 use Rattle.engine.proofs.Weighing.{weighs_less, room_is}
 pub use Rattle.engine.proofs.Weighing.{NoTwice}

@@ -10,38 +10,38 @@ use Rattle.coding.specs.declared.error.DbError.TheVariants as error
 use Rattle.compact.specs.Outputs.{IsOwn, RefusesEntry}
 use Rattle.compact.specs.Rooms.{AreLarge}
 use Rattle.compact.specs.declared.job.Progress.{Progress}
-use Rattle.compact.specs.declared.numbers.FileNumbers.{FileNumbers}
+use Rattle.edits.specs.declared.numbers.FileNumbers.{FileNumbers}
 use Rattle.edits.specs.declared.field.PlacedTable.{PlacedTable}
 use Rattle.ikey.proofs.SearchedSources.{among_front}
 use Rattle.ikey.specs.Entries.{InternalEntry, entry_of}
 use Rattle.ikey.specs.Orders.{Order}
 use Rattle.ikey.specs.Views.{Among}
 use Rattle.ikey.specs.declared.entry.Entry.{Entry}
-use Rattle.jobs.specs.Ending.{CanEnd, EndLeaves, RefusesEnd}
-use Rattle.jobs.specs.Running.{deep_of, shown}
-use Rattle.jobs.specs.Stepping.{GoesOn, KeepsDirectory, RefusesStep, StepTouches}
-use Rattle.jobs.specs.declared.open_job.OpenJob.{OpenJob}
-use Rattle.memories.specs.Memories.{Memories, logged_in}
-use Rattle.memories.specs.PlaceLaws.{left_logged}
-use Rattle.memories.specs.Places.{LeavesMemories}
+use Rattle.running_job.specs.Ending.{CanEnd, EndLeaves, RefusesEnd}
+use Rattle.running_job.specs.Running.{deep_of, shown}
+use Rattle.running_job.specs.Stepping.{GoesOn, KeepsDirectory, RefusesStep, StepTouches}
+use Rattle.running_job.specs.declared.open_job.OpenJob.{OpenJob}
+use Rattle.memtables.specs.Memories.{Memories, logged_in}
+use Rattle.memtables.specs.PlaceLaws.{left_logged}
+use Rattle.memtables.specs.Places.{LeavesMemories}
 use Rattle.recover.proofs.Memberships.{among_chosen, from_chosen, one_of_tables}
 use Rattle.recover.specs.Directory.{Directory}
 use Rattle.recover.specs.Laws.{OneDirectoryLaw}
 use Rattle.recover.specs.Tables.{HasTable, InTables, IsTableFile, TableContent, tabled}
-use Rattle.scans.specs.Scanning.{ScanIsKept}
-use Rattle.scans.specs.Scans.{IsOnePastLimit}
-use Rattle.scans.specs.Whole.{Whole}
-use Rattle.scans.specs.declared.scan.Scan.{Scan}
-use Rattle.sources.specs.Tables.{Seen, SoundLasts}
-use Rattle.sources.specs.Values.{IsPastLimit}
+use Rattle.db_cursor.specs.Scanning.{ScanIsKept}
+use Rattle.db_cursor.specs.Scans.{IsOnePastLimit}
+use Rattle.db_cursor.specs.Whole.{Whole}
+use Rattle.db_cursor.specs.declared.scan.Scan.{Scan}
+use Rattle.table_access.specs.Tables.{Seen, SoundLasts}
+use Rattle.table_access.specs.Values.{IsPastLimit}
 use Rattle.store.specs.Files.{Facts}
-use Rattle.upkeep.proofs.JobTables.{contains_among, content_at}
-use Rattle.upkeep.specs.Compactions.{placed_in}
-use Rattle.upkeep.specs.Install.{InstallMeans, InstallTouches}
-use Rattle.upkeep.specs.declared.flush.FlushError.{FlushError}
-use Rattle.upkeep.specs.declared.flush.FlushError.TheVariants.{Before, Edit}
-use Rattle.upkeep.specs.declared.install.Installed.{Installed}
-use Rattle.upkeep.specs.declared.manifest.CurrentManifest.{CurrentManifest}
+use Rattle.directory_writes.proofs.JobTables.{contains_among, content_at}
+use Rattle.directory_writes.specs.Compactions.{placed_in}
+use Rattle.directory_writes.specs.Install.{InstallMeans, InstallTouches}
+use Rattle.directory_writes.specs.declared.flush.FlushError.{FlushError}
+use Rattle.directory_writes.specs.declared.flush.FlushError.TheVariants.{Before, Edit}
+use Rattle.directory_writes.specs.declared.install.Installed.{Installed}
+use Rattle.directory_writes.specs.declared.manifest.CurrentManifest.{CurrentManifest}
 use Rattle.versions.specs.Levels.{AreInOrder}
 use Rattle.engine.specs.declared.ids.Ids.{Ids}
 use Rattle.engine.specs.declared.state.DbState.{DbState}

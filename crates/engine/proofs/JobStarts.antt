@@ -8,20 +8,20 @@ use Rattle.ikey.proofs.SearchedSources.{among_front}
 use Rattle.ikey.specs.Entries.{entry_of}
 use Rattle.ikey.specs.Orders.{Order}
 use Rattle.ikey.specs.Views.{AllUpTo, Among}
-use Rattle.jobs.specs.Beginning.{BeginsJob, CanBegin, RefusesBegin}
-use Rattle.jobs.specs.declared.open_job.OpenJob.{OpenJob}
-use Rattle.memories.specs.Memories.{Memories, logged_in}
+use Rattle.running_job.specs.Beginning.{BeginsJob, CanBegin, RefusesBegin}
+use Rattle.running_job.specs.declared.open_job.OpenJob.{OpenJob}
+use Rattle.memtables.specs.Memories.{Memories, logged_in}
 use Rattle.recover.proofs.Memberships.{among_chosen}
 use Rattle.recover.specs.Directory.{Directory}
 use Rattle.recover.specs.Tables.{TableContent, tabled}
-use Rattle.rows.specs.InRows.{HasNumber}
-use Rattle.scans.specs.Places.{LeavesSource}
-use Rattle.scans.specs.Scanning.{ScanIsKept}
-use Rattle.scans.specs.Whole.{Whole}
-use Rattle.scans.specs.declared.scan.Scan.{Scan}
-use Rattle.sources.specs.Tables.{Seen}
-use Rattle.upkeep.proofs.JobTables.{contains_among, content_at}
-use Rattle.upkeep.specs.Compactions.{placed_in}
+use Rattle.level_cursor.specs.InRows.{HasNumber}
+use Rattle.db_cursor.specs.Places.{LeavesSource}
+use Rattle.db_cursor.specs.Scanning.{ScanIsKept}
+use Rattle.db_cursor.specs.Whole.{Whole}
+use Rattle.db_cursor.specs.declared.scan.Scan.{Scan}
+use Rattle.table_access.specs.Tables.{Seen}
+use Rattle.directory_writes.proofs.JobTables.{contains_among, content_at}
+use Rattle.directory_writes.specs.Compactions.{placed_in}
 use Rattle.versions.specs.Levels.{Lists}
 use Rattle.versions.specs.Plans.{IsPlanOf}
 use Rattle.versions.specs.declared.plan.JobPlan.{JobPlan}

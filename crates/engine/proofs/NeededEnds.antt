@@ -16,15 +16,15 @@ use Rattle.edits.specs.declared.field.PlacedTable.{PlacedTable}
 use Rattle.ikey.specs.Orders.{Order}
 use Rattle.ikey.specs.Views.{Contents, IsView}
 use Rattle.ikey.specs.declared.entry.Entry.{Entry}
-use Rattle.memories.specs.Memories.{Memories, inserts_of, logged_in, older_at, sealed_inserts}
+use Rattle.memtables.specs.Memories.{Memories, inserts_of, logged_in, older_at, sealed_inserts}
 use Rattle.recover.proofs.Distinct.{distinct}
 use Rattle.recover.proofs.OneMeaning.{same_directory}
 use Rattle.recover.specs.Changes.{AreDistinct}
 use Rattle.recover.specs.Logs.{logged}
 use Rattle.recover.specs.Tables.{TableContent, tabled}
-use Rattle.sources.specs.Tables.{Seen}
-use Rattle.upkeep.proofs.PlanParts.{distinct_front}
-use Rattle.upkeep.specs.Compactions.{placed_in}
+use Rattle.table_access.specs.Tables.{Seen}
+use Rattle.directory_writes.proofs.PlanParts.{distinct_front}
+use Rattle.directory_writes.specs.Compactions.{placed_in}
 use Rattle.versions.specs.Levels.{Lists}
 use Rattle.engine.specs.declared.ids.Ids.{Ids}
 use Rattle.engine.specs.Finishing.{HasNoMemory, IsAllCompacted}

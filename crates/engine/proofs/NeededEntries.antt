@@ -15,20 +15,20 @@ use Rattle.ikey.specs.Entries.{InternalEntry, entry_of}
 use Rattle.ikey.specs.Orders.{Order}
 use Rattle.ikey.specs.Views.{Among}
 use Rattle.ikey.specs.declared.entry.Entry.{Entry}
-use Rattle.jobs.specs.Running.{deep_of}
-use Rattle.jobs.specs.declared.open_job.OpenJob.{OpenJob}
-use Rattle.memories.specs.Memories.{Memories}
+use Rattle.running_job.specs.Running.{deep_of}
+use Rattle.running_job.specs.declared.open_job.OpenJob.{OpenJob}
+use Rattle.memtables.specs.Memories.{Memories}
 use Rattle.recover.proofs.Flushing.{kept_by}
 use Rattle.recover.proofs.Memberships.{among_chosen, among_contents, from_rest, from_tabled}
 use Rattle.recover.specs.Changes.{compacted}
 use Rattle.recover.specs.Directory.{Directory, IsConsistent}
 use Rattle.recover.specs.Tables.{InTables, TableContent, tabled}
 use Rattle.store.specs.Files.{Files}
-use Rattle.upkeep.proofs.JobTables.{contains_among, content_at, row_of}
-use Rattle.upkeep.proofs.PlanParts.{parts_apart}
-use Rattle.upkeep.specs.Compactions.{placed_in}
-use Rattle.upkeep.specs.Install.{HasInstalled}
-use Rattle.upkeep.specs.Planned.{IsPlanned}
+use Rattle.directory_writes.proofs.JobTables.{contains_among, content_at, row_of}
+use Rattle.directory_writes.proofs.PlanParts.{parts_apart}
+use Rattle.directory_writes.specs.Compactions.{placed_in}
+use Rattle.directory_writes.specs.Install.{HasInstalled}
+use Rattle.directory_writes.specs.Planned.{IsPlanned}
 use Rattle.versions.specs.Levels.{Lists}
 use Rattle.versions.specs.Plans.{IsWholePlan}
 use Rattle.versions.specs.Ranges.{covers}

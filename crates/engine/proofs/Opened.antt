@@ -7,7 +7,7 @@ use Rattle.edits.specs.declared.names.FileName.{FileName}
 use Rattle.edits.specs.declared.names.FileName.TheVariants.{Current, Manifest}
 use Rattle.edits.proofs.FileNames.{one_file}
 use Rattle.ikey.specs.Orders.{Order}
-use Rattle.sources.specs.Tables.{Seen}
+use Rattle.table_access.specs.Tables.{Seen}
 use Rattle.store.specs.Files.{Facts}
 use Rattle.engine.specs.declared.command.Mode.{Mode}
 use Rattle.engine.specs.declared.command.Answer.TheVariants.{Done, Refused}

@@ -21,12 +21,12 @@ use Rattle.recover.specs.Laws.{OneDirectoryLaw}
 use Rattle.recover.specs.Numbers.{IsFree, NamesBelow}
 use Rattle.recover.specs.Report.{IsLongTable, AnyHasBytes}
 use Rattle.recover.specs.Tables.{TableContent}
-use Rattle.scans.specs.Scans.{KeepsScan}
-use Rattle.scans.specs.Scanning.{ScanIsKept}
-use Rattle.scans.specs.Whole.{Whole}
-use Rattle.scans.specs.declared.scan.Scan.{Scan}
+use Rattle.db_cursor.specs.Scans.{KeepsScan}
+use Rattle.db_cursor.specs.Scanning.{ScanIsKept}
+use Rattle.db_cursor.specs.Whole.{Whole}
+use Rattle.db_cursor.specs.declared.scan.Scan.{Scan}
 use Rattle.store.specs.Files.{Files}
-use Rattle.sources.specs.Tables.{Seen}
+use Rattle.table_access.specs.Tables.{Seen}
 use Rattle.engine.specs.Accounted.{AreAccounted}
 use Rattle.engine.specs.Directory.{IsWithinLimits, Means, MeansAccepted}
 use Rattle.engine.specs.Held.{Held, entries_of}

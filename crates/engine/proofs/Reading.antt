@@ -18,23 +18,23 @@ use Rattle.edits.specs.declared.field.PlacedTable.{PlacedTable}
 use Rattle.ikey.specs.declared.entry.Entry.{Entry}
 use Rattle.ikey.specs.Orders.{Order}
 use Rattle.ikey.specs.Sources.{joined, SameEntries}
-use Rattle.reads.specs.Gets.{HasTablesOf, IsTooLong}
+use Rattle.version_get.specs.Gets.{HasTablesOf, IsTooLong}
 use Rattle.recover.specs.Report.{IsLongTable}
 use Rattle.recover.specs.Tables.{TableContent, IsTableFile, InTables, HasTable, tabled}
 use Rattle.recover.proofs.Memberships.{one_of_tables}
-use Rattle.scans.specs.SourceLaws.{keeps_any}
-use Rattle.scans.specs.Scans.{IsOnePastLimit, KeepsScan, KeepsUpTo, reads_memory, reads_table, tables_of}
-use Rattle.scans.specs.Scanning.{ScanIsKept}
-use Rattle.rows.specs.InRows.{HasNumber}
-use Rattle.scans.specs.Whole.{Whole}
-use Rattle.memories.specs.Memories.{Memories, logged_in}
-use Rattle.memories.specs.PlaceLaws.{left_kept, left_logged, left_sealed}
-use Rattle.memories.specs.Places.{LeavesMemories}
-use Rattle.scans.specs.declared.scan.Scan.{Scan}
-use Rattle.search.specs.Laws.{VersionLaw}
-use Rattle.search.specs.Places.{table_sources, HasVersion}
-use Rattle.sources.specs.Tables.{Seen, IsSound, Carries, KeepsOf, Knows}
-use Rattle.sources.specs.Values.{IsPastLimit}
+use Rattle.db_cursor.specs.SourceLaws.{keeps_any}
+use Rattle.db_cursor.specs.Scans.{IsOnePastLimit, KeepsScan, KeepsUpTo, reads_memory, reads_table, tables_of}
+use Rattle.db_cursor.specs.Scanning.{ScanIsKept}
+use Rattle.level_cursor.specs.InRows.{HasNumber}
+use Rattle.db_cursor.specs.Whole.{Whole}
+use Rattle.memtables.specs.Memories.{Memories, logged_in}
+use Rattle.memtables.specs.PlaceLaws.{left_kept, left_logged, left_sealed}
+use Rattle.memtables.specs.Places.{LeavesMemories}
+use Rattle.db_cursor.specs.declared.scan.Scan.{Scan}
+use Rattle.version_laws.specs.Laws.{VersionLaw}
+use Rattle.version_laws.specs.Places.{table_sources, HasVersion}
+use Rattle.table_access.specs.Tables.{Seen, IsSound, Carries, KeepsOf, Knows}
+use Rattle.table_access.specs.Values.{IsPastLimit}
 use Rattle.store.specs.Files.{Files, Facts}
 use Rattle.table.proofs.FrameParts.{long_frame}
 use Rattle.versions.specs.Levels.{Lists}

@@ -8,9 +8,9 @@ use Rattle.edits.specs.declared.names.FileName.TheVariants.{Log, Table, OldTable
 use Rattle.ikey.specs.Orders.{Order}
 use Rattle.ikey.specs.Sources.{SameViewLaw}
 use Rattle.ikey.specs.declared.entry.Entry.{Entry}
-use Rattle.memories.specs.Changes.{IsSealed}
-use Rattle.memories.specs.Memories.{Memories, inserts_of, logged_in, older_at, sealed_inserts, table_in}
-use Rattle.memories.specs.Places.{MemoriesPlace, KeepsMemories}
+use Rattle.memtables.specs.Changes.{IsSealed}
+use Rattle.memtables.specs.Memories.{Memories, inserts_of, logged_in, older_at, sealed_inserts, table_in}
+use Rattle.memtables.specs.Places.{MemoriesPlace, KeepsMemories}
 use Rattle.recover.specs.Changes.{ManifestEndsAt, empty_log, with_log}
 use Rattle.recover.specs.Directory.{Directory, EndsAt, IsConsistent, entries_in, used_in}
 use Rattle.recover.specs.Entries.{greatest}
@@ -23,16 +23,16 @@ use Rattle.recover.specs.Logs.{logged}
 use Rattle.recover.specs.Numbers.{IsFree}
 use Rattle.recover.specs.Tables.{TableContent, tabled}
 use Rattle.recover.proofs.Adding.{table_of}
-use Rattle.scans.specs.Scans.{KeepsScan}
-use Rattle.scans.specs.Scanning.{ScanIsKept}
-use Rattle.scans.specs.declared.scan.Scan.{Scan}
-use Rattle.sources.specs.Tables.{Seen, IsSound, SoundLasts}
-use Rattle.sources.proofs.Sounding.{same_file, same_table}
+use Rattle.db_cursor.specs.Scans.{KeepsScan}
+use Rattle.db_cursor.specs.Scanning.{ScanIsKept}
+use Rattle.db_cursor.specs.declared.scan.Scan.{Scan}
+use Rattle.table_access.specs.Tables.{Seen, IsSound, SoundLasts}
+use Rattle.table_access.proofs.Sounding.{same_file, same_table}
 use Rattle.std.specs.declared.cmp.Ordering.{Ordering}
 use Rattle.std.specs.Option.{option_and_then}
 use Rattle.store.specs.Files.{Facts}
 use Rattle.table.specs.Writing.{KeepsOthers}
-use Rattle.upkeep.specs.LogFile.{HasNewLog}
+use Rattle.directory_writes.specs.LogFile.{HasNewLog}
 use Rattle.engine.specs.declared.directory.DirectoryState.{DirectoryState}
 use Rattle.engine.specs.declared.log.CurrentLog.{CurrentLog}
 use Rattle.engine.specs.Directory.{CanAppend, IsReadable}

@@ -9,17 +9,17 @@ use Rattle.ikey.specs.declared.entry.Entry.{Entry}
 use Rattle.ikey.proofs.SearchedSources.{among_split, among_front, among_back}
 use Rattle.edits.specs.Names.{IsNumbered}
 use Rattle.edits.specs.declared.field.PlacedTable.{PlacedTable}
-use Rattle.memories.specs.Memories.{logged_in}
-use Rattle.reads.specs.Gets.{IsTooLong}
+use Rattle.memtables.specs.Memories.{logged_in}
+use Rattle.version_get.specs.Gets.{IsTooLong}
 use Rattle.cache.specs.Tables.{table_at}
 use Rattle.recover.proofs.Memberships.{one_of_tables}
 use Rattle.recover.specs.Tables.{HasTable, InTables, TableContent, tabled}
-use Rattle.rows.specs.InRows.{HasNumber}
-use Rattle.scans.specs.Scans.{BeginsScan, reads_table, tables_of}
-use Rattle.scans.specs.declared.scan.Scan.{Scan}
-use Rattle.search.specs.Laws.{VersionLaw}
-use Rattle.search.specs.Places.{table_sources}
-use Rattle.sources.specs.Tables.{Seen}
+use Rattle.level_cursor.specs.InRows.{HasNumber}
+use Rattle.db_cursor.specs.Scans.{BeginsScan, reads_table, tables_of}
+use Rattle.db_cursor.specs.declared.scan.Scan.{Scan}
+use Rattle.version_laws.specs.Laws.{VersionLaw}
+use Rattle.version_laws.specs.Places.{table_sources}
+use Rattle.table_access.specs.Tables.{Seen}
 use Rattle.engine.specs.Directory.{IsWithinLimits}
 use Rattle.engine.specs.Held.{Held, whole_of, entries_of}
 use Rattle.engine.specs.Iterators.{BeginsWalk}

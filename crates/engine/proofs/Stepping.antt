@@ -5,26 +5,26 @@ use Rattle.compact.specs.Laws.{SeesAsOne}
 use Rattle.compact.specs.Merging.{IsSlice}
 use Rattle.compact.specs.Outputs.{IsMineUpTo, IsOwn}
 use Rattle.compact.specs.declared.job.Progress.{Progress}
-use Rattle.compact.specs.declared.numbers.FileNumbers.{FileNumbers}
+use Rattle.edits.specs.declared.numbers.FileNumbers.{FileNumbers}
 use Rattle.edits.specs.Names.{IsNumbered}
 use Rattle.ikey.specs.Entries.{InternalEntry, entry_of}
 use Rattle.ikey.specs.Orders.{Order}
 use Rattle.ikey.specs.Views.{AllUpTo}
-use Rattle.jobs.specs.Running.{IsRunning}
-use Rattle.jobs.specs.Stepping.{CanStep, GoesOn, KeepsDirectory, StepKeeps, StepTouches}
-use Rattle.jobs.specs.declared.open_job.OpenJob.{OpenJob}
-use Rattle.memories.specs.Memories.{Memories, logged_in}
-use Rattle.memories.specs.PlaceLaws.{left_kept, left_logged, left_sealed}
+use Rattle.running_job.specs.Running.{IsRunning}
+use Rattle.running_job.specs.Stepping.{CanStep, GoesOn, KeepsDirectory, StepKeeps, StepTouches}
+use Rattle.running_job.specs.declared.open_job.OpenJob.{OpenJob}
+use Rattle.memtables.specs.Memories.{Memories, logged_in}
+use Rattle.memtables.specs.PlaceLaws.{left_kept, left_logged, left_sealed}
 use Rattle.recover.specs.Directory.{Directory}
 use Rattle.recover.specs.Laws.{OneDirectoryLaw}
 use Rattle.recover.specs.Tables.{InTables, TableContent}
 use Rattle.recover.proofs.Adding.{table_of}
-use Rattle.rows.specs.InRows.{HasNumber}
-use Rattle.scans.specs.Scanning.{ScanIsKept}
-use Rattle.scans.specs.Scans.{KeepsScan, reads_table, tables_of}
-use Rattle.scans.specs.Whole.{Whole}
-use Rattle.scans.specs.declared.scan.Scan.{Scan}
-use Rattle.sources.specs.Tables.{KeepsOf, Seen}
+use Rattle.level_cursor.specs.InRows.{HasNumber}
+use Rattle.db_cursor.specs.Scanning.{ScanIsKept}
+use Rattle.db_cursor.specs.Scans.{KeepsScan, reads_table, tables_of}
+use Rattle.db_cursor.specs.Whole.{Whole}
+use Rattle.db_cursor.specs.declared.scan.Scan.{Scan}
+use Rattle.table_access.specs.Tables.{KeepsOf, Seen}
 use Rattle.engine.specs.Compacting.{IsCompacting}
 use Rattle.engine.specs.Directory.{CanAppend}
 use Rattle.engine.specs.Held.{Held, whole_of}

@@ -15,7 +15,7 @@ use Rattle.cursor.specs.Views.{Walked, keys_before}
 use Rattle.cursor.specs.Walks.{IsPlacedWalk}
 use Rattle.engine.specs.Machine.{Walk}
 use Rattle.engine.specs.Iterators.{walked_of, destination}
-use Rattle.scans.specs.Pairs.{listed_pair, tuple_of, pair_on}
+use Rattle.db_cursor.specs.Pairs.{listed_pair, tuple_of, pair_on}
 use Rattle.engine.specs.Walks.{Motion, ToFirst, ToLast, ToKey, ToNext, ToPrev, place_at, place_before, place_after, pair_at, count_below}
 
 abbrev Order : Type 0

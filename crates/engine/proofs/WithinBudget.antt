@@ -1,4 +1,4 @@
--- That a slice which ends a compaction has merged no more entries than its budget has.
+-- That a step which ends a compaction has merged no more entries than its budget has.
 use Rattle.std.proofs.Common.{◌≡◌, ◌++◌, ◌≤◌, ℕ, Bool, true, false, List, length, max, Option, Some, None, IsSome, IsTrue, MatchBool, MatchOption, inl, inr, refl, sym, ap, subst, ◌∙◌, arith, append-nil}
 use Rattle.std.specs.Option.{option_or}
 use Rattle.cache.specs.Tables.{table_at}
@@ -6,13 +6,13 @@ use Rattle.compact.specs.declared.job.Progress.{Progress as Merged}
 use Rattle.edits.specs.declared.names.FileName.TheVariants.{OldTable, Table}
 use Rattle.ikey.specs.Entries.{InternalEntry}
 use Rattle.ikey.specs.Orders.{Order}
-use Rattle.jobs.specs.Stepping.{CanStep, GoesOn}
-use Rattle.jobs.specs.declared.open_job.OpenJob.{OpenJob}
-use Rattle.memories.specs.Memories.{Memories}
+use Rattle.running_job.specs.Stepping.{CanStep, GoesOn}
+use Rattle.running_job.specs.declared.open_job.OpenJob.{OpenJob}
+use Rattle.memtables.specs.Memories.{Memories}
 use Rattle.memtable.specs.Contents.{size_of}
 use Rattle.recover.specs.Directory.{Directory}
-use Rattle.scans.specs.Whole.{Whole}
-use Rattle.sources.specs.Tables.{Seen}
+use Rattle.db_cursor.specs.Whole.{Whole}
+use Rattle.table_access.specs.Tables.{Seen}
 use Rattle.store.specs.Files.{Files}
 use Rattle.versions.specs.Keeping.{HasNumber}
 use Rattle.engine.specs.declared.ids.Ids.{Ids}
@@ -21,7 +21,7 @@ use Rattle.engine.specs.Held.{Held, whole_of}
 use Rattle.engine.specs.Machine.{Machine}
 use Rattle.engine.specs.OptionValues.{OptionValues}
 use Rattle.engine.specs.Stands.{StandsOpen}
-use Rattle.engine.specs.WithinBudget.{HasLeftUpTo, SlicesUpTo}
+use Rattle.engine.specs.WithinBudget.{HasLeftUpTo, StepsUpTo}
 use Rattle.engine.specs.InUse.{IsTableUsed}
 use Rattle.engine.specs.Working.{IsAtEase, IsSameMemory, LosesDead}
 use Rattle.engine.proofs.ExactFiles.{table_numbered}
@@ -58,17 +58,17 @@ tables_stay order old new before between tables job iterators whole loses ids m 
 
 -- ---- where it began
 
-pub slices_itself : {K : Type 0} {g : _} (order : Order) (old : Seen) (db : Held K g) (most : ℕ) → db.broken ≡ false → HasLeftUpTo order old db most → SlicesUpTo order old db most
-slices_itself order old db most whole few = (old, db, record { stands = λ ids m s. (m, s); whole = whole; tables = refl; files = λ ids m s number has. refl; job = inl refl }, few)
+pub steps_itself : {K : Type 0} {g : _} (order : Order) (old : Seen) (db : Held K g) (most : ℕ) → db.broken ≡ false → HasLeftUpTo order old db most → StepsUpTo order old db most
+steps_itself order old db most whole few = (old, db, record { stands = λ ids m s. (m, s); whole = whole; tables = refl; files = λ ids m s number has. refl; job = inl refl }, few)
 
 first_of : {X : Type 0} (P Q : X → Type 0) (o : Option X) → MatchOption o ⊥ (λ x. P x × Q x) → MatchOption o ⊥ P
 first_of P Q None h = h
 first_of P Q (Some x) h = h.0
 
 -- with a compaction that was begun
-pub slices_begun : {K : Type 0} {g : _} (order : Order) (old between : Seen) (before mid : Held K g) (most : ℕ) (Q : OpenJob K g → Type 0) {P : Machine → Machine → Type 0} → ((ids : Ids) → LeadsOpen order old between ids before mid P) → IsTrue between.facts.faithful
-    → mid.broken ≡ false → mid.tables ≡ before.tables → between.facts.files ≡ old.facts.files → before.job ≡ None → MatchOption mid.job ⊥ (λ work. (work.merged ≡ 0) × Q work) → HasLeftUpTo order between mid most → SlicesUpTo order old before most
-slices_begun {K} {g} order old between before mid most Q leads f whole tables files none begun few = (
+pub steps_begun : {K : Type 0} {g : _} (order : Order) (old between : Seen) (before mid : Held K g) (most : ℕ) (Q : OpenJob K g → Type 0) {P : Machine → Machine → Type 0} → ((ids : Ids) → LeadsOpen order old between ids before mid P) → IsTrue between.facts.faithful
+    → mid.broken ≡ false → mid.tables ≡ before.tables → between.facts.files ≡ old.facts.files → before.job ≡ None → MatchOption mid.job ⊥ (λ work. (work.merged ≡ 0) × Q work) → HasLeftUpTo order between mid most → StepsUpTo order old before most
+steps_begun {K} {g} order old between before mid most Q leads f whole tables files none begun few = (
   between,
   mid,
   record {
@@ -82,9 +82,9 @@ slices_begun {K} {g} order old between before mid most Q leads f whole tables fi
 )
 
 -- behind a piece that leaves tables and compaction
-pub slices_behind : {K : Type 0} {g : _} (order : Order) (old mid : Seen) (before between : Held K g) (most : ℕ) {P : Machine → Machine → Type 0} → ((ids : Ids) → LeadsOpen order old mid ids before between P) → IsTrue mid.facts.faithful
-    → between.tables ≡ before.tables → between.job ≡ before.job → KeepsTableFiles order old mid before → SlicesUpTo order mid between most → SlicesUpTo order old before most
-slices_behind {K} {g} order old mid before between most leads f tables same files inner = (
+pub steps_behind : {K : Type 0} {g : _} (order : Order) (old mid : Seen) (before between : Held K g) (most : ℕ) {P : Machine → Machine → Type 0} → ((ids : Ids) → LeadsOpen order old mid ids before between P) → IsTrue mid.facts.faithful
+    → between.tables ≡ before.tables → between.job ≡ before.job → KeepsTableFiles order old mid before → StepsUpTo order mid between most → StepsUpTo order old before most
+steps_behind {K} {g} order old mid before between most leads f tables same files inner = (
   inner.0,
   inner.1,
   record {
@@ -108,7 +108,7 @@ at_ease_on options before memory same h = record {
   small = (let size : size_of memory.current.inserts ≡ size_of before.memory.current.inserts = ap (λ c. size_of c.inserts) same.current in let least = h.small in omega (arith, size, least));
 }
 
--- the end that a slice answers
+-- the end that a step answers
 pub ended_of : (P Q : Type 0) (ended : Bool) → MatchBool ended P Q → (Q → ⊥) → ended ≡ true
 ended_of P Q true h other = refl
 ended_of P Q false h other = absurd (other h)

@@ -6,13 +6,13 @@ use Rattle.cursor.specs.Places.{Cmp}
 use Rattle.coding.specs.declared.error.DbError.TheVariants as error
 use Rattle.edits.specs.declared.field.PlacedTable.{PlacedTable}
 use Rattle.ikey.specs.Orders.{Order}
-use Rattle.jobs.specs.Running.{shown}
-use Rattle.jobs.specs.declared.open_job.OpenJob.{OpenJob}
-use Rattle.memories.specs.Memories.{Memories}
+use Rattle.running_job.specs.Running.{shown}
+use Rattle.running_job.specs.declared.open_job.OpenJob.{OpenJob}
+use Rattle.memtables.specs.Memories.{Memories}
 use Rattle.memtable.specs.Contents.{size_of}
-use Rattle.sources.specs.Tables.{Seen}
+use Rattle.table_access.specs.Tables.{Seen}
 use Rattle.store.specs.Files.{Facts}
-use Rattle.upkeep.specs.Install.{Replaces}
+use Rattle.directory_writes.specs.Install.{Replaces}
 use Rattle.versions.specs.Levels.{Placement}
 use Rattle.versions.specs.Plans.{IsPicked}
 use Rattle.versions.specs.declared.plan.JobPlan.{JobPlan}

@@ -5,23 +5,23 @@ use Rattle.std.specs.declared.alloc.Global.{Global}
 use Rattle.cache.specs.Tables.{KeptTable, table_at}
 use Rattle.coding.specs.declared.error.DbError.{DbError}
 use Rattle.coding.specs.declared.error.DbError.TheVariants as error
-use Rattle.compact.specs.declared.numbers.FileNumbers.{FileNumbers}
+use Rattle.edits.specs.declared.numbers.FileNumbers.{FileNumbers}
 use Rattle.edits.specs.Names.{IsNumbered}
 use Rattle.ikey.specs.Orders.{Order}
 use Rattle.ikey.specs.Sources.{SameViewLaw}
-use Rattle.memories.specs.Changes.{IsSealed, IsUsed, KeepsUsed}
-use Rattle.memories.specs.Memories.{Memories, sealed_inserts}
-use Rattle.memories.specs.Places.{LeavesMemories}
+use Rattle.memtables.specs.Changes.{IsSealed, IsUsed, KeepsUsed}
+use Rattle.memtables.specs.Memories.{Memories, sealed_inserts}
+use Rattle.memtables.specs.Places.{LeavesMemories}
 use Rattle.recover.specs.Directory.{Directory, IsConsistent}
 use Rattle.recover.specs.Laws.{OneDirectoryLaw}
 use Rattle.recover.specs.Numbers.{IsFree}
-use Rattle.scans.specs.Scanning.{ScanIsKept}
-use Rattle.scans.specs.declared.scan.Scan.{Scan}
-use Rattle.sources.specs.Tables.{Seen, IsSound, SoundLasts}
+use Rattle.db_cursor.specs.Scanning.{ScanIsKept}
+use Rattle.db_cursor.specs.declared.scan.Scan.{Scan}
+use Rattle.table_access.specs.Tables.{Seen, IsSound, SoundLasts}
 use Rattle.store.specs.Files.{Files, Facts}
-use Rattle.upkeep.specs.Calls.{Touches}
-use Rattle.upkeep.specs.LogFile.{BeginsLog, DrawsLog, RefusesLog}
-use Rattle.upkeep.specs.Removal.{AreNumbersOf, KeepsParts, KeepsTable, ListsUnused, RefusesList}
+use Rattle.directory_writes.specs.Calls.{Touches}
+use Rattle.directory_writes.specs.LogFile.{BeginsLog, DrawsLog, RefusesLog}
+use Rattle.directory_writes.specs.Removal.{AreNumbersOf, KeepsParts, KeepsTable, ListsUnused, RefusesList}
 use Rattle.engine.specs.declared.ids.Ids.{Ids}
 use Rattle.engine.specs.declared.state.DbState.{DbState}
 use Rattle.engine.specs.Follows.{LeadsOpen}

@@ -8,7 +8,7 @@ use Rattle.ikey.specs.Orders.{Order}
 use Rattle.ikey.specs.declared.entry.Entry.{Entry}
 use Rattle.edits.specs.Names.{name_of}
 use Rattle.edits.specs.declared.names.FileName.TheVariants.{Current, Log}
-use Rattle.memories.specs.Memories.{Memories, logged_in, sealed_inserts}
+use Rattle.memtables.specs.Memories.{Memories, logged_in, sealed_inserts}
 use Rattle.recover.specs.Numbers.{IsFree}
 use Rattle.recover.specs.Tables.{TableContent}
 use Rattle.versions.specs.Levels.{Lists, AreInOrder}

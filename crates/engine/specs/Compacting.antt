@@ -6,13 +6,13 @@ use Rattle.compact.specs.Outputs.{IsOwn}
 use Rattle.ikey.specs.Entries.{InternalEntry, entry_of}
 use Rattle.ikey.specs.Orders.{Order}
 use Rattle.ikey.specs.Views.{AllUpTo}
-use Rattle.jobs.specs.declared.open_job.OpenJob.{OpenJob}
-use Rattle.jobs.specs.Running.{IsRunning}
+use Rattle.running_job.specs.declared.open_job.OpenJob.{OpenJob}
+use Rattle.running_job.specs.Running.{IsRunning}
 use Rattle.recover.specs.Directory.{Directory}
-use Rattle.rows.specs.InRows.{HasNumber}
-use Rattle.scans.specs.declared.scan.Scan.{Scan}
-use Rattle.scans.specs.Scans.{tables_of}
-use Rattle.scans.specs.Whole.{Whole}
+use Rattle.level_cursor.specs.InRows.{HasNumber}
+use Rattle.db_cursor.specs.declared.scan.Scan.{Scan}
+use Rattle.db_cursor.specs.Scans.{tables_of}
+use Rattle.db_cursor.specs.Whole.{Whole}
 use Rattle.engine.specs.Live.{kept_at}
 
 -- what it compacts are no entries above this sequence, which is one that it was begun for

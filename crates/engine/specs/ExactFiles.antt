@@ -7,9 +7,9 @@ use Rattle.edits.specs.Names.{IsFileName, name_of}
 use Rattle.edits.specs.declared.names.FileName.{FileName}
 use Rattle.edits.specs.declared.names.FileName.TheVariants.{Current, Lock, Log, Table, OldTable, Manifest, Temporary}
 use Rattle.ikey.specs.Orders.{Order}
-use Rattle.scans.specs.Scans.{tables_of}
-use Rattle.scans.specs.declared.scan.Scan.{Scan}
-use Rattle.sources.specs.Tables.{Seen}
+use Rattle.db_cursor.specs.Scans.{tables_of}
+use Rattle.db_cursor.specs.declared.scan.Scan.{Scan}
+use Rattle.table_access.specs.Tables.{Seen}
 use Rattle.store.specs.Files.{Files}
 use Rattle.versions.specs.Keeping.{HasNumber}
 use Rattle.engine.specs.declared.ids.Ids.{Ids}

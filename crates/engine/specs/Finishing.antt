@@ -2,7 +2,7 @@
 use Rattle.std.specs.Prelude.{◌≡◌, ◌⊎◌, ◌<◌, ◌≤◌, ◌+◌, ℕ, true, false, None, MatchOption, [], Result, Ok, Err, MatchResult, max}
 use Rattle.coding.specs.declared.error.DbError.{DbError}
 use Rattle.coding.specs.declared.error.DbError.TheVariants as error
-use Rattle.jobs.specs.Running.{shown}
+use Rattle.running_job.specs.Running.{shown}
 use Rattle.store.specs.Files.{Facts}
 use Rattle.versions.specs.Levels.{tables_at}
 use Rattle.engine.specs.Held.{Held}

@@ -3,13 +3,13 @@ use Rattle.std.specs.Prelude.{ℕ, Bool, List, Option, ◌++◌}
 use Rattle.std.specs.BTreeMap.{BTreeMap}
 use Rattle.edits.specs.declared.field.PlacedTable.{PlacedTable}
 use Rattle.ikey.specs.declared.entry.Entry.{Entry}
-use Rattle.jobs.specs.declared.open_job.OpenJob.{OpenJob}
-use Rattle.memories.specs.Memories.{Memories, logged_in}
+use Rattle.running_job.specs.declared.open_job.OpenJob.{OpenJob}
+use Rattle.memtables.specs.Memories.{Memories, logged_in}
 use Rattle.recover.specs.Tables.{TableContent, tabled}
-use Rattle.scans.specs.Whole.{Whole}
-use Rattle.scans.specs.declared.scan.Scan.{Scan}
-use Rattle.scans.specs.declared.source.Sources.{Sources}
-use Rattle.sources.specs.Tables.{Seen, seen}
+use Rattle.db_cursor.specs.Whole.{Whole}
+use Rattle.db_cursor.specs.declared.scan.Scan.{Scan}
+use Rattle.db_cursor.specs.declared.source.Sources.{Sources}
+use Rattle.table_access.specs.Tables.{Seen, seen}
 use Rattle.store.specs.Files.{Facts}
 use Rattle.versions.specs.Levels.{Placement}
 use Rattle.engine.specs.declared.directory.DirectoryState.{DirectoryState}

@@ -4,10 +4,10 @@ use Rattle.std.specs.BTreeMap.{BTreeMap}
 use Rattle.std.specs.Map.{values_of}
 use Rattle.compact.specs.Outputs.{IsOwn}
 use Rattle.edits.specs.declared.field.PlacedTable.{PlacedTable}
-use Rattle.jobs.specs.declared.open_job.OpenJob.{OpenJob}
-use Rattle.scans.specs.Scans.{reads_memory, tables_of}
-use Rattle.scans.specs.declared.scan.Scan.{Scan}
-use Rattle.sources.specs.Tables.{Seen, KeepsOf}
+use Rattle.running_job.specs.declared.open_job.OpenJob.{OpenJob}
+use Rattle.db_cursor.specs.Scans.{reads_memory, tables_of}
+use Rattle.db_cursor.specs.declared.scan.Scan.{Scan}
+use Rattle.table_access.specs.Tables.{Seen, KeepsOf}
 use Rattle.versions.specs.Keeping.{HasNumber}
 
 -- one of the open iterators is so

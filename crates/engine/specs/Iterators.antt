@@ -3,13 +3,13 @@ use Rattle.std.specs.Prelude.{◌≡◌, ◌≤◌, ℕ, Bool, false, Option, So
 use Rattle.std.specs.declared.cmp.Ordering.{Ordering}
 use Rattle.ikey.specs.Views.{Contents as View}
 use Rattle.cursor.specs.Views.{Walked, walk_first, walk_last, walk_to, walk_next, walk_prev}
-use Rattle.scans.specs.Pairs.{ArePairs, listed_pair}
+use Rattle.db_cursor.specs.Pairs.{ArePairs, listed_pair}
 use Rattle.cache.specs.Tables.{table_at}
 use Rattle.edits.specs.Names.{IsNumbered}
-use Rattle.rows.specs.InRows.{HasNumber}
-use Rattle.scans.specs.Scans.{IsOnePastLimit, IsScan, reads_table, tables_of}
-use Rattle.scans.specs.Whole.{Whole}
-use Rattle.scans.specs.declared.scan.Scan.{Scan}
+use Rattle.level_cursor.specs.InRows.{HasNumber}
+use Rattle.db_cursor.specs.Scans.{IsOnePastLimit, IsScan, reads_table, tables_of}
+use Rattle.db_cursor.specs.Whole.{Whole}
+use Rattle.db_cursor.specs.declared.scan.Scan.{Scan}
 use Rattle.engine.specs.Machine.{Walk}
 use Rattle.engine.specs.Walks.{Motion, ToFirst, ToLast, ToKey, ToNext, ToPrev}
 

@@ -3,7 +3,7 @@ use Rattle.std.specs.Prelude.{◌≡◌, ℕ, ◌≤◌, None, List, [], ◌∷�
 use Rattle.edits.specs.Names.{name_of}
 use Rattle.edits.specs.declared.names.FileName.TheVariants.{Manifest}
 use Rattle.ikey.specs.Orders.{Order}
-use Rattle.memories.specs.Memories.{Memories, sealed_inserts}
+use Rattle.memtables.specs.Memories.{Memories, sealed_inserts}
 use Rattle.recover.specs.Changes.{ManifestEndsAt}
 use Rattle.recover.specs.Directory.{Directory}
 use Rattle.recover.specs.Logs.{LogContent, batch_entries, logged}

@@ -3,11 +3,11 @@ use Rattle.std.specs.Prelude.{◌≡◌, ℕ, Bool, IsTrue, List, Option, None, 
 use Rattle.std.specs.declared.cmp.Ordering.{Ordering}
 use Rattle.coding.specs.declared.error.DbError.{DbError}
 use Rattle.cursor.specs.Moves.{Refuses}
-use Rattle.memories.specs.Places.{LeavesMemories}
-use Rattle.scans.specs.Scans.{IsScanLimited, KeepsUpTo, reads_table, tables_of}
-use Rattle.scans.specs.Whole.{Whole}
-use Rattle.scans.specs.declared.scan.Scan.{Scan}
-use Rattle.sources.specs.Tables.{Carries}
+use Rattle.memtables.specs.Places.{LeavesMemories}
+use Rattle.db_cursor.specs.Scans.{IsScanLimited, KeepsUpTo, reads_table, tables_of}
+use Rattle.db_cursor.specs.Whole.{Whole}
+use Rattle.db_cursor.specs.declared.scan.Scan.{Scan}
+use Rattle.table_access.specs.Tables.{Carries}
 use Rattle.table.specs.Reading.{IsStill, Reads}
 use Rattle.engine.specs.Causes.{IsMet}
 use Rattle.engine.specs.Iterators.{IsWalk, standing}

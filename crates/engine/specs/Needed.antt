@@ -4,10 +4,10 @@ use Rattle.std.specs.Map.{values_of}
 use Rattle.compact.specs.Laws.{ArePairsOf}
 use Rattle.compact.specs.Needed.{AreNeeded}
 use Rattle.ikey.specs.Orders.{Order}
-use Rattle.jobs.specs.declared.open_job.OpenJob.{OpenJob}
+use Rattle.running_job.specs.declared.open_job.OpenJob.{OpenJob}
 use Rattle.recover.specs.Directory.{Directory, IsConsistent}
 use Rattle.recover.specs.Tables.{tabled}
-use Rattle.sources.specs.Tables.{Seen}
+use Rattle.table_access.specs.Tables.{Seen}
 use Rattle.store.specs.Files.{Files}
 use Rattle.engine.specs.declared.ids.Ids.{Ids}
 use Rattle.engine.specs.Held.{Held}

@@ -4,9 +4,9 @@ use Rattle.cache.specs.Tables.{table_at}
 use Rattle.coding.specs.declared.error.DbError.{DbError}
 use Rattle.ikey.specs.Entries.{InternalEntry}
 use Rattle.ikey.specs.Orders.{Order}
-use Rattle.jobs.specs.Stepping.{CanStep}
+use Rattle.running_job.specs.Stepping.{CanStep}
 use Rattle.recover.specs.Directory.{Directory}
-use Rattle.sources.specs.Tables.{Seen}
+use Rattle.table_access.specs.Tables.{Seen}
 use Rattle.versions.specs.Keeping.{HasNumber}
 use Rattle.engine.specs.declared.ids.Ids.{Ids}
 use Rattle.engine.specs.declared.work.Progress.{Progress}
@@ -24,7 +24,7 @@ HasLeftUpTo order source db most =
 
 -- A state that the call came through, not broken, with the tables that there were before and what their files held, and with the compaction
 -- that was under way, or with one that it had begun, to which nothing had come.
-pub record IsBeforeSlice {K : Type 0} {g : _} (order : Order) (old between : Seen) (before mid : Held K g) : Type 0 where
+pub record IsBeforeStep {K : Type 0} {g : _} (order : Order) (old between : Seen) (before mid : Held K g) : Type 0 where
   pub stands : (ids : Ids) (m : Machine) → StandsOpen order old ids before m → (n : Machine) × StandsOpen order between ids mid n
   pub whole : mid.broken ≡ false
   pub tables : mid.tables ≡ before.tables
@@ -32,10 +32,10 @@ pub record IsBeforeSlice {K : Type 0} {g : _} (order : Order) (old between : See
   pub job : (mid.job ≡ before.job) ⊎ ((before.job ≡ None) × MatchOption mid.job ⊥ (λ work. work.merged ≡ 0))
 
 -- It came through one in which no more than so many were left.
-abbrev pub SlicesUpTo : {K : Type 0} {g : _} → Order → Seen → Held K g → ℕ → Type 0
-SlicesUpTo {K} {g} order old before most = (between : Seen) × (mid : Held K g) × IsBeforeSlice order old between before mid × HasLeftUpTo order between mid most
+abbrev pub StepsUpTo : {K : Type 0} {g : _} → Order → Seen → Held K g → ℕ → Type 0
+StepsUpTo {K} {g} order old before most = (between : Seen) × (mid : Held K g) × IsBeforeStep order old between before mid × HasLeftUpTo order between mid most
 
 -- Where it went on with a compaction, or began one, and brought it to its end, no more were left than its budget has, one for 0.
 abbrev pub EndsWithin : {K : Type 0} {g : _} → Order → OptionValues → ℕ → Seen → Seen → Held K g → Held K g → Result Progress DbError → Type 0
 EndsWithin order options budget old new before after result =
-    result ≡ Ok Worked → IsSome before.job ⊎ IsAtEase options before → after.job ≡ None → IsTrue new.facts.faithful → SlicesUpTo order old before (max budget 1)
+    result ≡ Ok Worked → IsSome before.job ⊎ IsAtEase options before → after.job ≡ None → IsTrue new.facts.faithful → StepsUpTo order old before (max budget 1)

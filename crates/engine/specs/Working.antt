@@ -6,7 +6,7 @@ use Rattle.cursor.specs.Places.{Cmp}
 use Rattle.coding.specs.declared.error.DbError.TheVariants as error
 use Rattle.edits.specs.Layout.{inserted}
 use Rattle.edits.specs.declared.field.TableFile.{TableFile}
-use Rattle.memories.specs.Memories.{Memories, sealed_inserts}
+use Rattle.memtables.specs.Memories.{Memories, sealed_inserts}
 use Rattle.memtable.specs.Contents.{size_of}
 use Rattle.versions.specs.Levels.{Lists}
 use Rattle.versions.specs.Plans.{IsPicked, Needs}
@@ -14,8 +14,8 @@ use Rattle.std.specs.FinMap.{contains_key, get}
 use Rattle.edits.specs.Names.{IsFileName, name_of}
 use Rattle.edits.specs.declared.names.FileName.{FileName}
 use Rattle.store.specs.Files.{Facts, Files}
-use Rattle.upkeep.specs.Install.{Replaces}
-use Rattle.upkeep.specs.Removal.{IsDead, IsLiveFile}
+use Rattle.directory_writes.specs.Install.{Replaces}
+use Rattle.directory_writes.specs.Removal.{IsDead, IsLiveFile}
 use Rattle.versions.specs.declared.live.LiveNumbers.{LiveNumbers}
 use Rattle.versions.specs.declared.plan.JobPlan.{JobPlan}
 use Rattle.engine.specs.declared.directory.DirectoryState.{DirectoryState}
@@ -23,10 +23,10 @@ use Rattle.engine.specs.Durable.{LeavesFile}
 use Rattle.engine.specs.Held.{Held, version_of}
 use Rattle.engine.specs.InUse.{IsTableUsed}
 use Rattle.engine.specs.OptionValues.{OptionValues}
-use Rattle.jobs.specs.Running.{shown}
-use Rattle.jobs.specs.declared.open_job.OpenJob.{OpenJob}
-use Rattle.upkeep.specs.declared.flush.FlushError.{FlushError}
-use Rattle.upkeep.specs.declared.flush.FlushError.TheVariants.{Before, Edit}
+use Rattle.running_job.specs.Running.{shown}
+use Rattle.running_job.specs.declared.open_job.OpenJob.{OpenJob}
+use Rattle.directory_writes.specs.declared.flush.FlushError.{FlushError}
+use Rattle.directory_writes.specs.declared.flush.FlushError.TheVariants.{Before, Edit}
 use Rattle.engine.specs.declared.command.Answer.{Answer}
 use Rattle.engine.specs.declared.command.Answer.TheVariants.{Worked, Idle, Refused}
 use Rattle.engine.specs.declared.state.DbState.{DbState}

@@ -7,9 +7,9 @@ ghost use Rattle.ikey.specs.Orders.{order_of};
 use crate::options::Options;
 use crate::state::DbState;
 use coding::DbError;
+use db_cursor::Sources;
 use edits::LEVELS;
 use ikey::KeyOrder;
-use scans::Sources;
 use std::alloc::Global;
 use store::Store;
 use versions::{JobPlan, plans_of_tables};
@@ -24,8 +24,8 @@ impl<K: KeyOrder> DbState<K> {
     ghost use Rattle.engine.specs.Held.{held, seen_of};
     ghost use Rattle.engine.specs.Upkeep.{CompactsAll, CompactsLevel, most_drawn};
     ghost use Rattle.engine.specs.Working.{IsPiece, MayRefusePiece};
-    ghost use Rattle.memories.specs.Places.{LeavesMemories};
-    ghost use Rattle.upkeep.specs.Install.{Replaces};
+    ghost use Rattle.memtables.specs.Places.{LeavesMemories};
+    ghost use Rattle.directory_writes.specs.Install.{Replaces};
     ghost use Rattle.versions.specs.Plans.{IsPlanOf, IsWholePlan};
 
     /// Brings the compaction under way to its end, and then compacts all tables of a level, with those of the next one whose keys meet
@@ -87,7 +87,7 @@ impl<K: KeyOrder> DbState<K> {
         ensures emptied { OnOk result (IsLevelEmpty level (held source.new.memory self.new)) }
     {
         plans_of_tables();
-        self.finish_job(alloc, source)?;
+        self.run_job_to_end(alloc, source)?;
         let Some(plan) = self.version.plan_level(alloc, level)? else {
             return Ok(());
         };
@@ -108,7 +108,7 @@ impl<K: KeyOrder> DbState<K> {
         ensures needed { OnOk result (EndsNeeded (order_of K.name K.cmp) (seen_of S.facts source.old) (seen_of S.facts source.new) (held source.old.memory self.old) (held source.new.memory self.new)) }
     {
         plans_of_tables();
-        self.finish_job(alloc, source)?;
+        self.run_job_to_end(alloc, source)?;
         self.write_memory(alloc, source, options)?;
         let Some(plan) = self.version.plan_all(alloc)? else {
             return Ok(());
@@ -178,11 +178,11 @@ impl<K: KeyOrder> DbState<K> {
         ensures needed { OnOk result (IsWholePlan self.old.version.value.tables plan → EndsNeeded (order_of K.name K.cmp) (seen_of S.facts source.old) (seen_of S.facts source.new) (held source.old.memory self.old) (held source.new.memory self.new)) }
     {
         self.begin_job(alloc, source, options, plan)?;
-        self.finish_job(alloc, source)
+        self.run_job_to_end(alloc, source)
     }
 
     // Brings the compaction under way to its end, if there is one.
-    fn finish_job<S: Store>(
+    fn run_job_to_end<S: Store>(
         &mut self,
         alloc: Global,
         source: &mut Sources<K, S>,
@@ -219,7 +219,7 @@ impl<K: KeyOrder> DbState<K> {
         ensures needed { OnOk result (IsTakingAll (held source.old.memory self.old) → EndsNeeded (order_of K.name K.cmp) (seen_of S.facts source.old) (seen_of S.facts source.new) (held source.old.memory self.old) (held source.new.memory self.new)) }
     {
         for _ in 0..u64::MAX {
-            if self.advance(alloc, source, 1)? {
+            if self.step_job(alloc, source, 1)? {
                 return Ok(());
             }
         }

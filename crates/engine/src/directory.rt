@@ -1,7 +1,7 @@
 //! What an open database knows of its directory.
 
-use compact::FileNumbers;
-use upkeep::CurrentManifest;
+use directory_writes::CurrentManifest;
+use edits::FileNumbers;
 
 /// What an open database knows of its directory, beside its tables and the log that writes go to (LevelDB's db/version_set.h, the
 /// numbers of VersionSet).

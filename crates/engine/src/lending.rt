@@ -1,14 +1,14 @@
 //! What a session lends while no database is open: its store, of which nothing is kept in memory.
 
 ghost use Rattle.std.specs.Prelude.{◌≡◌, []};
-ghost use Rattle.memories.specs.Memories.{IsAlone};
+ghost use Rattle.memtables.specs.Memories.{IsAlone};
 
+use db_cursor::Sources;
 use ikey::KeyOrder;
-use memories::MemoryTables;
-use scans::Sources;
-use sources::Tables;
+use memtables::MemoryTables;
 use std::alloc::Global;
 use store::Store;
+use table_access::Tables;
 
 /// A store with nothing beside it. It takes no memory.
 pub fn sources_over<K: KeyOrder, S: Store>(alloc: Global, store: S) -> Sources<K, S>

@@ -2,15 +2,15 @@
 
 ghost use Rattle.std.specs.Prelude.{MatchBool};
 ghost use Rattle.engine.specs.InUse.{AnyIterator, IsJobTable, IsMemoryUsed, IsTableUsed};
-ghost use Rattle.scans.specs.Scans.{reads_memory, tables_of};
+ghost use Rattle.db_cursor.specs.Scans.{reads_memory, tables_of};
 ghost use Rattle.versions.specs.Keeping.{HasNumber};
 
 use crate::state::DbState;
+use db_cursor::Scan;
+use directory_writes::LiveTables;
 use ikey::KeyOrder;
-use memories::Users;
-use scans::Scan;
+use memtables::Users;
 use std::collections::BTreeMap;
-use upkeep::LiveTables;
 
 impl<K: KeyOrder> LiveTables for DbState<K> {
     ghost has = { λ state number. IsTableUsed state.version.value.tables state.job state.iterators number };

@@ -10,14 +10,14 @@ use crate::options::Options;
 use crate::state::DbState;
 use cache::TableCache;
 use coding::DbError;
+use db_cursor::Sources;
+use directory_writes::{FlushError, FlushPlan, Flushed, begin_log, flush_memory, remove_files};
 use ikey::{KeyOrder, same_view};
-use memories::changes_are_kept;
+use memtables::changes_are_kept;
 use recover::one_directory;
-use scans::Sources;
-use sources::sound_lasts;
 use std::alloc::Global;
 use store::Store;
-use upkeep::{FlushError, FlushPlan, Flushed, begin_log, flush_memory, remove_files};
+use table_access::sound_lasts;
 use versions::LiveNumbers;
 
 /// Whether there was work to do.
@@ -125,7 +125,7 @@ impl<K: KeyOrder> DbState<K> {
         ensures lock { (S.facts source.new.tables.store).held ≡ (S.facts source.old.tables.store).held }
     {
         if self.job.is_some() {
-            self.advance(alloc, source, budget)?;
+            self.step_job(alloc, source, budget)?;
             return Ok(Progress::Worked);
         }
         self.do_unless_compacting(alloc, source, options, budget)

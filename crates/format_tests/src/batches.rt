@@ -1,12 +1,10 @@
 use batch::{Batch, Operation, encode_operations, refusal};
-use coding::{Bytes, Damage, DbError, ReadError};
+use coding::{Bytes, Damage, DbError, ReadError, SEQUENCE_END};
 use std::alloc::Global;
 use std::test::*;
 
 // What a batch has: keys, each with its value, or with none where it is deleted.
 type Given = (&'static [u8], Option<&'static [u8]>);
-
-const SEQUENCE_END: u64 = 1 << 56;
 
 // Put `a` = `1` at sequence 1.
 const ONE_PUT: [u8; 17] = [1, 0, 0, 0, 0, 0, 0, 0, 1, 0, 0, 0, 1, 1, 0x61, 1, 0x31];

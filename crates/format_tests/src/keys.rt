@@ -1,9 +1,9 @@
-use coding::Bytes;
+use coding::{Bytes, SEQUENCE_END};
 use ikey::{
-    Bytewise, Entry, EntryOrder, Internal, InternalKey, KeyOrder, Kind, Plain, SEQUENCE_END,
-    all_come_before, answered_in_row, compare_keys, first_found, newest_in_front, none_found,
-    one_key, pack, same_bytes, same_view, searched_by_two, searched_when_grown,
-    searched_when_replaced, seek_key, sorted_in_row, sought_in_order, unpack, unseen_in_front,
+    Bytewise, Entry, EntryOrder, Internal, InternalKey, KeyOrder, Kind, Plain, all_come_before,
+    answered_in_row, compare_keys, first_found, newest_in_front, none_found, one_key, pack,
+    same_bytes, same_view, searched_by_two, searched_when_grown, searched_when_replaced, seek_key,
+    sorted_in_row, sought_in_order, unpack, unseen_in_front,
 };
 use std::alloc::{AllocError, Global};
 use std::cmp::Ordering;

@@ -12,9 +12,6 @@ use coding::{get_fixed64, put_fixed64};
 use std::alloc::{AllocError, Global};
 use std::cmp::Ordering;
 
-/// Sequence numbers are below this: seven bytes hold one (LevelDB's db/dbformat.h, kMaxSequenceNumber).
-pub const SEQUENCE_END: u64 = 1 << 56;
-
 // The bytes of the sequence number and the kind, which stand behind a user key.
 const TAG_LENGTH: usize = 8;
 

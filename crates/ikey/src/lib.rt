@@ -13,9 +13,7 @@ mod laws;
 pub use byte_equality::same_bytes;
 pub use entry::Entry;
 pub use entry_order::{EntryOrder, Internal, Plain};
-pub use internal_key::{
-    InternalKey, Kind, SEQUENCE_END, compare_keys, one_key, pack, seek_key, unpack,
-};
+pub use internal_key::{InternalKey, Kind, compare_keys, one_key, pack, seek_key, unpack};
 pub use key_order::{Bytewise, KeyOrder};
 pub use laws::{
     all_come_before, answered_in_row, first_found, newest_in_front, none_found, same_view,

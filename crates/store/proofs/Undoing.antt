@@ -46,8 +46,8 @@ pub restored : (found now : Files) (name : List ℕ) (file : Option (List ℕ)) 
     → get found name ≡ file → with_file now name file ≡ found
 restored found now name file others held = same_files _ _ (λ q. get-with_file now name file q
     ∙ either_way (eq_by_cmp (slice_cmp nat_cmp) q name) file (get now q) (get found q)
-      (λ same. sym held ∙ ap (get found) (sym (same_name q name same)))
-      (λ other. others q other))
+    (λ same. sym held ∙ ap (get found) (sym (same_name q name same)))
+    (λ other. others q other))
 
 pub other_insert : (files : Files) (name bytes q : List ℕ) → eq_by_cmp (slice_cmp nat_cmp) q name ≡ false → get (insert files name bytes) q ≡ get files q
 other_insert files name bytes q other = get-insert nat_list_cmp_total files name bytes q ∙ cond_at _ _ _ other
@@ -61,8 +61,8 @@ restored_synced found now name content others held = λ i q. at q i
   where
     at : (q : List ℕ) → with_synced now name content q ≡ found q
     at q = either_way (eq_by_cmp (slice_cmp nat_cmp) q name) content (now q) (found q)
-      (λ same. sym held ∙ ap found (sym (same_name q name same)))
-      (λ other. others q other)
+        (λ same. sym held ∙ ap found (sym (same_name q name same)))
+        (λ other. others q other)
 
 pub other_synced : (s : Synced) (name q : List ℕ) (content : Option (List ℕ)) → eq_by_cmp (slice_cmp nat_cmp) q name ≡ false → with_synced s name content q ≡ s q
 other_synced s name q content other = cond_at _ _ _ other
@@ -96,28 +96,28 @@ pub made_back : (k : String Global) (held : Option MemFile) (found now : Disk) (
     → Holds found name held → undone (Made k held) now ≡ found
 made_back k held found now name is made kept holds =
     let files : with_file now.files (string_bytes k) (bytes_of held) ≡ found.files =
-          ap (λ n. with_file now.files n (bytes_of held)) is
-          ∙ restored found.files now.files name (bytes_of held) (λ q other. ap (λ (f : Files). get f q) made ∙ other_insert found.files name [] q other) holds.0 in
+    ap (λ n. with_file now.files n (bytes_of held)) is
+    ∙ restored found.files now.files name (bytes_of held) (λ q other. ap (λ (f : Files). get f q) made ∙ other_insert found.files name [] q other) holds.0 in
     let synced : with_synced now.synced (string_bytes k) (synced_in held) ≡ found.synced =
-          ap (λ n. with_synced now.synced n (synced_in held)) is
-          ∙ restored_synced found.synced now.synced name (synced_in held) (λ q other. ap (λ (s : Synced). s q) kept ∙ other_synced found.synced name q None other) holds.1 in
+    ap (λ n. with_synced now.synced n (synced_in held)) is
+    ∙ restored_synced found.synced now.synced name (synced_in held) (λ q other. ap (λ (s : Synced). s q) kept ∙ other_synced found.synced name q None other) holds.1 in
     λ i. record { files = files i; synced = synced i }
 
 pub taken_back : (k : String Global) (file : MemFile) (found now : Disk) (name : List ℕ) → string_bytes k ≡ name → now.files ≡ remove found.files name → now.synced ≡ with_synced found.synced name None
     → Holds found name (Some file) → undone (Taken k file) now ≡ found
 taken_back k file found now name is gone kept holds =
     let files : with_file now.files (string_bytes k) (Some file.bytes) ≡ found.files =
-          ap (λ n. with_file now.files n (Some file.bytes)) is
-          ∙ restored found.files now.files name (Some file.bytes) (λ q other. ap (λ (f : Files). get f q) gone ∙ other_remove found.files name q other) holds.0 in
+    ap (λ n. with_file now.files n (Some file.bytes)) is
+    ∙ restored found.files now.files name (Some file.bytes) (λ q other. ap (λ (f : Files). get f q) gone ∙ other_remove found.files name q other) holds.0 in
     let synced : with_synced now.synced (string_bytes k) file.synced ≡ found.synced =
-          ap (λ n. with_synced now.synced n file.synced) is
-          ∙ restored_synced found.synced now.synced name file.synced (λ q other. ap (λ (s : Synced). s q) kept ∙ other_synced found.synced name q None other) holds.1 in
+    ap (λ n. with_synced now.synced n file.synced) is
+    ∙ restored_synced found.synced now.synced name file.synced (λ q other. ap (λ (s : Synced). s q) kept ∙ other_synced found.synced name q None other) holds.1 in
     λ i. record { files = files i; synced = synced i }
 
 pub locked_back : (found now : Disk) → get found.files lock_name ≡ None → now.files ≡ insert found.files lock_name [] → now.synced ≡ found.synced → undone Locked now ≡ found
 locked_back found now none made kept =
     let files : with_file now.files lock_name None ≡ found.files =
-          restored found.files now.files lock_name None (λ q other. ap (λ (f : Files). get f q) made ∙ other_insert found.files lock_name [] q other) none in
+    restored found.files now.files lock_name None (λ q other. ap (λ (f : Files). get f q) made ∙ other_insert found.files lock_name [] q other) none in
     λ i. record { files = files i; synced = kept i }
 
 -- what an append left of the file
@@ -128,12 +128,12 @@ pub grown_back : (k : String Global) (count : ℕ) (found now : Disk) (name befo
     → now.files ≡ insert found.files name (before ++ bytes) → now.synced ≡ found.synced → undone (Grown k count) now ≡ found
 grown_back k count found now name before bytes is many at made kept =
     let cut : option_map (take count) (get now.files name) ≡ Some before =
-          ap (option_map (take count)) (grown_at found.files now.files name before bytes made)
-          ∙ ap Some (ap (λ n. take n (before ++ bytes)) many ∙ take-append_seam before bytes) in
+    ap (option_map (take count)) (grown_at found.files now.files name before bytes made)
+    ∙ ap Some (ap (λ n. take n (before ++ bytes)) many ∙ take-append_seam before bytes) in
     let files : with_file now.files (string_bytes k) (option_map (take count) (get now.files (string_bytes k))) ≡ found.files =
-          ap (λ n. with_file now.files n (option_map (take count) (get now.files n))) is
-          ∙ ap (with_file now.files name) cut
-          ∙ restored found.files now.files name (Some before) (λ q other. ap (λ (f : Files). get f q) made ∙ other_insert found.files name (before ++ bytes) q other) at in
+    ap (λ n. with_file now.files n (option_map (take count) (get now.files n))) is
+    ∙ ap (with_file now.files name) cut
+    ∙ restored found.files now.files name (Some before) (λ q other. ap (λ (f : Files). get f q) made ∙ other_insert found.files name (before ++ bytes) q other) at in
     λ i. record { files = files i; synced = kept i }
 
 pub grown_change : (k : String Global) (count : ℕ) (found now : Disk) (name before bytes : List ℕ) → string_bytes k ≡ name → count ≡ length before
@@ -147,11 +147,11 @@ pub kept_back : (k : String Global) (count : Option ℕ) (found now : Disk) (nam
     → now.files ≡ found.files → now.synced ≡ with_synced found.synced name content → found.synced name ≡ front_of bytes count → undone (Kept k count) now ≡ found
 kept_back k count found now name bytes content is at same kept was =
     let front : option_and_then (λ bytes. front_of bytes count) (get now.files name) ≡ front_of bytes count =
-          ap (option_and_then (λ bytes. front_of bytes count)) (ap (λ (f : Files). get f name) same ∙ at) in
+    ap (option_and_then (λ bytes. front_of bytes count)) (ap (λ (f : Files). get f name) same ∙ at) in
     let synced : with_synced now.synced (string_bytes k) (option_and_then (λ bytes. front_of bytes count) (get now.files (string_bytes k))) ≡ found.synced =
-          ap (λ n. with_synced now.synced n (option_and_then (λ bytes. front_of bytes count) (get now.files n))) is
-          ∙ ap (with_synced now.synced name) front
-          ∙ restored_synced found.synced now.synced name (front_of bytes count) (λ q other. ap (λ (s : Synced). s q) kept ∙ other_synced found.synced name q content other) was in
+    ap (λ n. with_synced now.synced n (option_and_then (λ bytes. front_of bytes count) (get now.files n))) is
+    ∙ ap (with_synced now.synced name) front
+    ∙ restored_synced found.synced now.synced name (front_of bytes count) (λ q other. ap (λ (s : Synced). s q) kept ∙ other_synced found.synced name q content other) was in
     λ i. record { files = same i; synced = synced i }
 
 pub moved_back : (k l : String Global) (held : Option MemFile) (found now : Disk) (from to bytes : List ℕ) → string_bytes k ≡ from → string_bytes l ≡ to → get found.files from ≡ Some bytes
@@ -159,20 +159,20 @@ pub moved_back : (k l : String Global) (held : Option MemFile) (found now : Disk
 moved_back k l held found now from to bytes is_from is_to at moved kept holds =
     let there : get now.files to ≡ Some bytes = ap (λ (f : Files). get f to) moved ∙ same_insert (remove found.files from) to bytes in
     let files : with_file (with_file now.files (string_bytes l) (bytes_of held)) (string_bytes k) (get now.files (string_bytes l)) ≡ found.files =
-          (λ i. with_file (with_file now.files (is_to i) (bytes_of held)) (is_from i) (get now.files (is_to i)))
-          ∙ ap (with_file (with_file now.files to (bytes_of held)) from) there
-          ∙ restored found.files (with_file now.files to (bytes_of held)) from (Some bytes) (λ q other. get-with_file now.files to (bytes_of held) q
-            ∙ either_way (eq_by_cmp (slice_cmp nat_cmp) q to) (bytes_of held) (get now.files q) (get found.files q)
-              (λ same. sym holds.0 ∙ ap (get found.files) (sym (same_name q to same)))
-              (λ far. ap (λ (f : Files). get f q) moved ∙ other_insert (remove found.files from) to bytes q far ∙ other_remove found.files from q other)) at in
+    (λ i. with_file (with_file now.files (is_to i) (bytes_of held)) (is_from i) (get now.files (is_to i)))
+    ∙ ap (with_file (with_file now.files to (bytes_of held)) from) there
+    ∙ restored found.files (with_file now.files to (bytes_of held)) from (Some bytes) (λ q other. get-with_file now.files to (bytes_of held) q
+    ∙ either_way (eq_by_cmp (slice_cmp nat_cmp) q to) (bytes_of held) (get now.files q) (get found.files q)
+    (λ same. sym holds.0 ∙ ap (get found.files) (sym (same_name q to same)))
+    (λ far. ap (λ (f : Files). get f q) moved ∙ other_insert (remove found.files from) to bytes q far ∙ other_remove found.files from q other)) at in
     let carried : now.synced to ≡ found.synced from = ap (λ (s : Synced). s to) kept ∙ same_synced (with_synced found.synced from None) to (found.synced from) in
     let synced : with_synced (with_synced now.synced (string_bytes l) (synced_in held)) (string_bytes k) (now.synced (string_bytes l)) ≡ found.synced =
-          (λ i. with_synced (with_synced now.synced (is_to i) (synced_in held)) (is_from i) (now.synced (is_to i)))
-          ∙ ap (with_synced (with_synced now.synced to (synced_in held)) from) carried
-          ∙ restored_synced found.synced (with_synced now.synced to (synced_in held)) from (found.synced from) (λ q other.
-              either_way (eq_by_cmp (slice_cmp nat_cmp) q to) (synced_in held) (now.synced q) (found.synced q)
-              (λ same. sym holds.1 ∙ ap found.synced (sym (same_name q to same)))
-              (λ far. ap (λ (s : Synced). s q) kept ∙ other_synced (with_synced found.synced from None) to q (found.synced from) far ∙ other_synced found.synced from q None other)) refl in
+    (λ i. with_synced (with_synced now.synced (is_to i) (synced_in held)) (is_from i) (now.synced (is_to i)))
+    ∙ ap (with_synced (with_synced now.synced to (synced_in held)) from) carried
+    ∙ restored_synced found.synced (with_synced now.synced to (synced_in held)) from (found.synced from) (λ q other.
+    either_way (eq_by_cmp (slice_cmp nat_cmp) q to) (synced_in held) (now.synced q) (found.synced q)
+    (λ same. sym holds.1 ∙ ap found.synced (sym (same_name q to same)))
+    (λ far. ap (λ (s : Synced). s q) kept ∙ other_synced (with_synced found.synced from None) to q (found.synced from) far ∙ other_synced found.synced from q None other)) refl in
     λ i. record { files = files i; synced = synced i }
 
 -- ---- what is noted
@@ -189,9 +189,13 @@ pub notes_append : {T : Type 0} (old new : Facts) (x : T) (older newer : List Pa
 notes_append old new x older newer past name bytes before now grew back is does =
     let all : bytes ≡ take (length bytes) bytes = sym (take-append_seam bytes []) ∙ ap (take (length bytes)) (append-nil bytes) in
     record {
-      noted = λ _. inr (length bytes, (
-        now ∙ calls_more older newer past (disk_of old) (disk_of new) (Addition name (take (length bytes) bytes)) grew back (is ∙ ap (Addition name) all) ∙ ap (λ (l : List Call). l ++ (record { found = disk_of old; change = Addition name (take (length bytes) bytes) }) ∷ []) (sym before),
-        subst (λ (b : List ℕ). Appends old.files new.files name b) all does));
+      noted = λ _. inr (
+        length bytes,
+        (
+          now ∙ calls_more older newer past (disk_of old) (disk_of new) (Addition name (take (length bytes) bytes)) grew back (is ∙ ap (Addition name) all) ∙ ap (λ (l : List Call). l ++ (record { found = disk_of old; change = Addition name (take (length bytes) bytes) }) ∷ []) (sym before),
+          subst (λ (b : List ℕ). Appends old.files new.files name b) all does,
+        ),
+      );
       memory = λ _ out. absurd (cc);
     }
 

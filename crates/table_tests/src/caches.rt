@@ -3,13 +3,13 @@ use block::{Block, BlockCursor};
 use cache::{BlockCache, ReadBlock, TableCache};
 use coding::DbError;
 use ikey::{Bytewise, Internal};
-use sources::Tables;
 use std::alloc::Global;
 use std::num::NonZeroUsize;
 use std::rc::Rc;
 use std::test::*;
 use store::{FaultStore, MemStore, Store, StoreError};
 use table::{Handle, Table};
+use table_access::Tables;
 
 // The first blocks of both tables lie there; the second block of the second one lies at 26.
 const FIRST: Handle = Handle {

@@ -1,5 +1,6 @@
 // The choice of entries, beside what must be kept of them, said plainly.
 use crate::compactions::{Deeper, is_rising};
+use coding::SEQUENCE_END;
 use compact::{Choice, Selection};
 use ikey::{Bytewise, Kind};
 use std::alloc::{AllocError, Global};
@@ -117,7 +118,7 @@ fn choose(
     deeper: &Deeper,
     put: Put,
 ) -> Result<(), AllocError> {
-    if put.sequence >= 1 << 56 {
+    if put.sequence >= SEQUENCE_END {
         return Err(AllocError);
     }
     let key: &[u8] = if put.key == b'a' { b"a" } else { b"b" };

@@ -5,13 +5,13 @@ ghost use Rattle.std.specs.List.Sorted.{IsNonDecreasing};
 use crate::entries::{Row, entries_of, is_listed};
 use crate::layouts::{TableRow, placed, version_of};
 use coding::{Bytes, Damage, DbError, FileKind};
-use compact::{DeeperFiles, FileNumbers, FilesBelow, HasStore, Job};
+use compact::{DeeperFiles, FilesBelow, Job};
 use cursor::{Cursor, ListCursor, Merge};
-use edits::{Edit, Field, PlacedTable};
+use edits::{Edit, Field, FileNumbers, PlacedTable};
 use ikey::{Bytewise, KeyOrder, Kind};
 use std::alloc::{AllocError, Global};
 use std::test::*;
-use store::{Fault, FaultStore, MemStore, Store, StoreError};
+use store::{Fault, FaultStore, HasStore, MemStore, Store, StoreError};
 use table::{KeyValue, Table};
 use versions::JobPlan;
 
@@ -245,23 +245,23 @@ fn plan(alloc: Global) -> Result<JobPlan, AllocError> {
 
 type TestJob = Job<Bytewise, Inputs>;
 
-// How many entries are left behind a slice, where it says how much it merged, and whether that was the end.
+// How many entries are left behind a step, where it says how much it merged, and whether that was the end.
 fn left_behind<S: Store + Drop>(
     alloc: Global,
     job: &mut TestJob,
     source: &mut Alone<S>,
     numbers: &mut FileNumbers,
     deeper: &Deeper,
-    slice: (u32, u32),
+    step: (u32, u32),
 ) -> Result<Option<u32>, DbError> {
-    let (left, budget) = slice;
-    let progress = job.slice(alloc, source, numbers, deeper, budget)?;
+    let (left, budget) = step;
+    let progress = job.step(alloc, source, numbers, deeper, budget)?;
     let rest = left.saturating_sub(progress.merged);
     let is_so = progress.merged == budget.max(1).min(left) && progress.ended == (rest == 0);
     Ok(is_so.then_some(rest))
 }
 
-// Whether each slice says how much it merged, up to the end.
+// Whether each step says how much it merged, up to the end.
 fn merges_all<S: Store + Drop>(
     alloc: Global,
     job: &mut TestJob,

@@ -1,23 +1,22 @@
 // What an open database does to its directory. The bytes of records are made outside.
 ghost use Rattle.std.specs.Prelude.{◌<◌, ℕ, All, Contains, IfOk, length};
 ghost use Rattle.edits.specs.Edit.{IsProper, IsInOrder};
-ghost use Rattle.upkeep.specs.Level0.{HaveSequences};
+ghost use Rattle.directory_writes.specs.Level0.{HaveSequences};
 
 use crate::files::ONE_ENTRY;
 use crate::layouts::version_of;
 use crate::stores::{Step, does};
 use coding::DbError;
-use compact::FileNumbers;
-use edits::{Edit, Field, encode_edit};
+use directory_writes::{
+    CurrentManifest, FlushError, FlushPlan, LiveTables, Removal, append_edit, begin_log,
+    flush_edit, flush_memory, remove_files, write_level0,
+};
+use edits::{Edit, Field, FileNumbers, encode_edit};
 use ikey::Bytewise;
 use memtable::MemTable;
 use std::alloc::{AllocError, Global};
 use std::test::*;
 use store::{Fault, FaultStore, MemStore, Store, StoreError};
-use upkeep::{
-    CurrentManifest, FlushError, FlushPlan, LiveTables, Removal, append_edit, begin_log,
-    flush_edit, flush_memory, remove_files, write_level0,
-};
 use versions::LiveNumbers;
 
 // ---- the MANIFEST

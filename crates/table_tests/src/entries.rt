@@ -1,7 +1,7 @@
 // Entries as the tests write and seek them, and whether a table has them.
 use crate::files::NAME;
-use coding::{Bytes, DbError};
-use ikey::{KeyOrder, Kind, SEQUENCE_END, pack};
+use coding::{Bytes, DbError, SEQUENCE_END};
+use ikey::{KeyOrder, Kind, pack};
 use std::alloc::Global;
 use store::Store;
 use table::{KeyValue, Table, TableBuilder};

@@ -7,7 +7,7 @@ use batch::Operation;
 use coding::{Bytes, Damage, DbError, FileKind};
 use cursor::Cursor;
 use ikey::{Bytewise, Entry, Kind, pack};
-use memories::{MemoriesCursor, MemoryTables, Users, changes_are_kept};
+use memtables::{MemoriesCursor, MemoryTables, Users, changes_are_kept};
 use std::alloc::{AllocError, Global};
 use std::test::*;
 

@@ -4,10 +4,10 @@ use crate::layouts::{TableRow, version_of};
 use crate::written::{File, cached, is_value, stored};
 use coding::DbError;
 use ikey::{Bytewise, Kind};
-use reads::value_in_tables;
 use std::alloc::Global;
 use std::test::*;
 use store::MemStore;
+use version_get::value_in_tables;
 use versions::Version;
 
 const PUT: Kind = Kind::Put;

@@ -5,11 +5,11 @@ use crate::walks::{Pair, Turn, first_elsewhere};
 use crate::written::{File, cached, counted};
 use coding::DbError;
 use cursor::Merge;
-use ikey::{Bytewise, Kind};
-use memories::MemoryTables;
-use scans::{
+use db_cursor::{
     SourceCursor, Sources, inputs_read_apart, merge_stays, merge_tables, moves_read_no_memory,
 };
+use ikey::{Bytewise, Kind};
+use memtables::MemoryTables;
 use std::alloc::Global;
 use std::rc::Rc;
 use std::test::*;

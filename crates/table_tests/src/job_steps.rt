@@ -2,15 +2,15 @@
 
 use crate::inputs::{source_of, version_over};
 use coding::DbError;
-use compact::FileNumbers;
+use db_cursor::Sources;
+use directory_writes::CurrentManifest;
+use edits::FileNumbers;
 use ikey::Bytewise;
-use jobs::{OpenJob, running_stays, running_stays_beside};
-use scans::Sources;
+use running_job::{OpenJob, running_stays, running_stays_beside};
 use std::alloc::Global;
 use std::rc::Rc;
 use std::test::*;
 use store::{FaultStore, Store};
-use upkeep::CurrentManifest;
 use versions::{JobPlan, Version, plans_of_tables};
 
 // The sequences whose views are to be kept.

@@ -7,12 +7,12 @@ use coding::DbError;
 use cursor::{Cursor, ListCursor, Visible};
 use ikey::{Bytewise, Kind};
 use memtable::MemTable;
-use sources::{
-    MemoryCursor, kept_for_all_is_same, later_inserts_are_kept, seen_entries_have_the_view,
-};
 use std::alloc::{AllocError, Global};
 use std::test::*;
 use table::KeyValue;
+use table_access::{
+    MemoryCursor, kept_for_all_is_same, later_inserts_are_kept, seen_entries_have_the_view,
+};
 
 const PUT: Kind = Kind::Put;
 

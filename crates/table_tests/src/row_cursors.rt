@@ -6,12 +6,12 @@ use crate::walks::{Pair, Turn, at_hand, first_apart, first_elsewhere, leads_to, 
 use crate::written::{File, cached, counted};
 use coding::DbError;
 use ikey::{Bytewise, Kind};
-use rows::RowCursor;
-use sources::Tables;
+use level_cursor::RowCursor;
 use std::alloc::Global;
 use std::rc::Rc;
 use std::test::*;
 use store::{FaultStore, Store};
+use table_access::Tables;
 
 const PUT: Kind = Kind::Put;
 

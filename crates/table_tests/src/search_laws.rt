@@ -1,10 +1,10 @@
 //! Laws of searches through the tables of a version.
 
-use search::{
+use std::test::*;
+use version_laws::{
     answered_place, goes_on, has_ended, is_found, memory_in_front, passed_place, searched_table,
     version_is_kept, version_of_directory, version_of_part,
 };
-use std::test::*;
 
 #[test]
 fn laws_are_called() {

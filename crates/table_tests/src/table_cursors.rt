@@ -6,10 +6,10 @@ use crate::walks::{Pair, Turn, at_hand, first_apart, leads_to, step};
 use crate::written::{cached, is_value, stored};
 use coding::DbError;
 use ikey::{Bytewise, Kind};
-use sources::{TableCursor, Tables, table_value};
 use std::alloc::Global;
 use std::test::*;
 use store::{MemStore, Store, StoreError};
+use table_access::{TableCursor, Tables, table_value};
 
 const PUT: Kind = Kind::Put;
 

@@ -4,10 +4,10 @@ use crate::entries::{Row, entries_of, write};
 use cache::{BlockCache, TableCache};
 use coding::{Bytes, DbError};
 use ikey::Bytewise;
-use sources::Tables;
 use std::alloc::Global;
 use std::num::NonZeroUsize;
 use store::{FaultStore, MemStore, Store};
+use table_access::Tables;
 
 /// The name of a table's file, and its entries.
 pub type File = (&'static str, &'static [Row]);

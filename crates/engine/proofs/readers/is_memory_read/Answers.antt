@@ -1,6 +1,6 @@
 use Rattle.std.proofs.Common.{◌∙◌}
 use Rattle.std.specs.Map.{values_of}
-use Rattle.scans.specs.Scans.{reads_memory}
+use Rattle.db_cursor.specs.Scans.{reads_memory}
 use Rattle.engine.proofs.InUse.{any_turn, none_end, none_more}
 use Rattle.engine.proofs.readers.is_memory_read.Goals as goal
 

@@ -1,5 +1,5 @@
 use Rattle.std.proofs.Common.{All}
-use Rattle.scans.specs.Scans.{reads_memory}
+use Rattle.db_cursor.specs.Scans.{reads_memory}
 use Rattle.engine.proofs.readers.is_memory_read.Given as goal
 
 -- none so far reads the memory table

@@ -1,5 +1,5 @@
 use Rattle.std.proofs.Common.{All}
-use Rattle.scans.specs.Scans.{tables_of}
+use Rattle.db_cursor.specs.Scans.{tables_of}
 use Rattle.versions.specs.Keeping.{HasNumber}
 use Rattle.engine.proofs.readers.is_table_read.Given as goal
 

@@ -3,7 +3,7 @@ use Rattle.engine.specs.declared.command.Movement.{Movement}
 use Rattle.engine.specs.Held.{whole_in}
 use Rattle.engine.specs.Iterators.{destination}
 use Rattle.engine.specs.Walks.{motion_of}
-use Rattle.scans.specs.Scanning.{IsScanned}
+use Rattle.db_cursor.specs.Scanning.{IsScanned}
 use Rattle.engine.proofs.view_iterator.move_scan.Goals as goal
 
 pub returns-in-First : goal.returns-in-First

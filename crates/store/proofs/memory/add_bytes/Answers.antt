@@ -16,10 +16,11 @@ returns-in_ok-append-in-Some-clause-ok c = λ before at.
     let name = c.args.name.now in
     let file = c.in-Some.file.now in
     let found = get-found m name file (sym c.in-Some.ensures.value) in
-    let same : file.bytes ≡ before = (cc) in
-    (ap length c.bytes-count.ensures ∙ ap length same,
+    let same : file.bytes ≡ before = (cc) in (
+      ap length c.bytes-count.ensures ∙ ap length same,
       files-write name _ m (c.get_mut.follows.lender c.append.new.self) c.append.new.self (ap (λ (v : MemFile). v.bytes) c.in_ok-append-in-Some.ensures.ok) ((c.get_mut.follows.holds c.append.new.self).3 (search rules))
-      ∙ ap (λ b. insert (files_of m.entries) name (b ++ c.args.bytes.now)) same)
+          ∙ ap (λ b. insert (files_of m.entries) name (b ++ c.args.bytes.now)) same,
+    )
 
 pub returns-in_err-append-in-Some-clause-err : goal.returns-in_err-append-in-Some-clause-err
 returns-in_err-append-in-Some-clause-err c =

@@ -42,14 +42,15 @@ returns-in-Some-get_mut-clause-held c = λ _ apart.
     let from = c.args.from.now in
     let to = c.args.to.now in
     let mid = c.remove.new.self in
-    let is = sym c.in-Some-get_mut.ensures.value in
-    (sym (get-remove_other (files_of before.entries) from to apart)
-      ∙ ap (λ (x : Files). get x to) (sym (files-remove from before mid c.remove.ensures.updates))
-      ∙ get-found mid to c.in-Some-get_mut.place.now is
-      ∙ ap (λ (v : MemFile). Some v.bytes) (sym c.replace.ensures.value),
-    synced_other before mid from to apart c.remove.ensures.updates
-      ∙ synced-found mid to c.in-Some-get_mut.place.now is
-      ∙ ap (λ (v : MemFile). v.synced) (sym c.replace.ensures.value))
+    let is = sym c.in-Some-get_mut.ensures.value in (
+      sym (get-remove_other (files_of before.entries) from to apart)
+          ∙ ap (λ (x : Files). get x to) (sym (files-remove from before mid c.remove.ensures.updates))
+          ∙ get-found mid to c.in-Some-get_mut.place.now is
+          ∙ ap (λ (v : MemFile). Some v.bytes) (sym c.replace.ensures.value),
+      synced_other before mid from to apart c.remove.ensures.updates
+          ∙ synced-found mid to c.in-Some-get_mut.place.now is
+          ∙ ap (λ (v : MemFile). v.synced) (sym c.replace.ensures.value),
+    )
 
 pub returns-clause-moved : goal.returns-clause-moved
 returns-clause-moved c = λ bytes _ present apart.
@@ -73,8 +74,9 @@ returns-clause-held c = λ _ apart.
     let from = c.args.from.now in
     let to = c.args.to.now in
     let mid = c.remove.new.self in
-    let is = sym c.in_default-get_mut.ensures.value in
-    (sym (get-remove_other (files_of before.entries) from to apart)
-      ∙ ap (λ (x : Files). get x to) (sym (files-remove from before mid c.remove.ensures.updates))
-      ∙ get-missed mid to is,
-    synced_other before mid from to apart c.remove.ensures.updates ∙ synced-missed mid to is)
+    let is = sym c.in_default-get_mut.ensures.value in (
+      sym (get-remove_other (files_of before.entries) from to apart)
+          ∙ ap (λ (x : Files). get x to) (sym (files-remove from before mid c.remove.ensures.updates))
+          ∙ get-missed mid to is,
+      synced_other before mid from to apart c.remove.ensures.updates ∙ synced-missed mid to is,
+    )

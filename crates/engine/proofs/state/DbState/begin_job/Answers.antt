@@ -2,7 +2,7 @@ use Rattle.std.proofs.Common.{◌≡◌, ℕ, Some, Err, Result, List, ◌∷◌
 use Rattle.coding.specs.declared.error.DbError.{DbError}
 use Rattle.coding.specs.declared.error.DbError.TheVariants.{OutOfMemory}
 use Rattle.ikey.specs.Orders.{order_of}
-use Rattle.scans.proofs.ScanSteps.{scan_kept}
+use Rattle.db_cursor.proofs.ScanSteps.{scan_kept}
 use Rattle.std.specs.Map.{values_of}
 use Rattle.versions.specs.Levels.{Placement}
 use Rattle.engine.specs.Follows.{LeadsOpen}

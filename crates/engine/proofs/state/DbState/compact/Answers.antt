@@ -2,7 +2,7 @@ use Rattle.std.proofs.Common.{◌≡◌, ◌+◌, max, Ok, Err, Result, sym, ap,
 use Rattle.coding.specs.declared.error.DbError.{DbError}
 use Rattle.coding.specs.declared.error.DbError.TheVariants.{OutOfMemory}
 use Rattle.ikey.specs.Orders.{order_of}
-use Rattle.scans.proofs.ScanSteps.{scan_kept}
+use Rattle.db_cursor.proofs.ScanSteps.{scan_kept}
 use Rattle.versions.specs.Plans.{IsPicked}
 use Rattle.engine.specs.declared.work.Progress.{Progress}
 use Rattle.engine.specs.declared.work.Progress.TheVariants.{Worked, Idle}
@@ -15,7 +15,7 @@ use Rattle.engine.proofs.JobEnds.{outcome_behind}
 use Rattle.engine.proofs.WorkAnswers.{begun_further, of_some, picked_for, then_piece}
 use Rattle.engine.proofs.WorkEnds.{ends_full, ends_idle}
 use Rattle.engine.proofs.WorkSteps.{piece_done, piece_failed, piece_within}
-use Rattle.engine.proofs.WithinBudget.{ended_of, not_some, slices_begun}
+use Rattle.engine.proofs.WithinBudget.{ended_of, not_some, steps_begun}
 use Rattle.engine.proofs.state.DbState.compact.Goals as goal
 
 pub returns-in_err-plan-clause-step : goal.returns-in_err-plan-clause-step
@@ -44,49 +44,49 @@ returns-in_err-begin_job-clause-step g c ids =
     subst (λ (r : Result Progress DbError). LeadsOpen order old new ids before after (λ m n. IsPiece m (max c.args.budget 1) r n)) (sym said)
     (piece_failed order old new ids before after (max c.args.budget 1) e (piece_within order old new ids before after 0 (max c.args.budget 1) (Err e) (omega arith) (c.in_err-begin_job.ensures.step ids)))
 
-pub returns-in_err-advance-clause-step : goal.returns-in_err-advance-clause-step
-returns-in_err-advance-clause-step g c ids =
+pub returns-in_err-step_job-clause-step : goal.returns-in_err-step_job-clause-step
+returns-in_err-step_job-clause-step g c ids =
     let order = order_of g.K.KeyOrder.name g.K.KeyOrder.cmp in
     let old = seen_of g.S.Store.facts c.args.source.now in
     let mid = seen_of g.S.Store.facts c.begin_job.new.source in
-    let new = seen_of g.S.Store.facts c.advance.new.source in
+    let new = seen_of g.S.Store.facts c.step_job.new.source in
     let before = held c.args.source.now.memory c.args.self.now in
     let between = held c.begin_job.new.source.memory c.begin_job.new.self in
-    let after = held c.advance.new.source.memory c.advance.new.self in
+    let after = held c.step_job.new.source.memory c.step_job.new.self in
     let most = max c.args.budget 1 in
-    let e = c.in_err-advance.field-0.0 in
-    let said : c.from_residual-in_err-advance.result ≡ Err e = search rules in
+    let e = c.in_err-step_job.field-0.0 in
+    let said : c.from_residual-in_err-step_job.result ≡ Err e = search rules in
     subst (λ (r : Result Progress DbError). LeadsOpen order old new ids before after (λ m n. IsPiece m most r n)) (sym said)
     (piece_failed order old new ids before after most e (piece_within order old new ids before after (0 + most) most (Err e) (omega arith)
-    (then_piece order old mid new ids before between after 0 most (tt {0}) (Err e) (c.in_ok-begin_job.ensures.step ids) (c.in_err-advance.ensures.step ids))))
+    (then_piece order old mid new ids before between after 0 most (tt {0}) (Err e) (c.in_ok-begin_job.ensures.step ids) (c.in_err-step_job.ensures.step ids))))
 
-pub returns-in_err-advance-clause-outcome : goal.returns-in_err-advance-clause-outcome
-returns-in_err-advance-clause-outcome g c =
+pub returns-in_err-step_job-clause-outcome : goal.returns-in_err-step_job-clause-outcome
+returns-in_err-step_job-clause-outcome g c =
     let old = g.S.Store.facts c.args.source.now.tables.store in
     let mid = g.S.Store.facts c.begin_job.new.source.tables.store in
-    let new = g.S.Store.facts c.advance.new.source.tables.store in
+    let new = g.S.Store.facts c.step_job.new.source.tables.store in
     let before = held c.args.source.now.memory c.args.self.now in
     let between = held c.begin_job.new.source.memory c.begin_job.new.self in
-    let after = held c.advance.new.source.memory c.advance.new.self in
-    let e = c.in_err-advance.field-0.0 in
-    let said : c.from_residual-in_err-advance.result ≡ Err e = search rules in
+    let after = held c.step_job.new.source.memory c.step_job.new.self in
+    let e = c.in_err-step_job.field-0.0 in
+    let said : c.from_residual-in_err-step_job.result ≡ Err e = search rules in
     let b = c.in_ok-begin_job.ensures in
     subst (λ (r : Result Progress DbError). DbOutcome MayRefusePiece old new before after r) (sym said)
-    (outcome_behind old mid new before between after e (sym b.stood) b.outcome.denials b.same (b.whole ∙ sym c.requires.whole) c.in_err-advance.ensures.outcome)
+    (outcome_behind old mid new before between after e (sym b.stood) b.outcome.denials b.same (b.whole ∙ sym c.requires.whole) c.in_err-step_job.ensures.outcome)
 
 pub returns-clause-step : goal.returns-clause-step
 returns-clause-step g c ids =
     let order = order_of g.K.KeyOrder.name g.K.KeyOrder.cmp in
     let old = seen_of g.S.Store.facts c.args.source.now in
     let mid = seen_of g.S.Store.facts c.begin_job.new.source in
-    let new = seen_of g.S.Store.facts c.advance.new.source in
+    let new = seen_of g.S.Store.facts c.step_job.new.source in
     let before = held c.args.source.now.memory c.args.self.now in
     let between = held c.begin_job.new.source.memory c.begin_job.new.self in
-    let after = held c.advance.new.source.memory c.advance.new.self in
+    let after = held c.step_job.new.source.memory c.step_job.new.self in
     let most = max c.args.budget 1 in
-    let done = c.in_ok-advance.field-0 in
+    let done = c.in_ok-step_job.field-0 in
     piece_done order old new ids before after most done Worked (piece_within order old new ids before after (0 + most) most (Ok done) (omega arith)
-    (then_piece order old mid new ids before between after 0 most (tt {0}) (Ok done) (c.in_ok-begin_job.ensures.step ids) (c.in_ok-advance.ensures.step ids)))
+    (then_piece order old mid new ids before between after 0 most (tt {0}) (Ok done) (c.in_ok-begin_job.ensures.step ids) (c.in_ok-step_job.ensures.step ids)))
 
 pub returns-clause-begins : goal.returns-clause-begins
 returns-clause-begins g c = λ done.
@@ -96,7 +96,7 @@ returns-clause-begins g c = λ done.
       picked = picked_for g.K.KeyOrder.cmp c.level0_files.result c.base_bytes.result c.args.options.now.level0_files c.args.options.now.base_bytes c.deref.result.now c.args.self.now.version.value c.in-Some.plan
           c.level0_files.ensures.is c.base_bytes.ensures.is c.deref.ensures
           (of_some _ (λ plan. IsPicked g.K.KeyOrder.cmp c.level0_files.result c.base_bytes.result c.deref.result.now plan) c.in_ok-plan.field-0 c.in-Some.plan c.in-Some.is c.in_ok-plan.ensures.picked);
-      begun = begun_further c.args.budget c.in-Some.plan (held c.args.source.now.memory c.args.self.now) (held c.begin_job.new.source.memory c.begin_job.new.self) (held c.advance.new.source.memory c.advance.new.self) b.same.tables b.none c.in_ok-advance.ensures.on;
+      begun = begun_further c.args.budget c.in-Some.plan (held c.args.source.now.memory c.args.self.now) (held c.begin_job.new.source.memory c.begin_job.new.self) (held c.step_job.new.source.memory c.step_job.new.self) b.same.tables b.none c.in_ok-step_job.ensures.on;
     }
 
 pub returns-clause-few : goal.returns-clause-few
@@ -107,6 +107,6 @@ returns-clause-few g c worked gone f =
     let before = held c.args.source.now.memory c.args.self.now in
     let between = held c.begin_job.new.source.memory c.begin_job.new.self in
     let b = c.in_ok-begin_job.ensures in
-    let a = c.in_ok-advance.ensures in
-    let ended = ended_of _ _ c.in_ok-advance.field-0 a.ended (λ some. not_some c.advance.new.self.job gone some) in
-    slices_begun order old mid before between (max c.args.budget 1) (λ work. work.job.plan ≡ c.in-Some.plan) b.step ((a.step no_ids).faithful f) b.whole b.same.tables (b.files ((a.step no_ids).faithful f)) c.requires.none b.none (a.few (ap (λ (e : _). Ok e) ended) f)
+    let a = c.in_ok-step_job.ensures in
+    let ended = ended_of _ _ c.in_ok-step_job.field-0 a.ended (λ some. not_some c.step_job.new.self.job gone some) in
+    steps_begun order old mid before between (max c.args.budget 1) (λ work. work.job.plan ≡ c.in-Some.plan) b.step ((a.step no_ids).faithful f) b.whole b.same.tables (b.files ((a.step no_ids).faithful f)) c.requires.none b.none (a.few (ap (λ (e : _). Ok e) ended) f)

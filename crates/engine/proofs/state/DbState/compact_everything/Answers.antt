@@ -18,79 +18,79 @@ use Rattle.engine.proofs.WorkAnswers.{of_none, of_some}
 use Rattle.engine.proofs.NeededEnds.{needed_behind, needed_none}
 use Rattle.engine.proofs.state.DbState.compact_everything.Goals as goal
 
-pub returns-in_err-finish_job-clause-step : goal.returns-in_err-finish_job-clause-step
-returns-in_err-finish_job-clause-step g c ids =
+pub returns-in_err-run_job_to_end-clause-step : goal.returns-in_err-run_job_to_end-clause-step
+returns-in_err-run_job_to_end-clause-step g c ids =
     let order = order_of g.K.KeyOrder.name g.K.KeyOrder.cmp in
     let old = seen_of g.S.Store.facts c.args.source.now in
     let before = held c.args.source.now.memory c.args.self.now in
-    let new = seen_of g.S.Store.facts c.finish_job.new.source in
-    let after = held c.finish_job.new.source.memory c.finish_job.new.self in
-    let e = c.in_err-finish_job.field-0.0 in
+    let new = seen_of g.S.Store.facts c.run_job_to_end.new.source in
+    let after = held c.run_job_to_end.new.source.memory c.run_job_to_end.new.self in
+    let e = c.in_err-run_job_to_end.field-0.0 in
     let said : c.from_residual.result ≡ Err e = search rules in
     subst (λ (r : Result _ DbError). LeadsOpen order old new ids before after (λ m n. IsPiece m (most_drawn m) r n)) (sym said)
-    (within_bound order old new ids before after (λ k. k + 1) (λ k. 4 + 2 * k) (Err e) (λ k. omega arith) (c.in_err-finish_job.ensures.step ids))
+    (within_bound order old new ids before after (λ k. k + 1) (λ k. 4 + 2 * k) (Err e) (λ k. omega arith) (c.in_err-run_job_to_end.ensures.step ids))
 
-pub returns-in_err-finish_job-clause-outcome : goal.returns-in_err-finish_job-clause-outcome
-returns-in_err-finish_job-clause-outcome g c =
+pub returns-in_err-run_job_to_end-clause-outcome : goal.returns-in_err-run_job_to_end-clause-outcome
+returns-in_err-run_job_to_end-clause-outcome g c =
     let facts = g.S.Store.facts in
-    let e = c.in_err-finish_job.field-0.0 in
+    let e = c.in_err-run_job_to_end.field-0.0 in
     let said : c.from_residual.result ≡ Err e = search rules in
-    subst (λ (r : Result _ DbError). CompactOutcome MayRefusePiece (facts c.args.source.now.tables.store) (facts c.finish_job.new.source.tables.store) (held c.args.source.now.memory c.args.self.now) (held c.finish_job.new.source.memory c.finish_job.new.self) r)
-    (sym said) c.in_err-finish_job.ensures.outcome
+    subst (λ (r : Result _ DbError). CompactOutcome MayRefusePiece (facts c.args.source.now.tables.store) (facts c.run_job_to_end.new.source.tables.store) (held c.args.source.now.memory c.args.self.now) (held c.run_job_to_end.new.source.memory c.run_job_to_end.new.self) r)
+    (sym said) c.in_err-run_job_to_end.ensures.outcome
 
 pub returns-in_err-write_memory-clause-step : goal.returns-in_err-write_memory-clause-step
 returns-in_err-write_memory-clause-step g c ids =
     let order = order_of g.K.KeyOrder.name g.K.KeyOrder.cmp in
     let old = seen_of g.S.Store.facts c.args.source.now in
     let before = held c.args.source.now.memory c.args.self.now in
-    let mid = seen_of g.S.Store.facts c.finish_job.new.source in
-    let between = held c.finish_job.new.source.memory c.finish_job.new.self in
+    let mid = seen_of g.S.Store.facts c.run_job_to_end.new.source in
+    let between = held c.run_job_to_end.new.source.memory c.run_job_to_end.new.self in
     let new = seen_of g.S.Store.facts c.write_memory.new.source in
     let after = held c.write_memory.new.source.memory c.write_memory.new.self in
     let e = c.in_err-write_memory.field-0.0 in
     let said : c.from_residual-in_err-write_memory.result ≡ Err e = search rules in
     subst (λ (r : Result _ DbError). LeadsOpen order old new ids before after (λ m n. IsPiece m (most_drawn m) r n)) (sym said)
     (within_bound order old new ids before after (λ k. (k + 0) + 3) (λ k. 4 + 2 * k) (Err e) (λ k. omega arith)
-    (then_bound order old mid new ids before between after (λ k. k + 0) (λ k. 3) (tt {0}) (Err e) (c.in_ok-finish_job.ensures.step ids) (c.in_err-write_memory.ensures.step ids)))
+    (then_bound order old mid new ids before between after (λ k. k + 0) (λ k. 3) (tt {0}) (Err e) (c.in_ok-run_job_to_end.ensures.step ids) (c.in_err-write_memory.ensures.step ids)))
 
 pub returns-in_err-write_memory-clause-outcome : goal.returns-in_err-write_memory-clause-outcome
 returns-in_err-write_memory-clause-outcome g c =
     let facts = g.S.Store.facts in
     let old = facts c.args.source.now.tables.store in
-    let mid = facts c.finish_job.new.source.tables.store in
+    let mid = facts c.run_job_to_end.new.source.tables.store in
     let new = facts c.write_memory.new.source.tables.store in
     let before = held c.args.source.now.memory c.args.self.now in
-    let between = held c.finish_job.new.source.memory c.finish_job.new.self in
+    let between = held c.run_job_to_end.new.source.memory c.run_job_to_end.new.self in
     let after = held c.write_memory.new.source.memory c.write_memory.new.self in
     let e = c.in_err-write_memory.field-0.0 in
     let said : c.from_residual-in_err-write_memory.result ≡ Err e = search rules in
     subst (λ (r : Result _ DbError). CompactOutcome MayRefusePiece old new before after r) (sym said)
-    (outcome_then MayRefusePiece old mid new before between after (Err e) c.requires.whole c.in_ok-finish_job.ensures.serves c.in_err-write_memory.ensures.outcome)
+    (outcome_then MayRefusePiece old mid new before between after (Err e) c.requires.whole c.in_ok-run_job_to_end.ensures.serves c.in_err-write_memory.ensures.outcome)
 
 pub returns-in_err-plan-clause-step : goal.returns-in_err-plan-clause-step
 returns-in_err-plan-clause-step g c ids =
     let order = order_of g.K.KeyOrder.name g.K.KeyOrder.cmp in
     let old = seen_of g.S.Store.facts c.args.source.now in
     let before = held c.args.source.now.memory c.args.self.now in
-    let mid = seen_of g.S.Store.facts c.finish_job.new.source in
-    let first = held c.finish_job.new.source.memory c.finish_job.new.self in
+    let mid = seen_of g.S.Store.facts c.run_job_to_end.new.source in
+    let first = held c.run_job_to_end.new.source.memory c.run_job_to_end.new.self in
     let later = seen_of g.S.Store.facts c.write_memory.new.source in
     let second = held c.write_memory.new.source.memory c.write_memory.new.self in
     let said : c.from_residual-in_err-plan.result ≡ Err OutOfMemory = search rules in
     subst (λ (r : Result _ DbError). LeadsOpen order old later ids before second (λ m n. IsPiece m (most_drawn m) r n)) (sym said)
     (within_bound order old later ids before second (λ k. (k + 0) + 3 + 0) (λ k. 4 + 2 * k) (Err OutOfMemory) (λ k. omega arith)
-    (then_bound order old later later ids before second second (λ k. (k + 0) + 3) (λ k. 0) (tt {0}) (Err OutOfMemory) (then_bound order old mid later ids before first second (λ k. k + 0) (λ k. 3) (tt {0}) (Ok (tt {0})) (c.in_ok-finish_job.ensures.step ids) (c.in_ok-write_memory.ensures.step ids)) (stays_full order later ids second (λ k. 0))))
+    (then_bound order old later later ids before second second (λ k. (k + 0) + 3) (λ k. 0) (tt {0}) (Err OutOfMemory) (then_bound order old mid later ids before first second (λ k. k + 0) (λ k. 3) (tt {0}) (Ok (tt {0})) (c.in_ok-run_job_to_end.ensures.step ids) (c.in_ok-write_memory.ensures.step ids)) (stays_full order later ids second (λ k. 0))))
 
 pub returns-in_err-plan-clause-outcome : goal.returns-in_err-plan-clause-outcome
 returns-in_err-plan-clause-outcome g c =
     let facts = g.S.Store.facts in
     let old = facts c.args.source.now.tables.store in
-    let mid = facts c.finish_job.new.source.tables.store in
+    let mid = facts c.run_job_to_end.new.source.tables.store in
     let later = facts c.write_memory.new.source.tables.store in
     let before = held c.args.source.now.memory c.args.self.now in
-    let first = held c.finish_job.new.source.memory c.finish_job.new.self in
+    let first = held c.run_job_to_end.new.source.memory c.run_job_to_end.new.self in
     let second = held c.write_memory.new.source.memory c.write_memory.new.self in
-    let serves = serves_then old mid later before first second c.in_ok-finish_job.ensures.serves c.in_ok-write_memory.ensures.serves in
+    let serves = serves_then old mid later before first second c.in_ok-run_job_to_end.ensures.serves c.in_ok-write_memory.ensures.serves in
     let said : c.from_residual-in_err-plan.result ≡ Err OutOfMemory = search rules in
     subst (λ (r : Result _ DbError). CompactOutcome MayRefusePiece old later before second r) (sym said) (outcome_all old later before second c.requires.whole serves)
 
@@ -99,22 +99,22 @@ returns-in_default-clause-step g c ids =
     let order = order_of g.K.KeyOrder.name g.K.KeyOrder.cmp in
     let old = seen_of g.S.Store.facts c.args.source.now in
     let before = held c.args.source.now.memory c.args.self.now in
-    let mid = seen_of g.S.Store.facts c.finish_job.new.source in
-    let first = held c.finish_job.new.source.memory c.finish_job.new.self in
+    let mid = seen_of g.S.Store.facts c.run_job_to_end.new.source in
+    let first = held c.run_job_to_end.new.source.memory c.run_job_to_end.new.self in
     let later = seen_of g.S.Store.facts c.write_memory.new.source in
     let second = held c.write_memory.new.source.memory c.write_memory.new.self in
-    within_bound order old later ids before second (λ k. (k + 0) + 3) (λ k. 4 + 2 * k) (Ok (tt {0})) (λ k. omega arith) (then_bound order old mid later ids before first second (λ k. k + 0) (λ k. 3) (tt {0}) (Ok (tt {0})) (c.in_ok-finish_job.ensures.step ids) (c.in_ok-write_memory.ensures.step ids))
+    within_bound order old later ids before second (λ k. (k + 0) + 3) (λ k. 4 + 2 * k) (Ok (tt {0})) (λ k. omega arith) (then_bound order old mid later ids before first second (λ k. k + 0) (λ k. 3) (tt {0}) (Ok (tt {0})) (c.in_ok-run_job_to_end.ensures.step ids) (c.in_ok-write_memory.ensures.step ids))
 
 pub returns-in_default-clause-outcome : goal.returns-in_default-clause-outcome
 returns-in_default-clause-outcome g c =
     let facts = g.S.Store.facts in
     let old = facts c.args.source.now.tables.store in
-    let mid = facts c.finish_job.new.source.tables.store in
+    let mid = facts c.run_job_to_end.new.source.tables.store in
     let later = facts c.write_memory.new.source.tables.store in
     let before = held c.args.source.now.memory c.args.self.now in
-    let first = held c.finish_job.new.source.memory c.finish_job.new.self in
+    let first = held c.run_job_to_end.new.source.memory c.run_job_to_end.new.self in
     let second = held c.write_memory.new.source.memory c.write_memory.new.self in
-    let serves = serves_then old mid later before first second c.in_ok-finish_job.ensures.serves c.in_ok-write_memory.ensures.serves in
+    let serves = serves_then old mid later before first second c.in_ok-run_job_to_end.ensures.serves c.in_ok-write_memory.ensures.serves in
     outcome_done MayRefusePiece old later before second (tt {0}) c.requires.whole serves
 
 pub returns-clause-step : goal.returns-clause-step
@@ -122,26 +122,26 @@ returns-clause-step g c ids =
     let order = order_of g.K.KeyOrder.name g.K.KeyOrder.cmp in
     let old = seen_of g.S.Store.facts c.args.source.now in
     let before = held c.args.source.now.memory c.args.self.now in
-    let mid = seen_of g.S.Store.facts c.finish_job.new.source in
-    let first = held c.finish_job.new.source.memory c.finish_job.new.self in
+    let mid = seen_of g.S.Store.facts c.run_job_to_end.new.source in
+    let first = held c.run_job_to_end.new.source.memory c.run_job_to_end.new.self in
     let later = seen_of g.S.Store.facts c.write_memory.new.source in
     let second = held c.write_memory.new.source.memory c.write_memory.new.self in
     let new = seen_of g.S.Store.facts c.run_job.new.source in
     let after = held c.run_job.new.source.memory c.run_job.new.self in
     let r = c.run_job.result in
     within_bound order old new ids before after (λ k. (k + 0) + 3 + (k + beyond r)) (λ k. 4 + 2 * k) r (λ k. (let most = beyond_most r in omega (arith, most)))
-    (then_bound order old later new ids before second after (λ k. (k + 0) + 3) (λ k. k + beyond r) (tt {0}) r (then_bound order old mid later ids before first second (λ k. k + 0) (λ k. 3) (tt {0}) (Ok (tt {0})) (c.in_ok-finish_job.ensures.step ids) (c.in_ok-write_memory.ensures.step ids)) (c.run_job.ensures.step ids))
+    (then_bound order old later new ids before second after (λ k. (k + 0) + 3) (λ k. k + beyond r) (tt {0}) r (then_bound order old mid later ids before first second (λ k. k + 0) (λ k. 3) (tt {0}) (Ok (tt {0})) (c.in_ok-run_job_to_end.ensures.step ids) (c.in_ok-write_memory.ensures.step ids)) (c.run_job.ensures.step ids))
 
 pub returns-clause-outcome : goal.returns-clause-outcome
 returns-clause-outcome g c =
     let facts = g.S.Store.facts in
     let old = facts c.args.source.now.tables.store in
-    let mid = facts c.finish_job.new.source.tables.store in
+    let mid = facts c.run_job_to_end.new.source.tables.store in
     let later = facts c.write_memory.new.source.tables.store in
     let before = held c.args.source.now.memory c.args.self.now in
-    let first = held c.finish_job.new.source.memory c.finish_job.new.self in
+    let first = held c.run_job_to_end.new.source.memory c.run_job_to_end.new.self in
     let second = held c.write_memory.new.source.memory c.write_memory.new.self in
-    let serves = serves_then old mid later before first second c.in_ok-finish_job.ensures.serves c.in_ok-write_memory.ensures.serves in
+    let serves = serves_then old mid later before first second c.in_ok-run_job_to_end.ensures.serves c.in_ok-write_memory.ensures.serves in
     outcome_then MayRefusePiece old later (facts c.run_job.new.source.tables.store) before second (held c.run_job.new.source.memory c.run_job.new.self) c.run_job.result c.requires.whole serves c.run_job.ensures.outcome
 
 pub returns-in_default-clause-compacted : goal.returns-in_default-clause-compacted
@@ -167,14 +167,14 @@ returns-in_default-clause-needed g c =
     let order = order_of g.K.KeyOrder.name g.K.KeyOrder.cmp in
     let old = seen_of g.S.Store.facts c.args.source.now in
     let before = held c.args.source.now.memory c.args.self.now in
-    let mid = seen_of g.S.Store.facts c.finish_job.new.source in
-    let first = held c.finish_job.new.source.memory c.finish_job.new.self in
+    let mid = seen_of g.S.Store.facts c.run_job_to_end.new.source in
+    let first = held c.run_job_to_end.new.source.memory c.run_job_to_end.new.self in
     let later = seen_of g.S.Store.facts c.write_memory.new.source in
     let second = held c.write_memory.new.source.memory c.write_memory.new.self in
     let tables_are : c.deref.result.now.tables ≡ second.tables = ap (λ (p : Placement). p.tables) c.deref.ensures in
     let none = of_none (c.deref.result.now.tables ≡ []) (IsWholePlan c.deref.result.now.tables) c.in_ok-plan.field-0 c.in_default.is c.in_ok-plan.ensures in
     let written = c.in_ok-write_memory.ensures in
-    needed_behind order old mid later before first second c.in_ok-finish_job.ensures.step written.step
+    needed_behind order old mid later before first second c.in_ok-run_job_to_end.ensures.step written.step
     (needed_behind order mid later later first second second written.step (λ ids. stays_done order later ids second (λ e. 0) (tt {0})) (needed_none order later second written.serves.whole (sym tables_are ∙ none)))
 
 pub returns-clause-needed : goal.returns-clause-needed
@@ -182,8 +182,8 @@ returns-clause-needed g c =
     let order = order_of g.K.KeyOrder.name g.K.KeyOrder.cmp in
     let old = seen_of g.S.Store.facts c.args.source.now in
     let before = held c.args.source.now.memory c.args.self.now in
-    let mid = seen_of g.S.Store.facts c.finish_job.new.source in
-    let first = held c.finish_job.new.source.memory c.finish_job.new.self in
+    let mid = seen_of g.S.Store.facts c.run_job_to_end.new.source in
+    let first = held c.run_job_to_end.new.source.memory c.run_job_to_end.new.self in
     let later = seen_of g.S.Store.facts c.write_memory.new.source in
     let second = held c.write_memory.new.source.memory c.write_memory.new.self in
     let new = seen_of g.S.Store.facts c.run_job.new.source in
@@ -193,5 +193,5 @@ returns-clause-needed g c =
     let planned = of_some (c.deref.result.now.tables ≡ []) (IsWholePlan c.deref.result.now.tables) c.in_ok-plan.field-0 plan c.in-Some.is c.in_ok-plan.ensures in
     let written = c.in_ok-write_memory.ensures.step in
     let behind : (ids : Ids) → LeadsOpen order old later ids before second (λ m n. IsPiece m (entry_count m + 0 + 3) (Ok (tt {0})) n) =
-    λ ids. then_bound order old mid later ids before first second (λ k. k + 0) (λ k. 3) (tt {0}) (Ok (tt {0})) (c.in_ok-finish_job.ensures.step ids) (written ids) in
+    λ ids. then_bound order old mid later ids before first second (λ k. k + 0) (λ k. 3) (tt {0}) (Ok (tt {0})) (c.in_ok-run_job_to_end.ensures.step ids) (written ids) in
     on_ok c.run_job.result (λ ends. needed_behind order old later new before second after behind c.run_job.ensures.step (ends (subst (λ (ts : List PlacedTable). IsWholePlan ts plan) tables_are planned))) c.run_job.ensures.needed

@@ -15,46 +15,46 @@ use Rattle.engine.proofs.Finishing.{outcome_all, outcome_done, outcome_then, sta
 use Rattle.engine.proofs.WorkAnswers.{of_none, of_some}
 use Rattle.engine.proofs.state.DbState.compact_tables_of.Goals as goal
 
-pub returns-in_err-finish_job-clause-step : goal.returns-in_err-finish_job-clause-step
-returns-in_err-finish_job-clause-step g c ids =
+pub returns-in_err-run_job_to_end-clause-step : goal.returns-in_err-run_job_to_end-clause-step
+returns-in_err-run_job_to_end-clause-step g c ids =
     let order = order_of g.K.KeyOrder.name g.K.KeyOrder.cmp in
     let old = seen_of g.S.Store.facts c.args.source.now in
     let before = held c.args.source.now.memory c.args.self.now in
-    let new = seen_of g.S.Store.facts c.finish_job.new.source in
-    let after = held c.finish_job.new.source.memory c.finish_job.new.self in
-    let e = c.in_err-finish_job.field-0.0 in
+    let new = seen_of g.S.Store.facts c.run_job_to_end.new.source in
+    let after = held c.run_job_to_end.new.source.memory c.run_job_to_end.new.self in
+    let e = c.in_err-run_job_to_end.field-0.0 in
     let said : c.from_residual.result ≡ Err e = search rules in
     subst (λ (r : Result _ DbError). LeadsOpen order old new ids before after (λ m n. IsPiece m (most_drawn m) r n)) (sym said)
-    (within_bound order old new ids before after (λ k. k + 1) (λ k. 4 + 2 * k) (Err e) (λ k. omega arith) (c.in_err-finish_job.ensures.step ids))
+    (within_bound order old new ids before after (λ k. k + 1) (λ k. 4 + 2 * k) (Err e) (λ k. omega arith) (c.in_err-run_job_to_end.ensures.step ids))
 
-pub returns-in_err-finish_job-clause-outcome : goal.returns-in_err-finish_job-clause-outcome
-returns-in_err-finish_job-clause-outcome g c =
+pub returns-in_err-run_job_to_end-clause-outcome : goal.returns-in_err-run_job_to_end-clause-outcome
+returns-in_err-run_job_to_end-clause-outcome g c =
     let facts = g.S.Store.facts in
-    let e = c.in_err-finish_job.field-0.0 in
+    let e = c.in_err-run_job_to_end.field-0.0 in
     let said : c.from_residual.result ≡ Err e = search rules in
-    subst (λ (r : Result _ DbError). CompactOutcome MayRefusePiece (facts c.args.source.now.tables.store) (facts c.finish_job.new.source.tables.store) (held c.args.source.now.memory c.args.self.now) (held c.finish_job.new.source.memory c.finish_job.new.self) r)
-    (sym said) c.in_err-finish_job.ensures.outcome
+    subst (λ (r : Result _ DbError). CompactOutcome MayRefusePiece (facts c.args.source.now.tables.store) (facts c.run_job_to_end.new.source.tables.store) (held c.args.source.now.memory c.args.self.now) (held c.run_job_to_end.new.source.memory c.run_job_to_end.new.self) r)
+    (sym said) c.in_err-run_job_to_end.ensures.outcome
 
 pub returns-in_err-plan-clause-step : goal.returns-in_err-plan-clause-step
 returns-in_err-plan-clause-step g c ids =
     let order = order_of g.K.KeyOrder.name g.K.KeyOrder.cmp in
     let old = seen_of g.S.Store.facts c.args.source.now in
     let before = held c.args.source.now.memory c.args.self.now in
-    let later = seen_of g.S.Store.facts c.finish_job.new.source in
-    let second = held c.finish_job.new.source.memory c.finish_job.new.self in
+    let later = seen_of g.S.Store.facts c.run_job_to_end.new.source in
+    let second = held c.run_job_to_end.new.source.memory c.run_job_to_end.new.self in
     let said : c.from_residual-in_err-plan.result ≡ Err OutOfMemory = search rules in
     subst (λ (r : Result _ DbError). LeadsOpen order old later ids before second (λ m n. IsPiece m (most_drawn m) r n)) (sym said)
     (within_bound order old later ids before second (λ k. k + 0 + 0) (λ k. 4 + 2 * k) (Err OutOfMemory) (λ k. omega arith)
-    (then_bound order old later later ids before second second (λ k. k + 0) (λ k. 0) (tt {0}) (Err OutOfMemory) (c.in_ok-finish_job.ensures.step ids) (stays_full order later ids second (λ k. 0))))
+    (then_bound order old later later ids before second second (λ k. k + 0) (λ k. 0) (tt {0}) (Err OutOfMemory) (c.in_ok-run_job_to_end.ensures.step ids) (stays_full order later ids second (λ k. 0))))
 
 pub returns-in_err-plan-clause-outcome : goal.returns-in_err-plan-clause-outcome
 returns-in_err-plan-clause-outcome g c =
     let facts = g.S.Store.facts in
     let old = facts c.args.source.now.tables.store in
-    let later = facts c.finish_job.new.source.tables.store in
+    let later = facts c.run_job_to_end.new.source.tables.store in
     let before = held c.args.source.now.memory c.args.self.now in
-    let second = held c.finish_job.new.source.memory c.finish_job.new.self in
-    let serves = c.in_ok-finish_job.ensures.serves in
+    let second = held c.run_job_to_end.new.source.memory c.run_job_to_end.new.self in
+    let serves = c.in_ok-run_job_to_end.ensures.serves in
     let said : c.from_residual-in_err-plan.result ≡ Err OutOfMemory = search rules in
     subst (λ (r : Result _ DbError). CompactOutcome MayRefusePiece old later before second r) (sym said) (outcome_all old later before second c.requires.whole serves)
 
@@ -63,18 +63,18 @@ returns-in_default-clause-step g c ids =
     let order = order_of g.K.KeyOrder.name g.K.KeyOrder.cmp in
     let old = seen_of g.S.Store.facts c.args.source.now in
     let before = held c.args.source.now.memory c.args.self.now in
-    let later = seen_of g.S.Store.facts c.finish_job.new.source in
-    let second = held c.finish_job.new.source.memory c.finish_job.new.self in
-    within_bound order old later ids before second (λ k. k + 0) (λ k. 4 + 2 * k) (Ok (tt {0})) (λ k. omega arith) (c.in_ok-finish_job.ensures.step ids)
+    let later = seen_of g.S.Store.facts c.run_job_to_end.new.source in
+    let second = held c.run_job_to_end.new.source.memory c.run_job_to_end.new.self in
+    within_bound order old later ids before second (λ k. k + 0) (λ k. 4 + 2 * k) (Ok (tt {0})) (λ k. omega arith) (c.in_ok-run_job_to_end.ensures.step ids)
 
 pub returns-in_default-clause-outcome : goal.returns-in_default-clause-outcome
 returns-in_default-clause-outcome g c =
     let facts = g.S.Store.facts in
     let old = facts c.args.source.now.tables.store in
-    let later = facts c.finish_job.new.source.tables.store in
+    let later = facts c.run_job_to_end.new.source.tables.store in
     let before = held c.args.source.now.memory c.args.self.now in
-    let second = held c.finish_job.new.source.memory c.finish_job.new.self in
-    let serves = c.in_ok-finish_job.ensures.serves in
+    let second = held c.run_job_to_end.new.source.memory c.run_job_to_end.new.self in
+    let serves = c.in_ok-run_job_to_end.ensures.serves in
     outcome_done MayRefusePiece old later before second (tt {0}) c.requires.whole serves
 
 pub returns-clause-step : goal.returns-clause-step
@@ -82,29 +82,29 @@ returns-clause-step g c ids =
     let order = order_of g.K.KeyOrder.name g.K.KeyOrder.cmp in
     let old = seen_of g.S.Store.facts c.args.source.now in
     let before = held c.args.source.now.memory c.args.self.now in
-    let later = seen_of g.S.Store.facts c.finish_job.new.source in
-    let second = held c.finish_job.new.source.memory c.finish_job.new.self in
+    let later = seen_of g.S.Store.facts c.run_job_to_end.new.source in
+    let second = held c.run_job_to_end.new.source.memory c.run_job_to_end.new.self in
     let new = seen_of g.S.Store.facts c.run_job.new.source in
     let after = held c.run_job.new.source.memory c.run_job.new.self in
     let r = c.run_job.result in
     within_bound order old new ids before after (λ k. k + 0 + (k + beyond r)) (λ k. 4 + 2 * k) r (λ k. (let most = beyond_most r in omega (arith, most)))
-    (then_bound order old later new ids before second after (λ k. k + 0) (λ k. k + beyond r) (tt {0}) r (c.in_ok-finish_job.ensures.step ids) (c.run_job.ensures.step ids))
+    (then_bound order old later new ids before second after (λ k. k + 0) (λ k. k + beyond r) (tt {0}) r (c.in_ok-run_job_to_end.ensures.step ids) (c.run_job.ensures.step ids))
 
 pub returns-clause-outcome : goal.returns-clause-outcome
 returns-clause-outcome g c =
     let facts = g.S.Store.facts in
     let old = facts c.args.source.now.tables.store in
-    let later = facts c.finish_job.new.source.tables.store in
+    let later = facts c.run_job_to_end.new.source.tables.store in
     let before = held c.args.source.now.memory c.args.self.now in
-    let second = held c.finish_job.new.source.memory c.finish_job.new.self in
-    let serves = c.in_ok-finish_job.ensures.serves in
+    let second = held c.run_job_to_end.new.source.memory c.run_job_to_end.new.self in
+    let serves = c.in_ok-run_job_to_end.ensures.serves in
     outcome_then MayRefusePiece old later (facts c.run_job.new.source.tables.store) before second (held c.run_job.new.source.memory c.run_job.new.self) c.run_job.result c.requires.whole serves c.run_job.ensures.outcome
 
 pub returns-in_default-clause-emptied : goal.returns-in_default-clause-emptied
 returns-in_default-clause-emptied g c =
     let cmp = g.K.KeyOrder.cmp in
     let level = c.args.level in
-    let tables = c.finish_job.new.self.version.value.tables in
+    let tables = c.run_job_to_end.new.self.version.value.tables in
     let tables_are : c.deref.result.now.tables ≡ tables = ap (λ (p : Placement). p.tables) c.deref.ensures in
     subst (λ (ts : List PlacedTable). tables_at level ts ≡ []) tables_are
     (of_none (tables_at level c.deref.result.now.tables ≡ []) (IsLevelPlan cmp c.deref.result.now.tables level) c.in_ok-plan.field-0 c.in_default.is c.in_ok-plan.ensures)
@@ -114,7 +114,7 @@ returns-clause-emptied g c =
     let cmp = g.K.KeyOrder.cmp in
     let level = c.args.level in
     let plan = c.in-Some.plan in
-    let tables = c.finish_job.new.self.version.value.tables in
+    let tables = c.run_job_to_end.new.self.version.value.tables in
     let tables_are : c.deref.result.now.tables ≡ tables = ap (λ (p : Placement). p.tables) c.deref.ensures in
     let planned = of_some (tables_at level c.deref.result.now.tables ≡ []) (IsLevelPlan cmp c.deref.result.now.tables level) c.in_ok-plan.field-0 plan c.in-Some.is c.in_ok-plan.ensures in
     on_ok c.run_job.result (λ h. level_emptied cmp tables c.run_job.new.self.version.value.tables level plan (subst (λ (ts : List PlacedTable). IsLevelPlan cmp ts level plan) tables_are planned) h) c.run_job.ensures.done
@@ -124,7 +124,7 @@ run_job-requires-clause-plan g c =
     let cmp = g.K.KeyOrder.cmp in
     let level = c.args.level in
     let plan = c.in-Some.plan in
-    let tables = c.finish_job.new.self.version.value.tables in
+    let tables = c.run_job_to_end.new.self.version.value.tables in
     let tables_are : c.deref.result.now.tables ≡ tables = ap (λ (p : Placement). p.tables) c.deref.ensures in
     let planned = of_some (tables_at level c.deref.result.now.tables ≡ []) (IsLevelPlan cmp c.deref.result.now.tables level) c.in_ok-plan.field-0 plan c.in-Some.is c.in_ok-plan.ensures in
     subst (λ (ts : List PlacedTable). IsPlanOf cmp ts plan) tables_are ((c.plans_of_tables.ensures cmp c.deref.result.now plan).1 level c.requires.level planned)

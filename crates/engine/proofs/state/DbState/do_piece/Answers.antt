@@ -7,28 +7,28 @@ use Rattle.engine.specs.Follows.{LeadsOpen}
 use Rattle.engine.specs.Held.{held, seen_of}
 use Rattle.engine.specs.Working.{IsPiece}
 use Rattle.engine.proofs.WorkSteps.{piece_done, piece_failed}
-use Rattle.engine.proofs.WithinBudget.{ended_of, not_some, slices_itself}
+use Rattle.engine.proofs.WithinBudget.{ended_of, not_some, steps_itself}
 use Rattle.engine.proofs.state.DbState.do_piece.Goals as goal
 
-pub returns-in_err-advance-clause-step : goal.returns-in_err-advance-clause-step
-returns-in_err-advance-clause-step g c ids =
+pub returns-in_err-step_job-clause-step : goal.returns-in_err-step_job-clause-step
+returns-in_err-step_job-clause-step g c ids =
     let order = order_of g.K.KeyOrder.name g.K.KeyOrder.cmp in
     let old = seen_of g.S.Store.facts c.args.source.now in
-    let new = seen_of g.S.Store.facts c.advance.new.source in
+    let new = seen_of g.S.Store.facts c.step_job.new.source in
     let before = held c.args.source.now.memory c.args.self.now in
-    let after = held c.advance.new.source.memory c.advance.new.self in
-    let e = c.in_err-advance.field-0.0 in
+    let after = held c.step_job.new.source.memory c.step_job.new.self in
+    let e = c.in_err-step_job.field-0.0 in
     let is : c.from_residual.result ≡ Err e = search rules in
-    subst (λ (r : Result Progress DbError). LeadsOpen order old new ids before after (λ m n. IsPiece m (max c.args.budget 1) r n)) (sym is) (piece_failed order old new ids before after (max c.args.budget 1) e (c.in_err-advance.ensures.step ids))
+    subst (λ (r : Result Progress DbError). LeadsOpen order old new ids before after (λ m n. IsPiece m (max c.args.budget 1) r n)) (sym is) (piece_failed order old new ids before after (max c.args.budget 1) e (c.in_err-step_job.ensures.step ids))
 
 pub returns-then-is_some-clause-step : goal.returns-then-is_some-clause-step
 returns-then-is_some-clause-step g c ids =
-    piece_done (order_of g.K.KeyOrder.name g.K.KeyOrder.cmp) (seen_of g.S.Store.facts c.args.source.now) (seen_of g.S.Store.facts c.advance.new.source) ids (held c.args.source.now.memory c.args.self.now) (held c.advance.new.source.memory c.advance.new.self)
-    (max c.args.budget 1) c.in_ok-advance.field-0 Worked (c.in_ok-advance.ensures.step ids)
+    piece_done (order_of g.K.KeyOrder.name g.K.KeyOrder.cmp) (seen_of g.S.Store.facts c.args.source.now) (seen_of g.S.Store.facts c.step_job.new.source) ids (held c.args.source.now.memory c.args.self.now) (held c.step_job.new.source.memory c.step_job.new.self)
+    (max c.args.budget 1) c.in_ok-step_job.field-0 Worked (c.in_ok-step_job.ensures.step ids)
 
 pub returns-then-is_some-clause-within : goal.returns-then-is_some-clause-within
 returns-then-is_some-clause-within g c worked which gone f =
     let order = order_of g.K.KeyOrder.name g.K.KeyOrder.cmp in
-    let a = c.in_ok-advance.ensures in
-    let ended = ended_of _ _ c.in_ok-advance.field-0 a.ended (λ some. not_some c.advance.new.self.job gone some) in
-    slices_itself order (seen_of g.S.Store.facts c.args.source.now) (held c.args.source.now.memory c.args.self.now) (max c.args.budget 1) c.requires.whole (a.few (ap (λ (e : _). Ok e) ended) f)
+    let a = c.in_ok-step_job.ensures in
+    let ended = ended_of _ _ c.in_ok-step_job.field-0 a.ended (λ some. not_some c.step_job.new.self.job gone some) in
+    steps_itself order (seen_of g.S.Store.facts c.args.source.now) (held c.args.source.now.memory c.args.self.now) (max c.args.budget 1) c.requires.whole (a.few (ap (λ (e : _). Ok e) ended) f)

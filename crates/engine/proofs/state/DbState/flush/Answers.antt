@@ -2,9 +2,9 @@ use Rattle.std.proofs.Common.{◌≡◌, [], length, Ok, Err, refl, sym, ap, sub
 use Rattle.std.proofs.lemmas.Bool.{eqb-true}
 use Rattle.coding.specs.declared.error.DbError.{DbError}
 use Rattle.ikey.specs.Orders.{order_of}
-use Rattle.memories.specs.Memories.{Memories, inserts_of, sealed_inserts}
-use Rattle.scans.proofs.ScanSteps.{scan_kept}
-use Rattle.upkeep.specs.declared.flush.FlushPlan.{FlushPlan}
+use Rattle.memtables.specs.Memories.{Memories, inserts_of, sealed_inserts}
+use Rattle.db_cursor.proofs.ScanSteps.{scan_kept}
+use Rattle.directory_writes.specs.declared.flush.FlushPlan.{FlushPlan}
 use Rattle.versions.specs.Levels.{Placement}
 use Rattle.engine.specs.declared.state.DbState.{DbState}
 use Rattle.engine.specs.Follows.{LeadsOpen}

@@ -7,10 +7,10 @@ use Rattle.edits.specs.declared.field.PlacedTable.{PlacedTable}
 use Rattle.ikey.specs.Orders.{order_of}
 use Rattle.ikey.specs.Sources.{IsAnswer}
 use Rattle.cursor.specs.Moves.{Refuses}
-use Rattle.memories.specs.Memories.{logged_in}
-use Rattle.reads.specs.Gets.{HasNoTablesOf, IsOneTooLong, SaysOfAll}
-use Rattle.scans.proofs.ScanSteps.{scan_kept}
-use Rattle.sources.specs.Tables.{seen}
+use Rattle.memtables.specs.Memories.{logged_in}
+use Rattle.version_get.specs.Gets.{HasNoTablesOf, IsOneTooLong, SaysOfAll}
+use Rattle.db_cursor.proofs.ScanSteps.{scan_kept}
+use Rattle.table_access.specs.Tables.{seen}
 use Rattle.versions.specs.Keeping.{HasNumber}
 use Rattle.versions.specs.Levels.{Placement}
 use Rattle.engine.specs.Access.{Gets}

@@ -1,7 +1,7 @@
 use Rattle.std.proofs.Common.{◌≡◌, ◌+◌, Result, Err, sym, subst, arith, rules}
 use Rattle.coding.specs.declared.error.DbError.{DbError}
 use Rattle.ikey.specs.Orders.{order_of}
-use Rattle.memories.specs.PlaceLaws.{left_onward}
+use Rattle.memtables.specs.PlaceLaws.{left_onward}
 use Rattle.engine.specs.Finishing.{CompactOutcome, EndsJob, beyond}
 use Rattle.engine.specs.Follows.{LeadsOpen}
 use Rattle.engine.specs.Held.{held, seen_of}
@@ -42,31 +42,31 @@ returns-clause-step g c ids =
     let before = held c.args.source.now.memory c.args.self.now in
     let mid = seen_of g.S.Store.facts c.begin_job.new.source in
     let between = held c.begin_job.new.source.memory c.begin_job.new.self in
-    let new = seen_of g.S.Store.facts c.finish_job.new.source in
-    let after = held c.finish_job.new.source.memory c.finish_job.new.self in
-    let r = c.finish_job.result in
+    let new = seen_of g.S.Store.facts c.run_job_to_end.new.source in
+    let after = held c.run_job_to_end.new.source.memory c.run_job_to_end.new.self in
+    let r = c.run_job_to_end.result in
     within_bound order old new ids before after (λ k. 0 + (k + beyond r)) (λ k. k + beyond r) r (λ k. omega arith)
-    (then_bound order old mid new ids before between after (λ k. 0) (λ k. k + beyond r) (tt {0}) r (c.in_ok-begin_job.ensures.step ids) (c.finish_job.ensures.step ids))
+    (then_bound order old mid new ids before between after (λ k. 0) (λ k. k + beyond r) (tt {0}) r (c.in_ok-begin_job.ensures.step ids) (c.run_job_to_end.ensures.step ids))
 
 pub returns-clause-outcome : goal.returns-clause-outcome
 returns-clause-outcome g c =
     let facts = g.S.Store.facts in
     let old = facts c.args.source.now.tables.store in
     let mid = facts c.begin_job.new.source.tables.store in
-    let new = facts c.finish_job.new.source.tables.store in
+    let new = facts c.run_job_to_end.new.source.tables.store in
     let before = held c.args.source.now.memory c.args.self.now in
     let between = held c.begin_job.new.source.memory c.begin_job.new.self in
-    let after = held c.finish_job.new.source.memory c.finish_job.new.self in
+    let after = held c.run_job_to_end.new.source.memory c.run_job_to_end.new.self in
     let b = c.in_ok-begin_job.ensures in
-    outcome_then MayRefusePiece old mid new before between after c.finish_job.result c.requires.whole (serves_begun old mid before between b.stood b.outcome.denials b.lock b.whole b.same) c.finish_job.ensures.outcome
+    outcome_then MayRefusePiece old mid new before between after c.run_job_to_end.result c.requires.whole (serves_begun old mid before between b.stood b.outcome.denials b.lock b.whole b.same) c.run_job_to_end.ensures.outcome
 
 pub returns-clause-memory : goal.returns-clause-memory
-returns-clause-memory g c = left_onward c.args.source.now.memory c.begin_job.new.source.memory c.finish_job.new.source.memory c.in_ok-begin_job.ensures.memory c.finish_job.ensures.memory
+returns-clause-memory g c = left_onward c.args.source.now.memory c.begin_job.new.source.memory c.run_job_to_end.new.source.memory c.in_ok-begin_job.ensures.memory c.run_job_to_end.ensures.memory
 
 pub returns-clause-done : goal.returns-clause-done
 returns-clause-done g c =
     let b = c.in_ok-begin_job.ensures in
-    done_of c.finish_job.result c.begin_job.new.self.job c.args.plan c.args.self.now.version.value.tables c.begin_job.new.self.version.value.tables c.finish_job.new.self.version.value.tables b.same.tables b.none c.finish_job.ensures.done
+    done_of c.run_job_to_end.result c.begin_job.new.self.job c.args.plan c.args.self.now.version.value.tables c.begin_job.new.self.version.value.tables c.run_job_to_end.new.self.version.value.tables b.same.tables b.none c.run_job_to_end.ensures.done
 
 pub returns-clause-needed : goal.returns-clause-needed
 returns-clause-needed g c =
@@ -75,7 +75,7 @@ returns-clause-needed g c =
     let before = held c.args.source.now.memory c.args.self.now in
     let mid = seen_of g.S.Store.facts c.begin_job.new.source in
     let between = held c.begin_job.new.source.memory c.begin_job.new.self in
-    let new = seen_of g.S.Store.facts c.finish_job.new.source in
-    let after = held c.finish_job.new.source.memory c.finish_job.new.self in
+    let new = seen_of g.S.Store.facts c.run_job_to_end.new.source in
+    let after = held c.run_job_to_end.new.source.memory c.run_job_to_end.new.self in
     let b = c.in_ok-begin_job.ensures in
-    on_ok c.finish_job.result (λ ends whole. needed_behind order old mid new before between after b.step c.finish_job.ensures.step (ends (b.all whole))) c.finish_job.ensures.needed
+    on_ok c.run_job_to_end.result (λ ends whole. needed_behind order old mid new before between after b.step c.run_job_to_end.ensures.step (ends (b.all whole))) c.run_job_to_end.ensures.needed

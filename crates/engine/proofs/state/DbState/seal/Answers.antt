@@ -2,8 +2,8 @@ use Rattle.std.proofs.Common.{◌≡◌, Result, Err, sym, subst, rules}
 use Rattle.coding.specs.declared.error.DbError.{DbError}
 use Rattle.coding.specs.declared.error.DbError.TheVariants.{OutOfMemory}
 use Rattle.ikey.specs.Orders.{order_of}
-use Rattle.memories.specs.Memories.{Memories}
-use Rattle.scans.proofs.ScanSteps.{scan_kept}
+use Rattle.memtables.specs.Memories.{Memories}
+use Rattle.db_cursor.proofs.ScanSteps.{scan_kept}
 use Rattle.engine.specs.declared.state.DbState.{DbState}
 use Rattle.engine.specs.Follows.{LeadsOpen}
 use Rattle.engine.specs.Held.{held, seen_of}

@@ -1,7 +1,7 @@
 use Rattle.std.proofs.Common.{◌≡◌, ◌<◌, ◌^◌, ◌-◌, true, false, Bool, None, Ok, Err, Result, IsSome, MatchBool, sym, ap, subst, arith, rules}
 use Rattle.coding.specs.declared.error.DbError.{DbError}
 use Rattle.ikey.specs.Orders.{order_of}
-use Rattle.memories.specs.PlaceLaws.{left_onward}
+use Rattle.memtables.specs.PlaceLaws.{left_onward}
 use Rattle.engine.specs.Finishing.{CompactOutcome, EndsJob, HasCome}
 use Rattle.engine.specs.Follows.{LeadsOpen}
 use Rattle.engine.specs.Held.{held, seen_of}
@@ -20,60 +20,60 @@ loop-preserved g c =
     let order = order_of g.K.KeyOrder.name g.K.KeyOrder.cmp in
     let old = seen_of g.S.Store.facts c.args.source.now in
     let mid = seen_of g.S.Store.facts c.loop.source in
-    let new = seen_of g.S.Store.facts c.advance.new.source in
+    let new = seen_of g.S.Store.facts c.step_job.new.source in
     let before = held c.args.source.now.memory c.args.self.now in
     let between = held c.loop.source.memory c.loop.self in
-    let after = held c.advance.new.source.memory c.advance.new.self in
-    let a = c.in_ok-advance.ensures in
-    let going : c.in_ok-advance.field-0 ≡ false = search rules in
-    let some = subst (λ (b : Bool). MatchBool b (c.advance.new.self.job ≡ None) (IsSome c.advance.new.self.job)) going a.ended in
+    let after = held c.step_job.new.source.memory c.step_job.new.self in
+    let a = c.in_ok-step_job.ensures in
+    let going : c.in_ok-step_job.field-0 ≡ false = search rules in
+    let some = subst (λ (b : Bool). MatchBool b (c.step_job.new.self.job ≡ None) (IsSome c.step_job.new.self.job)) going a.ended in
     taken_more order old mid new before between after c.loop.counter c.loop.invariant a.on some a.serves a.memory (a.all (ap (λ (b : Bool). Ok b) going))
     (λ ids. subst (λ (b : Bool). LeadsOpen order mid new ids between after (λ m n. IsPiece m 1 (Ok b) n)) going (a.step ids))
 
-pub returns-in_err-advance-clause-step : goal.returns-in_err-advance-clause-step
-returns-in_err-advance-clause-step g c ids =
+pub returns-in_err-step_job-clause-step : goal.returns-in_err-step_job-clause-step
+returns-in_err-step_job-clause-step g c ids =
     let order = order_of g.K.KeyOrder.name g.K.KeyOrder.cmp in
     let old = seen_of g.S.Store.facts c.args.source.now in
     let mid = seen_of g.S.Store.facts c.loop.source in
-    let new = seen_of g.S.Store.facts c.advance.new.source in
+    let new = seen_of g.S.Store.facts c.step_job.new.source in
     let before = held c.args.source.now.memory c.args.self.now in
     let between = held c.loop.source.memory c.loop.self in
-    let after = held c.advance.new.source.memory c.advance.new.self in
-    let e = c.in_err-advance.field-0.0 in
+    let after = held c.step_job.new.source.memory c.step_job.new.self in
+    let e = c.in_err-step_job.field-0.0 in
     let said : c.from_residual.result ≡ Err e = search rules in
     let below : c.loop.counter < 2 ^ 64 - 1 = omega (arith, c.loop-test.true) in
     subst (λ (r : Result _ DbError). LeadsOpen order old new ids before after (λ m n. EndsJob m r n)) (sym said)
-    (taken_refused order old mid new before between after c.loop.counter c.loop.invariant g.met.K.KeyOrder.total ids e below (c.in_err-advance.ensures.step ids))
+    (taken_refused order old mid new before between after c.loop.counter c.loop.invariant g.met.K.KeyOrder.total ids e below (c.in_err-step_job.ensures.step ids))
 
-pub returns-in_err-advance-clause-outcome : goal.returns-in_err-advance-clause-outcome
-returns-in_err-advance-clause-outcome g c =
+pub returns-in_err-step_job-clause-outcome : goal.returns-in_err-step_job-clause-outcome
+returns-in_err-step_job-clause-outcome g c =
     let facts = g.S.Store.facts in
     let old = facts c.args.source.now.tables.store in
     let mid = facts c.loop.source.tables.store in
-    let new = facts c.advance.new.source.tables.store in
+    let new = facts c.step_job.new.source.tables.store in
     let before = held c.args.source.now.memory c.args.self.now in
     let between = held c.loop.source.memory c.loop.self in
-    let after = held c.advance.new.source.memory c.advance.new.self in
-    let e = c.in_err-advance.field-0.0 in
+    let after = held c.step_job.new.source.memory c.step_job.new.self in
+    let e = c.in_err-step_job.field-0.0 in
     let said : c.from_residual.result ≡ Err e = search rules in
-    let a = c.in_err-advance.ensures in
+    let a = c.in_err-step_job.ensures in
     subst (λ (r : Result _ DbError). CompactOutcome MayRefusePiece old new before after r) (sym said)
     (outcome_then MayRefusePiece old mid new before between after (Err e) c.requires.whole c.loop.invariant.serves (outcome_of mid new between after e a.lock a.outcome))
 
-pub returns-in_err-advance-clause-memory : goal.returns-in_err-advance-clause-memory
-returns-in_err-advance-clause-memory g c = left_onward c.args.source.now.memory c.loop.source.memory c.advance.new.source.memory c.loop.invariant.memory c.in_err-advance.ensures.memory
+pub returns-in_err-step_job-clause-memory : goal.returns-in_err-step_job-clause-memory
+returns-in_err-step_job-clause-memory g c = left_onward c.args.source.now.memory c.loop.source.memory c.step_job.new.source.memory c.loop.invariant.memory c.in_err-step_job.ensures.memory
 
 pub returns-then-branch-clause-step : goal.returns-then-branch-clause-step
 returns-then-branch-clause-step g c ids =
     let order = order_of g.K.KeyOrder.name g.K.KeyOrder.cmp in
     let old = seen_of g.S.Store.facts c.args.source.now in
     let mid = seen_of g.S.Store.facts c.loop.source in
-    let new = seen_of g.S.Store.facts c.advance.new.source in
+    let new = seen_of g.S.Store.facts c.step_job.new.source in
     let before = held c.args.source.now.memory c.args.self.now in
     let between = held c.loop.source.memory c.loop.self in
-    let after = held c.advance.new.source.memory c.advance.new.self in
-    let a = c.in_ok-advance.ensures in
-    let ended : c.in_ok-advance.field-0 ≡ true = search rules in
+    let after = held c.step_job.new.source.memory c.step_job.new.self in
+    let a = c.in_ok-step_job.ensures in
+    let ended : c.in_ok-step_job.field-0 ≡ true = search rules in
     let below : c.loop.counter < 2 ^ 64 - 1 = omega (arith, c.loop-test.true) in
     taken_ended order old mid new before between after c.loop.counter c.loop.invariant ids below
     (subst (λ (b : Bool). LeadsOpen order mid new ids between after (λ m n. HasCome 1 between m (Ok b) n)) ended (a.come (ap (λ (b : Bool). Ok b) ended) ids))
@@ -83,43 +83,43 @@ returns-then-branch-clause-serves g c =
     let facts = g.S.Store.facts in
     let old = facts c.args.source.now.tables.store in
     let mid = facts c.loop.source.tables.store in
-    let new = facts c.advance.new.source.tables.store in
+    let new = facts c.step_job.new.source.tables.store in
     let before = held c.args.source.now.memory c.args.self.now in
     let between = held c.loop.source.memory c.loop.self in
-    let after = held c.advance.new.source.memory c.advance.new.self in
-    serves_then old mid new before between after c.loop.invariant.serves c.in_ok-advance.ensures.serves
+    let after = held c.step_job.new.source.memory c.step_job.new.self in
+    serves_then old mid new before between after c.loop.invariant.serves c.in_ok-step_job.ensures.serves
 
 pub returns-then-branch-clause-outcome : goal.returns-then-branch-clause-outcome
 returns-then-branch-clause-outcome g c =
     let facts = g.S.Store.facts in
     let old = facts c.args.source.now.tables.store in
     let mid = facts c.loop.source.tables.store in
-    let new = facts c.advance.new.source.tables.store in
+    let new = facts c.step_job.new.source.tables.store in
     let before = held c.args.source.now.memory c.args.self.now in
     let between = held c.loop.source.memory c.loop.self in
-    let after = held c.advance.new.source.memory c.advance.new.self in
-    outcome_done MayRefusePiece old new before after (tt {0}) c.requires.whole (serves_then old mid new before between after c.loop.invariant.serves c.in_ok-advance.ensures.serves)
+    let after = held c.step_job.new.source.memory c.step_job.new.self in
+    outcome_done MayRefusePiece old new before after (tt {0}) c.requires.whole (serves_then old mid new before between after c.loop.invariant.serves c.in_ok-step_job.ensures.serves)
 
 pub returns-then-branch-clause-memory : goal.returns-then-branch-clause-memory
-returns-then-branch-clause-memory g c = left_onward c.args.source.now.memory c.loop.source.memory c.advance.new.source.memory c.loop.invariant.memory c.in_ok-advance.ensures.memory
+returns-then-branch-clause-memory g c = left_onward c.args.source.now.memory c.loop.source.memory c.step_job.new.source.memory c.loop.invariant.memory c.in_ok-step_job.ensures.memory
 
 pub returns-then-branch-clause-none : goal.returns-then-branch-clause-none
 returns-then-branch-clause-none g c =
-    let ended : c.in_ok-advance.field-0 ≡ true = search rules in
-    subst (λ (b : Bool). MatchBool b (c.advance.new.self.job ≡ None) (IsSome c.advance.new.self.job)) ended c.in_ok-advance.ensures.ended
+    let ended : c.in_ok-step_job.field-0 ≡ true = search rules in
+    subst (λ (b : Bool). MatchBool b (c.step_job.new.self.job ≡ None) (IsSome c.step_job.new.self.job)) ended c.in_ok-step_job.ensures.ended
 
 pub returns-then-branch-clause-done : goal.returns-then-branch-clause-done
 returns-then-branch-clause-done g c =
     let order = order_of g.K.KeyOrder.name g.K.KeyOrder.cmp in
     let old = seen_of g.S.Store.facts c.args.source.now in
     let mid = seen_of g.S.Store.facts c.loop.source in
-    let new = seen_of g.S.Store.facts c.advance.new.source in
+    let new = seen_of g.S.Store.facts c.step_job.new.source in
     let before = held c.args.source.now.memory c.args.self.now in
     let between = held c.loop.source.memory c.loop.self in
-    let after = held c.advance.new.source.memory c.advance.new.self in
-    let ended : c.in_ok-advance.field-0 ≡ true = search rules in
-    let none = subst (λ (b : Bool). MatchBool b (c.advance.new.self.job ≡ None) (IsSome c.advance.new.self.job)) ended c.in_ok-advance.ensures.ended in
-    taken_done order old mid new before between after c.loop.counter c.loop.invariant c.in_ok-advance.ensures.on none
+    let after = held c.step_job.new.source.memory c.step_job.new.self in
+    let ended : c.in_ok-step_job.field-0 ≡ true = search rules in
+    let none = subst (λ (b : Bool). MatchBool b (c.step_job.new.self.job ≡ None) (IsSome c.step_job.new.self.job)) ended c.in_ok-step_job.ensures.ended in
+    taken_done order old mid new before between after c.loop.counter c.loop.invariant c.in_ok-step_job.ensures.on none
 
 pub returns-clause-step : goal.returns-clause-step
 returns-clause-step g c ids =
@@ -141,10 +141,10 @@ returns-then-branch-clause-needed g c takes =
     let order = order_of g.K.KeyOrder.name g.K.KeyOrder.cmp in
     let old = seen_of g.S.Store.facts c.args.source.now in
     let mid = seen_of g.S.Store.facts c.loop.source in
-    let new = seen_of g.S.Store.facts c.advance.new.source in
+    let new = seen_of g.S.Store.facts c.step_job.new.source in
     let before = held c.args.source.now.memory c.args.self.now in
     let between = held c.loop.source.memory c.loop.self in
-    let after = held c.advance.new.source.memory c.advance.new.self in
-    let a = c.in_ok-advance.ensures in
-    let ended : c.in_ok-advance.field-0 ≡ true = search rules in
+    let after = held c.step_job.new.source.memory c.step_job.new.self in
+    let a = c.in_ok-step_job.ensures in
+    let ended : c.in_ok-step_job.field-0 ≡ true = search rules in
     needed_behind order old mid new before between after c.loop.invariant.step a.step (a.needed (ap (λ (b : Bool). Ok b) ended) (c.loop.invariant.all takes))

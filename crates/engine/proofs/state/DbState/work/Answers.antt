@@ -10,7 +10,7 @@ use Rattle.engine.specs.Working.{refused_as, work_answer}
 use Rattle.engine.proofs.ExactFiles.{leaves_exactly}
 use Rattle.engine.proofs.WorkAnswers.{caused_met, does_on, failures_rose, then_piece, then_refused, works, works_broken}
 use Rattle.engine.proofs.WorkSteps.{piece_failed}
-use Rattle.engine.proofs.WithinBudget.{at_ease_on, slices_behind, tables_stay}
+use Rattle.engine.proofs.WithinBudget.{at_ease_on, steps_behind, tables_stay}
 use Rattle.engine.proofs.state.DbState.work.Goals as goal
 
 pub returns-then-self-clause-step : goal.returns-then-self-clause-step
@@ -91,5 +91,5 @@ returns-in-Ok-clause-within g c worked which gone f =
     let piece = c.in-Ok.ensures in
     let inner = piece.within worked (elim which [ inl some ↦ inl some | inr ease ↦ inr (at_ease_on c.args.options.now before c.clean.new.source.memory cleaned.memory ease) ]) gone f in
     let mid_faithful = (piece.step no_ids).faithful f in
-    slices_behind order old mid before between (max c.args.budget 1) cleaned.step mid_faithful refl refl
+    steps_behind order old mid before between (max c.args.budget 1) cleaned.step mid_faithful refl refl
     (tables_stay order old mid before between refl refl refl c.if-self.false (cleaned.removes mid_faithful)) inner

@@ -11,8 +11,9 @@ use Rattle.store.proofs.memory.MemStoreStore.remove.Goals as goal
 
 pub returns-clause-files : goal.returns-clause-files
 returns-clause-files c = changed _ _ _ _ _ (
-    ap is_some (get-found c.args.self.now.files c.args.name.now c.in-Some.file (sym c.in-Some.ensures.value)),
-    files-remove c.args.name.now c.args.self.now.files c.remove.new.self c.remove.ensures.updates)
+  ap is_some (get-found c.args.self.now.files c.args.name.now c.in-Some.file (sym c.in-Some.ensures.value)),
+  files-remove c.args.name.now c.args.self.now.files c.remove.new.self c.remove.ensures.updates,
+)
 
 pub returns-clause-absent : goal.returns-clause-absent
 returns-clause-absent c = λ _ none. found_apart _ _ (get-found c.args.self.now.files c.args.name.now c.in-Some.file (sym c.in-Some.ensures.value)) none

@@ -72,7 +72,7 @@ returns-clause-calls c =
     let is_there = subst (λ (f : Files). is_some (get f from) ≡ true) (sym made.ok) (made_still files from to there) in
     let is_made = subst (λ (f : Files). is_some (get f to) ≡ true) (sym made.ok) (made_there files to) in
     let renames : Renames files moved from to = renames_other files moved from to there apart
-          (subst (λ (made : Files). (bytes : List ℕ) → get made from ≡ Some bytes → is_some (get made to) ≡ true → (from ≡ to → ⊥) → moved ≡ insert (remove made from) to bytes) made.ok c.move_file-held.ensures.moved) in
+    (subst (λ (made : Files). (bytes : List ℕ) → get made from ≡ Some bytes → is_some (get made to) ≡ true → (from ≡ to → ⊥) → moved ≡ insert (remove made from) to bytes) made.ok c.move_file-held.ensures.moved) in
     let kept : synced_of c.move_file-held.new.files.entries ≡ renamed synced from to = c.move_file-held.ensures.synced is_there is_made apart ∙ ap (λ (s : Synced). renamed s from to) made.synced in
     let found : Disk = record { files = files; synced = synced } in
     let now : Disk = record { files = moved; synced = synced_of c.move_file-held.new.files.entries } in

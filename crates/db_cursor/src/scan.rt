@@ -1,0 +1,198 @@
+//! A walk over the pairs of a view (LevelDB's db/db_iter.cc over db/db_impl.cc, DBImpl::NewInternalIterator).
+
+use crate::beginning::{add_levels, add_memory, add_newest};
+use crate::source::Sources;
+use crate::source_cursor::SourceCursor;
+use coding::{Bytes, DbError};
+use cursor::{Merge, Visible, each_list_has_a_view, lists_have_a_union, views_agree};
+use ikey::KeyOrder;
+use level_cursor::row_begins;
+use std::alloc::{AllocError, Global};
+use std::rc::Rc;
+use store::Store;
+use versions::Version;
+
+/// A walk over the pairs of a view, in the order of their keys.
+#[derive(Drop)]
+pub struct Scan<K: KeyOrder> {
+    walk: Visible<K, Merge<K, SourceCursor<K>>>,
+    // the tables that it goes over
+    version: Rc<Version<K>>,
+    // the generations of the memory tables that it reads
+    generation: u64,
+    sealed: Option<u64>,
+}
+
+impl<K: KeyOrder> Scan<K> {
+    ghost use Rattle.std.specs.Prelude.{◌≡◌, ◌<◌, ◌^◌, ℕ, List, false, min, true, IfOk, MatchBool};
+    ghost use Rattle.cursor.specs.Views.{Walked, walk_first, walk_last, walk_next, walk_prev, walk_to};
+    ghost use Rattle.cursor.specs.Walks.{key_before};
+    ghost use Rattle.ikey.specs.Orders.{order_of};
+    ghost use Rattle.level_cursor.specs.InRows.{HasNumber};
+    ghost use Rattle.db_cursor.specs.Pairs.{pair_on};
+    ghost use Rattle.db_cursor.specs.Scanning.{IsScanned, ReadsAs, ScanIsKept, ScanPastLimit, TakesBack, has_pair};
+    ghost use Rattle.db_cursor.specs.Scans.{BeginsScan, IsScan, reads_memory, reads_table, tables_of};
+    ghost use Rattle.db_cursor.specs.Whole.{whole};
+    ghost use Rattle.versions.specs.Keeping as versions;
+
+    /// A scan over what the entries of the memory tables and of a version's tables put up to a sequence, up to the last one
+    /// that is used. It stands nowhere; nothing is read, and no table is opened. It reads no other tables than the version's.
+    pub fn over<S: Store>(
+        alloc: Global,
+        source: &Sources<K, S>,
+        version: &Rc<Version<K>>,
+        sequence: u64,
+    ) -> Result<Self, AllocError>
+        ensures nowhere { IfOk result (λ scan. scan.walk.stands ≡ false) }
+        ensures sequence { IfOk result (λ scan. scan.walk.sequence ≡ min sequence source.now.memory.last) }
+        ensures tables { IfOk result (λ scan. tables_of scan ≡ version.now.value.tables) }
+        ensures within { IfOk result (λ scan. (number : ℕ) → reads_table scan number → HasNumber version.now.value.tables number) }
+        ensures begins { IfOk result (λ scan. BeginsScan (order_of K.name K.cmp) version.now.value.tables sequence
+            (whole (S.facts source.now.tables.store) source.now.tables.tables source.now.tables.blocks source.now.memory) scan) }
+    {
+        lists_have_a_union::<K>();
+        each_list_has_a_view::<K>();
+        views_agree::<K>();
+        row_begins::<K>();
+        // They are in order.
+        let _tables = version.tables();
+        source.memory.are_bounded();
+        let sequence = sequence.min(source.memory.last());
+        let mut cursors = Vec::new(alloc);
+        add_memory(alloc, &mut cursors, &source.memory, sequence)?;
+        add_newest(&mut cursors, version)?;
+        add_levels(&mut cursors, version)?;
+        let merge = Merge::new(alloc, cursors)?;
+        Ok(Scan {
+            walk: Visible::new(alloc, merge, sequence),
+            version: version.clone()?,
+            generation: source.memory.generation(),
+            sealed: source.memory.sealed_generation(),
+        })
+    }
+
+    /// Stands on the pair of the least key, or nowhere where there is none. `Corrupt` only where a faithful source doesn't hold what
+    /// the scan was made for, `Unsupported` there or where the file of one of its tables passes a limit of reading.
+    pub fn first<S: Store>(
+        &mut self,
+        alloc: Global,
+        source: &mut Sources<K, S>,
+    ) -> Result<(), DbError>
+        ensures { IsScanned K.cmp walk_first (whole (S.facts source.old.tables.store) source.old.tables.tables source.old.tables.blocks source.old.memory) (whole (S.facts source.new.tables.store) source.new.tables.tables source.new.tables.blocks source.new.memory) self.old self.new result }
+    {
+        self.walk.first(alloc, source)
+    }
+
+    /// Stands on the pair of the greatest key, or nowhere where there is none.
+    pub fn last<S: Store>(
+        &mut self,
+        alloc: Global,
+        source: &mut Sources<K, S>,
+    ) -> Result<(), DbError>
+        ensures { IsScanned K.cmp walk_last (whole (S.facts source.old.tables.store) source.old.tables.tables source.old.tables.blocks source.old.memory) (whole (S.facts source.new.tables.store) source.new.tables.tables source.new.tables.blocks source.new.memory) self.old self.new result }
+    {
+        self.walk.last(alloc, source)
+    }
+
+    /// Stands on the pair of the first key that isn't below the target, or nowhere where there is none.
+    pub fn seek<S: Store>(
+        &mut self,
+        alloc: Global,
+        source: &mut Sources<K, S>,
+        target: &[u8],
+    ) -> Result<(), DbError>
+        ensures { IsScanned K.cmp (walk_to K.cmp target.now) (whole (S.facts source.old.tables.store) source.old.tables.tables source.old.tables.blocks source.old.memory) (whole (S.facts source.new.tables.store) source.new.tables.tables source.new.tables.blocks source.new.memory) self.old self.new result }
+    {
+        self.walk.seek(alloc, source, target)
+    }
+
+    /// Stands on the pair behind, or nowhere where there is none.
+    pub fn next<S: Store>(
+        &mut self,
+        alloc: Global,
+        source: &mut Sources<K, S>,
+    ) -> Result<(), DbError>
+        requires { self.old.walk.stands ≡ true }
+        ensures { IsScanned K.cmp walk_next (whole (S.facts source.old.tables.store) source.old.tables.tables source.old.tables.blocks source.old.memory) (whole (S.facts source.new.tables.store) source.new.tables.tables source.new.tables.blocks source.new.memory) self.old self.new result }
+    {
+        self.walk.next(alloc, source)
+    }
+
+    /// Stands on the pair in front, or nowhere where there is none.
+    pub fn prev<S: Store>(
+        &mut self,
+        alloc: Global,
+        source: &mut Sources<K, S>,
+    ) -> Result<(), DbError>
+        requires { self.old.walk.stands ≡ true }
+        ensures { IsScanned K.cmp walk_prev (whole (S.facts source.old.tables.store) source.old.tables.tables source.old.tables.blocks source.old.memory) (whole (S.facts source.new.tables.store) source.new.tables.tables source.new.tables.blocks source.new.memory) self.old self.new result }
+    {
+        self.walk.prev(alloc, source)
+    }
+
+    /// Takes back the last move, where it succeeded: the scan stands again on the pair on which it stood before, or nowhere, where
+    /// it stood on none. It takes no memory; the pair can be asked for again after the next move.
+    pub fn take_back(&mut self, stood: bool)
+        ensures cursor { self.new.walk.cursor ≡ self.old.walk.cursor }
+        ensures sequence { self.new.walk.sequence ≡ self.old.walk.sequence }
+        ensures reads_as { ReadsAs self.old self.new }
+        ensures within { (number : ℕ) → reads_table self.new number → reads_table self.old number }
+        ensures stands { self.new.walk.stands ≡ stood }
+        ensures key { self.new.walk.here.key.items ≡ key_before self.old.walk }
+        ensures back { TakesBack K.cmp stood self.old self.new }
+    {
+        self.walk.take_back(stood);
+    }
+
+    /// Whether the scan stands on a pair.
+    pub fn stands(&self) -> bool
+        ensures { result ≡ self.now.walk.stands }
+    {
+        self.walk.stands()
+    }
+
+    /// A copy of the pair on which the scan stands, after a move that succeeded; nothing where it stands nowhere.
+    pub fn pair<S: Store>(
+        &self,
+        alloc: Global,
+        source: &Sources<K, S>,
+    ) -> Result<Option<(Bytes, Bytes)>, AllocError>
+        requires { self.now.walk.stands ≡ true → has_pair self.now ≡ true }
+        ensures { IfOk result (λ pair. (at : Walked) → IsScan K.cmp self.now (whole (S.facts source.now.tables.store) source.now.tables.tables source.now.tables.blocks source.now.memory) at → pair ≡ pair_on at) }
+    {
+        if !self.walk.stands() {
+            return Ok(None);
+        }
+        let key = Bytes::copied_from(alloc, self.walk.key())?;
+        let value = Bytes::copied_from(alloc, self.walk.value(source))?;
+        Ok(Some((key, value)))
+    }
+
+    /// Whether the scan reads the memory table of this generation.
+    pub fn reads(&self, generation: u64) -> bool
+        ensures { MatchBool result (reads_memory self.now generation) (reads_memory self.now generation → ⊥) }
+    {
+        generation == self.generation || self.sealed == Some(generation)
+    }
+
+    /// Whether its version has the table of this number.
+    pub fn has_table(&self, number: u64) -> bool
+        ensures { MatchBool result (versions.HasNumber number (tables_of self.now)) (versions.HasNumber number (tables_of self.now) → ⊥) }
+    {
+        self.version.has_number(number)
+    }
+
+    /// A scan stays where it is while what it reads is kept.
+    pub fn stays(&self)
+        ensures { ScanIsKept K.cmp self.now }
+    {
+        let _ = self;
+    }
+
+    /// A scan that passes a limit of reading goes over a table whose file does.
+    pub fn past_limit(&self)
+        ensures { ScanPastLimit K.cmp self.now }
+    {
+        let _ = self;
+    }
+}

@@ -1,0 +1,19 @@
+use Rattle.std.proofs.Common.{Err}
+use Rattle.directory_writes.proofs.StoreCalls.{not_appended, not_synced, appended}
+use Rattle.directory_writes.proofs.calls.append_synced.Goals as goal
+
+pub returns-in-Err-clause-appends : goal.returns-in-Err-clause-appends
+returns-in-Err-clause-appends g c =
+    not_appended (g.S.Store.facts c.args.store.now) (g.S.Store.facts c.append.new.self) c.args.name.now c.args.bytes.now c.in-Err.error c.refusal_of.result
+    c.in-Err.ensures.files c.in-Err.ensures.synced c.refusal_of.ensures (λ e. c.in-Err.ensures.missing (λ i. Err (e i)))
+
+pub returns-in-Err-sync-clause-appends : goal.returns-in-Err-sync-clause-appends
+returns-in-Err-sync-clause-appends g c =
+    not_synced (g.S.Store.facts c.args.store.now) (g.S.Store.facts c.append.new.self) (g.S.Store.facts c.sync.new.self) c.args.name.now c.args.bytes.now c.in-Err-sync.error c.refusal_of-in-Err-sync.result
+    c.in-Err-sync.ensures.counts.faithful c.in_default.ensures.files.ok c.append.ensures.synced c.sync.ensures.same c.in-Err-sync.ensures.unsynced
+    c.refusal_of-in-Err-sync.ensures (λ e. c.in-Err-sync.ensures.missing (λ i. Err (e i))) (λ e. c.in-Err-sync.ensures.memory (λ i. Err (e i)))
+
+pub returns-clause-appends : goal.returns-clause-appends
+returns-clause-appends g c =
+    appended (g.S.Store.facts c.args.store.now) (g.S.Store.facts c.append.new.self) (g.S.Store.facts c.sync.new.self) c.args.name.now c.args.bytes.now
+    c.in_default-sync.ensures.counts.faithful c.in_default.ensures.files.ok c.append.ensures.synced c.sync.ensures.same c.in_default-sync.ensures.synced

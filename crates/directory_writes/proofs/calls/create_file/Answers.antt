@@ -1,0 +1,12 @@
+use Rattle.std.proofs.Common.{Err}
+use Rattle.directory_writes.proofs.StoreCalls.{created, not_created}
+use Rattle.directory_writes.proofs.calls.create_file.Goals as goal
+
+pub returns-in-Ok-clause-creates : goal.returns-in-Ok-clause-creates
+returns-in-Ok-clause-creates g c =
+    created (g.S.Store.facts c.args.store.now) (g.S.Store.facts c.create.new.self) c.args.name.now c.in-Ok.ensures.files.ok c.in-Ok.ensures.synced.ok
+
+pub returns-in-Err-clause-creates : goal.returns-in-Err-clause-creates
+returns-in-Err-clause-creates g c =
+    not_created (g.S.Store.facts c.args.store.now) (g.S.Store.facts c.create.new.self) c.args.name.now c.in-Err.error c.refusal_of.result
+    c.in-Err.ensures.files c.in-Err.ensures.synced c.refusal_of.ensures (λ e. c.in-Err.ensures.missing (λ i. Err (e i)))

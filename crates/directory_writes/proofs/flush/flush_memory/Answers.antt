@@ -1,0 +1,53 @@
+use Rattle.std.proofs.Common.{Err, sym, subst}
+use Rattle.ikey.specs.Orders.{order_of}
+use Rattle.edits.specs.Names.{name_of}
+use Rattle.edits.specs.declared.names.FileName.TheVariants.{Table}
+use Rattle.directory_writes.specs.Flush.{FlushLeaves}
+use Rattle.directory_writes.specs.declared.flush.FlushError.{FlushError}
+use Rattle.directory_writes.proofs.Flushes.{touches_table, touches_both, syncs_both, leaves_none, leaves_ok, leaves_maybe}
+use Rattle.directory_writes.proofs.flush.flush_memory.Goals as goal
+use Rattle.std.proofs.Common.{string_bytes}
+
+pub returns-in-Err-clause-call : goal.returns-in-Err-clause-call
+returns-in-Err-clause-call g c =
+    touches_table (g.S.Store.facts c.args.store.now) (g.S.Store.facts c.prepare.new.store) (name_of (Table c.args.numbers.now.next)) (string_bytes c.args.manifest.now.name) c.in-Err.ensures.writes
+
+pub returns-in-Err-clause-leaves : goal.returns-in-Err-clause-leaves
+returns-in-Err-clause-leaves g c =
+    leaves_none g.row.K.Denot (order_of g.K.KeyOrder.name g.K.KeyOrder.cmp) (g.S.Store.facts c.args.store.now) c.args.numbers.now.next c.prepare.new.numbers.next c.args.plan c.args.manifest.now c.args.memory.now.inserts
+    c.unread_law.ensures (g.S.Store.facts c.prepare.new.store) c.args.version.now.tables c.in-Err.error c.in-Err.ensures.writes c.in-Err.ensures.drawn c.in-Err.ensures.refused
+
+pub returns-in-Ok-append_edit-clause-call : goal.returns-in-Ok-append_edit-clause-call
+returns-in-Ok-append_edit-clause-call g c =
+    touches_both (g.S.Store.facts c.args.store.now) (g.S.Store.facts c.prepare.new.store) (g.S.Store.facts c.append_edit.new.store) (name_of (Table c.args.numbers.now.next)) (string_bytes c.args.manifest.now.name)
+    c.in-Ok.ensures.writes c.in-Ok-append_edit.ensures.call (c.in-Ok-append_edit.ensures.appends (order_of g.K.KeyOrder.name g.K.KeyOrder.cmp)).others c.in-Ok-append_edit.ensures.syncs.others
+
+pub returns-in-Ok-append_edit-clause-syncs : goal.returns-in-Ok-append_edit-clause-syncs
+returns-in-Ok-append_edit-clause-syncs g c =
+    syncs_both (g.S.Store.facts c.prepare.new.store) (g.S.Store.facts c.append_edit.new.store) c.in-Ok.prepared.number c.args.numbers.now.next (string_bytes c.args.manifest.now.name) _
+    c.in-Ok.ensures.prepares.0 c.in-Ok-append_edit.ensures.call.faithful c.in-Ok.ensures.prepares.4.synced (c.in-Ok-append_edit.ensures.appends (order_of g.K.KeyOrder.name g.K.KeyOrder.cmp)).others
+    c.in-Ok-append_edit.manifest_end c.in-Ok-append_edit.ensures.syncs
+
+pub returns-in-Ok-append_edit-clause-leaves : goal.returns-in-Ok-append_edit-clause-leaves
+returns-in-Ok-append_edit-clause-leaves g c =
+    let order = order_of g.K.KeyOrder.name g.K.KeyOrder.cmp in
+    let p = c.in-Ok.ensures.prepares in
+    leaves_ok order (g.S.Store.facts c.args.store.now) c.args.numbers.now.next c.prepare.new.numbers.next c.args.plan c.args.manifest.now c.args.memory.now.inserts
+    c.unread_law.ensures c.flush_law.ensures c.same_manifest_law.ensures (g.S.Store.facts c.prepare.new.store) (g.S.Store.facts c.append_edit.new.store) c.args.version.now c.in-Ok.prepared
+    c.in-Ok.ensures.writes c.in-Ok-append_edit.ensures.call p.0 p.1 p.2 p.3 p.4 c.in-Ok-append_edit.manifest_end (c.in-Ok-append_edit.ensures.appends order)
+
+pub returns-in-Err-append_edit-clause-call : goal.returns-in-Err-append_edit-clause-call
+returns-in-Err-append_edit-clause-call g c =
+    touches_both (g.S.Store.facts c.args.store.now) (g.S.Store.facts c.prepare.new.store) (g.S.Store.facts c.append_edit.new.store) (name_of (Table c.args.numbers.now.next)) (string_bytes c.args.manifest.now.name)
+    c.in-Ok.ensures.writes c.in-Err-append_edit.ensures.call (c.in-Err-append_edit.ensures.appends (order_of g.K.KeyOrder.name g.K.KeyOrder.cmp)).others c.in-Err-append_edit.ensures.syncs.others
+
+pub returns-in-Err-append_edit-clause-leaves : goal.returns-in-Err-append_edit-clause-leaves
+returns-in-Err-append_edit-clause-leaves g c =
+    let order = order_of g.K.KeyOrder.name g.K.KeyOrder.cmp in
+    let p = c.in-Ok.ensures.prepares in
+    let P : FlushError → Type 0 = λ e. FlushLeaves {K = g.row.K.Denot} order (g.S.Store.facts c.args.store.now) (g.S.Store.facts c.append_edit.new.store) c.args.numbers.now.next c.prepare.new.numbers.next c.args.plan c.args.manifest.now
+    c.args.memory.now.inserts c.args.version.now.tables (Err e) in
+    subst P (sym c.edit_refusal.ensures)
+    (leaves_maybe order (g.S.Store.facts c.args.store.now) c.args.numbers.now.next c.prepare.new.numbers.next c.args.plan c.args.manifest.now c.args.memory.now.inserts
+    c.unread_law.ensures c.flush_law.ensures c.same_manifest_law.ensures (g.S.Store.facts c.prepare.new.store) (g.S.Store.facts c.append_edit.new.store) c.args.version.now c.in-Ok.prepared
+    c.in-Ok.ensures.writes c.in-Err-append_edit.ensures.call p.0 p.1 p.2 p.3 p.4 c.in-Err-append_edit.error c.in-Err-append_edit.ensures.refused (c.in-Err-append_edit.ensures.appends order))

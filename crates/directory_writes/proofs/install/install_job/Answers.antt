@@ -1,0 +1,38 @@
+use Rattle.std.proofs.Common.{Err, string_bytes, sym, subst}
+use Rattle.ikey.specs.Orders.{order_of}
+use Rattle.directory_writes.specs.Install.{InstallLeaves}
+use Rattle.directory_writes.specs.declared.flush.FlushError.{FlushError}
+use Rattle.directory_writes.proofs.Installing.{touches_job, leaves_none, leaves_ok, leaves_maybe}
+use Rattle.directory_writes.proofs.install.install_job.Goals as goal
+
+pub returns-in-Err-clause-leaves : goal.returns-in-Err-clause-leaves
+returns-in-Err-clause-leaves g c =
+    leaves_none (order_of g.K.KeyOrder.name g.K.KeyOrder.cmp) c.args.job c.args.numbers.now.next c.args.last_sequence c.args.numbers.now.in_range.1 c.requires.numbered (g.S.Store.facts c.args.store.now) (g.S.Store.facts c.prepare_job.new.store)
+    c.in-Err.ensures.writes c.args.manifest.now g.met.K.KeyOrder.total c.args.version.now.tables c.in-Err.error c.in-Err.ensures.refused
+
+pub returns-in-Ok-append_edit-clause-call : goal.returns-in-Ok-append_edit-clause-call
+returns-in-Ok-append_edit-clause-call g c =
+    touches_job (g.S.Store.facts c.args.store.now) (g.S.Store.facts c.prepare_job.new.store) (g.S.Store.facts c.append_edit.new.store) c.args.job.outputs (string_bytes c.args.manifest.now.name)
+    c.in-Ok.ensures.writes c.in-Ok-append_edit.ensures.call (c.in-Ok-append_edit.ensures.appends (order_of g.K.KeyOrder.name g.K.KeyOrder.cmp)).others c.in-Ok-append_edit.ensures.syncs.others
+
+pub returns-in-Ok-append_edit-clause-leaves : goal.returns-in-Ok-append_edit-clause-leaves
+returns-in-Ok-append_edit-clause-leaves g c =
+    let order = order_of g.K.KeyOrder.name g.K.KeyOrder.cmp in
+    leaves_ok order c.args.job c.args.numbers.now.next c.args.last_sequence c.args.numbers.now.in_range.1 c.requires.numbered (g.S.Store.facts c.args.store.now) (g.S.Store.facts c.prepare_job.new.store)
+    c.in-Ok.ensures.writes c.args.manifest.now (g.S.Store.facts c.append_edit.new.store) c.in-Ok-append_edit.ensures.call c.args.version.now c.in-Ok.prepared c.in-Ok.ensures.prepared
+    c.in-Ok-append_edit.manifest_end (c.in-Ok-append_edit.ensures.appends order)
+
+pub returns-in-Err-append_edit-clause-call : goal.returns-in-Err-append_edit-clause-call
+returns-in-Err-append_edit-clause-call g c =
+    touches_job (g.S.Store.facts c.args.store.now) (g.S.Store.facts c.prepare_job.new.store) (g.S.Store.facts c.append_edit.new.store) c.args.job.outputs (string_bytes c.args.manifest.now.name)
+    c.in-Ok.ensures.writes c.in-Err-append_edit.ensures.call (c.in-Err-append_edit.ensures.appends (order_of g.K.KeyOrder.name g.K.KeyOrder.cmp)).others c.in-Err-append_edit.ensures.syncs.others
+
+pub returns-in-Err-append_edit-clause-leaves : goal.returns-in-Err-append_edit-clause-leaves
+returns-in-Err-append_edit-clause-leaves g c =
+    let order = order_of g.K.KeyOrder.name g.K.KeyOrder.cmp in
+    let P : FlushError → Type 0 = λ e. InstallLeaves {K = g.row.K.Denot} {C = g.row.C.Denot} order c.args.job (g.S.Store.facts c.args.store.now) (g.S.Store.facts c.append_edit.new.store) c.args.numbers.now.next c.args.last_sequence
+    c.args.manifest.now c.args.version.now.tables (Err e) in
+    subst P (sym c.edit_refusal.ensures)
+    (leaves_maybe order c.args.job c.args.numbers.now.next c.args.last_sequence c.args.numbers.now.in_range.1 c.requires.numbered (g.S.Store.facts c.args.store.now) (g.S.Store.facts c.prepare_job.new.store)
+    c.in-Ok.ensures.writes c.args.manifest.now (g.S.Store.facts c.append_edit.new.store) c.in-Err-append_edit.ensures.call c.args.version.now c.in-Ok.prepared c.in-Ok.ensures.prepared
+    c.same_manifest_law.ensures c.in-Err-append_edit.error c.in-Err-append_edit.ensures.refused (c.in-Err-append_edit.ensures.appends order))

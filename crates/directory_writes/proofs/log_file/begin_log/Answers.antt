@@ -1,0 +1,51 @@
+use Rattle.std.proofs.Common.{◌≡◌, ◌+◌, ℕ, List, String, Result, Ok, Err, inl, inr, refl, sym, ap, subst, ◌∙◌, arith, rules}
+use Rattle.std.specs.declared.alloc.Global.{Global}
+use Rattle.coding.specs.declared.error.DbError.{DbError}
+use Rattle.coding.specs.declared.error.DbError.TheVariants.{OutOfMemory}
+use Rattle.edits.specs.Names.{name_of, IsNumbered}
+use Rattle.edits.specs.declared.names.FileName.TheVariants.{Log}
+use Rattle.directory_writes.specs.Calls.{Creates}
+use Rattle.directory_writes.specs.LogFile.{BeginsLog}
+use Rattle.directory_writes.proofs.NewLogFiles.{begins, maybe_made}
+use Rattle.directory_writes.proofs.log_file.begin_log.Goals as goal
+
+pub returns-in_err-name-clause-begins : goal.returns-in_err-name-clause-begins
+returns-in_err-name-clause-begins g c order =
+    let old = g.S.Store.facts c.args.store.now in
+    let next = c.args.numbers.now.next in
+    let after = c.draw.new.self.next in
+    let drawn = c.in_ok-number.ensures in
+    let numbered : IsNumbered next = (omega (arith, drawn.0, drawn.3), omega (arith, drawn.0, drawn.2)) in
+    let more : after ≡ next + 1 = omega (arith, drawn.0, drawn.1) in
+    let is : c.from_residual-in_err-name.result ≡ Err OutOfMemory = search rules in
+    subst (λ (r : Result (ℕ × String Global) DbError). BeginsLog order old old next after r) (sym is)
+    (begins order c.begin_log_law.ensures next numbered old old after (Err OutOfMemory) more (λ f. inl refl) (λ f. tt))
+
+pub returns-in_err-create_file-clause-begins : goal.returns-in_err-create_file-clause-begins
+returns-in_err-create_file-clause-begins g c order =
+    let old = g.S.Store.facts c.args.store.now in
+    let new = g.S.Store.facts c.create_file.new.store in
+    let next = c.args.numbers.now.next in
+    let after = c.draw.new.self.next in
+    let drawn = c.in_ok-number.ensures in
+    let numbered : IsNumbered next = (omega (arith, drawn.0, drawn.3), omega (arith, drawn.0, drawn.2)) in
+    let more : after ≡ next + 1 = omega (arith, drawn.0, drawn.1) in
+    let e = c.in_err-create_file.field-0.0 in
+    let is : c.from_residual-in_err-create_file.result ≡ Err e = search rules in
+    let named : c.as_str.result.now ≡ name_of (Log next) = c.as_str.ensures.value ∙ c.in_ok-name.ensures ∙ ap (λ (n : ℕ). name_of (Log n)) drawn.0 in
+    let made = subst (λ (name : List ℕ). Creates old new name (Err e)) named c.in_err-create_file.ensures.creates in
+    subst (λ (r : Result (ℕ × String Global) DbError). BeginsLog order old new next after r) (sym is)
+    (begins order c.begin_log_law.ensures next numbered old new after (Err e) more (maybe_made old new next e c.in_err-create_file.ensures.refused made) (λ f. tt))
+
+pub returns-clause-begins : goal.returns-clause-begins
+returns-clause-begins g c order =
+    let old = g.S.Store.facts c.args.store.now in
+    let new = g.S.Store.facts c.create_file.new.store in
+    let next = c.args.numbers.now.next in
+    let after = c.draw.new.self.next in
+    let drawn = c.in_ok-number.ensures in
+    let numbered : IsNumbered next = (omega (arith, drawn.0, drawn.3), omega (arith, drawn.0, drawn.2)) in
+    let more : after ≡ next + 1 = omega (arith, drawn.0, drawn.1) in
+    let named : c.as_str.result.now ≡ name_of (Log next) = c.as_str.ensures.value ∙ c.in_ok-name.ensures ∙ ap (λ (n : ℕ). name_of (Log n)) drawn.0 in
+    let made = subst (λ (name : List ℕ). Creates old new name (Ok c.in_ok-create_file.field-0)) named c.in_ok-create_file.ensures.creates in
+    begins order c.begin_log_law.ensures next numbered old new after (Ok (c.in_ok-number.number, c.in_ok-name.name)) more (λ f. inr (made.ok f)) made.ok

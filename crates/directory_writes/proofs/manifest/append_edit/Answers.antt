@@ -1,0 +1,38 @@
+use Rattle.std.proofs.Common.{◌≡◌, ◌+◌, ℕ, List, length, Result, Ok, Err, sym, subst, string_bytes, arith, rules}
+use Rattle.coding.specs.declared.error.DbError.{DbError}
+use Rattle.edits.specs.Edit.{IsEdit}
+use Rattle.directory_writes.specs.Calls.{AppendsSynced}
+use Rattle.directory_writes.specs.Manifest.{AppendsEdit}
+use Rattle.directory_writes.proofs.EditSteps.{edit_done, edit_refused}
+use Rattle.directory_writes.proofs.manifest.append_edit.Goals as goal
+
+pub returns-in_err-append_synced-clause-appends : goal.returns-in_err-append_synced-clause-appends
+returns-in_err-append_synced-clause-appends g c order =
+    let old = g.S.Store.facts c.args.store.now in
+    let new = g.S.Store.facts c.append_synced.new.store in
+    let added = c.in_ok-record.record.items in
+    let e = c.in_err-append_synced.field-0.0 in
+    let manifest = c.args.manifest.now in
+    let is : c.from_residual-in_err-append_synced.result ≡ Err e = search rules in
+    let B : List ℕ → Type 0 = λ payload. IsEdit payload c.args.edit.now in
+    let R : List ℕ → Type 0 = λ bytes. AppendsSynced old new c.as_str.result.now bytes (Err e) in
+    let N : List ℕ → Type 0 = λ name. AppendsSynced old new name added (Err e) in
+    subst (λ (r : Result ℕ DbError). AppendsEdit order old new manifest.number (string_bytes manifest.name) manifest.end c.args.edit.now r) (sym is)
+    (edit_refused order old new manifest.number (string_bytes manifest.name) manifest.end c.args.edit.now c.deref.result.now added
+    (subst B (sym c.deref.ensures.value) c.in_ok-payload.ensures) c.in_ok-record.ensures.appends c.one_manifest.ensures
+    c.failed_edit_law.ensures c.failed_append.ensures c.in_ok-record.ensures.longest e c.in_err-append_synced.ensures.refused
+    (subst N c.as_str.ensures.value (subst R c.deref-2.ensures.value c.in_err-append_synced.ensures.appends)))
+
+pub returns-clause-appends : goal.returns-clause-appends
+returns-clause-appends g c order =
+    let old = g.S.Store.facts c.args.store.now in
+    let new = g.S.Store.facts c.append_synced.new.store in
+    let added = c.in_ok-record.record.items in
+    let manifest = c.args.manifest.now in
+    let B : List ℕ → Type 0 = λ payload. IsEdit payload c.args.edit.now in
+    let R : List ℕ → Type 0 = λ bytes. AppendsSynced old new c.as_str.result.now bytes (Ok c.in_ok-append_synced.field-0) in
+    let N : List ℕ → Type 0 = λ name. AppendsSynced old new name added (Ok c.in_ok-append_synced.field-0) in
+    edit_done order old new manifest.number (string_bytes manifest.name) manifest.end c.args.edit.now c.deref.result.now added
+    (subst B (sym c.deref.ensures.value) c.in_ok-payload.ensures) c.in_ok-record.ensures.appends c.one_manifest.ensures
+    c.edit_law.ensures c.in-Some.end (let is : c.in-Some.end ≡ manifest.end + length added = omega (arith, c.in-Some.ensures.1, c.len.ensures, c.in_ok-record.record.ok) in is)
+    (subst N c.as_str.ensures.value (subst R c.deref-2.ensures.value c.in_ok-append_synced.ensures.appends))

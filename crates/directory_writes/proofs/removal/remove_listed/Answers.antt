@@ -1,0 +1,32 @@
+use Rattle.std.proofs.Common.{map, string_bytes}
+use Rattle.std.specs.Prelude.{Contains}
+use Rattle.edits.specs.declared.names.FileName.{FileName}
+use Rattle.directory_writes.specs.Removal.{IsLiveFile}
+use Rattle.directory_writes.proofs.Cleaning.{both_turns, first_turn, table_both, table_first}
+use Rattle.directory_writes.proofs.removal.remove_listed.Goals as goal
+
+pub returns-then-not-remove_turn-clause-removes : goal.returns-then-not-remove_turn-clause-removes
+returns-then-not-remove_turn-clause-removes g c =
+    let live : FileName → Type 0 = IsLiveFile c.args.numbers.now (g.L.LiveTables.has c.args.live.now) in
+    first_turn live (λ n. Contains c.args.older.now n) (g.S.Store.facts c.args.store.now) (g.S.Store.facts c.remove_turn.new.store) (map string_bytes c.args.names.now) c.remove_turn.result
+    c.if-not-remove_turn.true c.remove_turn.ensures.removes
+
+pub returns-then-not-remove_turn-clause-tables : goal.returns-then-not-remove_turn-clause-tables
+returns-then-not-remove_turn-clause-tables g c are lists f n num =
+    table_first c.args.numbers.now (g.L.LiveTables.has c.args.live.now) (map string_bytes c.args.names.now) c.args.older.now n num
+    (g.S.Store.facts c.args.store.now) (g.S.Store.facts c.remove_turn.new.store) c.remove_turn.result c.remove_turn.ensures.removes are lists f
+
+pub returns-clause-removes : goal.returns-clause-removes
+returns-clause-removes g c =
+    let live : FileName → Type 0 = IsLiveFile c.args.numbers.now (g.L.LiveTables.has c.args.live.now) in
+    both_turns live (λ n. Contains c.args.older.now n) (g.S.Store.facts c.args.store.now) (g.S.Store.facts c.remove_turn.new.store) (g.S.Store.facts c.remove_turn-2.new.store) (map string_bytes c.args.names.now)
+    c.remove_turn.ensures.call c.remove_turn-2.ensures.call c.remove_turn.result c.remove_turn-2.result c.if-not-remove_turn.false c.remove_turn.ensures.removes c.remove_turn-2.ensures.removes
+
+pub returns-clause-tables : goal.returns-clause-tables
+returns-clause-tables g c are lists f n num =
+    let old = g.S.Store.facts c.args.store.now in
+    let mid = g.S.Store.facts c.remove_turn.new.store in
+    let new = g.S.Store.facts c.remove_turn-2.new.store in
+    let removes = returns-clause-removes g c in
+    table_both c.args.numbers.now (g.L.LiveTables.has c.args.live.now) (map string_bytes c.args.names.now) c.args.older.now n num old mid new
+    c.remove_turn-2.ensures.call c.remove_turn.result c.remove_turn-2.result c.if-not-remove_turn.false c.remove_turn.ensures.removes c.remove_turn-2.ensures.removes removes.files lists f

@@ -1,0 +1,49 @@
+//! Calls of the store, with the database's refusals.
+
+ghost use Rattle.std.specs.Prelude.{◌≡◌, ◌⊎◌, IfErr};
+ghost use Rattle.coding.specs.declared.error.DbError.TheVariants.{OutOfMemory, Io};
+ghost use Rattle.recover.specs.Reading.{IsCounted};
+ghost use Rattle.directory_writes.specs.Calls.{Touches, IsRefusalOf, Creates, AppendsSynced};
+
+use coding::DbError;
+use store::{Store, StoreError};
+
+/// Why a call was refused that doesn't look for a file.
+pub fn refusal_of(error: StoreError) -> DbError
+    ensures { IsRefusalOf error result }
+{
+    match error {
+        StoreError::Memory => DbError::OutOfMemory,
+        StoreError::Missing => DbError::Io,
+        StoreError::Device => DbError::Io,
+    }
+}
+
+/// Makes an empty file.
+pub fn create_file<S: Store>(store: &mut S, name: &str) -> Result<(), DbError>
+    ensures call { Touches (S.facts store.old) (S.facts store.new) }
+    ensures counted { IsCounted (S.facts store.old) (S.facts store.new) result }
+    ensures refused { IfErr result (λ error. (error ≡ OutOfMemory) ⊎ (error ≡ Io)) }
+    ensures creates { Creates (S.facts store.old) (S.facts store.new) name.now result }
+{
+    match store.create(name) {
+        Ok(()) => Ok(()),
+        Err(error) => Err(refusal_of(error)),
+    }
+}
+
+/// Puts bytes behind a file, and has the device keep it.
+pub fn append_synced<S: Store>(store: &mut S, name: &str, bytes: &[u8]) -> Result<(), DbError>
+    ensures call { Touches (S.facts store.old) (S.facts store.new) }
+    ensures counted { IsCounted (S.facts store.old) (S.facts store.new) result }
+    ensures refused { IfErr result (λ error. (error ≡ OutOfMemory) ⊎ (error ≡ Io)) }
+    ensures appends { AppendsSynced (S.facts store.old) (S.facts store.new) name.now bytes.now result }
+{
+    if let Err(error) = store.append(name, bytes) {
+        return Err(refusal_of(error));
+    }
+    if let Err(error) = store.sync(name) {
+        return Err(refusal_of(error));
+    }
+    Ok(())
+}

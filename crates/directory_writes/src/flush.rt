@@ -1,0 +1,181 @@
+//! A flush: a sealed memory table becomes a table file, in place of the logs in front of the current one (LevelDB's
+//! db/db_impl.cc, DBImpl::CompactMemTable).
+
+ghost use Rattle.std.specs.Prelude.{◌≡◌, ◌<◌, ◌^◌, IfOk, IfErr, OnOk, length, string_bytes};
+ghost use Rattle.edits.specs.Layout.{after_edit};
+ghost use Rattle.edits.specs.Names.{name_of};
+ghost use Rattle.edits.specs.declared.names.FileName.TheVariants.{Table};
+ghost use Rattle.ikey.specs.Orders.{order_of};
+ghost use Rattle.table.specs.Writing.{Writes};
+ghost use Rattle.versions.specs.Applying.{Leads, LeadsAstray};
+ghost use Rattle.versions.specs.Levels.{AreInOrder, pointers_after};
+ghost use Rattle.directory_writes.specs.Flush.{DrawsTable, Prepares, RefusesTable, RefusesVersion, edit_refusal, FlushTouches, RefusesFlush, SyncsFlush, HasVersion, FlushLeaves};
+ghost use Rattle.directory_writes.specs.Level0.{HaveSequences};
+
+use crate::flush_edits::flush_edit;
+use crate::level0::write_level0;
+use crate::manifest::{CurrentManifest, append_edit};
+use coding::{DbError, FileKind, ReadError};
+use edits::{Edit, FileNumbers};
+use ikey::KeyOrder;
+use memtable::MemTable;
+use recover::{flush_law, same_manifest_law, unread_law};
+use std::alloc::Global;
+use std::rc::Rc;
+use store::Store;
+use versions::Version;
+
+/// What the edit of a flush says beside its table, and where a data block of the table ends.
+#[derive(Clone, Copy, Debug)]
+pub struct FlushPlan {
+    /// The number of the current log, the first that is read after the flush.
+    pub log_number: u64,
+    /// The previous log of the layout, or 0 where there is none.
+    pub previous_log_number: u64,
+    /// The last sequence that is used.
+    pub last_sequence: u64,
+    /// With how many bytes a data block is ended.
+    pub block_bytes: usize,
+}
+
+/// What is new after a flush.
+#[derive(Drop)]
+pub struct Flushed<K: KeyOrder> {
+    /// The version with the table.
+    pub version: Rc<Version<K>>,
+    /// Where the MANIFEST ends.
+    pub manifest_end: u64,
+    /// The number of the table.
+    pub number: u64,
+}
+
+/// Why a memory table wasn't flushed.
+#[derive(Clone, Copy, Debug, PartialEq, Eq)]
+pub enum FlushError {
+    /// The directory means what it did. A part of a table that it doesn't read may be there.
+    Before(DbError),
+    /// The store failed while the edit was put behind the MANIFEST, so that it is there or not.
+    Edit,
+}
+
+/// A table that is written, the edit that puts it into the layout, and the version after that.
+#[derive(Drop)]
+pub struct Prepared<K: KeyOrder> {
+    /// The number of the table.
+    pub number: u64,
+    /// The edit.
+    pub edit: Edit,
+    /// The version with the table.
+    pub version: Rc<Version<K>>,
+}
+
+/// Draws a number, writes the entries of a memory table, which has some, into the table of that number, and puts an edit behind the
+/// MANIFEST that has this table at level 0 in place of all logs in front of the current one. All growth comes before the edit.
+/// Refused before it out of memory, with Io where the store fails, with NumbersSpent, as Unsupported where a block would have
+/// more than 2^30 bytes, and as Corrupt where the version has a table of the number that is next.
+pub fn flush_memory<K: KeyOrder, S: Store>(
+    alloc: Global,
+    store: &mut S,
+    memory: &MemTable<K>,
+    version: &Version<K>,
+    manifest: &CurrentManifest,
+    numbers: &mut FileNumbers,
+    plan: FlushPlan,
+) -> Result<Flushed<K>, FlushError>
+    requires some { 0 < length memory.now.inserts }
+    requires sequences { HaveSequences memory.now.inserts }
+    requires sequence { plan.last_sequence < 2 ^ 56 }
+    ensures call { FlushTouches (S.facts store.old) (S.facts store.new) (name_of (Table numbers.old.next)) (string_bytes manifest.now.name) }
+    ensures stood { OnOk result ((S.facts store.new).failures ≡ (S.facts store.old).failures) }
+    ensures refused { IfErr result (λ error. RefusesFlush error (S.facts store.old) (S.facts store.new) memory.now.inserts version.now.tables numbers.old.next numbers.new.next) }
+    ensures drawn { DrawsTable (S.facts store.old) (S.facts store.new) numbers.old.next numbers.new.next }
+    ensures version { HasVersion K.cmp version.now numbers.old.next numbers.new.next result }
+    ensures syncs { SyncsFlush (S.facts store.new) (name_of (Table numbers.old.next)) (string_bytes manifest.now.name) result }
+    ensures leaves { FlushLeaves (order_of K.name K.cmp) (S.facts store.old) (S.facts store.new) numbers.old.next numbers.new.next plan manifest.now memory.now.inserts version.now.tables result }
+{
+    flush_law();
+    unread_law();
+    same_manifest_law();
+    let prepared = match prepare(alloc, store, memory, version, numbers, plan) {
+        Ok(prepared) => prepared,
+        Err(error) => return Err(FlushError::Before(error)),
+    };
+    match append_edit(alloc, store, manifest, &prepared.edit) {
+        Ok(manifest_end) => Ok(Flushed {
+            version: prepared.version,
+            manifest_end,
+            number: prepared.number,
+        }),
+        Err(error) => Err(edit_refusal(error)),
+    }
+}
+
+// Writes the table, and makes its edit and the version after that.
+fn prepare<K: KeyOrder, S: Store>(
+    alloc: Global,
+    store: &mut S,
+    memory: &MemTable<K>,
+    version: &Version<K>,
+    numbers: &mut FileNumbers,
+    plan: FlushPlan,
+) -> Result<Prepared<K>, DbError>
+    requires some { 0 < length memory.now.inserts }
+    requires sequences { HaveSequences memory.now.inserts }
+    requires sequence { plan.last_sequence < 2 ^ 56 }
+    ensures writes { Writes (S.facts store.old) (S.facts store.new) (name_of (Table numbers.old.next)) }
+    ensures stood { OnOk result ((S.facts store.new).failures ≡ (S.facts store.old).failures) }
+    ensures refused { IfErr result (λ error. RefusesTable error (S.facts store.old) (S.facts store.new) memory.now.inserts version.now.tables numbers.old.next numbers.new.next) }
+    ensures drawn { DrawsTable (S.facts store.old) (S.facts store.new) numbers.old.next numbers.new.next }
+    ensures prepares { Prepares (order_of K.name K.cmp) (S.facts store.new) numbers.old.next numbers.new.next plan memory.now.inserts version.now result }
+{
+    let number = numbers.draw()?;
+    let table = write_level0(alloc, store, memory, number, plan.block_bytes)?;
+    let edit = flush_edit(
+        alloc,
+        plan.log_number,
+        plan.previous_log_number,
+        numbers.next,
+        plan.last_sequence,
+        table,
+    )?;
+    let version = version_after(alloc, version, &edit)?;
+    Ok(Prepared {
+        number,
+        edit,
+        version,
+    })
+}
+
+// The version after an edit. Corrupt, where it has no room for the edit's tables.
+pub(crate) fn version_after<K: KeyOrder>(
+    alloc: Global,
+    version: &Version<K>,
+    edit: &Edit,
+) -> Result<Rc<Version<K>>, DbError>
+    ensures tables { IfOk result (λ new. Leads (after_edit edit.now) version.now.tables new.value.tables) }
+    ensures pointers { IfOk result (λ new. new.value.compact_pointers ≡ pointers_after edit.now 0 version.now.compact_pointers) }
+    ensures order { IfOk result (λ new. AreInOrder K.cmp new.value.tables) }
+    ensures old { AreInOrder K.cmp version.now.tables }
+    ensures refused { IfErr result (λ error. RefusesVersion error (LeadsAstray K.cmp (after_edit edit.now) version.now.tables)) }
+{
+    let _tables = version.tables();
+    let after = match version.after(alloc, edit.fields()) {
+        Ok(after) => after,
+        Err(ReadError::Memory) => return Err(DbError::OutOfMemory),
+        Err(ReadError::Corrupt(what)) => return Err(DbError::Corrupt(FileKind::Manifest, what)),
+        Err(ReadError::Unsupported(_)) => unreachable!(),
+    };
+    let _new_tables = after.tables();
+    let shared = Rc::new(alloc, after)?;
+    Ok(shared)
+}
+
+// Where the store fails, the edit is in doubt. Out of memory nothing of it is there.
+pub(crate) fn edit_refusal(error: DbError) -> FlushError
+    ensures { result ≡ edit_refusal error }
+{
+    match error {
+        DbError::Io => FlushError::Edit,
+        other => FlushError::Before(other),
+    }
+}

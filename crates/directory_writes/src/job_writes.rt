@@ -1,0 +1,13 @@
+//! What the steps of a job leave of a directory (LevelDB's db/db_impl.cc, DoCompactionWork).
+
+ghost use Rattle.directory_writes.specs.JobWrites.{FreeNumberLaw, JobWritesLaw};
+
+/// Tables that a directory hasn't may be written: its other parts stay.
+pub fn job_writes_law()
+    ensures { JobWritesLaw }
+{}
+
+/// A number that is free is that of no table.
+pub fn free_number_law()
+    ensures { FreeNumberLaw }
+{}

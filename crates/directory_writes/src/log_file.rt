@@ -1,0 +1,39 @@
+//! New logs.
+
+ghost use Rattle.std.specs.Prelude.{◌≡◌, IfErr, IsTrue};
+ghost use Rattle.ikey.specs.Orders.{Order};
+ghost use Rattle.edits.specs.Names.{name_of};
+ghost use Rattle.edits.specs.declared.names.FileName.TheVariants.{Log};
+ghost use Rattle.recover.specs.Reading.{IsCounted};
+ghost use Rattle.table.specs.Writing.{SyncsOnly};
+ghost use Rattle.directory_writes.specs.Calls.{Touches};
+ghost use Rattle.directory_writes.specs.LogFile.{DrawsLog, RefusesLog, BeginsLog};
+
+use crate::calls::create_file;
+use coding::DbError;
+use edits::{FileName, FileNumbers, print_name};
+use recover::begin_log_law;
+use std::alloc::Global;
+use store::Store;
+
+/// Draws a number, makes the empty log of that number, and answers both it and the name of its file (LevelDB's db/db_impl.cc,
+/// DBImpl::MakeRoomForWrite). The log is synced with the first record that is to be kept. Refused out of memory, with
+/// NumbersSpent, and with Io where the store fails: the log is there or not then.
+pub fn begin_log<S: Store>(
+    alloc: Global,
+    store: &mut S,
+    numbers: &mut FileNumbers,
+) -> Result<(u64, String), DbError>
+    ensures call { Touches (S.facts store.old) (S.facts store.new) }
+    ensures counted { IsCounted (S.facts store.old) (S.facts store.new) result }
+    ensures drawn { DrawsLog (S.facts store.old) (S.facts store.new) numbers.old.next numbers.new.next result }
+    ensures refused { IfErr result (λ error. RefusesLog error (S.facts store.old) (S.facts store.new) numbers.old.next numbers.new.next) }
+    ensures begins { (order : Order) → BeginsLog order (S.facts store.old) (S.facts store.new) numbers.old.next numbers.new.next result }
+    ensures synced { IsTrue (S.facts store.new).faithful → SyncsOnly (S.facts store.old).synced (S.facts store.new).synced (name_of (Log numbers.old.next)) }
+{
+    begin_log_law();
+    let number = numbers.draw()?;
+    let name = print_name(alloc, FileName::Log(number))?;
+    create_file(store, name.as_str())?;
+    Ok((number, name))
+}

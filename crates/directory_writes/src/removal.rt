@@ -1,0 +1,268 @@
+//! The removal of files that aren't live.
+
+ghost use Rattle.std.specs.Prelude.{◌≡◌, ◌⊎◌, ◌≤◌, ◌∷◌, ◌++◌, [], ℕ, List, Contains, IfOk, IfErr, IsTrue, MatchBool, OnOk, map, string_bytes};
+ghost use Rattle.ikey.specs.Orders.{Order};
+ghost use Rattle.store.specs.Files.{Lists};
+ghost use Rattle.edits.specs.Names.{IsNumbered};
+ghost use Rattle.recover.specs.Directory.{Directory, IsConsistent};
+ghost use Rattle.recover.specs.Reading.{Reads, IsCounted};
+ghost use Rattle.directory_writes.specs.Calls.{Touches};
+ghost use Rattle.directory_writes.specs.Removal as removal;
+ghost use Rattle.directory_writes.specs.Removal.{AreNumbersOf, AreOlder, AreUnused, HasTwo, IsLeft, IsLiveFile, KeepsParts, KeepsTable, ListsUnused, RefusesList, Removes, RemovesDead};
+
+use coding::DbError;
+use edits::{FileName, parse_name};
+use recover::free_change_law;
+use std::alloc::{AllocError, Global};
+use store::{Store, StoreError};
+use versions::LiveNumbers;
+
+/// Which tables are in use: those of the current version, of versions that are pinned, and those that are being written.
+pub trait LiveTables {
+    ghost has: { Self → ℕ → Type 0 };
+
+    /// Whether the table of this number is in use.
+    fn has_table(&self, number: u64) -> bool
+        ensures { MatchBool result (has self.now number) (has self.now number → ⊥) };
+}
+
+/// What a removal leaves.
+#[derive(Debug, Drop)]
+pub struct Removal {
+    /// Whether all files of a known shape are gone that aren't live.
+    pub complete: bool,
+    /// The numbers of the tables that aren't in use, once for each of their files that was there.
+    pub tables: Vec<u64>,
+}
+
+/// Removes each file of a known shape that isn't live (LevelDB's db/db_impl.cc, DBImpl::RemoveObsoleteFiles). One that can't
+/// be removed is left for the next time. Of a table that has both names the file with the newer one, which is the one that is
+/// read, goes last: so nobody reads other bytes under its number. Refused only where the files can't be listed: out of memory, and with Io where
+/// the store fails; nothing is removed then.
+pub fn remove_files<S: Store, L: LiveTables>(
+    alloc: Global,
+    store: &mut S,
+    numbers: &LiveNumbers,
+    live: &L,
+) -> Result<Removal, DbError>
+    ensures call { Touches (S.facts store.old) (S.facts store.new) }
+    ensures refused { IfErr result (λ error. RefusesList error (S.facts store.old) (S.facts store.new)) }
+    ensures removes { RemovesDead (S.facts store.old) (S.facts store.new) (IsLiveFile numbers.now (L.has live.now)) result }
+    ensures unused { IfOk result (λ removal. ListsUnused (S.facts store.old) (S.facts store.new) (L.has live.now) removal.tables.items) }
+    ensures tables { IsTrue (S.facts store.new).faithful → (n : ℕ) → IsNumbered n → KeepsTable (S.facts store.old) (S.facts store.new) (L.has live.now) n }
+    ensures meaning { IsTrue (S.facts store.new).faithful → (order : Order) (d : Directory) → IsConsistent order (S.facts store.old).files d → AreNumbersOf numbers.now (L.has live.now) d
+        → KeepsParts order (S.facts store.old).files (S.facts store.new).files (L.has live.now) d }
+{
+    free_change_law();
+    let names = list_names(alloc, store)?;
+    let older = older_tables(alloc, &names)?;
+    let tables = unused_tables(alloc, &names, live)?;
+    let complete = remove_listed(store, &names, numbers, live, &older);
+    Ok(Removal { complete, tables })
+}
+
+// The names of all files.
+fn list_names<S: Store>(alloc: Global, store: &mut S) -> Result<Vec<String>, DbError>
+    ensures store { Reads (S.facts store.old) (S.facts store.new) result }
+    ensures counted { IsCounted (S.facts store.old) (S.facts store.new) result }
+    ensures names { IfOk result (λ names. IsTrue (S.facts store.new).faithful → Lists (S.facts store.old).files (map string_bytes names.items)) }
+    ensures refused { IfErr result (λ error. RefusesList error (S.facts store.old) (S.facts store.new)) }
+{
+    match store.list(alloc) {
+        Ok(names) => Ok(names),
+        Err(StoreError::Memory) => Err(DbError::OutOfMemory),
+        Err(StoreError::Device) => Err(DbError::Io),
+        Err(StoreError::Missing) => unreachable!(),
+    }
+}
+
+// The numbers of the tables that have a file with the older name.
+fn older_tables(alloc: Global, names: &[String]) -> Result<Vec<u64>, AllocError>
+    ensures { IfOk result (λ numbers. AreOlder (map string_bytes names.now) numbers.items) }
+{
+    let mut numbers = Vec::new(alloc);
+    for name in names {
+        push_older(&mut numbers, name.as_bytes())?;
+    }
+    Ok(numbers)
+}
+
+// Takes one more name in.
+fn push_older(numbers: &mut Vec<u64>, name: &[u8]) -> Result<(), AllocError>
+    ensures { OnOk result ((names : List (List ℕ)) → AreOlder names numbers.old.items → AreOlder (names ++ name.now ∷ []) numbers.new.items) }
+{
+    let Some(file) = parse_name(name) else {
+        return Ok(());
+    };
+    let Some(number) = older_number(file) else {
+        return Ok(());
+    };
+    numbers.push(number)?;
+    Ok(())
+}
+
+// The number of a table whose file has the older name.
+fn older_number(file: FileName) -> Option<u64>
+    ensures { result ≡ removal.older_number file }
+{
+    match file {
+        FileName::OldTable(number) => Some(number),
+        FileName::Current
+        | FileName::Lock
+        | FileName::Log(_)
+        | FileName::Table(_)
+        | FileName::Manifest(_)
+        | FileName::Temporary(_) => None,
+    }
+}
+
+// The numbers of the tables that aren't in use, once for each of these that is the name of their file.
+fn unused_tables<L: LiveTables>(
+    alloc: Global,
+    names: &[String],
+    live: &L,
+) -> Result<Vec<u64>, AllocError>
+    ensures { IfOk result (λ numbers. AreUnused (L.has live.now) (map string_bytes names.now) numbers.items) }
+{
+    let mut numbers = Vec::new(alloc);
+    for name in names {
+        push_unused(&mut numbers, name.as_bytes(), live)?;
+    }
+    Ok(numbers)
+}
+
+// Takes one more name in.
+fn push_unused<L: LiveTables>(
+    numbers: &mut Vec<u64>,
+    name: &[u8],
+    live: &L,
+) -> Result<(), AllocError>
+    ensures { OnOk result ((names : List (List ℕ)) → AreUnused (L.has live.now) names numbers.old.items → AreUnused (L.has live.now) (names ++ name.now ∷ []) numbers.new.items) }
+{
+    let Some(file) = parse_name(name) else {
+        return Ok(());
+    };
+    let Some(number) = table_number(file) else {
+        return Ok(());
+    };
+    if live.has_table(number) {
+        return Ok(());
+    }
+    numbers.push(number)?;
+    Ok(())
+}
+
+// The number of a table, by either name.
+fn table_number(file: FileName) -> Option<u64>
+    ensures { result ≡ removal.table_number file }
+{
+    match file {
+        FileName::Table(number) => Some(number),
+        FileName::OldTable(number) => Some(number),
+        FileName::Current
+        | FileName::Lock
+        | FileName::Log(_)
+        | FileName::Manifest(_)
+        | FileName::Temporary(_) => None,
+    }
+}
+
+// Removes each of these that isn't live: first all but the newer files of tables that have two, and then, where nothing of the
+// others is left, these. Whether all are gone.
+fn remove_listed<S: Store, L: LiveTables>(
+    store: &mut S,
+    names: &[String],
+    numbers: &LiveNumbers,
+    live: &L,
+    older: &[u64],
+) -> bool
+    ensures call { Touches (S.facts store.old) (S.facts store.new) }
+    ensures removes { Removes (S.facts store.old) (S.facts store.new) (IsLiveFile numbers.now (L.has live.now)) (map string_bytes names.now) result }
+    ensures tables { AreOlder (map string_bytes names.now) older.now → Lists (S.facts store.old).files (map string_bytes names.now) → IsTrue (S.facts store.new).faithful → (n : ℕ) → IsNumbered n → KeepsTable (S.facts store.old) (S.facts store.new) (L.has live.now) n }
+{
+    if !remove_turn(store, names, numbers, live, older, false) {
+        return false;
+    }
+    remove_turn(store, names, numbers, live, older, true)
+}
+
+// Removes those that aren't live and have this turn, the first or the last. Whether they are gone.
+fn remove_turn<S: Store, L: LiveTables>(
+    store: &mut S,
+    names: &[String],
+    numbers: &LiveNumbers,
+    live: &L,
+    older: &[u64],
+    last: bool,
+) -> bool
+    ensures call { Touches (S.facts store.old) (S.facts store.new) }
+    ensures removes { Removes (S.facts store.old) (S.facts store.new) (IsLeft (IsLiveFile numbers.now (L.has live.now)) (λ n. Contains older.now n) last) (map string_bytes names.now) result }
+{
+    let mut gone = true;
+    for name in names {
+        let removed = remove_dead(store, name.as_str(), numbers, live, older, last);
+        gone &= removed;
+    }
+    gone
+}
+
+// Removes the file of this name where it isn't live and has this turn. Whether it is gone then.
+fn remove_dead<S: Store, L: LiveTables>(
+    store: &mut S,
+    name: &str,
+    numbers: &LiveNumbers,
+    live: &L,
+    older: &[u64],
+    last: bool,
+) -> bool
+    ensures call { Touches (S.facts store.old) (S.facts store.new) }
+    ensures removes { Removes (S.facts store.old) (S.facts store.new) (IsLeft (IsLiveFile numbers.now (L.has live.now)) (λ n. Contains older.now n) last) (name.now ∷ []) result }
+{
+    let Some(file) = parse_name(name.as_bytes()) else {
+        return true;
+    };
+    if is_live(file, numbers, live) {
+        return true;
+    }
+    if has_two(file, older) != last {
+        return true;
+    }
+    store.remove(name).is_ok()
+}
+
+// Whether this is the newer file of a table that has two.
+fn has_two(file: FileName, older: &[u64]) -> bool
+    ensures { MatchBool result (HasTwo (λ n. Contains older.now n) file) (HasTwo (λ n. Contains older.now n) file → ⊥) }
+{
+    match file {
+        FileName::Table(number) => older.contains(&number),
+        FileName::Current => false,
+        FileName::Lock => false,
+        FileName::Log(_) => false,
+        FileName::OldTable(_) => false,
+        FileName::Manifest(_) => false,
+        FileName::Temporary(_) => false,
+    }
+}
+
+// Whether the file belongs to the open database.
+fn is_live<L: LiveTables>(file: FileName, numbers: &LiveNumbers, live: &L) -> bool
+    ensures { MatchBool result (IsLiveFile numbers.now (L.has live.now) file) (IsLiveFile numbers.now (L.has live.now) file → ⊥) }
+{
+    match file {
+        FileName::Current => true,
+        FileName::Lock => true,
+        FileName::Log(number) => is_live_log(number, numbers),
+        FileName::Table(number) => live.has_table(number),
+        FileName::OldTable(number) => live.has_table(number),
+        FileName::Manifest(number) => number == numbers.manifest_number,
+        FileName::Temporary(_) => false,
+    }
+}
+
+// Whether the log of this number belongs to it.
+fn is_live_log(number: u64, numbers: &LiveNumbers) -> bool
+    ensures { MatchBool result ((numbers.now.log_number ≤ number) ⊎ (number ≡ numbers.now.previous_log_number)) ((numbers.now.log_number ≤ number) ⊎ (number ≡ numbers.now.previous_log_number) → ⊥) }
+{
+    number >= numbers.log_number || number == numbers.previous_log_number
+}

@@ -1,0 +1,29 @@
+use Rattle.std.proofs.Common.{◌≡◌, ◌+◌, None, rules}
+use Rattle.ikey.specs.Orders.{order_of}
+use Rattle.memtables.specs.PlaceLaws.{left_there}
+use Rattle.engine.specs.Held.{held, seen_of}
+use Rattle.engine.specs.Working.{MayRefusePiece}
+use Rattle.engine.proofs.Finishing.{outcome_done, serves_same, stays_done}
+use Rattle.engine.proofs.NeededEntries.{not_taking}
+use Rattle.engine.proofs.state.DbState.run_job_to_end.Goals as goal
+
+pub returns-then-is_none-clause-step : goal.returns-then-is_none-clause-step
+returns-then-is_none-clause-step g c ids =
+    stays_done (order_of g.K.KeyOrder.name g.K.KeyOrder.cmp) (seen_of g.S.Store.facts c.args.source.now) ids (held c.args.source.now.memory c.args.self.now) (λ e. e + 0) (tt {0})
+
+pub returns-then-is_none-clause-outcome : goal.returns-then-is_none-clause-outcome
+returns-then-is_none-clause-outcome g c =
+    let db = held c.args.source.now.memory c.args.self.now in
+    let facts = g.S.Store.facts c.args.source.now.tables.store in
+    outcome_done MayRefusePiece facts facts db db (tt {0}) c.requires.whole (serves_same facts db c.requires.whole)
+
+pub returns-then-is_none-clause-serves : goal.returns-then-is_none-clause-serves
+returns-then-is_none-clause-serves g c = serves_same (g.S.Store.facts c.args.source.now.tables.store) (held c.args.source.now.memory c.args.self.now) c.requires.whole
+
+pub returns-then-is_none-clause-memory : goal.returns-then-is_none-clause-memory
+returns-then-is_none-clause-memory g c = left_there c.args.source.now.memory
+
+pub returns-then-is_none-clause-needed : goal.returns-then-is_none-clause-needed
+returns-then-is_none-clause-needed g c takes =
+    let none : c.args.self.now.job ≡ None = search rules in
+    absurd (not_taking (held c.args.source.now.memory c.args.self.now) none takes)

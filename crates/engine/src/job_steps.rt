@@ -1,0 +1,179 @@
+//! Compactions in steps: the one that is most wanted is begun, and goes on by so many entries a call (LevelDB's db/db_impl.cc,
+//! DBImpl::BackgroundCompaction).
+
+ghost use Rattle.std.specs.Prelude.{◌≡◌, ◌∷◌, ℕ, max, None, Some, IsSome, IsTrue, false, true, Contains, MatchBool, MatchOption, IfOk, Ok, OnOk};
+ghost use Rattle.std.specs.List.Sorted.{IsNonDecreasing};
+ghost use Rattle.std.specs.Map.{values_of};
+ghost use Rattle.ikey.specs.Orders.{order_of};
+ghost use Rattle.engine.specs.Live.{kept_at};
+
+use crate::options::Options;
+use crate::state::DbState;
+use crate::work::Progress;
+use coding::DbError;
+use db_cursor::Sources;
+use directory_writes::Installed;
+use ikey::KeyOrder;
+use recover::one_directory;
+use running_job::OpenJob;
+use std::alloc::{AllocError, Global};
+use store::Store;
+use table_access::sound_lasts;
+use versions::{JobPlan, plans_of_tables};
+
+impl<K: KeyOrder> DbState<K> {
+    ghost use Rattle.engine.specs.declared.ids.Ids.{Ids};
+    ghost use Rattle.engine.specs.Follows.{LeadsOpen};
+    ghost use Rattle.engine.specs.Held.{held, seen_of};
+    ghost use Rattle.engine.specs.Outcomes.{DbOutcome, IsSame};
+    ghost use Rattle.engine.specs.declared.work.Progress.TheVariants.{Worked, Idle};
+    ghost use Rattle.engine.specs.Finishing.{HasCome, ServesOn};
+    ghost use Rattle.engine.specs.Needed.{EndsNeeded, IsTakingAll};
+    ghost use Rattle.engine.specs.WithinBudget.{HasLeftUpTo, StepsUpTo};
+    ghost use Rattle.engine.specs.Working.{BeginsJob, GoesOn, IsPiece, MayRefusePiece, WantsCompaction};
+    ghost use Rattle.memtables.specs.Places.{LeavesMemories};
+    ghost use Rattle.versions.specs.Plans.{IsPlanOf, IsWholePlan};
+
+    /// Begins the compaction that is most wanted, and goes on with it by so many entries. Idle where none is wanted.
+    pub fn compact<S: Store>(
+        &mut self,
+        alloc: Global,
+        source: &mut Sources<K, S>,
+        options: &Options,
+        budget: u32,
+    ) -> Result<Progress, DbError>
+        requires whole { self.old.broken ≡ false }
+        requires none { self.old.job ≡ None }
+        ensures step { (ids : Ids) → LeadsOpen (order_of K.name K.cmp) (seen_of S.facts source.old) (seen_of S.facts source.new) ids (held source.old.memory self.old) (held source.new.memory self.new) (λ m n. IsPiece m (max budget 1) result n) }
+        ensures outcome { DbOutcome MayRefusePiece (S.facts source.old.tables.store) (S.facts source.new.tables.store) (held source.old.memory self.old) (held source.new.memory self.new) result }
+        ensures begins { result ≡ Ok Worked → BeginsJob K.cmp options.now budget (held source.old.memory self.old) (held source.new.memory self.new) }
+        ensures unwanted { result ≡ Ok Idle → (level : ℕ) → WantsCompaction options.now (held source.old.memory self.old) level → ⊥ }
+        ensures few { result ≡ Ok Worked → self.new.job ≡ None → IsTrue (S.facts source.new.tables.store).faithful → StepsUpTo (order_of K.name K.cmp) (seen_of S.facts source.old) (held source.old.memory self.old) (max budget 1) }
+        ensures idle { result ≡ Ok Idle → (source.new ≡ source.old) × (self.new ≡ self.old) }
+        ensures lock { (S.facts source.new.tables.store).held ≡ (S.facts source.old.tables.store).held }
+    {
+        sound_lasts();
+        plans_of_tables();
+        let Some(plan) = self
+            .version
+            .pick(alloc, options.level0_files(), options.base_bytes())?
+        else {
+            return Ok(Progress::Idle);
+        };
+        self.begin_job(alloc, source, options, plan)?;
+        self.step_job(alloc, source, budget)?;
+        Ok(Progress::Worked)
+    }
+
+    /// Begins the job of a plan for the tables of the version.
+    pub fn begin_job<S: Store>(
+        &mut self,
+        alloc: Global,
+        source: &mut Sources<K, S>,
+        options: &Options,
+        plan: JobPlan,
+    ) -> Result<(), DbError>
+        requires whole { self.old.broken ≡ false }
+        requires none { self.old.job ≡ None }
+        requires plan { IsPlanOf K.cmp self.old.version.value.tables plan }
+        ensures step { (ids : Ids) → LeadsOpen (order_of K.name K.cmp) (seen_of S.facts source.old) (seen_of S.facts source.new) ids (held source.old.memory self.old) (held source.new.memory self.new) (λ m n. IsPiece m 0 result n) }
+        ensures outcome { DbOutcome MayRefusePiece (S.facts source.old.tables.store) (S.facts source.new.tables.store) (held source.old.memory self.old) (held source.new.memory self.new) result }
+        ensures begun { OnOk result (IsSome self.new.job) }
+        ensures none { OnOk result (MatchOption self.new.job ⊥ (λ work. (work.merged ≡ 0) × (work.job.plan ≡ plan))) }
+        ensures all { OnOk result (IsWholePlan self.old.version.value.tables plan → IsTakingAll (held source.new.memory self.new)) }
+        ensures files { IsTrue (S.facts source.new.tables.store).faithful → (S.facts source.new.tables.store).files ≡ (S.facts source.old.tables.store).files }
+        ensures stood { OnOk result ((S.facts source.new.tables.store).failures ≡ (S.facts source.old.tables.store).failures) }
+        ensures memory { LeavesMemories source.old.memory source.new.memory }
+        ensures same { IsSame (held source.old.memory self.old) (held source.new.memory self.new) }
+        ensures whole { self.new.broken ≡ false }
+        ensures lock { (S.facts source.new.tables.store).held ≡ (S.facts source.old.tables.store).held }
+    {
+        sound_lasts();
+        let snapshots = self.sequences(alloc, source.memory.last())?;
+        let job = OpenJob::begin(
+            alloc,
+            source,
+            &self.version,
+            plan,
+            &snapshots,
+            options.block_bytes(),
+            options.file_bytes(),
+        )?;
+        self.job = Some(job);
+        Ok(())
+    }
+
+    /// Goes on with the compaction under way by so many entries, one for 0, and ends it where all came: whether it did. Where it is
+    /// refused it is given up, and its inputs stay. The database is broken only where the store failed at the end.
+    pub fn step_job<S: Store>(
+        &mut self,
+        alloc: Global,
+        source: &mut Sources<K, S>,
+        budget: u32,
+    ) -> Result<bool, DbError>
+        requires whole { self.old.broken ≡ false }
+        requires job { IsSome self.old.job }
+        ensures step { (ids : Ids) → LeadsOpen (order_of K.name K.cmp) (seen_of S.facts source.old) (seen_of S.facts source.new) ids (held source.old.memory self.old) (held source.new.memory self.new) (λ m n. IsPiece m (max budget 1) result n) }
+        ensures outcome { DbOutcome MayRefusePiece (S.facts source.old.tables.store) (S.facts source.new.tables.store) (held source.old.memory self.old) (held source.new.memory self.new) result }
+        ensures on { OnOk result (GoesOn budget (held source.old.memory self.old) (held source.new.memory self.new)) }
+        ensures ended { IfOk result (λ ended. MatchBool ended (self.new.job ≡ None) (IsSome self.new.job)) }
+        ensures serves { OnOk result (ServesOn (S.facts source.old.tables.store) (S.facts source.new.tables.store) (held source.old.memory self.old) (held source.new.memory self.new)) }
+        ensures memory { LeavesMemories source.old.memory source.new.memory }
+        ensures all { result ≡ Ok false → IsTakingAll (held source.old.memory self.old) → IsTakingAll (held source.new.memory self.new) }
+        ensures needed { result ≡ Ok true → IsTakingAll (held source.old.memory self.old) → EndsNeeded (order_of K.name K.cmp) (seen_of S.facts source.old) (seen_of S.facts source.new) (held source.old.memory self.old) (held source.new.memory self.new) }
+        ensures few { result ≡ Ok true → IsTrue (S.facts source.new.tables.store).faithful → HasLeftUpTo (order_of K.name K.cmp) (seen_of S.facts source.old) (held source.old.memory self.old) (max budget 1) }
+        ensures come { result ≡ Ok true → (ids : Ids) → LeadsOpen (order_of K.name K.cmp) (seen_of S.facts source.old) (seen_of S.facts source.new) ids (held source.old.memory self.old) (held source.new.memory self.new) (λ m n. HasCome budget (held source.old.memory self.old) m result n) }
+        ensures lock { (S.facts source.new.tables.store).held ≡ (S.facts source.old.tables.store).held }
+    {
+        sound_lasts();
+        one_directory();
+        let Some(mut job) = self.job.take() else {
+            unreachable!()
+        };
+        let progress = job.step(alloc, source, &mut self.directory.numbers, budget)?;
+        if !progress.ended {
+            self.job = Some(job);
+            return Ok(false);
+        }
+        source.memory.are_bounded();
+        let last_sequence = source.memory.last();
+        match job.install(
+            alloc,
+            &mut source.tables.store,
+            &self.version,
+            &self.directory.manifest,
+            &self.directory.numbers,
+            last_sequence,
+        ) {
+            Ok(installed) => {
+                self.take_installed(installed);
+                Ok(true)
+            }
+            Err(error) => Err(self.flush_refusal(error)),
+        }
+    }
+
+    // What is new after the end of a compaction.
+    fn take_installed(&mut self, installed: Installed<K>)
+        ensures { self.new ≡ record self.old { version = installed.version; directory = record self.old.directory { manifest = record self.old.directory.manifest { end = installed.manifest_end } } } }
+    {
+        self.version = installed.version;
+        self.directory.manifest.end = installed.manifest_end;
+    }
+
+    // The sequences that a compaction keeps the views of, rising: those of the live snapshots, and the last one used.
+    fn sequences(&self, alloc: Global, last: u64) -> Result<Vec<u64>, AllocError>
+        ensures rising { IfOk result (λ sequences. IsNonDecreasing sequences.items) }
+        ensures last { IfOk result (λ sequences. Contains sequences.items last) }
+        ensures live { IfOk result (λ sequences. (id sequence : ℕ) → kept_at self.now.snapshots id ≡ Some sequence → Contains sequences.items sequence) }
+        ensures only { IfOk result (λ sequences. (sequence : ℕ) → Contains sequences.items sequence → Contains (last ∷ values_of self.now.snapshots.entries) sequence) }
+    {
+        let mut sequences = Vec::with_capacity(alloc, self.snapshots.len() + 1)?;
+        for sequence in self.snapshots.values() {
+            sequences.push(*sequence)?;
+        }
+        sequences.push(last)?;
+        sequences.sort_unstable();
+        Ok(sequences)
+    }
+}

@@ -1,0 +1,39 @@
+use Rattle.std.proofs.Common.{Some, sym}
+use Rattle.std.proofs.lemmas.Result.{err_from_is_err_and}
+use Rattle.cursor.specs.Merging.{listed}
+use Rattle.table_access.specs.TableLaws.{carries_more}
+use Rattle.table_access.specs.Tables.{seen}
+use Rattle.level_cursor.proofs.Moving.{ended_on, stays_put, went_on}
+use Rattle.level_cursor.proofs.Refusing.{refused_so}
+use Rattle.level_cursor.proofs.row_cursor.step_on.Goals as goal
+
+pub returns-in_err-step-clause-steps : goal.returns-in_err-step-clause-steps
+returns-in_err-step-clause-steps g c =
+    let p = err_from_is_err_and c.from_residual.result c.from_residual.ensures.1 in
+    rw p.1 (λ t lists place placed.
+    let h = rw c.in-Some.is at placed in
+    stays_put g.K.KeyOrder.cmp (seen (g.S.Store.facts c.args.source.now.store) c.args.source.now.tables c.args.source.now.blocks) (seen (g.S.Store.facts c.step.new.source.store) c.step.new.source.tables c.step.new.source.blocks) lists c.in-Some.here.index c.in-Some.here.cursor.number c.step.new.self.number c.in-Some.here.cursor.table.value.frame c.step.new.self.table.value.frame c.in-Some.here.cursor.here c.step.new.self.here place c.step.ensures.number (λ i. (c.step.ensures.table i).value.frame) h (c.in_err-step.ensures.steps t (listed h.list (Some h.inside)) h.stands))
+
+pub returns-in_err-step-clause-refused : goal.returns-in_err-step-clause-refused
+returns-in_err-step-clause-refused g c =
+    let p = err_from_is_err_and c.from_residual.result c.from_residual.ensures.1 in
+    rw (p.1, p.2, c.in-Some.is) (refused_so c.in_err-step.field-0.0 _ _ _ _ _ (λ none lists place h. none (listed h.list (Some h.inside)) h.stands) c.in_err-step.ensures.refused)
+
+pub returns-then-branch-clause-steps : goal.returns-then-branch-clause-steps
+returns-then-branch-clause-steps g c = λ t lists place placed.
+    let h = rw c.in-Some.is at placed in
+    went_on g.K.KeyOrder.cmp (seen (g.S.Store.facts c.args.source.now.store) c.args.source.now.tables c.args.source.now.blocks) (seen (g.S.Store.facts c.step.new.source.store) c.step.new.source.tables c.step.new.source.blocks) lists c.in-Some.here.index c.in-Some.here.cursor.number c.step.new.self.number c.in-Some.here.cursor.table.value.frame c.step.new.self.table.value.frame c.in-Some.here.cursor.here c.step.new.self.here place c.step.ensures.number (λ i. (c.step.ensures.table i).value.frame) h ((rw c.if-branch.true at c.in_ok-step.ensures.steps) t (listed h.list (Some h.inside)) h.stands)
+
+pub returns-clause-steps : goal.returns-clause-steps
+returns-clause-steps g c = λ t lists place placed.
+    let h = rw c.in-Some.is at placed in
+    ended_on g.K.KeyOrder.cmp (seen (g.S.Store.facts c.args.source.now.store) c.args.source.now.tables c.args.source.now.blocks) (seen (g.S.Store.facts c.step.new.source.store) c.step.new.source.tables c.step.new.source.blocks) lists c.in-Some.here.index c.in-Some.here.cursor.number c.step.new.self.number c.in-Some.here.cursor.table.value.frame c.step.new.self.table.value.frame c.in-Some.here.cursor.here c.step.new.self.here place c.step.ensures.number (λ i. (c.step.ensures.table i).value.frame) h ((rw c.if-branch.false at c.in_ok-step.ensures.steps) t (listed h.list (Some h.inside)) h.stands)
+
+pub returns-in_err-step-clause-carries : goal.returns-in_err-step-clause-carries
+returns-in_err-step-clause-carries g c = rw c.in-Some.is (carries_more g.K.KeyOrder.cmp (seen (g.S.Store.facts c.args.source.now.store) c.args.source.now.tables c.args.source.now.blocks) (seen (g.S.Store.facts c.step.new.source.store) c.step.new.source.tables c.step.new.source.blocks) (λ number same. sym same) c.step.ensures.carries)
+
+pub returns-then-branch-clause-carries : goal.returns-then-branch-clause-carries
+returns-then-branch-clause-carries g c = rw c.in-Some.is (carries_more g.K.KeyOrder.cmp (seen (g.S.Store.facts c.args.source.now.store) c.args.source.now.tables c.args.source.now.blocks) (seen (g.S.Store.facts c.step.new.source.store) c.step.new.source.tables c.step.new.source.blocks) (λ number same. sym same) c.step.ensures.carries)
+
+pub returns-clause-carries : goal.returns-clause-carries
+returns-clause-carries g c = rw c.in-Some.is (carries_more g.K.KeyOrder.cmp (seen (g.S.Store.facts c.args.source.now.store) c.args.source.now.tables c.args.source.now.blocks) (seen (g.S.Store.facts c.step.new.source.store) c.step.new.source.tables c.step.new.source.blocks) (λ number same. sym same) c.step.ensures.carries)

@@ -1,0 +1,106 @@
+-- Tables in a row, and where a cursor stands in them.
+use Rattle.std.specs.Prelude.{◌≡◌, ◌<◌, ◌+◌, ℕ, zero, suc, Bool, false, List, [], ◌∷◌, Option, None, Some, Contains, length, slice_get}
+use Rattle.std.specs.List.{AllByRecursion, flat_map}
+use Rattle.block.specs.Places.{Placed}
+use Rattle.cache.specs.Tables.{table_at}
+use Rattle.cursor.specs.Merging.{listed}
+use Rattle.cursor.specs.Places.{Cmp, Listed, Rises}
+use Rattle.edits.specs.declared.field.PlacedTable.{PlacedTable}
+use Rattle.ikey.specs.Below.{IsBelowInternal}
+use Rattle.ikey.specs.Entries.{InternalEntry}
+use Rattle.ikey.specs.Keys.{IsKey}
+use Rattle.level_cursor.specs.declared.in_table.InTable.{InTable}
+use Rattle.table_access.specs.declared.in_block.InBlock.{InBlock}
+use Rattle.table_access.specs.TablePlaces.{KeepsTable, ListsTable, block_stands}
+use Rattle.table_access.specs.Tables.{Seen, IsSound, HasTable}
+use Rattle.table_access.specs.Values.{IsPastLimit}
+use Rattle.table.specs.Frame.{AnyLong, Frame, handles}
+use Rattle.table.specs.Table.{IsTable}
+
+-- the entries of all its tables
+abbrev pub joined : List (List InternalEntry) → List InternalEntry
+joined lists = flat_map (λ (list : List InternalEntry). list) lists
+
+-- how many entries lie in the tables in front of this one
+unfoldable pub entries_before : List (List InternalEntry) → ℕ → ℕ
+entries_before [] index = zero
+entries_before (list ∷ lists) zero = zero
+entries_before (list ∷ lists) (suc index) = length list + entries_before lists index
+
+-- ---- what the tables hold
+
+-- no entry comes behind the key
+abbrev pub EndsBy : Cmp → List ℕ → List InternalEntry → Type 0
+EndsBy cmp key entries = AllByRecursion (λ (entry : InternalEntry). (bytes : List ℕ) → IsKey bytes entry.key → IsBelowInternal cmp key bytes → ⊥) entries
+
+-- The source has a table of this number, with these entries, of which none comes behind its largest key.
+pub record HasList (cmp : Cmp) (source : Seen) (placed : PlacedTable) (entries : List InternalEntry) : Type 0 where
+  pub positive : 0 < placed.table.number
+  pub file : List ℕ
+  pub there : HasTable cmp source placed.table.number file
+  pub spelled : IsTable cmp file entries
+  pub ends : EndsBy cmp placed.table.largest entries
+
+-- it has each of them
+abbrev pub HaveLists : Cmp → Seen → List PlacedTable → List (List InternalEntry) → Type 0
+HaveLists cmp source [] [] = Unit {0}
+HaveLists cmp source (placed ∷ tables) (list ∷ lists) = HasList cmp source placed list × HaveLists cmp source tables lists
+HaveLists cmp source tables lists = ⊥
+
+-- ---- where the cursor stands
+
+-- The table of this index has a list, in which the cursor over it stands on an entry; place is that among the entries of
+-- all tables.
+pub record IsInTable (cmp : Cmp) (source : Seen) (lists : List (List InternalEntry)) (index number : ℕ) (frame : Frame) (here : Option (InBlock Placed)) (place : Option ℕ) : Type 0 where
+  pub list : List InternalEntry
+  pub inside : ℕ
+  pub list_is : slice_get lists index ≡ Some list
+  pub stands : ListsTable cmp source number frame here (listed list (Some inside))
+  pub place_is : place ≡ Some (entries_before lists index + inside)
+
+-- so it stands at this place, in the table that is open, or nowhere where none is
+abbrev pub IsPlacedRow : {K : Type 0} {g : _} → Cmp → Seen → List (List InternalEntry) → Option (InTable K g) → Option ℕ → Type 0
+IsPlacedRow cmp source lists None place = place ≡ None
+IsPlacedRow cmp source lists (Some here) place = IsInTable cmp source lists here.index here.cursor.number here.cursor.table.value.frame here.cursor.here place
+
+abbrev pub table_stands : {K : Type 0} {g : _} → Option (InTable K g) → Bool
+table_stands None = false
+table_stands (Some here) = block_stands here.cursor.here
+
+-- A cursor with this table open, over a row of these tables, is this list and this place.
+pub record ListsTables {K : Type 0} {g : _} (cmp : Cmp) (source : Seen) (row : List PlacedTable) (here : Option (InTable K g)) (at : Listed) : Type 0 where
+  pub lists : List (List InternalEntry)
+  pub sound : IsSound cmp source
+  pub tables : HaveLists cmp source row lists
+  pub entries_are : at.entries ≡ joined lists
+  pub rises : Rises cmp at.entries
+  pub inside : (index : ℕ) → at.place ≡ Some index → index < length at.entries
+  pub place : IsPlacedRow cmp source lists here at.place
+
+-- the second source has the same table where one is open
+abbrev pub KeepsOpen : {K : Type 0} {g : _} → Cmp → Option (InTable K g) → Seen → Seen → Type 0
+KeepsOpen cmp None old new = Unit {0}
+KeepsOpen cmp (Some here) old new = KeepsTable cmp here.cursor.number old new
+
+-- The second source has the same tables, and what it keeps is right where that of the first is.
+pub record KeepsTables {K : Type 0} {g : _} (cmp : Cmp) (row : List PlacedTable) (open_one : Option (InTable K g)) (old new : Seen) : Type 0 where
+  pub same : (placed : PlacedTable) → Contains row placed → table_at new.facts.files placed.table.number ≡ table_at old.facts.files placed.table.number
+  pub sound : IsSound cmp old → IsSound cmp new
+  pub here : KeepsOpen cmp open_one old new
+
+-- One of the tables passes a limit of reading, whatever file it is.
+abbrev pub IsOneLimited : Cmp → Seen → List PlacedTable → Type 0
+IsOneLimited cmp source row = (placed : PlacedTable) × Contains row placed × ((file : List ℕ) → HasTable cmp source placed.table.number file → IsPastLimit cmp file)
+
+-- one of these tables has this number
+abbrev pub HasNumber : List PlacedTable → ℕ → Type 0
+HasNumber tables number = (placed : PlacedTable) × Contains tables placed × (placed.table.number ≡ number)
+
+-- the table that is open has it
+abbrev pub IsOpenNumber : {K : Type 0} {g : _} → Option (InTable K g) → ℕ → Type 0
+IsOpenNumber None number = ⊥
+IsOpenNumber (Some here) number = here.cursor.number ≡ number
+
+abbrev pub IsOpenLimited : {K : Type 0} {g : _} → Option (InTable K g) → Type 0
+IsOpenLimited None = ⊥
+IsOpenLimited (Some here) = AnyLong (handles here.cursor.table.value.frame)

@@ -1,0 +1,60 @@
+-- Searches over the tables of a row.
+use Rattle.std.specs.Prelude.{◌≡◌, ◌≤◌, ℕ, suc, Bool, false, List, Option, None, Some, Contains, Result, Ok, Err, length, slice_get, option_and_then}
+use Rattle.cursor.specs.Places.{Cmp, index_before, index_behind, is_below, within}
+use Rattle.edits.specs.declared.field.PlacedTable.{PlacedTable}
+use Rattle.ikey.specs.Below.{IsBelowInternal}
+use Rattle.ikey.specs.Entries.{InternalEntry}
+use Rattle.ikey.specs.Keys.{Key, IsKey}
+use Rattle.level_cursor.specs.declared.in_table.InTable.{InTable}
+use Rattle.level_cursor.specs.declared.row_search.Aim.{Aim}
+use Rattle.level_cursor.specs.declared.row_search.Aim.TheVariants.{First, From}
+use Rattle.coding.specs.declared.error.DbError.{DbError}
+use Rattle.level_cursor.specs.InRows.{IsPlacedRow, entries_before, joined}
+use Rattle.table_access.specs.Tables.{Seen, IsOpen, SaysOf}
+use Rattle.table.specs.Frame.{Frame}
+
+-- what a search looks for: the first entry, or the first that doesn't come before a key
+abbrev pub passes : Cmp → Option Key → InternalEntry → Bool
+passes cmp None entry = false
+passes cmp (Some key) entry = is_below cmp key entry
+
+abbrev pub IsAimed : Aim → Option Key → Type 0
+IsAimed First None = Unit {0}
+IsAimed (From target) (Some key) = IsKey target.now key
+IsAimed aim goal = ⊥
+
+-- the table that is open is one of the row's, and what is open is its frame
+pub record IsOneOf (cmp : Cmp) (old new : Seen) (row : List PlacedTable) (number : ℕ) (frame : Frame) : Type 0 where
+  pub placed : PlacedTable
+  pub there : Contains row placed
+  pub number_is : number ≡ placed.table.number
+  pub open_is : SaysOf cmp old new number (λ file. IsOpen cmp file frame)
+
+-- all tables in front of this index end below the target, and the one there doesn't
+pub record IsFirstTable (cmp : Cmp) (target : List ℕ) (row : List PlacedTable) (start : ℕ) : Type 0 where
+  pub inside : start ≤ length row
+  pub front : (k : ℕ) (placed : PlacedTable) → start ≡ suc k → slice_get row k ≡ Some placed → IsBelowInternal cmp placed.table.largest target
+  pub here : (placed : PlacedTable) → slice_get row start ≡ Some placed → IsBelowInternal cmp placed.table.largest target → ⊥
+
+-- ---- steps within a table
+
+-- the same table is open
+abbrev pub IsSameTable : {K : Type 0} {g : _} → Option (InTable K g) → Option (InTable K g) → Type 0
+IsSameTable None None = Unit {0}
+IsSameTable (Some old) (Some new) = (new.cursor.number ≡ old.cursor.number) × (new.cursor.table.value.frame ≡ old.cursor.table.value.frame)
+IsSameTable old new = ⊥
+
+-- It has gone on to the entry behind; or it stays, and the entry behind is the first from this table on, or it was refused.
+abbrev pub StepsOn : {K : Type 0} {g : _} → Cmp → Seen → List (List InternalEntry) → Option (InTable K g) → Option ℕ → Result (Option ℕ) DbError → Type 0
+StepsOn cmp source lists new place (Ok None) = IsPlacedRow cmp source lists new (option_and_then (index_behind (joined lists)) place)
+StepsOn cmp source lists new place (Ok (Some start)) =
+    IsPlacedRow cmp source lists new place × (start ≤ length lists) × (within (joined lists) (entries_before lists start) ≡ option_and_then (index_behind (joined lists)) place)
+StepsOn cmp source lists new place (Err error) = IsPlacedRow cmp source lists new place
+
+-- It has gone back to the entry in front; or it stays, and the entry in front is the last of the tables in front of this
+-- one, or it was refused.
+abbrev pub StepsBack : {K : Type 0} {g : _} → Cmp → Seen → List (List InternalEntry) → Option (InTable K g) → Option ℕ → Result (Option ℕ) DbError → Type 0
+StepsBack cmp source lists new place (Ok None) = IsPlacedRow cmp source lists new (option_and_then index_before place)
+StepsBack cmp source lists new place (Ok (Some end)) =
+    IsPlacedRow cmp source lists new place × (end ≤ length lists) × (index_before (entries_before lists end) ≡ option_and_then index_before place)
+StepsBack cmp source lists new place (Err error) = IsPlacedRow cmp source lists new place

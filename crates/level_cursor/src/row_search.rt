@@ -1,0 +1,183 @@
+//! Searches over the tables of a row (LevelDB's table/two_level_iterator.cc, SkipEmptyDataBlocksForward and its counterpart).
+
+ghost use Rattle.std.specs.Prelude.{◌≡◌, ◌<◌, ◌≤◌, ◌^◌, ◌+◌, ℕ, List, Option, None, Some, drop, length, slice_get, IsTrue, IfSome, IfOk, IfErr};
+ghost use Rattle.cursor.specs.Merging.{ahead, listed};
+ghost use Rattle.cursor.specs.Moves.{Refuses};
+ghost use Rattle.cursor.specs.Places.{index_before, leading, within};
+ghost use Rattle.ikey.specs.Entries.{InternalEntry};
+ghost use Rattle.ikey.specs.Keys.{Key};
+ghost use Rattle.level_cursor.specs.InRows.{HasList, HasNumber, HaveLists, IsOneLimited, IsPlacedRow, entries_before, joined};
+ghost use Rattle.level_cursor.specs.Searches.{IsAimed, IsFirstTable, IsOneOf, passes};
+ghost use Rattle.table_access.specs.TablePlaces.{ListsTable};
+ghost use Rattle.table_access.specs.Tables.{Carries, HasTable, IsOpen, Only, SaysOf, seen};
+ghost use Rattle.table_access.specs.Values.{IsPastLimit};
+ghost use Rattle.table.specs.Reading.{IsStill};
+
+use crate::in_table::InTable;
+use coding::{Damage, DbError, FileKind};
+use cursor::Cursor;
+use edits::PlacedTable;
+use ikey::{EntryOrder, Internal, KeyOrder};
+use std::alloc::Global;
+use store::Store;
+use table_access::{TableCursor, Tables};
+
+/// What a search on looks for.
+#[derive(Clone, Copy)]
+pub enum Aim<'a> {
+    /// The first entry.
+    First,
+    /// The first entry whose internal key isn't below this one.
+    From(&'a [u8]),
+}
+
+/// Looks on from a table for an entry: the table that has it, and a cursor there. Corrupt, where the source hasn't these
+/// tables; Unsupported, where one passes a limit of reading.
+pub fn search_on<K: KeyOrder, S: Store>(
+    alloc: Global,
+    source: &mut Tables<K, S>,
+    row: &[PlacedTable],
+    start: usize,
+    aim: Aim<'_>,
+) -> Result<Option<InTable<K>>, DbError>
+    ensures carries { Carries K.cmp (HasNumber row.now) (seen (S.facts source.old.store) source.old.tables source.old.blocks) (seen (S.facts source.new.store) source.new.tables source.new.blocks) }
+    ensures found { IfOk result (λ here. IsTrue (S.facts source.new.store).faithful → (lists : List (List InternalEntry)) → HaveLists K.cmp (seen (S.facts source.old.store) source.old.tables source.old.blocks) row.now lists
+        → (goal : Option Key) → IsAimed aim.entry goal
+        → IsPlacedRow K.cmp (seen (S.facts source.new.store) source.new.tables source.new.blocks) lists here (within (joined lists) (entries_before lists start + leading (passes K.cmp goal) (joined (drop start lists))))) }
+    ensures opened { IfOk result (λ here. IfSome here (λ found. IsOneOf K.cmp (seen (S.facts source.old.store) source.old.tables source.old.blocks) (seen (S.facts source.new.store) source.new.tables source.new.blocks) row.now found.cursor.number found.cursor.table.value.frame)) }
+    ensures still { IsStill (S.facts source.old.store) (S.facts source.new.store) result }
+    ensures refused { IfErr result (λ e. Refuses e (S.facts source.old.store) (S.facts source.new.store)
+        ((lists : List (List InternalEntry)) (goal : Option Key) → HaveLists K.cmp (seen (S.facts source.old.store) source.old.tables source.old.blocks) row.now lists → IsAimed aim.entry goal → ⊥)
+        (IsOneLimited K.cmp (seen (S.facts source.old.store) source.old.tables source.old.blocks) row.now)) }
+{
+    for index in start..row.len() {
+        let cursor = enter(alloc, source, &row[index], aim)?;
+        if Cursor::<K, Tables<K, S>>::stands(&cursor) {
+            return Ok(Some(InTable { index, cursor }));
+        }
+    }
+    Ok(None)
+}
+
+/// Looks for the last entry of the tables in front of one. Corrupt and Unsupported as `search_on`.
+pub fn search_back<K: KeyOrder, S: Store>(
+    alloc: Global,
+    source: &mut Tables<K, S>,
+    row: &[PlacedTable],
+    end: usize,
+) -> Result<Option<InTable<K>>, DbError>
+    ensures carries { Carries K.cmp (HasNumber row.now) (seen (S.facts source.old.store) source.old.tables source.old.blocks) (seen (S.facts source.new.store) source.new.tables source.new.blocks) }
+    ensures found { IfOk result (λ here. IsTrue (S.facts source.new.store).faithful → (lists : List (List InternalEntry)) → HaveLists K.cmp (seen (S.facts source.old.store) source.old.tables source.old.blocks) row.now lists
+        → end ≤ length lists → IsPlacedRow K.cmp (seen (S.facts source.new.store) source.new.tables source.new.blocks) lists here (index_before (entries_before lists end))) }
+    ensures opened { IfOk result (λ here. IfSome here (λ found. IsOneOf K.cmp (seen (S.facts source.old.store) source.old.tables source.old.blocks) (seen (S.facts source.new.store) source.new.tables source.new.blocks) row.now found.cursor.number found.cursor.table.value.frame)) }
+    ensures still { IsStill (S.facts source.old.store) (S.facts source.new.store) result }
+    ensures refused { IfErr result (λ e. Refuses e (S.facts source.old.store) (S.facts source.new.store)
+        ((lists : List (List InternalEntry)) → HaveLists K.cmp (seen (S.facts source.old.store) source.old.tables source.old.blocks) row.now lists → end ≤ length lists → ⊥)
+        (IsOneLimited K.cmp (seen (S.facts source.old.store) source.old.tables source.old.blocks) row.now)) }
+{
+    for step in 0..end {
+        let index = end - step - 1;
+        let Some(placed) = row.get(index) else {
+            return Err(DbError::Corrupt(FileKind::Table, Damage::Missing));
+        };
+        let cursor = leave(alloc, source, placed)?;
+        if Cursor::<K, Tables<K, S>>::stands(&cursor) {
+            return Ok(Some(InTable { index, cursor }));
+        }
+    }
+    Ok(None)
+}
+
+/// The index of the first table that doesn't end below the key, an internal one (LevelDB's db/version_set.cc, FindFile).
+/// Where the tables lie in no row it is some index.
+pub fn first_table<K: KeyOrder>(row: &[PlacedTable], target: &[u8]) -> usize
+    ensures { IsFirstTable K.cmp target.now row.now result }
+{
+    let mut low = 0;
+    let mut high = row.len();
+    while low < high {
+        let middle = low + (high - low) / 2;
+        if Internal::<K>::is_below(row[middle].table.largest.as_slice(), target) {
+            low = middle + 1;
+        } else {
+            high = middle;
+        }
+    }
+    low
+}
+
+// A cursor on the first entry of a table that isn't passed, or nowhere.
+fn enter<K: KeyOrder, S: Store>(
+    alloc: Global,
+    source: &mut Tables<K, S>,
+    placed: &PlacedTable,
+    aim: Aim<'_>,
+) -> Result<TableCursor<K>, DbError>
+    ensures carries { Carries K.cmp (Only placed.now.table.number) (seen (S.facts source.old.store) source.old.tables source.old.blocks) (seen (S.facts source.new.store) source.new.tables source.new.blocks) }
+    ensures number { IfOk result (λ cursor. cursor.number ≡ placed.now.table.number) }
+    ensures opened { IfOk result (λ cursor. SaysOf K.cmp (seen (S.facts source.old.store) source.old.tables source.old.blocks) (seen (S.facts source.new.store) source.new.tables source.new.blocks) placed.now.table.number (λ file. IsOpen K.cmp file cursor.table.value.frame)) }
+    ensures found { IfOk result (λ cursor. IsTrue (S.facts source.new.store).faithful → (list : List InternalEntry) → HasList K.cmp (seen (S.facts source.old.store) source.old.tables source.old.blocks) placed.now list → (goal : Option Key) → IsAimed aim.entry goal
+        → ListsTable K.cmp (seen (S.facts source.new.store) source.new.tables source.new.blocks) cursor.number cursor.table.value.frame cursor.here (listed list (ahead (passes K.cmp goal) list))) }
+    ensures still { IsStill (S.facts source.old.store) (S.facts source.new.store) result }
+    ensures refused { IfErr result (λ e. Refuses e (S.facts source.old.store) (S.facts source.new.store)
+        ((list : List InternalEntry) (goal : Option Key) → HasList K.cmp (seen (S.facts source.old.store) source.old.tables source.old.blocks) placed.now list → IsAimed aim.entry goal → ⊥)
+        ((file : List ℕ) → HasTable K.cmp (seen (S.facts source.old.store) source.old.tables source.old.blocks) placed.now.table.number file → IsPastLimit K.cmp file)) }
+{
+    let mut cursor = open(alloc, source, placed)?;
+    match aim {
+        Aim::First => {
+            cursor.to_first(alloc, source)?;
+            Ok(cursor)
+        }
+        Aim::From(target) => {
+            cursor.to_key(alloc, source, target)?;
+            Ok(cursor)
+        }
+    }
+}
+
+// A cursor on the last entry of a table.
+fn leave<K: KeyOrder, S: Store>(
+    alloc: Global,
+    source: &mut Tables<K, S>,
+    placed: &PlacedTable,
+) -> Result<TableCursor<K>, DbError>
+    ensures carries { Carries K.cmp (Only placed.now.table.number) (seen (S.facts source.old.store) source.old.tables source.old.blocks) (seen (S.facts source.new.store) source.new.tables source.new.blocks) }
+    ensures number { IfOk result (λ cursor. cursor.number ≡ placed.now.table.number) }
+    ensures opened { IfOk result (λ cursor. SaysOf K.cmp (seen (S.facts source.old.store) source.old.tables source.old.blocks) (seen (S.facts source.new.store) source.new.tables source.new.blocks) placed.now.table.number (λ file. IsOpen K.cmp file cursor.table.value.frame)) }
+    ensures found { IfOk result (λ cursor. IsTrue (S.facts source.new.store).faithful → (list : List InternalEntry) → HasList K.cmp (seen (S.facts source.old.store) source.old.tables source.old.blocks) placed.now list
+        → ListsTable K.cmp (seen (S.facts source.new.store) source.new.tables source.new.blocks) cursor.number cursor.table.value.frame cursor.here (listed list (index_before (length list)))) }
+    ensures still { IsStill (S.facts source.old.store) (S.facts source.new.store) result }
+    ensures refused { IfErr result (λ e. Refuses e (S.facts source.old.store) (S.facts source.new.store)
+        ((list : List InternalEntry) → HasList K.cmp (seen (S.facts source.old.store) source.old.tables source.old.blocks) placed.now list → ⊥)
+        ((file : List ℕ) → HasTable K.cmp (seen (S.facts source.old.store) source.old.tables source.old.blocks) placed.now.table.number file → IsPastLimit K.cmp file)) }
+{
+    let mut cursor = open(alloc, source, placed)?;
+    cursor.to_last(alloc, source)?;
+    Ok(cursor)
+}
+
+// A cursor over a table of the row, which stands nowhere.
+fn open<K: KeyOrder, S: Store>(
+    alloc: Global,
+    source: &mut Tables<K, S>,
+    placed: &PlacedTable,
+) -> Result<TableCursor<K>, DbError>
+    ensures carries { Carries K.cmp (Only placed.now.table.number) (seen (S.facts source.old.store) source.old.tables source.old.blocks) (seen (S.facts source.new.store) source.new.tables source.new.blocks) }
+    ensures number { IfOk result (λ cursor. cursor.number ≡ placed.now.table.number) }
+    ensures opened { IfOk result (λ cursor. SaysOf K.cmp (seen (S.facts source.old.store) source.old.tables source.old.blocks) (seen (S.facts source.new.store) source.new.tables source.new.blocks) placed.now.table.number (λ file. IsOpen K.cmp file cursor.table.value.frame)) }
+    ensures found { IfOk result (λ cursor. IsTrue (S.facts source.new.store).faithful → (list : List InternalEntry) → HasList K.cmp (seen (S.facts source.old.store) source.old.tables source.old.blocks) placed.now list
+        → ListsTable K.cmp (seen (S.facts source.new.store) source.new.tables source.new.blocks) cursor.number cursor.table.value.frame cursor.here (listed list None)) }
+    ensures still { IsStill (S.facts source.old.store) (S.facts source.new.store) result }
+    ensures refused { IfErr result (λ e. Refuses e (S.facts source.old.store) (S.facts source.new.store)
+        ((list : List InternalEntry) → HasList K.cmp (seen (S.facts source.old.store) source.old.tables source.old.blocks) placed.now list → ⊥)
+        ((file : List ℕ) → HasTable K.cmp (seen (S.facts source.old.store) source.old.tables source.old.blocks) placed.now.table.number file → IsPastLimit K.cmp file)) }
+{
+    let number = placed.table.number;
+    // No file has the number 0, and the caches aren't asked for it.
+    if number == 0 {
+        return Err(DbError::Corrupt(FileKind::Table, Damage::Missing));
+    }
+    let cursor = TableCursor::open(alloc, source, number)?;
+    Ok(cursor)
+}

@@ -1,6 +1,0 @@
-use Rattle.sources.specs.Tables.{seen}
-use Rattle.rows.proofs.Searching.{IsSearchingBack}
-use Rattle.rows.proofs.row_search.search_back.Given as goal
-
-abbrev pub invariant-loop-step : goal.invariant-loop-step
-invariant-loop-step g l = IsSearchingBack g.K.KeyOrder.cmp (seen (g.S.Store.facts l.initial.source.store) l.initial.source.tables l.initial.source.blocks) (seen (g.S.Store.facts l.source.store) l.source.tables l.source.blocks) l.row l.end l.step

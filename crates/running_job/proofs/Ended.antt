@@ -1,0 +1,58 @@
+-- A job that is ended.
+use Rattle.std.proofs.Common.{◌≡◌, ◌≤◌, ◌^◌, ℕ, IfErr, List, Err, Ok, Result, map, subst}
+use Rattle.std.proofs.lemmas.List.{append-nil}
+use Rattle.coding.specs.declared.error.DbError.TheVariants.{Corrupt, Io, NumbersSpent, OutOfMemory, Unsupported}
+use Rattle.compact.specs.Merging.{IsMerging}
+use Rattle.edits.specs.declared.field.PlacedTable.{PlacedTable}
+use Rattle.ikey.specs.declared.key_order.KeyOrder.{Ghosts}
+use Rattle.ikey.specs.Entries.{InternalEntry, entry_of}
+use Rattle.ikey.specs.Orders.{Order}
+use Rattle.ikey.specs.Sources.{SameEntries}
+use Rattle.running_job.specs.declared.open_job.OpenJob.{OpenJob}
+use Rattle.running_job.specs.Ending.{CanEnd, EndLeaves, RefusesEnd}
+use Rattle.running_job.specs.Running.{deep_of}
+use Rattle.recover.specs.Directory.{Directory}
+use Rattle.recover.specs.Tables.{tabled}
+use Rattle.db_cursor.specs.Whole.{Whole}
+use Rattle.store.specs.Files.{Facts}
+use Rattle.directory_writes.specs.declared.flush.FlushError.{FlushError}
+use Rattle.directory_writes.specs.declared.flush.FlushError.TheVariants.{Before, Edit}
+use Rattle.directory_writes.specs.declared.install.Installed.{Installed}
+use Rattle.directory_writes.specs.declared.manifest.CurrentManifest.{CurrentManifest}
+use Rattle.directory_writes.specs.Install.{CanInstall, InstallLeaves, IsServed, RefusesInstall}
+
+module _ {K : Type 0} {g : Ghosts K} (order : Order) (work : OpenJob K g) (old : Facts) (next last_sequence : ℕ) (manifest : CurrentManifest) (tables : List PlacedTable) where
+  -- a job that can be ended can be installed
+  pub installable : next ≤ 2 ^ 62 → (whole : Whole) (d : Directory) (came : List InternalEntry) → whole.seen.facts ≡ old → (can : CanEnd order whole next last_sequence manifest tables d work came)
+      → CanInstall order (deep_of order.cmp work) work.job old next last_sequence manifest tables came d can.running.inputs can.running.rest
+  installable few whole d came is can =
+      let r = can.running in
+      record {
+        served = subst (λ (facts : Facts). IsServed order facts.files next manifest tables d) is can.served;
+        parted = r.planned.parted;
+        planned = r.planned.planned;
+        positive = r.planned.positive;
+        replaceable = r.planned.replaceable;
+        merging = subst (λ (facts : Facts). IsMerging order.cmp (deep_of order.cmp work) work.job.last.items work.job.selection work.job.outputs facts next came) is r.merging;
+        all_came = subst (λ (entries : List InternalEntry). SameEntries (map entry_of entries) (tabled r.inputs)) (append-nil came) r.entries;
+        unused = r.unused;
+        few = few;
+        used = can.used;
+      }
+
+  pub leaves_end : next ≤ 2 ^ 62 → (new : Facts) (result : Result (Installed K) FlushError) → InstallLeaves order work.job old new next last_sequence manifest tables result
+      → EndLeaves order old new next last_sequence manifest tables work result
+  leaves_end few new result leaves t whole d came is can = leaves t (deep_of order.cmp work) came d can.running.inputs can.running.rest (installable few whole d came is can)
+
+  pub refuses_end : next ≤ 2 ^ 62 → (new : Facts) (result : Result (Installed K) FlushError) → InstallLeaves order work.job old new next last_sequence manifest tables result
+      → IfErr result (λ e. RefusesInstall e order.cmp work.job old new next last_sequence tables) → IfErr result (λ e. RefusesEnd order old new next last_sequence manifest tables work e)
+  refuses_end few new (Ok done) leaves why = tt
+  refuses_end few new (Err Edit) leaves why = why
+  refuses_end few new (Err (Before OutOfMemory)) leaves why = why
+  refuses_end few new (Err (Before Io)) leaves why = why
+  refuses_end few new (Err (Before (Corrupt file what))) leaves why = λ t whole d came is can.
+      (leaves t (deep_of order.cmp work) came d can.running.inputs can.running.rest (installable few whole d came is can)).0 tt
+  refuses_end few new (Err (Before (Unsupported what))) leaves why = λ t whole d came is can.
+      why (deep_of order.cmp work) came (installable few whole d came is can).merging
+  refuses_end few new (Err (Before NumbersSpent)) leaves why = absurd why
+  refuses_end few new (Err (Before _)) leaves why = absurd why

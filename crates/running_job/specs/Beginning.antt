@@ -1,0 +1,40 @@
+-- What the beginning of a compaction answers.
+use Rattle.std.specs.Prelude.{ℕ, List, [], IsTrue}
+use Rattle.coding.specs.declared.error.DbError.{DbError}
+use Rattle.compact.specs.Merging.{AreDisjoint}
+use Rattle.compact.specs.Outputs.{IsToCome, RefusesEntry}
+use Rattle.edits.specs.declared.field.PlacedTable.{PlacedTable}
+use Rattle.ikey.specs.Entries.{InternalEntry}
+use Rattle.ikey.specs.Orders.{Order}
+use Rattle.running_job.specs.declared.open_job.OpenJob.{OpenJob}
+use Rattle.running_job.specs.Running.{IsRunning}
+use Rattle.recover.specs.Directory.{Directory, IsConsistent}
+use Rattle.recover.specs.Numbers.{IsFree}
+use Rattle.db_cursor.specs.Scans.{IsOnePastLimit}
+use Rattle.db_cursor.specs.Whole.{Whole}
+use Rattle.table_access.specs.Tables.{IsSound, KeepsOf}
+use Rattle.directory_writes.specs.Compactions.{placed_in}
+use Rattle.versions.specs.declared.plan.JobPlan.{JobPlan}
+use Rattle.versions.specs.Levels.{Lists}
+
+-- The files are this directory, whose tables the version lists; what is kept of tables is right, and nothing is kept of one that is
+-- still to come; no number from `next` on is taken.
+pub record CanBegin (order : Order) (whole : Whole) (next : ℕ) (tables : List PlacedTable) (d : Directory) : Type 0 where
+  pub consistent : IsConsistent order whole.seen.facts.files d
+  pub listed : Lists (placed_in d.tables) tables
+  pub sound : IsSound order.cmp whole.seen
+  pub unkept : AreDisjoint (KeepsOf whole.seen) (IsToCome next)
+  pub free : IsFree order whole.seen.facts.files next
+
+-- So a job is under way to which nothing came.
+abbrev pub BeginsJob : {K : Type 0} {g : _} → Order → List PlacedTable → Whole → Whole → OpenJob K g → Type 0
+BeginsJob order tables old new work = IsTrue new.seen.facts.faithful → (next : ℕ) (d : Directory) → CanBegin order old next tables d
+    → (left : List InternalEntry) × IsRunning order new next d work [] left
+
+-- Why it isn't begun: out of memory, while no call of the store failed; since the store failed; never as Corrupt over such a
+-- directory; and as Unsupported only where the file of an input passes a limit of reading.
+abbrev pub RefusesBegin : Order → List PlacedTable → JobPlan → Whole → Whole → DbError → Type 0
+RefusesBegin order tables plan old new e = RefusesEntry e old.seen.facts new.seen.facts
+    (IsTrue new.seen.facts.faithful → (next : ℕ) (d : Directory) → CanBegin order old next tables d → ⊥)
+    (IsTrue new.seen.facts.faithful → (next : ℕ) (d : Directory) → CanBegin order old next tables d → IsOnePastLimit order.cmp plan.inputs.items old)
+    ⊥

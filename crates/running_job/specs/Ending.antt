@@ -1,0 +1,38 @@
+-- What the end of a compaction answers.
+use Rattle.std.specs.Prelude.{◌≡◌, ◌<◌, ◌^◌, ℕ, List, [], IsTrue, Result, map}
+use Rattle.compact.specs.Outputs.{RefusesEntry}
+use Rattle.compact.specs.Rooms.{AreLarge}
+use Rattle.edits.specs.declared.field.PlacedTable.{PlacedTable}
+use Rattle.ikey.specs.Entries.{InternalEntry, entry_of}
+use Rattle.ikey.specs.Orders.{Order}
+use Rattle.running_job.specs.declared.open_job.OpenJob.{OpenJob}
+use Rattle.running_job.specs.Running.{IsRunning, deep_of}
+use Rattle.recover.specs.Directory.{Directory, used_in}
+use Rattle.db_cursor.specs.Whole.{Whole}
+use Rattle.store.specs.Files.{Facts}
+use Rattle.directory_writes.specs.declared.flush.FlushError.{FlushError}
+use Rattle.directory_writes.specs.declared.flush.FlushError.TheVariants.{Before, Edit}
+use Rattle.directory_writes.specs.declared.install.Installed.{Installed}
+use Rattle.directory_writes.specs.declared.manifest.CurrentManifest.{CurrentManifest}
+use Rattle.directory_writes.specs.Install.{InstallMeans, IsServed}
+
+-- The directory is served by these parts, and all entries of the inputs came to the job that is under way over it.
+pub record CanEnd {K : Type 0} {g : _} (order : Order) (whole : Whole) (next last_sequence : ℕ) (manifest : CurrentManifest) (tables : List PlacedTable) (d : Directory) (work : OpenJob K g) (came : List InternalEntry) : Type 0 where
+  pub served : IsServed order whole.seen.facts.files next manifest tables d
+  pub running : IsRunning order whole next d work came []
+  pub used : last_sequence ≡ used_in d
+
+-- Then what the end leaves is that of its inputs and the rest, as the job has them.
+abbrev pub EndLeaves : {K : Type 0} {g : _} → Order → Facts → Facts → ℕ → ℕ → CurrentManifest → List PlacedTable → OpenJob K g → Result (Installed K) FlushError → Type 0
+EndLeaves order old new next last_sequence manifest tables work result =
+    IsTrue new.faithful → (whole : Whole) (d : Directory) (came : List InternalEntry) → whole.seen.facts ≡ old → (can : CanEnd order whole next last_sequence manifest tables d work came)
+    → InstallMeans order (deep_of order.cmp work) work.job old.files new.files next manifest tables came d can.running.inputs can.running.rest result
+
+-- Why it isn't ended: out of memory, while no call of the store failed; since the store failed; never as Corrupt over such a
+-- directory; as Unsupported only where the inputs' entries are large; or where numbers are above 2^62.
+abbrev pub RefusesEnd : {K : Type 0} {g : _} → Order → Facts → Facts → ℕ → ℕ → CurrentManifest → List PlacedTable → OpenJob K g → FlushError → Type 0
+RefusesEnd order old new next last_sequence manifest tables work (Before e) = RefusesEntry e old new
+    (IsTrue new.faithful → (whole : Whole) (d : Directory) (came : List InternalEntry) → whole.seen.facts ≡ old → CanEnd order whole next last_sequence manifest tables d work came → ⊥)
+    (IsTrue new.faithful → (whole : Whole) (d : Directory) (came : List InternalEntry) → whole.seen.facts ≡ old → CanEnd order whole next last_sequence manifest tables d work came → AreLarge (map entry_of came))
+    (2 ^ 62 < next)
+RefusesEnd order old new next last_sequence manifest tables work Edit = old.failures < new.failures

@@ -1,0 +1,63 @@
+-- A compaction that is under way over what an open database reads (LevelDB's db/db_impl.cc, CompactionState).
+use Rattle.std.specs.Prelude.{◌≡◌, ◌≤◌, ◌-◌, ◌^◌, ℕ, Bool, List, ◌++◌, length, map, min}
+use Rattle.compact.specs.Deeper.{is_covered_below}
+use Rattle.compact.specs.Merging.{AreDisjoint, HasPassed, HaveOwnSequences, IsMerging}
+use Rattle.compact.specs.Outputs.{AreNumbered, IsMine, IsOpen}
+use Rattle.cursor.specs.Places.{Cmp}
+use Rattle.ikey.specs.Entries.{InternalEntry, entry_of}
+use Rattle.ikey.specs.Orders.{Order}
+use Rattle.ikey.specs.Sources.{SameEntries}
+use Rattle.running_job.specs.declared.open_job.OpenJob.{OpenJob}
+use Rattle.recover.specs.Directory.{Directory}
+use Rattle.recover.specs.Tables.{TableContent, tabled}
+use Rattle.level_cursor.specs.InRows.{HasNumber}
+use Rattle.db_cursor.specs.Inputs.{IsMergeLimited, ReadsNoMemory}
+use Rattle.db_cursor.specs.Places.{OneGoesOver}
+use Rattle.db_cursor.specs.Scans.{IsOnePastLimit, ListsMerged}
+use Rattle.db_cursor.specs.Whole.{Whole}
+use Rattle.table_access.specs.Tables.{KeepsOf}
+use Rattle.directory_writes.specs.JobWrites.{OwnsNone}
+use Rattle.directory_writes.specs.Planned.{IsPlanned}
+
+-- the table of this number is one of the inputs
+abbrev pub is_input : {K : Type 0} {g : _} → OpenJob K g → ℕ → Type 0
+is_input work number = HasNumber work.job.plan.inputs.items number
+
+-- its cursor goes over the table of this number
+abbrev pub goes_over : {K : Type 0} {g : _} → OpenJob K g → ℕ → Type 0
+goes_over work number = OneGoesOver work.job.cursor.children.items number
+
+-- the job writes the table of this number now, or may do so later
+abbrev pub is_to_write : {K : Type 0} {g : _} → OpenJob K g → ℕ → ℕ → Type 0
+is_to_write work next number = IsMine work.job.outputs next number
+
+-- the user keys that tables of its version below the output level cover
+abbrev pub deep_of : {K : Type 0} {g : _} → Cmp → OpenJob K g → List ℕ → Bool
+deep_of cmp work = is_covered_below cmp work.job.plan.output_level work.version.value.tables
+
+-- what a counter of 64 bits shows of so many
+abbrev pub shown : ℕ → ℕ
+shown count = min count (2 ^ 64 - 1)
+
+-- The job of a plan for the tables of this directory: of its inputs' entries these came, and what is needed of them is
+-- written; those are left, and its cursor stands on the first of them. No table that it writes is one that it reads, one of
+-- which something is kept beside the store, or one of the directory.
+pub record IsRunning {K : Type 0} {g : _} (order : Order) (whole : Whole) (next : ℕ) (d : Directory) (work : OpenJob K g) (came left : List InternalEntry) : Type 0 where
+  pub inputs : List TableContent
+  pub rest : List TableContent
+  pub planned : IsPlanned order (deep_of order.cmp work) work.job.plan d.tables inputs rest
+  pub entries : SameEntries (map entry_of (came ++ left)) (tabled inputs)
+  pub own_sequences : HaveOwnSequences (came ++ left)
+  pub merging : IsMerging order.cmp (deep_of order.cmp work) work.job.last.items work.job.selection work.job.outputs whole.seen.facts next came
+  pub goes_on : IsOpen work.job.outputs
+  pub stands : HasPassed (ListsMerged order.cmp) work.job.cursor whole came left
+  pub no_memory : ReadsNoMemory order.cmp work.job.cursor
+  pub over : (number : ℕ) → goes_over work number → is_input work number
+  pub outside : AreDisjoint (is_input work) (is_to_write work next)
+  pub unkept : AreDisjoint (KeepsOf whole.seen) (is_to_write work next)
+  pub numbered : AreNumbered work.job.outputs next
+  pub drawn : work.next ≤ next
+  pub counted : work.merged ≡ shown (length came)
+  pub unused : OwnsNone work.job.outputs d.layout.tables.items
+  -- it passes a limit of reading only where the file of an input does
+  pub limits : IsMergeLimited order.cmp work.job.cursor whole → IsOnePastLimit order.cmp work.job.plan.inputs.items whole

@@ -1,0 +1,62 @@
+-- What a step of a compaction answers.
+use Rattle.std.specs.Prelude.{◌≡◌, ◌≤◌, ◌⊎◌, ◌++◌, ◌^◌, ℕ, List, IsTrue, map}
+use Rattle.coding.specs.declared.error.DbError.{DbError}
+use Rattle.compact.specs.declared.job.Progress.{Progress}
+use Rattle.compact.specs.Merging.{IsSlice}
+use Rattle.compact.specs.Outputs.{IsMineUpTo, RefusesEntry, WritesTables}
+use Rattle.compact.specs.Rooms.{AreLarge}
+use Rattle.ikey.specs.Entries.{InternalEntry, entry_of}
+use Rattle.ikey.specs.Orders.{Order}
+use Rattle.running_job.specs.declared.open_job.OpenJob.{OpenJob}
+use Rattle.running_job.specs.Running.{IsRunning, goes_over}
+use Rattle.memtables.specs.Places.{LeavesMemories}
+use Rattle.recover.specs.Directory.{Directory, IsConsistent}
+use Rattle.recover.specs.Numbers.{IsFree}
+use Rattle.db_cursor.specs.Scans.{IsOnePastLimit}
+use Rattle.db_cursor.specs.Whole.{Whole}
+use Rattle.table_access.specs.Tables.{IsSound, KeepsOf}
+use Rattle.directory_writes.specs.JobWrites.{KeepsOtherTables}
+
+-- ---- over any store
+
+-- It writes tables of numbers that are the job's, and no others; the memory tables stay, and what it keeps anew of tables is of
+-- those that its cursor goes over, which are those of before.
+pub record StepTouches {K : Type 0} {g : _} (old new : Whole) (next more : ℕ) (before after : OpenJob K g) : Type 0 where
+  pub writes : WritesTables old.seen.facts new.seen.facts (IsMineUpTo before.job.outputs next more)
+  pub memory : LeavesMemories old.memory new.memory
+  pub gathered : (number : ℕ) → KeepsOf new.seen number → KeepsOf old.seen number ⊎ goes_over before number
+  pub within : (number : ℕ) → goes_over after number → goes_over before number
+
+-- ---- while it is faithful
+
+-- The job is under way over a directory of these parts.
+pub record CanStep {K : Type 0} {g : _} (order : Order) (whole : Whole) (next : ℕ) (d : Directory) (work : OpenJob K g) (came left : List InternalEntry) : Type 0 where
+  pub consistent : IsConsistent order whole.seen.facts.files d
+  pub sound : IsSound order.cmp whole.seen
+  pub free : IsFree order whole.seen.facts.files next
+  pub running : IsRunning order whole next d work came left
+
+-- Whatever the answer, the directory stays, and so do its other tables; what is kept of tables stays right.
+pub record StepKeeps {K : Type 0} {g : _} (order : Order) (old new : Whole) (next more : ℕ) (before : OpenJob K g) (d : Directory) : Type 0 where
+  pub others : KeepsOtherTables order old.seen.facts.files new.seen.facts.files (IsMineUpTo before.job.outputs next more) more d
+  pub sound : IsSound order.cmp new.seen
+
+abbrev pub KeepsDirectory : {K : Type 0} {g : _} → Order → Whole → Whole → ℕ → ℕ → OpenJob K g → Type 0
+KeepsDirectory order old new next more before = IsTrue new.seen.facts.faithful → (d : Directory) (came left : List InternalEntry)
+    → CanStep order old next d before came left → StepKeeps order old new next more before d
+
+-- The job goes on: so many of the entries that were left came.
+abbrev pub GoesOn : {K : Type 0} {g : _} → Order → Whole → Whole → ℕ → ℕ → ℕ → OpenJob K g → OpenJob K g → Progress → Type 0
+GoesOn order old new next more budget before after progress = IsTrue new.seen.facts.faithful → (d : Directory) (came left : List InternalEntry)
+    → CanStep order old next d before came left
+    → (front : List InternalEntry) × (back : List InternalEntry) × (left ≡ front ++ back) × IsSlice budget progress front back
+    × IsRunning order new more d after (came ++ front) back
+
+-- Why it doesn't: out of memory, while no call of the store failed; since the store failed; never as Corrupt; as Unsupported only
+-- where the file of an input passes a limit of reading, or the inputs' entries are large; or since no number is left.
+abbrev pub RefusesStep : {K : Type 0} {g : _} → Order → Whole → Whole → ℕ → ℕ → OpenJob K g → DbError → Type 0
+RefusesStep order old new next more before e = RefusesEntry e old.seen.facts new.seen.facts
+    (IsTrue new.seen.facts.faithful → (d : Directory) (came left : List InternalEntry) → CanStep order old next d before came left → ⊥)
+    (IsTrue new.seen.facts.faithful → (d : Directory) (came left : List InternalEntry) → CanStep order old next d before came left
+    → IsOnePastLimit order.cmp before.job.plan.inputs.items old ⊎ AreLarge (map entry_of (came ++ left)))
+    (2 ^ 62 ≤ more)

@@ -1,0 +1,260 @@
+//! A compaction as one value that lives across calls (LevelDB's db/db_impl.cc, DBImpl::DoCompactionWork).
+
+ghost use Rattle.std.specs.Prelude.{◌<◌, ◌≤◌, ◌^◌, ℕ, IfOk, MatchBool};
+ghost use Rattle.compact.specs.JobEdits.{IsPlanProper};
+ghost use Rattle.compact.specs.Outputs.{AreNumbered};
+ghost use Rattle.ikey.specs.Orders.{order_of};
+ghost use Rattle.running_job.specs.Unique.{IsPlanProper-prop, numbered-prop};
+ghost use Rattle.level_cursor.specs.InRows.{HasNumber};
+ghost use Rattle.db_cursor.specs.Inputs.{BeginsMerge, ReadsNoMemory};
+ghost use Rattle.db_cursor.specs.Places.{OneGoesOver};
+ghost use Rattle.versions.specs.Keeping.{HasNumber as HasTable};
+ghost use Rattle.versions.specs.Levels.{AreInOrder};
+
+use crate::naming::can_be_named;
+use coding::{Damage, DbError, FileKind};
+use compact::{FilesBelow, Job, Progress};
+use cursor::Merge;
+use db_cursor::{SourceCursor, Sources, merge_tables};
+use directory_writes::{
+    CurrentManifest, FlushError, Installed, free_number_law, install_job, job_writes_law,
+    planned_law,
+};
+use edits::{FileNumbers, NUMBER_END, PlacedTable};
+use ikey::KeyOrder;
+use std::alloc::{AllocError, Global};
+use std::rc::Rc;
+use store::Store;
+use table_access::sound_lasts;
+use version_laws::version_of_part;
+use versions::{JobPlan, Version, inputs_in_order};
+
+/// A job over the tables of a plan's inputs, with the version for which the plan was made: its tables below the output level are
+/// those whose keys a delete is kept for.
+#[derive(Drop)]
+pub struct OpenJob<K: KeyOrder> {
+    job: Job<K, Merge<K, SourceCursor<K>>>,
+    version: Rc<Version<K>>,
+    /// The number that was next when the job last drew one: those of its tables are below it. Behind a refusal it is above all
+    /// numbers, so that the job can't go on.
+    next: u64,
+    /// How many entries of its inputs came.
+    merged: u64,
+    /// Outputs have a level.
+    ghost in_range: { (0 < job.plan.output_level) × (job.plan.output_level < 7) },
+    /// An edit can name the tables of the job.
+    ghost numbered: { next ≤ 2 ^ 62 → AreNumbered job.outputs next } by { numbered-prop job.outputs next },
+    /// It can name the plan's tables too.
+    ghost proper: { IsPlanProper job.plan } by { IsPlanProper-prop job.plan },
+}
+
+impl<K: KeyOrder> OpenJob<K> {
+    ghost use Rattle.std.specs.Prelude.{◌≡◌, ◌⊎◌, ◌<◌, ◌≤◌, ◌+◌, ◌^◌, ℕ, [], None, false, IsTrue, max, string_bytes, IfOk, IfErr, OnOk, MatchBool};
+    ghost use Rattle.std.specs.FinMap.{get};
+    ghost use Rattle.compact.specs.Outputs.{IsOwn};
+    ghost use Rattle.std.specs.List.Sorted.{IsNonDecreasing};
+    ghost use Rattle.ikey.specs.Orders.{order_of};
+    ghost use Rattle.running_job.specs.Beginning.{BeginsJob, RefusesBegin};
+    ghost use Rattle.running_job.specs.Ending.{EndLeaves, RefusesEnd};
+    ghost use Rattle.running_job.specs.Running.{goes_over, is_input, shown};
+    ghost use Rattle.running_job.specs.Stepping.{GoesOn, KeepsDirectory, RefusesStep, StepTouches};
+    ghost use Rattle.level_cursor.specs.InRows.{HasNumber};
+    ghost use Rattle.db_cursor.specs.Places.{LeavesSource};
+    ghost use Rattle.db_cursor.specs.Whole.{whole};
+    ghost use Rattle.directory_writes.specs.Install.{HasJobVersion, InstallTouches};
+    ghost use Rattle.versions.specs.Keeping.{HasNumber as HasTable};
+    ghost use Rattle.versions.specs.Plans.{IsPlanOf};
+
+    /// Begins the job of a plan for a version's tables: its cursor stands on the first entry of the inputs, and no table is begun.
+    /// `snapshots` are the sequence numbers whose views are to be kept, rising: those of the live snapshots and the last one used.
+    /// Corrupt where no edit could name the plan's tables.
+    pub fn begin<S: Store>(
+        alloc: Global,
+        source: &mut Sources<K, S>,
+        version: &Rc<Version<K>>,
+        plan: JobPlan,
+        snapshots: &[u64],
+        block_bytes: usize,
+        file_bytes: u64,
+    ) -> Result<Self, DbError>
+        requires rising { IsNonDecreasing snapshots.now }
+        requires plan { IsPlanOf K.cmp version.now.value.tables plan }
+        ensures plan { IfOk result (λ work. work.job.plan ≡ plan) }
+        ensures snapshots { IfOk result (λ work. work.job.selection.snapshots ≡ snapshots.now) }
+        ensures version { IfOk result (λ work. work.version.value ≡ version.now.value) }
+        ensures none { IfOk result (λ work. work.merged ≡ 0) }
+        ensures written { IfOk result (λ work. work.job.outputs ≡ record { closed = []; at_hand = None }) }
+        ensures over { IfOk result (λ work. (number : ℕ) → goes_over work number → is_input work number) }
+        ensures leaves { LeavesSource K.cmp (HasNumber plan.inputs.items)
+            (whole (S.facts source.old.tables.store) source.old.tables.tables source.old.tables.blocks source.old.memory)
+            (whole (S.facts source.new.tables.store) source.new.tables.tables source.new.tables.blocks source.new.memory) }
+        ensures stood { OnOk result ((S.facts source.new.tables.store).failures ≡ (S.facts source.old.tables.store).failures) }
+        ensures refused { IfErr result (λ e. RefusesBegin (order_of K.name K.cmp) version.now.value.tables plan
+            (whole (S.facts source.old.tables.store) source.old.tables.tables source.old.tables.blocks source.old.memory)
+            (whole (S.facts source.new.tables.store) source.new.tables.tables source.new.tables.blocks source.new.memory) e) }
+        ensures begins { IfOk result (λ work. BeginsJob (order_of K.name K.cmp) version.now.value.tables
+            (whole (S.facts source.old.tables.store) source.old.tables.tables source.old.tables.blocks source.old.memory)
+            (whole (S.facts source.new.tables.store) source.new.tables.tables source.new.tables.blocks source.new.memory) work) }
+    {
+        inputs_in_order();
+        planned_law();
+        version_of_part();
+        sound_lasts();
+        // They are in order.
+        let _tables = version.tables();
+        if !can_be_named::<K>(&plan) {
+            return Err(DbError::Corrupt(FileKind::Manifest, Damage::Length));
+        }
+        let cursor = cursor_over(alloc, &plan)?;
+        let version = version.clone()?;
+        let job = Job::start(
+            alloc,
+            source,
+            plan,
+            snapshots,
+            cursor,
+            block_bytes,
+            file_bytes,
+        )?;
+        Ok(OpenJob {
+            job,
+            version,
+            next: 0,
+            merged: 0,
+        })
+    }
+
+    /// Merges so many entries, or one for 0, or all that are left where those are fewer. Corrupt where the numbers are older than
+    /// those of the job. After an `Err` the job is to be given up: the files that it wrote are no part of the directory, and its
+    /// inputs are as they were.
+    pub fn step<S: Store>(
+        &mut self,
+        alloc: Global,
+        source: &mut Sources<K, S>,
+        numbers: &mut FileNumbers,
+        budget: u32,
+    ) -> Result<Progress, DbError>
+        ensures numbers { numbers.old.next ≤ numbers.new.next }
+        ensures drawn { numbers.new.next ≤ numbers.old.next + max budget 1 }
+        ensures drawn_merged { IfOk result (λ progress. numbers.new.next ≤ numbers.old.next + progress.merged) }
+        ensures going_on { IfOk result (λ progress. progress.ended ≡ false → progress.merged ≡ max budget 1) }
+        ensures merged { IfOk result (λ progress. self.new.merged ≡ shown (self.old.merged + progress.merged)) }
+        ensures plan { self.new.job.plan ≡ self.old.job.plan }
+        ensures snapshots { self.new.job.selection.snapshots ≡ self.old.job.selection.snapshots }
+        ensures version { self.new.version ≡ self.old.version }
+        ensures touches { StepTouches
+            (whole (S.facts source.old.tables.store) source.old.tables.tables source.old.tables.blocks source.old.memory)
+            (whole (S.facts source.new.tables.store) source.new.tables.tables source.new.tables.blocks source.new.memory)
+            numbers.old.next numbers.new.next self.old self.new }
+        ensures owns { OnOk result ((number : ℕ) → IsOwn self.new.job.outputs number → IsOwn self.old.job.outputs number ⊎ (numbers.old.next ≤ number)) }
+        ensures stood { OnOk result ((S.facts source.new.tables.store).failures ≡ (S.facts source.old.tables.store).failures) }
+        ensures refused { IfErr result (λ e. RefusesStep (order_of K.name K.cmp)
+            (whole (S.facts source.old.tables.store) source.old.tables.tables source.old.tables.blocks source.old.memory)
+            (whole (S.facts source.new.tables.store) source.new.tables.tables source.new.tables.blocks source.new.memory)
+            numbers.old.next numbers.new.next self.old e) }
+        ensures keeps { KeepsDirectory (order_of K.name K.cmp)
+            (whole (S.facts source.old.tables.store) source.old.tables.tables source.old.tables.blocks source.old.memory)
+            (whole (S.facts source.new.tables.store) source.new.tables.tables source.new.tables.blocks source.new.memory)
+            numbers.old.next numbers.new.next self.old }
+        ensures goes_on { IfOk result (λ progress. GoesOn (order_of K.name K.cmp)
+            (whole (S.facts source.old.tables.store) source.old.tables.tables source.old.tables.blocks source.old.memory)
+            (whole (S.facts source.new.tables.store) source.new.tables.tables source.new.tables.blocks source.new.memory)
+            numbers.old.next numbers.new.next budget self.old self.new progress) }
+    {
+        sound_lasts();
+        job_writes_law();
+        free_number_law();
+        if numbers.next < self.next {
+            return Err(DbError::Corrupt(FileKind::Table, Damage::Number));
+        }
+        let deeper = FilesBelow {
+            version: &*self.version,
+            level: self.job.plan().output_level,
+        };
+        self.next = u64::MAX;
+        let progress = self.job.step(alloc, source, numbers, &deeper, budget)?;
+        self.next = numbers.next;
+        self.merged = self.merged.saturating_add(u64::from(progress.merged));
+        Ok(progress)
+    }
+
+    /// Ends the job once all entries of its inputs came, and puts its edit behind the MANIFEST, so that its outputs are in the
+    /// place of its inputs (see `directory_writes::install_job`). Corrupt where the numbers are older than those of the job or the version
+    /// isn't that of its inputs, and NumbersSpent where they are above 2^62. After a refusal the files that it wrote are no part
+    /// of the directory.
+    pub fn install<S: Store>(
+        self,
+        alloc: Global,
+        store: &mut S,
+        version: &Version<K>,
+        manifest: &CurrentManifest,
+        numbers: &FileNumbers,
+        last_sequence: u64,
+    ) -> Result<Installed<K>, FlushError>
+        requires sequence { last_sequence < 2 ^ 56 }
+        ensures call { InstallTouches (S.facts store.old) (S.facts store.new) self.job.outputs (string_bytes manifest.now.name) }
+        ensures stood { OnOk result ((S.facts store.new).failures ≡ (S.facts store.old).failures) }
+        ensures version { IfOk result (λ installed. HasJobVersion K.cmp self.job.plan self.job.outputs version.now installed.version.value) }
+        ensures synced { OnOk result (IsTrue (S.facts store.new).faithful → (S.facts store.new).synced (string_bytes manifest.now.name) ≡ get (S.facts store.new).files (string_bytes manifest.now.name)) }
+        ensures refused { IfErr result (λ error. RefusesEnd (order_of K.name K.cmp) (S.facts store.old) (S.facts store.new) numbers.now.next last_sequence manifest.now version.now.tables self error) }
+        ensures leaves { EndLeaves (order_of K.name K.cmp) (S.facts store.old) (S.facts store.new) numbers.now.next last_sequence manifest.now version.now.tables self result }
+    {
+        if numbers.next < self.next {
+            return Err(FlushError::Before(DbError::Corrupt(FileKind::Table, Damage::Number)));
+        }
+        if numbers.next > NUMBER_END {
+            return Err(FlushError::Before(DbError::NumbersSpent));
+        }
+        let OpenJob { job, .. } = self;
+        install_job(alloc, store, job, version, manifest, numbers, last_sequence)
+    }
+
+    /// What it compacts.
+    pub fn plan(&self) -> &JobPlan
+        ensures { result.now ≡ self.now.job.plan }
+    {
+        self.job.plan()
+    }
+
+    /// Whether the table of this number is one of the inputs.
+    pub fn reads(&self, number: u64) -> bool
+        ensures { MatchBool result (HasTable number self.now.job.plan.inputs.items) (HasTable number self.now.job.plan.inputs.items → ⊥) }
+    {
+        has_number(&self.job.plan().inputs, number)
+    }
+
+    /// Whether the table of this number is one that the job writes.
+    pub fn writes(&self, number: u64) -> bool
+        ensures { MatchBool result (IsOwn self.now.job.outputs number) (IsOwn self.now.job.outputs number → ⊥) }
+    {
+        self.job.writes(number)
+    }
+}
+
+// A cursor over the entries of a plan's inputs.
+fn cursor_over<K: KeyOrder>(
+    alloc: Global,
+    plan: &JobPlan,
+) -> Result<Merge<K, SourceCursor<K>>, AllocError>
+    requires { AreInOrder K.cmp plan.now.inputs.items }
+    ensures over { IfOk result (λ merge. (number : ℕ) → OneGoesOver merge.children.items number → HasNumber plan.now.inputs.items number) }
+    ensures no_memory { IfOk result (λ merge. ReadsNoMemory K.cmp merge) }
+    ensures begins { IfOk result (λ merge. BeginsMerge (order_of K.name K.cmp) plan.now.inputs.items merge) }
+{
+    let part = Version::over_inputs(alloc, plan)?;
+    let inputs = Rc::new(alloc, part)?;
+    let merge = merge_tables(alloc, &inputs)?;
+    Ok(merge)
+}
+
+// Whether one of these tables has the number.
+fn has_number(tables: &[PlacedTable], number: u64) -> bool
+    ensures { MatchBool result (HasTable number tables.now) (HasTable number tables.now → ⊥) }
+{
+    for placed in tables {
+        if placed.table.number == number {
+            return true;
+        }
+    }
+    false
+}

@@ -1,5 +1,0 @@
-use Rattle.scans.proofs.KeptMerges.{merge_is_kept}
-use Rattle.scans.proofs.inputs.merge_stays.Goals as goal
-
-pub returns : goal.returns
-returns g c = λ merge. merge_is_kept g.K.KeyOrder.cmp merge

@@ -1,5 +1,0 @@
-use Rattle.scans.proofs.ScanSteps.{scan_kept}
-use Rattle.scans.proofs.scan.Scan.stays.Goals as goal
-
-pub returns : goal.returns
-returns g c = scan_kept g.K.KeyOrder.cmp c.args.self.now

@@ -1,5 +1,0 @@
-use Rattle.sources.proofs.Walking.{HasComeBack}
-use Rattle.sources.proofs.memory_cursor.seen_back.Given as goal
-
-abbrev pub invariant-loop : goal.invariant-loop
-invariant-loop g l = HasComeBack g.K.KeyOrder.cmp l.fn.table.inserts l.fn.sequence l.fn.node l.at l.counter

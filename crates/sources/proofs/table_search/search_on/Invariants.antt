@@ -1,8 +1,0 @@
-use Rattle.sources.specs.TablePlaces.{Passed}
-use Rattle.sources.specs.Tables.{seen}
-use Rattle.sources.proofs.Searching.{IsSearching}
-use Rattle.sources.proofs.table_search.search_on.Given as goal
-
-abbrev pub invariant-loop-index : goal.invariant-loop-index
-invariant-loop-index g l = IsSearching g.K.KeyOrder.cmp (Passed g.K.KeyOrder.cmp l.aim) (seen (g.S.Store.facts l.initial.source.store) l.initial.source.tables l.initial.source.blocks)
-    (seen (g.S.Store.facts l.source.store) l.source.tables l.source.blocks) l.number l.table.frame l.start l.index

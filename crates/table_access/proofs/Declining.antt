@@ -1,0 +1,67 @@
+-- Why a look-up in a table is refused, and what it reads.
+use Rattle.std.proofs.Common.{◌≤◌, ℕ, List, length, IsTrue, subst, arith, inl, inr}
+use Rattle.cache.specs.Tables.{RefusesTable}
+use Rattle.coding.specs.declared.error.DbError.{DbError}
+use Rattle.coding.specs.declared.error.DbError.TheVariants.{OutOfMemory, Io, Corrupt, Unsupported}
+use Rattle.cursor.specs.Moves.{Refuses}
+use Rattle.cursor.specs.Places.{Cmp}
+use Rattle.ikey.specs.Entries.{InternalEntry}
+use Rattle.table_access.specs.Tables.{Seen, Carries, HasData, HasTable, IsOpen}
+use Rattle.table_access.specs.Values.{IsNoTable, IsPastLimit}
+use Rattle.table_access.proofs.Carrying.{still_has}
+use Rattle.table_access.proofs.Placing.{data_length}
+use Rattle.table_access.proofs.Searching.{Lacks}
+use Rattle.table.proofs.FrameParts.{one_frame}
+use Rattle.table.specs.Frame.{AnyLong, Frame, IsFrame, handles}
+use Rattle.table.specs.Refusals.{IsFirstPlace, IsFrameDamaged, IsFrameUnsupported}
+use Rattle.table.specs.Table.{IsFilled, IsTable}
+
+-- what an open table's frame holds
+pub filled_of : (cmp : Cmp) (file : List ℕ) (frame : Frame) (entries : List InternalEntry) → IsFrame cmp file frame → IsTable cmp file entries → IsFilled cmp file frame entries
+filled_of cmp file frame entries is table = subst (λ (f : Frame). IsFilled cmp file f entries) (one_frame cmp file table.0 frame table.1 is) table.2
+
+pub data_of : {numbers : ℕ → Type 0} (cmp : Cmp) (old mid : Seen) (number : ℕ) (file : List ℕ) (frame : Frame) (entries : List InternalEntry) → Carries cmp numbers old mid → IsTrue mid.facts.faithful → HasTable cmp old number file → IsOpen cmp file frame
+    → (filled : IsFilled cmp file frame entries) → HasData cmp mid number frame filled.blocks
+data_of cmp old mid number file frame entries carries m has open_is filled = record {
+  file = file;
+  table = still_has cmp old mid number file carries m has;
+  open_is = open_is;
+  data_is = filled.data_is;
+}
+
+pub starts_inside : (cmp : Cmp) (file target : List ℕ) (frame : Frame) (entries : List InternalEntry) (start : ℕ) → IsFirstPlace cmp target frame.places start → (filled : IsFilled cmp file frame entries) → start ≤ length filled.blocks
+starts_inside cmp file target frame entries start first filled =
+    let l = data_length cmp file frame.places filled.blocks filled.data_is in let i = first.inside in omega (arith, l, i)
+
+module _ (cmp : Cmp) (old : Seen) (number : ℕ) where
+  abbrev pub NoTableThere : Type 0
+  NoTableThere = (file : List ℕ) → HasTable cmp old number file → IsNoTable cmp file
+
+  abbrev pub LimitThere : Type 0
+  LimitThere = (file : List ℕ) → HasTable cmp old number file → IsPastLimit cmp file
+
+  pub not_opened : (e : DbError) (new : Seen) → RefusesTable e old.facts new.facts number (IsFrameDamaged cmp) IsFrameUnsupported → Refuses e old.facts new.facts NoTableThere LimitThere
+  not_opened OutOfMemory new h = tt
+  not_opened Io new h = h
+  not_opened (Corrupt kind what) new h = λ t file has entries table. (h t file has.file_is).0 table.0 table.1
+  not_opened (Unsupported what) new h = λ t. inr (λ file has. inl (h t file has.file_is))
+  not_opened e new h = absurd h
+
+  module _ {numbers : ℕ → Type 0} (mid new : Seen) (first_reads : Carries cmp numbers old mid) (second : Carries cmp numbers mid new) (target : List ℕ) (frame : Frame) (start : ℕ) (first : IsFirstPlace cmp target frame.places start)
+      (says : IsTrue mid.facts.faithful → (file : List ℕ) → HasTable cmp old number file → IsOpen cmp file frame) where
+    lacks_table : IsTrue new.facts.faithful → Lacks cmp mid number frame start → NoTableThere
+    lacks_table t lacks file has entries table =
+        let m = second.reads.faithful t in
+        let open_is = says m file has in
+        let filled = filled_of cmp file frame entries open_is.0 table in
+        lacks filled.blocks (data_of cmp old mid number file frame entries first_reads m has open_is filled) (starts_inside cmp file target frame entries start first filled)
+
+    pub not_searched : (e : DbError) → Refuses e mid.facts new.facts (Lacks cmp mid number frame start) (AnyLong (handles frame)) → Refuses e old.facts new.facts NoTableThere LimitThere
+    not_searched OutOfMemory h = tt
+    not_searched Io h = let f = first_reads.reads.failures in omega (arith, f, h)
+    not_searched (Corrupt kind what) h = λ t. lacks_table t (h t)
+    not_searched (Unsupported what) h = λ t. elim (h t) [
+      | inl lacks ↦ inl (lacks_table t lacks)
+      | inr long ↦ inr (λ file has. inr (frame, (says (second.reads.faithful t) file has).0, long))
+    ]
+    not_searched e h = absurd h

@@ -1,0 +1,56 @@
+-- A cursor over a table that was opened.
+use Rattle.std.proofs.Common.{◌≡◌, ℕ, List, [], ◌∷◌, Some, None, IsTrue, refl, sym, ◌∙◌, subst}
+use Rattle.std.specs.Cmp.{IsTotalOrder}
+use Rattle.std.specs.List.{AllByRecursion}
+use Rattle.std.specs.declared.cmp.Ordering.TheVariants.{Less}
+use Rattle.block.specs.Block.{AreAbove}
+use Rattle.cursor.specs.Merging.{listed}
+use Rattle.cursor.specs.Places.{Cmp, Rises}
+use Rattle.ikey.specs.Below.{IsBelowInternal, key_total, same_key}
+use Rattle.ikey.specs.Entries.{InternalEntry, Pair, IsPair}
+use Rattle.ikey.specs.Keys.{key_cmp}
+use Rattle.table_access.specs.TablePlaces.{ListsTable, joined}
+use Rattle.table_access.specs.Tables.{Seen, Carries, HasTable, IsOpen}
+use Rattle.table_access.proofs.Carrying.{still_has}
+use Rattle.table.specs.Frame.{Frame}
+use Rattle.table.specs.Table.{ArePairs, IsFilled, IsTable}
+use Rattle.table.proofs.FrameParts.{one_frame}
+
+module _ (cmp : Cmp) (total : IsTotalOrder cmp) where
+  all_above : (a b : InternalEntry) (entries : List InternalEntry) → key_cmp cmp a.key b.key ≡ Less → AllByRecursion (λ (later : InternalEntry). key_cmp cmp b.key later.key ≡ Less) entries
+      → AllByRecursion (λ (later : InternalEntry). key_cmp cmp a.key later.key ≡ Less) entries
+  all_above a b [] less h = tt
+  all_above a b (x ∷ entries) less h = ((key_total cmp total).trans a.key b.key x.key less h.0, all_above a b entries less h.1)
+
+  rises_behind : (first : Pair) (entry : InternalEntry) (pairs : List Pair) (entries : List InternalEntry) → IsPair first entry → AreAbove (IsBelowInternal cmp) (Some first.key) pairs → ArePairs pairs entries
+      → AllByRecursion (λ (later : InternalEntry). key_cmp cmp entry.key later.key ≡ Less) entries × Rises cmp entries
+  rises_behind first entry [] [] is up are = (tt, tt)
+  rises_behind first entry [] (y ∷ entries) is up are = absurd are
+  rises_behind first entry (x ∷ pairs) [] is up are = absurd are
+  rises_behind first entry (x ∷ pairs) (y ∷ entries) is up are =
+      let rest = rises_behind x y pairs entries are.0 up.1 are.1 in
+      let b = up.0 in
+      let left = same_key first.key b.0 entry.key b.2 is.key in
+      let right = same_key x.key b.1 y.key b.3 are.0.key in
+      let less : key_cmp cmp entry.key y.key ≡ Less = sym (λ i. key_cmp cmp (left i) (right i)) ∙ b.4 in
+      ((less, all_above entry y entries less rest.0), rest)
+
+  pub entries_rise : (pairs : List Pair) (entries : List InternalEntry) → AreAbove (IsBelowInternal cmp) None pairs → ArePairs pairs entries → Rises cmp entries
+  entries_rise [] [] up are = tt
+  entries_rise [] (y ∷ entries) up are = absurd are
+  entries_rise (x ∷ pairs) [] up are = absurd are
+  entries_rise (x ∷ pairs) (y ∷ entries) up are = rises_behind x y pairs entries are.0 up are.1
+
+  pub begins : {numbers : ℕ → Type 0} (old new : Seen) (number : ℕ) (frame : Frame) (file : List ℕ) (entries : List InternalEntry) → Carries cmp numbers old new → IsTrue new.facts.faithful → HasTable cmp old number file → IsOpen cmp file frame
+      → IsTable cmp file entries → ListsTable cmp new number frame None (listed entries None)
+  begins old new number frame file entries carries t has open_is table =
+      let filled = subst (λ (f : Frame). IsFilled cmp file f entries) (one_frame cmp file table.0 frame table.1 open_is.0) table.2 in
+      record {
+        groups = filled.blocks;
+        has = record { file = file; table = still_has cmp old new number file carries t has; open_is = open_is; data_is = filled.data_is };
+        bounds = filled.bounds;
+        entries_are = filled.entries_are;
+        rises = entries_rise (joined filled.blocks) entries filled.rises filled.entries_are;
+        inside = λ index e. let bad : None ≡ Some index = e in cc;
+        place = refl;
+      }

@@ -1,0 +1,129 @@
+use Rattle.std.proofs.lemmas.Result.{err_from_is_err_and}
+use Rattle.table_access.specs.TableLaws.{carries_both}
+use Rattle.table_access.specs.Tables.{seen}
+use Rattle.table_access.proofs.Declining.{data_of, filled_of, not_opened, not_searched, starts_inside}
+use Rattle.table_access.proofs.Ruling.{undenied}
+use Rattle.table_access.proofs.Standing.{still_later, table_still}
+use Rattle.table_access.proofs.Valuing.{denied_unseen, none_found, one_found}
+use Rattle.table_access.proofs.newest.table_value.Goals as goal
+
+pub returns-in_err-table-clause-refused : goal.returns-in_err-table-clause-refused
+returns-in_err-table-clause-refused g c =
+    let p = err_from_is_err_and c.from_residual.result c.from_residual.ensures.1 in
+    let old = seen (g.S.Store.facts c.args.source.now.store) c.args.source.now.tables c.args.source.now.blocks in
+    let mid = seen (g.S.Store.facts c.get_table.new.self.store) c.get_table.new.self.tables c.get_table.new.self.blocks in
+    rw (p.1, p.2) (not_opened g.K.KeyOrder.cmp old c.args.number c.in_err-table.field-0.0 mid c.in_err-table.ensures.refused)
+
+pub returns-then-is_denied-clause-found : goal.returns-then-is_denied-clause-found
+returns-then-is_denied-clause-found g c = λ t file has entries table.
+    let frame = c.in_ok-table.table.value.frame in
+    let open_is = (c.in_ok-table.ensures.found t file has).1 in
+    let filled = filled_of g.K.KeyOrder.cmp file frame entries open_is.0 table in
+    let first = rw (c.deref.ensures, c.deref-2.ensures.value) at c.first_place-start.ensures in
+    let denies = rw c.deref-3.ensures at c.if-is_denied.ensures in
+    denied_unseen g.K.KeyOrder.cmp g.met.K.KeyOrder.total g.met.K.KeyOrder.exact file frame entries open_is.0 filled c.args.key.now c.args.sequence c.in_ok-target.target.items c.in_ok-target.ensures
+    c.first_place-start.result first denies
+
+pub returns-in_err-found-clause-refused : goal.returns-in_err-found-clause-refused
+returns-in_err-found-clause-refused g c =
+    let p = err_from_is_err_and c.from_residual-in_err-found.result c.from_residual-in_err-found.ensures.1 in
+    let old = seen (g.S.Store.facts c.args.source.now.store) c.args.source.now.tables c.args.source.now.blocks in
+    let mid = seen (g.S.Store.facts c.get_table.new.self.store) c.get_table.new.self.tables c.get_table.new.self.blocks in
+    let new = seen (g.S.Store.facts c.search_on.new.source.store) c.search_on.new.source.tables c.search_on.new.source.blocks in
+    let first = rw (c.deref.ensures, c.deref-2.ensures.value) at c.first_place-start.ensures in
+    let refused = rw c.deref-4.ensures at c.in_err-found.ensures.refused in
+    rw (p.1, p.2)
+    (not_searched g.K.KeyOrder.cmp old c.args.number mid new c.get_table.ensures.carries c.search_on.ensures.carries c.in_ok-target.target.items c.in_ok-table.table.value.frame c.first_place-start.result first
+    (λ m file has. (c.in_ok-table.ensures.found m file has).1) c.in_err-found.field-0.0 refused)
+
+pub returns-in-Some-clause-found : goal.returns-in-Some-clause-found
+returns-in-Some-clause-found g c = λ t file has entries table.
+    let old = seen (g.S.Store.facts c.args.source.now.store) c.args.source.now.tables c.args.source.now.blocks in
+    let mid = seen (g.S.Store.facts c.get_table.new.self.store) c.get_table.new.self.tables c.get_table.new.self.blocks in
+    let m = c.search_on.ensures.carries.reads.faithful t in
+    let frame = c.in_ok-table.table.value.frame in
+    let open_is = (c.in_ok-table.ensures.found m file has).1 in
+    let filled = filled_of g.K.KeyOrder.cmp file frame entries open_is.0 table in
+    let first = rw (c.deref.ensures, c.deref-2.ensures.value) at c.first_place-start.ensures in
+    let search = rw (c.deref-4.ensures, c.deref-5.ensures.value, c.in-Some.is) at c.in_ok-found.ensures.found in
+    let found = search t filled.blocks (data_of g.K.KeyOrder.cmp old mid c.args.number file frame entries c.get_table.ensures.carries m has open_is filled)
+    (starts_inside g.K.KeyOrder.cmp file c.in_ok-target.target.items frame entries c.first_place-start.result first filled) in
+    one_found g.K.KeyOrder.cmp g.met.K.KeyOrder.total g.met.K.KeyOrder.exact file frame entries open_is.0 filled c.args.key.now c.args.sequence c.in_ok-target.target.items c.in_ok-target.ensures
+    c.first_place-start.result first found.0 found.1 c.in-Some.here c.in_ok-value-in-Some.value found.2 c.in_ok-value-in-Some.ensures
+
+pub returns-clause-found : goal.returns-clause-found
+returns-clause-found g c = λ t file has entries table.
+    let old = seen (g.S.Store.facts c.args.source.now.store) c.args.source.now.tables c.args.source.now.blocks in
+    let mid = seen (g.S.Store.facts c.get_table.new.self.store) c.get_table.new.self.tables c.get_table.new.self.blocks in
+    let m = c.search_on.ensures.carries.reads.faithful t in
+    let frame = c.in_ok-table.table.value.frame in
+    let open_is = (c.in_ok-table.ensures.found m file has).1 in
+    let filled = filled_of g.K.KeyOrder.cmp file frame entries open_is.0 table in
+    let first = rw (c.deref.ensures, c.deref-2.ensures.value) at c.first_place-start.ensures in
+    let search = rw (c.deref-4.ensures, c.deref-5.ensures.value, c.in-None.is) at c.in_ok-found.ensures.found in
+    let found = search t filled.blocks (data_of g.K.KeyOrder.cmp old mid c.args.number file frame entries c.get_table.ensures.carries m has open_is filled)
+    (starts_inside g.K.KeyOrder.cmp file c.in_ok-target.target.items frame entries c.first_place-start.result first filled) in
+    none_found g.K.KeyOrder.cmp g.met.K.KeyOrder.total g.met.K.KeyOrder.exact file frame entries open_is.0 filled c.args.key.now c.args.sequence c.in_ok-target.target.items c.in_ok-target.ensures
+    c.first_place-start.result first found.0 found.1 found.2
+
+pub returns-in_err-table-clause-still : goal.returns-in_err-table-clause-still
+returns-in_err-table-clause-still g c =
+    let p = err_from_is_err_and c.from_residual.result c.from_residual.ensures.1 in
+    rw (p.1, p.2) (table_still c.in_err-table.field-0.0 (g.S.Store.facts c.args.source.now.store) (g.S.Store.facts c.get_table.new.self.store) c.args.number _ _ c.in_err-table.ensures.refused)
+
+pub returns-in_err-found-clause-still : goal.returns-in_err-found-clause-still
+returns-in_err-found-clause-still g c =
+    let p = err_from_is_err_and c.from_residual-in_err-found.result c.from_residual-in_err-found.ensures.1 in
+    rw (p.1, p.2) (still_later c.in_err-found.field-0.0 (g.S.Store.facts c.args.source.now.store) (g.S.Store.facts c.get_table.new.self.store) (g.S.Store.facts c.search_on.new.source.store) c.in_ok-table.ensures.stood c.in_err-found.ensures.still)
+
+pub returns-in_err-found-clause-denied : goal.returns-in_err-found-clause-denied
+returns-in_err-found-clause-denied g c = λ table file kept is denies.
+    let first = rw (c.deref.ensures, c.deref-2.ensures.value) at c.first_place-start.ensures in
+    let admitted = rw c.deref-3.ensures at c.if-is_denied.ensures in
+    absurd (undenied g.K.KeyOrder.cmp g.met.K.KeyOrder.total g.met.K.KeyOrder.exact c.args.key.now c.args.sequence _ _ c.in_ok-table.table.value c.in_ok-table.ensures.hit c.in_ok-target.target.items
+    c.in_ok-target.ensures c.first_place-start.result first admitted table file kept is denies)
+
+pub returns-in_err-value-in-Some-clause-denied : goal.returns-in_err-value-in-Some-clause-denied
+returns-in_err-value-in-Some-clause-denied g c = λ table file kept is denies.
+    let first = rw (c.deref.ensures, c.deref-2.ensures.value) at c.first_place-start.ensures in
+    let admitted = rw c.deref-3.ensures at c.if-is_denied.ensures in
+    absurd (undenied g.K.KeyOrder.cmp g.met.K.KeyOrder.total g.met.K.KeyOrder.exact c.args.key.now c.args.sequence _ _ c.in_ok-table.table.value c.in_ok-table.ensures.hit c.in_ok-target.target.items
+    c.in_ok-target.ensures c.first_place-start.result first admitted table file kept is denies)
+
+pub returns-in-Some-clause-denied : goal.returns-in-Some-clause-denied
+returns-in-Some-clause-denied g c = λ table file kept is denies.
+    let first = rw (c.deref.ensures, c.deref-2.ensures.value) at c.first_place-start.ensures in
+    let admitted = rw c.deref-3.ensures at c.if-is_denied.ensures in
+    absurd (undenied g.K.KeyOrder.cmp g.met.K.KeyOrder.total g.met.K.KeyOrder.exact c.args.key.now c.args.sequence _ _ c.in_ok-table.table.value c.in_ok-table.ensures.hit c.in_ok-target.target.items
+    c.in_ok-target.ensures c.first_place-start.result first admitted table file kept is denies)
+
+pub returns-clause-denied : goal.returns-clause-denied
+returns-clause-denied g c = λ table file kept is denies.
+    let first = rw (c.deref.ensures, c.deref-2.ensures.value) at c.first_place-start.ensures in
+    let admitted = rw c.deref-3.ensures at c.if-is_denied.ensures in
+    absurd (undenied g.K.KeyOrder.cmp g.met.K.KeyOrder.total g.met.K.KeyOrder.exact c.args.key.now c.args.sequence _ _ c.in_ok-table.table.value c.in_ok-table.ensures.hit c.in_ok-target.target.items
+    c.in_ok-target.ensures c.first_place-start.result first admitted table file kept is denies)
+
+pub returns-in_err-found-clause-carries : goal.returns-in_err-found-clause-carries
+returns-in_err-found-clause-carries g c =
+    carries_both g.K.KeyOrder.cmp (seen (g.S.Store.facts c.args.source.now.store) c.args.source.now.tables c.args.source.now.blocks)
+    (seen (g.S.Store.facts c.get_table.new.self.store) c.get_table.new.self.tables c.get_table.new.self.blocks)
+    (seen (g.S.Store.facts c.search_on.new.source.store) c.search_on.new.source.tables c.search_on.new.source.blocks) c.get_table.ensures.carries c.search_on.ensures.carries
+
+pub returns-in_err-value-in-Some-clause-carries : goal.returns-in_err-value-in-Some-clause-carries
+returns-in_err-value-in-Some-clause-carries g c =
+    carries_both g.K.KeyOrder.cmp (seen (g.S.Store.facts c.args.source.now.store) c.args.source.now.tables c.args.source.now.blocks)
+    (seen (g.S.Store.facts c.get_table.new.self.store) c.get_table.new.self.tables c.get_table.new.self.blocks)
+    (seen (g.S.Store.facts c.search_on.new.source.store) c.search_on.new.source.tables c.search_on.new.source.blocks) c.get_table.ensures.carries c.search_on.ensures.carries
+
+pub returns-in-Some-clause-carries : goal.returns-in-Some-clause-carries
+returns-in-Some-clause-carries g c =
+    carries_both g.K.KeyOrder.cmp (seen (g.S.Store.facts c.args.source.now.store) c.args.source.now.tables c.args.source.now.blocks)
+    (seen (g.S.Store.facts c.get_table.new.self.store) c.get_table.new.self.tables c.get_table.new.self.blocks)
+    (seen (g.S.Store.facts c.search_on.new.source.store) c.search_on.new.source.tables c.search_on.new.source.blocks) c.get_table.ensures.carries c.search_on.ensures.carries
+
+pub returns-clause-carries : goal.returns-clause-carries
+returns-clause-carries g c =
+    carries_both g.K.KeyOrder.cmp (seen (g.S.Store.facts c.args.source.now.store) c.args.source.now.tables c.args.source.now.blocks)
+    (seen (g.S.Store.facts c.get_table.new.self.store) c.get_table.new.self.tables c.get_table.new.self.blocks)
+    (seen (g.S.Store.facts c.search_on.new.source.store) c.search_on.new.source.tables c.search_on.new.source.blocks) c.get_table.ensures.carries c.search_on.ensures.carries

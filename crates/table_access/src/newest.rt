@@ -1,0 +1,104 @@
+//! The newest entry of a user key in a table (LevelDB's table/table.cc, Table::InternalGet).
+
+ghost use Rattle.std.specs.Prelude.{◌≡◌, ◌<◌, ◌^◌, ℕ, List, Some, IsSome, IfOk, IfErr, MatchBool, slice_get};
+ghost use Rattle.cache.specs.Tables.{kept_table_at};
+ghost use Rattle.cursor.specs.Moves.{Refuses};
+ghost use Rattle.ikey.specs.Entries.{InternalEntry, Pair, IsPair};
+ghost use Rattle.table_access.specs.Tables.{Carries, HasTable, Only, SaysOf, seen};
+ghost use Rattle.table_access.specs.Values.{DeniesKey, HasValue, IsDenied, IsNoTable, IsPastLimit, SaysOfEntry};
+ghost use Rattle.table.specs.Frame.{IsFrame, Opened};
+ghost use Rattle.table.specs.Reading.{IsStill};
+
+use crate::table_search::{Aim, search_on};
+use crate::tables::Tables;
+use block::BlockCursor;
+use coding::{Bytes, DbError};
+use ikey::{Internal, KeyOrder, Kind, same_bytes, seek_key, unpack};
+use std::alloc::{AllocError, Global};
+use store::Store;
+use table::Table;
+
+/// What the newest entry of a user key up to a sequence, below `SEQUENCE_END`, put in the table of this number: nothing
+/// where the table has no such entry, and `Some(None)` where it is a delete. The table's filter is asked before a data
+/// block is read. Corrupt, where the source hasn't this table; Unsupported as `Table::open`, and where a block has more
+/// than 2^30 bytes.
+pub fn table_value<K: KeyOrder, S: Store>(
+    alloc: Global,
+    source: &mut Tables<K, S>,
+    number: u64,
+    key: &[u8],
+    sequence: u64,
+) -> Result<Option<Option<Bytes>>, DbError>
+    requires positive { 0 < number }
+    requires fits { sequence < 2 ^ 56 }
+    ensures carries { Carries K.cmp (Only number) (seen (S.facts source.old.store) source.old.tables source.old.blocks) (seen (S.facts source.new.store) source.new.tables source.new.blocks) }
+    ensures found { IfOk result (λ value. SaysOf K.cmp (seen (S.facts source.old.store) source.old.tables source.old.blocks) (seen (S.facts source.new.store) source.new.tables source.new.blocks)
+        number (λ file. HasValue K.cmp file key.now sequence value)) }
+    ensures still { IsStill (S.facts source.old.store) (S.facts source.new.store) result }
+    // Where the table is open and its filter denies the key, no block is asked for.
+    ensures denied { (table : Opened) (file : List ℕ) → kept_table_at source.old.tables.tables number ≡ Some table → IsFrame K.cmp file table.frame → IsDenied K.cmp table.frame key.now sequence
+        → (source.new.store ≡ source.old.store) × (source.new.blocks ≡ source.old.blocks) }
+    ensures refused { IfErr result (λ e. Refuses e (S.facts source.old.store) (S.facts source.new.store)
+        ((file : List ℕ) → HasTable K.cmp (seen (S.facts source.old.store) source.old.tables source.old.blocks) number file → IsNoTable K.cmp file)
+        ((file : List ℕ) → HasTable K.cmp (seen (S.facts source.old.store) source.old.tables source.old.blocks) number file → IsPastLimit K.cmp file)) }
+{
+    let table = source.get_table(alloc, number)?;
+    let target = seek_key(alloc, key, sequence)?;
+    let start = table.first_place(&target);
+    if is_denied::<K>(&table, start, key) {
+        return Ok(None);
+    }
+    let found = search_on(alloc, source, number, &table, start, Aim::From(&target))?;
+    match found {
+        Some(here) => {
+            let value = value_at::<K>(alloc, &here.cursor, key)?;
+            Ok(value)
+        }
+        None => Ok(None),
+    }
+}
+
+// Whether no block from this one on has an entry of the user key: its filter says so of the block, and its bound, which
+// the key isn't above, of those behind.
+fn is_denied<K: KeyOrder>(table: &Table<K>, start: usize, key: &[u8]) -> bool
+    ensures { MatchBool result (DeniesKey table.now.frame start key.now) (DeniesKey table.now.frame start key.now → ⊥) }
+{
+    let Some(place) = table.places().get(start) else {
+        return false;
+    };
+    let Some(bound) = unpack(place.key.as_slice()) else {
+        return false;
+    };
+    if same_bytes(bound.user, key) {
+        return false;
+    }
+    if table.admits(place.handle, key) {
+        return false;
+    }
+    true
+}
+
+// What the entry at a cursor's place put, where it is one of the user key.
+fn value_at<K: KeyOrder>(
+    alloc: Global,
+    cursor: &BlockCursor<Internal<K>>,
+    key: &[u8],
+) -> Result<Option<Option<Bytes>>, AllocError>
+    requires { IsSome cursor.now.place }
+    ensures { IfOk result (λ value. (index : ℕ) (pair : Pair) (entry : InternalEntry) → cursor.now.place ≡ Some index → slice_get cursor.now.pairs index ≡ Some pair → IsPair pair entry
+        → SaysOfEntry entry key.now value) }
+{
+    let Some(found) = unpack(cursor.key()) else {
+        return Ok(None);
+    };
+    if !same_bytes(found.user, key) {
+        return Ok(None);
+    }
+    match found.kind {
+        Kind::Delete => Ok(Some(None)),
+        Kind::Put => {
+            let value = Bytes::copied_from(alloc, cursor.value())?;
+            Ok(Some(Some(value)))
+        }
+    }
+}

@@ -1,0 +1,195 @@
+-- What a get through tables has found, and why it was refused.
+use Rattle.std.proofs.Common.{◌≡◌, inl, inr, ◌==◌, ◌+◌, ◌-◌, ◌<◌, ◌≤◌, ℕ, suc, Bool, true, false, cond, IsTrue, Option, Some, None, is_some, List, [], ◌∷◌, map, length, refl, sym, ap, ◌∙◌, subst, arith}
+use Rattle.std.specs.Prelude.{Contains}
+use Rattle.std.specs.Cmp.{IsTotalOrder}
+use Rattle.std.specs.FinMap.{IsAntisymmetric}
+use Rattle.cursor.specs.Moves.{Refuses}
+use Rattle.coding.specs.declared.error.DbError.{DbError}
+use Rattle.coding.specs.declared.error.DbError.TheVariants.{OutOfMemory, Io, Corrupt, Unsupported}
+use Rattle.edits.specs.declared.field.PlacedTable.{PlacedTable}
+use Rattle.ikey.specs.declared.entry.Entry.{Entry}
+use Rattle.ikey.specs.Entries.{entry_of}
+use Rattle.ikey.specs.Keys.{IsFirstKey}
+use Rattle.ikey.specs.Orders.{Order}
+use Rattle.ikey.specs.Sources.{IsAnswer}
+use Rattle.recover.specs.Checks.{content_of}
+use Rattle.recover.specs.Tables.{TableContent, HasTable, InTables}
+use Rattle.recover.proofs.Memberships.{one_of_tables}
+use Rattle.recover.proofs.NameScan.{in_cons, in_none}
+use Rattle.version_get.specs.Gets.{HasEntries, HasNoEntries, SaysOfTable, IsTooLong, IsOnlyTooLong, HasTablesOf, HasNoTablesOf, SaysOfAll, IsOneTooLong}
+use Rattle.version_laws.specs.Laws.{IsSearchedUpTo, IsStep}
+use Rattle.version_laws.specs.Places.{HasVersion}
+use Rattle.version_laws.proofs.Walking.{step, found, ended}
+use Rattle.table_access.specs.Tables.{Seen, Carries, HasTable as HasFileOf, Only, SaysOf}
+use Rattle.table_access.specs.Values.{HasValue, IsLookUp, IsNoTable, IsPastLimit}
+use Rattle.table_access.specs.TableLaws.{carries_both, carries_itself, carries_more}
+use Rattle.cache.specs.Tables.{table_at}
+use Rattle.versions.specs.Keeping.{HasNumber}
+use Rattle.versions.specs.Levels.{tables_at}
+use Rattle.versions.specs.Searches.{IsSearchedAt, IsSearchedNext, search_length}
+
+-- ---- one table
+
+answer_is : (entries : List Entry) (key : List ℕ) (sequence : ℕ) (value : Option (Option (List ℕ))) → IsLookUp entries sequence key value → IsAnswer entries sequence key value
+answer_is entries key sequence None h = h
+answer_is entries key sequence (Some value) h = h
+
+module _ (order : Order) (old new : Seen) (placed : PlacedTable) where
+  file_of : (entries : List Entry) (has : HasEntries order old placed entries) → HasFileOf order.cmp old placed.table.number has.1.bytes
+  file_of entries has = record { sound = has.0; file_is = has.1.there }
+
+  pub value_is : (key : List ℕ) (sequence : ℕ) (value : Option (Option (List ℕ))) → SaysOf order.cmp old new placed.table.number (λ file. HasValue order.cmp file key sequence value) → SaysOfTable order old new placed key sequence value
+  value_is key sequence value says t entries has =
+      let kept = has.1.spelled in
+      subst (λ (es : List Entry). IsAnswer es sequence key value) (sym kept.2) (answer_is (map entry_of kept.0) key sequence value (says t has.1.bytes (file_of entries has) kept.0 kept.1))
+
+  pub not_table : (e : DbError) → Refuses e old.facts new.facts ((file : List ℕ) → HasFileOf order.cmp old placed.table.number file → IsNoTable order.cmp file) ((file : List ℕ) → HasFileOf order.cmp old placed.table.number file → IsPastLimit order.cmp file)
+      → Refuses e old.facts new.facts (HasNoEntries order old placed) (IsOnlyTooLong order old placed)
+  not_table OutOfMemory h = h
+  not_table Io h = h
+  not_table (Corrupt kind what) h = λ t entries has. h t has.1.bytes (file_of entries has) has.1.spelled.0 has.1.spelled.1
+  not_table (Unsupported what) h = λ t. elim (h t) [
+    | inl none ↦ inl (λ entries has. none has.1.bytes (file_of entries has) has.1.spelled.0 has.1.spelled.1)
+    | inr past ↦ inr (λ entries has. (has.1.bytes, has.1.there, past has.1.bytes (file_of entries has)))
+  ]
+  not_table e h = absurd h
+
+  pub no_number : placed.table.number ≡ 0 → HasNoEntries order old placed
+  no_number same entries has = let some = has.1.numbered.0 in omega (arith, some, same)
+
+-- ---- the tables of a version
+
+abbrev placed_of : List TableContent → List PlacedTable
+placed_of contents = map (λ (content : TableContent). content.placed) contents
+
+from_placed : (contents : List TableContent) (placed : PlacedTable) → Contains (placed_of contents) placed → (content : TableContent) × InTables contents content × (content.placed ≡ placed)
+from_placed [] placed i = absurd (in_none placed i)
+from_placed (c ∷ contents) placed i =
+    elim (in_cons c.placed (placed_of contents) placed i) [
+      | inl e ↦ (c, inl refl, e)
+      | inr j ↦ let rest = from_placed contents placed j in (rest.0, inr rest.1, rest.2)
+    ]
+
+from_level : (level : ℕ) (tables : List PlacedTable) (placed : PlacedTable) → Contains (tables_at level tables) placed → Contains tables placed
+from_level level [] placed i = i
+from_level level (p ∷ tables) placed i0 = by (p.level == level) (λ i. from_level level tables placed i) i0
+  where
+    behind : Contains tables placed → Contains (p ∷ tables) placed
+    behind i = (suc i.0, omega (arith, i.1), i.2)
+
+    by : (b : Bool) → (Contains (tables_at level tables) placed → Contains tables placed) → Contains (cond b (p ∷ tables_at level tables) (tables_at level tables)) placed → Contains (p ∷ tables) placed
+    by true rest i = elim (in_cons p (tables_at level tables) placed i) [
+      | inl e ↦ (0, omega arith, e)
+      | inr j ↦ behind (rest j)
+    ]
+    by false rest i = behind (rest i)
+
+level_length : (level : ℕ) (tables : List PlacedTable) → length (tables_at level tables) ≤ length tables
+level_length level [] = omega arith
+level_length level (p ∷ tables) = by (p.level == level) (level_length level tables)
+  where
+    by : (b : Bool) → length (tables_at level tables) ≤ length tables → length (cond b (p ∷ tables_at level tables) (tables_at level tables)) ≤ length (p ∷ tables)
+    by true h = omega (arith, h)
+    by false h = omega (arith, h)
+
+in_version : (order : Order) (tables : List PlacedTable) (key : List ℕ) (place : ℕ) (placed : PlacedTable) → IsSearchedAt order.cmp key tables place placed → Contains tables placed
+in_version order tables key place placed (inl first, cover) = from_level 0 tables placed (length (tables_at 0 tables) - 1 - place, omega (arith, first.0), first.1 placed)
+in_version order tables key place placed (inr found, cover) = from_level (found.0 + 1) tables placed (found.3.0, found.3.1, found.3.2 placed)
+
+pub few_places : (tables : List PlacedTable) (place end : ℕ) → place < search_length tables → end ≡ length tables + 7 → place + 1 ≤ end
+few_places tables place end h e = let n = level_length 0 tables in omega (arith, h, e, n)
+
+within_places : (order : Order) (tables : List PlacedTable) (key : List ℕ) (place : ℕ) (placed : PlacedTable) → IsSearchedAt order.cmp key tables place placed → place < search_length tables
+within_places order tables key place placed (inl first, cover) = omega (arith, first.0)
+within_places order tables key place placed (inr found, cover) = omega (arith, found.1, found.2)
+
+pub none_behind : (order : Order) (tables : List PlacedTable) (key : List ℕ) (from end : ℕ) → end ≡ length tables + 7 → end ≤ from → (place : ℕ) (placed : PlacedTable) → from ≤ place → IsSearchedAt order.cmp key tables place placed → ⊥
+none_behind order tables key from end e le place placed low is =
+    let n = level_length 0 tables in
+    let h = within_places order tables key place placed is in
+    omega (arith, e, le, low, n, h)
+
+-- ---- a search
+
+-- So far it has read the tables at the places in front of this one, in which the key isn't seen.
+pub record IsSought (order : Order) (old now : Seen) (tables : List PlacedTable) (key : List ℕ) (sequence from : ℕ) : Type 0 where
+  pub carries : Carries order.cmp (λ number. HasNumber number tables) old now
+  pub still : now.facts.failures ≡ old.facts.failures
+  pub so_far : IsTrue now.facts.faithful → (contents : List TableContent) → HasTablesOf order old tables contents → IsSearchedUpTo contents key sequence from
+
+pub begins : (order : Order) (old : Seen) (tables : List PlacedTable) (key : List ℕ) (sequence : ℕ) → IsSought order old old tables key sequence 0
+begins order old tables key sequence = record { carries = carries_itself order.cmp old; still = refl; so_far = λ t contents has i lt. absurd (omega (arith, lt)) }
+
+module _ (order : Order) (o : IsTotalOrder order.cmp) (exact : IsAntisymmetric order.cmp) (old now : Seen) (tables : List PlacedTable) (key : List ℕ) (sequence : ℕ) (target : List ℕ) (first : IsFirstKey key sequence target) (from : ℕ)
+    (sought : IsSought order old now tables key sequence from) where
+  -- where no table is searched any more
+  pub has_ended : ((place : ℕ) (placed : PlacedTable) → from ≤ place → IsSearchedAt order.cmp target tables place placed → ⊥) → SaysOfAll order old now tables key sequence None
+  has_ended none t contents has = ended order old.facts.files tables contents key sequence target from o exact has.1 first (sought.so_far t contents has) none
+
+  module _ (place : ℕ) (placed : PlacedTable) (next : IsSearchedNext order.cmp target tables from place placed) where
+    content_at : (contents : List TableContent) → HasVersion order old.facts.files tables contents → (content : TableContent) × InTables contents content × (content.placed ≡ placed)
+    content_at contents version = from_placed contents placed (subst (λ (ps : List PlacedTable). Contains ps placed) (sym version.placed) (in_version order tables target place placed next.here))
+
+    -- the table has its entries, in the source as it was and as it is
+    has_old : (contents : List TableContent) (version : HasVersion order old.facts.files tables contents) → HasTable order old.facts.files (content_of placed (content_at contents version).0.entries)
+    has_old contents version =
+        let c = content_at contents version in
+        let P : PlacedTable → Type 0 = λ p. HasTable order old.facts.files (content_of p c.0.entries) in
+        subst P c.2 (one_of_tables order old.facts.files contents c.0 version.are c.1)
+
+    has_now : IsTrue now.facts.faithful → (contents : List TableContent) (has : HasTablesOf order old tables contents) → HasEntries order now placed (content_at contents has.1).0.entries
+    has_now t contents has =
+        let entries = (content_at contents has.1).0.entries in
+        (sought.carries.sound t has.0, subst (λ files. HasTable order files (content_of placed entries)) (sym (sought.carries.reads.files t)) (has_old contents has.1))
+
+    is_step : IsTrue now.facts.faithful → (contents : List TableContent) (has : HasTablesOf order old tables contents) → IsStep order old.facts.files tables contents key sequence target from place placed (content_at contents has.1).0.entries
+    is_step t contents has = record { total = o; exact = exact; version = has.1; sought = first; so_far = sought.so_far t contents has; next = next; has = has_old contents has.1 }
+
+    its_number : (number : ℕ) → Only placed.table.number number → HasNumber number tables
+    its_number number same = let there = in_version order tables target place placed next.here in (there.0, placed, there.1, there.2, sym same)
+
+    module _ (new : Seen) (carries : Carries order.cmp (Only placed.table.number) now new) where
+      pub carried : Carries order.cmp (λ number. HasNumber number tables) old new
+      carried = carries_both order.cmp old now new sought.carries (carries_more order.cmp now new its_number carries)
+
+      -- the key isn't seen in the table
+      pub goes_on : new.facts.failures ≡ now.facts.failures → SaysOfTable order now new placed key sequence None → IsSought order old new tables key sequence (place + 1)
+      goes_on stood says = record {
+        carries = carried;
+        still = stood ∙ sought.still;
+        so_far = λ t contents has.
+            let before = carries.reads.faithful t in
+            let entries = (content_at contents has.1).0.entries in
+            step order old.facts.files tables contents key sequence target from place placed entries (is_step before contents has) (says t entries (has_now before contents has));
+      }
+
+      -- it is
+      pub is_found : (value : Option (List ℕ)) → SaysOfTable order now new placed key sequence (Some value) → SaysOfAll order old new tables key sequence (Some value)
+      is_found value says t contents has =
+          let before = carries.reads.faithful t in
+          let entries = (content_at contents has.1).0.entries in
+          found order old.facts.files tables contents key sequence target from place placed entries value (is_step before contents has) (says t entries (has_now before contents has))
+
+      -- and so of an answer that is one of these
+      pub is_answer : (answer : Option (Option (List ℕ))) → true ≡ is_some answer → SaysOfTable order now new placed key sequence answer → SaysOfAll order old new tables key sequence answer
+      is_answer None e says = absurd (let t : true ≡ false = e in cc)
+      is_answer (Some value) e says = is_found value says
+
+      pub is_none : (answer : Option (Option (List ℕ))) → new.facts.failures ≡ now.facts.failures → false ≡ is_some answer → SaysOfTable order now new placed key sequence answer → IsSought order old new tables key sequence (place + 1)
+      is_none None stood e says = goes_on stood says
+      is_none (Some value) stood e says = absurd (let t : false ≡ true = e in cc)
+
+      -- the table isn't read
+      pub not_read : (e : DbError) → Refuses e now.facts new.facts (HasNoEntries order now placed) (IsOnlyTooLong order now placed) → Refuses e old.facts new.facts (HasNoTablesOf order old tables) (IsOneTooLong order old tables)
+      not_read OutOfMemory h = tt
+      not_read Io h = let f = sought.carries.reads.failures in omega (arith, f, h)
+      not_read (Corrupt kind what) h = λ t contents has. let before = carries.reads.faithful t in h t (content_at contents has.1).0.entries (has_now before contents has)
+      not_read (Unsupported what) h = λ t. let before = carries.reads.faithful t in elim (h t) [
+        | inl none ↦ inl (λ contents has. none (content_at contents has.1).0.entries (has_now before contents has))
+        | inr past ↦ inr (λ contents has.
+            let c = content_at contents has.1 in
+            let long = past c.0.entries (has_now before contents has) in
+            let here : IsTooLong order old placed = (long.0, ap (λ files. table_at files placed.table.number) (sym (sought.carries.reads.files before)) ∙ long.1, long.2) in
+            (c.0, c.1, subst (λ (p : PlacedTable). IsTooLong order old p) (sym c.2) here))
+      ]
+      not_read e h = absurd h

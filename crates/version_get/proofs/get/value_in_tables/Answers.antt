@@ -1,0 +1,96 @@
+use Rattle.std.proofs.Common.{◌∙◌, arith}
+use Rattle.std.proofs.lemmas.Result.{err_from_is_err_and}
+use Rattle.ikey.specs.Orders.{order_of}
+use Rattle.table_access.specs.Tables.{seen}
+use Rattle.table_access.proofs.Standing.{still_later}
+use Rattle.version_get.proofs.Getting.{carried, few_places, has_ended, is_answer, is_none, none_behind, not_read}
+use Rattle.version_get.proofs.get.value_in_tables.Goals as goal
+
+pub returns-in_default-clause-found : goal.returns-in_default-clause-found
+returns-in_default-clause-found g c =
+    let order = order_of g.K.KeyOrder.name g.K.KeyOrder.cmp in
+    let old = seen (g.S.Store.facts c.args.source.now.store) c.args.source.now.tables c.args.source.now.blocks in
+    let now = seen (g.S.Store.facts c.loop-from.source.store) c.loop-from.source.tables c.loop-from.source.blocks in
+    let none = rw c.deref.ensures.value at c.in_default.ensures in
+    has_ended order g.met.K.KeyOrder.total g.met.K.KeyOrder.exact old now c.args.version.now.tables c.args.key.now c.args.sequence c.in_ok-target.target.items c.in_ok-target.ensures c.loop-from.from c.loop-from.invariant none
+
+pub returns-in_err-found-clause-refused : goal.returns-in_err-found-clause-refused
+returns-in_err-found-clause-refused g c =
+    let p = err_from_is_err_and c.from_residual-in_err-found.result c.from_residual-in_err-found.ensures.1 in
+    let order = order_of g.K.KeyOrder.name g.K.KeyOrder.cmp in
+    let old = seen (g.S.Store.facts c.args.source.now.store) c.args.source.now.tables c.args.source.now.blocks in
+    let now = seen (g.S.Store.facts c.loop-from.source.store) c.loop-from.source.tables c.loop-from.source.blocks in
+    let new = seen (g.S.Store.facts c.value_in_table.new.source.store) c.value_in_table.new.source.tables c.value_in_table.new.source.blocks in
+    let next = rw c.deref.ensures.value at c.in-Some.ensures in
+    rw (p.1, p.2)
+    (not_read order g.met.K.KeyOrder.total g.met.K.KeyOrder.exact old now c.args.version.now.tables c.args.key.now c.args.sequence c.in_ok-target.target.items c.in_ok-target.ensures c.loop-from.from c.loop-from.invariant
+    c.in-Some.place c.in-Some.placed.now next new c.value_in_table.ensures.carries c.in_err-found.field-0.0 c.in_err-found.ensures.refused)
+
+pub returns-then-is_some-clause-found : goal.returns-then-is_some-clause-found
+returns-then-is_some-clause-found g c =
+    let order = order_of g.K.KeyOrder.name g.K.KeyOrder.cmp in
+    let old = seen (g.S.Store.facts c.args.source.now.store) c.args.source.now.tables c.args.source.now.blocks in
+    let now = seen (g.S.Store.facts c.loop-from.source.store) c.loop-from.source.tables c.loop-from.source.blocks in
+    let new = seen (g.S.Store.facts c.value_in_table.new.source.store) c.value_in_table.new.source.tables c.value_in_table.new.source.blocks in
+    let next = rw c.deref.ensures.value at c.in-Some.ensures in
+    is_answer order g.met.K.KeyOrder.total g.met.K.KeyOrder.exact old now c.args.version.now.tables c.args.key.now c.args.sequence c.in_ok-target.target.items c.in_ok-target.ensures c.loop-from.from c.loop-from.invariant
+    c.in-Some.place c.in-Some.placed.now next new c.value_in_table.ensures.carries c.in_ok-found.found c.if-is_some.ensures c.in_ok-found.ensures.found
+
+pub overflow_add-from : goal.overflow_add-from
+overflow_add-from g c =
+    let next = c.in-Some.ensures in
+    let few = few_places c.args.version.now.tables c.in-Some.place c.search_end-end.result next.within c.search_end-end.ensures.is in
+    let range = c.search_end-end.ensures.range in
+    omega (arith, few, range)
+
+pub loop-from-preserved : goal.loop-from-preserved
+loop-from-preserved g c =
+    let order = order_of g.K.KeyOrder.name g.K.KeyOrder.cmp in
+    let old = seen (g.S.Store.facts c.args.source.now.store) c.args.source.now.tables c.args.source.now.blocks in
+    let now = seen (g.S.Store.facts c.loop-from.source.store) c.loop-from.source.tables c.loop-from.source.blocks in
+    let new = seen (g.S.Store.facts c.value_in_table.new.source.store) c.value_in_table.new.source.tables c.value_in_table.new.source.blocks in
+    let next = rw c.deref.ensures.value at c.in-Some.ensures in
+    is_none order g.met.K.KeyOrder.total g.met.K.KeyOrder.exact old now c.args.version.now.tables c.args.key.now c.args.sequence c.in_ok-target.target.items c.in_ok-target.ensures c.loop-from.from c.loop-from.invariant
+    c.in-Some.place c.in-Some.placed.now next new c.value_in_table.ensures.carries c.in_ok-found.found c.in_ok-found.ensures.still c.if-is_some.ensures c.in_ok-found.ensures.found
+
+pub returns-clause-found : goal.returns-clause-found
+returns-clause-found g c =
+    let order = order_of g.K.KeyOrder.name g.K.KeyOrder.cmp in
+    let old = seen (g.S.Store.facts c.args.source.now.store) c.args.source.now.tables c.args.source.now.blocks in
+    let now = seen (g.S.Store.facts c.loop-from.source.store) c.loop-from.source.tables c.loop-from.source.blocks in
+    has_ended order g.met.K.KeyOrder.total g.met.K.KeyOrder.exact old now c.args.version.now.tables c.args.key.now c.args.sequence c.in_ok-target.target.items c.in_ok-target.ensures c.loop-from.from c.loop-from.invariant
+    (none_behind order c.args.version.now.tables c.in_ok-target.target.items c.loop-from.from c.search_end-end.result c.search_end-end.ensures.is (omega (arith, c.loop-from-test.false)))
+
+pub returns-in_err-found-clause-still : goal.returns-in_err-found-clause-still
+returns-in_err-found-clause-still g c =
+    let p = err_from_is_err_and c.from_residual-in_err-found.result c.from_residual-in_err-found.ensures.1 in
+    rw (p.1, p.2) (still_later c.in_err-found.field-0.0 (g.S.Store.facts c.args.source.now.store) (g.S.Store.facts c.loop-from.source.store) (g.S.Store.facts c.value_in_table.new.source.store) c.loop-from.invariant.still c.in_err-found.ensures.still)
+
+pub returns-in_default-clause-still : goal.returns-in_default-clause-still
+returns-in_default-clause-still g c = c.loop-from.invariant.still
+
+pub returns-then-is_some-clause-still : goal.returns-then-is_some-clause-still
+returns-then-is_some-clause-still g c = c.in_ok-found.ensures.still ∙ c.loop-from.invariant.still
+
+pub returns-clause-still : goal.returns-clause-still
+returns-clause-still g c = c.loop-from.invariant.still
+
+pub returns-in_err-found-clause-carries : goal.returns-in_err-found-clause-carries
+returns-in_err-found-clause-carries g c =
+    let order = order_of g.K.KeyOrder.name g.K.KeyOrder.cmp in
+    let old = seen (g.S.Store.facts c.args.source.now.store) c.args.source.now.tables c.args.source.now.blocks in
+    let now = seen (g.S.Store.facts c.loop-from.source.store) c.loop-from.source.tables c.loop-from.source.blocks in
+    let new = seen (g.S.Store.facts c.value_in_table.new.source.store) c.value_in_table.new.source.tables c.value_in_table.new.source.blocks in
+    let next = rw c.deref.ensures.value at c.in-Some.ensures in
+    carried order g.met.K.KeyOrder.total g.met.K.KeyOrder.exact old now c.args.version.now.tables c.args.key.now c.args.sequence c.in_ok-target.target.items c.in_ok-target.ensures c.loop-from.from c.loop-from.invariant
+    c.in-Some.place c.in-Some.placed.now next new c.value_in_table.ensures.carries
+
+pub returns-then-is_some-clause-carries : goal.returns-then-is_some-clause-carries
+returns-then-is_some-clause-carries g c =
+    let order = order_of g.K.KeyOrder.name g.K.KeyOrder.cmp in
+    let old = seen (g.S.Store.facts c.args.source.now.store) c.args.source.now.tables c.args.source.now.blocks in
+    let now = seen (g.S.Store.facts c.loop-from.source.store) c.loop-from.source.tables c.loop-from.source.blocks in
+    let new = seen (g.S.Store.facts c.value_in_table.new.source.store) c.value_in_table.new.source.tables c.value_in_table.new.source.blocks in
+    let next = rw c.deref.ensures.value at c.in-Some.ensures in
+    carried order g.met.K.KeyOrder.total g.met.K.KeyOrder.exact old now c.args.version.now.tables c.args.key.now c.args.sequence c.in_ok-target.target.items c.in_ok-target.ensures c.loop-from.from c.loop-from.invariant
+    c.in-Some.place c.in-Some.placed.now next new c.value_in_table.ensures.carries

@@ -1,0 +1,54 @@
+-- A get through the tables of a version, whose files are read through caches.
+use Rattle.std.specs.Prelude.{◌≡◌, ℕ, IsTrue, List, Option, Some}
+use Rattle.cache.specs.Tables.{table_at}
+use Rattle.edits.specs.declared.field.PlacedTable.{PlacedTable}
+use Rattle.ikey.specs.declared.entry.Entry.{Entry}
+use Rattle.ikey.specs.Orders.{Order}
+use Rattle.ikey.specs.Sources.{IsAnswer, joined}
+use Rattle.recover.specs.Checks.{content_of}
+use Rattle.recover.specs.Tables.{TableContent, HasTable, InTables}
+use Rattle.version_laws.specs.Places.{table_sources, HasVersion}
+use Rattle.table_access.specs.Tables.{Seen, IsSound}
+use Rattle.table_access.specs.Values.{IsPastLimit}
+
+-- ---- one table
+
+-- what is kept is right, and the file of the table has these entries
+abbrev pub HasEntries : Order → Seen → PlacedTable → List Entry → Type 0
+HasEntries order source placed entries = IsSound order.cmp source × HasTable order source.facts.files (content_of placed entries)
+
+-- no entries are those of the table
+abbrev pub HasNoEntries : Order → Seen → PlacedTable → Type 0
+HasNoEntries order source placed = (entries : List Entry) → HasEntries order source placed entries → ⊥
+
+-- of a faithful store, this is what the table says of the key
+abbrev pub SaysOfTable : Order → Seen → Seen → PlacedTable → List ℕ → ℕ → Option (Option (List ℕ)) → Type 0
+SaysOfTable order old new placed key sequence value = IsTrue new.facts.faithful → (entries : List Entry) → HasEntries order old placed entries → IsAnswer entries sequence key value
+
+-- the file of the table is past a limit of reading
+abbrev pub IsTooLong : Order → Seen → PlacedTable → Type 0
+IsTooLong order source placed = (file : List ℕ) × (table_at source.facts.files placed.table.number ≡ Some file) × IsPastLimit order.cmp file
+
+-- it is, whatever entries the table has
+abbrev pub IsOnlyTooLong : Order → Seen → PlacedTable → Type 0
+IsOnlyTooLong order source placed = (entries : List Entry) → HasEntries order source placed entries → IsTooLong order source placed
+
+-- ---- all tables of a version
+
+-- what is kept is right, and the files are the tables of the version, with these contents
+abbrev pub HasTablesOf : Order → Seen → List PlacedTable → List TableContent → Type 0
+HasTablesOf order source tables contents = IsSound order.cmp source × HasVersion order source.facts.files tables contents
+
+-- no contents are those of the version
+abbrev pub HasNoTablesOf : Order → Seen → List PlacedTable → Type 0
+HasNoTablesOf order source tables = (contents : List TableContent) → HasTablesOf order source tables contents → ⊥
+
+-- of a faithful store, this is what all tables of the version say of the key
+abbrev pub SaysOfAll : Order → Seen → Seen → List PlacedTable → List ℕ → ℕ → Option (Option (List ℕ)) → Type 0
+SaysOfAll order old new tables key sequence value =
+    IsTrue new.facts.faithful → (contents : List TableContent) → HasTablesOf order old tables contents → IsAnswer (joined (table_sources contents)) sequence key value
+
+-- whatever contents they have, the file of one of them is past a limit of reading
+abbrev pub IsOneTooLong : Order → Seen → List PlacedTable → Type 0
+IsOneTooLong order source tables =
+    (contents : List TableContent) → HasTablesOf order source tables contents → (content : TableContent) × InTables contents content × IsTooLong order source content.placed

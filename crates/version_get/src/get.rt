@@ -1,0 +1,87 @@
+//! The newest entry of a user key in the tables of a version (LevelDB's db/version_set.cc, Version::Get).
+
+ghost use Rattle.std.specs.Prelude.{◌≡◌, ◌<◌, ◌^◌, ◌+◌, length, IfOk, IfErr};
+ghost use Rattle.cursor.specs.Moves.{Refuses};
+ghost use Rattle.ikey.specs.Orders.{order_of};
+ghost use Rattle.version_get.specs.Gets.{HasNoEntries, HasNoTablesOf, IsOneTooLong, IsOnlyTooLong, SaysOfAll, SaysOfTable};
+ghost use Rattle.table_access.specs.Tables.{Carries, Only, seen};
+ghost use Rattle.table.specs.Reading.{IsStill};
+ghost use Rattle.versions.specs.Keeping.{HasNumber};
+
+use coding::{Bytes, Damage, DbError, FileKind};
+use edits::{LEVELS, PlacedTable};
+use ikey::{KeyOrder, seek_key};
+use std::alloc::Global;
+use store::Store;
+use table_access::{Tables, table_value};
+use versions::Version;
+
+/// What the newest entry of a user key up to a sequence, below `SEQUENCE_END`, put in the tables of a version: nothing
+/// where they have no such entry, and `Some(None)` where it is a delete. Level 0 is searched from the newest table down,
+/// then each deeper level, and the first table that has such an entry ends the search. Corrupt, where the source hasn't
+/// these tables; Unsupported as `table_value`.
+pub fn value_in_tables<K: KeyOrder, S: Store>(
+    alloc: Global,
+    source: &mut Tables<K, S>,
+    version: &Version<K>,
+    key: &[u8],
+    sequence: u64,
+) -> Result<Option<Option<Bytes>>, DbError>
+    requires { sequence < 2 ^ 56 }
+    ensures carries { Carries K.cmp (λ number. HasNumber number version.now.tables) (seen (S.facts source.old.store) source.old.tables source.old.blocks) (seen (S.facts source.new.store) source.new.tables source.new.blocks) }
+    ensures found { IfOk result (λ value. SaysOfAll (order_of K.name K.cmp) (seen (S.facts source.old.store) source.old.tables source.old.blocks) (seen (S.facts source.new.store) source.new.tables source.new.blocks)
+        version.now.tables key.now sequence value) }
+    ensures still { IsStill (S.facts source.old.store) (S.facts source.new.store) result }
+    ensures refused { IfErr result (λ e. Refuses e (S.facts source.old.store) (S.facts source.new.store)
+        (HasNoTablesOf (order_of K.name K.cmp) (seen (S.facts source.old.store) source.old.tables source.old.blocks) version.now.tables)
+        (IsOneTooLong (order_of K.name K.cmp) (seen (S.facts source.old.store) source.old.tables source.old.blocks) version.now.tables)) }
+{
+    let target = seek_key(alloc, key, sequence)?;
+    let end = search_end(version);
+    let mut from = 0;
+    while from < end {
+        let Some((place, placed)) = version.next_searched(&target, from) else {
+            return Ok(None);
+        };
+        let found = value_in_table(alloc, source, placed, key, sequence)?;
+        if found.is_some() {
+            return Ok(found);
+        }
+        from = place + 1;
+    }
+    Ok(None)
+}
+
+// A number that is above all places of a search.
+fn search_end<K: KeyOrder>(version: &Version<K>) -> usize
+    ensures is { result ≡ length version.now.tables + 7 }
+    ensures range { result < 2 ^ 64 }
+{
+    version.tables().len() + LEVELS as usize
+}
+
+// The same of one of the tables.
+fn value_in_table<K: KeyOrder, S: Store>(
+    alloc: Global,
+    source: &mut Tables<K, S>,
+    placed: &PlacedTable,
+    key: &[u8],
+    sequence: u64,
+) -> Result<Option<Option<Bytes>>, DbError>
+    requires { sequence < 2 ^ 56 }
+    ensures carries { Carries K.cmp (Only placed.now.table.number) (seen (S.facts source.old.store) source.old.tables source.old.blocks) (seen (S.facts source.new.store) source.new.tables source.new.blocks) }
+    ensures found { IfOk result (λ value. SaysOfTable (order_of K.name K.cmp) (seen (S.facts source.old.store) source.old.tables source.old.blocks) (seen (S.facts source.new.store) source.new.tables source.new.blocks)
+        placed.now key.now sequence value) }
+    ensures still { IsStill (S.facts source.old.store) (S.facts source.new.store) result }
+    ensures refused { IfErr result (λ e. Refuses e (S.facts source.old.store) (S.facts source.new.store)
+        (HasNoEntries (order_of K.name K.cmp) (seen (S.facts source.old.store) source.old.tables source.old.blocks) placed.now)
+        (IsOnlyTooLong (order_of K.name K.cmp) (seen (S.facts source.old.store) source.old.tables source.old.blocks) placed.now)) }
+{
+    let number = placed.table.number;
+    // No file has the number 0, and the caches aren't asked for it.
+    if number == 0 {
+        return Err(DbError::Corrupt(FileKind::Table, Damage::Missing));
+    }
+    let value = table_value(alloc, source, number, key, sequence)?;
+    Ok(value)
+}
