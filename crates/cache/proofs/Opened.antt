@@ -29,7 +29,7 @@ reads_both old mid new first second =
       files = λ t. second.files t ∙ first.files (second.faithful t);
       failures = omega (arith, a, b);
       denials = second.denials ∙ first.denials;
-      held = second.held ∙ first.held;
+      locked = second.locked ∙ first.locked;
       synced = λ t. second.synced t ∙ first.synced (second.faithful t);
     }
 

@@ -3,8 +3,8 @@
 use Rattle.std.specs.Prelude.{◌≡◌, ℕ, List, ◌++◌}
 
 -- the spelling of a pair: one of its first part, and one of its second behind it
-abbrev pub Pair : {V W : Type 0} → (List ℕ → V → Type 0) → (List ℕ → W → Type 0) → List ℕ → V × W → Type 0
-Pair R S bytes both = (first rest : List ℕ) × R first both.0 × S rest both.1 × (bytes ≡ first ++ rest)
+abbrev pub InTurn : {V W : Type 0} → (List ℕ → V → Type 0) → (List ℕ → W → Type 0) → List ℕ → V × W → Type 0
+InTurn R S bytes both = (first rest : List ℕ) × R first both.0 × S rest both.1 × (bytes ≡ first ++ rest)
 
 -- the bytes begin with a spelling of the value, behind which the rest stands
 abbrev pub Begins : {V : Type 0} → (List ℕ → V → Type 0) → List ℕ → V → List ℕ → Type 0

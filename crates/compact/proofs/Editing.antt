@@ -10,7 +10,7 @@ use Rattle.edits.specs.declared.field.Field.{Field}
 use Rattle.edits.specs.declared.field.Field.TheVariants.{NextFileNumber, LastSequence, CompactPointer}
 use Rattle.edits.specs.declared.field.PlacedTable.{PlacedTable}
 use Rattle.edits.specs.declared.field.TableFile.{TableFile}
-use Rattle.edits.specs.Edit.{IsProper, IsInOrder, IsTableProper, IsPlacedBefore, tag_of}
+use Rattle.edits.specs.Edit.{IsProper, IsInOrder, IsTableProper, IsPlacedBefore, field_tag}
 use Rattle.edits.proofs.Folds.{all_append}
 use Rattle.edits.proofs.Snapshots.{all_from}
 use Rattle.versions.specs.declared.plan.JobPlan.{JobPlan}
@@ -84,7 +84,7 @@ files_order level (y ∷ []) [] h k = tt
 files_order level (y ∷ []) (t ∷ tables) h k = (inl (omega arith), k)
 files_order level (y ∷ z ∷ ys) tables h k = (h.0, files_order level (z ∷ ys) tables h.1 k)
 
-behind : (level : ℕ) (f : Field) (ys : List PlacedTable) (tables : List TableFile) → tag_of f < 6 → IsInOrder (map gone ys ++ map (placed_at level) tables) → IsInOrder (f ∷ (map gone ys ++ map (placed_at level) tables))
+behind : (level : ℕ) (f : Field) (ys : List PlacedTable) (tables : List TableFile) → field_tag f < 6 → IsInOrder (map gone ys ++ map (placed_at level) tables) → IsInOrder (f ∷ (map gone ys ++ map (placed_at level) tables))
 behind level f [] [] lt h = tt
 behind level f [] (t ∷ tables) lt h = (inl (omega (arith, lt)), h)
 behind level f (y ∷ ys) tables lt h = (inl (omega (arith, lt)), h)

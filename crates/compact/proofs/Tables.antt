@@ -73,7 +73,7 @@ then-syncs a b d name same is w v = record {
   faithful = λ t. w.faithful (v.faithful t);
   failures = omega (arith, w.failures, v.failures);
   denials = v.denials ∙ w.denials;
-  held = v.held ∙ w.held;
+  locked = v.locked ∙ w.locked;
   others = λ t other apart. v.others t other (λ e. apart (e ∙ is)) ∙ w.others (v.faithful t) other apart;
   synced = λ t other apart. v.synced t other (λ e. apart (e ∙ is)) ∙ w.synced (v.faithful t) other apart;
 }

@@ -32,7 +32,7 @@ touches_table old new table manifest w = record {
   faithful = w.faithful;
   failures = w.failures;
   denials = w.denials;
-  held = w.held;
+  locked = w.locked;
   others = λ f name apart other. w.others f name apart;
   synced = λ f name apart other. w.synced f name apart;
 }
@@ -43,7 +43,7 @@ touches_both old mid new table manifest w t others synced = record {
   faithful = λ f. w.faithful (t.faithful f);
   failures = omega (arith, w.failures, t.failures);
   denials = t.denials ∙ w.denials;
-  held = t.held ∙ w.held;
+  locked = t.locked ∙ w.locked;
   others = λ f name apart other. others f name other ∙ w.others (t.faithful f) name apart;
   synced = λ f name apart other. synced f name other ∙ w.synced (t.faithful f) name apart;
 }

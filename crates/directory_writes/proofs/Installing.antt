@@ -44,7 +44,7 @@ touches_job old mid new w manifest h t others synced = record {
   faithful = λ f. h.faithful (t.faithful f);
   failures = omega (arith, h.failures, t.failures);
   denials = t.denials ∙ h.denials;
-  held = t.held ∙ h.held;
+  locked = t.locked ∙ h.locked;
   others = λ f name apart other. others f name other ∙ h.others (t.faithful f) name apart;
   synced = λ f name apart other. synced f name other ∙ h.synced (t.faithful f) name apart;
 }

@@ -8,7 +8,7 @@ use Rattle.std.specs.List.Sorted.{IsPermutation}
 use Rattle.edits.specs.declared.field.Field.{Field}
 use Rattle.edits.specs.declared.field.PlacedTable.{PlacedTable}
 use Rattle.edits.specs.declared.field.TableFile.{TableFile}
-use Rattle.edits.specs.Edit.{IsInOrder, IsWrittenBefore, IsPlacedBefore, tag_of, place_of}
+use Rattle.edits.specs.Edit.{IsInOrder, IsWrittenBefore, IsPlacedBefore, field_tag, place_of}
 use Rattle.edits.specs.Layout.{is_before, is_used, without, inserted, with_table, after_deleted, after_new, after_edit}
 use Rattle.edits.specs.Snapshot.{IsFollowedBy, AreInPlace}
 use Rattle.edits.proofs.Orders.{before_true, before_false, before_trans, unused, unused_from}
@@ -40,11 +40,11 @@ abbrev Rise : {X : Type 0} → (X → ℕ × ℕ) → List X → Type 0
 Rise place [] = Unit {0}
 Rise {X} place (x ∷ xs) = ((y : X) → Among xs y → IsPlacedBefore (place x) (place y)) × Rise place xs
 
-placed_by : {X : Type 0} (f : X → Field) → ((x y : X) → tag_of (f x) < tag_of (f y) → ⊥) → (x y : X) → IsWrittenBefore (f x) (f y) → IsPlacedBefore (place_of (f x)) (place_of (f y))
+placed_by : {X : Type 0} (f : X → Field) → ((x y : X) → field_tag (f x) < field_tag (f y) → ⊥) → (x y : X) → IsWrittenBefore (f x) (f y) → IsPlacedBefore (place_of (f x)) (place_of (f y))
 placed_by f same x y (inl lt) = absurd (same x y lt)
 placed_by f same x y (inr h) = h.1
 
-rising : {X : Type 0} (f : X → Field) → ((x y : X) → tag_of (f x) < tag_of (f y) → ⊥) → (xs : List X) → IsInOrder (map f xs) → Rise (λ x. place_of (f x)) xs
+rising : {X : Type 0} (f : X → Field) → ((x y : X) → field_tag (f x) < field_tag (f y) → ⊥) → (xs : List X) → IsInOrder (map f xs) → Rise (λ x. place_of (f x)) xs
 rising f same [] h = tt
 rising f same (x ∷ []) h = ((λ y i. absurd i), tt)
 rising {X} f same (x ∷ y ∷ xs) h =

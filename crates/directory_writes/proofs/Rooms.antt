@@ -21,7 +21,7 @@ use Rattle.edits.specs.declared.field.PlacedTable.{PlacedTable}
 use Rattle.edits.specs.declared.layout.Layout.{Layout}
 use Rattle.versions.specs.Levels.{IsRange, IsFirstAt, IsBefore}
 use Rattle.versions.specs.Levels as levels
-use Rattle.recover.specs.Tables.{TableContent, HasTable, InTables, tabled, internal_key, AreApart, AreTwoTables, AreTables}
+use Rattle.recover.specs.Tables.{TableContent, HasTable, InTables, tabled, internal_key, LieApart, AreTwoTables, AreTables}
 use Rattle.recover.specs.Directory.{Directory}
 use Rattle.recover.specs.Changes.{IsCompaction}
 use Rattle.recover.proofs.Memberships.{among_back, from_rest, in_part, to_tabled}
@@ -32,7 +32,7 @@ use Rattle.directory_writes.proofs.JobOutputs.{sorted_back}
 
 -- ---- tables of one level lie apart
 
-turned : (order : Order) (a b : TableContent) → AreApart order a b → AreApart order b a
+turned : (order : Order) (a b : TableContent) → LieApart order a b → LieApart order b a
 turned order a b (inl h) = inr (λ e f i j. h f e j i)
 turned order a b (inr h) = inl (λ e f i j. h f e j i)
 
@@ -48,25 +48,25 @@ sorted_before order [] ys e f h i j = absurd i
 sorted_before order (x ∷ xs) ys e f h (inl s) j = let P : Entry → Type 0 = λ g. ComesBefore order g f in subst P (sym s) (h.0 f (among_back xs ys f j))
 sorted_before order (x ∷ xs) ys e f h (inr i) j = sorted_before order xs ys e f h.1 i j
 
-in_row : (order : Order) (ts : List TableContent) (a b : TableContent) → AreSorted order (tabled ts) → InTables ts a → InTables ts b → a.placed.table.number ≢ b.placed.table.number → AreApart order a b
+in_row : (order : Order) (ts : List TableContent) (a b : TableContent) → AreSorted order (tabled ts) → InTables ts a → InTables ts b → a.placed.table.number ≢ b.placed.table.number → LieApart order a b
 in_row order [] a b h i j apart = absurd i
 in_row order (c ∷ ts) a b h (inl e) (inl k) apart = absurd (apart (ap (λ (t : TableContent). t.placed.table.number) (e ∙ sym k)))
 in_row order (c ∷ ts) a b h (inl e) (inr j) apart =
-    let P : TableContent → Type 0 = λ t. AreApart order t b in
+    let P : TableContent → Type 0 = λ t. LieApart order t b in
     subst P (sym e) (inl (λ x y p q. sorted_before order c.entries (tabled ts) x y h p (to_tabled ts b y j q)))
 in_row order (c ∷ ts) a b h (inr i) (inl k) apart =
-    let P : TableContent → Type 0 = λ t. AreApart order a t in
+    let P : TableContent → Type 0 = λ t. LieApart order a t in
     subst P (sym k) (inr (λ x y p q. sorted_before order c.entries (tabled ts) y x h q (to_tabled ts a x i p)))
 in_row order (c ∷ ts) a b h (inr i) (inr j) apart = in_row order ts a b (sorted_back order c.entries (tabled ts) h) i j apart
 
 module _ (order : Order) (d : Directory) (next : Layout) (inputs rest outputs contents : List TableContent) (level : ℕ) (c : IsCompaction order d next inputs rest outputs contents level) (tables : AreTables order d.tables) where
-  beside : (output stays : TableContent) → InTables outputs output → InTables rest stays → stays.placed.level ≡ level → AreApart order output stays
+  beside : (output stays : TableContent) → InTables outputs output → InTables rest stays → stays.placed.level ≡ level → LieApart order output stays
   beside output stays i j same = elim (c.replaceable.beside stays j same) [
     | inl below ↦ inr (λ e f p q. below f e q (c.taken e (to_tabled outputs output e i p)))
     | inr above ↦ inl (λ e f p q. above f e q (c.taken e (to_tabled outputs output e i p)))
   ]
 
-  pub lie_apart : (a b : TableContent) → InTables contents a → InTables contents b → a.placed.table.number ≢ b.placed.table.number → a.placed.level ≡ b.placed.level → 0 < a.placed.level → AreApart order a b
+  pub lie_apart : (a b : TableContent) → InTables contents a → InTables contents b → a.placed.table.number ≢ b.placed.table.number → a.placed.level ≡ b.placed.level → 0 < a.placed.level → LieApart order a b
   lie_apart a b i j apart same some = elim (in_part contents outputs rest a c.new_tables i) [
     | inl o ↦ elim (in_part contents outputs rest b c.new_tables j) [
       | inl p ↦ in_row order outputs a b c.sorted o p apart
@@ -127,7 +127,7 @@ module _ (order : Order) (total : IsTotalOrder order.cmp) where
     AreTwo a b = IsBefore order.cmp a b ⊎ IsBefore order.cmp b a
 
     module _ (contents : List TableContent) (has : (t : TableContent) → InTables contents t → HasTable order files t)
-        (lap : (a b : TableContent) → InTables contents a → InTables contents b → a.placed.table.number ≢ b.placed.table.number → a.placed.level ≡ b.placed.level → 0 < a.placed.level → AreApart order a b) where
+        (lap : (a b : TableContent) → InTables contents a → InTables contents b → a.placed.table.number ≢ b.placed.table.number → a.placed.level ≡ b.placed.level → 0 < a.placed.level → LieApart order a b) where
       place_two : (a b : TableContent) → InTables contents a → InTables contents b → IsFollowedBy a.placed b.placed → AreTwo a.placed b.placed
       place_two a b i j (inl above, other) = inl (inl above)
       place_two a b i j (inr same, other) = elim (cases_lt 0 a.placed.level) [

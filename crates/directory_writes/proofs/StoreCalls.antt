@@ -17,14 +17,14 @@ use Rattle.directory_writes.specs.Calls.{Touches, IsRefusalOf, Creates, AppendsS
 -- ---- what is known of any store
 
 pub touches_none : (facts : Facts) → Touches facts facts
-touches_none facts = record { faithful = λ f. f; failures = omega arith; denials = refl; held = refl }
+touches_none facts = record { faithful = λ f. f; failures = omega arith; denials = refl; locked = refl }
 
 pub touches_both : (old mid new : Facts) → Touches old mid → Touches mid new → Touches old new
 touches_both old mid new first next = record {
   faithful = λ f. first.faithful (next.faithful f);
   failures = omega (arith, first.failures, next.failures);
   denials = next.denials ∙ first.denials;
-  held = next.held ∙ first.held;
+  locked = next.locked ∙ first.locked;
 }
 
 -- ---- what is synced of one name

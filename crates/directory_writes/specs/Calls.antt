@@ -14,7 +14,7 @@ pub record Touches (old new : Facts) : Type 0 where
   pub faithful : IsTrue new.faithful → IsTrue old.faithful
   pub failures : old.failures ≤ new.failures
   pub denials : new.denials ≡ old.denials
-  pub held : new.held ≡ old.held
+  pub locked : new.locked ≡ old.locked
 
 -- The file of this name is as before, and what of it is synced.
 abbrev pub LeavesFile : Facts → Facts → List ℕ → Type 0

@@ -46,7 +46,7 @@ pub record FlushTouches (old new : Facts) (table manifest : List ℕ) : Type 0 w
   pub faithful : IsTrue new.faithful → IsTrue old.faithful
   pub failures : old.failures ≤ new.failures
   pub denials : new.denials ≡ old.denials
-  pub held : new.held ≡ old.held
+  pub locked : new.locked ≡ old.locked
   pub others : IsTrue new.faithful → (name : List ℕ) → name ≢ table → name ≢ manifest → get new.files name ≡ get old.files name
   pub synced : IsTrue new.faithful → (name : List ℕ) → name ≢ table → name ≢ manifest → new.synced name ≡ old.synced name
 

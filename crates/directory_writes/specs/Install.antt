@@ -48,7 +48,7 @@ pub record InstallTouches (old new : Facts) (w : Written) (manifest : List ℕ) 
   pub faithful : IsTrue new.faithful → IsTrue old.faithful
   pub failures : old.failures ≤ new.failures
   pub denials : new.denials ≡ old.denials
-  pub held : new.held ≡ old.held
+  pub locked : new.locked ≡ old.locked
   pub others : IsTrue new.faithful → (name : List ℕ) → ((number : ℕ) → IsNumberAtHand w number → name ≢ table_name number) → name ≢ manifest → get new.files name ≡ get old.files name
   pub synced : IsTrue new.faithful → (name : List ℕ) → ((number : ℕ) → IsNumberAtHand w number → name ≢ table_name number) → name ≢ manifest → new.synced name ≡ old.synced name
 

@@ -4,12 +4,12 @@ use Rattle.std.proofs.lemmas.List.{take_rest, nil_from_length, append-nil, lengt
 use Rattle.coding.specs.Varint.{IsString}
 use Rattle.edits.specs.declared.field.Field.{Field}
 use Rattle.edits.specs.declared.field.Field.TheVariants.{Comparator, LogNumber, NextFileNumber, LastSequence, CompactPointer, DeletedFile, NewFile, PreviousLogNumber}
-use Rattle.coding.specs.Spelling.{Pair, Begins, BeginsNone, IsPrefixFree}
-use Rattle.edits.specs.Edit.{IsLong, IsSequence, IsLevel, IsPlaced, tag_of, IsContent, IsField, IsEdit}
+use Rattle.coding.specs.Spelling.{InTurn, Begins, BeginsNone, IsPrefixFree}
+use Rattle.edits.specs.Edit.{IsLong, IsSequence, IsLevel, IsPlaced, field_tag, IsContent, IsField, IsEdit}
 use Rattle.coding.proofs.Spellings.{free_pair}
 use Rattle.edits.proofs.Spellings.{free_long, free_sequence, free_level, free_string, free_placed}
 
-same_content : (a b x y : List ℕ) (f g : Field) → tag_of f ≡ tag_of g → IsContent a f → IsContent b g → a ++ x ≡ b ++ y → (f ≡ g) × (x ≡ y)
+same_content : (a b x y : List ℕ) (f g : Field) → field_tag f ≡ field_tag g → IsContent a f → IsContent b g → a ++ x ≡ b ++ y → (f ≡ g) × (x ≡ y)
 same_content a b x y (Comparator m) (Comparator n) t h k e = let s = free_string a b x y m n h k e in (ap Comparator s.0, s.1)
 same_content a b x y (LogNumber m) (LogNumber n) t h k e = let s = free_long a b x y m n h k e in (ap LogNumber s.0, s.1)
 same_content a b x y (NextFileNumber m) (NextFileNumber n) t h k e = let s = free_long a b x y m n h k e in (ap NextFileNumber s.0, s.1)
@@ -32,11 +32,11 @@ free_field (c ∷ a) (d ∷ b) x y f g h k e =
 
 -- ---- a field by its tag
 
-pub begins_field : (tag : ℕ) (bytes rest : List ℕ) (field : Field) → tag ≡ tag_of field → Begins IsContent bytes field rest → Begins IsField (tag ∷ bytes) field rest
+pub begins_field : (tag : ℕ) (bytes rest : List ℕ) (field : Field) → tag ≡ field_tag field → Begins IsContent bytes field rest → Begins IsField (tag ∷ bytes) field rest
 begins_field tag bytes rest field t h = (tag ∷ h.0, (t, h.1), ap (λ (bs : List ℕ). tag ∷ bs) h.2)
 
 NoContent : ℕ → List ℕ → Type 0
-NoContent tag bytes = (field : Field) (rest : List ℕ) → tag ≡ tag_of field → Begins IsContent bytes field rest → ⊥
+NoContent tag bytes = (field : Field) (rest : List ℕ) → tag ≡ field_tag field → Begins IsContent bytes field rest → ⊥
 
 none_field : (tag : ℕ) (bytes : List ℕ) → NoContent tag bytes → BeginsNone IsField (tag ∷ bytes)
 unfolding NoContent
@@ -66,12 +66,12 @@ unfolding NoContent
 no_sequence bytes none (LastSequence n) rest t h = none n rest h
 no_sequence bytes none field rest t h = absurd (omega (arith, t))
 
-no_pointer : (bytes : List ℕ) → BeginsNone (Pair IsLevel IsString) bytes → NoContent 5 bytes
+no_pointer : (bytes : List ℕ) → BeginsNone (InTurn IsLevel IsString) bytes → NoContent 5 bytes
 unfolding NoContent
 no_pointer bytes none (CompactPointer level key) rest t h = none (level, key) rest h
 no_pointer bytes none field rest t h = absurd (omega (arith, t))
 
-no_deleted : (bytes : List ℕ) → BeginsNone (Pair IsLevel IsLong) bytes → NoContent 6 bytes
+no_deleted : (bytes : List ℕ) → BeginsNone (InTurn IsLevel IsLong) bytes → NoContent 6 bytes
 unfolding NoContent
 no_deleted bytes none (DeletedFile level number) rest t h = none (level, number) rest h
 no_deleted bytes none field rest t h = absurd (omega (arith, t))
@@ -98,10 +98,10 @@ none_next bytes none = none_field 3 bytes (no_next bytes none)
 pub none_sequence : (bytes : List ℕ) → BeginsNone IsSequence bytes → BeginsNone IsField (4 ∷ bytes)
 none_sequence bytes none = none_field 4 bytes (no_sequence bytes none)
 
-pub none_pointer : (bytes : List ℕ) → BeginsNone (Pair IsLevel IsString) bytes → BeginsNone IsField (5 ∷ bytes)
+pub none_pointer : (bytes : List ℕ) → BeginsNone (InTurn IsLevel IsString) bytes → BeginsNone IsField (5 ∷ bytes)
 none_pointer bytes none = none_field 5 bytes (no_pointer bytes none)
 
-pub none_deleted : (bytes : List ℕ) → BeginsNone (Pair IsLevel IsLong) bytes → BeginsNone IsField (6 ∷ bytes)
+pub none_deleted : (bytes : List ℕ) → BeginsNone (InTurn IsLevel IsLong) bytes → BeginsNone IsField (6 ∷ bytes)
 none_deleted bytes none = none_field 6 bytes (no_deleted bytes none)
 
 pub none_new : (bytes : List ℕ) → BeginsNone IsPlaced bytes → BeginsNone IsField (7 ∷ bytes)

@@ -8,7 +8,7 @@ use Rattle.edits.specs.declared.field.Field.TheVariants.{Comparator, LogNumber, 
 use Rattle.edits.specs.declared.field.PlacedTable.{PlacedTable}
 use Rattle.edits.specs.declared.field.TableFile.{TableFile}
 use Rattle.edits.specs.declared.layout.Layout.{Layout}
-use Rattle.edits.specs.Edit.{IsField, IsContent, IsTable, IsEdit, IsProper, IsTableProper, IsPlacedBefore}
+use Rattle.edits.specs.Edit.{IsField, IsContent, SpellsTable, IsEdit, IsProper, IsTableProper, IsPlacedBefore}
 use Rattle.edits.specs.Layout.{IsLayout, fields_of, last_said, compact_pointer_in, is_at, is_before, is_used, without, inserted, after_deleted, after_new, after_edit, after_edits}
 use Rattle.edits.specs.Snapshot.{IsKey, IsPlacedProper, IsFollowedBy, AreInPlace, IsKept, WasRead}
 use Rattle.edits.proofs.Folds.{all_append}
@@ -16,7 +16,7 @@ use Rattle.edits.proofs.Orders.{before_true, before_false, before_trans, all_wea
 
 -- ---- fields that were read
 
-proper_table : (bytes : List ℕ) (table : TableFile) → IsTable bytes table → IsTableProper table
+proper_table : (bytes : List ℕ) (table : TableFile) → SpellsTable bytes table → IsTableProper table
 proper_table bytes table h = (h.2.1, h.2.0.1, h.3.2.1, h.3.3.2.fits, h.3.3.3.fits)
 
 proper_content : (bytes : List ℕ) (f : Field) → IsContent bytes f → IsProper f

@@ -8,7 +8,7 @@ use Rattle.edits.specs.declared.field.Field.{Field}
 use Rattle.edits.specs.declared.field.Field.TheVariants.{Comparator, LogNumber, NextFileNumber, LastSequence, CompactPointer, DeletedFile, NewFile, PreviousLogNumber}
 use Rattle.edits.specs.declared.field.PlacedTable.{PlacedTable}
 use Rattle.edits.specs.declared.layout.Layout.{Layout}
-use Rattle.edits.specs.Edit.{tag_of, place_of, IsWrittenBefore, IsInOrder, IsProper, IsPastLimit, IsWithinLimit, HasPastLimit}
+use Rattle.edits.specs.Edit.{field_tag, place_of, IsWrittenBefore, IsInOrder, IsProper, IsPastLimit, IsWithinLimit, HasPastLimit}
 use Rattle.edits.specs.Layout.{IsLayout, IsComparator, fields_of, last_said, log_number_in, next_file_number_in, last_sequence_in, previous_log_number_in, compact_pointer_in, levels, is_before, is_used, inserted, with_table, after_deleted, after_new, after_edits}
 use Rattle.edits.specs.Snapshot.{IsRenumbered, IsKey, IsPlacedProper, IsFollowedBy, AreInPlace, IsKept, IsBelowLimit, pointer_fields, previous_fields, snapshot_fields}
 use Rattle.edits.proofs.Folds.{all_append, last_said-append, or_none, level_at}
@@ -84,14 +84,14 @@ rises_append : (fs gs : List Field) → Rises fs → Rises gs → AllByRecursion
 rises_append [] gs h k l = k
 rises_append (f ∷ fs) gs h k l = (all_append (IsWrittenBefore f) fs gs h.0 l.0, rises_append fs gs h.1 k l.1)
 
-below : (f : Field) (n : ℕ) (gs : List Field) → tag_of f < n → AllByRecursion (λ g. n ≤ tag_of g) gs → AllByRecursion (IsWrittenBefore f) gs
-below f n gs lt h = all_weaker (λ g. n ≤ tag_of g) (IsWrittenBefore f) (λ g le. inl (omega (arith, lt, le))) gs h
+below : (f : Field) (n : ℕ) (gs : List Field) → field_tag f < n → AllByRecursion (λ g. n ≤ field_tag g) gs → AllByRecursion (IsWrittenBefore f) gs
+below f n gs lt h = all_weaker (λ g. n ≤ field_tag g) (IsWrittenBefore f) (λ g le. inl (omega (arith, lt, le))) gs h
 
-all_below : (fs gs : List Field) (n : ℕ) → AllByRecursion (λ f. tag_of f < n) fs → AllByRecursion (λ g. n ≤ tag_of g) gs → AllByRecursion (λ f. AllByRecursion (IsWrittenBefore f) gs) fs
-all_below fs gs n h k = all_weaker (λ f. tag_of f < n) (λ f. AllByRecursion (IsWrittenBefore f) gs) (λ f lt. below f n gs lt k) fs h
+all_below : (fs gs : List Field) (n : ℕ) → AllByRecursion (λ f. field_tag f < n) fs → AllByRecursion (λ g. n ≤ field_tag g) gs → AllByRecursion (λ f. AllByRecursion (IsWrittenBefore f) gs) fs
+all_below fs gs n h k = all_weaker (λ f. field_tag f < n) (λ f. AllByRecursion (IsWrittenBefore f) gs) (λ f lt. below f n gs lt k) fs h
 
 abbrev IsPointerFrom : ℕ → Field → Type 0
-IsPointerFrom level f = (tag_of f ≡ 5) × (level ≤ (place_of f).0)
+IsPointerFrom level f = (field_tag f ≡ 5) × (level ≤ (place_of f).0)
 
 pointers_from : (low level : ℕ) (ps : List (Option (List ℕ))) → low ≤ level → AllByRecursion (IsPointerFrom low) (pointer_fields level ps)
 pointers_from low level [] le = tt
@@ -117,14 +117,14 @@ snapshot_order name layout kept =
     let n = layout.previous_log_number in
     let first : Rises (pointer_fields 0 ps ++ map NewFile ts) =
     rises_append (pointer_fields 0 ps) (map NewFile ts) (rises_pointers 0 ps) (rises_tables ts kept.in_place)
-    (all_below (pointer_fields 0 ps) (map NewFile ts) 6 (pointers_all (λ f. tag_of f < 6) (λ l k. omega arith) 0 ps) (tables_all (λ f. 6 ≤ tag_of f) (λ p. omega arith) ts)) in
+    (all_below (pointer_fields 0 ps) (map NewFile ts) 6 (pointers_all (λ f. field_tag f < 6) (λ l k. omega arith) 0 ps) (tables_all (λ f. 6 ≤ field_tag f) (λ p. omega arith) ts)) in
     let last : Rises (body ps ts n) =
     rises_append (pointer_fields 0 ps ++ map NewFile ts) (previous_fields n) first (cond_both (n == 0) [] (PreviousLogNumber n ∷ []) Rises (λ _. tt) (λ _. (tt, tt)))
     (all_below (pointer_fields 0 ps ++ map NewFile ts) (previous_fields n) 8
-    (all_append (λ f. tag_of f < 8) (pointer_fields 0 ps) (map NewFile ts) (pointers_all (λ f. tag_of f < 8) (λ l k. omega arith) 0 ps) (tables_all (λ f. tag_of f < 8) (λ p. omega arith) ts))
-    (previous_all (λ f. 8 ≤ tag_of f) (λ k. omega arith) n)) in
-    let tags : AllByRecursion (λ g. 5 ≤ tag_of g) (body ps ts n) =
-    body_all (λ g. 5 ≤ tag_of g) ps ts n (pointers_all (λ g. 5 ≤ tag_of g) (λ l k. omega arith) 0 ps) (tables_all (λ g. 5 ≤ tag_of g) (λ p. omega arith) ts) (previous_all (λ g. 5 ≤ tag_of g) (λ k. omega arith) n) in
+    (all_append (λ f. field_tag f < 8) (pointer_fields 0 ps) (map NewFile ts) (pointers_all (λ f. field_tag f < 8) (λ l k. omega arith) 0 ps) (tables_all (λ f. field_tag f < 8) (λ p. omega arith) ts))
+    (previous_all (λ f. 8 ≤ field_tag f) (λ k. omega arith) n)) in
+    let tags : AllByRecursion (λ g. 5 ≤ field_tag g) (body ps ts n) =
+    body_all (λ g. 5 ≤ field_tag g) ps ts n (pointers_all (λ g. 5 ≤ field_tag g) (λ l k. omega arith) 0 ps) (tables_all (λ g. 5 ≤ field_tag g) (λ p. omega arith) ts) (previous_all (λ g. 5 ≤ field_tag g) (λ k. omega arith) n) in
     let s = LastSequence layout.last_sequence in
     let m = NextFileNumber layout.next_file_number in
     let l = LogNumber layout.log_number in
@@ -214,12 +214,12 @@ by_levels f xs d seven h =
 
 -- ---- the tables
 
-none_deleted : (fs : List Field) (ts : List PlacedTable) → AllByRecursion (λ f. tag_of f ≢ 6) fs → after_deleted fs ts ≡ Some ts
+none_deleted : (fs : List Field) (ts : List PlacedTable) → AllByRecursion (λ f. field_tag f ≢ 6) fs → after_deleted fs ts ≡ Some ts
 none_deleted [] ts h = refl
 none_deleted (DeletedFile level number ∷ fs) ts h = absurd (h.0 refl)
 none_deleted (f ∷ fs) ts h = none_deleted fs ts h.1
 
-none_new : (fs gs : List Field) (ts : List PlacedTable) → AllByRecursion (λ f. tag_of f ≢ 7) fs → after_new (fs ++ gs) ts ≡ after_new gs ts
+none_new : (fs gs : List Field) (ts : List PlacedTable) → AllByRecursion (λ f. field_tag f ≢ 7) fs → after_new (fs ++ gs) ts ≡ after_new gs ts
 none_new [] gs ts h = refl
 none_new (NewFile placed ∷ fs) gs ts h = absurd (h.0 refl)
 none_new (f ∷ fs) gs ts h = none_new fs gs ts h.1
@@ -246,7 +246,7 @@ put_all (t ∷ ts) acc rest h k =
 tables_after : (ps : List (Option (List ℕ))) (ts : List PlacedTable) (n : ℕ) → AreInPlace ts → after_new (body ps ts n) [] ≡ Some ts
 tables_after ps ts n h =
     ap (λ fs. after_new fs []) (append_assoc (pointer_fields 0 ps) (map NewFile ts) (previous_fields n))
-    ∙ none_new (pointer_fields 0 ps) (map NewFile ts ++ previous_fields n) [] (pointers_all (λ f. tag_of f ≢ 7) (λ l k e. omega (arith, e)) 0 ps)
+    ∙ none_new (pointer_fields 0 ps) (map NewFile ts ++ previous_fields n) [] (pointers_all (λ f. field_tag f ≢ 7) (λ l k e. omega (arith, e)) 0 ps)
     ∙ put_all ts [] (previous_fields n) tt h
     ∙ cond_both (n == 0) [] (PreviousLogNumber n ∷ []) (λ fs. after_new fs ts ≡ Some ts) (λ _. refl) (λ _. refl)
 
@@ -270,7 +270,7 @@ snapshot_folds name layout kept =
           (λ level. ap (last_said (compact_pointer_in level)) (sym whole) ∙ four_none (last_said (compact_pointer_in level) (body ps ts n)) ∙ pointer_said level ps ts n);
       tables =
           ap (λ o. option_and_then (after_edits []) (option_and_then (after_new fs) o))
-          (none_deleted (body ps ts n) [] (body_all (λ f. tag_of f ≢ 6) ps ts n (pointers_all (λ f. tag_of f ≢ 6) (λ l k e. omega (arith, e)) 0 ps) (tables_all (λ f. tag_of f ≢ 6) (λ p e. omega (arith, e)) ts) (previous_all (λ f. tag_of f ≢ 6) (λ k e. omega (arith, e)) n)))
+          (none_deleted (body ps ts n) [] (body_all (λ f. field_tag f ≢ 6) ps ts n (pointers_all (λ f. field_tag f ≢ 6) (λ l k e. omega (arith, e)) 0 ps) (tables_all (λ f. field_tag f ≢ 6) (λ p e. omega (arith, e)) ts) (previous_all (λ f. field_tag f ≢ 6) (λ k e. omega (arith, e)) n)))
           ∙ ap (λ o. option_and_then (after_edits []) o) (tables_after ps ts n kept.in_place);
     }
   where

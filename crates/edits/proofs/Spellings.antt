@@ -4,8 +4,8 @@ use Rattle.std.proofs.lemmas.List.{take-append-drop, take_at}
 use Rattle.coding.specs.Varint.{IsVarint, IsString, AppendsVarint}
 use Rattle.coding.proofs.Fronts.{varint_front, string_front}
 use Rattle.edits.specs.declared.field.TableFile.{TableFile}
-use Rattle.coding.specs.Spelling.{Pair, Begins, BeginsNone, Appends, IsPrefixFree}
-use Rattle.edits.specs.Edit.{IsLong, IsSequence, IsLevel, IsTableNumber, IsTable, IsPlaced}
+use Rattle.coding.specs.Spelling.{InTurn, Begins, BeginsNone, Appends, IsPrefixFree}
+use Rattle.edits.specs.Edit.{IsLong, IsSequence, IsLevel, IsTableNumber, SpellsTable, IsPlaced}
 use Rattle.coding.proofs.Spellings.{free_pair, appends_pair}
 
 pub free_varint : IsPrefixFree IsVarint
@@ -26,18 +26,18 @@ free_level a b x y m n h k e = varint_front a b x y m n h.0 k.0 e
 pub free_table_number : IsPrefixFree IsTableNumber
 free_table_number a b x y m n h k e = varint_front a b x y m n h.0.0 k.0.0 e
 
-pub free_keys : IsPrefixFree (Pair IsString IsString)
+pub free_keys : IsPrefixFree (InTurn IsString IsString)
 free_keys = free_pair IsString IsString free_string free_string
 
-pub free_table : IsPrefixFree IsTable
+pub free_table : IsPrefixFree SpellsTable
 free_table a b x y m n h k e =
-    let same = free_pair IsTableNumber (Pair IsLong (Pair IsString IsString)) free_table_number (free_pair IsLong (Pair IsString IsString) free_long free_keys) a b x y
+    let same = free_pair IsTableNumber (InTurn IsLong (InTurn IsString IsString)) free_table_number (free_pair IsLong (InTurn IsString IsString) free_long free_keys) a b x y
     (m.number, (m.size, (m.smallest, m.largest))) (n.number, (n.size, (n.smallest, n.largest))) h k e in
     (λ i. record { number = (same.0 i).0; size = (same.0 i).1.0; smallest = (same.0 i).1.1.0; largest = (same.0 i).1.1.1 }, same.1)
 
 pub free_placed : IsPrefixFree IsPlaced
 free_placed a b x y m n h k e =
-    let same = free_pair IsLevel IsTable free_level free_table a b x y (m.level, m.table) (n.level, n.table) h k e in
+    let same = free_pair IsLevel SpellsTable free_level free_table a b x y (m.level, m.table) (n.level, n.table) h k e in
     (λ i. record { level = (same.0 i).0; table = (same.0 i).1 }, same.1)
 
 -- a number at the front, as the reader of numbers answers it
@@ -47,17 +47,17 @@ varint_begins bytes used n within h = (take used bytes, h, sym (take-append-drop
 pub varint_none : (bytes front rest : List ℕ) (n : ℕ) → ((used : ℕ) → IsVarint (take used bytes) n → ⊥) → IsVarint front n → bytes ≡ front ++ rest → ⊥
 varint_none bytes front rest n none h e = none (length front) (rw (e, take_at front rest (length front) refl) h)
 
-pub none_table : (bytes : List ℕ) → BeginsNone (Pair IsTableNumber (Pair IsLong (Pair IsString IsString))) bytes → BeginsNone IsTable bytes
+pub none_table : (bytes : List ℕ) → BeginsNone (InTurn IsTableNumber (InTurn IsLong (InTurn IsString IsString))) bytes → BeginsNone SpellsTable bytes
 none_table bytes none table rest b = none (table.number, (table.size, (table.smallest, table.largest))) rest b
 
-pub none_placed : (bytes : List ℕ) → BeginsNone (Pair IsLevel IsTable) bytes → BeginsNone IsPlaced bytes
+pub none_placed : (bytes : List ℕ) → BeginsNone (InTurn IsLevel SpellsTable) bytes → BeginsNone IsPlaced bytes
 none_placed bytes none placed rest b = none (placed.level, placed.table) rest b
 
 -- what the writer of tables has put
 pub put_parts : (start first second third last : List ℕ) (table : TableFile) → AppendsVarint start first table.number → AppendsVarint first second table.size
     → Appends IsString second third table.smallest → Appends IsString third last table.largest
-    → 0 < table.number → table.number < 2 ^ 64 → table.size < 2 ^ 64 → Appends IsTable start last table
+    → 0 < table.number → table.number < 2 ^ 64 → table.size < 2 ^ 64 → Appends SpellsTable start last table
 put_parts start first second third last table number size smallest largest some fits small =
-    appends_pair IsTableNumber (Pair IsLong (Pair IsString IsString)) start first last table.number (table.size, (table.smallest, table.largest)) (number.0, ((number.1, fits), some), number.2)
-    (appends_pair IsLong (Pair IsString IsString) first second last table.size (table.smallest, table.largest) (size.0, (size.1, small), size.2)
+    appends_pair IsTableNumber (InTurn IsLong (InTurn IsString IsString)) start first last table.number (table.size, (table.smallest, table.largest)) (number.0, ((number.1, fits), some), number.2)
+    (appends_pair IsLong (InTurn IsString IsString) first second last table.size (table.smallest, table.largest) (size.0, (size.1, small), size.2)
     (appends_pair IsString IsString second third last table.smallest table.largest smallest largest))

@@ -7,7 +7,7 @@ use Rattle.edits.specs.declared.field.Field.{Field}
 use Rattle.edits.specs.declared.field.Field.TheVariants.{Comparator, LogNumber, NextFileNumber, LastSequence, CompactPointer, DeletedFile, NewFile, PreviousLogNumber}
 use Rattle.edits.specs.declared.field.PlacedTable.{PlacedTable}
 use Rattle.edits.specs.declared.field.TableFile.{TableFile}
-use Rattle.coding.specs.Spelling.{Pair}
+use Rattle.coding.specs.Spelling.{InTurn}
 
 -- a number of at most 64 bits, a sequence, a level, the number of a table
 abbrev pub IsLong : List ℕ → ℕ → Type 0
@@ -23,21 +23,21 @@ abbrev pub IsTableNumber : List ℕ → ℕ → Type 0
 IsTableNumber bytes n = IsLong bytes n × (0 < n)
 
 -- a table: its number, its size, its smallest and its largest key
-abbrev pub IsTable : List ℕ → TableFile → Type 0
-IsTable bytes table = Pair IsTableNumber (Pair IsLong (Pair IsString IsString)) bytes (table.number, (table.size, (table.smallest, table.largest)))
+abbrev pub SpellsTable : List ℕ → TableFile → Type 0
+SpellsTable bytes table = InTurn IsTableNumber (InTurn IsLong (InTurn IsString IsString)) bytes (table.number, (table.size, (table.smallest, table.largest)))
 
 abbrev pub IsPlaced : List ℕ → PlacedTable → Type 0
-IsPlaced bytes placed = Pair IsLevel IsTable bytes (placed.level, placed.table)
+IsPlaced bytes placed = InTurn IsLevel SpellsTable bytes (placed.level, placed.table)
 
-abbrev pub tag_of : Field → ℕ
-tag_of (Comparator name) = 1
-tag_of (LogNumber n) = 2
-tag_of (NextFileNumber n) = 3
-tag_of (LastSequence n) = 4
-tag_of (CompactPointer level key) = 5
-tag_of (DeletedFile level number) = 6
-tag_of (NewFile placed) = 7
-tag_of (PreviousLogNumber n) = 9
+abbrev pub field_tag : Field → ℕ
+field_tag (Comparator name) = 1
+field_tag (LogNumber n) = 2
+field_tag (NextFileNumber n) = 3
+field_tag (LastSequence n) = 4
+field_tag (CompactPointer level key) = 5
+field_tag (DeletedFile level number) = 6
+field_tag (NewFile placed) = 7
+field_tag (PreviousLogNumber n) = 9
 
 -- what stands behind the tag
 abbrev pub IsContent : List ℕ → Field → Type 0
@@ -45,15 +45,15 @@ IsContent bytes (Comparator name) = IsString bytes name
 IsContent bytes (LogNumber n) = IsLong bytes n
 IsContent bytes (NextFileNumber n) = IsLong bytes n
 IsContent bytes (LastSequence n) = IsSequence bytes n
-IsContent bytes (CompactPointer level key) = Pair IsLevel IsString bytes (level, key)
-IsContent bytes (DeletedFile level number) = Pair IsLevel IsLong bytes (level, number)
+IsContent bytes (CompactPointer level key) = InTurn IsLevel IsString bytes (level, key)
+IsContent bytes (DeletedFile level number) = InTurn IsLevel IsLong bytes (level, number)
 IsContent bytes (NewFile placed) = IsPlaced bytes placed
 IsContent bytes (PreviousLogNumber n) = IsLong bytes n
 
 -- A field. Tags are numbers of varying width; those known are below 128, and so one byte.
 abbrev pub IsField : List ℕ → Field → Type 0
 IsField [] field = ⊥
-IsField (tag ∷ bytes) field = (tag ≡ tag_of field) × IsContent bytes field
+IsField (tag ∷ bytes) field = (tag ≡ field_tag field) × IsContent bytes field
 
 -- the bytes are these fields, one after the other, and nothing behind them
 abbrev pub IsEdit : List ℕ → List Field → Type 0
@@ -111,7 +111,7 @@ abbrev pub IsPlacedBefore : ℕ × ℕ → ℕ × ℕ → Type 0
 IsPlacedBefore a b = (a.0 < b.0) ⊎ ((a.0 ≡ b.0) × (a.1 < b.1))
 
 abbrev pub IsWrittenBefore : Field → Field → Type 0
-IsWrittenBefore a b = (tag_of a < tag_of b) ⊎ ((tag_of a ≡ tag_of b) × IsPlacedBefore (place_of a) (place_of b))
+IsWrittenBefore a b = (field_tag a < field_tag b) ⊎ ((field_tag a ≡ field_tag b) × IsPlacedBefore (place_of a) (place_of b))
 
 -- our writer's order: by tag, then by level, then by number
 abbrev pub IsInOrder : List Field → Type 0

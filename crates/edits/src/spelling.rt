@@ -3,8 +3,8 @@
 ghost use Rattle.std.specs.Prelude.{◌≡◌, ◌<◌, ◌≤◌, ◌^◌, ◌++◌, ℕ, List, length, IfOk, IfErr, IfSome, IfNone, OnOk};
 ghost use Rattle.coding.specs.Errors.{RefusesOnly};
 ghost use Rattle.coding.specs.Varint.{IsString};
-ghost use Rattle.coding.specs.Spelling.{Begins, BeginsNone, Appends, Pair};
-ghost use Rattle.edits.specs.Edit.{IsLong, IsSequence, IsLevel, IsTableNumber, IsTable, IsPlaced, IsTableProper};
+ghost use Rattle.coding.specs.Spelling.{Begins, BeginsNone, Appends, InTurn};
+ghost use Rattle.edits.specs.Edit.{IsLong, IsSequence, IsLevel, IsTableNumber, SpellsTable, IsPlaced, IsTableProper};
 
 use crate::field::{PlacedTable, TableFile};
 use coding::{
@@ -78,8 +78,8 @@ pub fn table_number_at(bytes: &[u8]) -> Result<(u64, &[u8]), ReadError>
 
 /// The smallest and the largest key at the front, and the bytes behind them.
 pub fn keys_at(alloc: Global, bytes: &[u8]) -> Result<(Bytes, Bytes, &[u8]), ReadError>
-    ensures found { IfOk result (λ found. Begins (Pair IsString IsString) bytes.now (found.0, found.1) found.2.now) }
-    ensures refused { IfErr result (λ e. RefusesOnly e (BeginsNone (Pair IsString IsString) bytes.now)) }
+    ensures found { IfOk result (λ found. Begins (InTurn IsString IsString) bytes.now (found.0, found.1) found.2.now) }
+    ensures refused { IfErr result (λ e. RefusesOnly e (BeginsNone (InTurn IsString IsString) bytes.now)) }
 {
     let (smallest, rest) = string_at(alloc, bytes)?;
     let (largest, rest) = string_at(alloc, rest)?;
@@ -88,8 +88,8 @@ pub fn keys_at(alloc: Global, bytes: &[u8]) -> Result<(Bytes, Bytes, &[u8]), Rea
 
 /// The table at the front, and the bytes behind it.
 pub fn table_at(alloc: Global, bytes: &[u8]) -> Result<(TableFile, &[u8]), ReadError>
-    ensures found { IfOk result (λ found. Begins IsTable bytes.now found.0 found.1.now) }
-    ensures refused { IfErr result (λ e. RefusesOnly e (BeginsNone IsTable bytes.now)) }
+    ensures found { IfOk result (λ found. Begins SpellsTable bytes.now found.0 found.1.now) }
+    ensures refused { IfErr result (λ e. RefusesOnly e (BeginsNone SpellsTable bytes.now)) }
 {
     let (number, rest) = table_number_at(bytes)?;
     let (size, rest) = long_at(rest)?;
@@ -133,7 +133,7 @@ pub fn put_level(out: &mut Vec<u8>, level: u32) -> Result<(), AllocError>
 /// Writes a table at the end, or a beginning of it where memory runs out.
 pub fn put_table(out: &mut Vec<u8>, table: &TableFile) -> Result<(), AllocError>
     requires { IsTableProper table.now }
-    ensures { OnOk result (Appends IsTable out.old.items out.new.items table.now) }
+    ensures { OnOk result (Appends SpellsTable out.old.items out.new.items table.now) }
 {
     put_varint64(out, table.number)?;
     put_varint64(out, table.size)?;

@@ -6,20 +6,20 @@ use Rattle.batch.specs.declared.operation.Operation.{Operation}
 use Rattle.batch.specs.declared.operation.Operation.TheVariants.{Put, Delete}
 use Rattle.ikey.specs.declared.entry.Entry.{Entry}
 use Rattle.ikey.proofs.SearchedSources.{among_split, among_front, among_back}
-use Rattle.recover.specs.Entries.{entry_of, entries_of}
+use Rattle.recover.specs.Entries.{made_entry, entries_of}
 use Rattle.engine.specs.Accounted.{AreAccounted, entry_weight}
 use Rattle.engine.specs.Machine.{Machine, entry_count, operation_weight, weight}
 
 -- ---- the entries of a batch
 
-weighs : (sequence : ℕ) (operation : Operation) → entry_weight (entry_of sequence operation) ≡ operation_weight operation
+weighs : (sequence : ℕ) (operation : Operation) → entry_weight (made_entry sequence operation) ≡ operation_weight operation
 weighs sequence (Put key value) = refl
 weighs sequence (Delete key) = omega arith
 
 all_weigh : (first : ℕ) (operations : List Operation) → sum_by entry_weight (entries_of first operations) ≡ sum_by operation_weight operations
 all_weigh first [] = refl
 all_weigh first (operation ∷ operations) =
-    let entries = sum_by-cons entry_weight (entry_of first operation) (entries_of (first + 1) operations) in
+    let entries = sum_by-cons entry_weight (made_entry first operation) (entries_of (first + 1) operations) in
     let all = sum_by-cons operation_weight operation operations in
     omega (arith, entries, all, weighs first operation, all_weigh (first + 1) operations)
 

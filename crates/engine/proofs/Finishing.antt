@@ -45,13 +45,13 @@ pub serves_then : {K : Type 0} {g : _} (old mid new : Facts) (before between aft
 serves_then old mid new before between after first next = record {
   stood = next.stood ∙ first.stood;
   undenied = next.undenied ∙ first.undenied;
-  held = next.held ∙ first.held;
+  locked = next.locked ∙ first.locked;
   whole = next.whole;
   views = views_on before between after first.views next.views;
 }
 
 pub serves_same : {K : Type 0} {g : _} (facts : Facts) (db : Held K g) → db.broken ≡ false → ServesOn facts facts db db
-serves_same facts db whole = record { stood = refl; undenied = refl; held = refl; whole = whole; views = views_same db }
+serves_same facts db whole = record { stood = refl; undenied = refl; locked = refl; whole = whole; views = views_same db }
 
 abbrev SameAnswer : {T : Type 0} → Result T DbError → Result T DbError → Type 0
 SameAnswer a b = a ≡ b
@@ -67,7 +67,7 @@ pub outcome_done : {T K : Type 0} {g : _} (may : DbError → Type 0) (old new : 
 outcome_done may old new before after done whole h = record {
   failures = (let stood = h.stood in omega (arith, stood));
   denials = h.undenied;
-  held = h.held;
+  locked = h.locked;
   io = λ is. absurd (never_refused is);
   memory = λ is. h.stood;
   allowed = tt;
@@ -81,7 +81,7 @@ pub outcome_then : {T K : Type 0} {g : _} (may : DbError → Type 0) (old mid ne
 outcome_then may old mid new before between after result whole first h = record {
   failures = (let stood = first.stood in let rise = h.failures in omega (arith, stood, rise));
   denials = h.denials ∙ first.undenied;
-  held = h.held ∙ first.held;
+  locked = h.locked ∙ first.locked;
   io = λ is. (let stood = first.stood in let less = h.io is in omega (arith, stood, less));
   memory = λ is. h.memory is ∙ first.stood;
   allowed = h.allowed;
@@ -90,11 +90,11 @@ outcome_then may old mid new before between after result whole first h = record 
 }
 
 -- what a refused step leaves
-pub outcome_of : {T U K : Type 0} {g : _} (old new : Facts) (before after : Held K g) (e : DbError) → new.held ≡ old.held → DbOutcome {T = T} MayRefusePiece old new before after (Err e) → CompactOutcome {T = U} MayRefusePiece old new before after (Err e)
+pub outcome_of : {T U K : Type 0} {g : _} (old new : Facts) (before after : Held K g) (e : DbError) → new.locked ≡ old.locked → DbOutcome {T = T} MayRefusePiece old new before after (Err e) → CompactOutcome {T = U} MayRefusePiece old new before after (Err e)
 outcome_of {T} {U} old new before after e held h = record {
   failures = h.failures;
   denials = h.denials;
-  held = held;
+  locked = held;
   io = λ is. h.io (as_other is);
   memory = λ is. h.memory (as_other is);
   allowed = h.allowed;
@@ -110,7 +110,7 @@ pub outcome_full : {T K : Type 0} {g : _} (facts : Facts) (db : Held K g) → Co
 outcome_full facts db = record {
   failures = omega arith;
   denials = refl;
-  held = refl;
+  locked = refl;
   io = λ is. absurd (let bad : error.OutOfMemory ≡ error.Io = refusal_in is in cc);
   memory = λ is. refl;
   allowed = tt;
@@ -119,17 +119,17 @@ outcome_full facts db = record {
 }
 
 -- by what a step says of both its ways
-pub outcome_by : {T K : Type 0} {g : _} (old new : Facts) (before after : Held K g) (result : Result T DbError) → before.broken ≡ false → new.held ≡ old.held → DbOutcome MayRefusePiece old new before after result → OnOk result (ServesOn old new before after)
+pub outcome_by : {T K : Type 0} {g : _} (old new : Facts) (before after : Held K g) (result : Result T DbError) → before.broken ≡ false → new.locked ≡ old.locked → DbOutcome MayRefusePiece old new before after result → OnOk result (ServesOn old new before after)
     → CompactOutcome MayRefusePiece old new before after result
 outcome_by old new before after (Ok done) whole held h serves = outcome_done MayRefusePiece old new before after done whole serves
 outcome_by old new before after (Err e) whole held h serves = outcome_of old new before after e held h
 
 -- what the first step of a compaction leaves
-pub serves_begun : {K : Type 0} {g : _} (old new : Facts) (before after : Held K g) → new.failures ≡ old.failures → new.denials ≡ old.denials → new.held ≡ old.held → after.broken ≡ false → IsSame before after → ServesOn old new before after
+pub serves_begun : {K : Type 0} {g : _} (old new : Facts) (before after : Held K g) → new.failures ≡ old.failures → new.denials ≡ old.denials → new.locked ≡ old.locked → after.broken ≡ false → IsSame before after → ServesOn old new before after
 serves_begun old new before after stood undenied held whole same = record {
   stood = stood;
   undenied = undenied;
-  held = held;
+  locked = held;
   whole = whole;
   views = record { sequence = same.sequence; snapshots = same.snapshots; iterators = same.iterators };
 }
@@ -139,7 +139,7 @@ pub outcome_stays : {K : Type 0} {g : _} (may_be : DbError → Type 0) (facts : 
 outcome_stays may_be facts db e other may = record {
   failures = omega arith;
   denials = refl;
-  held = refl;
+  locked = refl;
   io = λ is. absurd (other (refusal_in is));
   memory = λ is. refl;
   allowed = may;
@@ -165,7 +165,7 @@ may_refuse_level _ h = absurd h
 
 as_may : {T K : Type 0} {g : _} (may more : DbError → Type 0) → ((e : DbError) → may e → more e) → (old new : Facts) (before after : Held K g) (result : Result T DbError) → CompactOutcome may old new before after result → CompactOutcome more old new before after result
 as_may {T} may more widens old new before after result h =
-    record { failures = h.failures; denials = h.denials; held = h.held; io = h.io; memory = h.memory; allowed = at result h.allowed; views = h.views; broken = h.broken }
+    record { failures = h.failures; denials = h.denials; locked = h.locked; io = h.io; memory = h.memory; allowed = at result h.allowed; views = h.views; broken = h.broken }
   where
     at : (r : Result T DbError) → MatchResult r (λ x. Unit {0}) may → MatchResult r (λ x. Unit {0}) more
     at (Ok x) is = tt

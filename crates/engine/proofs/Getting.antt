@@ -102,10 +102,10 @@ module _ {K : Type 0} {g : _} {numbers : ℕ → Type 0} (order : Order) (kept :
 -- ---- over any store
 
 pub reads_itself : (facts : Facts) → Reads facts facts
-reads_itself facts = record { faithful = λ f. f; files = λ f. refl; failures = omega arith; denials = refl; held = refl; synced = λ f. refl }
+reads_itself facts = record { faithful = λ f. f; files = λ f. refl; failures = omega arith; denials = refl; locked = refl; synced = λ f. refl }
 
 pub reads_leave : (old new : Facts) → Reads old new → LeavesStore old new
-reads_leave old new reads = record { files = reads.files; synced = reads.synced; held = reads.held }
+reads_leave old new reads = record { files = reads.files; synced = reads.synced; locked = reads.locked }
 
 no_cause_to : {K : Type 0} {g : _} → (db : Held K g) (snapshot : Option ℕ) (sequence : ℕ) → db.broken ≡ false → sequence_at db snapshot ≡ Some sequence → get_refusal db snapshot ≡ None
 no_cause_to db snapshot sequence whole at =

@@ -70,15 +70,15 @@ left_by_lock old mid taken f = (may_lock_only old.files mid.files (taken.files f
 -- the lock wasn't taken
 pub unlocked_open : {T : Type 0} (old new : Facts) (e : DbError) → TakesLock old new (Err e) → OpensStore {T = T} old new (Err e)
 unlocked_open old new e taken = record {
-  locks = record { held = tt; freed = λ h. inl (sym taken.unheld ∙ h) };
+  locks = record { locked = tt; freed = λ h. inl (sym taken.unheld ∙ h) };
   durable = record { ok = λ f. tt; err = λ f. inl (left_by_lock {r = Err e} old new taken f) };
   foreign = λ f. tt;
 }
 
 -- it was, and the open was done
-pub locked_open : {T : Type 0} (old mid new : Facts) (x : T) → TakesLock old mid (Ok tt) → new.held ≡ mid.held → (IsTrue new.faithful → IsTrue mid.faithful) → LeavesDurable {T = T} mid new (Ok x) → (IsTrue new.faithful → KeepsForeign mid new) → OpensStore {T = T} old new (Ok x)
+pub locked_open : {T : Type 0} (old mid new : Facts) (x : T) → TakesLock old mid (Ok tt) → new.locked ≡ mid.locked → (IsTrue new.faithful → IsTrue mid.faithful) → LeavesDurable {T = T} mid new (Ok x) → (IsTrue new.faithful → KeepsForeign mid new) → OpensStore {T = T} old new (Ok x)
 locked_open {T} old mid new x taken same back d kept = record {
-  locks = record { held = same ∙ taken.held; freed = tt };
+  locks = record { locked = same ∙ taken.locked; freed = tt };
   durable = done_durable {T = T} {U = T} old mid new x x d;
   foreign = λ f. foreign_locked old mid new taken (back f) (kept f);
 }
@@ -86,28 +86,28 @@ locked_open {T} old mid new x taken same back d kept = record {
 -- with another value
 pub opened_as : {T U : Type 0} (old new : Facts) (x : T) (y : U) → OpensStore {T = T} old new (Ok x) → OpensStore {T = U} old new (Ok y)
 opened_as old new x y opens = record {
-  locks = record { held = opens.locks.held; freed = tt };
+  locks = record { locked = opens.locks.locked; freed = tt };
   durable = record { ok = opens.durable.ok; err = λ f. tt };
   foreign = opens.foreign;
 }
 
-freed_by : (r : Result (Unit {0}) StoreError) (old new : Facts) → Counts old new r → OnOk r (new.held ≡ false) → r ≢ Err store_error.Missing → r ≢ Err store_error.Memory → new.held ≡ true → old.failures < new.failures
+freed_by : (r : Result (Unit {0}) StoreError) (old new : Facts) → Counts old new r → OnOk r (new.locked ≡ false) → r ≢ Err store_error.Missing → r ≢ Err store_error.Memory → new.locked ≡ true → old.failures < new.failures
 freed_by (Ok x) old new counts free missing memory held = (let clash : true ≡ false = sym held ∙ free in absurd (cc))
 freed_by (Err store_error.Missing) old new counts free missing memory held = absurd (missing refl)
 freed_by (Err store_error.Memory) old new counts free missing memory held = absurd (memory refl)
 freed_by (Err store_error.Device) old new counts free missing memory held = counts.device refl
 
-pub frees : (r : Result (Unit {0}) StoreError) (old new : Facts) → Counts old new r → OnOk r (new.held ≡ false) → r ≢ Err store_error.Missing → r ≢ Err store_error.Memory → Frees old new
+pub frees : (r : Result (Unit {0}) StoreError) (old new : Facts) → Counts old new r → OnOk r (new.locked ≡ false) → r ≢ Err store_error.Missing → r ≢ Err store_error.Memory → Frees old new
 frees r old new counts free missing memory held = freed_by r old new counts free missing memory held
 
 -- it was, and given back
 pub given_back : {T : Type 0} (old mid new last : Facts) (e : DbError) (r : Result (Unit {0}) StoreError) → TakesLock old mid (Ok tt) → mid.failures ≤ new.failures → (IsTrue new.faithful → IsTrue mid.faithful) → LeavesDurable {T = T} mid new (Err e)
-    → Counts new last r → (IsTrue last.faithful → last.files ≡ new.files) → (IsTrue last.faithful → last.synced ≡ new.synced) → OnOk r (last.held ≡ false) → r ≢ Err store_error.Missing → r ≢ Err store_error.Memory
+    → Counts new last r → (IsTrue last.faithful → last.files ≡ new.files) → (IsTrue last.faithful → last.synced ≡ new.synced) → OnOk r (last.locked ≡ false) → r ≢ Err store_error.Missing → r ≢ Err store_error.Memory
     → OpensStore {T = T} old last (Err e)
 given_back {T} old mid new last e r taken rise back d counts files synced free missing memory =
     let whole = behind_durable {T = T} {U = T} old mid new e back (λ f. left_by_lock {r = Ok tt} old mid taken f) d in
     record {
-      locks = record { held = tt; freed = λ h. inr (let fails : new.failures < last.failures = freed_by r new last counts free missing memory h in omega (arith, taken.failures, rise, fails)) };
+      locks = record { locked = tt; freed = λ h. inr (let fails : new.failures < last.failures = freed_by r new last counts free missing memory h in omega (arith, taken.failures, rise, fails)) };
       durable = record {
         ok = λ f. tt;
         err = λ f.
@@ -125,7 +125,7 @@ given_back {T} old mid new last e r taken rise back d counts files synced free m
     }
 
 -- where no memory was found no failure was counted, unless the lock wasn't given back
-pub stood_still : (r : Result (Unit {0}) StoreError) (old mid new last : Facts) → TakesLock old mid (Ok tt) → mid.failures ≡ old.failures → new.failures ≡ mid.failures → new.held ≡ mid.held → Counts new last r → OnErr r (last.held ≡ new.held)
-    → (last.failures ≡ old.failures) ⊎ (last.held ≡ true)
+pub stood_still : (r : Result (Unit {0}) StoreError) (old mid new last : Facts) → TakesLock old mid (Ok tt) → mid.failures ≡ old.failures → new.failures ≡ mid.failures → new.locked ≡ mid.locked → Counts new last r → OnErr r (last.locked ≡ new.locked)
+    → (last.failures ≡ old.failures) ⊎ (last.locked ≡ true)
 stood_still (Ok x) old mid new last taken first stood same counts kept = inl (counts.unfailed (λ k. cc) ∙ stood ∙ first)
-stood_still (Err e) old mid new last taken first stood same counts kept = inr (kept ∙ same ∙ taken.held)
+stood_still (Err e) old mid new last taken first stood same counts kept = inr (kept ∙ same ∙ taken.locked)

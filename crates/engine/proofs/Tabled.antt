@@ -10,7 +10,7 @@ use Rattle.ikey.specs.Sources.{IsNewerThan, joined, SameEntries, IsAnswer, Front
 use Rattle.ikey.specs.Views.{Among, AllUpTo, Contents, IsValueAt, IsView}
 use Rattle.ikey.proofs.SearchedSources.{among_split, among_front, among_back}
 use Rattle.recover.specs.Directory.{Directory, IsConsistent, IsDirectory, used_in}
-use Rattle.recover.specs.Entries.{entry_of, entries_of, greatest}
+use Rattle.recover.specs.Entries.{made_entry, entries_of, greatest}
 use Rattle.recover.specs.Logs.{logged}
 use Rattle.recover.specs.Tables.{TableContent, tabled}
 use Rattle.recover.proofs.Memberships.{up_to_greatest}
@@ -104,4 +104,4 @@ above_last last operations = at operations (last + 1) (omega arith)
   where
     at : (operations : List Operation) (first : ℕ) → last < first → AllByRecursion (λ (e : Entry). last < e.sequence) (entries_of first operations)
     at [] first above = tt
-    at (operation ∷ operations) first above = ((let same : (entry_of first operation).sequence ≡ first = entry_sequence first operation in omega (arith, same, above)), at operations (first + 1) (omega (arith, above)))
+    at (operation ∷ operations) first above = ((let same : (made_entry first operation).sequence ≡ first = entry_sequence first operation in omega (arith, same, above)), at operations (first + 1) (omega (arith, above)))

@@ -16,7 +16,7 @@ use Rattle.engine.specs.Working.{IsPiece}
 pub record ServesOn {K : Type 0} {g : _} (old new : Facts) (before after : Held K g) : Type 0 where
   pub stood : new.failures ≡ old.failures
   pub undenied : new.denials ≡ old.denials
-  pub held : new.held ≡ old.held
+  pub locked : new.locked ≡ old.locked
   pub whole : after.broken ≡ false
   pub views : KeepsViews before after
 
@@ -25,7 +25,7 @@ pub record ServesOn {K : Type 0} {g : _} (old new : Facts) (before after : Held 
 pub record CompactOutcome {T K : Type 0} {g : _} (may : DbError → Type 0) (old new : Facts) (before after : Held K g) (result : Result T DbError) : Type 0 where
   pub failures : old.failures ≤ new.failures
   pub denials : new.denials ≡ old.denials
-  pub held : new.held ≡ old.held
+  pub locked : new.locked ≡ old.locked
   pub io : result ≡ Err error.Io → old.failures < new.failures
   pub memory : result ≡ Err error.OutOfMemory → new.failures ≡ old.failures
   pub allowed : MatchResult result (λ x. Unit {0}) may

@@ -27,7 +27,7 @@ pub record SyncsLog {T E : Type 0} (asked : Type 0) (sync : Bool) (name : List �
   pub others : IsTrue new.faithful → SyncsOnly old.synced new.synced name
   pub unasked : IsTrue new.faithful → sync ≡ false → new.synced ≡ old.synced
   pub refused : IsTrue new.faithful → OnErr result (new.synced ≡ old.synced)
-  pub held : new.held ≡ old.held
+  pub locked : new.locked ≡ old.locked
 
 -- a write asks for it where it is to be synced and has operations
 abbrev pub AsksSync : List Operation → Bool → Type 0
@@ -42,12 +42,12 @@ log_of (Some state) = string_bytes state.log.name
 
 -- An accepted open holds the lock. A refused one doesn't, unless it was held before or the store failed to give it back.
 pub record Locks {T : Type 0} (old new : Facts) (result : Result T DbError) : Type 0 where
-  pub held : OnOk result (new.held ≡ true)
-  pub freed : OnErr result (new.held ≡ true → (old.held ≡ true) ⊎ (old.failures < new.failures))
+  pub locked : OnOk result (new.locked ≡ true)
+  pub freed : OnErr result (new.locked ≡ true → (old.locked ≡ true) ⊎ (old.failures < new.failures))
 
 -- The lock is given back, unless the store failed to.
 abbrev pub Frees : Facts → Facts → Type 0
-Frees old new = new.held ≡ true → old.failures < new.failures
+Frees old new = new.locked ≡ true → old.failures < new.failures
 
 -- ---- every command
 
@@ -55,7 +55,7 @@ Frees old new = new.held ≡ true → old.failures < new.failures
 pub record LeavesStore (old new : Facts) : Type 0 where
   pub files : IsTrue new.faithful → new.files ≡ old.files
   pub synced : IsTrue new.faithful → new.synced ≡ old.synced
-  pub held : new.held ≡ old.held
+  pub locked : new.locked ≡ old.locked
 
 -- A close changes no file either, and gives the lock back.
 pub record ClosesStore (old new : Facts) : Type 0 where
@@ -83,7 +83,7 @@ WriteTouches operations sync state old new answer = SyncsLog (AsksSync operation
 
 -- work and compactions leave the lock
 abbrev pub WorkTouches : {K : Type 0} {g : _} → Option (Held K g) → Facts → Facts → Answer → Type 0
-WorkTouches state old new answer = new.held ≡ old.held
+WorkTouches state old new answer = new.locked ≡ old.locked
 
 abbrev pub Touches : {K : Type 0} {g : _} → Op → Option (Held K g) → Facts → Facts → Answer → Type 0
 Touches (Open mode) state old new answer = OpenTouches state old new answer

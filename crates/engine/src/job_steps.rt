@@ -50,7 +50,7 @@ impl<K: KeyOrder> DbState<K> {
         ensures unwanted { result ≡ Ok Idle → (level : ℕ) → WantsCompaction options.now (held source.old.memory self.old) level → ⊥ }
         ensures few { result ≡ Ok Worked → self.new.job ≡ None → IsTrue (S.facts source.new.tables.store).faithful → StepsUpTo (order_of K.name K.cmp) (seen_of S.facts source.old) (held source.old.memory self.old) (max budget 1) }
         ensures idle { result ≡ Ok Idle → (source.new ≡ source.old) × (self.new ≡ self.old) }
-        ensures lock { (S.facts source.new.tables.store).held ≡ (S.facts source.old.tables.store).held }
+        ensures lock { (S.facts source.new.tables.store).locked ≡ (S.facts source.old.tables.store).locked }
     {
         sound_lasts();
         plans_of_tables();
@@ -86,7 +86,7 @@ impl<K: KeyOrder> DbState<K> {
         ensures memory { LeavesMemories source.old.memory source.new.memory }
         ensures same { IsSame (held source.old.memory self.old) (held source.new.memory self.new) }
         ensures whole { self.new.broken ≡ false }
-        ensures lock { (S.facts source.new.tables.store).held ≡ (S.facts source.old.tables.store).held }
+        ensures lock { (S.facts source.new.tables.store).locked ≡ (S.facts source.old.tables.store).locked }
     {
         sound_lasts();
         let snapshots = self.sequences(alloc, source.memory.last())?;
@@ -123,7 +123,7 @@ impl<K: KeyOrder> DbState<K> {
         ensures needed { result ≡ Ok true → IsTakingAll (held source.old.memory self.old) → EndsNeeded (order_of K.name K.cmp) (seen_of S.facts source.old) (seen_of S.facts source.new) (held source.old.memory self.old) (held source.new.memory self.new) }
         ensures few { result ≡ Ok true → IsTrue (S.facts source.new.tables.store).faithful → HasLeftUpTo (order_of K.name K.cmp) (seen_of S.facts source.old) (held source.old.memory self.old) (max budget 1) }
         ensures come { result ≡ Ok true → (ids : Ids) → LeadsOpen (order_of K.name K.cmp) (seen_of S.facts source.old) (seen_of S.facts source.new) ids (held source.old.memory self.old) (held source.new.memory self.new) (λ m n. HasCome budget (held source.old.memory self.old) m result n) }
-        ensures lock { (S.facts source.new.tables.store).held ≡ (S.facts source.old.tables.store).held }
+        ensures lock { (S.facts source.new.tables.store).locked ≡ (S.facts source.old.tables.store).locked }
     {
         sound_lasts();
         one_directory();

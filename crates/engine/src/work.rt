@@ -64,7 +64,7 @@ impl<K: KeyOrder> DbState<K> {
         ensures exact { LeavesExactlyLive (order_of K.name K.cmp) (seen_of S.facts source.old) (seen_of S.facts source.new) (held source.old.memory self.old) (held source.new.memory self.new) result }
         // All files that are live stay then, and those of other programs.
         ensures removes { result ≡ Ok Idle → IsTrue (S.facts source.new.tables.store).faithful → LosesDead (S.facts source.old.tables.store) (S.facts source.new.tables.store) (held source.new.memory self.new) }
-        ensures lock { (S.facts source.new.tables.store).held ≡ (S.facts source.old.tables.store).held }
+        ensures lock { (S.facts source.new.tables.store).locked ≡ (S.facts source.old.tables.store).locked }
     {
         if self.broken {
             return Err(DbError::Broken);
@@ -92,7 +92,7 @@ impl<K: KeyOrder> DbState<K> {
         ensures unfailed { IfOk result (λ complete. (S.facts source.new.tables.store).failures ≡ (S.facts source.old.tables.store).failures → IsTrue complete) }
         ensures tidy { IsTrue (S.facts source.new.tables.store).faithful → IfOk result (λ complete. IsTrue complete → HasLiveOnly (S.facts source.new.tables.store).files (held source.new.memory self.now)) }
         ensures removes { IsTrue (S.facts source.new.tables.store).faithful → LosesDead (S.facts source.old.tables.store) (S.facts source.new.tables.store) (held source.new.memory self.now) }
-        ensures lock { (S.facts source.new.tables.store).held ≡ (S.facts source.old.tables.store).held }
+        ensures lock { (S.facts source.new.tables.store).locked ≡ (S.facts source.old.tables.store).locked }
     {
         sound_lasts();
         changes_are_kept::<K>();
@@ -122,7 +122,7 @@ impl<K: KeyOrder> DbState<K> {
         ensures does { DoesWork K.cmp options.now budget (held source.old.memory self.old) (held source.new.memory self.new) result }
         ensures within { EndsWithin (order_of K.name K.cmp) options.now budget (seen_of S.facts source.old) (seen_of S.facts source.new) (held source.old.memory self.old) (held source.new.memory self.new) result }
         ensures idle { result ≡ Ok Idle → (source.new ≡ source.old) × (self.new ≡ self.old) }
-        ensures lock { (S.facts source.new.tables.store).held ≡ (S.facts source.old.tables.store).held }
+        ensures lock { (S.facts source.new.tables.store).locked ≡ (S.facts source.old.tables.store).locked }
     {
         if self.job.is_some() {
             self.step_job(alloc, source, budget)?;
@@ -146,7 +146,7 @@ impl<K: KeyOrder> DbState<K> {
         ensures does { DoesWork K.cmp options.now budget (held source.old.memory self.old) (held source.new.memory self.new) result }
         ensures within { EndsWithin (order_of K.name K.cmp) options.now budget (seen_of S.facts source.old) (seen_of S.facts source.new) (held source.old.memory self.old) (held source.new.memory self.new) result }
         ensures idle { result ≡ Ok Idle → (source.new ≡ source.old) × (self.new ≡ self.old) }
-        ensures lock { (S.facts source.new.tables.store).held ≡ (S.facts source.old.tables.store).held }
+        ensures lock { (S.facts source.new.tables.store).locked ≡ (S.facts source.old.tables.store).locked }
     {
         if source.memory.sealed_generation().is_some() {
             self.flush(alloc, source, options)?;
@@ -174,7 +174,7 @@ impl<K: KeyOrder> DbState<K> {
         ensures outcome { DbOutcome MayRefusePiece (S.facts source.old.tables.store) (S.facts source.new.tables.store) (held source.old.memory self.old) (held source.new.memory self.new) result }
         ensures does { OnOk result (WritesTable (held source.old.memory self.old) (held source.new.memory self.new)) }
         ensures serves { OnOk result (ServesOn (S.facts source.old.tables.store) (S.facts source.new.tables.store) (held source.old.memory self.old) (held source.new.memory self.new)) }
-        ensures lock { (S.facts source.new.tables.store).held ≡ (S.facts source.old.tables.store).held }
+        ensures lock { (S.facts source.new.tables.store).locked ≡ (S.facts source.old.tables.store).locked }
     {
         sound_lasts();
         changes_are_kept::<K>();
@@ -227,7 +227,7 @@ impl<K: KeyOrder> DbState<K> {
         ensures outcome { DbOutcome MayRefusePiece (S.facts source.old.tables.store) (S.facts source.new.tables.store) (held source.old.memory self.old) (held source.new.memory self.new) result }
         ensures does { OnOk result (SealsMemory (held source.old.memory self.old) (held source.new.memory self.new)) }
         ensures serves { OnOk result (ServesOn (S.facts source.old.tables.store) (S.facts source.new.tables.store) (held source.old.memory self.old) (held source.new.memory self.new)) }
-        ensures lock { (S.facts source.new.tables.store).held ≡ (S.facts source.old.tables.store).held }
+        ensures lock { (S.facts source.new.tables.store).locked ≡ (S.facts source.old.tables.store).locked }
     {
         sound_lasts();
         changes_are_kept::<K>();

@@ -62,18 +62,18 @@ IsEnding true room rest = IsCutZeros room rest ⊎ (IsCutHeader room rest ⊎ Is
 
 -- The bytes are these whole fragments, each within the `room` left in the block, and what stands behind
 -- them; `cut` says whether that is cut off.
-abbrev pub IsBlock : ℕ → List Fragment → Bool → List ℕ → Type 0
-IsBlock room [] cut bytes = IsEnding cut room bytes
-IsBlock room (fragment ∷ fragments) cut bytes =
+abbrev pub IsLogBlock : ℕ → List Fragment → Bool → List ℕ → Type 0
+IsLogBlock room [] cut bytes = IsEnding cut room bytes
+IsLogBlock room (fragment ∷ fragments) cut bytes =
     (rest : List ℕ) × (bytes ≡ fragment_bytes fragment ++ rest) × (7 + length (data_of fragment) ≤ room)
-    × IsBlock (room - (7 + length (data_of fragment))) fragments cut rest
+    × IsLogBlock (room - (7 + length (data_of fragment))) fragments cut rest
 
 -- the bytes are whole blocks and one that is shorter, perhaps empty; their fragments in order
 pub data AreBlocks : List ℕ → List Fragment → Bool → Type 0 where
-  shorter : {bytes : List ℕ} {fragments : List Fragment} {cut : Bool} → length bytes < 32768 → IsBlock 32768 fragments cut bytes → AreBlocks bytes fragments cut
+  shorter : {bytes : List ℕ} {fragments : List Fragment} {cut : Bool} → length bytes < 32768 → IsLogBlock 32768 fragments cut bytes → AreBlocks bytes fragments cut
   whole : {bytes : List ℕ} {fragments : List Fragment} {cut : Bool} (block rest : List ℕ) (here others : List Fragment)
       → bytes ≡ block ++ rest → fragments ≡ here ++ others
-      → length block ≡ 32768 → IsBlock 32768 here false block → AreBlocks rest others cut → AreBlocks bytes fragments cut
+      → length block ≡ 32768 → IsLogBlock 32768 here false block → AreBlocks rest others cut → AreBlocks bytes fragments cut
 
 -- ---- records
 

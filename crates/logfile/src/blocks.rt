@@ -4,7 +4,7 @@
 ghost use Rattle.std.specs.Prelude.{◌≡◌, ◌≤◌, ◌++◌, ℕ, List, Bool, length, slice_index, EachIndex, MatchBool, IfErr, IfOk};
 ghost use Rattle.coding.specs.Errors.{NamesFault, RefusesOnly};
 ghost use Rattle.logfile.specs.Faults.{AreFaulty, HasFaultIn};
-ghost use Rattle.logfile.specs.Log.{Fragment as FragmentValue, IsBlock, AreBlocks};
+ghost use Rattle.logfile.specs.Log.{Fragment as FragmentValue, IsLogBlock, AreBlocks};
 ghost use Rattle.logfile.specs.Views.{views};
 
 use crate::fragment::{BLOCK_LENGTH, Fragment, HEADER_LENGTH, fragment_at};
@@ -32,9 +32,9 @@ pub fn fragments_of(alloc: Global, bytes: &[u8]) -> Result<(Vec<Fragment<'_>>, b
 // Adds the fragments of a block, and answers whether something at its end is cut off.
 fn push_fragments<'a>(fragments: &mut Vec<Fragment<'a>>, block: &'a [u8]) -> Result<bool, ReadError>
     requires { length block.now ≤ 32768 }
-    ensures found { IfOk result (λ cut. (here : List FragmentValue) × (views fragments.new.items ≡ views fragments.old.items ++ here) × IsBlock 32768 here cut block.now) }
+    ensures found { IfOk result (λ cut. (here : List FragmentValue) × (views fragments.new.items ≡ views fragments.old.items ++ here) × IsLogBlock 32768 here cut block.now) }
     ensures cause { IfErr result (λ e. NamesFault e (λ what. (here : List FragmentValue) × HasFaultIn what 32768 here block.now)) }
-    ensures refused { IfErr result (λ e. RefusesOnly e ((here : List FragmentValue) (cut : Bool) → IsBlock 32768 here cut block.now → ⊥)) }
+    ensures refused { IfErr result (λ e. RefusesOnly e ((here : List FragmentValue) (cut : Bool) → IsLogBlock 32768 here cut block.now → ⊥)) }
 {
     let mut rest = block;
     let mut room = BLOCK_LENGTH;

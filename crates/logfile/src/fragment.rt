@@ -1,7 +1,7 @@
 //! Fragments: a header of seven bytes and data (LevelDB's doc/log_format.md, "record").
 
 ghost use Rattle.std.specs.Prelude.{◌≡◌, ◌<◌, ◌≤◌, ◌+◌, ◌++◌, ℕ, List, Bool, true, length, IfErr, IfOk, MatchOption, OnOk};
-ghost use Rattle.logfile.specs.Log.{Fragment as FragmentValue, fragment_bytes, IsEnding, IsBlock};
+ghost use Rattle.logfile.specs.Log.{Fragment as FragmentValue, fragment_bytes, IsEnding, IsLogBlock};
 ghost use Rattle.logfile.specs.Faults.{HasFaultAt};
 ghost use Rattle.logfile.specs.Kinds.{made};
 ghost use Rattle.logfile.specs.Views.{view};
@@ -36,7 +36,7 @@ pub fn fragment_at(bytes: &[u8], room: usize) -> Result<Option<(Fragment<'_>, &[
     ensures found { IfOk result (λ found. MatchOption found (IsEnding true room bytes.now) (λ x.
         (bytes.now ≡ fragment_bytes (view x.0) ++ x.1.now) × (7 + length x.0.data.now ≤ room))) }
     ensures cause { IfErr result (λ damage. HasFaultAt damage room bytes.now) }
-    ensures refused { IfErr result (λ e. (fragments : List FragmentValue) (cut : Bool) → IsBlock room fragments cut bytes.now → ⊥) }
+    ensures refused { IfErr result (λ e. (fragments : List FragmentValue) (cut : Bool) → IsLogBlock room fragments cut bytes.now → ⊥) }
 {
     let [a, b, c, d, low, high, number, behind @ ..] = bytes else {
         return Ok(None);

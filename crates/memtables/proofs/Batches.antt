@@ -7,7 +7,7 @@ use Rattle.batch.specs.declared.operation.Operation.{Operation}
 use Rattle.ikey.specs.declared.entry.Entry.{Entry}
 use Rattle.ikey.specs.Views.{Among, AllUpTo}
 use Rattle.memtable.specs.Newest.{IsNew}
-use Rattle.recover.specs.Entries.{RiseAbove, greatest, entry_of, entries_of}
+use Rattle.recover.specs.Entries.{RiseAbove, greatest, made_entry, entries_of}
 use Rattle.memtables.specs.Memories.{operation_bytes}
 
 -- ---- bounds
@@ -79,17 +79,17 @@ room_left operations i none operation entries bytes within is many much =
 
 -- ---- the entries of what was added
 
-entries_push : (s : ℕ) (operations : List Operation) (operation : Operation) → entries_of s (operations ++ operation ∷ []) ≡ entries_of s operations ++ entry_of (s + length operations) operation ∷ []
-entries_push s [] operation = ap (λ (n : ℕ). entry_of n operation ∷ []) (let e : s ≡ s + 0 = omega arith in e)
+entries_push : (s : ℕ) (operations : List Operation) (operation : Operation) → entries_of s (operations ++ operation ∷ []) ≡ entries_of s operations ++ made_entry (s + length operations) operation ∷ []
+entries_push s [] operation = ap (λ (n : ℕ). made_entry n operation ∷ []) (let e : s ≡ s + 0 = omega arith in e)
 entries_push s (first ∷ operations) operation =
-    ap (λ (es : List Entry). entry_of s first ∷ es)
-    (entries_push (s + 1) operations operation ∙ ap (λ (n : ℕ). entries_of (s + 1) operations ++ entry_of n operation ∷ []) (let e : s + 1 + length operations ≡ s + length (first ∷ operations) = omega arith in e))
+    ap (λ (es : List Entry). made_entry s first ∷ es)
+    (entries_push (s + 1) operations operation ∙ ap (λ (n : ℕ). entries_of (s + 1) operations ++ made_entry n operation ∷ []) (let e : s + 1 + length operations ≡ s + length (first ∷ operations) = omega arith in e))
 
 pub entries_of_front : (s i : ℕ) (operations : List Operation) (operation : Operation) → i < length operations → operation ≡ get_or operations i operation
-    → entries_of s (take (i + 1) operations) ≡ entries_of s (take i operations) ++ entry_of (s + i) operation ∷ []
+    → entries_of s (take (i + 1) operations) ≡ entries_of s (take i operations) ++ made_entry (s + i) operation ∷ []
 entries_of_front s i operations operation within is =
     ap (λ (n : ℕ). entries_of s (take n operations)) (add-one i)
     ∙ ap (entries_of s) (take-suc operations i operation within)
     ∙ entries_push s (take i operations) (get_or operations i operation)
-    ∙ ap (λ (n : ℕ). entries_of s (take i operations) ++ entry_of (s + n) (get_or operations i operation) ∷ []) (length-take-le i operations (omega (arith, within)))
-    ∙ ap (λ (o : Operation). entries_of s (take i operations) ++ entry_of (s + i) o ∷ []) (sym is)
+    ∙ ap (λ (n : ℕ). entries_of s (take i operations) ++ made_entry (s + n) (get_or operations i operation) ∷ []) (length-take-le i operations (omega (arith, within)))
+    ∙ ap (λ (o : Operation). entries_of s (take i operations) ++ made_entry (s + i) o ∷ []) (sym is)

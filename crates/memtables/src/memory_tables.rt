@@ -55,7 +55,7 @@ impl<K: KeyOrder> MemoryTables<K> {
     ghost use Rattle.memtables.specs.Memories.{AreMemories, HasRoom, IsAlone, Memories, logged_in, operation_bytes, sealed_in, sealed_inserts, table_in};
     ghost use Rattle.memtables.specs.Places.{LeavesMemories, ListsTable, StaysInMemories};
     ghost use Rattle.memtable.specs.Contents.{size_of};
-    ghost use Rattle.recover.specs.Entries.{RiseAbove, greatest, entry_of, entries_of};
+    ghost use Rattle.recover.specs.Entries.{RiseAbove, greatest, made_entry, entries_of};
     ghost use Rattle.table_access.specs.Memory.{memory_facts};
 
     /// A current table without entries, and no other; no sequence is used. It takes no memory.
@@ -389,7 +389,7 @@ impl<K: KeyOrder> MemoryTables<K> {
         requires entry_room { 0 < self.old.current.entry_room }
         requires byte_room { operation_bytes operation.now ≤ self.old.current.byte_room }
         requires fits { self.old.last + 1 < 2 ^ 56 }
-        ensures written { IsWritten self.old self.new (entry_of (self.old.last + 1) operation.now ∷ []) }
+        ensures written { IsWritten self.old self.new (made_entry (self.old.last + 1) operation.now ∷ []) }
         ensures last { self.new.last ≡ self.old.last + 1 }
         ensures entry_room { self.new.current.entry_room ≡ self.old.current.entry_room - 1 }
         ensures byte_room { self.new.current.byte_room ≡ self.old.current.byte_room - operation_bytes operation.now }

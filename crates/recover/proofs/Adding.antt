@@ -17,7 +17,7 @@ use Rattle.edits.specs.declared.layout.Layout.{Layout}
 use Rattle.edits.specs.declared.names.FileName.TheVariants.{Current, Log, Table, OldTable, Manifest}
 use Rattle.edits.proofs.FileNames.{one_file}
 use Rattle.ikey.specs.declared.entry.Entry.{Entry}
-use Rattle.recover.specs.Entries.{entry_of, entries_of, greatest, RiseAbove}
+use Rattle.recover.specs.Entries.{made_entry, entries_of, greatest, RiseAbove}
 use Rattle.ikey.specs.Views.{Among}
 use Rattle.recover.specs.Tables.{table_at, TableContent, HasTables, InTables, tabled}
 use Rattle.recover.specs.Logs.{Batch, LogContent, AreBatches, HasLog, HasLogs, IsLive, AreLive, InLogs, NumbersRise, batch_entries, logged}
@@ -51,7 +51,7 @@ above low [] e k i = absurd i
 above low (y ∷ ys) e k (inl i) = omega (arith, k.0, ap (λ (f : Entry). f.sequence) i)
 above low (y ∷ ys) e k (inr i) = let rest : y.sequence < e.sequence = above y.sequence ys e k.1 i in omega (arith, k.0, rest)
 
-pub sequence-entry_of : (s : ℕ) (o : Operation) → (entry_of s o).sequence ≡ s
+pub sequence-entry_of : (s : ℕ) (o : Operation) → (made_entry s o).sequence ≡ s
 sequence-entry_of s (Put key value) = refl
 sequence-entry_of s (Delete key) = refl
 

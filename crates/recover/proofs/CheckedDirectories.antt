@@ -140,7 +140,7 @@ pub current_there : (files : Files) (listing : Listing) → IsListing files list
 current_there files listing l there e = let t : is_some {T = List ℕ} None ≡ true = ap is_some (sym e.current) ∙ sym l.current ∙ there in cc
 
 pub unchanged_of : {T : Type 0} (a b : Facts) (result : Result T DbError) → Reads a b result → IsUnchanged a b
-unchanged_of a b result h = record { faithful = h.faithful; failures = h.failures; denials = h.denials; held = h.held; same = h.same; synced = h.synced }
+unchanged_of a b result h = record { faithful = h.faithful; failures = h.failures; denials = h.denials; locked = h.locked; same = h.same; synced = h.synced }
 
 pub not_listed : {T : Type 0} (order : Order) (e : DbError) (a b : Facts) (result : Result T DbError) → Reads a b result → result ≡ Err e → (e ≡ OutOfMemory) ⊎ (e ≡ Io) → RefusesDirectory e a b (IsDamagedAll order a.files) (IsRefused order a.files)
 not_listed order e a b result h is (inl memory) = subst (λ (x : DbError). RefusesDirectory x a b (IsDamagedAll order a.files) (IsRefused order a.files)) (sym memory) tt

@@ -7,7 +7,7 @@ use Rattle.edits.specs.declared.layout.Layout.{Layout}
 use Rattle.ikey.specs.declared.entry.Entry.{Entry}
 use Rattle.ikey.specs.Views.{Among}
 use Rattle.ikey.specs.Sources.{ComesBefore, AreSorted, SameEntries}
-use Rattle.recover.specs.Tables.{TableContent, HasTable, HasTables, InTables, tabled, AreApart, AreNewer, AreTwoTables, AreTables}
+use Rattle.recover.specs.Tables.{TableContent, HasTable, HasTables, InTables, tabled, LieApart, AreNewer, AreTwoTables, AreTables}
 use Rattle.recover.specs.Logs.{IsLive, logged}
 use Rattle.recover.specs.Directory.{HasManifest, Directory, IsConsistent}
 use Rattle.recover.specs.Changes.{AgreeBeside, AreParted, IsCompaction, compacted, CompactionLaw}
@@ -88,14 +88,14 @@ module _ (order : Order) (old new : Files) (d : Directory) (edits : List (List F
   older_than : (stays output : TableContent) → InTables rest stays → InTables outputs output → level < stays.placed.level → AreNewer output stays
   older_than stays output i j lt e f p q key = let t = from_input output e j p in c.replaceable.older stays t.0 i t.1 lt e f t.2 q key
 
-  beside : (stays output : TableContent) → InTables rest stays → InTables outputs output → stays.placed.level ≡ level → AreApart order stays output
+  beside : (stays output : TableContent) → InTables rest stays → InTables outputs output → stays.placed.level ≡ level → LieApart order stays output
   beside stays output i j same =
       elim (c.replaceable.beside stays i same) [
         | inl below ↦ inl (λ e f p q. below e f p (c.taken f (to_tabled outputs output f j q)))
         | inr above ↦ inr (λ e f p q. above e f p (c.taken f (to_tabled outputs output f j q)))
       ]
 
-  turned : (x y : TableContent) → AreApart order x y → AreApart order y x
+  turned : (x y : TableContent) → LieApart order x y → LieApart order y x
   turned x y (inl k) = inr (λ e f p q. k f e q p)
   turned x y (inr k) = inl (λ e f p q. k f e q p)
 

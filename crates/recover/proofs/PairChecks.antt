@@ -14,7 +14,7 @@ use Rattle.recover.specs.Checks.{AreNewerThan, NeedsNewer, content_of, MayFollow
 use Rattle.ikey.specs.Views.{Among}
 use Rattle.recover.specs.Ranges.{IsKeyBefore, IsBefore, DoNotOverlap}
 use Rattle.ikey.specs.Sources.{ComesBefore}
-use Rattle.recover.specs.Tables.{TableContent, HasTable, internal_key, AreApart}
+use Rattle.recover.specs.Tables.{TableContent, HasTable, internal_key, LieApart}
 use Rattle.recover.proofs.Closed.{newer_apart}
 use Rattle.recover.proofs.EntryOrder.{before_trans}
 use Rattle.recover.proofs.OneMeaning.{same_table_content}
@@ -54,7 +54,7 @@ all_before order o files a b h g before e f i j =
     through order o e last first f (h.largest.3 e i) middle (g.smallest.3 f j)
 
 apart_by : (order : Order) → IsTotalOrder order.cmp → (files : Files) (a b : TableContent) → HasTable order files a → HasTable order files b
-    → IsBefore order a.placed.table.largest b.placed.table.smallest ⊎ IsBefore order b.placed.table.largest a.placed.table.smallest → AreApart order a b
+    → IsBefore order a.placed.table.largest b.placed.table.smallest ⊎ IsBefore order b.placed.table.largest a.placed.table.smallest → LieApart order a b
 apart_by order o files a b h g (inl before) = inl (all_before order o files a b h g before)
 apart_by order o files a b h g (inr before) = inr (λ e f i j. all_before order o files b a g h before f e j i)
 

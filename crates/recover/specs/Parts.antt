@@ -27,7 +27,7 @@ pub record IsUnchanged (old new : Facts) : Type 0 where
   pub faithful : IsTrue new.faithful → IsTrue old.faithful
   pub failures : old.failures ≤ new.failures
   pub denials : new.denials ≡ old.denials
-  pub held : new.held ≡ old.held
+  pub locked : new.locked ≡ old.locked
   pub same : IsTrue new.faithful → new.files ≡ old.files
   pub synced : IsTrue new.faithful → new.synced ≡ old.synced
 

@@ -28,7 +28,7 @@ pub record Reads {T : Type 0} (old new : Facts) (result : Result T DbError) : Ty
   pub faithful : IsTrue new.faithful → IsTrue old.faithful
   pub failures : old.failures ≤ new.failures
   pub denials : new.denials ≡ old.denials
-  pub held : new.held ≡ old.held
+  pub locked : new.locked ≡ old.locked
   pub io : result ≡ Err error.Io → old.failures < new.failures
   pub same : IsTrue new.faithful → new.files ≡ old.files
   pub synced : IsTrue new.faithful → new.synced ≡ old.synced

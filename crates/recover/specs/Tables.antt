@@ -59,8 +59,8 @@ tabled [] = []
 tabled (content ∷ contents) = content.entries ++ tabled contents
 
 -- all entries of one come before all of the other
-abbrev pub AreApart : Order → TableContent → TableContent → Type 0
-AreApart order a b = ((e f : Entry) → Among a.entries e → Among b.entries f → ComesBefore order e f) ⊎ ((e f : Entry) → Among a.entries e → Among b.entries f → ComesBefore order f e)
+abbrev pub LieApart : Order → TableContent → TableContent → Type 0
+LieApart order a b = ((e f : Entry) → Among a.entries e → Among b.entries f → ComesBefore order e f) ⊎ ((e f : Entry) → Among a.entries e → Among b.entries f → ComesBefore order f e)
 
 -- of the same key the entries of one are newer than those of the other
 abbrev pub AreNewer : TableContent → TableContent → Type 0
@@ -71,7 +71,7 @@ AreNewer a b = (e f : Entry) → Among a.entries e → Among b.entries f → e.k
 abbrev pub AreTwoTables : Order → TableContent → TableContent → Type 0
 AreTwoTables order a b =
     (a.placed.level < b.placed.level → AreNewer a b)
-    × (a.placed.level ≡ b.placed.level → 0 < a.placed.level → AreApart order a b)
+    × (a.placed.level ≡ b.placed.level → 0 < a.placed.level → LieApart order a b)
     × (a.placed.level ≡ 0 → b.placed.level ≡ 0 → AreNewer b a)
 
 abbrev pub AreTables : Order → List TableContent → Type 0

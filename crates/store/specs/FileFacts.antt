@@ -14,7 +14,7 @@ counted_facts held counters = record {
   synced = λ name. None;
   calls = [];
   faithful = false;
-  held = held;
+  locked = held;
   failures = counters.failures;
   denials = counters.denials;
 }

@@ -15,7 +15,7 @@ mem_facts store = record {
   synced = synced_of store.files.entries;
   calls = calls_of store.past.items (disk_in store);
   faithful = nat_lt store.counters.failures (2 ^ 64 - 1);
-  held = store.locked;
+  locked = store.locked;
   failures = store.counters.failures;
   denials = store.counters.denials;
 }

@@ -28,7 +28,7 @@ use std::alloc::Global;
 #[derive(Drop)]
 pub struct FileStore {
     folder: Folder,
-    held: bool,
+    locked: bool,
     counters: Counters,
 }
 
@@ -36,18 +36,18 @@ impl FileStore {
     /// The files of a folder that exists. Missing where nothing is at the path, and Device where something else than
     /// a folder is there, or one that this process may not open.
     pub fn open(rt: &HostRuntime, folder: &str) -> Result<FileStore, StoreError>
-        ensures { IfOk result (λ store. counted_facts store.held store.counters ≡ record { files = empty; synced = λ name. None; calls = []; faithful = false; held = false; failures = 0; denials = 0 }) }
+        ensures { IfOk result (λ store. counted_facts store.locked store.counters ≡ record { files = empty; synced = λ name. None; calls = []; faithful = false; locked = false; failures = 0; denials = 0 }) }
     {
         Ok(FileStore {
             folder: Folder::open(rt, folder)?,
-            held: false,
+            locked: false,
             counters: Counters::new(),
         })
     }
 }
 
 impl Store for FileStore {
-    ghost facts = { λ store. counted_facts store.held store.counters };
+    ghost facts = { λ store. counted_facts store.locked store.counters };
 
     fn failures(&self) -> u64 {
         self.counters.failures()
@@ -118,7 +118,7 @@ impl Store for FileStore {
     fn lock(&mut self) -> Result<bool, StoreError> {
         match self.folder.lock() {
             Ok(true) => {
-                self.held = true;
+                self.locked = true;
                 Ok(true)
             }
             Ok(false) => self.counters.deny(),
@@ -128,7 +128,7 @@ impl Store for FileStore {
 
     fn unlock(&mut self) -> Result<(), StoreError> {
         self.folder.unlock();
-        self.held = false;
+        self.locked = false;
         Ok(())
     }
 }

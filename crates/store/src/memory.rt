@@ -39,7 +39,7 @@ impl MemStore {
 
     /// An empty directory.
     pub fn new(alloc: Global) -> Self
-        ensures { mem_facts result ≡ record { files = empty; synced = λ name. None; calls = []; faithful = true; held = false; failures = 0; denials = 0 } }
+        ensures { mem_facts result ≡ record { files = empty; synced = λ name. None; calls = []; faithful = true; locked = false; failures = 0; denials = 0 } }
     {
         MemStore {
             alloc,
@@ -52,7 +52,7 @@ impl MemStore {
 
     /// A directory with a copy of each file, synced as it is here, its lock free and its counts 0.
     pub fn copy(&self) -> Result<MemStore, StoreError>
-        ensures copied { IfOk result (λ copy. mem_facts copy ≡ record (mem_facts self.now) { calls = []; faithful = true; held = false; failures = 0; denials = 0 }) }
+        ensures copied { IfOk result (λ copy. mem_facts copy ≡ record (mem_facts self.now) { calls = []; faithful = true; locked = false; failures = 0; denials = 0 }) }
         ensures memory { IfErr result (λ error. error ≡ StoreError.Memory) }
     {
         let files = self.files.clone()?;
@@ -61,7 +61,7 @@ impl MemStore {
 
     // A directory that begins with these files.
     fn of(alloc: Global, files: BTreeMap<String, MemFile>) -> MemStore
-        ensures { mem_facts result ≡ record { files = files_of files.entries; synced = synced_of files.entries; calls = []; faithful = true; held = false; failures = 0; denials = 0 } }
+        ensures { mem_facts result ≡ record { files = files_of files.entries; synced = synced_of files.entries; calls = []; faithful = true; locked = false; failures = 0; denials = 0 } }
     {
         MemStore {
             alloc,

@@ -33,7 +33,7 @@ pub trait Store {
     fn list(&mut self, alloc: Global) -> Result<Vec<String>, StoreError>
         ensures counts { Counts (facts self.old) (facts self.new) result }
         ensures undenied { (facts self.new).denials ≡ (facts self.old).denials }
-        ensures lock { (facts self.new).held ≡ (facts self.old).held }
+        ensures lock { (facts self.new).locked ≡ (facts self.old).locked }
         ensures names { IfOk result (λ names. IsTrue (facts self.new).faithful →
             Lists (facts self.old).files (map string_bytes names.items)) }
         ensures same { Keeps (facts self.old) (facts self.new) }
@@ -45,7 +45,7 @@ pub trait Store {
     fn len(&mut self, name: &str) -> Result<u64, StoreError>
         ensures counts { Counts (facts self.old) (facts self.new) result }
         ensures undenied { (facts self.new).denials ≡ (facts self.old).denials }
-        ensures lock { (facts self.new).held ≡ (facts self.old).held }
+        ensures lock { (facts self.new).locked ≡ (facts self.old).locked }
         ensures length { IfOk result (λ len. IsTrue (facts self.new).faithful →
             (bytes : List ℕ) × (map.get (facts self.old).files name.now ≡ Some bytes) × (len ≡ length bytes)) }
         ensures missing { IsTrue (facts self.new).faithful → result ≡ Err StoreError.Missing →
@@ -64,7 +64,7 @@ pub trait Store {
     ) -> Result<Vec<u8>, StoreError>
         ensures counts { Counts (facts self.old) (facts self.new) result }
         ensures undenied { (facts self.new).denials ≡ (facts self.old).denials }
-        ensures lock { (facts self.new).held ≡ (facts self.old).held }
+        ensures lock { (facts self.new).locked ≡ (facts self.old).locked }
         ensures bytes { IfOk result (λ read. IsTrue (facts self.new).faithful →
             (bytes : List ℕ) × (map.get (facts self.old).files name.now ≡ Some bytes) × (read.items ≡ take count (drop offset bytes))) }
         ensures missing { IsTrue (facts self.new).faithful → result ≡ Err StoreError.Missing →
@@ -77,7 +77,7 @@ pub trait Store {
     fn create(&mut self, name: &str) -> Result<(), StoreError>
         ensures counts { Counts (facts self.old) (facts self.new) result }
         ensures undenied { (facts self.new).denials ≡ (facts self.old).denials }
-        ensures lock { (facts self.new).held ≡ (facts self.old).held }
+        ensures lock { (facts self.new).locked ≡ (facts self.old).locked }
         ensures files { Changes (facts self.old) (facts self.new) result
             (λ old new. new ≡ map.insert old name.now [])
             (λ old new. (new ≡ old) ⊎ (new ≡ map.insert old name.now [])) }
@@ -90,7 +90,7 @@ pub trait Store {
     fn append(&mut self, name: &str, bytes: &[u8]) -> Result<(), StoreError>
         ensures counts { Counts (facts self.old) (facts self.new) result }
         ensures undenied { (facts self.new).denials ≡ (facts self.old).denials }
-        ensures lock { (facts self.new).held ≡ (facts self.old).held }
+        ensures lock { (facts self.new).locked ≡ (facts self.old).locked }
         ensures files { Changes (facts self.old) (facts self.new) result
             (λ old new. Appends old new name.now bytes.now)
             (λ old new. AppendsBeginning old new name.now bytes.now) }
@@ -103,7 +103,7 @@ pub trait Store {
     fn sync(&mut self, name: &str) -> Result<(), StoreError>
         ensures counts { Counts (facts self.old) (facts self.new) result }
         ensures undenied { (facts self.new).denials ≡ (facts self.old).denials }
-        ensures lock { (facts self.new).held ≡ (facts self.old).held }
+        ensures lock { (facts self.new).locked ≡ (facts self.old).locked }
         ensures present { IsTrue (facts self.new).faithful → OnOk result (IsSome (map.get (facts self.old).files name.now)) }
         ensures same { Keeps (facts self.old) (facts self.new) }
         ensures synced { IsTrue (facts self.new).faithful → OnOk result ((facts self.new).synced ≡ with_synced (facts self.old).synced name.now (map.get (facts self.old).files name.now)) }
@@ -117,7 +117,7 @@ pub trait Store {
     fn rename(&mut self, from: &str, to: &str) -> Result<(), StoreError>
         ensures counts { Counts (facts self.old) (facts self.new) result }
         ensures undenied { (facts self.new).denials ≡ (facts self.old).denials }
-        ensures lock { (facts self.new).held ≡ (facts self.old).held }
+        ensures lock { (facts self.new).locked ≡ (facts self.old).locked }
         ensures files { Changes (facts self.old) (facts self.new) result
             (λ old new. Renames old new from.now to.now)
             (λ old new. (new ≡ old) ⊎ Renames old new from.now to.now) }
@@ -131,7 +131,7 @@ pub trait Store {
     fn remove(&mut self, name: &str) -> Result<(), StoreError>
         ensures counts { Counts (facts self.old) (facts self.new) result }
         ensures undenied { (facts self.new).denials ≡ (facts self.old).denials }
-        ensures lock { (facts self.new).held ≡ (facts self.old).held }
+        ensures lock { (facts self.new).locked ≡ (facts self.old).locked }
         ensures files { Changes (facts self.old) (facts self.new) result
             (λ old new. Removes old new name.now)
             (λ old new. (new ≡ old) ⊎ Removes old new name.now) }
@@ -149,8 +149,8 @@ pub trait Store {
         ensures counts { Counts (facts self.old) (facts self.new) result }
         ensures undenied { result ≢ Ok false → (facts self.new).denials ≡ (facts self.old).denials }
         ensures denied { result ≡ Ok false → (facts self.old).denials < (facts self.new).denials }
-        ensures taken { result ≡ Ok true → (facts self.new).held ≡ true }
-        ensures untaken { result ≢ Ok true → (facts self.new).held ≡ (facts self.old).held }
+        ensures taken { result ≡ Ok true → (facts self.new).locked ≡ true }
+        ensures untaken { result ≢ Ok true → (facts self.new).locked ≡ (facts self.old).locked }
         ensures files { Changes (facts self.old) (facts self.new) result MayLock MayLock }
         ensures synced { KeepsSynced (facts self.old) (facts self.new) }
         ensures calls { Notes (facts self.old) (facts self.new) result LockFile }
@@ -161,8 +161,8 @@ pub trait Store {
     fn unlock(&mut self) -> Result<(), StoreError>
         ensures counts { Counts (facts self.old) (facts self.new) result }
         ensures undenied { (facts self.new).denials ≡ (facts self.old).denials }
-        ensures free { OnOk result ((facts self.new).held ≡ false) }
-        ensures kept { OnErr result ((facts self.new).held ≡ (facts self.old).held) }
+        ensures free { OnOk result ((facts self.new).locked ≡ false) }
+        ensures kept { OnErr result ((facts self.new).locked ≡ (facts self.old).locked) }
         ensures same { Keeps (facts self.old) (facts self.new) }
         ensures synced { KeepsSynced (facts self.old) (facts self.new) }
         ensures calls { KeepsCalls (facts self.old) (facts self.new) }

@@ -3,7 +3,7 @@ use Rattle.std.proofs.Common.{◌≡◌, ◌≤◌, ◌<◌, ◌+◌, ◌-◌, �
 use Rattle.std.proofs.lemmas.List.{length-append, length-take, length-drop, length-replicate, take-append-drop}
 use Rattle.coding.proofs.Fronts.{same_front}
 use Rattle.coding.proofs.Spellings.{appends_pair, begins_pair, free_pair, none_first, none_second}
-use Rattle.coding.specs.Spelling.{Pair, Begins, BeginsNone, Appends}
+use Rattle.coding.specs.Spelling.{InTurn, Begins, BeginsNone, Appends}
 use Rattle.coding.specs.Varint.{IsVarint}
 use Rattle.table.specs.declared.handle.Handle.{Handle}
 use Rattle.table.specs.Stored.{IsNumber, IsHandle}
@@ -31,7 +31,7 @@ pub short_handle : (bytes : List ℕ) (handle : Handle) → IsHandle bytes handl
 short_handle bytes handle p =
     omega (arith, ap length p.4, length-append p.0 p.1, short_number p.0 handle.offset p.2, short_number p.1 handle.size p.3)
 
-pub short_handles : (bytes : List ℕ) (metaindex index : Handle) → Pair IsHandle IsHandle bytes (metaindex, index) → length bytes ≤ 40
+pub short_handles : (bytes : List ℕ) (metaindex index : Handle) → InTurn IsHandle IsHandle bytes (metaindex, index) → length bytes ≤ 40
 short_handles bytes metaindex index p =
     omega (arith, ap length p.4, length-append p.0 p.1, short_handle p.0 metaindex p.2, short_handle p.1 index p.3)
 
@@ -55,7 +55,7 @@ length-footer footer metaindex index h =
 
 -- the footer's first 40 bytes and its last 8
 pub footer_parts : (front last footer : List ℕ) (metaindex index : Handle) → footer ≡ front ++ last → length front ≡ 40 → IsFooter footer metaindex index
-    → (handles : List ℕ) × Pair IsHandle IsHandle handles (metaindex, index) × (front ≡ handles ++ replicate (40 - length handles) 0) × (last ≡ magic)
+    → (handles : List ℕ) × InTurn IsHandle IsHandle handles (metaindex, index) × (front ≡ handles ++ replicate (40 - length handles) 0) × (last ≡ magic)
 footer_parts front last footer metaindex index e len h =
     let whole : front ++ last ≡ (h.handles ++ replicate (40 - length h.handles) 0) ++ magic = sym e ∙ h.parts ∙ sym (append_assoc h.handles (replicate (40 - length h.handles) 0) magic) in
     let long : length front ≡ length (h.handles ++ replicate (40 - length h.handles) 0) =

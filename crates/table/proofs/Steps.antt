@@ -21,7 +21,7 @@ reads_then a b c h k = record {
   files = λ t. k.files t ∙ h.files (k.faithful t);
   failures = omega (arith, h.failures, k.failures);
   denials = k.denials ∙ h.denials;
-  held = k.held ∙ h.held;
+  locked = k.locked ∙ h.locked;
   synced = λ t. k.synced t ∙ h.synced (k.faithful t);
 }
 
@@ -118,8 +118,8 @@ refuses_later (Unsupported what) a b c name D E U V f g s h k none = λ t file t
 refuses_later _ a b c name D E U V f g s h k none = absurd none
 
 pub reads_none : (a : Facts) → Reads a a
-reads_none a = record { faithful = λ t. t; files = λ t. refl; failures = omega arith; denials = refl; held = refl; synced = λ t. refl }
+reads_none a = record { faithful = λ t. t; files = λ t. refl; failures = omega arith; denials = refl; locked = refl; synced = λ t. refl }
 
 -- a call of the store that only reads
-pub reads_by : {T : Type 0} (a b : Facts) (result : Result T StoreError) → Counts a b result → b.denials ≡ a.denials → b.held ≡ a.held → Keeps a b → KeepsSynced a b → Reads a b
-reads_by a b result counts undenied lock keeps synced = record { faithful = counts.faithful; files = keeps; failures = counts.failures; denials = undenied; held = lock; synced = synced }
+pub reads_by : {T : Type 0} (a b : Facts) (result : Result T StoreError) → Counts a b result → b.denials ≡ a.denials → b.locked ≡ a.locked → Keeps a b → KeepsSynced a b → Reads a b
+reads_by a b result counts undenied lock keeps synced = record { faithful = counts.faithful; files = keeps; failures = counts.failures; denials = undenied; locked = lock; synced = synced }

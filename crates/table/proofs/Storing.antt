@@ -56,11 +56,11 @@ synced_one old new name content is other apart =
 
 -- what a call leaves beside the files: the denials, and the lock
 abbrev Undenied : Facts → Facts → Type 0
-Undenied old new = (new.denials ≡ old.denials) × (new.held ≡ old.held)
+Undenied old new = (new.denials ≡ old.denials) × (new.locked ≡ old.locked)
 
 writes : {T : Type 0} (old new : Facts) (name : List ℕ) (result : Result T StoreError) → Counts old new result → Undenied old new → (IsTrue new.faithful → KeepsOthers old.files new.files name)
     → (IsTrue new.faithful → SyncsOnly old.synced new.synced name) → Writes old new name
-writes old new name result counts undenied others synced = record { faithful = counts.faithful; failures = counts.failures; denials = undenied.0; held = undenied.1; others = others; synced = synced }
+writes old new name result counts undenied others synced = record { faithful = counts.faithful; failures = counts.failures; denials = undenied.0; locked = undenied.1; others = others; synced = synced }
 
 abbrev Made : List ℕ → Files → Files → Type 0
 Made name old new = new ≡ insert old name []
@@ -142,14 +142,14 @@ sync_refused old new name e counts undenied same synced =
 -- ---- one call after another
 
 pub writes_none : (old : Facts) (name : List ℕ) → Writes old old name
-writes_none old name = record { faithful = λ t. t; failures = omega arith; denials = refl; held = refl; others = λ t other apart. refl; synced = λ t other apart. refl }
+writes_none old name = record { faithful = λ t. t; failures = omega arith; denials = refl; locked = refl; others = λ t other apart. refl; synced = λ t other apart. refl }
 
 pub writes_then : (a b c : Facts) (name : List ℕ) → Writes a b name → Writes b c name → Writes a c name
 writes_then a b c name h k = record {
   faithful = λ t. h.faithful (k.faithful t);
   failures = omega (arith, h.failures, k.failures);
   denials = k.denials ∙ h.denials;
-  held = k.held ∙ h.held;
+  locked = k.locked ∙ h.locked;
   others = λ t other apart. k.others t other apart ∙ h.others (k.faithful t) other apart;
   synced = λ t other apart. k.synced t other apart ∙ h.synced (k.faithful t) other apart;
 }

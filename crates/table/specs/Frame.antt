@@ -3,7 +3,7 @@ use Rattle.std.specs.Prelude.{◌≡◌, ◌≢◌, ◌<◌, ◌≤◌, ◌-◌,
 use Rattle.std.specs.List.{AllByRecursion}
 use Rattle.std.specs.declared.cmp.Ordering.{Ordering}
 use Rattle.block.specs.Block.{IsBlock}
-use Rattle.coding.specs.Spelling.{Pair}
+use Rattle.coding.specs.Spelling.{InTurn}
 use Rattle.filter.specs.Blocks.{IsFilterBlock, BlockAdmits, BlockDenies}
 use Rattle.ikey.specs.Below.{IsBelowPlain, IsBelowInternal}
 use Rattle.ikey.specs.Entries as entries
@@ -19,7 +19,7 @@ magic = 0x57 ∷ 0xFB ∷ 0x80 ∷ 0x8B ∷ 0x24 ∷ 0x75 ∷ 0x47 ∷ 0xDB ∷ 
 -- the handles of metaindex and index, zeros up to 40 bytes, and the magic number
 pub record IsFooter (footer : List ℕ) (metaindex index : Handle) : Type 0 where
   pub handles : List ℕ
-  pub handles_are : Pair IsHandle IsHandle handles (metaindex, index)
+  pub handles_are : InTurn IsHandle IsHandle handles (metaindex, index)
   pub room : length handles ≤ 40
   pub parts : footer ≡ handles ++ (replicate (40 - length handles) 0 ++ magic)
 
@@ -100,13 +100,13 @@ pub record IsFrame (cmp : List ℕ → List ℕ → Ordering) (file : List ℕ) 
 -- ---- the limit on what is read
 
 -- the block has more bytes than those that are read
-abbrev pub IsLong : Handle → Type 0
-IsLong handle = 2 ^ 30 < handle.size
+abbrev pub IsLongBlock : Handle → Type 0
+IsLongBlock handle = 2 ^ 30 < handle.size
 
 -- one of the blocks has
 abbrev pub AnyLong : List Handle → Type 0
 AnyLong [] = ⊥
-AnyLong (handle ∷ handles) = IsLong handle ⊎ AnyLong handles
+AnyLong (handle ∷ handles) = IsLongBlock handle ⊎ AnyLong handles
 
 -- one of the blocks that hold the table together has
 abbrev pub IsOversized : (cmp : List ℕ → List ℕ → Ordering) (file : List ℕ) (frame : Frame) → IsFrame cmp file frame → Type 0

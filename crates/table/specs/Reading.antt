@@ -18,7 +18,7 @@ pub record Reads (old new : Facts) : Type 0 where
   pub files : IsTrue new.faithful → new.files ≡ old.files
   pub failures : old.failures ≤ new.failures
   pub denials : new.denials ≡ old.denials
-  pub held : new.held ≡ old.held
+  pub locked : new.locked ≡ old.locked
   pub synced : IsTrue new.faithful → new.synced ≡ old.synced
 
 -- Out of memory comes, as an Ok, only of a call in which the store didn't fail.

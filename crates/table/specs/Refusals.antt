@@ -7,7 +7,7 @@ use Rattle.ikey.specs.Entries.{Pair}
 use Rattle.table.specs.declared.handle.Handle.{Handle}
 use Rattle.table.specs.declared.handle.Place.{Place}
 use Rattle.table.specs.Checking.{IsRight}
-use Rattle.table.specs.Frame.{Frame, HasFooter, HasMetaindex, HasFilter, IsFrame, IsLong}
+use Rattle.table.specs.Frame.{Frame, HasFooter, HasMetaindex, HasFilter, IsFrame, IsLongBlock}
 use Rattle.table.specs.Stored.{trailer_of_type, end_of}
 use Rattle.table.specs.Table.{HasBlock, AreData}
 
@@ -23,7 +23,7 @@ pub record HasOtherType (file : List ℕ) (handle : Handle) : Type 0 where
 
 -- the file has all bytes of the block, and it is longer than those that are read, or of another type
 abbrev pub IsUnsupported : List ℕ → Handle → Type 0
-IsUnsupported file handle = ((end_of handle ≤ length file) × IsLong handle) ⊎ HasOtherType file handle
+IsUnsupported file handle = ((end_of handle ≤ length file) × IsLongBlock handle) ⊎ HasOtherType file handle
 
 -- there is no data block, nor one that isn't supported
 abbrev pub IsDamaged : (List ℕ → List ℕ → Ordering) → List ℕ → Handle → Type 0

@@ -3,7 +3,7 @@ use Rattle.std.specs.Prelude.{◌≡◌, ◌<◌, ◌≤◌, ◌+◌, ◌^◌, �
 use Rattle.std.specs.List.{AllByRecursion}
 use Rattle.coding.specs.Checksum.{checksum, masked}
 use Rattle.coding.specs.Fixed.{fixed32}
-use Rattle.coding.specs.Spelling.{Pair}
+use Rattle.coding.specs.Spelling.{InTurn}
 use Rattle.coding.specs.Varint.{IsVarint}
 use Rattle.table.specs.declared.handle.Handle.{Handle}
 
@@ -13,7 +13,7 @@ IsNumber bytes n = IsVarint bytes n × (n < 2 ^ 64)
 
 -- a handle is written as its offset, and its size behind it
 abbrev pub IsHandle : List ℕ → Handle → Type 0
-IsHandle bytes handle = Pair IsNumber IsNumber bytes (handle.offset, handle.size)
+IsHandle bytes handle = InTurn IsNumber IsNumber bytes (handle.offset, handle.size)
 
 -- behind a block stand its type, and the stored checksum of block and type
 abbrev pub trailer_of_type : ℕ → List ℕ → List ℕ

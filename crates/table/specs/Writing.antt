@@ -31,7 +31,7 @@ pub record Writes (old new : Facts) (name : List ℕ) : Type 0 where
   pub faithful : IsTrue new.faithful → IsTrue old.faithful
   pub failures : old.failures ≤ new.failures
   pub denials : new.denials ≡ old.denials
-  pub held : new.held ≡ old.held
+  pub locked : new.locked ≡ old.locked
   pub others : IsTrue new.faithful → KeepsOthers old.files new.files name
   pub synced : IsTrue new.faithful → SyncsOnly old.synced new.synced name
 

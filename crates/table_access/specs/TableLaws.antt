@@ -42,7 +42,7 @@ table_onward cmp number first second third k l = record { same = l.same ∙ k.sa
 -- ---- calls that only read tables
 
 reads_itself : (facts : Facts) → Reads facts facts
-reads_itself facts = record { faithful = λ t. t; files = λ t. refl; failures = omega arith; denials = refl; held = refl; synced = λ t. refl }
+reads_itself facts = record { faithful = λ t. t; files = λ t. refl; failures = omega arith; denials = refl; locked = refl; synced = λ t. refl }
 
 -- a source carries itself
 pub carries_itself : {numbers : ℕ → Type 0} (cmp : Cmp) (source : Seen) → Carries cmp numbers source source

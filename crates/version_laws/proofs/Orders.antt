@@ -13,7 +13,7 @@ use Rattle.ikey.specs.Sources.{ComesBefore, ComesAllBefore}
 use Rattle.store.specs.Files.{Files}
 use Rattle.edits.specs.Snapshot.{AreInPlace, IsFollowedBy}
 use Rattle.edits.specs.declared.field.PlacedTable.{PlacedTable}
-use Rattle.recover.specs.Tables.{TableContent, HasTable, InTables, internal_key, AreApart, AreNewer, AreTables}
+use Rattle.recover.specs.Tables.{TableContent, HasTable, InTables, internal_key, LieApart, AreNewer, AreTables}
 use Rattle.recover.proofs.Closed.{not_above}
 use Rattle.recover.proofs.TableFacts.{key_is, fits_of}
 use Rattle.version_laws.proofs.Sought.{less_parts, kind_at_most}
@@ -86,13 +86,13 @@ newer_numbers order (c ∷ contents) a b p h (inr i) (inr j) x y lt = newer_numb
 
 -- two of one level from 1 on lie apart
 pub apart_in : (order : Order) (contents : List TableContent) (a b : TableContent) → AreTables order contents → InTables contents a → InTables contents b → a.placed.level ≡ b.placed.level → 0 < a.placed.level → a.placed.table.number ≢ b.placed.table.number
-    → AreApart order a b ⊎ AreApart order b a
+    → LieApart order a b ⊎ LieApart order b a
 apart_in order [] a b h i j same some other = absurd i
 apart_in order (c ∷ contents) a b h (inl e) (inl f) same some other = absurd (other (ap (λ (t : TableContent). t.placed.table.number) (e ∙ sym f)))
 apart_in order (c ∷ contents) a b h (inl e) (inr j) same some other =
-    let P : TableContent → Type 0 = λ t. t.placed.level ≡ b.placed.level → 0 < t.placed.level → AreApart order t b in inl (subst P (sym e) (h.0 b j).1 same some)
+    let P : TableContent → Type 0 = λ t. t.placed.level ≡ b.placed.level → 0 < t.placed.level → LieApart order t b in inl (subst P (sym e) (h.0 b j).1 same some)
 apart_in order (c ∷ contents) a b h (inr i) (inl f) same some other =
-    let P : TableContent → Type 0 = λ t. t.placed.level ≡ a.placed.level → 0 < t.placed.level → AreApart order t a in inr (subst P (sym f) (h.0 a i).1 (sym same) (omega (arith, same, some)))
+    let P : TableContent → Type 0 = λ t. t.placed.level ≡ a.placed.level → 0 < t.placed.level → LieApart order t a in inr (subst P (sym f) (h.0 a i).1 (sym same) (omega (arith, same, some)))
 apart_in order (c ∷ contents) a b h (inr i) (inr j) same some other = apart_in order contents a b h.1 i j same some other
 
 pub not_itself : (order : Order) (a b : List ℕ) → IsTotalOrder order.cmp → a ≡ b → order.cmp a b ≡ Less → ⊥
@@ -125,7 +125,7 @@ below_entries order x y a b e f p q below =
     (λ i. key_cmp order.cmp (sym k i) (sym l i)) ∙ below.4
 
 -- the one that ends below where the other begins comes wholly before it
-pub wholly_before : (order : Order) (files : Files) (a b : TableContent) → IsTotalOrder order.cmp → IsAntisymmetric order.cmp → HasTable order files a → HasTable order files b → AreApart order a b ⊎ AreApart order b a
+pub wholly_before : (order : Order) (files : Files) (a b : TableContent) → IsTotalOrder order.cmp → IsAntisymmetric order.cmp → HasTable order files a → HasTable order files b → LieApart order a b ⊎ LieApart order b a
     → IsBelowInternal order.cmp a.placed.table.largest b.placed.table.smallest → ComesAllBefore order a.entries b.entries
 wholly_before order files a b o exact h g apart below =
     let last = h.largest.0 in

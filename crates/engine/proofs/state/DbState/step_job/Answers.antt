@@ -79,7 +79,7 @@ returns-then-not-progress-clause-serves g c =
     record {
       stood = s.stood;
       undenied = s.touches.writes.denials;
-      held = s.touches.writes.held;
+      locked = s.touches.writes.locked;
       whole = c.requires.whole;
       views = record { sequence = s.touches.memory.last; snapshots = λ q. refl; iterators = λ q. refl };
     }
@@ -149,7 +149,7 @@ returns-in-Ok-clause-serves g c =
     (record {
       stood = i.stood ∙ s.stood;
       undenied = i.call.denials ∙ s.touches.writes.denials;
-      held = i.call.held ∙ s.touches.writes.held;
+      locked = i.call.locked ∙ s.touches.writes.locked;
       whole = c.requires.whole;
       views = record { sequence = s.touches.memory.last; snapshots = λ q. refl; iterators = λ q. refl };
     })
