@@ -26,7 +26,7 @@ help:
 	echo 'make install   puts ldbtool, proved, and its manual page below PREFIX (/usr/local), which lies in DESTDIR (none)'
 	echo 'make uninstall takes both away again'
 	echo 'make program   ldbtool as its users run it: scripts, pipes, wrong folders, examples, installing (a minute once it is built)'
-	echo 'make soak      drawn sessions of ldbtool beside a plain model, each other one killed in its midst: ten minutes, or make soak SECONDS=60'
+	echo 'make soak      drawn sessions of ldbtool beside a plain model, every second one killed midway: ten minutes, or make soak SECONDS=60'
 	echo 'make interop   the checks beside LevelDB itself alone'
 	echo 'make bench     the benchmark beside LevelDB, into docs/SPEED.md: make bench N=100000 for fewer entries than a million'
 	echo 'make bugs      the edits of bugs/, each of which the prover must refuse (hours; make bugs CRATE=table for one crate)'

@@ -31,7 +31,7 @@ def changes(chance, pairs):
 
 
 def our_turn(folder, chance, pairs):
-    """A script that writes, with slices of work between, at times compacts, and works on for a while, perhaps not to the end."""
+    """A script that writes, with pieces of work between, at times compacts, and works on for a while, perhaps not to the end."""
     script = ["open any"]
     for line in changes(chance, pairs):
         script.append(line)
