@@ -34,7 +34,7 @@ pub fn refusal(operations: &[Operation]) -> Option<DbError>
     length_of(operations).err()
 }
 
-/// A batch with one operation more is refused where it was before, or else where that operation is. So
+/// Law: a batch with one operation more is refused where it was before, or else where that operation is. So
 /// what `put` and `delete` make of an empty batch is never refused.
 pub fn refusal_with_one_more()
     ensures { (operations : List OperationValue) (next : OperationValue)

@@ -148,7 +148,7 @@ impl Batch {
     }
 }
 
-/// No bytes are two batches.
+/// Law: no bytes are two batches.
 pub fn one_batch()
     ensures { (bytes : List ℕ) (sequence other : ℕ) (operations others : List OperationValue)
         → IsBatch bytes sequence operations → IsBatch bytes other others → (sequence ≡ other) × (operations ≡ others) }

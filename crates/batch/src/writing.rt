@@ -109,7 +109,7 @@ fn put_operation(out: &mut Vec<u8>, operation: &Operation) -> Result<(), AllocEr
     }
 }
 
-/// An encoding is as long as its operations make it; one of operations that aren't refused is within
+/// Law: an encoding is as long as its operations make it; one of operations that aren't refused is within
 /// the limits of a batch.
 pub fn encoding_length()
     ensures length { (bytes : List ℕ) (sequence : ℕ) (operations : List OperationValue)

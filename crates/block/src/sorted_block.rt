@@ -85,7 +85,7 @@ impl<O: EntryOrder> Block<O> {
     }
 }
 
-/// No bytes are the encoding of two lists of pairs.
+/// Law: no bytes are the encoding of two lists of pairs.
 pub fn one_block<O: EntryOrder>()
     ensures { (bytes : List ℕ) (pairs others : List Pair) → IsBlock O.below bytes pairs → IsBlock O.below bytes others → pairs ≡ others }
 {}

@@ -213,7 +213,7 @@ fn keep_in<K: KeyOrder>(
     let _ = blocks.put(slot, shared);
 }
 
-/// What is kept stays right while tables come into use under new numbers and go out of use.
+/// Law: what is kept stays right while tables come into use under new numbers and go out of use.
 pub fn blocks_last()
     ensures { BlocksLast }
 {}

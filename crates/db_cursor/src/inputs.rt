@@ -35,6 +35,7 @@ pub fn merge_tables<K: KeyOrder>(
     ensures no_memory { IfOk result (λ merge. ReadsNoMemory K.cmp merge) }
     ensures begins { IfOk result (λ merge. BeginsMerge (order_of K.name K.cmp) version.now.value.tables merge) }
 {
+    // Laws, for the proof alone.
     lists_have_a_union::<K>();
     row_begins::<K>();
     // They are in order.
@@ -45,12 +46,12 @@ pub fn merge_tables<K: KeyOrder>(
     Ok(Merge::new(alloc, cursors)?)
 }
 
-/// A merge over tables alone stays where it is while their files do.
+/// Law: a merge over tables alone stays where it is while their files do.
 pub fn merge_stays<K: KeyOrder>()
     ensures { (merge : Merge K (SourceCursor K K.KeyOrder)) → MergeIsKept K.cmp merge }
 {}
 
-/// A merge that reads no memory table reads none behind a move, since it reads of each source what it read before.
+/// Law: a merge that reads no memory table reads none behind a move, since it reads of each source what it read before.
 pub fn moves_read_no_memory<K: KeyOrder, S: Store>()
     ensures { (source : Sources K S) (old new : Merge K (SourceCursor K K.KeyOrder))
         → ((s t : Sources K S) → KeepsMerge K.cmp old (whole (S.facts s.tables.store) s.tables.tables s.tables.blocks s.memory) (whole (S.facts t.tables.store) t.tables.tables t.tables.blocks t.memory)
@@ -58,7 +59,7 @@ pub fn moves_read_no_memory<K: KeyOrder, S: Store>()
         → ReadsNoMemory K.cmp old → ReadsNoMemory K.cmp new }
 {}
 
-/// Tables that a compaction writes are apart from those that a merge reads that goes over tables of lower numbers alone.
+/// Law: tables that a compaction writes are apart from those that a merge reads that goes over tables of lower numbers alone.
 pub fn inputs_read_apart<K: KeyOrder, S: Store>()
     ensures { (merge : Merge K (SourceCursor K K.KeyOrder)) (next : ℕ) → ReadsNoMemory K.cmp merge → AreDisjoint (OneGoesOver merge.children.items) (IsToCome next)
         → ReadsApart S.facts (λ source. source.tables.store) (λ source store. record source { tables = record source.tables { store = store } })
@@ -66,5 +67,6 @@ pub fn inputs_read_apart<K: KeyOrder, S: Store>()
         (λ merge old new. KeepsMerge K.cmp merge (whole (S.facts old.tables.store) old.tables.tables old.tables.blocks old.memory) (whole (S.facts new.tables.store) new.tables.tables new.tables.blocks new.memory))
         merge (IsToCome next) }
 {
+    // Laws, for the proof alone.
     sound_lasts();
 }

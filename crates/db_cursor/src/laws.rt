@@ -5,9 +5,10 @@ ghost use Rattle.db_cursor.specs.Scanning.{WritesAreKept};
 use ikey::KeyOrder;
 use memtables::changes_are_kept;
 
-/// What is written above a scan's sequence leaves what the scan reads.
+/// Law: what is written above a scan's sequence leaves what the scan reads.
 pub fn writes_are_kept<K: KeyOrder>()
     ensures { WritesAreKept K.cmp }
 {
+    // Laws, for the proof alone.
     changes_are_kept::<K>();
 }

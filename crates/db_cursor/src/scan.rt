@@ -50,6 +50,7 @@ impl<K: KeyOrder> Scan<K> {
         ensures begins { IfOk result (λ scan. BeginsScan (order_of K.name K.cmp) version.now.value.tables sequence
             (whole (S.facts source.now.tables.store) source.now.tables.tables source.now.tables.blocks source.now.memory) scan) }
     {
+        // Laws, for the proof alone.
         lists_have_a_union::<K>();
         each_list_has_a_view::<K>();
         views_agree::<K>();

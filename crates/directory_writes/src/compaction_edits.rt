@@ -2,43 +2,43 @@
 
 ghost use Rattle.directory_writes.specs.Compactions.{OutputsLaw, ReplacesLaw, JobFoldsLaw, JobDoneLaw, UnusedLaw, JobPutLaw, JobApartLaw, DeepLaw};
 
-/// What a job has written are tables of its level, which have what it kept.
+/// Law: what a job has written are tables of its level, which have what it kept.
 pub fn outputs_law()
     ensures { OutputsLaw }
 {}
 
-/// The edit of a job takes its inputs out of a layout's tables, and puts its outputs in.
+/// Law: the edit of a job takes its inputs out of a layout's tables, and puts its outputs in.
 pub fn replaces_law()
     ensures { ReplacesLaw }
 {}
 
-/// What layout the edit of a job leaves.
+/// Law: what layout the edit of a job leaves.
 pub fn job_folds_law()
     ensures { JobFoldsLaw }
 {}
 
-/// The edit of a job that is done is a compaction of the directory: its outputs, with what must be kept of its inputs, are
+/// Law: the edit of a job that is done is a compaction of the directory: its outputs, with what must be kept of its inputs, are
 /// in the place of these.
 pub fn job_done_law()
     ensures { JobDoneLaw }
 {}
 
-/// Tables that a job wrote are new to a layout that has none of the job's numbers.
+/// Law: tables that a job wrote are new to a layout that has none of the job's numbers.
 pub fn unused_law()
     ensures { UnusedLaw }
 {}
 
-/// With the edit behind the MANIFEST the directory is consistent, and readers see what they saw.
+/// Law: with the edit behind the MANIFEST the directory is consistent, and readers see what they saw.
 pub fn job_put_law()
     ensures { JobPutLaw }
 {}
 
-/// What is no input of a job is newer than its inputs, or the job knows of its keys.
+/// Law: what is no input of a job is newer than its inputs, or the job knows of its keys.
 pub fn job_apart_law()
     ensures { JobApartLaw }
 {}
 
-/// A table below the level that a job writes covers the keys that it has.
+/// Law: a table below the level that a job writes covers the keys that it has.
 pub fn deep_law()
     ensures { DeepLaw }
 {}

@@ -93,6 +93,7 @@ pub fn flush_memory<K: KeyOrder, S: Store>(
     ensures syncs { SyncsFlush (S.facts store.new) (name_of (Table numbers.old.next)) (string_bytes manifest.now.name) result }
     ensures leaves { FlushLeaves (order_of K.name K.cmp) (S.facts store.old) (S.facts store.new) numbers.old.next numbers.new.next plan manifest.now memory.now.inserts version.now.tables result }
 {
+    // Laws, for the proof alone.
     flush_law();
     unread_law();
     same_manifest_law();

@@ -60,6 +60,7 @@ pub fn install_job<K: KeyOrder, C: Drop, S: Store>(
     ensures synced { OnOk result (IsTrue (S.facts store.new).faithful → (S.facts store.new).synced (string_bytes manifest.now.name) ≡ get (S.facts store.new).files (string_bytes manifest.now.name)) }
     ensures leaves { InstallLeaves (order_of K.name K.cmp) job (S.facts store.old) (S.facts store.new) numbers.now.next last_sequence manifest.now version.now.tables result }
 {
+    // Laws, for the proof alone.
     same_manifest_law();
     let prepared = match prepare_job(alloc, store, job, version, numbers, last_sequence) {
         Ok(prepared) => prepared,

@@ -2,12 +2,12 @@
 
 ghost use Rattle.directory_writes.specs.JobWrites.{FreeNumberLaw, JobWritesLaw};
 
-/// Tables that a directory hasn't may be written: its other parts stay.
+/// Law: tables that a directory hasn't may be written: its other parts stay.
 pub fn job_writes_law()
     ensures { JobWritesLaw }
 {}
 
-/// A number that is free is that of no table.
+/// Law: a number that is free is that of no table.
 pub fn free_number_law()
     ensures { FreeNumberLaw }
 {}

@@ -54,6 +54,7 @@ pub fn write_level0<K: KeyOrder, S: Store>(
     ensures stood { OnOk result ((S.facts store.new).failures ≡ (S.facts store.old).failures) }
     ensures refused { IfErr result (λ e. WriteRefuses e (S.facts store.old) (S.facts store.new) (IsTooLarge (S.facts store.new) memory.now.inserts)) }
 {
+    // Laws, for the proof alone.
     each_insert_stands();
     memory.rises();
     memory.rises_by_sequence();

@@ -31,6 +31,7 @@ pub fn begin_log<S: Store>(
     ensures begins { (order : Order) → BeginsLog order (S.facts store.old) (S.facts store.new) numbers.old.next numbers.new.next result }
     ensures synced { IsTrue (S.facts store.new).faithful → SyncsOnly (S.facts store.old).synced (S.facts store.new).synced (name_of (Log numbers.old.next)) }
 {
+    // Laws, for the proof alone.
     begin_log_law();
     let number = numbers.draw()?;
     let name = print_name(alloc, FileName::Log(number))?;

@@ -44,6 +44,7 @@ pub fn append_edit<S: Store>(
     ensures appends { (order : Order) → AppendsEdit order (S.facts store.old) (S.facts store.new) manifest.now.number (string_bytes manifest.now.name) manifest.now.end edit.now result }
     ensures syncs { SyncsEdit (S.facts store.old) (S.facts store.new) (string_bytes manifest.now.name) result }
 {
+    // Laws, for the proof alone.
     edit_law();
     failed_edit_law();
     one_manifest();

@@ -3,27 +3,27 @@
 
 ghost use Rattle.directory_writes.specs.Planned.{PlannedLaw, ClosedPlanLaw, FlushedPlanLaw, PlannedApartLaw, OwnSequencesLaw};
 
-/// Each plan for a version of a directory takes tables that may be replaced by the outputs of its job.
+/// Law: each plan for a version of a directory takes tables that may be replaced by the outputs of its job.
 pub fn planned_law()
     ensures { PlannedLaw }
 {}
 
-/// The inputs of a plan for a level bring no further table along.
+/// Law: the inputs of a plan for a level bring no further table along.
 pub fn closed_plan_law()
     ensures { ClosedPlanLaw }
 {}
 
-/// A flush while a job is under way leaves its inputs such tables.
+/// Law: a flush while a job is under way leaves its inputs such tables.
 pub fn flushed_plan_law()
     ensures { FlushedPlanLaw }
 {}
 
-/// What lies beside the inputs of a plan is newer, or the job knows of its keys.
+/// Law: what lies beside the inputs of a plan is newer, or the job knows of its keys.
 pub fn planned_apart_law()
     ensures { PlannedApartLaw }
 {}
 
-/// No two entries that a job merges share key and sequence.
+/// Law: no two entries that a job merges share key and sequence.
 pub fn own_sequences_law()
     ensures { OwnSequencesLaw }
 {}

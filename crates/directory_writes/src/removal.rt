@@ -53,6 +53,7 @@ pub fn remove_files<S: Store, L: LiveTables>(
     ensures meaning { IsTrue (S.facts store.new).faithful → (order : Order) (d : Directory) → IsConsistent order (S.facts store.old).files d → AreNumbersOf numbers.now (L.has live.now) d
         → KeepsParts order (S.facts store.old).files (S.facts store.new).files (L.has live.now) d }
 {
+    // Laws, for the proof alone.
     free_change_law();
     let names = list_names(alloc, store)?;
     let older = older_tables(alloc, &names)?;

@@ -53,7 +53,7 @@ impl Edit {
     }
 }
 
-/// No bytes are two edits.
+/// Law: no bytes are two edits.
 pub fn one_edit()
     ensures { (bytes : List ℕ) (edit other : List FieldValue) → IsEdit bytes edit → IsEdit bytes other → edit ≡ other }
 {}

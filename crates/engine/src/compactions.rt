@@ -86,6 +86,7 @@ impl<K: KeyOrder> DbState<K> {
         ensures outcome { CompactOutcome MayRefusePiece (S.facts source.old.tables.store) (S.facts source.new.tables.store) (held source.old.memory self.old) (held source.new.memory self.new) result }
         ensures emptied { OnOk result (IsLevelEmpty level (held source.new.memory self.new)) }
     {
+        // Laws, for the proof alone.
         plans_of_tables();
         self.run_job_to_end(alloc, source)?;
         let Some(plan) = self.version.plan_level(alloc, level)? else {
@@ -107,6 +108,7 @@ impl<K: KeyOrder> DbState<K> {
         ensures compacted { OnOk result (IsAllCompacted (held source.new.memory self.new)) }
         ensures needed { OnOk result (EndsNeeded (order_of K.name K.cmp) (seen_of S.facts source.old) (seen_of S.facts source.new) (held source.old.memory self.old) (held source.new.memory self.new)) }
     {
+        // Laws, for the proof alone.
         plans_of_tables();
         self.run_job_to_end(alloc, source)?;
         self.write_memory(alloc, source, options)?;

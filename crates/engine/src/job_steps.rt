@@ -52,6 +52,7 @@ impl<K: KeyOrder> DbState<K> {
         ensures idle { result ≡ Ok Idle → (source.new ≡ source.old) × (self.new ≡ self.old) }
         ensures lock { (S.facts source.new.tables.store).locked ≡ (S.facts source.old.tables.store).locked }
     {
+        // Laws, for the proof alone.
         sound_lasts();
         plans_of_tables();
         let Some(plan) = self
@@ -88,6 +89,7 @@ impl<K: KeyOrder> DbState<K> {
         ensures whole { self.new.broken ≡ false }
         ensures lock { (S.facts source.new.tables.store).locked ≡ (S.facts source.old.tables.store).locked }
     {
+        // Laws, for the proof alone.
         sound_lasts();
         let snapshots = self.sequences(alloc, source.memory.last())?;
         let job = OpenJob::begin(
@@ -125,6 +127,7 @@ impl<K: KeyOrder> DbState<K> {
         ensures come { result ≡ Ok true → (ids : Ids) → LeadsOpen (order_of K.name K.cmp) (seen_of S.facts source.old) (seen_of S.facts source.new) ids (held source.old.memory self.old) (held source.new.memory self.new) (λ m n. HasCome budget (held source.old.memory self.old) m result n) }
         ensures lock { (S.facts source.new.tables.store).locked ≡ (S.facts source.old.tables.store).locked }
     {
+        // Laws, for the proof alone.
         sound_lasts();
         one_directory();
         let Some(mut job) = self.job.take() else {

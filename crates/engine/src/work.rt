@@ -94,6 +94,7 @@ impl<K: KeyOrder> DbState<K> {
         ensures removes { IsTrue (S.facts source.new.tables.store).faithful → LosesDead (S.facts source.old.tables.store) (S.facts source.new.tables.store) (held source.new.memory self.now) }
         ensures lock { (S.facts source.new.tables.store).locked ≡ (S.facts source.old.tables.store).locked }
     {
+        // Laws, for the proof alone.
         sound_lasts();
         changes_are_kept::<K>();
         one_directory();
@@ -176,6 +177,7 @@ impl<K: KeyOrder> DbState<K> {
         ensures serves { OnOk result (ServesOn (S.facts source.old.tables.store) (S.facts source.new.tables.store) (held source.old.memory self.old) (held source.new.memory self.new)) }
         ensures lock { (S.facts source.new.tables.store).locked ≡ (S.facts source.old.tables.store).locked }
     {
+        // Laws, for the proof alone.
         sound_lasts();
         changes_are_kept::<K>();
         one_directory();
@@ -229,6 +231,7 @@ impl<K: KeyOrder> DbState<K> {
         ensures serves { OnOk result (ServesOn (S.facts source.old.tables.store) (S.facts source.new.tables.store) (held source.old.memory self.old) (held source.new.memory self.new)) }
         ensures lock { (S.facts source.new.tables.store).locked ≡ (S.facts source.old.tables.store).locked }
     {
+        // Laws, for the proof alone.
         sound_lasts();
         changes_are_kept::<K>();
         one_directory();

@@ -138,6 +138,7 @@ fn two_entries_share_their_front(rt: HostRuntime) -> Result<(), Fail> {
     let mut cursor = opened::<Plain>(rt.alloc(), &TWO)?;
     assert!(rt; !cursor.stands());
     assert!(rt; moves(&mut cursor, TWO_MOVES));
+    // Laws, for the proof alone.
     one_block::<Plain>();
     Ok(())
 }

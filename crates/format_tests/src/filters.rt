@@ -68,6 +68,7 @@ fn filters_admit_their_keys_and_deny_others(rt: HostRuntime) {
             "{filter:?}"
         );
     }
+    // Laws, for the proof alone.
     built_in_is_admitted();
     one_filter();
 }
@@ -135,6 +136,7 @@ fn filter_blocks_are_built_and_asked(rt: HostRuntime) -> Result<(), Fail> {
             "{front:?}"
         );
     }
+    // Laws, for the proof alone.
     written_is_read();
     added_is_admitted();
     Ok(())

@@ -48,6 +48,7 @@ fn internal_keys_have_the_bytes_of_the_format(rt: HostRuntime) {
     for bytes in NO_KEYS {
         assert!(rt; unpack(bytes).is_none(), "{bytes:?}");
     }
+    // Laws, for the proof alone.
     one_key();
 }
 
@@ -277,6 +278,7 @@ fn keys_are_sorted_into_their_order(rt: HostRuntime) -> Result<(), Fail> {
 
 #[test]
 fn laws_are_called() {
+    // Laws, for the proof alone.
     newest_in_front();
     unseen_in_front();
     first_found();

@@ -158,6 +158,7 @@ fn varints_are_written_and_read(rt: HostRuntime) {
             assert_eq!(rt; is_varint32(rt.alloc(), value, bytes), Ok(true), "{value}");
         }
     }
+    // Laws, for the proof alone.
     one_varint();
 }
 

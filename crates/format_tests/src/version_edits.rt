@@ -104,6 +104,7 @@ fn snapshot_of(alloc: Global, bytes: &[u8], previous_log_number: u64) -> Result<
     let Ok(layout) = fold_edits(alloc, COMPARATOR, &edits) else {
         return Err(Fail::from("the edit leaves no layout"));
     };
+    // Laws, for the proof alone.
     layouts_are_kept();
     let snapshot = snapshot_edit(alloc, COMPARATOR, 7, previous_log_number, 9, 5, &layout)?;
     Ok(encode_edit(alloc, &snapshot)?)

@@ -108,7 +108,7 @@ pub fn seek_key(alloc: Global, user: &[u8], sequence: u64) -> Result<Vec<u8>, Al
     pack(alloc, user, sequence, Kind::Put)
 }
 
-/// No bytes are two internal keys.
+/// Law: no bytes are two internal keys.
 pub fn one_key()
     ensures { (bytes : List ℕ) (k l : Key) → IsKey bytes k → IsKey bytes l → k ≡ l }
 {}

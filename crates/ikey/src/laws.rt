@@ -2,62 +2,62 @@
 
 ghost use Rattle.ikey.specs.Sources.{FrontLaw, BehindLaw, FoundLaw, MissedLaw, ByTwoLaw, GrownLaw, ReplacedLaw, SameViewLaw, SoughtLaw, AllBeforeLaw, RowLaw, RowAnswerLaw};
 
-/// The newest entry of a source that is newer than what lies behind is that of both.
+/// Law: the newest entry of a source that is newer than what lies behind is that of both.
 pub fn newest_in_front()
     ensures { FrontLaw }
 {}
 
-/// A key that isn't seen in front has the value that it has behind.
+/// Law: a key that isn't seen in front has the value that it has behind.
 pub fn unseen_in_front()
     ensures { BehindLaw }
 {}
 
-/// Of sources each of which is newer than those behind it, the first that has an answer answers for all.
+/// Law: of sources each of which is newer than those behind it, the first that has an answer answers for all.
 pub fn first_found()
     ensures { FoundLaw }
 {}
 
-/// A key that is seen in no source has no value.
+/// Law: a key that is seen in no source has no value.
 pub fn none_found()
     ensures { MissedLaw }
 {}
 
-/// Sources may be compared by two.
+/// Law: sources may be compared by two.
 pub fn searched_by_two()
     ensures { ByTwoLaw }
 {}
 
-/// What is written may go into the first source.
+/// Law: what is written may go into the first source.
 pub fn searched_when_grown()
     ensures { GrownLaw }
 {}
 
-/// A source may be replaced by one with the same entries.
+/// Law: a source may be replaced by one with the same entries.
 pub fn searched_when_replaced()
     ensures { ReplacedLaw }
 {}
 
-/// The same entries have the same views.
+/// Law: the same entries have the same views.
 pub fn same_view()
     ensures { SameViewLaw }
 {}
 
-/// A search in a sorted source ends at the newest entry of the key, if it is seen.
+/// Law: a search in a sorted source ends at the newest entry of the key, if it is seen.
 pub fn sought_in_order()
     ensures { SoughtLaw }
 {}
 
-/// A search in a sorted source that ends behind all entries has seen none of the key.
+/// Law: a search in a sorted source that ends behind all entries has seen none of the key.
 pub fn all_come_before()
     ensures { AllBeforeLaw }
 {}
 
-/// Sorted sources in a row are a sorted one.
+/// Law: sorted sources in a row are a sorted one.
 pub fn sorted_in_row()
     ensures { RowLaw }
 {}
 
-/// A search in the first of them that doesn't end before what is sought is a search in all.
+/// Law: a search in the first of them that doesn't end before what is sought is a search in all.
 pub fn answered_in_row()
     ensures { RowAnswerLaw }
 {}

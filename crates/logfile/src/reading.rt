@@ -36,18 +36,18 @@ pub fn read_log(alloc: Global, bytes: &[u8]) -> Result<(Vec<Vec<u8>>, Tail), Rea
     Ok((records, tail))
 }
 
-/// No bytes are two logs.
+/// Law: no bytes are two logs.
 pub fn one_reading()
     ensures { (bytes : List ℕ) (records others : List (List ℕ)) (tail end : TailValue)
         → IsLog bytes records tail → IsLog bytes others end → (records ≡ others) × (tail ≡ end) }
 {}
 
-/// Bytes with a fault are no log.
+/// Law: bytes with a fault are no log.
 pub fn faults_are_real()
     ensures { (what : Damage) (bytes : List ℕ) (records : List (List ℕ)) (tail : TailValue) → HasFault what bytes → IsLog bytes records tail → ⊥ }
 {}
 
-/// No bytes have faults of two kinds.
+/// Law: no bytes have faults of two kinds.
 pub fn one_kind_of_fault()
     ensures { (what other : Damage) (bytes : List ℕ) → HasFault what bytes → HasFault other bytes → what ≡ other }
 {}

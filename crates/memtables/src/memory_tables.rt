@@ -149,6 +149,7 @@ impl<K: KeyOrder> MemoryTables<K> {
     ) -> Result<Option<Option<Bytes>>, AllocError>
         ensures { IfOk result (λ answer. IsAnswer (logged_in self.now) sequence key.now answer) }
     {
+        // Laws, for the proof alone.
         newest_in_front();
         unseen_in_front();
         self.are_bounded();

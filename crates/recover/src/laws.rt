@@ -3,117 +3,117 @@
 ghost use Rattle.recover.specs.Laws.{AppendLaw, FailedAppendLaw, FreeChangeLaw, ReopenLaw, NewLogLaw, EmptyLaw, NumberLaw, AppendableLaw, OneManifestLaw, OneDirectoryLaw};
 ghost use Rattle.recover.specs.Changes.{ExtendLaw, FailedExtendLaw, BeginLogLaw, EditLaw, FailedEditLaw, SameManifestLaw, FlushLaw, CompactionLaw, ClosedLaw, UnreadLaw, DistinctLaw, BeyondLaw, RecoveredLaw};
 
-/// A record for the next batch behind the last log adds the batch's entries.
+/// Law: a record for the next batch behind the last log adds the batch's entries.
 pub fn append_law()
     ensures { AppendLaw }
 {}
 
-/// A beginning of such a record adds nothing, or all of its entries.
+/// Law: a beginning of such a record adds nothing, or all of its entries.
 pub fn failed_append_law()
     ensures { FailedAppendLaw }
 {}
 
-/// Files that the meaning doesn't read may change.
+/// Law: files that the meaning doesn't read may change.
 pub fn free_change_law()
     ensures { FreeChangeLaw }
 {}
 
-/// A MANIFEST whose one edit is that of an open means the same.
+/// Law: a MANIFEST whose one edit is that of an open means the same.
 pub fn reopen_law()
     ensures { ReopenLaw }
 {}
 
-/// A new log behind the others means the same.
+/// Law: a new log behind the others means the same.
 pub fn new_log_law()
     ensures { NewLogLaw }
 {}
 
-/// A store without files means the empty map.
+/// Law: a store without files means the empty map.
 pub fn empty_law()
     ensures { EmptyLaw }
 {}
 
-/// A change that keeps the names of files and the MANIFEST keeps the number that the next open draws.
+/// Law: a change that keeps the names of files and the MANIFEST keeps the number that the next open draws.
 pub fn number_law()
     ensures { NumberLaw }
 {}
 
-/// What can be appended to is a directory.
+/// Law: what can be appended to is a directory.
 pub fn appendable_law()
     ensures { AppendableLaw }
 {}
 
-/// One MANIFEST at most is current, and it says one thing.
+/// Law: one MANIFEST at most is current, and it says one thing.
 pub fn one_manifest()
     ensures { OneManifestLaw }
 {}
 
-/// A consistent directory means one thing.
+/// Law: a consistent directory means one thing.
 pub fn one_directory()
     ensures { OneDirectoryLaw }
 {}
 
-/// A record for the next batch behind the last log adds the batch's entries there, and changes no other part.
+/// Law: a record for the next batch behind the last log adds the batch's entries there, and changes no other part.
 pub fn extend_law()
     ensures { ExtendLaw }
 {}
 
-/// A beginning of such a record changes no part but the last log, and adds nothing to it, or all of the batch's entries.
+/// Law: a beginning of such a record changes no part but the last log, and adds nothing to it, or all of the batch's entries.
 pub fn failed_extend_law()
     ensures { FailedExtendLaw }
 {}
 
-/// A new log behind the others changes no other part.
+/// Law: a new log behind the others changes no other part.
 pub fn begin_log_law()
     ensures { BeginLogLaw }
 {}
 
-/// A record for an edit behind the MANIFEST adds the edit.
+/// Law: a record for an edit behind the MANIFEST adds the edit.
 pub fn edit_law()
     ensures { EditLaw }
 {}
 
-/// A beginning of such a record adds nothing, or all of the edit.
+/// Law: a beginning of such a record adds nothing, or all of the edit.
 pub fn failed_edit_law()
     ensures { FailedEditLaw }
 {}
 
-/// A MANIFEST that says the same means the same.
+/// Law: a MANIFEST that says the same means the same.
 pub fn same_manifest_law()
     ensures { SameManifestLaw }
 {}
 
-/// A table of level 0 in place of what was logged before the current log means the same.
+/// Law: a table of level 0 in place of what was logged before the current log means the same.
 pub fn flush_law()
     ensures { FlushLaw }
 {}
 
-/// Outputs in place of inputs leave a consistent directory, with the outputs' entries in place of the inputs'.
+/// Law: outputs in place of inputs leave a consistent directory, with the outputs' entries in place of the inputs'.
 pub fn compaction_law()
     ensures { CompactionLaw }
 {}
 
-/// Inputs of two levels that share no user key with what stays beside them may be replaced.
+/// Law: inputs of two levels that share no user key with what stays beside them may be replaced.
 pub fn closed_law()
     ensures { ClosedLaw }
 {}
 
-/// A file that the meaning doesn't read may be written or removed.
+/// Law: a file that the meaning doesn't read may be written or removed.
 pub fn unread_law()
     ensures { UnreadLaw }
 {}
 
-/// No two entries of a consistent directory share a key and a sequence, so that of each key one is the newest.
+/// Law: no two entries of a consistent directory share a key and a sequence, so that of each key one is the newest.
 pub fn distinct_law()
     ensures { DistinctLaw }
 {}
 
-/// A MANIFEST that passes a limit of reading, and is one all the same, passes that of the numbers of tables.
+/// Law: a MANIFEST that passes a limit of reading, and is one all the same, passes that of the numbers of tables.
 pub fn beyond_law()
     ensures { BeyondLaw }
 {}
 
-/// What was read of a consistent directory, without its tables, is that of its parts.
+/// Law: what was read of a consistent directory, without its tables, is that of its parts.
 pub fn recovered_law()
     ensures { RecoveredLaw }
 {}

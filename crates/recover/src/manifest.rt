@@ -84,6 +84,7 @@ fn decode_manifest<K: KeyOrder>(alloc: Global, bytes: &[u8]) -> Result<Manifest,
         (SpellsNone (order_of K.name K.cmp) bytes.now) (SpellsBeyond (order_of K.name K.cmp) bytes.now)) }
     ensures kept { IfOk result (λ manifest. IsKept manifest.layout × (manifest.layout.last_sequence < 2 ^ 56)) }
 {
+    // Laws, for the proof alone.
     layouts_are_kept();
     let records = records_in(alloc, FileKind::Manifest, bytes)?;
     let edits = edits_in(alloc, &records)?;

@@ -6,12 +6,12 @@ ghost use Rattle.running_job.specs.Staying.{RunningStays, RunningStaysBeside};
 
 use ikey::KeyOrder;
 
-/// A job goes on over what others have left of its tables, while they wrote, read, flushed or removed files.
+/// Law: a job goes on over what others have left of its tables, while they wrote, read, flushed or removed files.
 pub fn running_stays<K: KeyOrder>()
     ensures { (work : OpenJob K K.KeyOrder) → RunningStays (order_of K.name K.cmp) work }
 {}
 
-/// So it does while the directory has the same tables.
+/// Law: so it does while the directory has the same tables.
 pub fn running_stays_beside<K: KeyOrder>()
     ensures { (work : OpenJob K K.KeyOrder) → RunningStaysBeside (order_of K.name K.cmp) work }
 {}

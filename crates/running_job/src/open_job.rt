@@ -96,6 +96,7 @@ impl<K: KeyOrder> OpenJob<K> {
             (whole (S.facts source.old.tables.store) source.old.tables.tables source.old.tables.blocks source.old.memory)
             (whole (S.facts source.new.tables.store) source.new.tables.tables source.new.tables.blocks source.new.memory) work) }
     {
+        // Laws, for the proof alone.
         inputs_in_order();
         planned_law();
         version_of_part();
@@ -161,6 +162,7 @@ impl<K: KeyOrder> OpenJob<K> {
             (whole (S.facts source.new.tables.store) source.new.tables.tables source.new.tables.blocks source.new.memory)
             numbers.old.next numbers.new.next budget self.old self.new progress) }
     {
+        // Laws, for the proof alone.
         sound_lasts();
         job_writes_law();
         free_number_law();

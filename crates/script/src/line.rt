@@ -68,7 +68,7 @@ fn read_rest(alloc: Global, verb: Verb, words: &[&[u8]]) -> Result<Option<Op>, A
     }
 }
 
-/// No line says two commands.
+/// Law: no line says two commands.
 pub fn one_command()
     ensures { (line : List ℕ) (command other : OpValue) → Says line command → Says line other → IsSame command other }
 {}

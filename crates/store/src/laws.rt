@@ -3,18 +3,18 @@
 ghost use Rattle.store.specs.Losses.{LostSinceLaw};
 ghost use Rattle.store.specs.Stops.{LeftNowLaw, LeftSinceLaw, LeftBothLaw};
 
-/// The files as they are now are what a stop may leave, and since now nothing else is.
+/// Law: the files as they are now are what a stop may leave, and since now nothing else is.
 pub fn left_now()
     ensures { LeftNowLaw }
 {}
 
-/// What a stop since an earlier moment may leave is what is there now, or what it may leave in the middle of a call since.
+/// Law: what a stop since an earlier moment may leave is what is there now, or what it may leave in the middle of a call since.
 pub fn left_since()
     ensures since { LeftSinceLaw }
     ensures both { LeftBothLaw }
 {}
 
-/// What a loss of power since a moment may leave is among what one since an earlier moment may leave.
+/// Law: what a loss of power since a moment may leave is among what one since an earlier moment may leave.
 pub fn lost_since()
     ensures { LostSinceLaw }
 {}

@@ -171,6 +171,7 @@ impl<K: KeyOrder> TableBuilder<K> {
     {
         let mut builder = self;
         builder.end_last_block(store)?;
+        // Laws, for the proof alone.
         written_is_read();
         added_is_admitted();
         let filter = builder.filter.finish(alloc)?;

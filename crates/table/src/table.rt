@@ -221,7 +221,7 @@ impl<K: KeyOrder> Table<K> {
     }
 }
 
-/// No file is two tables.
+/// Law: no file is two tables.
 pub fn one_table()
     ensures { OneTable }
 {}

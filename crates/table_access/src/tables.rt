@@ -116,17 +116,17 @@ impl<K: KeyOrder, S: Store> Tables<K, S> {
     }
 }
 
-/// Where nothing is kept, all that is kept is right.
+/// Law: where nothing is kept, all that is kept is right.
 pub fn empty_is_sound()
     ensures { EmptyIsSound }
 {}
 
-/// What is kept stays right while tables are written under numbers of which nothing is kept, and while tables are removed.
+/// Law: what is kept stays right while tables are written under numbers of which nothing is kept, and while tables are removed.
 pub fn sound_lasts()
     ensures { SoundLasts }
 {}
 
-/// What is kept stays right while the files of tables stay.
+/// Law: what is kept stays right while the files of tables stay.
 pub fn sound_stays()
     ensures { SoundStays }
 {}

@@ -201,6 +201,7 @@ fn shown_elsewhere(alloc: Global) -> Result<Option<usize>, DbError> {
 
 #[test]
 fn a_walk_shows_what_is_visible(rt: HostRuntime) {
+    // Laws, for the proof alone.
     lists_have_a_union::<Bytewise>();
     each_list_has_a_view::<Bytewise>();
     views_agree::<Bytewise>();

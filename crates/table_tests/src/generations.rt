@@ -318,6 +318,7 @@ const SCRIPTS: [&[Turn]; 4] = [
 
 #[test]
 fn tables_stay_while_they_are_sealed_or_read(rt: HostRuntime) {
+    // Laws, for the proof alone.
     changes_are_kept::<Bytewise>();
     for (number, script) in SCRIPTS.iter().enumerate() {
         assert_eq!(rt;

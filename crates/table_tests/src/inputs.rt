@@ -89,6 +89,7 @@ fn merges_all(alloc: Global) -> Result<bool, DbError> {
 
 #[test]
 fn tables_of_all_levels_are_merged(rt: HostRuntime) {
+    // Laws, for the proof alone.
     merge_stays::<Bytewise>();
     moves_read_no_memory::<Bytewise, FaultStore>();
     inputs_read_apart::<Bytewise, FaultStore>();

@@ -25,6 +25,7 @@ fn job_over(
     source: &mut Sources<Bytewise, FaultStore>,
     version: &Rc<Version<Bytewise>>,
 ) -> Result<OpenJob<Bytewise>, DbError> {
+    // Laws, for the proof alone.
     plans_of_tables();
     match version.plan_level(alloc, 0)? {
         Some(plan) => OpenJob::begin(alloc, source, version, plan, &SNAPSHOTS, 4096, 1 << 20),
@@ -97,6 +98,7 @@ fn runs(alloc: Global) -> Result<bool, DbError> {
 
 #[test]
 fn a_job_goes_on_by_steps(rt: HostRuntime) {
+    // Laws, for the proof alone.
     running_stays::<Bytewise>();
     running_stays_beside::<Bytewise>();
     assert_eq!(rt; runs(rt.alloc()), Ok(true));

@@ -129,6 +129,7 @@ fn a_cursor_walks_as_the_list_of_what_is_seen(rt: HostRuntime) {
     for limit in [1, 2, 4, 7, 8, 11] {
         assert_eq!(rt; walks_as_list(rt.alloc(), limit), Ok(true), "up to {limit}");
     }
+    // Laws, for the proof alone.
     seen_entries_have_the_view();
     later_inserts_are_kept::<Bytewise>();
     kept_for_all_is_same::<Bytewise>();

@@ -8,6 +8,7 @@ use version_laws::{
 
 #[test]
 fn laws_are_called() {
+    // Laws, for the proof alone.
     searched_table();
     answered_place();
     passed_place();

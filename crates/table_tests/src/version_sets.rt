@@ -301,6 +301,7 @@ fn versions_tell_of_their_tables(rt: HostRuntime) {
     for (place, case) in CASES.iter().enumerate() {
         assert_eq!(rt; wrong_in(rt.alloc(), case), Ok(None), "{place}");
     }
+    // Laws, for the proof alone.
     searches_reach();
     one_user_key();
     one_more_edit();
@@ -454,6 +455,7 @@ const WITH_LEVEL_3: [TableRow; 5] = [
 
 // The version over the inputs of the compaction of all of level 2.
 fn over_level_2<K: KeyOrder>(alloc: Global, version: &Version<K>) -> Result<Version<K>, DbError> {
+    // Laws, for the proof alone.
     plans_of_tables();
     inputs_in_order();
     let _tables = version.tables();

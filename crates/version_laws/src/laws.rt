@@ -2,52 +2,52 @@
 
 ghost use Rattle.version_laws.specs.Laws.{SearchedLaw, AnsweredLaw, PassedLaw, StepLaw, FoundLaw, EndLaw, MemoryLaw, VersionLaw, PartLaw, KeptLaw};
 
-/// A table that is searched at a place is one of the version's.
+/// Law: a table that is searched at a place is one of the version's.
 pub fn searched_table()
     ensures { SearchedLaw }
 {}
 
-/// What a table that is searched at a place answers, the source of the place answers.
+/// Law: what a table that is searched at a place answers, the source of the place answers.
 pub fn answered_place()
     ensures { AnsweredLaw }
 {}
 
-/// A place at which no table is searched has nothing that is seen.
+/// Law: a place at which no table is searched has nothing that is seen.
 pub fn passed_place()
     ensures { PassedLaw }
 {}
 
-/// A search goes on behind a table in which the key isn't seen.
+/// Law: a search goes on behind a table in which the key isn't seen.
 pub fn goes_on()
     ensures { StepLaw }
 {}
 
-/// The first table in which the key is seen answers for all.
+/// Law: the first table in which the key is seen answers for all.
 pub fn is_found()
     ensures { FoundLaw }
 {}
 
-/// A search that ends has seen the key in none.
+/// Law: a search that ends has seen the key in none.
 pub fn has_ended()
     ensures { EndLaw }
 {}
 
-/// The entries of a consistent directory lie in its last log, the logs before it, and its tables, each newer than the next.
+/// Law: the entries of a consistent directory lie in its last log, the logs before it, and its tables, each newer than the next.
 pub fn memory_in_front()
     ensures { MemoryLaw }
 {}
 
-/// A version that lists the tables of a consistent directory has them.
+/// Law: a version that lists the tables of a consistent directory has them.
 pub fn version_of_directory()
     ensures { VersionLaw }
 {}
 
-/// A version that lists some of them has these.
+/// Law: a version that lists some of them has these.
 pub fn version_of_part()
     ensures { PartLaw }
 {}
 
-/// A version keeps its tables while their files stay.
+/// Law: a version keeps its tables while their files stay.
 pub fn version_is_kept()
     ensures { KeptLaw }
 {}
