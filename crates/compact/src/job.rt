@@ -47,15 +47,18 @@ pub struct Job<K: KeyOrder, C> {
 }
 
 impl<K: KeyOrder, C: Drop> Job<K, C> {
-    ghost use Rattle.std.specs.Prelude.{◌≡◌, ◌<◌, ◌≤◌, ◌⊎◌, ◌+◌, ◌^◌, All, map, max, ◌∷◌, ◌++◌, [], ℕ, Bool, List, None, IsTrue, IfOk, IfErr, OnOk, MatchBool};
+    ghost use Rattle.std.specs.Prelude.{◌≡◌, ◌<◌, ◌≤◌, ◌⊎◌, ◌+◌, ◌^◌, All, map, max, ◌∷◌, ◌++◌};
+    ghost use Rattle.std.specs.Prelude.{[], ℕ, Bool, List, None, IsTrue, IfOk, IfErr, OnOk, MatchBool};
     ghost use Rattle.std.specs.List.{AllByRecursion};
     ghost use Rattle.cursor.specs.Moves.{ListsNone};
     ghost use Rattle.edits.specs.Edit.{IsProper, IsInOrder};
     ghost use Rattle.cursor.specs.Places.{Listed};
     ghost use Rattle.ikey.specs.Entries.{InternalEntry, entry_of};
-    ghost use Rattle.compact.specs.Merging.{IsBetween, IsLimited, IsMerging, IsSlice, IsFinished, KeepsMine, ReadsApart, AreDisjoint, HaveOwnSequences};
+    ghost use Rattle.compact.specs.Merging.{IsBetween, IsLimited, IsMerging, IsSlice, IsFinished};
+    ghost use Rattle.compact.specs.Merging.{KeepsMine, ReadsApart, AreDisjoint, HaveOwnSequences};
     ghost use Rattle.compact.specs.JobEdits.{IsEditOfPlan, IsPlanProper, IsOwnIn};
-    ghost use Rattle.compact.specs.Outputs.{AreNumbered, IsMineUpTo, IsNumberAtHand, IsOwn, IsToCome, NumbersOn, WritesTables, RefusesEntry};
+    ghost use Rattle.compact.specs.Outputs.{AreNumbered, IsMineUpTo, IsNumberAtHand, IsOwn};
+    ghost use Rattle.compact.specs.Outputs.{IsToCome, NumbersOn, WritesTables, RefusesEntry};
     ghost use Rattle.compact.specs.Leaving.{LeavesOthers};
     ghost use Rattle.compact.specs.Rooms.{AreLarge};
     ghost use Rattle.table.specs.Reading.{Reads};
@@ -75,7 +78,8 @@ impl<K: KeyOrder, C: Drop> Job<K, C> {
         C: Cursor<K, H>,
         requires rising { IsNonDecreasing snapshots.now }
         requires facts { (held : H) → C.facts held ≡ S.facts (H.store_of held) }
-        requires gathers { (reader : C) (before after : H) → C.leaves (C.over reader) before after → (number : ℕ) → H.gathers after number → H.gathers before number ⊎ C.over reader number }
+        requires gathers { (reader : C) (before after : H) → C.leaves (C.over reader) before after → (number : ℕ)
+            → H.gathers after number → H.gathers before number ⊎ C.over reader number }
         ensures plan { IfOk result (λ job. job.plan ≡ plan) }
         ensures snapshots { IfOk result (λ job. job.selection.snapshots ≡ snapshots.now) }
         ensures written { IfOk result (λ job. job.outputs ≡ record { closed = []; at_hand = None }) }
@@ -84,10 +88,13 @@ impl<K: KeyOrder, C: Drop> Job<K, C> {
         ensures within { IfOk result (λ job. (number : ℕ) → C.over job.cursor number → C.over cursor number) }
         ensures same { IfOk result (λ job. (s t : H) → C.keeps cursor s t → C.keeps job.cursor s t) }
         ensures stood { OnOk result ((S.facts (H.store_of source.new)).failures ≡ (S.facts (H.store_of source.old)).failures) }
-        ensures limits { IfOk result (λ job. IsTrue (S.facts (H.store_of source.new)).faithful → IsLimited C.limited job source.new → C.limited cursor source.old) }
+        ensures limits { IfOk result (λ job. IsTrue (S.facts (H.store_of source.new)).faithful → IsLimited C.limited job source.new
+            → C.limited cursor source.old) }
         ensures refused { IfErr result (λ e. RefusesEntry e (S.facts (H.store_of source.old)) (S.facts (H.store_of source.new))
-            (IsTrue (S.facts (H.store_of source.new)).faithful → ListsNone C.lists cursor source.old) (IsTrue (S.facts (H.store_of source.new)).faithful → ListsNone C.lists cursor source.old ⊎ C.limited cursor source.old) ⊥) }
-        ensures started { IfOk result (λ job. (deep : List ℕ → Bool) (next : ℕ) (at : Listed) → IsTrue (S.facts (H.store_of source.new)).faithful
+            (IsTrue (S.facts (H.store_of source.new)).faithful → ListsNone C.lists cursor source.old)
+            (IsTrue (S.facts (H.store_of source.new)).faithful → ListsNone C.lists cursor source.old ⊎ C.limited cursor source.old) ⊥) }
+        ensures started { IfOk result (λ job. (deep : List ℕ → Bool) (next : ℕ) (at : Listed)
+            → IsTrue (S.facts (H.store_of source.new)).faithful
             → C.lists cursor source.old at → ReadsApart S.facts H.store_of H.with_store H.gathers C.keeps cursor (IsToCome next)
             → AreDisjoint (H.gathers source.old) (IsToCome next) → AreDisjoint (C.over cursor) (IsToCome next)
             → IsBetween K.cmp deep S.facts H.store_of H.with_store H.gathers C.lists C.keeps C.over job source.new next [] at.entries) }
@@ -120,7 +127,8 @@ impl<K: KeyOrder, C: Drop> Job<K, C> {
     where
         C: Cursor<K, H>,
         requires facts { (held : H) → C.facts held ≡ S.facts (H.store_of held) }
-        requires gathers { (reader : C) (before after : H) → C.leaves (C.over reader) before after → (number : ℕ) → H.gathers after number → H.gathers before number ⊎ C.over reader number }
+        requires gathers { (reader : C) (before after : H) → C.leaves (C.over reader) before after → (number : ℕ)
+            → H.gathers after number → H.gathers before number ⊎ C.over reader number }
         ensures numbers { numbers.old.next ≤ numbers.new.next }
         ensures drawn { numbers.new.next ≤ numbers.old.next + max budget 1 }
         ensures drawn_merged { IfOk result (λ progress. numbers.new.next ≤ numbers.old.next + progress.merged) }
@@ -129,23 +137,32 @@ impl<K: KeyOrder, C: Drop> Job<K, C> {
         ensures snapshots { self.new.selection.snapshots ≡ self.old.selection.snapshots }
         ensures mine { OnOk result (KeepsMine self.old.outputs numbers.old.next self.new.outputs numbers.new.next) }
         ensures numbered { OnOk result (NumbersOn self.old.outputs numbers.old.next self.new.outputs numbers.new.next) }
-        ensures writes { WritesTables (S.facts (H.store_of source.old)) (S.facts (H.store_of source.new)) (IsMineUpTo self.old.outputs numbers.old.next numbers.new.next) }
-        ensures leaves { LeavesOthers S.facts H.store_of H.with_store C.keeps C.leaves C.over (IsMineUpTo self.old.outputs numbers.old.next numbers.new.next) self.old.cursor self.new.cursor source.old source.new }
+        ensures writes { WritesTables (S.facts (H.store_of source.old)) (S.facts (H.store_of source.new))
+            (IsMineUpTo self.old.outputs numbers.old.next numbers.new.next) }
+        ensures leaves { LeavesOthers S.facts H.store_of H.with_store C.keeps C.leaves C.over
+            (IsMineUpTo self.old.outputs numbers.old.next numbers.new.next) self.old.cursor self.new.cursor source.old source.new }
         ensures stood { OnOk result ((S.facts (H.store_of source.new)).failures ≡ (S.facts (H.store_of source.old)).failures) }
         ensures refused { IfErr result (λ e. RefusesEntry e (S.facts (H.store_of source.old)) (S.facts (H.store_of source.new))
             (IsTrue (S.facts (H.store_of source.new)).faithful → (came : List InternalEntry) (rest : List InternalEntry)
-            → IsBetween K.cmp (D.covers deeper.now) S.facts H.store_of H.with_store H.gathers C.lists C.keeps C.over self.old source.old numbers.old.next came rest → HaveOwnSequences (came ++ rest) → ⊥)
+            → IsBetween K.cmp (D.covers deeper.now) S.facts H.store_of H.with_store H.gathers C.lists C.keeps C.over self.old
+            source.old numbers.old.next came rest → HaveOwnSequences (came ++ rest) → ⊥)
             (IsTrue (S.facts (H.store_of source.new)).faithful → (came : List InternalEntry) (rest : List InternalEntry)
-            → IsBetween K.cmp (D.covers deeper.now) S.facts H.store_of H.with_store H.gathers C.lists C.keeps C.over self.old source.old numbers.old.next came rest
+            → IsBetween K.cmp (D.covers deeper.now) S.facts H.store_of H.with_store H.gathers C.lists C.keeps C.over self.old
+            source.old numbers.old.next came rest
             → IsLimited C.limited self.old source.old ⊎ AreLarge (map entry_of (came ++ rest)))
             (2 ^ 62 ≤ numbers.new.next)) }
-        ensures limits { OnOk result ((came : List InternalEntry) (rest : List InternalEntry) → IsTrue (S.facts (H.store_of source.new)).faithful
-            → IsBetween K.cmp (D.covers deeper.now) S.facts H.store_of H.with_store H.gathers C.lists C.keeps C.over self.old source.old numbers.old.next came rest
+        ensures limits { OnOk result ((came : List InternalEntry) (rest : List InternalEntry)
+            → IsTrue (S.facts (H.store_of source.new)).faithful
+            → IsBetween K.cmp (D.covers deeper.now) S.facts H.store_of H.with_store H.gathers C.lists C.keeps C.over self.old
+            source.old numbers.old.next came rest
             → IsLimited C.limited self.new source.new → IsLimited C.limited self.old source.old) }
-        ensures sliced { IfOk result (λ progress. (came : List InternalEntry) (rest : List InternalEntry) → IsTrue (S.facts (H.store_of source.new)).faithful
-            → IsBetween K.cmp (D.covers deeper.now) S.facts H.store_of H.with_store H.gathers C.lists C.keeps C.over self.old source.old numbers.old.next came rest
+        ensures sliced { IfOk result (λ progress. (came : List InternalEntry) (rest : List InternalEntry)
+            → IsTrue (S.facts (H.store_of source.new)).faithful
+            → IsBetween K.cmp (D.covers deeper.now) S.facts H.store_of H.with_store H.gathers C.lists C.keeps C.over self.old
+            source.old numbers.old.next came rest
             → (front : List InternalEntry) × (back : List InternalEntry) × (rest ≡ front ++ back) × IsSlice budget progress front back
-            × IsBetween K.cmp (D.covers deeper.now) S.facts H.store_of H.with_store H.gathers C.lists C.keeps C.over self.new source.new numbers.new.next (came ++ front) back) }
+            × IsBetween K.cmp (D.covers deeper.now) S.facts H.store_of H.with_store H.gathers C.lists C.keeps C.over self.new
+            source.new numbers.new.next (came ++ front) back) }
     {
         for merged in 0..budget.max(1) {
             if !self.cursor.stands() {
@@ -174,14 +191,16 @@ impl<K: KeyOrder, C: Drop> Job<K, C> {
         ensures finished { IfOk result (λ edit. (deep : List ℕ → Bool) (came : List InternalEntry) → IsTrue (S.facts store.new).faithful
             → IsMerging K.cmp deep self.last.items self.selection self.outputs (S.facts store.old) numbers.now.next came
             → IsFinished K.cmp deep self.plan self.last.items self.selection (S.facts store.new) numbers.now.next last_sequence came edit) }
-        ensures proper { IfOk result (λ edit. last_sequence < 2 ^ 56 → IsPlanProper self.plan → AreNumbered self.outputs numbers.now.next → All IsProper edit) }
+        ensures proper { IfOk result (λ edit. last_sequence < 2 ^ 56 → IsPlanProper self.plan
+            → AreNumbered self.outputs numbers.now.next → All IsProper edit) }
         ensures order { IfOk result (λ edit. IsPlanProper self.plan → AreNumbered self.outputs numbers.now.next → IsInOrder edit) }
         ensures of_plan { IfOk result (λ edit. IsEditOfPlan self.plan edit) }
         // What it puts in are tables that the job wrote.
         ensures own { IfOk result (λ edit. AllByRecursion (IsOwnIn self.outputs) edit) }
         ensures stood { OnOk result ((S.facts store.new).failures ≡ (S.facts store.old).failures) }
         ensures refused { IfErr result (λ e. RefusesEntry e (S.facts store.old) (S.facts store.new) ⊥
-            ((deep : List ℕ → Bool) (came : List InternalEntry) → IsMerging K.cmp deep self.last.items self.selection self.outputs (S.facts store.old) numbers.now.next came
+            ((deep : List ℕ → Bool) (came : List InternalEntry)
+            → IsMerging K.cmp deep self.last.items self.selection self.outputs (S.facts store.old) numbers.now.next came
             → AreLarge (map entry_of came)) ⊥) }
     {
         let Job { plan, outputs, .. } = self;
@@ -222,7 +241,8 @@ impl<K: KeyOrder, C: Drop> Job<K, C> {
     where
         C: Cursor<K, H>,
         requires facts { (held : H) → C.facts held ≡ S.facts (H.store_of held) }
-        requires gathers { (reader : C) (before after : H) → C.leaves (C.over reader) before after → (number : ℕ) → H.gathers after number → H.gathers before number ⊎ C.over reader number }
+        requires gathers { (reader : C) (before after : H) → C.leaves (C.over reader) before after → (number : ℕ)
+            → H.gathers after number → H.gathers before number ⊎ C.over reader number }
         requires stands { IsTrue (C.stands self.old.cursor) }
         ensures numbers { numbers.old.next ≤ numbers.new.next }
         ensures drawn { numbers.new.next ≤ numbers.old.next + 1 }
@@ -230,22 +250,33 @@ impl<K: KeyOrder, C: Drop> Job<K, C> {
         ensures snapshots { self.new.selection.snapshots ≡ self.old.selection.snapshots }
         ensures mine { OnOk result (KeepsMine self.old.outputs numbers.old.next self.new.outputs numbers.new.next) }
         ensures numbered { OnOk result (NumbersOn self.old.outputs numbers.old.next self.new.outputs numbers.new.next) }
-        ensures writes { WritesTables (S.facts (H.store_of source.old)) (S.facts (H.store_of source.new)) (IsMineUpTo self.old.outputs numbers.old.next numbers.new.next) }
-        ensures leaves { LeavesOthers S.facts H.store_of H.with_store C.keeps C.leaves C.over (IsMineUpTo self.old.outputs numbers.old.next numbers.new.next) self.old.cursor self.new.cursor source.old source.new }
+        ensures writes { WritesTables (S.facts (H.store_of source.old)) (S.facts (H.store_of source.new))
+            (IsMineUpTo self.old.outputs numbers.old.next numbers.new.next) }
+        ensures leaves { LeavesOthers S.facts H.store_of H.with_store C.keeps C.leaves C.over
+            (IsMineUpTo self.old.outputs numbers.old.next numbers.new.next) self.old.cursor self.new.cursor source.old source.new }
         ensures stood { OnOk result ((S.facts (H.store_of source.new)).failures ≡ (S.facts (H.store_of source.old)).failures) }
         ensures refused { IfErr result (λ e. RefusesEntry e (S.facts (H.store_of source.old)) (S.facts (H.store_of source.new))
-            (IsTrue (S.facts (H.store_of source.new)).faithful → (came : List InternalEntry) (entry : InternalEntry) (rest : List InternalEntry)
-            → IsBetween K.cmp (D.covers deeper.now) S.facts H.store_of H.with_store H.gathers C.lists C.keeps C.over self.old source.old numbers.old.next came (entry ∷ rest) → HaveOwnSequences (came ++ entry ∷ rest) → ⊥)
-            (IsTrue (S.facts (H.store_of source.new)).faithful → (came : List InternalEntry) (entry : InternalEntry) (rest : List InternalEntry)
-            → IsBetween K.cmp (D.covers deeper.now) S.facts H.store_of H.with_store H.gathers C.lists C.keeps C.over self.old source.old numbers.old.next came (entry ∷ rest)
+            (IsTrue (S.facts (H.store_of source.new)).faithful
+            → (came : List InternalEntry) (entry : InternalEntry) (rest : List InternalEntry)
+            → IsBetween K.cmp (D.covers deeper.now) S.facts H.store_of H.with_store H.gathers C.lists C.keeps C.over self.old
+            source.old numbers.old.next came (entry ∷ rest) → HaveOwnSequences (came ++ entry ∷ rest) → ⊥)
+            (IsTrue (S.facts (H.store_of source.new)).faithful
+            → (came : List InternalEntry) (entry : InternalEntry) (rest : List InternalEntry)
+            → IsBetween K.cmp (D.covers deeper.now) S.facts H.store_of H.with_store H.gathers C.lists C.keeps C.over self.old
+            source.old numbers.old.next came (entry ∷ rest)
             → IsLimited C.limited self.old source.old ⊎ AreLarge (map entry_of (came ++ entry ∷ rest)))
             (2 ^ 62 ≤ numbers.new.next)) }
-        ensures limits { OnOk result ((came : List InternalEntry) (entry : InternalEntry) (rest : List InternalEntry) → IsTrue (S.facts (H.store_of source.new)).faithful
-            → IsBetween K.cmp (D.covers deeper.now) S.facts H.store_of H.with_store H.gathers C.lists C.keeps C.over self.old source.old numbers.old.next came (entry ∷ rest)
+        ensures limits { OnOk result ((came : List InternalEntry) (entry : InternalEntry) (rest : List InternalEntry)
+            → IsTrue (S.facts (H.store_of source.new)).faithful
+            → IsBetween K.cmp (D.covers deeper.now) S.facts H.store_of H.with_store H.gathers C.lists C.keeps C.over self.old
+            source.old numbers.old.next came (entry ∷ rest)
             → IsLimited C.limited self.new source.new → IsLimited C.limited self.old source.old) }
-        ensures merged { OnOk result ((came : List InternalEntry) (entry : InternalEntry) (rest : List InternalEntry) → IsTrue (S.facts (H.store_of source.new)).faithful
-            → IsBetween K.cmp (D.covers deeper.now) S.facts H.store_of H.with_store H.gathers C.lists C.keeps C.over self.old source.old numbers.old.next came (entry ∷ rest)
-            → IsBetween K.cmp (D.covers deeper.now) S.facts H.store_of H.with_store H.gathers C.lists C.keeps C.over self.new source.new numbers.new.next (came ++ entry ∷ []) rest) }
+        ensures merged { OnOk result ((came : List InternalEntry) (entry : InternalEntry) (rest : List InternalEntry)
+            → IsTrue (S.facts (H.store_of source.new)).faithful
+            → IsBetween K.cmp (D.covers deeper.now) S.facts H.store_of H.with_store H.gathers C.lists C.keeps C.over self.old
+            source.old numbers.old.next came (entry ∷ rest)
+            → IsBetween K.cmp (D.covers deeper.now) S.facts H.store_of H.with_store H.gathers C.lists C.keeps C.over self.new
+            source.new numbers.new.next (came ++ entry ∷ []) rest) }
     {
         let bytes = self.cursor.key(source);
         if !comes_behind::<K>(self.last.as_slice(), bytes) {

@@ -18,7 +18,8 @@ pub fn edit_of(
     next_file_number: u64,
     last_sequence: u64,
 ) -> Result<Edit, AllocError>
-    ensures { IfOk result (λ edit. IsEditOf plan.output_level plan.inputs.items plan.compact_pointer tables.items next_file_number last_sequence edit) }
+    ensures { IfOk result (λ edit. IsEditOf plan.output_level plan.inputs.items plan.compact_pointer tables.items next_file_number
+        last_sequence edit) }
 {
     let JobPlan {
         inputs,
@@ -53,7 +54,8 @@ fn push_pointer(
 
 // Takes the inputs away, by level, then by number.
 fn push_inputs(edit: &mut Edit, inputs: Vec<PlacedTable>) -> Result<(), AllocError>
-    ensures { OnOk result ((sorted : List PlacedTableValue) × IsPermutation inputs.items sorted × IsNonDecreasingBy rank_of sorted × (edit.new ≡ edit.old ++ map gone sorted)) }
+    ensures { OnOk result ((sorted : List PlacedTableValue) × IsPermutation inputs.items sorted × IsNonDecreasingBy rank_of sorted
+        × (edit.new ≡ edit.old ++ map gone sorted)) }
 {
     let mut inputs = inputs;
     inputs.sort_by_key(|placed| rank(placed.level, placed.table.number))?;

@@ -93,7 +93,8 @@ impl<K: KeyOrder> NewTable<K> {
             → IsFilling K.cmp self.old (S.facts store.old) pairs
             → IsFilling K.cmp self.new (S.facts store.new) (pairs ++ record { key = key.now; value = value.now } ∷ [])) }
         ensures stood { OnOk result ((S.facts store.new).failures ≡ (S.facts store.old).failures) }
-        ensures refused { IfErr result (λ e. RefusesEntry e (S.facts store.old) (S.facts store.new) (MayFollow K.cmp self.old.building key.now → ⊥)
+        ensures refused { IfErr result (λ e. RefusesEntry e (S.facts store.old) (S.facts store.new)
+            (MayFollow K.cmp self.old.building key.now → ⊥)
             (NeedsLongBlock self.old.building (record { key = key.now; value = value.now })) ⊥) }
     {
         if !self.builder.accepts(key) {
@@ -107,7 +108,8 @@ impl<K: KeyOrder> NewTable<K> {
     /// Whether the table ends before an entry of this user key: its data blocks have so many bytes, and its last entry is
     /// of another user key.
     pub fn ends_before(&self, user: &[u8], file_bytes: u64) -> bool
-        ensures { MatchBool result ((file_bytes ≤ data_size self.now.building) × ((key : Key) → IsKey self.now.largest key → key.user ≢ user.now))
+        ensures { MatchBool result ((file_bytes ≤ data_size self.now.building)
+            × ((key : Key) → IsKey self.now.largest key → key.user ≢ user.now))
             (file_bytes ≤ data_size self.now.building → (key : Key) → IsKey self.now.largest key → key.user ≡ user.now) }
     {
         if self.builder.size() < file_bytes {
@@ -125,7 +127,8 @@ impl<K: KeyOrder> NewTable<K> {
     /// Ends the table, and has the device keep it. `None` where it has no entry.
     pub fn close<S: Store>(self, alloc: Global, store: &mut S) -> Result<Option<TableFile>, DbError>
         ensures writes { Writes (S.facts store.old) (S.facts store.new) (table_name self.number) }
-        ensures closed { IfOk result (λ closed. (pairs : List Pair) → IsTrue (S.facts store.new).faithful → IsFilling K.cmp self (S.facts store.old) pairs
+        ensures closed { IfOk result (λ closed. (pairs : List Pair) → IsTrue (S.facts store.new).faithful
+            → IsFilling K.cmp self (S.facts store.old) pairs
             → Closes K.cmp (S.facts store.new) self.number pairs closed) }
         ensures said { IfOk result (λ closed. IfSome closed (IsSaidOf self)) }
         ensures stood { OnOk result ((S.facts store.new).failures ≡ (S.facts store.old).failures) }
@@ -162,7 +165,8 @@ fn finish_file<K: KeyOrder, S: Store>(
     requires name { builder.name ≡ table_name number }
     requires some { IsSome (last_added builder) }
     ensures writes { Writes (S.facts store.old) (S.facts store.new) (table_name number) }
-    ensures written { IfOk result (λ size. (pairs : List Pair) → IsTrue (S.facts store.new).faithful → Builds K.cmp builder (S.facts store.old) pairs
+    ensures written { IfOk result (λ size. (pairs : List Pair) → IsTrue (S.facts store.new).faithful
+        → Builds K.cmp builder (S.facts store.old) pairs
         → (file : List ℕ) × HasFile (S.facts store.new) (table_name number) file × (size ≡ length file) × IsTableOf K.cmp file pairs) }
     ensures stood { OnOk result ((S.facts store.new).failures ≡ (S.facts store.old).failures) }
     ensures refused { IfErr result (λ e. RefusesEntry e (S.facts store.old) (S.facts store.new)

@@ -1,6 +1,7 @@
 //! Several cursors as one (LevelDB's table/merger.cc).
 
-ghost use Rattle.std.specs.Prelude.{◌≡◌, ◌<◌, ℕ, List, Option, Some, None, true, false, length, slice_get, IsTrue, IfErr, OnOk, OnErr, MatchOption};
+ghost use Rattle.std.specs.Prelude.{◌≡◌, ◌<◌, ℕ, List, Option, Some, None, true};
+ghost use Rattle.std.specs.Prelude.{false, length, slice_get, IsTrue, IfErr, OnOk, OnErr, MatchOption};
 ghost use Rattle.std.specs.List.{AllByRecursion};
 ghost use Rattle.ikey.specs.Entries.{InternalEntry};
 ghost use Rattle.ikey.specs.Keys.{Key, IsKey};
@@ -152,11 +153,14 @@ impl<K: KeyOrder, S, C: Cursor<K, S>> Cursor<K, S> for Merge<K, C> {
 
     ghost rises = { λ merge source at h. merge_rises K.cmp C.lists merge.children.items merge.current merge.target.items source at h };
 
-    ghost placed = { λ merge source at h. merge_placed K.cmp C.lists C.stands C.placed merge.children.items merge.current merge.target.items source at h };
+    ghost placed = { λ merge source at h. merge_placed K.cmp C.lists C.stands C.placed merge.children.items merge.current
+        merge.target.items source at h };
 
-    ghost inside = { λ merge source at index h e. merge_inside K.cmp C.lists merge.children.items merge.current merge.target.items source at index h e };
+    ghost inside = { λ merge source at index h e. merge_inside K.cmp C.lists merge.children.items merge.current merge.target.items
+        source at index h e };
 
-    ghost kept = { λ merge old new at k h. merge_kept K.cmp C.lists C.keeps C.kept merge.children.items merge.current merge.target.items old new at k h };
+    ghost kept = { λ merge old new at k h. merge_kept K.cmp C.lists C.keeps C.kept merge.children.items merge.current
+        merge.target.items old new at k h };
 
     ghost still = { λ merge source. all_still C.keeps C.still merge.children.items source };
 
@@ -183,11 +187,15 @@ fn jump<K: KeyOrder, S, C: Cursor<K, S>>(
     requires jump { IsJump motion }
     ensures moves { IsTrue (C.facts source.new).faithful → (at : Listed) (goal : Key) → AimsJump motion.entry goal
         → IsMerge K.cmp C.lists merge.old.children.items merge.old.current merge.old.target.items source.old at
-        → IsMerge K.cmp C.lists merge.new.children.items merge.new.current merge.new.target.items source.new (after_move result (λ from. place_of K.cmp motion.entry goal from.entries) at) }
-    ensures stays { Stays C.facts (KeepsAll C.keeps) (AnyLimited C.limited) C.leaves (GoesOverAny C.over) merge.old.children.items merge.new.children.items source.old source.new }
+        → IsMerge K.cmp C.lists merge.new.children.items merge.new.current merge.new.target.items source.new
+        (after_move result (λ from. place_of K.cmp motion.entry goal from.entries) at) }
+    ensures stays { Stays C.facts (KeepsAll C.keeps) (AnyLimited C.limited) C.leaves
+        (GoesOverAny C.over) merge.old.children.items merge.new.children.items source.old source.new }
     ensures still { IsStill (C.facts source.old) (C.facts source.new) result }
     ensures refused { IfErr result (λ e. Refuses e (C.facts source.old) (C.facts source.new)
-        ((at : Listed) (goal : Key) → AimsJump motion.entry goal → IsMerge K.cmp C.lists merge.old.children.items merge.old.current merge.old.target.items source.old at → ⊥) (AnyLimited C.limited merge.old.children.items source.old)) }
+        ((at : Listed) (goal : Key) → AimsJump motion.entry goal
+        → IsMerge K.cmp C.lists merge.old.children.items merge.old.current merge.old.target.items source.old at → ⊥)
+        (AnyLimited C.limited merge.old.children.items source.old)) }
 {
     match standing::<K, S, C>(merge) {
         None => {
@@ -222,7 +230,8 @@ fn keep_key<K: KeyOrder, S, C: Cursor<K, S>>(
     source: &S,
 ) -> Result<(), AllocError>
     requires { IsTrue (C.stands cursor.now) }
-    ensures key { OnOk result ((at : Listed) (index : ℕ) (entry : InternalEntry) → C.lists cursor.now source.now at → at.place ≡ Some index → slice_get at.entries index ≡ Some entry → IsKey target.new.items entry.key) }
+    ensures key { OnOk result ((at : Listed) (index : ℕ) (entry : InternalEntry) → C.lists cursor.now source.now at
+        → at.place ≡ Some index → slice_get at.entries index ≡ Some entry → IsKey target.new.items entry.key) }
     ensures err { OnErr result (target.new.items ≡ target.old.items) }
 {
     copy_to(target, cursor.key(source))?;

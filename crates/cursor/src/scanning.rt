@@ -7,9 +7,10 @@ ghost use Rattle.ikey.specs.Keys.{Key, IsKey};
 ghost use Rattle.ikey.specs.KeyViews.{key_of as key_view};
 ghost use Rattle.table.specs.Reading.{IsStill};
 ghost use Rattle.cursor.specs.Places.{within, index_before};
-ghost use Rattle.cursor.specs.Moves.{Refuses, ListsNone};
+ghost use Rattle.cursor.specs.Moves.{RefusesMove};
 ghost use Rattle.cursor.specs.Merging.{listed};
-ghost use Rattle.cursor.specs.Searches.{Wanders, SearchesOn, AnswersOn, LooksOn, Hidden, SearchesBack, AnswersBack, LooksBack, HasPassedNone, RefusesKey, below_bound};
+ghost use Rattle.cursor.specs.Searches.{Wanders, SearchesOn, AnswersOn, LooksOn, Hidden, SearchesBack};
+ghost use Rattle.cursor.specs.Searches.{AnswersBack, LooksBack, HasPassedNone, RefusesKey, below_bound};
 
 use crate::copying::copy_to;
 use crate::cursor::Cursor;
@@ -46,12 +47,15 @@ pub fn find_on<K: KeyOrder, S, C: Cursor<K, S>>(
     hides: bool,
     hidden: &mut Vec<u8>,
 ) -> Result<bool, DbError>
-    ensures found { IsTrue (C.facts source.new).faithful → IfOk result (λ found. (entries : List InternalEntry) (test : List ℕ → Bool) (index : ℕ) → C.lists cursor.old source.old (listed entries (within entries index))
-        → SearchesOn K.cmp entries sequence test index hides hidden.old.items → AnswersOn K.cmp C.lists cursor.new source.new entries sequence test hidden.new.items found) }
+    ensures found { IsTrue (C.facts source.new).faithful → IfOk result
+        (λ found. (entries : List InternalEntry) (test : List ℕ → Bool) (index : ℕ)
+        → C.lists cursor.old source.old (listed entries (within entries index))
+        → SearchesOn K.cmp entries sequence test index hides hidden.old.items
+        → AnswersOn K.cmp C.lists cursor.new source.new entries sequence test hidden.new.items found) }
     ensures stands { IfOk result (λ found. found ≡ true → C.stands cursor.new ≡ true) }
     ensures wanders { Wanders C.facts C.lists C.keeps C.limited C.leaves C.over cursor.old cursor.new source.old source.new }
     ensures still { IsStill (C.facts source.old) (C.facts source.new) result }
-    ensures refused { IfErr result (λ e. Refuses e (C.facts source.old) (C.facts source.new) (ListsNone C.lists cursor.old source.old) (C.limited cursor.old source.old)) }
+    ensures refused { RefusesMove C.facts C.lists C.limited cursor.old source.old source.new result }
 {
     let mut hiding = hides;
     'search: for _ in 0..u64::MAX {
@@ -73,7 +77,8 @@ fn look_on(
     hides: &mut bool,
     hidden: &mut Vec<u8>,
 ) -> Result<bool, DbError>
-    ensures looks { IfOk result (λ found. (key : Key) → IsKey bytes.now key → LooksOn key sequence hides.old hidden.old.items hides.new hidden.new.items found) }
+    ensures looks { IfOk result (λ found. (key : Key) → IsKey bytes.now key
+        → LooksOn key sequence hides.old hidden.old.items hides.new hidden.new.items found) }
     ensures refused { IfErr result (λ e. RefusesKey e bytes.now) }
 {
     let key = key_of(bytes)?;
@@ -112,11 +117,14 @@ pub fn find_back<K: KeyOrder, S, C: Cursor<K, S>>(
     bound: Option<&[u8]>,
     found: &mut Found,
 ) -> Result<bool, DbError>
-    ensures found { IsTrue (C.facts source.new).faithful → IfOk result (λ has. (entries : List InternalEntry) (index : ℕ) → C.lists cursor.old source.old (listed entries (index_before index))
-        → HasPassedNone entries sequence (below_bound K.cmp (option_copied bound.entry)) index → AnswersBack K.cmp C.lists cursor.new source.new entries sequence (below_bound K.cmp (option_copied bound.entry)) found.new.key.items found.new.value.items has) }
+    ensures found { IsTrue (C.facts source.new).faithful → IfOk result
+        (λ has. (entries : List InternalEntry) (index : ℕ) → C.lists cursor.old source.old (listed entries (index_before index))
+        → HasPassedNone entries sequence (below_bound K.cmp (option_copied bound.entry)) index
+        → AnswersBack K.cmp C.lists cursor.new source.new entries sequence
+        (below_bound K.cmp (option_copied bound.entry)) found.new.key.items found.new.value.items has) }
     ensures wanders { Wanders C.facts C.lists C.keeps C.limited C.leaves C.over cursor.old cursor.new source.old source.new }
     ensures still { IsStill (C.facts source.old) (C.facts source.new) result }
-    ensures refused { IfErr result (λ e. Refuses e (C.facts source.old) (C.facts source.new) (ListsNone C.lists cursor.old source.old) (C.limited cursor.old source.old)) }
+    ensures refused { RefusesMove C.facts C.lists C.limited cursor.old source.old source.new result }
 {
     let mut has = false;
     'search: for _ in 0..u64::MAX {
@@ -148,7 +156,10 @@ fn look_back<K: KeyOrder>(
     has: &mut bool,
     found: &mut Found,
 ) -> Result<bool, DbError>
-    ensures looks { IfOk result (λ ends. (key : Key) → IsKey bytes.now key → LooksBack key value.now sequence (below_bound K.cmp (option_copied bound.entry)) has.old found.old.key.items found.old.value.items has.new found.new.key.items found.new.value.items ends) }
+    ensures looks { IfOk result (λ ends. (key : Key) → IsKey bytes.now key
+        → LooksBack key value.now sequence (below_bound K.cmp
+        (option_copied bound.entry)) has.old found.old.key.items found.old.value.items has.new found.new.key.items
+        found.new.value.items ends) }
     ensures refused { IfErr result (λ e. RefusesKey e bytes.now) }
 {
     let key = key_of(bytes)?;

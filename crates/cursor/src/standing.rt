@@ -5,7 +5,7 @@ ghost use Rattle.std.specs.Option.{option_copied};
 ghost use Rattle.ikey.specs.Entries.{InternalEntry};
 ghost use Rattle.table.specs.Reading.{IsStill};
 ghost use Rattle.cursor.specs.Places.{Cmp, Listed, within, index_before, is_less};
-ghost use Rattle.cursor.specs.Moves.{Refuses, ListsNone};
+ghost use Rattle.cursor.specs.Moves.{RefusesMove};
 ghost use Rattle.cursor.specs.Merging.{listed, ahead, behind};
 ghost use Rattle.cursor.specs.Views.{IsVisible, is_user_below};
 ghost use Rattle.cursor.specs.Searches.{Wanders, IsBetween, FromOn};
@@ -38,12 +38,14 @@ pub fn stand_ahead<K: KeyOrder, S, C: Cursor<K, S>>(
     sequence: u64,
 ) -> Result<(), DbError>
     requires { sequence < 2 ^ 56 }
-    ensures stands { IsTrue (C.facts source.new).faithful → OnOk result ((entries : List InternalEntry) (entry : InternalEntry) (value : List ℕ) → IsVisible entries sequence entry → user.now ≡ entry.key.user
+    ensures stands { IsTrue (C.facts source.new).faithful → OnOk result
+        ((entries : List InternalEntry) (entry : InternalEntry) (value : List ℕ) → IsVisible entries sequence entry
+        → user.now ≡ entry.key.user
         → StandsAt K.cmp C.lists position cursor.old source.old entries entry value
         → (index : ℕ) × C.lists cursor.new source.new (listed entries (within entries index)) × IsBetween K.cmp entries index user.now) }
     ensures wanders { Wanders C.facts C.lists C.keeps C.limited C.leaves C.over cursor.old cursor.new source.old source.new }
     ensures still { IsStill (C.facts source.old) (C.facts source.new) result }
-    ensures refused { IfErr result (λ e. Refuses e (C.facts source.old) (C.facts source.new) (ListsNone C.lists cursor.old source.old) (C.limited cursor.old source.old)) }
+    ensures refused { RefusesMove C.facts C.lists C.limited cursor.old source.old source.new result }
 {
     match position {
         Position::Here => Ok(()),
@@ -68,12 +70,15 @@ pub fn stand_behind<K: KeyOrder, S, C: Cursor<K, S>>(
     sequence: u64,
 ) -> Result<(), DbError>
     requires { sequence < 2 ^ 56 }
-    ensures stands { IsTrue (C.facts source.new).faithful → OnOk result ((entries : List InternalEntry) (entry : InternalEntry) (value : List ℕ) → IsVisible entries sequence entry → user.now ≡ entry.key.user
+    ensures stands { IsTrue (C.facts source.new).faithful → OnOk result
+        ((entries : List InternalEntry) (entry : InternalEntry) (value : List ℕ) → IsVisible entries sequence entry
+        → user.now ≡ entry.key.user
         → StandsAt K.cmp C.lists position cursor.old source.old entries entry value
-        → (index : ℕ) × C.lists cursor.new source.new (listed entries (index_before index)) × FromOn entries index (λ other. is_less (K.cmp other.key.user user.now) ≡ false)) }
+        → (index : ℕ) × C.lists cursor.new source.new (listed entries (index_before index))
+        × FromOn entries index (λ other. is_less (K.cmp other.key.user user.now) ≡ false)) }
     ensures wanders { Wanders C.facts C.lists C.keeps C.limited C.leaves C.over cursor.old cursor.new source.old source.new }
     ensures still { IsStill (C.facts source.old) (C.facts source.new) result }
-    ensures refused { IfErr result (λ e. Refuses e (C.facts source.old) (C.facts source.new) (ListsNone C.lists cursor.old source.old) (C.limited cursor.old source.old)) }
+    ensures refused { RefusesMove C.facts C.lists C.limited cursor.old source.old source.new result }
 {
     match position {
         Position::Here => Ok(()),
@@ -91,11 +96,12 @@ fn step_on<K: KeyOrder, S, C: Cursor<K, S>>(
     alloc: Global,
     source: &mut S,
 ) -> Result<(), DbError>
-    ensures steps { IsTrue (C.facts source.new).faithful → OnOk result ((entries : List InternalEntry) (test : InternalEntry → Bool) → C.lists cursor.old source.old (listed entries (behind test entries))
+    ensures steps { IsTrue (C.facts source.new).faithful → OnOk result
+        ((entries : List InternalEntry) (test : InternalEntry → Bool) → C.lists cursor.old source.old (listed entries (behind test entries))
         → C.lists cursor.new source.new (listed entries (ahead test entries))) }
     ensures wanders { Wanders C.facts C.lists C.keeps C.limited C.leaves C.over cursor.old cursor.new source.old source.new }
     ensures still { IsStill (C.facts source.old) (C.facts source.new) result }
-    ensures refused { IfErr result (λ e. Refuses e (C.facts source.old) (C.facts source.new) (ListsNone C.lists cursor.old source.old) (C.limited cursor.old source.old)) }
+    ensures refused { RefusesMove C.facts C.lists C.limited cursor.old source.old source.new result }
 {
     if cursor.stands() {
         cursor.next(alloc, source)?;
@@ -114,11 +120,14 @@ fn find_again<K: KeyOrder, S, C: Cursor<K, S>>(
     sequence: u64,
 ) -> Result<(), DbError>
     requires { sequence < 2 ^ 56 }
-    ensures finds { IsTrue (C.facts source.new).faithful → OnOk result ((entries : List InternalEntry) (entry : InternalEntry) (index : ℕ) (place : Option ℕ) → IsVisible entries sequence entry → user.now ≡ entry.key.user
-        → slice_get entries index ≡ Some entry → C.lists cursor.old source.old (listed entries place) → C.lists cursor.new source.new (listed entries (Some index))) }
+    ensures finds { IsTrue (C.facts source.new).faithful → OnOk result
+        ((entries : List InternalEntry) (entry : InternalEntry) (index : ℕ) (place : Option ℕ) → IsVisible entries sequence entry
+        → user.now ≡ entry.key.user
+        → slice_get entries index ≡ Some entry → C.lists cursor.old source.old (listed entries place)
+        → C.lists cursor.new source.new (listed entries (Some index))) }
     ensures wanders { Wanders C.facts C.lists C.keeps C.limited C.leaves C.over cursor.old cursor.new source.old source.new }
     ensures still { IsStill (C.facts source.old) (C.facts source.new) result }
-    ensures refused { IfErr result (λ e. Refuses e (C.facts source.old) (C.facts source.new) (ListsNone C.lists cursor.old source.old) (C.limited cursor.old source.old)) }
+    ensures refused { RefusesMove C.facts C.lists C.limited cursor.old source.old source.new result }
 {
     let key = seek_key(alloc, user, sequence)?;
     cursor.seek(alloc, source, &key)?;

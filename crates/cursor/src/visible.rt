@@ -30,11 +30,12 @@ pub struct Visible<K: KeyOrder, C> {
 }
 
 impl<K: KeyOrder, C> Visible<K, C> {
-    ghost use Rattle.std.specs.Prelude.{◌≡◌, ◌<◌, ◌^◌, ℕ, Bool, true, false, List, Option, None, Some, slice_get, IsTrue, IfErr, OnOk, OnErr};
+    ghost use Rattle.std.specs.Prelude.{◌≡◌, ◌<◌, ◌^◌, ℕ, Bool, true, false, List};
+    ghost use Rattle.std.specs.Prelude.{Option, None, Some, slice_get, IsTrue, IfErr, OnOk, OnErr};
     ghost use Rattle.ikey.specs.Entries.{InternalEntry, Pair};
     ghost use Rattle.table.specs.Reading.{IsStill};
     ghost use Rattle.cursor.specs.Places.{within, index_before};
-    ghost use Rattle.cursor.specs.Moves.{Stays, Refuses, ListsNone};
+    ghost use Rattle.cursor.specs.Moves.{Stays, Refuses, RefusesMove};
     ghost use Rattle.cursor.specs.Merging.{listed};
     ghost use Rattle.cursor.specs.Views.{Walked, IsViewList, passed, walk_first, walk_last, walk_to, walk_next, walk_prev};
     ghost use Rattle.cursor.specs.Searches.{Wanders, SearchesOn, HasPassedNone, PassesLower, below_bound};
@@ -64,7 +65,8 @@ impl<K: KeyOrder, C> Visible<K, C> {
     where
         C: Cursor<K, S>,
         requires { self.now.stands ≡ false }
-        ensures { (entries : List InternalEntry) (place : Option ℕ) (pairs : List Pair) → C.lists self.now.cursor source.now (listed entries place) → IsViewList K.cmp entries self.now.sequence pairs
+        ensures { (entries : List InternalEntry) (place : Option ℕ) (pairs : List Pair)
+            → C.lists self.now.cursor source.now (listed entries place) → IsViewList K.cmp entries self.now.sequence pairs
             → IsWalk K.cmp C.lists self.now source.now (walked pairs None) }
     {
         let _ = self;
@@ -75,11 +77,13 @@ impl<K: KeyOrder, C> Visible<K, C> {
     pub fn first<S>(&mut self, alloc: Global, source: &mut S) -> Result<(), DbError>
     where
         C: Cursor<K, S>,
-        ensures moves { IsTrue (C.facts source.new).faithful → (at : Walked) → IsWalk K.cmp C.lists self.old source.old at → IsWalk K.cmp C.lists self.new source.new (walk_after result (walk_first at) at) }
+        ensures moves { IsTrue (C.facts source.new).faithful → (at : Walked) → IsWalk K.cmp C.lists self.old source.old at
+            → IsWalk K.cmp C.lists self.new source.new (walk_after result (walk_first at) at) }
         ensures at_hand { OnOk result (self.new.stands ≡ true → value_at_hand C.stands self.new ≡ true) }
         ensures stays { Stays C.facts C.keeps C.limited C.leaves C.over self.old.cursor self.new.cursor source.old source.new }
         ensures still { IsStill (C.facts source.old) (C.facts source.new) result }
-        ensures refused { IfErr result (λ e. Refuses e (C.facts source.old) (C.facts source.new) ((at : Walked) → IsWalk K.cmp C.lists self.old source.old at → ⊥) (C.limited self.old.cursor source.old)) }
+        ensures refused { IfErr result (λ e. Refuses e (C.facts source.old) (C.facts source.new)
+            ((at : Walked) → IsWalk K.cmp C.lists self.old source.old at → ⊥) (C.limited self.old.cursor source.old)) }
         ensures sequence { self.new.sequence ≡ self.old.sequence }
         ensures stayed { OnErr result ((self.new.stands ≡ self.old.stands) × (self.new.here.key.items ≡ self.old.here.key.items)) }
         ensures left { OnOk result (key_before self.new ≡ self.old.here.key.items) }
@@ -94,11 +98,13 @@ impl<K: KeyOrder, C> Visible<K, C> {
     pub fn last<S>(&mut self, alloc: Global, source: &mut S) -> Result<(), DbError>
     where
         C: Cursor<K, S>,
-        ensures moves { IsTrue (C.facts source.new).faithful → (at : Walked) → IsWalk K.cmp C.lists self.old source.old at → IsWalk K.cmp C.lists self.new source.new (walk_after result (walk_last at) at) }
+        ensures moves { IsTrue (C.facts source.new).faithful → (at : Walked) → IsWalk K.cmp C.lists self.old source.old at
+            → IsWalk K.cmp C.lists self.new source.new (walk_after result (walk_last at) at) }
         ensures at_hand { OnOk result (self.new.stands ≡ true → value_at_hand C.stands self.new ≡ true) }
         ensures stays { Stays C.facts C.keeps C.limited C.leaves C.over self.old.cursor self.new.cursor source.old source.new }
         ensures still { IsStill (C.facts source.old) (C.facts source.new) result }
-        ensures refused { IfErr result (λ e. Refuses e (C.facts source.old) (C.facts source.new) ((at : Walked) → IsWalk K.cmp C.lists self.old source.old at → ⊥) (C.limited self.old.cursor source.old)) }
+        ensures refused { IfErr result (λ e. Refuses e (C.facts source.old) (C.facts source.new)
+            ((at : Walked) → IsWalk K.cmp C.lists self.old source.old at → ⊥) (C.limited self.old.cursor source.old)) }
         ensures sequence { self.new.sequence ≡ self.old.sequence }
         ensures stayed { OnErr result ((self.new.stands ≡ self.old.stands) × (self.new.here.key.items ≡ self.old.here.key.items)) }
         ensures left { OnOk result (key_before self.new ≡ self.old.here.key.items) }
@@ -113,11 +119,13 @@ impl<K: KeyOrder, C> Visible<K, C> {
     pub fn seek<S>(&mut self, alloc: Global, source: &mut S, target: &[u8]) -> Result<(), DbError>
     where
         C: Cursor<K, S>,
-        ensures moves { IsTrue (C.facts source.new).faithful → (at : Walked) → IsWalk K.cmp C.lists self.old source.old at → IsWalk K.cmp C.lists self.new source.new (walk_after result (walk_to K.cmp target.now at) at) }
+        ensures moves { IsTrue (C.facts source.new).faithful → (at : Walked) → IsWalk K.cmp C.lists self.old source.old at
+            → IsWalk K.cmp C.lists self.new source.new (walk_after result (walk_to K.cmp target.now at) at) }
         ensures at_hand { OnOk result (self.new.stands ≡ true → value_at_hand C.stands self.new ≡ true) }
         ensures stays { Stays C.facts C.keeps C.limited C.leaves C.over self.old.cursor self.new.cursor source.old source.new }
         ensures still { IsStill (C.facts source.old) (C.facts source.new) result }
-        ensures refused { IfErr result (λ e. Refuses e (C.facts source.old) (C.facts source.new) ((at : Walked) → IsWalk K.cmp C.lists self.old source.old at → ⊥) (C.limited self.old.cursor source.old)) }
+        ensures refused { IfErr result (λ e. Refuses e (C.facts source.old) (C.facts source.new)
+            ((at : Walked) → IsWalk K.cmp C.lists self.old source.old at → ⊥) (C.limited self.old.cursor source.old)) }
         ensures sequence { self.new.sequence ≡ self.old.sequence }
         ensures stayed { OnErr result ((self.new.stands ≡ self.old.stands) × (self.new.here.key.items ≡ self.old.here.key.items)) }
         ensures left { OnOk result (key_before self.new ≡ self.old.here.key.items) }
@@ -134,11 +142,13 @@ impl<K: KeyOrder, C> Visible<K, C> {
     where
         C: Cursor<K, S>,
         requires { self.old.stands ≡ true }
-        ensures moves { IsTrue (C.facts source.new).faithful → (at : Walked) → IsWalk K.cmp C.lists self.old source.old at → IsWalk K.cmp C.lists self.new source.new (walk_after result (walk_next at) at) }
+        ensures moves { IsTrue (C.facts source.new).faithful → (at : Walked) → IsWalk K.cmp C.lists self.old source.old at
+            → IsWalk K.cmp C.lists self.new source.new (walk_after result (walk_next at) at) }
         ensures at_hand { OnOk result (self.new.stands ≡ true → value_at_hand C.stands self.new ≡ true) }
         ensures stays { Stays C.facts C.keeps C.limited C.leaves C.over self.old.cursor self.new.cursor source.old source.new }
         ensures still { IsStill (C.facts source.old) (C.facts source.new) result }
-        ensures refused { IfErr result (λ e. Refuses e (C.facts source.old) (C.facts source.new) ((at : Walked) → IsWalk K.cmp C.lists self.old source.old at → ⊥) (C.limited self.old.cursor source.old)) }
+        ensures refused { IfErr result (λ e. Refuses e (C.facts source.old) (C.facts source.new)
+            ((at : Walked) → IsWalk K.cmp C.lists self.old source.old at → ⊥) (C.limited self.old.cursor source.old)) }
         ensures sequence { self.new.sequence ≡ self.old.sequence }
         ensures stayed { OnErr result ((self.new.stands ≡ self.old.stands) × (self.new.here.key.items ≡ self.old.here.key.items)) }
         ensures left { OnOk result (key_before self.new ≡ self.old.here.key.items) }
@@ -162,11 +172,13 @@ impl<K: KeyOrder, C> Visible<K, C> {
     where
         C: Cursor<K, S>,
         requires { self.old.stands ≡ true }
-        ensures moves { IsTrue (C.facts source.new).faithful → (at : Walked) → IsWalk K.cmp C.lists self.old source.old at → IsWalk K.cmp C.lists self.new source.new (walk_after result (walk_prev at) at) }
+        ensures moves { IsTrue (C.facts source.new).faithful → (at : Walked) → IsWalk K.cmp C.lists self.old source.old at
+            → IsWalk K.cmp C.lists self.new source.new (walk_after result (walk_prev at) at) }
         ensures at_hand { OnOk result (self.new.stands ≡ true → value_at_hand C.stands self.new ≡ true) }
         ensures stays { Stays C.facts C.keeps C.limited C.leaves C.over self.old.cursor self.new.cursor source.old source.new }
         ensures still { IsStill (C.facts source.old) (C.facts source.new) result }
-        ensures refused { IfErr result (λ e. Refuses e (C.facts source.old) (C.facts source.new) ((at : Walked) → IsWalk K.cmp C.lists self.old source.old at → ⊥) (C.limited self.old.cursor source.old)) }
+        ensures refused { IfErr result (λ e. Refuses e (C.facts source.old) (C.facts source.new)
+            ((at : Walked) → IsWalk K.cmp C.lists self.old source.old at → ⊥) (C.limited self.old.cursor source.old)) }
         ensures sequence { self.new.sequence ≡ self.old.sequence }
         ensures stayed { OnErr result ((self.new.stands ≡ self.old.stands) × (self.new.here.key.items ≡ self.old.here.key.items)) }
         ensures left { OnOk result (key_before self.new ≡ self.old.here.key.items) }
@@ -220,7 +232,8 @@ impl<K: KeyOrder, C> Visible<K, C> {
     where
         C: Cursor<K, S>,
         requires { value_at_hand C.stands self.now ≡ true }
-        ensures { (at : Walked) (index : ℕ) (pair : Pair) → IsWalk K.cmp C.lists self.now source.now at → at.place ≡ Some index → slice_get at.pairs index ≡ Some pair
+        ensures { (at : Walked) (index : ℕ) (pair : Pair) → IsWalk K.cmp C.lists self.now source.now at → at.place ≡ Some index
+            → slice_get at.pairs index ≡ Some pair
             → (self.now.here.key.items ≡ pair.key) × (result.now ≡ pair.value) }
     {
         match self.position {
@@ -235,16 +248,20 @@ impl<K: KeyOrder, C> Visible<K, C> {
     where
         C: Cursor<K, S>,
         requires { self.old.position ≡ Position.Astray }
-        ensures arrives { IsTrue (C.facts source.new).faithful → OnOk result ((entries : List InternalEntry) (pairs : List Pair) (test : List ℕ → Bool) (index : ℕ) → IsViewList K.cmp entries self.old.sequence pairs
-            → C.lists self.old.cursor source.old (listed entries (within entries index)) → SearchesOn K.cmp entries self.old.sequence test index past self.old.here.key.items
-            → IsPlacedWalk K.cmp C.lists self.new.cursor self.new.sequence self.new.stands self.new.position self.new.here.key.items self.new.here.value.items source.new entries (walked pairs (within pairs (passed test pairs)))) }
+        ensures arrives { IsTrue (C.facts source.new).faithful
+            → OnOk result ((entries : List InternalEntry) (pairs : List Pair) (test : List ℕ → Bool) (index : ℕ)
+            → IsViewList K.cmp entries self.old.sequence pairs
+            → C.lists self.old.cursor source.old (listed entries (within entries index))
+            → SearchesOn K.cmp entries self.old.sequence test index past self.old.here.key.items
+            → IsPlacedWalk K.cmp C.lists self.new.cursor self.new.sequence self.new.stands self.new.position self.new.here.key.items
+            self.new.here.value.items source.new entries (walked pairs (within pairs (passed test pairs)))) }
         ensures at_hand { OnOk result (self.new.stands ≡ true → value_at_hand C.stands self.new ≡ true) }
         ensures sequence { self.new.sequence ≡ self.old.sequence }
         ensures stayed { OnErr result (HasStayed self.old self.new) }
         ensures left { OnOk result (key_before self.new ≡ self.old.here.key.items) }
         ensures wanders { Wanders C.facts C.lists C.keeps C.limited C.leaves C.over self.old.cursor self.new.cursor source.old source.new }
         ensures still { IsStill (C.facts source.old) (C.facts source.new) result }
-        ensures refused { IfErr result (λ e. Refuses e (C.facts source.old) (C.facts source.new) (ListsNone C.lists self.old.cursor source.old) (C.limited self.old.cursor source.old)) }
+        ensures refused { RefusesMove C.facts C.lists C.limited self.old.cursor source.old source.new result }
     {
         copy_to(&mut self.spare.key, self.here.key.as_slice())?;
         if !find_on::<K, S, C>(
@@ -269,16 +286,20 @@ impl<K: KeyOrder, C> Visible<K, C> {
     where
         C: Cursor<K, S>,
         requires { self.old.position ≡ Position.Astray }
-        ensures arrives { IsTrue (C.facts source.new).faithful → OnOk result ((entries : List InternalEntry) (pairs : List Pair) (index : ℕ) → IsViewList K.cmp entries self.old.sequence pairs
-            → C.lists self.old.cursor source.old (listed entries (index_before index)) → HasPassedNone entries self.old.sequence (below_bound K.cmp (bound_if past self.old.here.key.items)) index
-            → IsPlacedWalk K.cmp C.lists self.new.cursor self.new.sequence self.new.stands self.new.position self.new.here.key.items self.new.here.value.items source.new entries (walked pairs (index_before (passed (below_bound K.cmp (bound_if past self.old.here.key.items)) pairs)))) }
+        ensures arrives { IsTrue (C.facts source.new).faithful
+            → OnOk result ((entries : List InternalEntry) (pairs : List Pair) (index : ℕ) → IsViewList K.cmp entries self.old.sequence pairs
+            → C.lists self.old.cursor source.old (listed entries (index_before index))
+            → HasPassedNone entries self.old.sequence (below_bound K.cmp (bound_if past self.old.here.key.items)) index
+            → IsPlacedWalk K.cmp C.lists self.new.cursor self.new.sequence self.new.stands self.new.position self.new.here.key.items
+            self.new.here.value.items source.new entries
+            (walked pairs (index_before (passed (below_bound K.cmp (bound_if past self.old.here.key.items)) pairs)))) }
         ensures at_hand { OnOk result (self.new.stands ≡ true → value_at_hand C.stands self.new ≡ true) }
         ensures sequence { self.new.sequence ≡ self.old.sequence }
         ensures stayed { OnErr result (HasStayed self.old self.new) }
         ensures left { OnOk result (key_before self.new ≡ self.old.here.key.items) }
         ensures wanders { Wanders C.facts C.lists C.keeps C.limited C.leaves C.over self.old.cursor self.new.cursor source.old source.new }
         ensures still { IsStill (C.facts source.old) (C.facts source.new) result }
-        ensures refused { IfErr result (λ e. Refuses e (C.facts source.old) (C.facts source.new) (ListsNone C.lists self.old.cursor source.old) (C.limited self.old.cursor source.old)) }
+        ensures refused { RefusesMove C.facts C.lists C.limited self.old.cursor source.old source.new result }
     {
         let bound = bound_of(past, self.here.key.as_slice());
         if !find_back::<K, S, C>(

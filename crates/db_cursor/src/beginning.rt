@@ -5,7 +5,8 @@ ghost use Rattle.cursor.specs.Merging.{listed};
 ghost use Rattle.memtables.specs.Memories.{table_in};
 ghost use Rattle.memtables.specs.Places.{ListsMemories};
 ghost use Rattle.memtable.specs.Contents.{Contents};
-ghost use Rattle.db_cursor.specs.Rows.{OfMemory, IsOneOf, below, deeper_ranges, memory_spots, newest_ranges, place_in, range_kept, spot_of, spots_of};
+ghost use Rattle.db_cursor.specs.Rows.{OfMemory, IsOneOf, below, deeper_ranges, memory_spots};
+ghost use Rattle.db_cursor.specs.Rows.{newest_ranges, place_in, range_kept, spot_of, spots_of};
 ghost use Rattle.table_access.specs.Memory.{seen_entries};
 ghost use Rattle.versions.specs.Levels.{tables_at};
 
@@ -26,8 +27,10 @@ pub fn add_memory<K: KeyOrder>(
     sequence: u64,
 ) -> Result<(), AllocError>
     requires { sequence < 2 ^ 56 }
-    ensures spots { OnOk result (map spot_of cursors.new.items ≡ map spot_of cursors.old.items ++ memory_spots sequence memory.now.generation memory.now.sealed) }
-    ensures lists { OnOk result ((generation : ℕ) (table : Contents) → IsOneOf memory.now.generation memory.now.sealed generation → table_in memory.now generation ≡ Some table
+    ensures spots { OnOk result
+        (map spot_of cursors.new.items ≡ map spot_of cursors.old.items ++ memory_spots sequence memory.now.generation memory.now.sealed) }
+    ensures lists { OnOk result ((generation : ℕ) (table : Contents) → IsOneOf memory.now.generation memory.now.sealed generation
+        → table_in memory.now generation ≡ Some table
         → ListsMemories K.cmp (place_in sequence generation) memory.now (listed (seen_entries K.cmp table.inserts sequence) None)) }
 {
     add_table(alloc, cursors, memory, memory.generation(), sequence)?;
@@ -47,7 +50,8 @@ fn add_table<K: KeyOrder>(
     sequence: u64,
 ) -> Result<(), AllocError>
     requires { sequence < 2 ^ 56 }
-    ensures spots { OnOk result (map spot_of cursors.new.items ≡ map spot_of cursors.old.items ++ OfMemory (place_in sequence generation) ∷ []) }
+    ensures spots { OnOk result (map spot_of cursors.new.items ≡ map spot_of cursors.old.items ++ OfMemory
+        (place_in sequence generation) ∷ []) }
     ensures lists { OnOk result ((table : Contents) → table_in memory.now generation ≡ Some table
         → ListsMemories K.cmp (place_in sequence generation) memory.now (listed (seen_entries K.cmp table.inserts sequence) None)) }
 {
@@ -103,7 +107,8 @@ fn add_row<K: KeyOrder>(
 ) -> Result<(), AllocError>
     requires below { from ≤ end }
     requires within { end ≤ length version.now.value.tables }
-    ensures { OnOk result (map spot_of cursors.new.items ≡ map spot_of cursors.old.items ++ spots_of version.now.value.tables (range_kept from end)) }
+    ensures { OnOk result (map spot_of cursors.new.items ≡ map spot_of cursors.old.items ++ spots_of version.now.value.tables
+        (range_kept from end)) }
 {
     if from == end {
         return Ok(());

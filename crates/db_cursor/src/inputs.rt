@@ -8,10 +8,10 @@ ghost use Rattle.ikey.specs.Orders.{order_of};
 ghost use Rattle.level_cursor.specs.InRows.{HasNumber};
 ghost use Rattle.db_cursor.specs.Inputs.{BeginsMerge, KeepsMerge, MergeIsKept, ReadsNoMemory};
 ghost use Rattle.db_cursor.specs.Places.{OneGoesOver};
-ghost use Rattle.db_cursor.specs.Whole.{whole};
+ghost use Rattle.db_cursor.specs.Whole.{whole_in};
 ghost use Rattle.db_cursor.specs.declared.source.Sources.{Sources};
 ghost use Rattle.db_cursor.specs.declared.source_cursor.SourceCursor.{SourceCursor};
-ghost use Rattle.table_access.specs.Tables.{KeepsOf, seen};
+ghost use Rattle.table_access.specs.Tables.{KeepsOf, seen_in};
 
 use crate::beginning::{add_levels, add_newest};
 use crate::source_cursor::SourceCursor;
@@ -31,7 +31,8 @@ pub fn merge_tables<K: KeyOrder>(
     version: &Rc<Version<K>>,
 ) -> Result<Merge<K, SourceCursor<K>>, AllocError>
     ensures nowhere { IfOk result (λ merge. merge.current ≡ None) }
-    ensures over { IfOk result (λ merge. (number : ℕ) → OneGoesOver merge.children.items number → HasNumber version.now.value.tables number) }
+    ensures over { IfOk result (λ merge. (number : ℕ) → OneGoesOver merge.children.items number
+        → HasNumber version.now.value.tables number) }
     ensures no_memory { IfOk result (λ merge. ReadsNoMemory K.cmp merge) }
     ensures begins { IfOk result (λ merge. BeginsMerge (order_of K.name K.cmp) version.now.value.tables merge) }
 {
@@ -54,17 +55,19 @@ pub fn merge_stays<K: KeyOrder>()
 /// Law: a merge that reads no memory table reads none behind a move, since it reads of each source what it read before.
 pub fn moves_read_no_memory<K: KeyOrder, S: Store>()
     ensures { (source : Sources K S) (old new : Merge K (SourceCursor K K.KeyOrder))
-        → ((s t : Sources K S) → KeepsMerge K.cmp old (whole (S.facts s.tables.store) s.tables.tables s.tables.blocks s.memory) (whole (S.facts t.tables.store) t.tables.tables t.tables.blocks t.memory)
-        → KeepsMerge K.cmp new (whole (S.facts s.tables.store) s.tables.tables s.tables.blocks s.memory) (whole (S.facts t.tables.store) t.tables.tables t.tables.blocks t.memory))
+        → ((s t : Sources K S) → KeepsMerge K.cmp old (whole_in S.facts s) (whole_in S.facts t)
+        → KeepsMerge K.cmp new (whole_in S.facts s) (whole_in S.facts t))
         → ReadsNoMemory K.cmp old → ReadsNoMemory K.cmp new }
 {}
 
 /// Law: tables that a compaction writes are apart from those that a merge reads that goes over tables of lower numbers alone.
 pub fn inputs_read_apart<K: KeyOrder, S: Store>()
-    ensures { (merge : Merge K (SourceCursor K K.KeyOrder)) (next : ℕ) → ReadsNoMemory K.cmp merge → AreDisjoint (OneGoesOver merge.children.items) (IsToCome next)
-        → ReadsApart S.facts (λ source. source.tables.store) (λ source store. record source { tables = record source.tables { store = store } })
-        (λ (source : Sources K S) number. KeepsOf (seen (S.facts source.tables.store) source.tables.tables source.tables.blocks) number)
-        (λ merge old new. KeepsMerge K.cmp merge (whole (S.facts old.tables.store) old.tables.tables old.tables.blocks old.memory) (whole (S.facts new.tables.store) new.tables.tables new.tables.blocks new.memory))
+    ensures { (merge : Merge K (SourceCursor K K.KeyOrder)) (next : ℕ) → ReadsNoMemory K.cmp merge
+        → AreDisjoint (OneGoesOver merge.children.items) (IsToCome next)
+        → ReadsApart S.facts (λ source. source.tables.store)
+        (λ source store. record source { tables = record source.tables { store = store } })
+        (λ (source : Sources K S) number. KeepsOf (seen_in S.facts source.tables) number)
+        (λ merge old new. KeepsMerge K.cmp merge (whole_in S.facts old) (whole_in S.facts new))
         merge (IsToCome next) }
 {
     // Laws, for the proof alone.

@@ -32,7 +32,7 @@ impl<K: KeyOrder> Scan<K> {
     ghost use Rattle.db_cursor.specs.Pairs.{pair_on};
     ghost use Rattle.db_cursor.specs.Scanning.{IsScanned, ReadsAs, ScanIsKept, ScanPastLimit, TakesBack, has_pair};
     ghost use Rattle.db_cursor.specs.Scans.{BeginsScan, IsScan, reads_memory, reads_table, tables_of};
-    ghost use Rattle.db_cursor.specs.Whole.{whole};
+    ghost use Rattle.db_cursor.specs.Whole.{whole_in};
     ghost use Rattle.versions.specs.Keeping as versions;
 
     /// A scan over what the entries of the memory tables and of a version's tables put up to a sequence, up to the last one
@@ -48,7 +48,7 @@ impl<K: KeyOrder> Scan<K> {
         ensures tables { IfOk result (λ scan. tables_of scan ≡ version.now.value.tables) }
         ensures within { IfOk result (λ scan. (number : ℕ) → reads_table scan number → HasNumber version.now.value.tables number) }
         ensures begins { IfOk result (λ scan. BeginsScan (order_of K.name K.cmp) version.now.value.tables sequence
-            (whole (S.facts source.now.tables.store) source.now.tables.tables source.now.tables.blocks source.now.memory) scan) }
+            (whole_in S.facts source.now) scan) }
     {
         // Laws, for the proof alone.
         lists_have_a_union::<K>();
@@ -79,7 +79,7 @@ impl<K: KeyOrder> Scan<K> {
         alloc: Global,
         source: &mut Sources<K, S>,
     ) -> Result<(), DbError>
-        ensures { IsScanned K.cmp walk_first (whole (S.facts source.old.tables.store) source.old.tables.tables source.old.tables.blocks source.old.memory) (whole (S.facts source.new.tables.store) source.new.tables.tables source.new.tables.blocks source.new.memory) self.old self.new result }
+        ensures { IsScanned K.cmp walk_first (whole_in S.facts source.old) (whole_in S.facts source.new) self.old self.new result }
     {
         self.walk.first(alloc, source)
     }
@@ -90,7 +90,7 @@ impl<K: KeyOrder> Scan<K> {
         alloc: Global,
         source: &mut Sources<K, S>,
     ) -> Result<(), DbError>
-        ensures { IsScanned K.cmp walk_last (whole (S.facts source.old.tables.store) source.old.tables.tables source.old.tables.blocks source.old.memory) (whole (S.facts source.new.tables.store) source.new.tables.tables source.new.tables.blocks source.new.memory) self.old self.new result }
+        ensures { IsScanned K.cmp walk_last (whole_in S.facts source.old) (whole_in S.facts source.new) self.old self.new result }
     {
         self.walk.last(alloc, source)
     }
@@ -102,7 +102,8 @@ impl<K: KeyOrder> Scan<K> {
         source: &mut Sources<K, S>,
         target: &[u8],
     ) -> Result<(), DbError>
-        ensures { IsScanned K.cmp (walk_to K.cmp target.now) (whole (S.facts source.old.tables.store) source.old.tables.tables source.old.tables.blocks source.old.memory) (whole (S.facts source.new.tables.store) source.new.tables.tables source.new.tables.blocks source.new.memory) self.old self.new result }
+        ensures { IsScanned K.cmp (walk_to K.cmp target.now) (whole_in S.facts source.old)
+            (whole_in S.facts source.new) self.old self.new result }
     {
         self.walk.seek(alloc, source, target)
     }
@@ -114,7 +115,7 @@ impl<K: KeyOrder> Scan<K> {
         source: &mut Sources<K, S>,
     ) -> Result<(), DbError>
         requires { self.old.walk.stands ≡ true }
-        ensures { IsScanned K.cmp walk_next (whole (S.facts source.old.tables.store) source.old.tables.tables source.old.tables.blocks source.old.memory) (whole (S.facts source.new.tables.store) source.new.tables.tables source.new.tables.blocks source.new.memory) self.old self.new result }
+        ensures { IsScanned K.cmp walk_next (whole_in S.facts source.old) (whole_in S.facts source.new) self.old self.new result }
     {
         self.walk.next(alloc, source)
     }
@@ -126,7 +127,7 @@ impl<K: KeyOrder> Scan<K> {
         source: &mut Sources<K, S>,
     ) -> Result<(), DbError>
         requires { self.old.walk.stands ≡ true }
-        ensures { IsScanned K.cmp walk_prev (whole (S.facts source.old.tables.store) source.old.tables.tables source.old.tables.blocks source.old.memory) (whole (S.facts source.new.tables.store) source.new.tables.tables source.new.tables.blocks source.new.memory) self.old self.new result }
+        ensures { IsScanned K.cmp walk_prev (whole_in S.facts source.old) (whole_in S.facts source.new) self.old self.new result }
     {
         self.walk.prev(alloc, source)
     }
@@ -159,7 +160,7 @@ impl<K: KeyOrder> Scan<K> {
         source: &Sources<K, S>,
     ) -> Result<Option<(Bytes, Bytes)>, AllocError>
         requires { self.now.walk.stands ≡ true → has_pair self.now ≡ true }
-        ensures { IfOk result (λ pair. (at : Walked) → IsScan K.cmp self.now (whole (S.facts source.now.tables.store) source.now.tables.tables source.now.tables.blocks source.now.memory) at → pair ≡ pair_on at) }
+        ensures { IfOk result (λ pair. (at : Walked) → IsScan K.cmp self.now (whole_in S.facts source.now) at → pair ≡ pair_on at) }
     {
         if !self.walk.stands() {
             return Ok(None);

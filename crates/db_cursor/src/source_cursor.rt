@@ -19,20 +19,21 @@ pub enum SourceCursor<K: KeyOrder> {
 
 impl<K: KeyOrder, S: Store> Cursor<K, Sources<K, S>> for SourceCursor<K> {
     ghost use Rattle.db_cursor.specs.Places.{GoesOver, ListsSource, KeepsSource, LimitedSource, LeavesSource, source_stands};
-    ghost use Rattle.db_cursor.specs.SourceLaws.{source_rises, source_placed, source_inside, source_kept, source_still, source_onward, source_limits, source_left, source_left_more, source_left_on};
-    ghost use Rattle.db_cursor.specs.Whole.{whole};
+    ghost use Rattle.db_cursor.specs.SourceLaws.{source_rises, source_placed, source_inside, source_kept, source_still};
+    ghost use Rattle.db_cursor.specs.SourceLaws.{source_onward, source_limits, source_left, source_left_more, source_left_on};
+    ghost use Rattle.db_cursor.specs.Whole.{whole_in};
 
     ghost facts = { λ source. S.facts source.tables.store };
 
-    ghost lists = { λ cursor source at. ListsSource K.cmp cursor (whole (S.facts source.tables.store) source.tables.tables source.tables.blocks source.memory) at };
+    ghost lists = { λ cursor source at. ListsSource K.cmp cursor (whole_in S.facts source) at };
 
-    ghost keeps = { λ cursor old new. KeepsSource K.cmp cursor (whole (S.facts old.tables.store) old.tables.tables old.tables.blocks old.memory) (whole (S.facts new.tables.store) new.tables.tables new.tables.blocks new.memory) };
+    ghost keeps = { λ cursor old new. KeepsSource K.cmp cursor (whole_in S.facts old) (whole_in S.facts new) };
 
     ghost stands = { λ cursor. source_stands cursor };
 
-    ghost limited = { λ cursor source. LimitedSource K.cmp cursor (whole (S.facts source.tables.store) source.tables.tables source.tables.blocks source.memory) };
+    ghost limited = { λ cursor source. LimitedSource K.cmp cursor (whole_in S.facts source) };
 
-    ghost leaves = { λ numbers old new. LeavesSource K.cmp numbers (whole (S.facts old.tables.store) old.tables.tables old.tables.blocks old.memory) (whole (S.facts new.tables.store) new.tables.tables new.tables.blocks new.memory) };
+    ghost leaves = { λ numbers old new. LeavesSource K.cmp numbers (whole_in S.facts old) (whole_in S.facts new) };
 
     ghost over = { λ cursor number. GoesOver cursor number };
 

@@ -9,7 +9,8 @@ ghost use Rattle.ikey.specs.Orders.{order_of};
 ghost use Rattle.table.specs.Writing.{Writes};
 ghost use Rattle.versions.specs.Applying.{Leads, LeadsAstray};
 ghost use Rattle.versions.specs.Levels.{AreInOrder, pointers_after};
-ghost use Rattle.directory_writes.specs.Flush.{DrawsTable, Prepares, RefusesTable, RefusesVersion, edit_refusal, FlushTouches, RefusesFlush, SyncsFlush, HasVersion, FlushLeaves};
+ghost use Rattle.directory_writes.specs.Flush.{DrawsTable, Prepares, RefusesTable, RefusesVersion, edit_refusal};
+ghost use Rattle.directory_writes.specs.Flush.{FlushTouches, RefusesFlush, SyncsFlush, HasVersion, FlushLeaves};
 ghost use Rattle.directory_writes.specs.Level0.{HaveSequences};
 
 use crate::flush_edits::flush_edit;
@@ -85,13 +86,16 @@ pub fn flush_memory<K: KeyOrder, S: Store>(
     requires some { 0 < length memory.now.inserts }
     requires sequences { HaveSequences memory.now.inserts }
     requires sequence { plan.last_sequence < 2 ^ 56 }
-    ensures call { FlushTouches (S.facts store.old) (S.facts store.new) (name_of (Table numbers.old.next)) (string_bytes manifest.now.name) }
+    ensures call { FlushTouches (S.facts store.old) (S.facts store.new) (name_of (Table numbers.old.next))
+        (string_bytes manifest.now.name) }
     ensures stood { OnOk result ((S.facts store.new).failures ≡ (S.facts store.old).failures) }
-    ensures refused { IfErr result (λ error. RefusesFlush error (S.facts store.old) (S.facts store.new) memory.now.inserts version.now.tables numbers.old.next numbers.new.next) }
+    ensures refused { IfErr result (λ error. RefusesFlush error (S.facts store.old)
+        (S.facts store.new) memory.now.inserts version.now.tables numbers.old.next numbers.new.next) }
     ensures drawn { DrawsTable (S.facts store.old) (S.facts store.new) numbers.old.next numbers.new.next }
     ensures version { HasVersion K.cmp version.now numbers.old.next numbers.new.next result }
     ensures syncs { SyncsFlush (S.facts store.new) (name_of (Table numbers.old.next)) (string_bytes manifest.now.name) result }
-    ensures leaves { FlushLeaves (order_of K.name K.cmp) (S.facts store.old) (S.facts store.new) numbers.old.next numbers.new.next plan manifest.now memory.now.inserts version.now.tables result }
+    ensures leaves { FlushLeaves (order_of K.name K.cmp) (S.facts store.old)
+        (S.facts store.new) numbers.old.next numbers.new.next plan manifest.now memory.now.inserts version.now.tables result }
 {
     // Laws, for the proof alone.
     flush_law();
@@ -125,9 +129,11 @@ fn prepare<K: KeyOrder, S: Store>(
     requires sequence { plan.last_sequence < 2 ^ 56 }
     ensures writes { Writes (S.facts store.old) (S.facts store.new) (name_of (Table numbers.old.next)) }
     ensures stood { OnOk result ((S.facts store.new).failures ≡ (S.facts store.old).failures) }
-    ensures refused { IfErr result (λ error. RefusesTable error (S.facts store.old) (S.facts store.new) memory.now.inserts version.now.tables numbers.old.next numbers.new.next) }
+    ensures refused { IfErr result (λ error. RefusesTable error (S.facts store.old)
+        (S.facts store.new) memory.now.inserts version.now.tables numbers.old.next numbers.new.next) }
     ensures drawn { DrawsTable (S.facts store.old) (S.facts store.new) numbers.old.next numbers.new.next }
-    ensures prepares { Prepares (order_of K.name K.cmp) (S.facts store.new) numbers.old.next numbers.new.next plan memory.now.inserts version.now result }
+    ensures prepares { Prepares (order_of K.name K.cmp)
+        (S.facts store.new) numbers.old.next numbers.new.next plan memory.now.inserts version.now result }
 {
     let number = numbers.draw()?;
     let table = write_level0(alloc, store, memory, number, plan.block_bytes)?;

@@ -55,10 +55,13 @@ pub fn install_job<K: KeyOrder, C: Drop, S: Store>(
     requires numbered { AreNumbered job.outputs numbers.now.next }
     ensures call { InstallTouches (S.facts store.old) (S.facts store.new) job.outputs (string_bytes manifest.now.name) }
     ensures stood { OnOk result ((S.facts store.new).failures ≡ (S.facts store.old).failures) }
-    ensures refused { IfErr result (λ error. RefusesInstall error K.cmp job (S.facts store.old) (S.facts store.new) numbers.now.next last_sequence version.now.tables) }
+    ensures refused { IfErr result (λ error. RefusesInstall error K.cmp job (S.facts store.old)
+        (S.facts store.new) numbers.now.next last_sequence version.now.tables) }
     ensures version { IfOk result (λ installed. HasJobVersion K.cmp job.plan job.outputs version.now installed.version.value) }
-    ensures synced { OnOk result (IsTrue (S.facts store.new).faithful → (S.facts store.new).synced (string_bytes manifest.now.name) ≡ get (S.facts store.new).files (string_bytes manifest.now.name)) }
-    ensures leaves { InstallLeaves (order_of K.name K.cmp) job (S.facts store.old) (S.facts store.new) numbers.now.next last_sequence manifest.now version.now.tables result }
+    ensures synced { OnOk result (IsTrue (S.facts store.new).faithful
+        → (S.facts store.new).synced (string_bytes manifest.now.name) ≡ get (S.facts store.new).files (string_bytes manifest.now.name)) }
+    ensures leaves { InstallLeaves (order_of K.name K.cmp) job (S.facts store.old)
+        (S.facts store.new) numbers.now.next last_sequence manifest.now version.now.tables result }
 {
     // Laws, for the proof alone.
     same_manifest_law();
@@ -89,8 +92,10 @@ fn prepare_job<K: KeyOrder, C: Drop, S: Store>(
     requires numbered { AreNumbered job.outputs numbers.now.next }
     ensures writes { WritesTables (S.facts store.old) (S.facts store.new) (IsNumberAtHand job.outputs) }
     ensures stood { OnOk result ((S.facts store.new).failures ≡ (S.facts store.old).failures) }
-    ensures refused { IfErr result (λ error. RefusesEdit error K.cmp job (S.facts store.old) (S.facts store.new) numbers.now.next last_sequence version.now.tables) }
-    ensures prepared { IfOk result (λ prepared. HasPreparedJob K.cmp job (S.facts store.old) (S.facts store.new) numbers.now.next last_sequence version.now prepared) }
+    ensures refused { IfErr result (λ error. RefusesEdit error K.cmp job (S.facts store.old)
+        (S.facts store.new) numbers.now.next last_sequence version.now.tables) }
+    ensures prepared { IfOk result (λ prepared. HasPreparedJob K.cmp job (S.facts store.old)
+        (S.facts store.new) numbers.now.next last_sequence version.now prepared) }
 {
     let edit = job.finish(alloc, store, numbers, last_sequence)?;
     let version = version_after(alloc, version, &edit)?;

@@ -46,13 +46,16 @@ pub fn write_level0<K: KeyOrder, S: Store>(
     requires some { 0 < length memory.now.inserts }
     requires sequences { HaveSequences memory.now.inserts }
     ensures writes { Writes (S.facts store.old) (S.facts store.new) (name_of (Table number)) }
-    ensures written { IfOk result (λ table. IsTrue (S.facts store.new).faithful → IsLevel0 (order_of K.name K.cmp) (S.facts store.new).files number memory.now.inserts table) }
+    ensures written { IfOk result (λ table. IsTrue (S.facts store.new).faithful
+        → IsLevel0 (order_of K.name K.cmp) (S.facts store.new).files number memory.now.inserts table) }
     ensures proper { IfOk result IsTableProper }
     ensures number { IfOk result (λ table. table.number ≡ number) }
     ensures range { IfOk result (λ table. IsRange K.cmp (record { level = 0; table = table })) }
-    ensures synced { OnOk result (IsTrue (S.facts store.new).faithful → (S.facts store.new).synced (name_of (Table number)) ≡ get (S.facts store.new).files (name_of (Table number))) }
+    ensures synced { OnOk result (IsTrue (S.facts store.new).faithful
+        → (S.facts store.new).synced (name_of (Table number)) ≡ get (S.facts store.new).files (name_of (Table number))) }
     ensures stood { OnOk result ((S.facts store.new).failures ≡ (S.facts store.old).failures) }
-    ensures refused { IfErr result (λ e. WriteRefuses e (S.facts store.old) (S.facts store.new) (IsTooLarge (S.facts store.new) memory.now.inserts)) }
+    ensures refused { IfErr result (λ e. WriteRefuses e (S.facts store.old) (S.facts store.new)
+        (IsTooLarge (S.facts store.new) memory.now.inserts)) }
 {
     // Laws, for the proof alone.
     each_insert_stands();
@@ -105,9 +108,11 @@ fn write_entries<K: KeyOrder, S: Store>(
     ensures writes { Writes (S.facts store.old) (S.facts store.new) name.now }
     ensures written { IfOk result (λ size. IsTrue (S.facts store.new).faithful → (file : List ℕ) × HasFile (S.facts store.new) name.now file
         × (size ≡ length file) × IsTableOf K.cmp file (pairs_of (ordered K.cmp memory.now.inserts))) }
-    ensures synced { OnOk result (IsTrue (S.facts store.new).faithful → (S.facts store.new).synced name.now ≡ get (S.facts store.new).files name.now) }
+    ensures synced { OnOk result (IsTrue (S.facts store.new).faithful
+        → (S.facts store.new).synced name.now ≡ get (S.facts store.new).files name.now) }
     ensures stood { OnOk result ((S.facts store.new).failures ≡ (S.facts store.old).failures) }
-    ensures refused { IfErr result (λ e. WriteRefuses e (S.facts store.old) (S.facts store.new) (IsTooLarge (S.facts store.new) memory.now.inserts)) }
+    ensures refused { IfErr result (λ e. WriteRefuses e (S.facts store.old) (S.facts store.new)
+        (IsTooLarge (S.facts store.new) memory.now.inserts)) }
 {
     let mut builder = TableBuilder::new(alloc, name, block_bytes)?;
     add_entries(alloc, store, memory, &mut builder)?;
@@ -132,7 +137,8 @@ fn add_entries<K: KeyOrder, S: Store>(
     ensures added { OnOk result (IsTrue (S.facts store.new).faithful → Builds K.cmp builder.old (S.facts store.old) []
         → Builds K.cmp builder.new (S.facts store.new) (pairs_of (ordered K.cmp memory.now.inserts))) }
     ensures stood { OnOk result ((S.facts store.new).failures ≡ (S.facts store.old).failures) }
-    ensures refused { IfErr result (λ e. WriteRefuses e (S.facts store.old) (S.facts store.new) (Builds K.cmp builder.old (S.facts store.old) [] → IsTooLarge (S.facts store.new) memory.now.inserts)) }
+    ensures refused { IfErr result (λ e. WriteRefuses e (S.facts store.old) (S.facts store.new)
+        (Builds K.cmp builder.old (S.facts store.old) [] → IsTooLarge (S.facts store.new) memory.now.inserts)) }
 {
     memory.rises();
     let mut key = Vec::new(alloc);
@@ -159,10 +165,12 @@ fn add_entry<K: KeyOrder, S: Store>(
     ensures name { builder.new.name ≡ builder.old.name }
     ensures last { OnOk result (last_added builder.new ≡ Some (internal_key (entry_seen entry.entry))) }
     ensures writes { Writes (S.facts store.old) (S.facts store.new) builder.old.name }
-    ensures added { OnOk result ((pairs : List Pair) → IsTrue (S.facts store.new).faithful → Builds K.cmp builder.old (S.facts store.old) pairs
+    ensures added { OnOk result ((pairs : List Pair) → IsTrue (S.facts store.new).faithful
+        → Builds K.cmp builder.old (S.facts store.old) pairs
         → Builds K.cmp builder.new (S.facts store.new) (pairs ++ pair_of (entry_seen entry.entry) ∷ [])) }
     ensures stood { OnOk result ((S.facts store.new).failures ≡ (S.facts store.old).failures) }
-    ensures refused { IfErr result (λ e. WriteRefuses e (S.facts store.old) (S.facts store.new) (NeedsLongBlock builder.old (pair_of (entry_seen entry.entry)))) }
+    ensures refused { IfErr result (λ e. WriteRefuses e (S.facts store.old) (S.facts store.new)
+        (NeedsLongBlock builder.old (pair_of (entry_seen entry.entry)))) }
 {
     pack_into(key, entry)?;
     builder.add(store, key, value_of(entry.value))?;

@@ -29,7 +29,8 @@ pub fn begin_log<S: Store>(
     ensures drawn { DrawsLog (S.facts store.old) (S.facts store.new) numbers.old.next numbers.new.next result }
     ensures refused { IfErr result (λ error. RefusesLog error (S.facts store.old) (S.facts store.new) numbers.old.next numbers.new.next) }
     ensures begins { (order : Order) → BeginsLog order (S.facts store.old) (S.facts store.new) numbers.old.next numbers.new.next result }
-    ensures synced { IsTrue (S.facts store.new).faithful → SyncsOnly (S.facts store.old).synced (S.facts store.new).synced (name_of (Log numbers.old.next)) }
+    ensures synced { IsTrue (S.facts store.new).faithful
+        → SyncsOnly (S.facts store.old).synced (S.facts store.new).synced (name_of (Log numbers.old.next)) }
 {
     // Laws, for the proof alone.
     begin_log_law();

@@ -41,7 +41,8 @@ pub fn append_edit<S: Store>(
     ensures call { Touches (S.facts store.old) (S.facts store.new) }
     ensures counted { IsCounted (S.facts store.old) (S.facts store.new) result }
     ensures refused { IfErr result (λ error. (error ≡ OutOfMemory) ⊎ (error ≡ Io)) }
-    ensures appends { (order : Order) → AppendsEdit order (S.facts store.old) (S.facts store.new) manifest.now.number (string_bytes manifest.now.name) manifest.now.end edit.now result }
+    ensures appends { (order : Order) → AppendsEdit order (S.facts store.old) (S.facts store.new) manifest.now.number
+        (string_bytes manifest.now.name) manifest.now.end edit.now result }
     ensures syncs { SyncsEdit (S.facts store.old) (S.facts store.new) (string_bytes manifest.now.name) result }
 {
     // Laws, for the proof alone.

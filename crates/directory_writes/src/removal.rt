@@ -1,6 +1,7 @@
 //! The removal of files that aren't live.
 
-ghost use Rattle.std.specs.Prelude.{◌≡◌, ◌⊎◌, ◌≤◌, ◌∷◌, ◌++◌, [], ℕ, List, Contains, IfOk, IfErr, IsTrue, MatchBool, OnOk, map, string_bytes};
+ghost use Rattle.std.specs.Prelude.{◌≡◌, ◌⊎◌, ◌≤◌, ◌∷◌, ◌++◌, [], ℕ, List};
+ghost use Rattle.std.specs.Prelude.{Contains, IfOk, IfErr, IsTrue, MatchBool, OnOk, map, string_bytes};
 ghost use Rattle.ikey.specs.Orders.{Order};
 ghost use Rattle.store.specs.Files.{Lists};
 ghost use Rattle.edits.specs.Names.{IsNumbered};
@@ -8,7 +9,8 @@ ghost use Rattle.recover.specs.Directory.{Directory, IsConsistent};
 ghost use Rattle.recover.specs.Reading.{Reads, IsCounted};
 ghost use Rattle.directory_writes.specs.Calls.{Touches};
 ghost use Rattle.directory_writes.specs.Removal as removal;
-ghost use Rattle.directory_writes.specs.Removal.{AreNumbersOf, AreOlder, AreUnused, HasTwo, IsLeft, IsLiveFile, KeepsParts, KeepsTable, ListsUnused, RefusesList, Removes, RemovesDead};
+ghost use Rattle.directory_writes.specs.Removal.{AreNumbersOf, AreOlder, AreUnused, HasTwo, IsLeft, IsLiveFile};
+ghost use Rattle.directory_writes.specs.Removal.{KeepsParts, KeepsTable, ListsUnused, RefusesList, Removes, RemovesDead};
 
 use coding::DbError;
 use edits::{FileName, parse_name};
@@ -49,8 +51,10 @@ pub fn remove_files<S: Store, L: LiveTables>(
     ensures refused { IfErr result (λ error. RefusesList error (S.facts store.old) (S.facts store.new)) }
     ensures removes { RemovesDead (S.facts store.old) (S.facts store.new) (IsLiveFile numbers.now (L.has live.now)) result }
     ensures unused { IfOk result (λ removal. ListsUnused (S.facts store.old) (S.facts store.new) (L.has live.now) removal.tables.items) }
-    ensures tables { IsTrue (S.facts store.new).faithful → (n : ℕ) → IsNumbered n → KeepsTable (S.facts store.old) (S.facts store.new) (L.has live.now) n }
-    ensures meaning { IsTrue (S.facts store.new).faithful → (order : Order) (d : Directory) → IsConsistent order (S.facts store.old).files d → AreNumbersOf numbers.now (L.has live.now) d
+    ensures tables { IsTrue (S.facts store.new).faithful → (n : ℕ) → IsNumbered n
+        → KeepsTable (S.facts store.old) (S.facts store.new) (L.has live.now) n }
+    ensures meaning { IsTrue (S.facts store.new).faithful → (order : Order) (d : Directory)
+        → IsConsistent order (S.facts store.old).files d → AreNumbersOf numbers.now (L.has live.now) d
         → KeepsParts order (S.facts store.old).files (S.facts store.new).files (L.has live.now) d }
 {
     // Laws, for the proof alone.
@@ -66,7 +70,8 @@ pub fn remove_files<S: Store, L: LiveTables>(
 fn list_names<S: Store>(alloc: Global, store: &mut S) -> Result<Vec<String>, DbError>
     ensures store { Reads (S.facts store.old) (S.facts store.new) result }
     ensures counted { IsCounted (S.facts store.old) (S.facts store.new) result }
-    ensures names { IfOk result (λ names. IsTrue (S.facts store.new).faithful → Lists (S.facts store.old).files (map string_bytes names.items)) }
+    ensures names { IfOk result (λ names. IsTrue (S.facts store.new).faithful
+        → Lists (S.facts store.old).files (map string_bytes names.items)) }
     ensures refused { IfErr result (λ error. RefusesList error (S.facts store.old) (S.facts store.new)) }
 {
     match store.list(alloc) {
@@ -90,7 +95,8 @@ fn older_tables(alloc: Global, names: &[String]) -> Result<Vec<u64>, AllocError>
 
 // Takes one more name in.
 fn push_older(numbers: &mut Vec<u64>, name: &[u8]) -> Result<(), AllocError>
-    ensures { OnOk result ((names : List (List ℕ)) → AreOlder names numbers.old.items → AreOlder (names ++ name.now ∷ []) numbers.new.items) }
+    ensures { OnOk result ((names : List (List ℕ)) → AreOlder names numbers.old.items
+        → AreOlder (names ++ name.now ∷ []) numbers.new.items) }
 {
     let Some(file) = parse_name(name) else {
         return Ok(());
@@ -138,7 +144,8 @@ fn push_unused<L: LiveTables>(
     name: &[u8],
     live: &L,
 ) -> Result<(), AllocError>
-    ensures { OnOk result ((names : List (List ℕ)) → AreUnused (L.has live.now) names numbers.old.items → AreUnused (L.has live.now) (names ++ name.now ∷ []) numbers.new.items) }
+    ensures { OnOk result ((names : List (List ℕ)) → AreUnused (L.has live.now) names numbers.old.items
+        → AreUnused (L.has live.now) (names ++ name.now ∷ []) numbers.new.items) }
 {
     let Some(file) = parse_name(name) else {
         return Ok(());
@@ -178,8 +185,11 @@ fn remove_listed<S: Store, L: LiveTables>(
     older: &[u64],
 ) -> bool
     ensures call { Touches (S.facts store.old) (S.facts store.new) }
-    ensures removes { Removes (S.facts store.old) (S.facts store.new) (IsLiveFile numbers.now (L.has live.now)) (map string_bytes names.now) result }
-    ensures tables { AreOlder (map string_bytes names.now) older.now → Lists (S.facts store.old).files (map string_bytes names.now) → IsTrue (S.facts store.new).faithful → (n : ℕ) → IsNumbered n → KeepsTable (S.facts store.old) (S.facts store.new) (L.has live.now) n }
+    ensures removes { Removes (S.facts store.old) (S.facts store.new) (IsLiveFile numbers.now (L.has live.now))
+        (map string_bytes names.now) result }
+    ensures tables { AreOlder (map string_bytes names.now) older.now → Lists (S.facts store.old).files (map string_bytes names.now)
+        → IsTrue (S.facts store.new).faithful → (n : ℕ) → IsNumbered n
+        → KeepsTable (S.facts store.old) (S.facts store.new) (L.has live.now) n }
 {
     if !remove_turn(store, names, numbers, live, older, false) {
         return false;
@@ -197,7 +207,8 @@ fn remove_turn<S: Store, L: LiveTables>(
     last: bool,
 ) -> bool
     ensures call { Touches (S.facts store.old) (S.facts store.new) }
-    ensures removes { Removes (S.facts store.old) (S.facts store.new) (IsLeft (IsLiveFile numbers.now (L.has live.now)) (λ n. Contains older.now n) last) (map string_bytes names.now) result }
+    ensures removes { Removes (S.facts store.old) (S.facts store.new)
+        (IsLeft (IsLiveFile numbers.now (L.has live.now)) (λ n. Contains older.now n) last) (map string_bytes names.now) result }
 {
     let mut gone = true;
     for name in names {
@@ -217,7 +228,8 @@ fn remove_dead<S: Store, L: LiveTables>(
     last: bool,
 ) -> bool
     ensures call { Touches (S.facts store.old) (S.facts store.new) }
-    ensures removes { Removes (S.facts store.old) (S.facts store.new) (IsLeft (IsLiveFile numbers.now (L.has live.now)) (λ n. Contains older.now n) last) (name.now ∷ []) result }
+    ensures removes { Removes (S.facts store.old) (S.facts store.new)
+        (IsLeft (IsLiveFile numbers.now (L.has live.now)) (λ n. Contains older.now n) last) (name.now ∷ []) result }
 {
     let Some(file) = parse_name(name.as_bytes()) else {
         return true;
@@ -263,7 +275,8 @@ fn is_live<L: LiveTables>(file: FileName, numbers: &LiveNumbers, live: &L) -> bo
 
 // Whether the log of this number belongs to it.
 fn is_live_log(number: u64, numbers: &LiveNumbers) -> bool
-    ensures { MatchBool result ((numbers.now.log_number ≤ number) ⊎ (number ≡ numbers.now.previous_log_number)) ((numbers.now.log_number ≤ number) ⊎ (number ≡ numbers.now.previous_log_number) → ⊥) }
+    ensures { MatchBool result ((numbers.now.log_number ≤ number) ⊎ (number ≡ numbers.now.previous_log_number))
+        ((numbers.now.log_number ≤ number) ⊎ (number ≡ numbers.now.previous_log_number) → ⊥) }
 {
     number >= numbers.log_number || number == numbers.previous_log_number
 }

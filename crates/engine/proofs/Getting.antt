@@ -19,9 +19,8 @@ use Rattle.db_cursor.specs.Scanning.{ScanIsKept}
 use Rattle.db_cursor.specs.declared.scan.Scan.{Scan}
 use Rattle.version_laws.specs.Laws.{VersionLaw}
 use Rattle.table_access.specs.Tables.{Seen, Carries}
-use Rattle.table.specs.Reading.{IsErrorStill}
+use Rattle.table.specs.Reading.{IsErrorStill, Reads}
 use Rattle.store.specs.Files.{Facts}
-use Rattle.table.specs.Reading.{Reads}
 use Rattle.versions.specs.Keeping.{HasNumber}
 use Rattle.engine.specs.declared.command.Answer.TheVariants.{Value, Refused}
 use Rattle.engine.specs.declared.ids.Ids.{Ids}

@@ -1,6 +1,6 @@
 -- What the directory of an open database says of its tables, and what calls that only read leave of an open database.
 use Rattle.std.proofs.Common.{◌≡◌, ◌⊎◌, ◌<◌, inl, inr, ℕ, zero, suc, ◌≤◌, Bool, true, false, is_some, IsTrue, IsSome, Option, None, Some, List, [], ◌∷◌, map, MatchBool, MatchOption, refl, sym, ap, subst, ◌∙◌, arith, Contains}
-use Rattle.std.specs.FinMap.{get}
+use Rattle.std.specs.FinMap.{get, IsAntisymmetric}
 use Rattle.std.specs.Option.{option_or}
 use Rattle.edits.specs.Names.{IsNumbered, name_of}
 use Rattle.edits.specs.declared.names.FileName.TheVariants.{Table, OldTable}
@@ -8,7 +8,6 @@ use Rattle.recover.specs.Changes.{ManifestEndsAt}
 use Rattle.recover.specs.Directory.{EndsAt, IsConsistent}
 use Rattle.recover.specs.Numbers.{IsFree}
 use Rattle.std.specs.Cmp.{IsTotalOrder}
-use Rattle.std.specs.FinMap.{IsAntisymmetric}
 use Rattle.std.specs.declared.cmp.Ordering.{Ordering}
 use Rattle.std.specs.BTreeMap.{BTreeMap}
 use Rattle.std.specs.Bool.{nat_eq}

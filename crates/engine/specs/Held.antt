@@ -8,9 +8,7 @@ use Rattle.memtables.specs.Memories.{Memories, logged_in}
 use Rattle.recover.specs.Tables.{TableContent, tabled}
 use Rattle.db_cursor.specs.Whole.{Whole}
 use Rattle.db_cursor.specs.declared.scan.Scan.{Scan}
-use Rattle.db_cursor.specs.declared.source.Sources.{Sources}
-use Rattle.table_access.specs.Tables.{Seen, seen}
-use Rattle.store.specs.Files.{Facts}
+use Rattle.table_access.specs.Tables.{Seen}
 use Rattle.versions.specs.Levels.{Placement}
 use Rattle.engine.specs.declared.directory.DirectoryState.{DirectoryState}
 use Rattle.engine.specs.declared.log.CurrentLog.{CurrentLog}
@@ -47,17 +45,9 @@ held memory state = record {
 abbrev pub version_of : {K : Type 0} {g : _} → Held K g → Placement
 version_of db = record { tables = db.tables; compact_pointers = db.compact_pointers }
 
--- what is known of a store, and kept of its tables
-abbrev pub seen_of : {S K : Type 0} → (S → Facts) → Sources K S → Seen
-seen_of facts source = seen (facts source.tables.store) source.tables.tables source.tables.blocks
-
 -- what its reads go over: its store with what is kept of its tables, and its memory tables
 abbrev pub whole_of : {K : Type 0} {g : _} → Seen → Held K g → Whole
 whole_of source db = record { seen = source; memory = db.memory }
-
--- so of what is lent to a call
-abbrev pub whole_in : {S K : Type 0} → (S → Facts) → Sources K S → Whole
-whole_in facts source = record { seen = seen_of facts source; memory = source.memory }
 
 -- all its entries, where its tables have these contents
 abbrev pub entries_of : {K : Type 0} {g : _} → List TableContent → Held K g → List Entry

@@ -17,11 +17,13 @@ use versions::{JobPlan, plans_of_tables};
 impl<K: KeyOrder> DbState<K> {
     ghost use Rattle.engine.specs.declared.ids.Ids.{Ids};
     ghost use Rattle.engine.specs.Causes.{IsCausedIn, broken_in, level_refusal};
-    ghost use Rattle.engine.specs.Finishing.{CompactOutcome, EndsJob, HasNoMemory, IsAllCompacted, IsLevelEmpty, ServesOn};
+    ghost use Rattle.engine.specs.Finishing.{EndsJob, HasNoMemory, IsAllCompacted, IsLevelEmpty};
     ghost use Rattle.engine.specs.Needed.{EndsNeeded, IsTakingAll, LeavesNeeded};
     ghost use Rattle.engine.specs.Outcomes.{MayRefuseLevel, MayRefuseWork};
-    ghost use Rattle.engine.specs.Follows.{LeadsOpen, unit_answer};
-    ghost use Rattle.engine.specs.Held.{held, seen_of};
+    ghost use Rattle.engine.specs.Follows.{unit_answer};
+    ghost use Rattle.engine.specs.Lent.{LeadsLent, ServesLent, CompactLent};
+    ghost use Rattle.engine.specs.Held.{held};
+    ghost use Rattle.db_cursor.specs.Whole.{seen_of};
     ghost use Rattle.engine.specs.Upkeep.{CompactsAll, CompactsLevel, most_drawn};
     ghost use Rattle.engine.specs.Working.{IsPiece, MayRefusePiece};
     ghost use Rattle.memtables.specs.Places.{LeavesMemories};
@@ -37,9 +39,11 @@ impl<K: KeyOrder> DbState<K> {
         options: &Options,
         level: u32,
     ) -> Result<(), DbError>
-        ensures step { (ids : Ids) → LeadsOpen (order_of K.name K.cmp) (seen_of S.facts source.old) (seen_of S.facts source.new) ids (held source.old.memory self.old) (held source.new.memory self.new) (λ m n. CompactsLevel m level (unit_answer result) n) }
-        ensures outcome { CompactOutcome MayRefuseLevel (S.facts source.old.tables.store) (S.facts source.new.tables.store) (held source.old.memory self.old) (held source.new.memory self.new) result }
-        ensures caused { IsCausedIn (level_refusal (held source.old.memory self.old) level) source.old.tables.store source.new.tables.store result }
+        ensures step { LeadsLent (order_of K.name K.cmp) S.facts source.old self.old source.new self.new
+            (λ m n. CompactsLevel m level (unit_answer result) n) }
+        ensures outcome { CompactLent MayRefuseLevel S.facts source.old self.old source.new self.new result }
+        ensures caused { IsCausedIn (level_refusal
+            (held source.old.memory self.old) level) source.old.tables.store source.new.tables.store result }
         ensures emptied { OnOk result (IsLevelEmpty level (held source.new.memory self.new)) }
     {
         if self.broken {
@@ -59,12 +63,14 @@ impl<K: KeyOrder> DbState<K> {
         source: &mut Sources<K, S>,
         options: &Options,
     ) -> Result<(), DbError>
-        ensures step { (ids : Ids) → LeadsOpen (order_of K.name K.cmp) (seen_of S.facts source.old) (seen_of S.facts source.new) ids (held source.old.memory self.old) (held source.new.memory self.new) (λ m n. CompactsAll m (unit_answer result) n) }
-        ensures outcome { CompactOutcome MayRefuseWork (S.facts source.old.tables.store) (S.facts source.new.tables.store) (held source.old.memory self.old) (held source.new.memory self.new) result }
+        ensures step { LeadsLent (order_of K.name K.cmp) S.facts source.old self.old source.new self.new
+            (λ m n. CompactsAll m (unit_answer result) n) }
+        ensures outcome { CompactLent MayRefuseWork S.facts source.old self.old source.new self.new result }
         ensures caused { IsCausedIn (broken_in (held source.old.memory self.old)) source.old.tables.store source.new.tables.store result }
         ensures compacted { OnOk result (IsAllCompacted (held source.new.memory self.new)) }
         // While the store is faithful, each entry of the tables is one that must be kept.
-        ensures needed { OnOk result (LeavesNeeded (order_of K.name K.cmp) (seen_of S.facts source.old) (seen_of S.facts source.new) (held source.old.memory self.old) (held source.new.memory self.new)) }
+        ensures needed { OnOk result (LeavesNeeded (order_of K.name K.cmp) (seen_of S.facts source.old) (seen_of S.facts source.new)
+            (held source.old.memory self.old) (held source.new.memory self.new)) }
     {
         if self.broken {
             return Err(DbError::Broken);
@@ -82,8 +88,9 @@ impl<K: KeyOrder> DbState<K> {
     ) -> Result<(), DbError>
         requires whole { self.old.broken ≡ false }
         requires level { level < 6 }
-        ensures step { (ids : Ids) → LeadsOpen (order_of K.name K.cmp) (seen_of S.facts source.old) (seen_of S.facts source.new) ids (held source.old.memory self.old) (held source.new.memory self.new) (λ m n. IsPiece m (most_drawn m) result n) }
-        ensures outcome { CompactOutcome MayRefusePiece (S.facts source.old.tables.store) (S.facts source.new.tables.store) (held source.old.memory self.old) (held source.new.memory self.new) result }
+        ensures step { LeadsLent (order_of K.name K.cmp) S.facts source.old self.old source.new self.new
+            (λ m n. IsPiece m (most_drawn m) result n) }
+        ensures outcome { CompactLent MayRefusePiece S.facts source.old self.old source.new self.new result }
         ensures emptied { OnOk result (IsLevelEmpty level (held source.new.memory self.new)) }
     {
         // Laws, for the proof alone.
@@ -103,10 +110,12 @@ impl<K: KeyOrder> DbState<K> {
         options: &Options,
     ) -> Result<(), DbError>
         requires whole { self.old.broken ≡ false }
-        ensures step { (ids : Ids) → LeadsOpen (order_of K.name K.cmp) (seen_of S.facts source.old) (seen_of S.facts source.new) ids (held source.old.memory self.old) (held source.new.memory self.new) (λ m n. IsPiece m (most_drawn m) result n) }
-        ensures outcome { CompactOutcome MayRefusePiece (S.facts source.old.tables.store) (S.facts source.new.tables.store) (held source.old.memory self.old) (held source.new.memory self.new) result }
+        ensures step { LeadsLent (order_of K.name K.cmp) S.facts source.old self.old source.new self.new
+            (λ m n. IsPiece m (most_drawn m) result n) }
+        ensures outcome { CompactLent MayRefusePiece S.facts source.old self.old source.new self.new result }
         ensures compacted { OnOk result (IsAllCompacted (held source.new.memory self.new)) }
-        ensures needed { OnOk result (EndsNeeded (order_of K.name K.cmp) (seen_of S.facts source.old) (seen_of S.facts source.new) (held source.old.memory self.old) (held source.new.memory self.new)) }
+        ensures needed { OnOk result (EndsNeeded (order_of K.name K.cmp) (seen_of S.facts source.old) (seen_of S.facts source.new)
+            (held source.old.memory self.old) (held source.new.memory self.new)) }
     {
         // Laws, for the proof alone.
         plans_of_tables();
@@ -127,9 +136,9 @@ impl<K: KeyOrder> DbState<K> {
     ) -> Result<(), DbError>
         requires whole { self.old.broken ≡ false }
         requires none { self.old.job ≡ None }
-        ensures step { (ids : Ids) → LeadsOpen (order_of K.name K.cmp) (seen_of S.facts source.old) (seen_of S.facts source.new) ids (held source.old.memory self.old) (held source.new.memory self.new) (λ m n. IsPiece m 3 result n) }
-        ensures outcome { CompactOutcome MayRefusePiece (S.facts source.old.tables.store) (S.facts source.new.tables.store) (held source.old.memory self.old) (held source.new.memory self.new) result }
-        ensures serves { OnOk result (ServesOn (S.facts source.old.tables.store) (S.facts source.new.tables.store) (held source.old.memory self.old) (held source.new.memory self.new)) }
+        ensures step { LeadsLent (order_of K.name K.cmp) S.facts source.old self.old source.new self.new (λ m n. IsPiece m 3 result n) }
+        ensures outcome { CompactLent MayRefusePiece S.facts source.old self.old source.new self.new result }
+        ensures serves { OnOk result (ServesLent S.facts source.old self.old source.new self.new) }
         ensures none { OnOk result (self.new.job ≡ None) }
         ensures written { OnOk result (HasNoMemory (held source.new.memory self.new)) }
     {
@@ -150,9 +159,9 @@ impl<K: KeyOrder> DbState<K> {
     ) -> Result<(), DbError>
         requires whole { self.old.broken ≡ false }
         requires none { self.old.job ≡ None }
-        ensures step { (ids : Ids) → LeadsOpen (order_of K.name K.cmp) (seen_of S.facts source.old) (seen_of S.facts source.new) ids (held source.old.memory self.old) (held source.new.memory self.new) (λ m n. IsPiece m 1 result n) }
-        ensures outcome { CompactOutcome MayRefusePiece (S.facts source.old.tables.store) (S.facts source.new.tables.store) (held source.old.memory self.old) (held source.new.memory self.new) result }
-        ensures serves { OnOk result (ServesOn (S.facts source.old.tables.store) (S.facts source.new.tables.store) (held source.old.memory self.old) (held source.new.memory self.new)) }
+        ensures step { LeadsLent (order_of K.name K.cmp) S.facts source.old self.old source.new self.new (λ m n. IsPiece m 1 result n) }
+        ensures outcome { CompactLent MayRefusePiece S.facts source.old self.old source.new self.new result }
+        ensures serves { OnOk result (ServesLent S.facts source.old self.old source.new self.new) }
         ensures none { OnOk result (self.new.job ≡ None) }
         ensures written { OnOk result (source.new.memory.sealed ≡ None) }
     {
@@ -173,11 +182,13 @@ impl<K: KeyOrder> DbState<K> {
         requires whole { self.old.broken ≡ false }
         requires none { self.old.job ≡ None }
         requires plan { IsPlanOf K.cmp self.old.version.value.tables plan }
-        ensures step { (ids : Ids) → LeadsOpen (order_of K.name K.cmp) (seen_of S.facts source.old) (seen_of S.facts source.new) ids (held source.old.memory self.old) (held source.new.memory self.new) (λ m n. EndsJob m result n) }
-        ensures outcome { CompactOutcome MayRefusePiece (S.facts source.old.tables.store) (S.facts source.new.tables.store) (held source.old.memory self.old) (held source.new.memory self.new) result }
+        ensures step { LeadsLent (order_of K.name K.cmp) S.facts source.old self.old source.new self.new (λ m n. EndsJob m result n) }
+        ensures outcome { CompactLent MayRefusePiece S.facts source.old self.old source.new self.new result }
         ensures memory { LeavesMemories source.old.memory source.new.memory }
         ensures done { OnOk result (Replaces plan self.old.version.value.tables self.new.version.value.tables) }
-        ensures needed { OnOk result (IsWholePlan self.old.version.value.tables plan → EndsNeeded (order_of K.name K.cmp) (seen_of S.facts source.old) (seen_of S.facts source.new) (held source.old.memory self.old) (held source.new.memory self.new)) }
+        ensures needed { OnOk result (IsWholePlan self.old.version.value.tables plan
+            → EndsNeeded (order_of K.name K.cmp) (seen_of S.facts source.old) (seen_of S.facts source.new)
+            (held source.old.memory self.old) (held source.new.memory self.new)) }
     {
         self.begin_job(alloc, source, options, plan)?;
         self.run_job_to_end(alloc, source)
@@ -190,13 +201,16 @@ impl<K: KeyOrder> DbState<K> {
         source: &mut Sources<K, S>,
     ) -> Result<(), DbError>
         requires whole { self.old.broken ≡ false }
-        ensures step { (ids : Ids) → LeadsOpen (order_of K.name K.cmp) (seen_of S.facts source.old) (seen_of S.facts source.new) ids (held source.old.memory self.old) (held source.new.memory self.new) (λ m n. EndsJob m result n) }
-        ensures outcome { CompactOutcome MayRefusePiece (S.facts source.old.tables.store) (S.facts source.new.tables.store) (held source.old.memory self.old) (held source.new.memory self.new) result }
-        ensures serves { OnOk result (ServesOn (S.facts source.old.tables.store) (S.facts source.new.tables.store) (held source.old.memory self.old) (held source.new.memory self.new)) }
+        ensures step { LeadsLent (order_of K.name K.cmp) S.facts source.old self.old source.new self.new (λ m n. EndsJob m result n) }
+        ensures outcome { CompactLent MayRefusePiece S.facts source.old self.old source.new self.new result }
+        ensures serves { OnOk result (ServesLent S.facts source.old self.old source.new self.new) }
         ensures memory { LeavesMemories source.old.memory source.new.memory }
         ensures none { OnOk result (self.new.job ≡ None) }
-        ensures done { OnOk result (MatchOption self.old.job (Unit {0}) (λ work. Replaces work.job.plan self.old.version.value.tables self.new.version.value.tables)) }
-        ensures needed { OnOk result (IsTakingAll (held source.old.memory self.old) → EndsNeeded (order_of K.name K.cmp) (seen_of S.facts source.old) (seen_of S.facts source.new) (held source.old.memory self.old) (held source.new.memory self.new)) }
+        ensures done { OnOk result (MatchOption self.old.job (Unit {0})
+            (λ work. Replaces work.job.plan self.old.version.value.tables self.new.version.value.tables)) }
+        ensures needed { OnOk result (IsTakingAll (held source.old.memory self.old)
+            → EndsNeeded (order_of K.name K.cmp) (seen_of S.facts source.old) (seen_of S.facts source.new)
+            (held source.old.memory self.old) (held source.new.memory self.new)) }
     {
         if self.job.is_none() {
             return Ok(());
@@ -212,13 +226,16 @@ impl<K: KeyOrder> DbState<K> {
     ) -> Result<(), DbError>
         requires whole { self.old.broken ≡ false }
         requires job { IsSome self.old.job }
-        ensures step { (ids : Ids) → LeadsOpen (order_of K.name K.cmp) (seen_of S.facts source.old) (seen_of S.facts source.new) ids (held source.old.memory self.old) (held source.new.memory self.new) (λ m n. EndsJob m result n) }
-        ensures outcome { CompactOutcome MayRefusePiece (S.facts source.old.tables.store) (S.facts source.new.tables.store) (held source.old.memory self.old) (held source.new.memory self.new) result }
-        ensures serves { OnOk result (ServesOn (S.facts source.old.tables.store) (S.facts source.new.tables.store) (held source.old.memory self.old) (held source.new.memory self.new)) }
+        ensures step { LeadsLent (order_of K.name K.cmp) S.facts source.old self.old source.new self.new (λ m n. EndsJob m result n) }
+        ensures outcome { CompactLent MayRefusePiece S.facts source.old self.old source.new self.new result }
+        ensures serves { OnOk result (ServesLent S.facts source.old self.old source.new self.new) }
         ensures memory { LeavesMemories source.old.memory source.new.memory }
         ensures none { OnOk result (self.new.job ≡ None) }
-        ensures done { OnOk result (MatchOption self.old.job (Unit {0}) (λ work. Replaces work.job.plan self.old.version.value.tables self.new.version.value.tables)) }
-        ensures needed { OnOk result (IsTakingAll (held source.old.memory self.old) → EndsNeeded (order_of K.name K.cmp) (seen_of S.facts source.old) (seen_of S.facts source.new) (held source.old.memory self.old) (held source.new.memory self.new)) }
+        ensures done { OnOk result (MatchOption self.old.job (Unit {0})
+            (λ work. Replaces work.job.plan self.old.version.value.tables self.new.version.value.tables)) }
+        ensures needed { OnOk result (IsTakingAll (held source.old.memory self.old)
+            → EndsNeeded (order_of K.name K.cmp) (seen_of S.facts source.old) (seen_of S.facts source.new)
+            (held source.old.memory self.old) (held source.new.memory self.new)) }
     {
         for _ in 0..u64::MAX {
             if self.step_job(alloc, source, 1)? {

@@ -1,7 +1,8 @@
 //! Compactions in steps: the one that is most wanted is begun, and goes on by so many entries a call (LevelDB's db/db_impl.cc,
 //! DBImpl::BackgroundCompaction).
 
-ghost use Rattle.std.specs.Prelude.{◌≡◌, ◌∷◌, ℕ, max, None, Some, IsSome, IsTrue, false, true, Contains, MatchBool, MatchOption, IfOk, Ok, OnOk};
+ghost use Rattle.std.specs.Prelude.{◌≡◌, ◌∷◌, ℕ, max, None, Some, IsSome, IsTrue};
+ghost use Rattle.std.specs.Prelude.{false, true, Contains, MatchBool, MatchOption, IfOk, Ok, OnOk};
 ghost use Rattle.std.specs.List.Sorted.{IsNonDecreasing};
 ghost use Rattle.std.specs.Map.{values_of};
 ghost use Rattle.ikey.specs.Orders.{order_of};
@@ -23,11 +24,12 @@ use versions::{JobPlan, plans_of_tables};
 
 impl<K: KeyOrder> DbState<K> {
     ghost use Rattle.engine.specs.declared.ids.Ids.{Ids};
-    ghost use Rattle.engine.specs.Follows.{LeadsOpen};
-    ghost use Rattle.engine.specs.Held.{held, seen_of};
-    ghost use Rattle.engine.specs.Outcomes.{DbOutcome, IsSame};
+    ghost use Rattle.engine.specs.Lent.{LeadsLent, ServesLent, OutcomeLent};
+    ghost use Rattle.engine.specs.Held.{held};
+    ghost use Rattle.db_cursor.specs.Whole.{seen_of};
+    ghost use Rattle.engine.specs.Outcomes.{IsSame};
     ghost use Rattle.engine.specs.declared.work.Progress.TheVariants.{Worked, Idle};
-    ghost use Rattle.engine.specs.Finishing.{HasCome, ServesOn};
+    ghost use Rattle.engine.specs.Finishing.{HasCome};
     ghost use Rattle.engine.specs.Needed.{EndsNeeded, IsTakingAll};
     ghost use Rattle.engine.specs.WithinBudget.{HasLeftUpTo, StepsUpTo};
     ghost use Rattle.engine.specs.Working.{BeginsJob, GoesOn, IsPiece, MayRefusePiece, WantsCompaction};
@@ -44,11 +46,14 @@ impl<K: KeyOrder> DbState<K> {
     ) -> Result<Progress, DbError>
         requires whole { self.old.broken ≡ false }
         requires none { self.old.job ≡ None }
-        ensures step { (ids : Ids) → LeadsOpen (order_of K.name K.cmp) (seen_of S.facts source.old) (seen_of S.facts source.new) ids (held source.old.memory self.old) (held source.new.memory self.new) (λ m n. IsPiece m (max budget 1) result n) }
-        ensures outcome { DbOutcome MayRefusePiece (S.facts source.old.tables.store) (S.facts source.new.tables.store) (held source.old.memory self.old) (held source.new.memory self.new) result }
-        ensures begins { result ≡ Ok Worked → BeginsJob K.cmp options.now budget (held source.old.memory self.old) (held source.new.memory self.new) }
+        ensures step { LeadsLent (order_of K.name K.cmp) S.facts source.old self.old source.new self.new
+            (λ m n. IsPiece m (max budget 1) result n) }
+        ensures outcome { OutcomeLent MayRefusePiece S.facts source.old self.old source.new self.new result }
+        ensures begins { result ≡ Ok Worked → BeginsJob K.cmp options.now budget (held source.old.memory self.old)
+            (held source.new.memory self.new) }
         ensures unwanted { result ≡ Ok Idle → (level : ℕ) → WantsCompaction options.now (held source.old.memory self.old) level → ⊥ }
-        ensures few { result ≡ Ok Worked → self.new.job ≡ None → IsTrue (S.facts source.new.tables.store).faithful → StepsUpTo (order_of K.name K.cmp) (seen_of S.facts source.old) (held source.old.memory self.old) (max budget 1) }
+        ensures few { result ≡ Ok Worked → self.new.job ≡ None → IsTrue (S.facts source.new.tables.store).faithful
+            → StepsUpTo (order_of K.name K.cmp) (seen_of S.facts source.old) (held source.old.memory self.old) (max budget 1) }
         ensures idle { result ≡ Ok Idle → (source.new ≡ source.old) × (self.new ≡ self.old) }
         ensures lock { (S.facts source.new.tables.store).locked ≡ (S.facts source.old.tables.store).locked }
     {
@@ -77,12 +82,13 @@ impl<K: KeyOrder> DbState<K> {
         requires whole { self.old.broken ≡ false }
         requires none { self.old.job ≡ None }
         requires plan { IsPlanOf K.cmp self.old.version.value.tables plan }
-        ensures step { (ids : Ids) → LeadsOpen (order_of K.name K.cmp) (seen_of S.facts source.old) (seen_of S.facts source.new) ids (held source.old.memory self.old) (held source.new.memory self.new) (λ m n. IsPiece m 0 result n) }
-        ensures outcome { DbOutcome MayRefusePiece (S.facts source.old.tables.store) (S.facts source.new.tables.store) (held source.old.memory self.old) (held source.new.memory self.new) result }
+        ensures step { LeadsLent (order_of K.name K.cmp) S.facts source.old self.old source.new self.new (λ m n. IsPiece m 0 result n) }
+        ensures outcome { OutcomeLent MayRefusePiece S.facts source.old self.old source.new self.new result }
         ensures begun { OnOk result (IsSome self.new.job) }
         ensures none { OnOk result (MatchOption self.new.job ⊥ (λ work. (work.merged ≡ 0) × (work.job.plan ≡ plan))) }
         ensures all { OnOk result (IsWholePlan self.old.version.value.tables plan → IsTakingAll (held source.new.memory self.new)) }
-        ensures files { IsTrue (S.facts source.new.tables.store).faithful → (S.facts source.new.tables.store).files ≡ (S.facts source.old.tables.store).files }
+        ensures files { IsTrue (S.facts source.new.tables.store).faithful
+            → (S.facts source.new.tables.store).files ≡ (S.facts source.old.tables.store).files }
         ensures stood { OnOk result ((S.facts source.new.tables.store).failures ≡ (S.facts source.old.tables.store).failures) }
         ensures memory { LeavesMemories source.old.memory source.new.memory }
         ensures same { IsSame (held source.old.memory self.old) (held source.new.memory self.new) }
@@ -115,16 +121,21 @@ impl<K: KeyOrder> DbState<K> {
     ) -> Result<bool, DbError>
         requires whole { self.old.broken ≡ false }
         requires job { IsSome self.old.job }
-        ensures step { (ids : Ids) → LeadsOpen (order_of K.name K.cmp) (seen_of S.facts source.old) (seen_of S.facts source.new) ids (held source.old.memory self.old) (held source.new.memory self.new) (λ m n. IsPiece m (max budget 1) result n) }
-        ensures outcome { DbOutcome MayRefusePiece (S.facts source.old.tables.store) (S.facts source.new.tables.store) (held source.old.memory self.old) (held source.new.memory self.new) result }
+        ensures step { LeadsLent (order_of K.name K.cmp) S.facts source.old self.old source.new self.new
+            (λ m n. IsPiece m (max budget 1) result n) }
+        ensures outcome { OutcomeLent MayRefusePiece S.facts source.old self.old source.new self.new result }
         ensures on { OnOk result (GoesOn budget (held source.old.memory self.old) (held source.new.memory self.new)) }
         ensures ended { IfOk result (λ ended. MatchBool ended (self.new.job ≡ None) (IsSome self.new.job)) }
-        ensures serves { OnOk result (ServesOn (S.facts source.old.tables.store) (S.facts source.new.tables.store) (held source.old.memory self.old) (held source.new.memory self.new)) }
+        ensures serves { OnOk result (ServesLent S.facts source.old self.old source.new self.new) }
         ensures memory { LeavesMemories source.old.memory source.new.memory }
         ensures all { result ≡ Ok false → IsTakingAll (held source.old.memory self.old) → IsTakingAll (held source.new.memory self.new) }
-        ensures needed { result ≡ Ok true → IsTakingAll (held source.old.memory self.old) → EndsNeeded (order_of K.name K.cmp) (seen_of S.facts source.old) (seen_of S.facts source.new) (held source.old.memory self.old) (held source.new.memory self.new) }
-        ensures few { result ≡ Ok true → IsTrue (S.facts source.new.tables.store).faithful → HasLeftUpTo (order_of K.name K.cmp) (seen_of S.facts source.old) (held source.old.memory self.old) (max budget 1) }
-        ensures come { result ≡ Ok true → (ids : Ids) → LeadsOpen (order_of K.name K.cmp) (seen_of S.facts source.old) (seen_of S.facts source.new) ids (held source.old.memory self.old) (held source.new.memory self.new) (λ m n. HasCome budget (held source.old.memory self.old) m result n) }
+        ensures needed { result ≡ Ok true → IsTakingAll (held source.old.memory self.old)
+            → EndsNeeded (order_of K.name K.cmp) (seen_of S.facts source.old) (seen_of S.facts source.new)
+            (held source.old.memory self.old) (held source.new.memory self.new) }
+        ensures few { result ≡ Ok true → IsTrue (S.facts source.new.tables.store).faithful
+            → HasLeftUpTo (order_of K.name K.cmp) (seen_of S.facts source.old) (held source.old.memory self.old) (max budget 1) }
+        ensures come { result ≡ Ok true → LeadsLent (order_of K.name K.cmp) S.facts source.old self.old source.new self.new
+            (λ m n. HasCome budget (held source.old.memory self.old) m result n) }
         ensures lock { (S.facts source.new.tables.store).locked ≡ (S.facts source.old.tables.store).locked }
     {
         // Laws, for the proof alone.
@@ -158,7 +169,12 @@ impl<K: KeyOrder> DbState<K> {
 
     // What is new after the end of a compaction.
     fn take_installed(&mut self, installed: Installed<K>)
-        ensures { self.new ≡ record self.old { version = installed.version; directory = record self.old.directory { manifest = record self.old.directory.manifest { end = installed.manifest_end } } } }
+        ensures { self.new ≡ record
+            self.old {
+              version = installed.version;
+              directory = record
+                  self.old.directory { manifest = record self.old.directory.manifest { end = installed.manifest_end } };
+            } }
     {
         self.version = installed.version;
         self.directory.manifest.end = installed.manifest_end;
@@ -168,8 +184,10 @@ impl<K: KeyOrder> DbState<K> {
     fn sequences(&self, alloc: Global, last: u64) -> Result<Vec<u64>, AllocError>
         ensures rising { IfOk result (λ sequences. IsNonDecreasing sequences.items) }
         ensures last { IfOk result (λ sequences. Contains sequences.items last) }
-        ensures live { IfOk result (λ sequences. (id sequence : ℕ) → kept_at self.now.snapshots id ≡ Some sequence → Contains sequences.items sequence) }
-        ensures only { IfOk result (λ sequences. (sequence : ℕ) → Contains sequences.items sequence → Contains (last ∷ values_of self.now.snapshots.entries) sequence) }
+        ensures live { IfOk result (λ sequences. (id sequence : ℕ) → kept_at self.now.snapshots id ≡ Some sequence
+            → Contains sequences.items sequence) }
+        ensures only { IfOk result (λ sequences. (sequence : ℕ) → Contains sequences.items sequence
+            → Contains (last ∷ values_of self.now.snapshots.entries) sequence) }
     {
         let mut sequences = Vec::with_capacity(alloc, self.snapshots.len() + 1)?;
         for sequence in self.snapshots.values() {

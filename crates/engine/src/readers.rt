@@ -51,7 +51,8 @@ impl<K: KeyOrder> DbState<K> {
 
 // Whether the version of an open iterator has the table of this number.
 fn is_table_read<K: KeyOrder>(iterators: &BTreeMap<u64, Scan<K>>, number: u64) -> bool
-    ensures { MatchBool result (AnyIterator iterators.now (λ scan. HasNumber number (tables_of scan))) (AnyIterator iterators.now (λ scan. HasNumber number (tables_of scan)) → ⊥) }
+    ensures { MatchBool result (AnyIterator iterators.now (λ scan. HasNumber number (tables_of scan)))
+        (AnyIterator iterators.now (λ scan. HasNumber number (tables_of scan)) → ⊥) }
 {
     for scan in iterators.values() {
         if scan.has_table(number) {

@@ -34,13 +34,14 @@ impl<K: KeyOrder> DbState<K> {
     ghost use Rattle.engine.specs.declared.work.Progress.TheVariants.{Idle};
     ghost use Rattle.engine.specs.Causes.{IsCausedIn, broken_in};
     ghost use Rattle.engine.specs.ExactFiles.{LeavesExactlyLive};
-    ghost use Rattle.engine.specs.Follows.{LeadsOpen};
-    ghost use Rattle.engine.specs.Finishing.{ServesOn};
-    ghost use Rattle.engine.specs.Held.{held, seen_of};
-    ghost use Rattle.engine.specs.Outcomes.{DbOutcome, IsSame, MayRefuseWork};
+    ghost use Rattle.engine.specs.Lent.{LeadsLent, ServesLent, OutcomeLent};
+    ghost use Rattle.engine.specs.Held.{held};
+    ghost use Rattle.db_cursor.specs.Whole.{seen_of};
+    ghost use Rattle.engine.specs.Outcomes.{IsSame, MayRefuseWork};
     ghost use Rattle.engine.specs.Upkeep.{Works};
     ghost use Rattle.engine.specs.WithinBudget.{EndsWithin};
-    ghost use Rattle.engine.specs.Working.{DoesWork, HasLiveOnly, IsPiece, IsSameMemory, LosesDead, MayRefusePiece, SealsMemory, WritesTable, broken_by, flush_answer, work_answer};
+    ghost use Rattle.engine.specs.Working.{DoesWork, HasLiveOnly, IsPiece, IsSameMemory, LosesDead, MayRefusePiece};
+    ghost use Rattle.engine.specs.Working.{SealsMemory, WritesTable, broken_by, flush_answer, work_answer};
 
     /// Removes the files that aren't live, and then does the first of these that there is to do: goes on with the compaction under
     /// way by so many entries, one for 0; writes the sealed memory table into a table file; seals the memory table, where it has
@@ -52,18 +53,24 @@ impl<K: KeyOrder> DbState<K> {
         options: &Options,
         budget: u32,
     ) -> Result<Progress, DbError>
-        ensures step { (ids : Ids) → LeadsOpen (order_of K.name K.cmp) (seen_of S.facts source.old) (seen_of S.facts source.new) ids (held source.old.memory self.old) (held source.new.memory self.new) (λ m n. Works m budget (work_answer result) n) }
-        ensures outcome { DbOutcome MayRefuseWork (S.facts source.old.tables.store) (S.facts source.new.tables.store) (held source.old.memory self.old) (held source.new.memory self.new) result }
+        ensures step { LeadsLent (order_of K.name K.cmp) S.facts source.old self.old source.new self.new
+            (λ m n. Works m budget (work_answer result) n) }
+        ensures outcome { OutcomeLent MayRefuseWork S.facts source.old self.old source.new self.new result }
         ensures caused { IsCausedIn (broken_in (held source.old.memory self.old)) source.old.tables.store source.new.tables.store result }
         ensures does { DoesWork K.cmp options.now budget (held source.old.memory self.old) (held source.new.memory self.new) result }
         // A compaction that it brought to its end had no more entries left than the budget has, while the store is faithful.
-        ensures within { EndsWithin (order_of K.name K.cmp) options.now budget (seen_of S.facts source.old) (seen_of S.facts source.new) (held source.old.memory self.old) (held source.new.memory self.new) result }
+        ensures within { EndsWithin (order_of K.name K.cmp) options.now budget (seen_of S.facts source.old)
+            (seen_of S.facts source.new) (held source.old.memory self.old) (held source.new.memory self.new) result }
         // Where there is none, all files are live, unless one couldn't be removed.
-        ensures tidy { result ≡ Ok Idle → IsTrue (S.facts source.new.tables.store).faithful → (S.facts source.new.tables.store).failures ≡ (S.facts source.old.tables.store).failures → HasLiveOnly (S.facts source.new.tables.store).files (held source.new.memory self.new) }
+        ensures tidy { result ≡ Ok Idle → IsTrue (S.facts source.new.tables.store).faithful
+            → (S.facts source.new.tables.store).failures ≡ (S.facts source.old.tables.store).failures
+            → HasLiveOnly (S.facts source.new.tables.store).files (held source.new.memory self.new) }
         // They are exactly those that a database without work needs then: of the logs the one that writes go to.
-        ensures exact { LeavesExactlyLive (order_of K.name K.cmp) (seen_of S.facts source.old) (seen_of S.facts source.new) (held source.old.memory self.old) (held source.new.memory self.new) result }
+        ensures exact { LeavesExactlyLive (order_of K.name K.cmp) (seen_of S.facts source.old) (seen_of S.facts source.new)
+            (held source.old.memory self.old) (held source.new.memory self.new) result }
         // All files that are live stay then, and those of other programs.
-        ensures removes { result ≡ Ok Idle → IsTrue (S.facts source.new.tables.store).faithful → LosesDead (S.facts source.old.tables.store) (S.facts source.new.tables.store) (held source.new.memory self.new) }
+        ensures removes { result ≡ Ok Idle → IsTrue (S.facts source.new.tables.store).faithful
+            → LosesDead (S.facts source.old.tables.store) (S.facts source.new.tables.store) (held source.new.memory self.new) }
         ensures lock { (S.facts source.new.tables.store).locked ≡ (S.facts source.old.tables.store).locked }
     {
         if self.broken {
@@ -84,14 +91,19 @@ impl<K: KeyOrder> DbState<K> {
         source: &mut Sources<K, S>,
     ) -> Result<bool, DbError>
         requires whole { self.now.broken ≡ false }
-        ensures step { (ids : Ids) → LeadsOpen (order_of K.name K.cmp) (seen_of S.facts source.old) (seen_of S.facts source.new) ids (held source.old.memory self.now) (held source.new.memory self.now) (λ m n. IsPiece m 0 result n) }
-        ensures outcome { DbOutcome MayRefusePiece (S.facts source.old.tables.store) (S.facts source.new.tables.store) (held source.old.memory self.now) (held source.new.memory self.now) result }
+        ensures step { LeadsLent (order_of K.name K.cmp) S.facts source.old self.now source.new self.now (λ m n. IsPiece m 0 result n) }
+        ensures outcome { OutcomeLent MayRefusePiece S.facts source.old self.now source.new self.now result }
         ensures same { IsSame (held source.old.memory self.now) (held source.new.memory self.now) }
         ensures memory { IsSameMemory source.old.memory source.new.memory }
-        ensures complete { IfOk result (λ complete. IsTrue complete → (S.facts source.new.tables.store).failures ≡ (S.facts source.old.tables.store).failures) }
-        ensures unfailed { IfOk result (λ complete. (S.facts source.new.tables.store).failures ≡ (S.facts source.old.tables.store).failures → IsTrue complete) }
-        ensures tidy { IsTrue (S.facts source.new.tables.store).faithful → IfOk result (λ complete. IsTrue complete → HasLiveOnly (S.facts source.new.tables.store).files (held source.new.memory self.now)) }
-        ensures removes { IsTrue (S.facts source.new.tables.store).faithful → LosesDead (S.facts source.old.tables.store) (S.facts source.new.tables.store) (held source.new.memory self.now) }
+        ensures complete { IfOk result (λ complete. IsTrue complete
+            → (S.facts source.new.tables.store).failures ≡ (S.facts source.old.tables.store).failures) }
+        ensures unfailed { IfOk result (λ complete. (S.facts source.new.tables.store).failures ≡
+            (S.facts source.old.tables.store).failures → IsTrue complete) }
+        ensures tidy { IsTrue (S.facts source.new.tables.store).faithful
+            → IfOk result (λ complete. IsTrue complete
+            → HasLiveOnly (S.facts source.new.tables.store).files (held source.new.memory self.now)) }
+        ensures removes { IsTrue (S.facts source.new.tables.store).faithful
+            → LosesDead (S.facts source.old.tables.store) (S.facts source.new.tables.store) (held source.new.memory self.now) }
         ensures lock { (S.facts source.new.tables.store).locked ≡ (S.facts source.old.tables.store).locked }
     {
         // Laws, for the proof alone.
@@ -118,10 +130,12 @@ impl<K: KeyOrder> DbState<K> {
         budget: u32,
     ) -> Result<Progress, DbError>
         requires whole { self.old.broken ≡ false }
-        ensures step { (ids : Ids) → LeadsOpen (order_of K.name K.cmp) (seen_of S.facts source.old) (seen_of S.facts source.new) ids (held source.old.memory self.old) (held source.new.memory self.new) (λ m n. IsPiece m (max budget 1) result n) }
-        ensures outcome { DbOutcome MayRefusePiece (S.facts source.old.tables.store) (S.facts source.new.tables.store) (held source.old.memory self.old) (held source.new.memory self.new) result }
+        ensures step { LeadsLent (order_of K.name K.cmp) S.facts source.old self.old source.new self.new
+            (λ m n. IsPiece m (max budget 1) result n) }
+        ensures outcome { OutcomeLent MayRefusePiece S.facts source.old self.old source.new self.new result }
         ensures does { DoesWork K.cmp options.now budget (held source.old.memory self.old) (held source.new.memory self.new) result }
-        ensures within { EndsWithin (order_of K.name K.cmp) options.now budget (seen_of S.facts source.old) (seen_of S.facts source.new) (held source.old.memory self.old) (held source.new.memory self.new) result }
+        ensures within { EndsWithin (order_of K.name K.cmp) options.now budget (seen_of S.facts source.old)
+            (seen_of S.facts source.new) (held source.old.memory self.old) (held source.new.memory self.new) result }
         ensures idle { result ≡ Ok Idle → (source.new ≡ source.old) × (self.new ≡ self.old) }
         ensures lock { (S.facts source.new.tables.store).locked ≡ (S.facts source.old.tables.store).locked }
     {
@@ -142,10 +156,12 @@ impl<K: KeyOrder> DbState<K> {
     ) -> Result<Progress, DbError>
         requires whole { self.old.broken ≡ false }
         requires idle { self.old.job ≡ None }
-        ensures step { (ids : Ids) → LeadsOpen (order_of K.name K.cmp) (seen_of S.facts source.old) (seen_of S.facts source.new) ids (held source.old.memory self.old) (held source.new.memory self.new) (λ m n. IsPiece m (max budget 1) result n) }
-        ensures outcome { DbOutcome MayRefusePiece (S.facts source.old.tables.store) (S.facts source.new.tables.store) (held source.old.memory self.old) (held source.new.memory self.new) result }
+        ensures step { LeadsLent (order_of K.name K.cmp) S.facts source.old self.old source.new self.new
+            (λ m n. IsPiece m (max budget 1) result n) }
+        ensures outcome { OutcomeLent MayRefusePiece S.facts source.old self.old source.new self.new result }
         ensures does { DoesWork K.cmp options.now budget (held source.old.memory self.old) (held source.new.memory self.new) result }
-        ensures within { EndsWithin (order_of K.name K.cmp) options.now budget (seen_of S.facts source.old) (seen_of S.facts source.new) (held source.old.memory self.old) (held source.new.memory self.new) result }
+        ensures within { EndsWithin (order_of K.name K.cmp) options.now budget (seen_of S.facts source.old)
+            (seen_of S.facts source.new) (held source.old.memory self.old) (held source.new.memory self.new) result }
         ensures idle { result ≡ Ok Idle → (source.new ≡ source.old) × (self.new ≡ self.old) }
         ensures lock { (S.facts source.new.tables.store).locked ≡ (S.facts source.old.tables.store).locked }
     {
@@ -171,10 +187,10 @@ impl<K: KeyOrder> DbState<K> {
         requires whole { self.old.broken ≡ false }
         requires idle { self.old.job ≡ None }
         requires sealed { IsSome source.old.memory.sealed }
-        ensures step { (ids : Ids) → LeadsOpen (order_of K.name K.cmp) (seen_of S.facts source.old) (seen_of S.facts source.new) ids (held source.old.memory self.old) (held source.new.memory self.new) (λ m n. IsPiece m 1 result n) }
-        ensures outcome { DbOutcome MayRefusePiece (S.facts source.old.tables.store) (S.facts source.new.tables.store) (held source.old.memory self.old) (held source.new.memory self.new) result }
+        ensures step { LeadsLent (order_of K.name K.cmp) S.facts source.old self.old source.new self.new (λ m n. IsPiece m 1 result n) }
+        ensures outcome { OutcomeLent MayRefusePiece S.facts source.old self.old source.new self.new result }
         ensures does { OnOk result (WritesTable (held source.old.memory self.old) (held source.new.memory self.new)) }
-        ensures serves { OnOk result (ServesOn (S.facts source.old.tables.store) (S.facts source.new.tables.store) (held source.old.memory self.old) (held source.new.memory self.new)) }
+        ensures serves { OnOk result (ServesLent S.facts source.old self.old source.new self.new) }
         ensures lock { (S.facts source.new.tables.store).locked ≡ (S.facts source.old.tables.store).locked }
     {
         // Laws, for the proof alone.
@@ -225,10 +241,10 @@ impl<K: KeyOrder> DbState<K> {
         requires idle { self.old.job ≡ None }
         requires unsealed { source.old.memory.sealed ≡ None }
         requires filled { 0 < length source.old.memory.current.inserts }
-        ensures step { (ids : Ids) → LeadsOpen (order_of K.name K.cmp) (seen_of S.facts source.old) (seen_of S.facts source.new) ids (held source.old.memory self.old) (held source.new.memory self.new) (λ m n. IsPiece m 1 result n) }
-        ensures outcome { DbOutcome MayRefusePiece (S.facts source.old.tables.store) (S.facts source.new.tables.store) (held source.old.memory self.old) (held source.new.memory self.new) result }
+        ensures step { LeadsLent (order_of K.name K.cmp) S.facts source.old self.old source.new self.new (λ m n. IsPiece m 1 result n) }
+        ensures outcome { OutcomeLent MayRefusePiece S.facts source.old self.old source.new self.new result }
         ensures does { OnOk result (SealsMemory (held source.old.memory self.old) (held source.new.memory self.new)) }
-        ensures serves { OnOk result (ServesOn (S.facts source.old.tables.store) (S.facts source.new.tables.store) (held source.old.memory self.old) (held source.new.memory self.new)) }
+        ensures serves { OnOk result (ServesLent S.facts source.old self.old source.new self.new) }
         ensures lock { (S.facts source.new.tables.store).locked ≡ (S.facts source.old.tables.store).locked }
     {
         // Laws, for the proof alone.
@@ -255,7 +271,17 @@ impl<K: KeyOrder> DbState<K> {
 
     // What is new after a flush.
     fn take_flushed(&mut self, flushed: Flushed<K>)
-        ensures { self.new ≡ record self.old { version = flushed.version; directory = record self.old.directory { manifest = record self.old.directory.manifest { end = flushed.manifest_end }; first_log = self.old.log.number; previous_log = 0 } } }
+        ensures { self.new ≡ record
+            self.old {
+              version = flushed.version;
+              directory = record
+                  self.old.directory {
+                    manifest = record self.old.directory.manifest { end = flushed.manifest_end };
+                    first_log =
+                        self.old.log.number;
+                    previous_log = 0;
+                  };
+            } }
     {
         self.version = flushed.version;
         self.directory.manifest.end = flushed.manifest_end;

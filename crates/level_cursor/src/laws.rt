@@ -15,7 +15,9 @@ use ikey::KeyOrder;
 
 /// Law: a cursor over tables whose entries lie in a row begins with their list, and stands nowhere.
 pub fn row_begins<K: KeyOrder>()
-    ensures { (source : Seen) (contents : List TableContent) → IsSound K.cmp source → HasTables (order_of K.name K.cmp) source.facts.files contents → AreInRow (order_of K.name K.cmp) (lists_of contents)
+    ensures { (source : Seen) (contents : List TableContent) → IsSound K.cmp source
+        → HasTables (order_of K.name K.cmp) source.facts.files contents → AreInRow (order_of K.name K.cmp) (lists_of contents)
         → (entries : List InternalEntry) × (map entry_of entries ≡ joined (lists_of contents))
-        × ((cursor : RowCursor K K.KeyOrder) → rows_tables cursor ≡ map (λ content. content.placed) contents → cursor.here ≡ None → ListsRow K.cmp source cursor (listed entries None)) }
+        × ((cursor : RowCursor K K.KeyOrder) → rows_tables cursor ≡ map (λ content. content.placed) contents → cursor.here ≡ None
+        → ListsRow K.cmp source cursor (listed entries None)) }
 {}

@@ -13,11 +13,14 @@ use table_access::later_inserts_are_kept;
 /// Law: a cursor's list stays: while entries above its sequence are written, while its table is sealed or flushed, while other
 /// tables are dropped, and over the moves of all cursors.
 pub fn changes_are_kept<K: KeyOrder>()
-    ensures written { (cursor : MemoriesPlace) (old new : Memories) (more : List Entry) (sequence : ℕ) → cursor.place.sequence ≤ sequence → AllByRecursion (λ (entry : Entry). sequence < entry.sequence) more → IsWritten old new more
+    ensures written { (cursor : MemoriesPlace) (old new : Memories) (more : List Entry) (sequence : ℕ)
+        → cursor.place.sequence ≤ sequence → AllByRecursion (λ (entry : Entry). sequence < entry.sequence) more → IsWritten old new more
         → KeepsMemories K.cmp cursor old new }
-    ensures sealed { (cursor : MemoriesPlace) (old new : Memories) → IsSome (table_in old cursor.generation) → IsSealed old new → KeepsMemories K.cmp cursor old new }
+    ensures sealed { (cursor : MemoriesPlace) (old new : Memories) → IsSome (table_in old cursor.generation) → IsSealed old new
+        → KeepsMemories K.cmp cursor old new }
     ensures flushed { (cursor : MemoriesPlace) (old new : Memories) → IsFlushed old new → KeepsMemories K.cmp cursor old new }
-    ensures dropped { (cursor : MemoriesPlace) (old new : Memories) → new ≡ record old { older = new.older } → older_at new.older cursor.generation ≡ older_at old.older cursor.generation → KeepsMemories K.cmp cursor old new }
+    ensures dropped { (cursor : MemoriesPlace) (old new : Memories) → new ≡ record old { older = new.older }
+        → older_at new.older cursor.generation ≡ older_at old.older cursor.generation → KeepsMemories K.cmp cursor old new }
     ensures left { (cursor : MemoriesPlace) (old new : Memories) → LeavesMemories old new → KeepsMemories K.cmp cursor old new }
 {
     // Laws, for the proof alone.

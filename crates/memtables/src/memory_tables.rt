@@ -39,20 +39,30 @@ impl<K: KeyOrder> Model for MemoryTables<K> {
 
     ghost Value = { Memories };
 
-    ghost view = { λ m. record { current = m.current; last = m.last; generation = m.generation; sealed = m.sealed; older = m.older.entries } };
+    ghost view = { λ m. record {
+      current = m.current;
+      last = m.last;
+      generation = m.generation;
+      sealed = m.sealed;
+      older =
+          m.older.entries;
+    } };
 
-    ghost invariant = { λ m. AreMemories (record { current = m.current; last = m.last; generation = m.generation; sealed = m.sealed; older = m.older.entries }) };
+    ghost invariant = { λ m. AreMemories
+        (record { current = m.current; last = m.last; generation = m.generation; sealed = m.sealed; older = m.older.entries }) };
 }
 
 impl<K: KeyOrder> MemoryTables<K> {
-    ghost use Rattle.std.specs.Prelude.{◌≡◌, ◌==◌, ◌+◌, ◌-◌, ◌++◌, ◌∷◌, [], ◌<◌, ◌≤◌, ◌^◌, length, is_some, IsTrue, None, Some, IfOk, IfErr, OnOk, OnErr};
+    ghost use Rattle.std.specs.Prelude.{◌≡◌, ◌==◌, ◌+◌, ◌-◌, ◌++◌, ◌∷◌, [], ◌<◌, ◌≤◌, ◌^◌};
+    ghost use Rattle.std.specs.Prelude.{length, is_some, IsTrue, None, Some, IfOk, IfErr, OnOk, OnErr};
     ghost use Rattle.std.specs.Option.{option_copied};
     ghost use Rattle.cursor.specs.Moves.{ListsNone, Moves, Refuses};
     ghost use Rattle.cursor.specs.Places.{to_first, to_key, to_last, to_next, to_prev};
     ghost use Rattle.ikey.specs.Keys.{Key, IsKey};
     ghost use Rattle.ikey.specs.Sources.{IsAnswer};
     ghost use Rattle.memtables.specs.Changes.{IsFlushed, IsRemembered, IsSealed, IsUsed, IsWritten, KeepsUsed};
-    ghost use Rattle.memtables.specs.Memories.{AreMemories, HasRoom, IsAlone, Memories, logged_in, operation_bytes, sealed_in, sealed_inserts, table_in};
+    ghost use Rattle.memtables.specs.Memories.{AreMemories, HasRoom, IsAlone, Memories, logged_in};
+    ghost use Rattle.memtables.specs.Memories.{operation_bytes, sealed_in, sealed_inserts, table_in};
     ghost use Rattle.memtables.specs.Places.{LeavesMemories, ListsTable, StaysInMemories};
     ghost use Rattle.memtable.specs.Contents.{size_of};
     ghost use Rattle.recover.specs.Entries.{RiseAbove, greatest, made_entry, entries_of};
@@ -289,9 +299,11 @@ impl<K: KeyOrder> MemoryTables<K> {
         generation: u64,
         cursor: &mut MemoryCursor<K>,
     ) -> Result<(), DbError>
-        ensures moves { Moves (λ memories. memory_facts) (λ place memories at. ListsTable K.cmp generation place memories at) cursor.old cursor.new self.old self.new result to_first }
+        ensures moves { Moves (λ memories. memory_facts)
+            (λ place memories at. ListsTable K.cmp generation place memories at) cursor.old cursor.new self.old self.new result to_first }
         ensures stays { StaysInMemories K.cmp cursor.old cursor.new self.old self.new }
-        ensures refused { IfErr result (λ e. Refuses e memory_facts memory_facts (ListsNone (λ place memories at. ListsTable K.cmp generation place memories at) cursor.old self.old) ⊥) }
+        ensures refused { IfErr result (λ e. Refuses e memory_facts memory_facts
+            (ListsNone (λ place memories at. ListsTable K.cmp generation place memories at) cursor.old self.old) ⊥) }
     {
         if generation == self.generation {
             return cursor.first(alloc, &mut self.current);
@@ -309,9 +321,11 @@ impl<K: KeyOrder> MemoryTables<K> {
         generation: u64,
         cursor: &mut MemoryCursor<K>,
     ) -> Result<(), DbError>
-        ensures moves { Moves (λ memories. memory_facts) (λ place memories at. ListsTable K.cmp generation place memories at) cursor.old cursor.new self.old self.new result to_last }
+        ensures moves { Moves (λ memories. memory_facts)
+            (λ place memories at. ListsTable K.cmp generation place memories at) cursor.old cursor.new self.old self.new result to_last }
         ensures stays { StaysInMemories K.cmp cursor.old cursor.new self.old self.new }
-        ensures refused { IfErr result (λ e. Refuses e memory_facts memory_facts (ListsNone (λ place memories at. ListsTable K.cmp generation place memories at) cursor.old self.old) ⊥) }
+        ensures refused { IfErr result (λ e. Refuses e memory_facts memory_facts
+            (ListsNone (λ place memories at. ListsTable K.cmp generation place memories at) cursor.old self.old) ⊥) }
     {
         if generation == self.generation {
             return cursor.last(alloc, &mut self.current);
@@ -330,9 +344,13 @@ impl<K: KeyOrder> MemoryTables<K> {
         cursor: &mut MemoryCursor<K>,
         target: &[u8],
     ) -> Result<(), DbError>
-        ensures moves { (key : Key) → IsKey target.now key → Moves (λ memories. memory_facts) (λ place memories at. ListsTable K.cmp generation place memories at) cursor.old cursor.new self.old self.new result (to_key K.cmp key) }
+        ensures moves { (key : Key) → IsKey target.now key → Moves (λ memories. memory_facts)
+            (λ place memories at. ListsTable K.cmp generation place memories at) cursor.old cursor.new self.old self.new result
+            (to_key K.cmp key) }
         ensures stays { StaysInMemories K.cmp cursor.old cursor.new self.old self.new }
-        ensures refused { IfErr result (λ e. Refuses e memory_facts memory_facts ((key : Key) → IsKey target.now key → ListsNone (λ place memories at. ListsTable K.cmp generation place memories at) cursor.old self.old) ⊥) }
+        ensures refused { IfErr result (λ e. Refuses e memory_facts memory_facts
+            ((key : Key) → IsKey target.now key → ListsNone
+            (λ place memories at. ListsTable K.cmp generation place memories at) cursor.old self.old) ⊥) }
     {
         if generation == self.generation {
             return cursor.seek(alloc, &mut self.current, target);
@@ -351,9 +369,11 @@ impl<K: KeyOrder> MemoryTables<K> {
         cursor: &mut MemoryCursor<K>,
     ) -> Result<(), DbError>
         requires { IsTrue (is_some cursor.old.node) }
-        ensures moves { Moves (λ memories. memory_facts) (λ place memories at. ListsTable K.cmp generation place memories at) cursor.old cursor.new self.old self.new result to_next }
+        ensures moves { Moves (λ memories. memory_facts)
+            (λ place memories at. ListsTable K.cmp generation place memories at) cursor.old cursor.new self.old self.new result to_next }
         ensures stays { StaysInMemories K.cmp cursor.old cursor.new self.old self.new }
-        ensures refused { IfErr result (λ e. Refuses e memory_facts memory_facts (ListsNone (λ place memories at. ListsTable K.cmp generation place memories at) cursor.old self.old) ⊥) }
+        ensures refused { IfErr result (λ e. Refuses e memory_facts memory_facts
+            (ListsNone (λ place memories at. ListsTable K.cmp generation place memories at) cursor.old self.old) ⊥) }
     {
         if generation == self.generation {
             return cursor.next(alloc, &mut self.current);
@@ -372,9 +392,11 @@ impl<K: KeyOrder> MemoryTables<K> {
         cursor: &mut MemoryCursor<K>,
     ) -> Result<(), DbError>
         requires { IsTrue (is_some cursor.old.node) }
-        ensures moves { Moves (λ memories. memory_facts) (λ place memories at. ListsTable K.cmp generation place memories at) cursor.old cursor.new self.old self.new result to_prev }
+        ensures moves { Moves (λ memories. memory_facts)
+            (λ place memories at. ListsTable K.cmp generation place memories at) cursor.old cursor.new self.old self.new result to_prev }
         ensures stays { StaysInMemories K.cmp cursor.old cursor.new self.old self.new }
-        ensures refused { IfErr result (λ e. Refuses e memory_facts memory_facts (ListsNone (λ place memories at. ListsTable K.cmp generation place memories at) cursor.old self.old) ⊥) }
+        ensures refused { IfErr result (λ e. Refuses e memory_facts memory_facts
+            (ListsNone (λ place memories at. ListsTable K.cmp generation place memories at) cursor.old self.old) ⊥) }
     {
         if generation == self.generation {
             return cursor.prev(alloc, &mut self.current);
@@ -415,7 +437,8 @@ fn missing_table() -> DbError
 
 // Whether the table of a generation is sealed, or read by these users.
 fn is_used<U: Users>(users: &U, sealed: Option<u64>, generation: u64) -> bool
-    ensures { MatchBool result ((sealed ≡ Some generation) ⊎ U.names users.now generation) ((sealed ≡ Some generation) ⊎ U.names users.now generation → ⊥) }
+    ensures { MatchBool result ((sealed ≡ Some generation) ⊎ U.names users.now generation)
+        ((sealed ≡ Some generation) ⊎ U.names users.now generation → ⊥) }
 {
     sealed == Some(generation) || users.names(generation)
 }

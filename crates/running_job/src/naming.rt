@@ -25,7 +25,8 @@ pub(crate) fn can_be_named<K: KeyOrder>(plan: &JobPlan) -> bool
 
 // Whether it can name each of the tables.
 fn are_named(tables: &[PlacedTable]) -> bool
-    ensures { MatchBool result (All (λ placed. (placed.level < 7) × (placed.table.number < 2 ^ 64)) tables.now) (All (λ placed. (placed.level < 7) × (placed.table.number < 2 ^ 64)) tables.now → ⊥) }
+    ensures { MatchBool result (All (λ placed. (placed.level < 7) × (placed.table.number < 2 ^ 64)) tables.now)
+        (All (λ placed. (placed.level < 7) × (placed.table.number < 2 ^ 64)) tables.now → ⊥) }
 {
     for placed in tables {
         if !is_named(placed.level, placed.table.number) {

@@ -49,7 +49,8 @@ pub struct OpenJob<K: KeyOrder> {
 }
 
 impl<K: KeyOrder> OpenJob<K> {
-    ghost use Rattle.std.specs.Prelude.{◌≡◌, ◌⊎◌, ◌<◌, ◌≤◌, ◌+◌, ◌^◌, ℕ, [], None, false, IsTrue, max, string_bytes, IfOk, IfErr, OnOk, MatchBool};
+    ghost use Rattle.std.specs.Prelude.{◌≡◌, ◌⊎◌, ◌<◌, ◌≤◌, ◌+◌, ◌^◌, ℕ, [], None};
+    ghost use Rattle.std.specs.Prelude.{false, IsTrue, max, string_bytes, IfOk, IfErr, OnOk, MatchBool};
     ghost use Rattle.std.specs.FinMap.{get};
     ghost use Rattle.compact.specs.Outputs.{IsOwn};
     ghost use Rattle.std.specs.List.Sorted.{IsNonDecreasing};
@@ -60,7 +61,7 @@ impl<K: KeyOrder> OpenJob<K> {
     ghost use Rattle.running_job.specs.Stepping.{GoesOn, KeepsDirectory, RefusesStep, StepTouches};
     ghost use Rattle.level_cursor.specs.InRows.{HasNumber};
     ghost use Rattle.db_cursor.specs.Places.{LeavesSource};
-    ghost use Rattle.db_cursor.specs.Whole.{whole};
+    ghost use Rattle.db_cursor.specs.Whole.{whole_in};
     ghost use Rattle.directory_writes.specs.Install.{HasJobVersion, InstallTouches};
     ghost use Rattle.versions.specs.Keeping.{HasNumber as HasTable};
     ghost use Rattle.versions.specs.Plans.{IsPlanOf};
@@ -86,15 +87,15 @@ impl<K: KeyOrder> OpenJob<K> {
         ensures written { IfOk result (λ work. work.job.outputs ≡ record { closed = []; at_hand = None }) }
         ensures over { IfOk result (λ work. (number : ℕ) → goes_over work number → is_input work number) }
         ensures leaves { LeavesSource K.cmp (HasNumber plan.inputs.items)
-            (whole (S.facts source.old.tables.store) source.old.tables.tables source.old.tables.blocks source.old.memory)
-            (whole (S.facts source.new.tables.store) source.new.tables.tables source.new.tables.blocks source.new.memory) }
+            (whole_in S.facts source.old)
+            (whole_in S.facts source.new) }
         ensures stood { OnOk result ((S.facts source.new.tables.store).failures ≡ (S.facts source.old.tables.store).failures) }
         ensures refused { IfErr result (λ e. RefusesBegin (order_of K.name K.cmp) version.now.value.tables plan
-            (whole (S.facts source.old.tables.store) source.old.tables.tables source.old.tables.blocks source.old.memory)
-            (whole (S.facts source.new.tables.store) source.new.tables.tables source.new.tables.blocks source.new.memory) e) }
+            (whole_in S.facts source.old)
+            (whole_in S.facts source.new) e) }
         ensures begins { IfOk result (λ work. BeginsJob (order_of K.name K.cmp) version.now.value.tables
-            (whole (S.facts source.old.tables.store) source.old.tables.tables source.old.tables.blocks source.old.memory)
-            (whole (S.facts source.new.tables.store) source.new.tables.tables source.new.tables.blocks source.new.memory) work) }
+            (whole_in S.facts source.old)
+            (whole_in S.facts source.new) work) }
     {
         // Laws, for the proof alone.
         inputs_in_order();
@@ -144,22 +145,23 @@ impl<K: KeyOrder> OpenJob<K> {
         ensures snapshots { self.new.job.selection.snapshots ≡ self.old.job.selection.snapshots }
         ensures version { self.new.version ≡ self.old.version }
         ensures touches { StepTouches
-            (whole (S.facts source.old.tables.store) source.old.tables.tables source.old.tables.blocks source.old.memory)
-            (whole (S.facts source.new.tables.store) source.new.tables.tables source.new.tables.blocks source.new.memory)
+            (whole_in S.facts source.old)
+            (whole_in S.facts source.new)
             numbers.old.next numbers.new.next self.old self.new }
-        ensures owns { OnOk result ((number : ℕ) → IsOwn self.new.job.outputs number → IsOwn self.old.job.outputs number ⊎ (numbers.old.next ≤ number)) }
+        ensures owns { OnOk result ((number : ℕ) → IsOwn self.new.job.outputs number → IsOwn self.old.job.outputs number
+            ⊎ (numbers.old.next ≤ number)) }
         ensures stood { OnOk result ((S.facts source.new.tables.store).failures ≡ (S.facts source.old.tables.store).failures) }
         ensures refused { IfErr result (λ e. RefusesStep (order_of K.name K.cmp)
-            (whole (S.facts source.old.tables.store) source.old.tables.tables source.old.tables.blocks source.old.memory)
-            (whole (S.facts source.new.tables.store) source.new.tables.tables source.new.tables.blocks source.new.memory)
+            (whole_in S.facts source.old)
+            (whole_in S.facts source.new)
             numbers.old.next numbers.new.next self.old e) }
         ensures keeps { KeepsDirectory (order_of K.name K.cmp)
-            (whole (S.facts source.old.tables.store) source.old.tables.tables source.old.tables.blocks source.old.memory)
-            (whole (S.facts source.new.tables.store) source.new.tables.tables source.new.tables.blocks source.new.memory)
+            (whole_in S.facts source.old)
+            (whole_in S.facts source.new)
             numbers.old.next numbers.new.next self.old }
         ensures goes_on { IfOk result (λ progress. GoesOn (order_of K.name K.cmp)
-            (whole (S.facts source.old.tables.store) source.old.tables.tables source.old.tables.blocks source.old.memory)
-            (whole (S.facts source.new.tables.store) source.new.tables.tables source.new.tables.blocks source.new.memory)
+            (whole_in S.facts source.old)
+            (whole_in S.facts source.new)
             numbers.old.next numbers.new.next budget self.old self.new progress) }
     {
         // Laws, for the proof alone.
@@ -196,10 +198,15 @@ impl<K: KeyOrder> OpenJob<K> {
         requires sequence { last_sequence < 2 ^ 56 }
         ensures call { InstallTouches (S.facts store.old) (S.facts store.new) self.job.outputs (string_bytes manifest.now.name) }
         ensures stood { OnOk result ((S.facts store.new).failures ≡ (S.facts store.old).failures) }
-        ensures version { IfOk result (λ installed. HasJobVersion K.cmp self.job.plan self.job.outputs version.now installed.version.value) }
-        ensures synced { OnOk result (IsTrue (S.facts store.new).faithful → (S.facts store.new).synced (string_bytes manifest.now.name) ≡ get (S.facts store.new).files (string_bytes manifest.now.name)) }
-        ensures refused { IfErr result (λ error. RefusesEnd (order_of K.name K.cmp) (S.facts store.old) (S.facts store.new) numbers.now.next last_sequence manifest.now version.now.tables self error) }
-        ensures leaves { EndLeaves (order_of K.name K.cmp) (S.facts store.old) (S.facts store.new) numbers.now.next last_sequence manifest.now version.now.tables self result }
+        ensures version { IfOk result
+            (λ installed. HasJobVersion K.cmp self.job.plan self.job.outputs version.now installed.version.value) }
+        ensures synced { OnOk result (IsTrue (S.facts store.new).faithful
+            → (S.facts store.new).synced (string_bytes manifest.now.name) ≡ get (S.facts store.new).files
+            (string_bytes manifest.now.name)) }
+        ensures refused { IfErr result (λ error. RefusesEnd (order_of K.name K.cmp) (S.facts store.old)
+            (S.facts store.new) numbers.now.next last_sequence manifest.now version.now.tables self error) }
+        ensures leaves { EndLeaves (order_of K.name K.cmp) (S.facts store.old)
+            (S.facts store.new) numbers.now.next last_sequence manifest.now version.now.tables self result }
     {
         if numbers.next < self.next {
             return Err(FlushError::Before(DbError::Corrupt(FileKind::Table, Damage::Number)));

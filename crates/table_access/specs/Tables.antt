@@ -14,6 +14,7 @@ use Rattle.table.specs.Reading.{Reads, HasFile}
 use Rattle.table.specs.Refusals.{IsDamaged, IsUnsupported, IsFrameDamaged, IsFrameUnsupported}
 use Rattle.table.specs.Table.{AreData}
 use Rattle.table.specs.declared.handle.Handle.{Handle}
+use Rattle.table_access.specs.declared.tables.Tables.{Tables}
 
 -- what is known of the store, and what is kept of its tables
 pub record Seen : Type 0 where
@@ -23,6 +24,10 @@ pub record Seen : Type 0 where
 
 abbrev pub seen : Facts → TableCache → BlockCache → Seen
 seen facts tables blocks = record { facts = facts; tables = tables.tables; blocks = blocks.blocks }
+
+-- so of a store whose tables are read through caches
+abbrev pub seen_in : {S K : Type 0} → (S → Facts) → Tables K S → Seen
+seen_in facts source = seen (facts source.store) source.tables source.blocks
 
 -- how many tables stay open
 abbrev pub open_tables : ℕ

@@ -81,8 +81,10 @@ impl<K: KeyOrder> MemoryCursor<K> {
     // Stands on the first entry that is seen from this node on.
     fn stand_from(&mut self, table: &MemTable<K>, node: Option<Node>) -> Result<(), DbError>
         requires { IfSome node (IsPlace table.now.inserts) }
-        ensures moves { (front back : List Placed) (at : Listed) → ordered K.cmp table.now.inserts ≡ front ++ back → node ≡ first_of back → ListsMemory K.cmp self.old table.now at
-            → ListsMemory K.cmp self.new table.now (after_move result (λ at. within at.entries (length (up_to self.old.sequence front))) at) }
+        ensures moves { (front back : List Placed) (at : Listed) → ordered K.cmp table.now.inserts ≡ front ++ back
+            → node ≡ first_of back → ListsMemory K.cmp self.old table.now at
+            → ListsMemory K.cmp self.new table.now
+            (after_move result (λ at. within at.entries (length (up_to self.old.sequence front))) at) }
         ensures sequence { self.new.sequence ≡ self.old.sequence }
         ensures refused { IfErr result (λ e. e ≡ OutOfMemory) }
     {
@@ -93,7 +95,8 @@ impl<K: KeyOrder> MemoryCursor<K> {
     // Stands on the last entry that is seen up to this node.
     fn stand_back(&mut self, table: &MemTable<K>, node: Option<Node>) -> Result<(), DbError>
         requires { IfSome node (IsPlace table.now.inserts) }
-        ensures moves { (front back : List Placed) (at : Listed) → ordered K.cmp table.now.inserts ≡ front ++ back → node ≡ last_of front → ListsMemory K.cmp self.old table.now at
+        ensures moves { (front back : List Placed) (at : Listed) → ordered K.cmp table.now.inserts ≡ front ++ back
+            → node ≡ last_of front → ListsMemory K.cmp self.old table.now at
             → ListsMemory K.cmp self.new table.now (after_move result (λ at. index_before (length (up_to self.old.sequence front))) at) }
         ensures sequence { self.new.sequence ≡ self.old.sequence }
         ensures refused { IfErr result (λ e. e ≡ OutOfMemory) }
@@ -236,7 +239,8 @@ impl<K: KeyOrder> Cursor<K, MemTable<K>> for MemoryCursor<K> {
 // The first node from this one on whose entry is up to the sequence.
 fn seen_from<K: KeyOrder>(table: &MemTable<K>, sequence: u64, node: Option<Node>) -> Option<Node>
     requires { IfSome node (IsPlace table.now.inserts) }
-    ensures first { (front back : List Placed) → ordered K.cmp table.now.inserts ≡ front ++ back → node ≡ first_of back → result ≡ first_of (up_to sequence back) }
+    ensures first { (front back : List Placed) → ordered K.cmp table.now.inserts ≡ front ++ back → node ≡ first_of back
+        → result ≡ first_of (up_to sequence back) }
     ensures seen { IfSome result (IsSeen table.now.inserts sequence) }
 {
     let mut at = node;
@@ -255,7 +259,8 @@ fn seen_from<K: KeyOrder>(table: &MemTable<K>, sequence: u64, node: Option<Node>
 // The last node up to this one whose entry is up to the sequence.
 fn seen_back<K: KeyOrder>(table: &MemTable<K>, sequence: u64, node: Option<Node>) -> Option<Node>
     requires { IfSome node (IsPlace table.now.inserts) }
-    ensures last { (front back : List Placed) → ordered K.cmp table.now.inserts ≡ front ++ back → node ≡ last_of front → result ≡ last_of (up_to sequence front) }
+    ensures last { (front back : List Placed) → ordered K.cmp table.now.inserts ≡ front ++ back → node ≡ last_of front
+        → result ≡ last_of (up_to sequence front) }
     ensures seen { IfSome result (IsSeen table.now.inserts sequence) }
 {
     let mut at = node;

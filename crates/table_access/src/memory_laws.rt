@@ -13,12 +13,14 @@ use ikey::KeyOrder;
 
 /// Law: what a reader at a sequence sees of the inserts, it sees of the entries that a cursor lists.
 pub fn seen_entries_have_the_view()
-    ensures { (cmp : List ℕ → List ℕ → Ordering) (inserts : List Entry) (sequence : ℕ) (view : View) → IsView inserts sequence view → IsView (map entry_of (seen_entries cmp inserts sequence)) sequence view }
+    ensures { (cmp : List ℕ → List ℕ → Ordering) (inserts : List Entry) (sequence : ℕ) (view : View) → IsView inserts sequence view
+        → IsView (map entry_of (seen_entries cmp inserts sequence)) sequence view }
 {}
 
 /// Law: a cursor's list stays while entries of greater sequences are added.
 pub fn later_inserts_are_kept<K: KeyOrder>()
-    ensures { (cursor : MemoryPlace) (old new : Contents) (more : List Entry) (sequence : ℕ) → cursor.sequence ≤ sequence → AllByRecursion (λ (entry : Entry). sequence < entry.sequence) more → new.inserts ≡ old.inserts ++ more
+    ensures { (cursor : MemoryPlace) (old new : Contents) (more : List Entry) (sequence : ℕ) → cursor.sequence ≤ sequence
+        → AllByRecursion (λ (entry : Entry). sequence < entry.sequence) more → new.inserts ≡ old.inserts ++ more
         → KeepsMemory K.cmp cursor old new }
 {}
 

@@ -4,7 +4,7 @@ ghost use Rattle.std.specs.Prelude.{◌≡◌, ◌<◌, ◌^◌, ℕ, List, Some
 ghost use Rattle.cache.specs.Tables.{kept_table_at};
 ghost use Rattle.cursor.specs.Moves.{Refuses};
 ghost use Rattle.ikey.specs.Entries.{InternalEntry, Pair, IsPair};
-ghost use Rattle.table_access.specs.Tables.{Carries, HasTable, Only, SaysOf, seen};
+ghost use Rattle.table_access.specs.Tables.{Carries, HasTable, Only, SaysOf, seen_in};
 ghost use Rattle.table_access.specs.Values.{DeniesKey, HasValue, IsDenied, IsNoTable, IsPastLimit, SaysOfEntry};
 ghost use Rattle.table.specs.Frame.{IsFrame, Opened};
 ghost use Rattle.table.specs.Reading.{IsStill};
@@ -31,16 +31,17 @@ pub fn table_value<K: KeyOrder, S: Store>(
 ) -> Result<Option<Option<Bytes>>, DbError>
     requires positive { 0 < number }
     requires fits { sequence < 2 ^ 56 }
-    ensures carries { Carries K.cmp (Only number) (seen (S.facts source.old.store) source.old.tables source.old.blocks) (seen (S.facts source.new.store) source.new.tables source.new.blocks) }
-    ensures found { IfOk result (λ value. SaysOf K.cmp (seen (S.facts source.old.store) source.old.tables source.old.blocks) (seen (S.facts source.new.store) source.new.tables source.new.blocks)
+    ensures carries { Carries K.cmp (Only number) (seen_in S.facts source.old) (seen_in S.facts source.new) }
+    ensures found { IfOk result (λ value. SaysOf K.cmp (seen_in S.facts source.old) (seen_in S.facts source.new)
         number (λ file. HasValue K.cmp file key.now sequence value)) }
     ensures still { IsStill (S.facts source.old.store) (S.facts source.new.store) result }
     // Where the table is open and its filter denies the key, no block is asked for.
-    ensures denied { (table : Opened) (file : List ℕ) → kept_table_at source.old.tables.tables number ≡ Some table → IsFrame K.cmp file table.frame → IsDenied K.cmp table.frame key.now sequence
+    ensures denied { (table : Opened) (file : List ℕ) → kept_table_at source.old.tables.tables number ≡ Some table
+        → IsFrame K.cmp file table.frame → IsDenied K.cmp table.frame key.now sequence
         → (source.new.store ≡ source.old.store) × (source.new.blocks ≡ source.old.blocks) }
     ensures refused { IfErr result (λ e. Refuses e (S.facts source.old.store) (S.facts source.new.store)
-        ((file : List ℕ) → HasTable K.cmp (seen (S.facts source.old.store) source.old.tables source.old.blocks) number file → IsNoTable K.cmp file)
-        ((file : List ℕ) → HasTable K.cmp (seen (S.facts source.old.store) source.old.tables source.old.blocks) number file → IsPastLimit K.cmp file)) }
+        ((file : List ℕ) → HasTable K.cmp (seen_in S.facts source.old) number file → IsNoTable K.cmp file)
+        ((file : List ℕ) → HasTable K.cmp (seen_in S.facts source.old) number file → IsPastLimit K.cmp file)) }
 {
     let table = source.get_table(alloc, number)?;
     let target = seek_key(alloc, key, sequence)?;
@@ -85,7 +86,8 @@ fn value_at<K: KeyOrder>(
     key: &[u8],
 ) -> Result<Option<Option<Bytes>>, AllocError>
     requires { IsSome cursor.now.place }
-    ensures { IfOk result (λ value. (index : ℕ) (pair : Pair) (entry : InternalEntry) → cursor.now.place ≡ Some index → slice_get cursor.now.pairs index ≡ Some pair → IsPair pair entry
+    ensures { IfOk result (λ value. (index : ℕ) (pair : Pair) (entry : InternalEntry) → cursor.now.place ≡ Some index
+        → slice_get cursor.now.pairs index ≡ Some pair → IsPair pair entry
         → SaysOfEntry entry key.now value) }
 {
     let Some(found) = unpack(cursor.key()) else {

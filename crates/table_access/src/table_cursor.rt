@@ -35,7 +35,7 @@ impl<K: KeyOrder> TableCursor<K> {
     ghost use Rattle.ikey.specs.Entries.{InternalEntry};
     ghost use Rattle.ikey.specs.Keys.{Key, IsKey};
     ghost use Rattle.table_access.specs.TablePlaces.{ListsTable, StepsTo, block_stands};
-    ghost use Rattle.table_access.specs.Tables.{Carries, HasTable, IsOpen, Only, SaysOf, seen};
+    ghost use Rattle.table_access.specs.Tables.{Carries, HasTable, IsOpen, Only, SaysOf, seen_in};
     ghost use Rattle.table.specs.Frame.{AnyLong, handles};
     ghost use Rattle.table.specs.Reading.{IsStill};
     ghost use Rattle.table.specs.Refusals.{IsFrameDamaged, IsFrameUnsupported};
@@ -51,15 +51,16 @@ impl<K: KeyOrder> TableCursor<K> {
         requires { 0 < number }
         ensures number { IfOk result (λ cursor. cursor.number ≡ number) }
         ensures nowhere { IfOk result (λ cursor. cursor.here ≡ None) }
-        ensures carries { Carries K.cmp (Only number) (seen (S.facts source.old.store) source.old.tables source.old.blocks) (seen (S.facts source.new.store) source.new.tables source.new.blocks) }
-        ensures lists { IfOk result (λ cursor. SaysOf K.cmp (seen (S.facts source.old.store) source.old.tables source.old.blocks) (seen (S.facts source.new.store) source.new.tables source.new.blocks) number
+        ensures carries { Carries K.cmp (Only number) (seen_in S.facts source.old) (seen_in S.facts source.new) }
+        ensures lists { IfOk result (λ cursor. SaysOf K.cmp (seen_in S.facts source.old) (seen_in S.facts source.new) number
             (λ file. (entries : List InternalEntry) → IsTable K.cmp file entries
-            → ListsTable K.cmp (seen (S.facts source.new.store) source.new.tables source.new.blocks) number cursor.table.value.frame None (listed entries None))) }
-        ensures open { IfOk result (λ cursor. SaysOf K.cmp (seen (S.facts source.old.store) source.old.tables source.old.blocks) (seen (S.facts source.new.store) source.new.tables source.new.blocks) number
+            → ListsTable K.cmp (seen_in S.facts source.new) number cursor.table.value.frame None (listed entries None))) }
+        ensures open { IfOk result (λ cursor. SaysOf K.cmp (seen_in S.facts source.old) (seen_in S.facts source.new) number
             (λ file. IsOpen K.cmp file cursor.table.value.frame)) }
         ensures stood { OnOk result ((S.facts source.new.store).failures ≡ (S.facts source.old.store).failures) }
         ensures still { IsStill (S.facts source.old.store) (S.facts source.new.store) result }
-        ensures refused { IfErr result (λ e. RefusesTable e (S.facts source.old.store) (S.facts source.new.store) number (IsFrameDamaged K.cmp) IsFrameUnsupported) }
+        ensures refused { IfErr result (λ e. RefusesTable e (S.facts source.old.store) (S.facts source.new.store) number
+            (IsFrameDamaged K.cmp) IsFrameUnsupported) }
     {
         let table = source.get_table(alloc, number)?;
         Ok(TableCursor {
@@ -75,14 +76,16 @@ impl<K: KeyOrder> TableCursor<K> {
         alloc: Global,
         source: &mut Tables<K, S>,
     ) -> Result<(), DbError>
-        ensures carries { Carries K.cmp (Only self.old.number) (seen (S.facts source.old.store) source.old.tables source.old.blocks) (seen (S.facts source.new.store) source.new.tables source.new.blocks) }
+        ensures carries { Carries K.cmp (Only self.old.number) (seen_in S.facts source.old) (seen_in S.facts source.new) }
         ensures number { self.new.number ≡ self.old.number }
         ensures table { self.new.table ≡ self.old.table }
-        ensures moves { IsTrue (S.facts source.new.store).faithful → (at : Listed) → ListsTable K.cmp (seen (S.facts source.old.store) source.old.tables source.old.blocks) self.old.number self.old.table.value.frame self.old.here at
-            → ListsTable K.cmp (seen (S.facts source.new.store) source.new.tables source.new.blocks) self.old.number self.old.table.value.frame self.new.here (after_move result to_first at) }
+        ensures moves { IsTrue (S.facts source.new.store).faithful → (at : Listed)
+            → ListsTable K.cmp (seen_in S.facts source.old) self.old.number self.old.table.value.frame self.old.here at
+            → ListsTable K.cmp (seen_in S.facts source.new) self.old.number self.old.table.value.frame self.new.here
+            (after_move result to_first at) }
         ensures still { IsStill (S.facts source.old.store) (S.facts source.new.store) result }
         ensures refused { IfErr result (λ e. Refuses e (S.facts source.old.store) (S.facts source.new.store)
-            ((at : Listed) → ListsTable K.cmp (seen (S.facts source.old.store) source.old.tables source.old.blocks) self.old.number self.old.table.value.frame self.old.here at → ⊥)
+            ((at : Listed) → ListsTable K.cmp (seen_in S.facts source.old) self.old.number self.old.table.value.frame self.old.here at → ⊥)
             (AnyLong (handles self.old.table.value.frame))) }
     {
         self.here = search_on(alloc, source, self.number, &self.table, 0, Aim::First)?;
@@ -95,14 +98,16 @@ impl<K: KeyOrder> TableCursor<K> {
         alloc: Global,
         source: &mut Tables<K, S>,
     ) -> Result<(), DbError>
-        ensures carries { Carries K.cmp (Only self.old.number) (seen (S.facts source.old.store) source.old.tables source.old.blocks) (seen (S.facts source.new.store) source.new.tables source.new.blocks) }
+        ensures carries { Carries K.cmp (Only self.old.number) (seen_in S.facts source.old) (seen_in S.facts source.new) }
         ensures number { self.new.number ≡ self.old.number }
         ensures table { self.new.table ≡ self.old.table }
-        ensures moves { IsTrue (S.facts source.new.store).faithful → (at : Listed) → ListsTable K.cmp (seen (S.facts source.old.store) source.old.tables source.old.blocks) self.old.number self.old.table.value.frame self.old.here at
-            → ListsTable K.cmp (seen (S.facts source.new.store) source.new.tables source.new.blocks) self.old.number self.old.table.value.frame self.new.here (after_move result to_last at) }
+        ensures moves { IsTrue (S.facts source.new.store).faithful → (at : Listed)
+            → ListsTable K.cmp (seen_in S.facts source.old) self.old.number self.old.table.value.frame self.old.here at
+            → ListsTable K.cmp (seen_in S.facts source.new) self.old.number self.old.table.value.frame self.new.here
+            (after_move result to_last at) }
         ensures still { IsStill (S.facts source.old.store) (S.facts source.new.store) result }
         ensures refused { IfErr result (λ e. Refuses e (S.facts source.old.store) (S.facts source.new.store)
-            ((at : Listed) → ListsTable K.cmp (seen (S.facts source.old.store) source.old.tables source.old.blocks) self.old.number self.old.table.value.frame self.old.here at → ⊥)
+            ((at : Listed) → ListsTable K.cmp (seen_in S.facts source.old) self.old.number self.old.table.value.frame self.old.here at → ⊥)
             (AnyLong (handles self.old.table.value.frame))) }
     {
         let end = self.table.places().len();
@@ -117,14 +122,17 @@ impl<K: KeyOrder> TableCursor<K> {
         source: &mut Tables<K, S>,
         target: &[u8],
     ) -> Result<(), DbError>
-        ensures carries { Carries K.cmp (Only self.old.number) (seen (S.facts source.old.store) source.old.tables source.old.blocks) (seen (S.facts source.new.store) source.new.tables source.new.blocks) }
+        ensures carries { Carries K.cmp (Only self.old.number) (seen_in S.facts source.old) (seen_in S.facts source.new) }
         ensures number { self.new.number ≡ self.old.number }
         ensures table { self.new.table ≡ self.old.table }
-        ensures moves { (key : Key) → IsKey target.now key → IsTrue (S.facts source.new.store).faithful → (at : Listed) → ListsTable K.cmp (seen (S.facts source.old.store) source.old.tables source.old.blocks) self.old.number self.old.table.value.frame self.old.here at
-            → ListsTable K.cmp (seen (S.facts source.new.store) source.new.tables source.new.blocks) self.old.number self.old.table.value.frame self.new.here (after_move result (to_key K.cmp key) at) }
+        ensures moves { (key : Key) → IsKey target.now key → IsTrue (S.facts source.new.store).faithful → (at : Listed)
+            → ListsTable K.cmp (seen_in S.facts source.old) self.old.number self.old.table.value.frame self.old.here at
+            → ListsTable K.cmp (seen_in S.facts source.new) self.old.number self.old.table.value.frame self.new.here
+            (after_move result (to_key K.cmp key) at) }
         ensures still { IsStill (S.facts source.old.store) (S.facts source.new.store) result }
         ensures refused { IfErr result (λ e. Refuses e (S.facts source.old.store) (S.facts source.new.store)
-            ((key : Key) → IsKey target.now key → (at : Listed) → ListsTable K.cmp (seen (S.facts source.old.store) source.old.tables source.old.blocks) self.old.number self.old.table.value.frame self.old.here at → ⊥)
+            ((key : Key) → IsKey target.now key → (at : Listed)
+            → ListsTable K.cmp (seen_in S.facts source.old) self.old.number self.old.table.value.frame self.old.here at → ⊥)
             (AnyLong (handles self.old.table.value.frame))) }
     {
         let start = self.table.first_place(target);
@@ -140,14 +148,16 @@ impl<K: KeyOrder> TableCursor<K> {
         source: &mut Tables<K, S>,
     ) -> Result<bool, DbError>
         requires { IsTrue (block_stands self.old.here) }
-        ensures carries { Carries K.cmp (Only self.old.number) (seen (S.facts source.old.store) source.old.tables source.old.blocks) (seen (S.facts source.new.store) source.new.tables source.new.blocks) }
+        ensures carries { Carries K.cmp (Only self.old.number) (seen_in S.facts source.old) (seen_in S.facts source.new) }
         ensures number { self.new.number ≡ self.old.number }
         ensures table { self.new.table ≡ self.old.table }
-        ensures steps { IsTrue (S.facts source.new.store).faithful → (at : Listed) → ListsTable K.cmp (seen (S.facts source.old.store) source.old.tables source.old.blocks) self.old.number self.old.table.value.frame self.old.here at
-            → StepsTo (ListsTable K.cmp (seen (S.facts source.new.store) source.new.tables source.new.blocks) self.old.number self.old.table.value.frame self.new.here) to_next result at }
+        ensures steps { IsTrue (S.facts source.new.store).faithful → (at : Listed)
+            → ListsTable K.cmp (seen_in S.facts source.old) self.old.number self.old.table.value.frame self.old.here at
+            → StepsTo (ListsTable K.cmp
+            (seen_in S.facts source.new) self.old.number self.old.table.value.frame self.new.here) to_next result at }
         ensures still { IsStill (S.facts source.old.store) (S.facts source.new.store) result }
         ensures refused { IfErr result (λ e. Refuses e (S.facts source.old.store) (S.facts source.new.store)
-            ((at : Listed) → ListsTable K.cmp (seen (S.facts source.old.store) source.old.tables source.old.blocks) self.old.number self.old.table.value.frame self.old.here at → ⊥)
+            ((at : Listed) → ListsTable K.cmp (seen_in S.facts source.old) self.old.number self.old.table.value.frame self.old.here at → ⊥)
             (AnyLong (handles self.old.table.value.frame))) }
     {
         let start = match step_on(&mut self.here)? {
@@ -170,14 +180,16 @@ impl<K: KeyOrder> TableCursor<K> {
         source: &mut Tables<K, S>,
     ) -> Result<bool, DbError>
         requires { IsTrue (block_stands self.old.here) }
-        ensures carries { Carries K.cmp (Only self.old.number) (seen (S.facts source.old.store) source.old.tables source.old.blocks) (seen (S.facts source.new.store) source.new.tables source.new.blocks) }
+        ensures carries { Carries K.cmp (Only self.old.number) (seen_in S.facts source.old) (seen_in S.facts source.new) }
         ensures number { self.new.number ≡ self.old.number }
         ensures table { self.new.table ≡ self.old.table }
-        ensures steps { IsTrue (S.facts source.new.store).faithful → (at : Listed) → ListsTable K.cmp (seen (S.facts source.old.store) source.old.tables source.old.blocks) self.old.number self.old.table.value.frame self.old.here at
-            → StepsTo (ListsTable K.cmp (seen (S.facts source.new.store) source.new.tables source.new.blocks) self.old.number self.old.table.value.frame self.new.here) to_prev result at }
+        ensures steps { IsTrue (S.facts source.new.store).faithful → (at : Listed)
+            → ListsTable K.cmp (seen_in S.facts source.old) self.old.number self.old.table.value.frame self.old.here at
+            → StepsTo (ListsTable K.cmp
+            (seen_in S.facts source.new) self.old.number self.old.table.value.frame self.new.here) to_prev result at }
         ensures still { IsStill (S.facts source.old.store) (S.facts source.new.store) result }
         ensures refused { IfErr result (λ e. Refuses e (S.facts source.old.store) (S.facts source.new.store)
-            ((at : Listed) → ListsTable K.cmp (seen (S.facts source.old.store) source.old.tables source.old.blocks) self.old.number self.old.table.value.frame self.old.here at → ⊥)
+            ((at : Listed) → ListsTable K.cmp (seen_in S.facts source.old) self.old.number self.old.table.value.frame self.old.here at → ⊥)
             (AnyLong (handles self.old.table.value.frame))) }
     {
         let end = match step_back(&mut self.here)? {
@@ -196,22 +208,23 @@ impl<K: KeyOrder> TableCursor<K> {
 
 impl<K: KeyOrder, S: Store> Cursor<K, Tables<K, S>> for TableCursor<K> {
     ghost use Rattle.std.specs.Prelude.{◌≡◌};
-    ghost use Rattle.table_access.specs.TableLaws.{carries_both, carries_itself, carries_more, lists_kept, placed_in, table_onward, table_still};
+    ghost use Rattle.table_access.specs.TableLaws.{carries_both, carries_itself, carries_more, lists_kept};
+    ghost use Rattle.table_access.specs.TableLaws.{placed_in, table_onward, table_still};
     ghost use Rattle.table_access.specs.TablePlaces.{KeepsTable, ListsTable};
-    ghost use Rattle.table_access.specs.Tables.{Carries, seen};
+    ghost use Rattle.table_access.specs.Tables.{Carries, seen_in};
     ghost use Rattle.table.specs.Frame.{AnyLong, handles};
 
     ghost facts = { λ source. S.facts source.store };
 
-    ghost lists = { λ cursor source at. ListsTable K.cmp (seen (S.facts source.store) source.tables source.blocks) cursor.number cursor.table.value.frame cursor.here at };
+    ghost lists = { λ cursor source at. ListsTable K.cmp (seen_in S.facts source) cursor.number cursor.table.value.frame cursor.here at };
 
-    ghost keeps = { λ cursor old new. KeepsTable K.cmp cursor.number (seen (S.facts old.store) old.tables old.blocks) (seen (S.facts new.store) new.tables new.blocks) };
+    ghost keeps = { λ cursor old new. KeepsTable K.cmp cursor.number (seen_in S.facts old) (seen_in S.facts new) };
 
     ghost stands = { λ cursor. block_stands cursor.here };
 
     ghost limited = { λ cursor source. AnyLong (handles cursor.table.value.frame) };
 
-    ghost leaves = { λ numbers old new. Carries K.cmp numbers (seen (S.facts old.store) old.tables old.blocks) (seen (S.facts new.store) new.tables new.blocks) };
+    ghost leaves = { λ numbers old new. Carries K.cmp numbers (seen_in S.facts old) (seen_in S.facts new) };
 
     ghost over = { λ cursor number. number ≡ cursor.number };
 
@@ -298,8 +311,10 @@ fn step_on<K: KeyOrder>(
     here: &mut Option<InBlock<BlockCursor<Internal<K>>>>,
 ) -> Result<Option<usize>, AllocError>
     requires { IsTrue (block_stands here.old) }
-    ensures ok { IfOk result (λ next. (groups : List (List Pair)) (place : Option ℕ) → IsPlacedIn groups here.old place → StepsOn groups here.new place next) }
-    ensures err { OnErr result ((groups : List (List Pair)) (place : Option ℕ) → IsPlacedIn groups here.old place → IsPlacedIn groups here.new place) }
+    ensures ok { IfOk result (λ next. (groups : List (List Pair)) (place : Option ℕ) → IsPlacedIn groups here.old place
+        → StepsOn groups here.new place next) }
+    ensures err { OnErr result ((groups : List (List Pair)) (place : Option ℕ) → IsPlacedIn groups here.old place
+        → IsPlacedIn groups here.new place) }
 {
     let Some(here) = here else {
         unreachable!();
@@ -316,8 +331,10 @@ fn step_back<K: KeyOrder>(
     here: &mut Option<InBlock<BlockCursor<Internal<K>>>>,
 ) -> Result<Option<usize>, AllocError>
     requires { IsTrue (block_stands here.old) }
-    ensures ok { IfOk result (λ end. (groups : List (List Pair)) (place : Option ℕ) → IsPlacedIn groups here.old place → StepsBack groups here.new place end) }
-    ensures err { OnErr result ((groups : List (List Pair)) (place : Option ℕ) → IsPlacedIn groups here.old place → IsPlacedIn groups here.new place) }
+    ensures ok { IfOk result (λ end. (groups : List (List Pair)) (place : Option ℕ) → IsPlacedIn groups here.old place
+        → StepsBack groups here.new place end) }
+    ensures err { OnErr result ((groups : List (List Pair)) (place : Option ℕ) → IsPlacedIn groups here.old place
+        → IsPlacedIn groups here.new place) }
 {
     let Some(here) = here else {
         unreachable!();

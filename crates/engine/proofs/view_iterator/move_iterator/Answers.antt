@@ -1,6 +1,6 @@
 use Rattle.std.proofs.Common.{◌≡◌, ◌∙◌, ℕ, List, Option, Result, Err, inl, inr, sym, subst, rules}
 use Rattle.coding.specs.declared.error.DbError.{DbError}
-use Rattle.engine.specs.Held.{whole_in}
+use Rattle.db_cursor.specs.Whole.{whole_in}
 use Rattle.engine.specs.Moving.{IsMoved}
 use Rattle.engine.specs.Walks.{motion_of}
 use Rattle.engine.proofs.Iterations.{has_place, moved_err, moved_ok, taken_back}

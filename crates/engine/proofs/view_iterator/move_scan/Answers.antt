@@ -1,6 +1,6 @@
 use Rattle.std.proofs.Common.{sym, subst}
 use Rattle.engine.specs.declared.command.Movement.{Movement}
-use Rattle.engine.specs.Held.{whole_in}
+use Rattle.db_cursor.specs.Whole.{whole_in}
 use Rattle.engine.specs.Iterators.{destination}
 use Rattle.engine.specs.Walks.{motion_of}
 use Rattle.db_cursor.specs.Scanning.{IsScanned}

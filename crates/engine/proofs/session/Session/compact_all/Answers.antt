@@ -4,7 +4,8 @@ use Rattle.std.specs.Option.{option_map}
 use Rattle.coding.specs.declared.error.DbError.{DbError}
 use Rattle.engine.specs.declared.state.DbState.{DbState}
 use Rattle.engine.specs.Follows.{LeadsOpen, unit_answer}
-use Rattle.engine.specs.Held.{held, seen_of}
+use Rattle.engine.specs.Held.{held}
+use Rattle.db_cursor.specs.Whole.{seen_of}
 use Rattle.engine.specs.Needed.{LeavesNeeded}
 use Rattle.engine.specs.Stands.{StandsOver}
 use Rattle.engine.specs.Upkeep.{CompactsAll}

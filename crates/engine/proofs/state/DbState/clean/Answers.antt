@@ -3,7 +3,8 @@ use Rattle.coding.specs.declared.error.DbError.{DbError}
 use Rattle.ikey.specs.Orders.{order_of}
 use Rattle.db_cursor.proofs.ScanSteps.{scan_kept}
 use Rattle.engine.specs.Follows.{LeadsOpen}
-use Rattle.engine.specs.Held.{held, seen_of}
+use Rattle.engine.specs.Held.{held}
+use Rattle.db_cursor.specs.Whole.{seen_of}
 use Rattle.engine.specs.Working.{ClosesTables, IsPiece}
 use Rattle.engine.proofs.WorkEnds.{ends_cleaned, ends_unlisted, memory_cleaned}
 use Rattle.engine.proofs.state.DbState.clean.Goals as goal

@@ -1,5 +1,6 @@
 use Rattle.ikey.specs.Orders.{order_of}
-use Rattle.engine.specs.Held.{held, seen_of}
+use Rattle.engine.specs.Held.{held}
+use Rattle.db_cursor.specs.Whole.{seen_of}
 use Rattle.engine.specs.Outcomes.{MayRefuseWork}
 use Rattle.engine.proofs.Emptied.{all_broken, all_broken_caused, all_caused, all_compacted}
 use Rattle.engine.proofs.Finishing.{outcome_all_as, outcome_stays}

@@ -1,6 +1,7 @@
 use Rattle.std.proofs.Common.{arith}
 use Rattle.ikey.specs.Orders.{order_of}
-use Rattle.engine.specs.Held.{held, seen_of}
+use Rattle.engine.specs.Held.{held}
+use Rattle.db_cursor.specs.Whole.{seen_of}
 use Rattle.engine.specs.Outcomes.{MayRefuseLevel}
 use Rattle.engine.proofs.Emptied.{bad_caused, broken_caused, level_broken, level_caused, level_compacted, level_refused}
 use Rattle.engine.proofs.Finishing.{outcome_level_as, outcome_stays}

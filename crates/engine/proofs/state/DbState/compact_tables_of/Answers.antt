@@ -7,7 +7,8 @@ use Rattle.versions.specs.Levels.{Placement, tables_at}
 use Rattle.versions.specs.Plans.{IsLevelPlan, IsPlanOf}
 use Rattle.engine.specs.Finishing.{CompactOutcome, beyond}
 use Rattle.engine.specs.Follows.{LeadsOpen}
-use Rattle.engine.specs.Held.{held, seen_of}
+use Rattle.engine.specs.Held.{held}
+use Rattle.db_cursor.specs.Whole.{seen_of}
 use Rattle.engine.specs.Upkeep.{most_drawn}
 use Rattle.engine.specs.Working.{IsPiece, MayRefusePiece}
 use Rattle.engine.proofs.Emptied.{beyond_most, level_emptied, on_ok}

@@ -4,7 +4,8 @@ use Rattle.ikey.specs.Orders.{order_of}
 use Rattle.engine.specs.declared.work.Progress.{Progress}
 use Rattle.engine.specs.declared.work.Progress.TheVariants.{Worked}
 use Rattle.engine.specs.Follows.{LeadsOpen}
-use Rattle.engine.specs.Held.{held, seen_of}
+use Rattle.engine.specs.Held.{held}
+use Rattle.db_cursor.specs.Whole.{seen_of}
 use Rattle.engine.specs.Working.{IsPiece}
 use Rattle.engine.proofs.WorkSteps.{piece_done, piece_failed, piece_within}
 use Rattle.engine.proofs.WithinBudget.{not_some}

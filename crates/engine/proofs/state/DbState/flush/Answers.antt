@@ -8,7 +8,8 @@ use Rattle.directory_writes.specs.declared.flush.FlushPlan.{FlushPlan}
 use Rattle.versions.specs.Levels.{Placement}
 use Rattle.engine.specs.declared.state.DbState.{DbState}
 use Rattle.engine.specs.Follows.{LeadsOpen}
-use Rattle.engine.specs.Held.{held, seen_of}
+use Rattle.engine.specs.Held.{held}
+use Rattle.db_cursor.specs.Whole.{seen_of}
 use Rattle.engine.specs.Working.{IsPiece, flush_answer}
 use Rattle.engine.proofs.FlushEnds.{can, ends_flushed, ends_let_go, ends_unflushed, no_entries}
 use Rattle.engine.proofs.state.DbState.flush.Goals as goal

@@ -16,7 +16,8 @@ use Rattle.versions.specs.Levels.{Placement}
 use Rattle.engine.specs.Access.{Gets}
 use Rattle.engine.specs.Applied.{IsReadBy}
 use Rattle.engine.specs.Follows.{LeadsOpen, value_answer}
-use Rattle.engine.specs.Held.{held, seen_of}
+use Rattle.engine.specs.Held.{held}
+use Rattle.db_cursor.specs.Whole.{seen_of}
 use Rattle.engine.specs.InUse.{Gathers}
 use Rattle.engine.specs.Outcomes.{DbOutcome, MayRefuseGet}
 use Rattle.engine.specs.Reads.{sequence_at}

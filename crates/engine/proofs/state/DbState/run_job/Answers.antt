@@ -4,7 +4,8 @@ use Rattle.ikey.specs.Orders.{order_of}
 use Rattle.memtables.specs.PlaceLaws.{left_onward}
 use Rattle.engine.specs.Finishing.{CompactOutcome, EndsJob, beyond}
 use Rattle.engine.specs.Follows.{LeadsOpen}
-use Rattle.engine.specs.Held.{held, seen_of}
+use Rattle.engine.specs.Held.{held}
+use Rattle.db_cursor.specs.Whole.{seen_of}
 use Rattle.engine.specs.Working.{MayRefusePiece}
 use Rattle.engine.proofs.Emptied.{done_of, on_ok}
 use Rattle.engine.proofs.Finishing.{outcome_of, outcome_then, serves_begun, then_bound, within_bound}

@@ -6,7 +6,8 @@ use Rattle.memtables.specs.Memories.{Memories}
 use Rattle.db_cursor.proofs.ScanSteps.{scan_kept}
 use Rattle.engine.specs.declared.state.DbState.{DbState}
 use Rattle.engine.specs.Follows.{LeadsOpen}
-use Rattle.engine.specs.Held.{held, seen_of}
+use Rattle.engine.specs.Held.{held}
+use Rattle.db_cursor.specs.Whole.{seen_of}
 use Rattle.engine.specs.Working.{IsPiece}
 use Rattle.engine.proofs.WorkEnds.{ends_full, ends_sealed, ends_unsealed}
 use Rattle.engine.proofs.state.DbState.seal.Goals as goal

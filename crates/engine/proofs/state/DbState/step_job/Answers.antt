@@ -11,7 +11,8 @@ use Rattle.versions.specs.declared.plan.JobPlan.{JobPlan}
 use Rattle.engine.specs.declared.state.DbState.{DbState}
 use Rattle.engine.specs.Finishing.{HasCome, ServesOn}
 use Rattle.engine.specs.Follows.{LeadsOpen}
-use Rattle.engine.specs.Held.{held, seen_of, whole_in}
+use Rattle.engine.specs.Held.{held}
+use Rattle.db_cursor.specs.Whole.{seen_of, whole_in}
 use Rattle.engine.specs.Needed.{EndsNeeded}
 use Rattle.engine.specs.Outcomes.{DbOutcome}
 use Rattle.engine.specs.Stands.{no_ids}

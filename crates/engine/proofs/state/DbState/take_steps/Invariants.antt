@@ -1,5 +1,6 @@
 use Rattle.ikey.specs.Orders.{order_of}
-use Rattle.engine.specs.Held.{held, seen_of}
+use Rattle.engine.specs.Held.{held}
+use Rattle.db_cursor.specs.Whole.{seen_of}
 use Rattle.engine.proofs.Finishing.{Taken}
 use Rattle.engine.proofs.state.DbState.take_steps.Given as goal
 

@@ -4,7 +4,8 @@ use Rattle.coding.specs.declared.error.DbError.{DbError}
 use Rattle.ikey.specs.Orders.{order_of}
 use Rattle.engine.specs.Finishing.{CompactOutcome}
 use Rattle.engine.specs.Follows.{LeadsOpen}
-use Rattle.engine.specs.Held.{held, seen_of}
+use Rattle.engine.specs.Held.{held}
+use Rattle.db_cursor.specs.Whole.{seen_of}
 use Rattle.engine.specs.Working.{IsPiece, MayRefusePiece}
 use Rattle.engine.proofs.Emptied.{on_ok}
 use Rattle.engine.proofs.FlushEnds.{no_entries}

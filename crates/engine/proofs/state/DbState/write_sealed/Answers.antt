@@ -1,5 +1,6 @@
 use Rattle.ikey.specs.Orders.{order_of}
-use Rattle.engine.specs.Held.{held, seen_of}
+use Rattle.engine.specs.Held.{held}
+use Rattle.db_cursor.specs.Whole.{seen_of}
 use Rattle.engine.specs.Working.{MayRefusePiece}
 use Rattle.engine.proofs.Finishing.{outcome_by, outcome_done, serves_same, stays_done}
 use Rattle.engine.proofs.state.DbState.write_sealed.Goals as goal
