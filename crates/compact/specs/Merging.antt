@@ -93,7 +93,7 @@ abbrev pub KeepsMine : Written → ℕ → Written → ℕ → Type 0
 KeepsMine old next new more = (number : ℕ) → IsNumberAtHand new number → IsMineUpTo old next more number
 
 -- A step with this budget has taken the front of what was left: as many entries as the budget has, one for 0, or all.
-pub record IsSlice (budget : ℕ) (progress : Progress) (front back : List InternalEntry) : Type 0 where
+pub record IsStepOf (budget : ℕ) (progress : Progress) (front back : List InternalEntry) : Type 0 where
   pub long : length front ≡ progress.merged
   pub most : progress.merged ≤ max budget 1
   pub ended : progress.ended ≡ true → back ≡ []

@@ -54,7 +54,7 @@ impl<K: KeyOrder, C: Drop> Job<K, C> {
     ghost use Rattle.edits.specs.Edit.{IsProper, IsInOrder};
     ghost use Rattle.cursor.specs.Places.{Listed};
     ghost use Rattle.ikey.specs.Entries.{InternalEntry, entry_of};
-    ghost use Rattle.compact.specs.Merging.{IsBetween, IsLimited, IsMerging, IsSlice, IsFinished};
+    ghost use Rattle.compact.specs.Merging.{IsBetween, IsLimited, IsMerging, IsStepOf, IsFinished};
     ghost use Rattle.compact.specs.Merging.{KeepsMine, ReadsApart, AreDisjoint, HaveOwnSequences};
     ghost use Rattle.compact.specs.JobEdits.{IsEditOfPlan, IsPlanProper, IsOwnIn};
     ghost use Rattle.compact.specs.Outputs.{AreNumbered, IsMineUpTo, IsNumberAtHand, IsOwn};
@@ -160,7 +160,7 @@ impl<K: KeyOrder, C: Drop> Job<K, C> {
             → IsTrue (S.facts (H.store_of source.new)).faithful
             → IsBetween K.cmp (D.covers deeper.now) S.facts H.store_of H.with_store H.gathers C.lists C.keeps C.over self.old
             source.old numbers.old.next came rest
-            → (front : List InternalEntry) × (back : List InternalEntry) × (rest ≡ front ++ back) × IsSlice budget progress front back
+            → (front : List InternalEntry) × (back : List InternalEntry) × (rest ≡ front ++ back) × IsStepOf budget progress front back
             × IsBetween K.cmp (D.covers deeper.now) S.facts H.store_of H.with_store H.gathers C.lists C.keeps C.over self.new
             source.new numbers.new.next (came ++ front) back) }
     {

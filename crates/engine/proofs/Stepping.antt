@@ -2,7 +2,7 @@
 use Rattle.std.proofs.Common.{◌≡◌, ◌⊎◌, ◌<◌, ◌≤◌, ◌+◌, ◌++◌, ℕ, true, List, [], map, Contains, Option, Some, IsTrue, MatchOption, inl, inr, refl, sym, ap, subst, ◌∙◌, arith}
 use Rattle.std.proofs.lemmas.List.{append_assoc}
 use Rattle.compact.specs.Laws.{SeesAsOne}
-use Rattle.compact.specs.Merging.{IsSlice}
+use Rattle.compact.specs.Merging.{IsStepOf}
 use Rattle.compact.specs.Outputs.{IsMineUpTo, IsOwn}
 use Rattle.compact.specs.declared.job.Progress.{Progress}
 use Rattle.edits.specs.declared.numbers.FileNumbers.{FileNumbers}
@@ -181,7 +181,7 @@ module _ {K : Type 0} {g : _} (order : Order) (kept : (scan : Scan K g) → Scan
 
       module _ (budget : ℕ) (progress : Progress) (goes : GoesOn order (whole_of old db) stepped_whole next numbers.next budget before after progress) (snapshots : after.job.selection.snapshots ≡ before.job.selection.snapshots)
           (owns : (number : ℕ) → IsOwn after.job.outputs number → IsOwn before.job.outputs number ⊎ (next ≤ number)) where
-        abbrev gone : (front : List InternalEntry) × (back : List InternalEntry) × (the_job.left ≡ front ++ back) × IsSlice budget progress front back × IsRunning order stepped_whole numbers.next d after (the_job.came ++ front) back
+        abbrev gone : (front : List InternalEntry) × (back : List InternalEntry) × (the_job.left ≡ front ++ back) × IsStepOf budget progress front back × IsRunning order stepped_whole numbers.next d after (the_job.came ++ front) back
         gone = goes f d the_job.came the_job.left can_step
 
         -- what it compacts is the same

@@ -2,7 +2,7 @@
 use Rattle.std.specs.Prelude.{◌≡◌, ◌≤◌, ◌⊎◌, ◌++◌, ◌^◌, ℕ, List, IsTrue, map}
 use Rattle.coding.specs.declared.error.DbError.{DbError}
 use Rattle.compact.specs.declared.job.Progress.{Progress}
-use Rattle.compact.specs.Merging.{IsSlice}
+use Rattle.compact.specs.Merging.{IsStepOf}
 use Rattle.compact.specs.Outputs.{IsMineUpTo, RefusesEntry, WritesTables}
 use Rattle.compact.specs.Rooms.{AreLarge}
 use Rattle.ikey.specs.Entries.{InternalEntry, entry_of}
@@ -49,7 +49,7 @@ KeepsDirectory order old new next more before = IsTrue new.seen.facts.faithful �
 abbrev pub GoesOn : {K : Type 0} {g : _} → Order → Whole → Whole → ℕ → ℕ → ℕ → OpenJob K g → OpenJob K g → Progress → Type 0
 GoesOn order old new next more budget before after progress = IsTrue new.seen.facts.faithful → (d : Directory) (came left : List InternalEntry)
     → CanStep order old next d before came left
-    → (front : List InternalEntry) × (back : List InternalEntry) × (left ≡ front ++ back) × IsSlice budget progress front back
+    → (front : List InternalEntry) × (back : List InternalEntry) × (left ≡ front ++ back) × IsStepOf budget progress front back
     × IsRunning order new more d after (came ++ front) back
 
 -- Why it doesn't: out of memory, while no call of the store failed; since the store failed; never as Corrupt; as Unsupported only

@@ -281,7 +281,7 @@ fn merges_all<S: Store + Drop>(
     Ok(false)
 }
 
-// The edit of the case's job, in slices of this budget, where they do what they say.
+// The edit of the case's job, in steps of this budget, where they do what they say.
 fn edit_of<S: Store + Drop>(
     alloc: Global,
     source: &mut Alone<S>,
@@ -382,7 +382,7 @@ fn has_tables(
     Ok(is_numbered && is_moved && are_alone && are_made(alloc, store, made, tables)?)
 }
 
-// Whether the case's job, in slices of this budget, writes its tables and no others.
+// Whether the case's job, in steps of this budget, writes its tables and no others.
 fn holds(alloc: Global, case: &Case, budget: u32) -> Result<bool, DbError> {
     let mut source = Alone {
         store: MemStore::new(alloc),
