@@ -27,9 +27,12 @@ pub trait KeyOrder {
         ensures { result ≡ cmp a.now b.now };
 
     /// A quick look at the first byte of `rest`: true says that `a` is below the key of its first `shared` bytes and
-    /// `rest`, and false says nothing.
+    /// `rest`, and false says nothing, which is what an order says that has no such look.
     fn is_plainly_below(a: &[u8], shared: usize, rest: &[u8]) -> bool
-        ensures { MatchBool result (cmp a.now (take shared a.now ++ rest.now) ≡ Less) ⊤ };
+        ensures { MatchBool result (cmp a.now (take shared a.now ++ rest.now) ≡ Less) ⊤ }
+    {
+        false
+    }
 
     ghost total: { IsTotalOrder cmp };
 

@@ -9,6 +9,7 @@ mod internal_key;
 mod internal_key_order;
 mod key_order;
 mod laws;
+mod reverse_bytes;
 
 pub use byte_equality::same_bytes;
 pub use entry::Entry;
@@ -20,3 +21,4 @@ pub use laws::{
     searched_by_two, searched_when_grown, searched_when_replaced, sorted_in_row, sought_in_order,
     unseen_in_front,
 };
+pub use reverse_bytes::ReverseBytes;
