@@ -13,7 +13,8 @@ use Rattle.std.proofs.lemmas.Slice.Eq.{bytes_eq-Decides}
 use Rattle.ikey.specs.Entries.{Pair}
 use Rattle.ikey.specs.Views.{Contents as View}
 use Rattle.cursor.specs.Views.{HasPair, KeysRise}
-use Rattle.db_cursor.specs.Pairs.{ArePairs, listed_pair, tuple_of}
+use Rattle.db_cursor.specs.Pairs.{listed_pair, tuple_of}
+use Rattle.machine.specs.Views.{AreSortedPairs}
 
 abbrev Order : Type 0
 Order = List ℕ → List ℕ → Ordering
@@ -64,7 +65,7 @@ module _ (cmp : Order) (total : IsTotalOrder cmp) where
       at rest true is = absurd (none first.value (inl (ap (λ (k : List ℕ). record { key = k; value = first.value }) ((bytes_eq-Decides key first.key).0 is))))
       at rest false is = rest
 
-  pub pairs_of_view : (view : View) (pairs : List Pair) → KeysRise cmp pairs → ((pair : Pair) → HasPair pairs pair ↔ (get view pair.key ≡ Some pair.value)) → ArePairs cmp view (map tuple_of pairs)
+  pub pairs_of_view : (view : View) (pairs : List Pair) → KeysRise cmp pairs → ((pair : Pair) → HasPair pairs pair ↔ (get view pair.key ≡ Some pair.value)) → AreSortedPairs cmp view (map tuple_of pairs)
   pairs_of_view view pairs rises agree = record { sorted = sorted pairs rises; exact = λ key. at key (get view key) refl }
     where
       at : (key : List ℕ) (o : Option (List ℕ)) → get view key ≡ o → lookup (bytes_eq key) (map tuple_of pairs) ≡ o

@@ -17,7 +17,8 @@ use Rattle.recover.specs.Tables.{TableContent}
 use Rattle.db_cursor.specs.declared.scan.Scan.{Scan}
 use Rattle.level_cursor.specs.InRows.{HasNumber}
 use Rattle.db_cursor.specs.declared.source_cursor.SourceCursor.{SourceCursor}
-use Rattle.db_cursor.specs.Pairs.{ArePairs, listed_pair}
+use Rattle.db_cursor.specs.Pairs.{listed_pair}
+use Rattle.machine.specs.Views.{AreSortedPairs}
 use Rattle.db_cursor.specs.Places.{ListsSource, KeepsSource, LimitedSource, OneGoesOver}
 use Rattle.db_cursor.specs.Rows.{IsOneOf}
 use Rattle.db_cursor.specs.Whole.{Whole}
@@ -87,4 +88,4 @@ abbrev pub BeginsScan : {K : Type 0} {g : _} → Order → List PlacedTable → 
 BeginsScan order tables sequence whole scan = (contents : List TableContent) (view : Contents) → sequence ≤ whole.memory.last
     → IsSound order.cmp whole.seen → HasVersion order whole.seen.facts.files tables contents → IsNewerThan (logged_in whole.memory) (joined (table_sources contents))
     → IsView (logged_in whole.memory ++ joined (table_sources contents)) sequence view
-    → (pairs : List (List ℕ × List ℕ)) × ArePairs order.cmp view pairs × IsScan order.cmp scan whole (walked (map listed_pair pairs) None)
+    → (pairs : List (List ℕ × List ℕ)) × AreSortedPairs order.cmp view pairs × IsScan order.cmp scan whole (walked (map listed_pair pairs) None)

@@ -8,7 +8,7 @@ use Rattle.ikey.specs.declared.entry.Entry.{Entry}
 use Rattle.ikey.proofs.SearchedSources.{among_split, among_front, among_back}
 use Rattle.recover.specs.Entries.{made_entry, entries_of}
 use Rattle.engine.specs.Accounted.{AreAccounted, entry_weight}
-use Rattle.engine.specs.Machine.{Machine, entry_count, operation_weight, weight}
+use Rattle.machine.specs.Machine.{Machine, entry_count, operation_weight, weight}
 
 -- ---- the entries of a batch
 

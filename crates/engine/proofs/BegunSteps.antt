@@ -17,7 +17,7 @@ use Rattle.recover.specs.Logs.{AreLive, LogContent, NumbersRise}
 use Rattle.recover.specs.Numbers.{IsFree}
 use Rattle.recover.specs.Tables.{TableContent}
 use Rattle.versions.specs.Levels.{Lists}
-use Rattle.engine.specs.declared.command.Mode.{Mode}
+use Rattle.machine.specs.declared.command.Mode.{Mode}
 use Rattle.engine.specs.declared.directory.DirectoryState.{DirectoryState}
 use Rattle.engine.specs.declared.finding.Found.{Found}
 use Rattle.engine.specs.declared.opening.Begun.{Begun}

@@ -29,7 +29,7 @@ use Rattle.engine.specs.Held.{Held, whole_of}
 use Rattle.engine.specs.InUse.{IsJobTable, IsMemoryUsed, IsTableUsed}
 use Rattle.engine.specs.Iterators.{IsWalk}
 use Rattle.engine.specs.Live.{kept_at}
-use Rattle.engine.specs.Machine.{Machine, Walk}
+use Rattle.machine.specs.Machine.{Machine, Walk}
 use Rattle.engine.specs.Stands.{HasLog, HasTables, IsServing}
 use Rattle.engine.specs.Working.{ClosesTables, numbers_of}
 use Rattle.engine.proofs.Compacting.{each_job, goes_beside, have_itself, known_itself, version_unowned}

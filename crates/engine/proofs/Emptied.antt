@@ -22,11 +22,11 @@ use Rattle.engine.specs.Causes.{IsCausedIn, IsMet, broken_in, level_refusal}
 use Rattle.engine.specs.Finishing.{HasNoMemory, beyond}
 use Rattle.engine.specs.Follows.{LeadsOpen, unit_answer}
 use Rattle.engine.specs.Held.{Held}
-use Rattle.engine.specs.Machine.{Machine}
-use Rattle.engine.specs.Serving.{not_serving}
+use Rattle.machine.specs.Machine.{Machine}
+use Rattle.machine.specs.Serving.{not_serving}
 use Rattle.engine.specs.Stands.{StandsClosed}
-use Rattle.engine.specs.declared.command.Answer.TheVariants.{Refused}
-use Rattle.engine.specs.Upkeep.{Compacted, CompactsAll, CompactsLevel, Draws, UpkeepRefused, level_cause, most_drawn}
+use Rattle.machine.specs.declared.command.Answer.TheVariants.{Refused}
+use Rattle.machine.specs.Upkeep.{Compacted, CompactsAll, CompactsLevel, Draws, UpkeepRefused, level_cause, most_drawn}
 use Rattle.engine.specs.Working.{IsPiece, MayRefusePiece}
 use Rattle.engine.proofs.Steps.{broken_cause, broken_of, by_cause, closed_cause, denies_none, no_cause, serving_of, without_cause}
 use Rattle.engine.proofs.WriteSteps.{stays_open}

@@ -30,10 +30,10 @@ use Rattle.engine.specs.Held.{Held, whole_of}
 use Rattle.engine.specs.InUse.{IsJobTable, IsTableRead, IsTableUsed}
 use Rattle.engine.specs.Iterators.{IsWalk}
 use Rattle.engine.specs.Live.{IsBoth, kept_at}
-use Rattle.engine.specs.Machine.{Machine}
+use Rattle.machine.specs.Machine.{Machine}
 use Rattle.engine.specs.OptionValues.{OptionValues}
 use Rattle.engine.specs.Stands.{IsServing}
-use Rattle.engine.specs.Upkeep.{Works}
+use Rattle.machine.specs.Upkeep.{Works}
 use Rattle.engine.specs.Working.{DoesWork, HasLiveOnly, IsLiveIn, work_answer}
 use Rattle.engine.proofs.Compacting.{all_contains}
 use Rattle.engine.proofs.InUse.{as_listed}

@@ -18,11 +18,11 @@ use Rattle.engine.specs.Compacting.{IsCompacting}
 use Rattle.engine.specs.Finishing.{CompactOutcome, EndsJob, HasCome, ServesOn}
 use Rattle.engine.specs.Follows.{LeadsOpen}
 use Rattle.engine.specs.Held.{Held, whole_of}
-use Rattle.engine.specs.Machine.{Machine, entry_count}
+use Rattle.machine.specs.Machine.{Machine, entry_count}
 use Rattle.engine.specs.Needed.{IsTakingAll}
 use Rattle.engine.specs.Outcomes.{DbOutcome, IsSame, KeepsViews, MayRefuseLevel, MayRefuseWork}
 use Rattle.engine.specs.Stands.{StandsOpen}
-use Rattle.engine.specs.Upkeep.{Draws}
+use Rattle.machine.specs.Upkeep.{Draws}
 use Rattle.engine.specs.Working.{GoesOn, IsFurther, IsPiece, MayRefusePiece}
 use Rattle.engine.proofs.JobEnds.{job_counted}
 use Rattle.engine.proofs.Steps.{serving_of}

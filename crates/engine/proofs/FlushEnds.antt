@@ -33,9 +33,9 @@ use Rattle.engine.specs.declared.ids.Ids.{Ids}
 use Rattle.engine.specs.declared.state.DbState.{DbState}
 use Rattle.engine.specs.Follows.{LeadsOpen}
 use Rattle.engine.specs.Held.{Held, entries_of, held, whole_of}
-use Rattle.engine.specs.Machine.{Machine, entry_count, weight}
+use Rattle.machine.specs.Machine.{Machine, entry_count, weight}
 use Rattle.engine.specs.Stands.{IsServing}
-use Rattle.engine.specs.Upkeep.{UpkeepRefused}
+use Rattle.machine.specs.Upkeep.{UpkeepRefused}
 use Rattle.engine.specs.Working.{IsPiece, broken_by, flush_answer}
 use Rattle.engine.proofs.Compacting.{each_job, goes_beside, have_itself, known_itself, version_unowned}
 use Rattle.engine.proofs.Flushing.{NamesStay, names_same, names_unchanged, FlushKept, StaysBelow, broken_flush, can_flush, serving_flushed, serving_unflushed, sound_beside, sound_unchanged, table_same, table_unchanged}

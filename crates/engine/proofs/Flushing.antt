@@ -39,8 +39,8 @@ use Rattle.engine.specs.Directory.{CanAppend, IsReadable}
 use Rattle.engine.specs.Held.{Held, entries_of, whole_of}
 use Rattle.engine.specs.Iterators.{IsWalk}
 use Rattle.engine.specs.Live.{kept_at}
-use Rattle.engine.specs.Machine as machine
-use Rattle.engine.specs.Machine.{Machine, Walk, entry_count, weight}
+use Rattle.machine.specs.Machine as machine
+use Rattle.machine.specs.Machine.{Machine, Walk, entry_count, weight}
 use Rattle.engine.specs.Stands.{HasLog, IsBroken, IsServing}
 use Rattle.engine.specs.Compacting.{IsCompacting}
 use Rattle.engine.proofs.Compacting.{each_job, goes_beside, goes_on_as, have_itself, is_input_number, is_own_number, known_itself, owns_none_with, version_unowned}

@@ -22,15 +22,15 @@ use Rattle.table_access.specs.Tables.{Seen, Carries}
 use Rattle.table.specs.Reading.{IsErrorStill, Reads}
 use Rattle.store.specs.Files.{Facts}
 use Rattle.versions.specs.Keeping.{HasNumber}
-use Rattle.engine.specs.declared.command.Answer.TheVariants.{Value, Refused}
+use Rattle.machine.specs.declared.command.Answer.TheVariants.{Value, Refused}
 use Rattle.engine.specs.declared.ids.Ids.{Ids}
-use Rattle.engine.specs.Access.{Gets}
+use Rattle.machine.specs.Access.{Gets}
 use Rattle.engine.specs.Causes.{IsCausedIn, IsMet, get_refusal, unseen_in}
 use Rattle.engine.specs.Follows.{LeadsOpen}
 use Rattle.engine.specs.Held.{Held, entries_of}
 use Rattle.engine.specs.InUse.{Gathers}
 use Rattle.engine.specs.Live.{kept_at, IsBoth, IsSnapshot}
-use Rattle.engine.specs.Machine.{Machine}
+use Rattle.machine.specs.Machine.{Machine}
 use Rattle.engine.specs.Outcomes.{DbOutcome, IsSame, MayRefuseGet}
 use Rattle.engine.specs.Reads.{sequence_at, ReadsMemory}
 use Rattle.engine.specs.Stands.{IsServing}

@@ -22,21 +22,21 @@ use Rattle.version_laws.specs.Laws.{VersionLaw}
 use Rattle.table_access.specs.Tables.{Seen}
 use Rattle.table.specs.Reading.{IsStill}
 use Rattle.store.specs.Files.{Facts}
-use Rattle.engine.specs.declared.command.Answer.{Answer}
-use Rattle.engine.specs.declared.command.Answer.TheVariants.{Pair, Refused}
+use Rattle.machine.specs.declared.command.Answer.{Answer}
+use Rattle.machine.specs.declared.command.Answer.TheVariants.{Pair, Refused}
 use Rattle.engine.specs.declared.ids.Ids.{Ids}
 use Rattle.engine.specs.Causes.{IsCausedIn, IsMet, move_refusal, placeless_in}
 use Rattle.engine.specs.Follows.{LeadsOpen, pair_answer}
 use Rattle.engine.specs.Held.{Held, whole_of}
 use Rattle.engine.specs.Iterators.{IsWalk, standing, walked_of}
 use Rattle.engine.specs.Live.{kept_at, IsBoth, AreLive}
-use Rattle.engine.specs.Machine.{Machine, Walk}
+use Rattle.machine.specs.Machine.{Machine, Walk}
 use Rattle.engine.specs.Moving.{IsMoved, IsNoWalk, MovesTo}
 use Rattle.engine.specs.Outcomes.{DbOutcome, IsSame, Keeps, MayRefuseMove}
-use Rattle.engine.specs.Serving.{Becomes, Counted, ReadRefused}
+use Rattle.machine.specs.Serving.{Becomes, Counted, ReadRefused}
 use Rattle.engine.specs.Stands.{IsServing, StandsOpen}
-use Rattle.engine.specs.Views.{no_iterator}
-use Rattle.engine.specs.Walks.{Motion, place_after, pair_at, no_place, lacks_place, needs_place, walk_under, move_cause, moved, Moves}
+use Rattle.machine.specs.Views.{no_iterator}
+use Rattle.machine.specs.Walks.{Motion, place_after, pair_at, no_place, lacks_place, needs_place, walk_under, move_cause, moved, Moves}
 use Rattle.engine.proofs.Compacting.{HaveKnown, have_same, have_updated, known_itself}
 use Rattle.engine.proofs.LiveIds.{same_id, live_again, live_changed, live_replaced, both_then}
 use Rattle.engine.proofs.Reading.{read_by, stands_read}

@@ -46,8 +46,8 @@ use Rattle.engine.specs.Directory.{CanAppend, IsReadable}
 use Rattle.engine.specs.Held.{Held, entries_of, whole_of}
 use Rattle.engine.specs.Iterators.{IsWalk}
 use Rattle.engine.specs.Live.{kept_at, AreSnapshots, IsSnapshot}
-use Rattle.engine.specs.Machine as machine
-use Rattle.engine.specs.Machine.{Machine, Walk, entry_count, view_at, weight}
+use Rattle.machine.specs.Machine as machine
+use Rattle.machine.specs.Machine.{Machine, Walk, entry_count, view_at, weight}
 use Rattle.engine.specs.Stands.{HasLog, IsBroken, IsServing}
 use Rattle.engine.proofs.Compacting.{own_number}
 use Rattle.engine.proofs.Pieces.{free_up, live_each, made_still, rests_seen, walks_each}

@@ -17,10 +17,10 @@ use Rattle.db_cursor.specs.declared.scan.Scan.{Scan}
 use Rattle.store.specs.Files.{Facts}
 use Rattle.engine.specs.Causes.{IsMet}
 use Rattle.engine.specs.Iterators.{walked_of, destination}
-use Rattle.engine.specs.Machine.{Walk}
+use Rattle.machine.specs.Machine.{Walk}
 use Rattle.engine.specs.Moving.{IsMoved, IsNoWalk}
 use Rattle.engine.specs.Outcomes.{MayRefuseMove}
-use Rattle.engine.specs.Walks.{Motion, needs_place, lacks_place, place_after}
+use Rattle.machine.specs.Walks.{Motion, needs_place, lacks_place, place_after}
 use Rattle.engine.proofs.Walking.{destination_is, pair_is}
 
 abbrev Order : Type 0

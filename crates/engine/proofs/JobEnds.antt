@@ -48,10 +48,10 @@ use Rattle.engine.specs.declared.state.DbState.{DbState}
 use Rattle.engine.specs.Compacting.{IsCompacting}
 use Rattle.engine.specs.Follows.{LeadsOpen}
 use Rattle.engine.specs.Held.{Held, entries_of, held, whole_of}
-use Rattle.engine.specs.Machine.{Machine, entry_count, weight}
+use Rattle.machine.specs.Machine.{Machine, entry_count, weight}
 use Rattle.engine.specs.Needed.{EndsNeeded, TakesAll, live_sequences}
 use Rattle.engine.specs.Stands.{IsBroken, IsServing}
-use Rattle.engine.specs.Upkeep.{UpkeepRefused}
+use Rattle.machine.specs.Upkeep.{UpkeepRefused}
 use Rattle.engine.specs.Outcomes.{DbOutcome, IsSame}
 use Rattle.engine.specs.Finishing.{HasCome}
 use Rattle.engine.specs.Working.{IsPiece, MayRefusePiece, broken_by, flush_answer}

@@ -31,9 +31,9 @@ use Rattle.engine.specs.Compacting.{IsCompacting}
 use Rattle.engine.specs.Follows.{LeadsOpen}
 use Rattle.engine.specs.Held.{Held, held, whole_of}
 use Rattle.engine.specs.Live.{kept_at}
-use Rattle.engine.specs.Machine.{Machine}
+use Rattle.machine.specs.Machine.{Machine}
 use Rattle.engine.specs.Stands.{IsServing}
-use Rattle.engine.specs.Upkeep.{UpkeepRefused}
+use Rattle.machine.specs.Upkeep.{UpkeepRefused}
 use Rattle.engine.specs.Working.{IsPiece}
 use Rattle.engine.proofs.Compacting.{all_contains}
 use Rattle.engine.proofs.JobEnds.{limited_in}

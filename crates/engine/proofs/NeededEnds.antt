@@ -31,10 +31,10 @@ use Rattle.engine.specs.Finishing.{HasNoMemory, IsAllCompacted}
 use Rattle.engine.specs.Follows.{LeadsOpen}
 use Rattle.engine.specs.Held.{Held, entries_of}
 use Rattle.engine.specs.Live.{IsBoth, IsSnapshot, kept_at}
-use Rattle.engine.specs.Machine.{Machine, current}
+use Rattle.machine.specs.Machine.{Machine, current}
 use Rattle.engine.specs.Needed.{EndsNeeded, HasNeeded, LeavesNeeded, live_sequences, none_below}
 use Rattle.engine.specs.Stands.{IsBroken, IsServing, StandsOpen}
-use Rattle.engine.specs.Upkeep.{most_drawn}
+use Rattle.machine.specs.Upkeep.{most_drawn}
 use Rattle.engine.specs.Working.{IsPiece}
 use Rattle.engine.proofs.Steps.{serving_of}
 

@@ -9,17 +9,17 @@ use Rattle.edits.proofs.FileNames.{one_file}
 use Rattle.ikey.specs.Orders.{Order}
 use Rattle.table_access.specs.Tables.{Seen}
 use Rattle.store.specs.Files.{Facts}
-use Rattle.engine.specs.declared.command.Mode.{Mode}
-use Rattle.engine.specs.declared.command.Answer.TheVariants.{Done, Refused}
+use Rattle.machine.specs.declared.command.Mode.{Mode}
+use Rattle.machine.specs.declared.command.Answer.TheVariants.{Done, Refused}
 use Rattle.engine.specs.declared.ids.Ids.{Ids}
 use Rattle.engine.specs.Durable.{HasDurable, IsDurable, KeepsForeign, LeavesDurable, LeavesFile}
 use Rattle.engine.specs.Follows.{Leads, LeadsOpen}
 use Rattle.engine.specs.Held.{Held}
-use Rattle.engine.specs.Lifetime.{OpenAnswered, Opened, Opens, open_cause}
-use Rattle.engine.specs.Machine.{Machine}
-use Rattle.engine.specs.Serving.{Becomes}
+use Rattle.machine.specs.Lifetime.{OpenAnswered, Opened, Opens, open_cause}
+use Rattle.machine.specs.Machine.{Machine}
+use Rattle.machine.specs.Serving.{Becomes}
 use Rattle.engine.specs.Stands.{StandsOpen}
-use Rattle.engine.specs.Upkeep.{Draws, UpkeepRefused}
+use Rattle.machine.specs.Upkeep.{Draws, UpkeepRefused}
 use Rattle.engine.specs.Working.{IsLiveIn, IsPiece, LosesDead}
 use Rattle.engine.proofs.Steps.{serving_of}
 

@@ -32,7 +32,7 @@ use Rattle.engine.specs.Directory.{IsWithinLimits, Means, MeansAccepted}
 use Rattle.engine.specs.Held.{Held, entries_of}
 use Rattle.engine.specs.Iterators.{IsWalk}
 use Rattle.engine.specs.Live.{kept_at, IsBoth, AreLive, AreSnapshots, AreWalks, IsSnapshot}
-use Rattle.engine.specs.Machine.{Machine, Walk, after_batch, current, entry_count, operation_weight, view_at, weight}
+use Rattle.machine.specs.Machine.{Machine, Walk, after_batch, current, entry_count, operation_weight, view_at, weight}
 use Rattle.engine.specs.Stands.{IsServing}
 use Rattle.engine.proofs.Reading.{walk_kept}
 use Rattle.engine.proofs.Reopening.{TablesStay, long_back}

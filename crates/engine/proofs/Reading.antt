@@ -43,7 +43,7 @@ use Rattle.engine.specs.Held.{Held, whole_of}
 use Rattle.engine.specs.Iterators.{IsWalk, walked_of}
 use Rattle.engine.specs.Compacting.{IsCompacting}
 use Rattle.engine.specs.Live.{kept_at, AreLive, AreWalks, IsBoth}
-use Rattle.engine.specs.Machine.{Machine, Walk}
+use Rattle.machine.specs.Machine.{Machine, Walk}
 use Rattle.engine.specs.Stands.{HasLog, HasTables, IsBroken, IsServing, StandsOpen}
 use Rattle.engine.proofs.Compacting.{each_job, goes_beside, have_itself, known_itself, version_number, version_unowned}
 use Rattle.engine.proofs.LiveIds.{live_then}

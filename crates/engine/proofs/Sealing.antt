@@ -39,7 +39,7 @@ use Rattle.engine.specs.Directory.{CanAppend, IsReadable}
 use Rattle.engine.specs.Held.{Held, entries_of, whole_of}
 use Rattle.engine.specs.Iterators.{IsWalk}
 use Rattle.engine.specs.Live.{kept_at}
-use Rattle.engine.specs.Machine.{Machine, Walk}
+use Rattle.machine.specs.Machine.{Machine, Walk}
 use Rattle.engine.specs.Stands.{HasLog, IsBroken, IsServing}
 use Rattle.engine.proofs.Compacting.{each_job, goes_beside, have_itself, known_itself, version_unowned}
 use Rattle.engine.proofs.Pieces.{free_up, made_still, rests_as, same_by, walks_each}

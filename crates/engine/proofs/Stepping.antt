@@ -30,7 +30,7 @@ use Rattle.engine.specs.Directory.{CanAppend}
 use Rattle.engine.specs.Held.{Held, whole_of}
 use Rattle.engine.specs.Iterators.{IsWalk}
 use Rattle.engine.specs.Live.{kept_at}
-use Rattle.engine.specs.Machine.{Machine, Walk}
+use Rattle.machine.specs.Machine.{Machine, Walk}
 use Rattle.engine.specs.Stands.{HasLog, IsServing}
 use Rattle.engine.proofs.Compacting.{is_input_number, listed_number, unowned}
 use Rattle.engine.proofs.Pieces.{free_up, limits_stay, made_still, walks_each}

@@ -16,7 +16,7 @@ use Rattle.recover.specs.Tables.{TableContent, tabled}
 use Rattle.recover.proofs.Memberships.{up_to_greatest}
 use Rattle.engine.specs.Directory.{IsDirectoryOf, CanAppend}
 use Rattle.engine.specs.Live.{AreSnapshots}
-use Rattle.engine.specs.Machine.{Machine, after_batch}
+use Rattle.machine.specs.Machine.{Machine, after_batch}
 use Rattle.engine.proofs.EntryViews.{view_batch, entry_sequence}
 use Rattle.engine.proofs.LiveIds.{snapshots_written}
 

@@ -5,7 +5,7 @@ use Rattle.coding.specs.declared.error.DbError.TheVariants as error
 use Rattle.store.specs.Files.{Facts, Files, MayLock}
 use Rattle.ikey.specs.Orders.{Order}
 use Rattle.edits.specs.declared.names.FileName.TheVariants.{Current, Manifest}
-use Rattle.engine.specs.declared.command.Mode.{Mode}
+use Rattle.machine.specs.declared.command.Mode.{Mode}
 use Rattle.engine.specs.declared.finding.Found.{Found}
 use Rattle.recover.specs.Laws.{FreeChangeLaw}
 use Rattle.engine.specs.Calls.{RefusesLock}

@@ -13,10 +13,10 @@ use Rattle.cursor.specs.declared.standing.Position.{Position}
 use Rattle.cursor.specs.Places.{Listed, within, index_before, index_behind, is_less}
 use Rattle.cursor.specs.Views.{Walked, keys_before}
 use Rattle.cursor.specs.Walks.{IsPlacedWalk}
-use Rattle.engine.specs.Machine.{Walk}
+use Rattle.machine.specs.Machine.{Walk}
 use Rattle.engine.specs.Iterators.{walked_of, destination}
 use Rattle.db_cursor.specs.Pairs.{listed_pair, tuple_of, pair_on}
-use Rattle.engine.specs.Walks.{Motion, ToFirst, ToLast, ToKey, ToNext, ToPrev, place_at, place_before, place_after, pair_at, count_below}
+use Rattle.machine.specs.Walks.{Motion, ToFirst, ToLast, ToKey, ToNext, ToPrev, place_at, place_before, place_after, pair_at, count_below}
 
 abbrev Order : Type 0
 Order = List ℕ → List ℕ → Ordering

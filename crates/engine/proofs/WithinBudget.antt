@@ -18,7 +18,7 @@ use Rattle.versions.specs.Keeping.{HasNumber}
 use Rattle.engine.specs.declared.ids.Ids.{Ids}
 use Rattle.engine.specs.Follows.{LeadsOpen}
 use Rattle.engine.specs.Held.{Held, whole_of}
-use Rattle.engine.specs.Machine.{Machine}
+use Rattle.machine.specs.Machine.{Machine}
 use Rattle.engine.specs.OptionValues.{OptionValues}
 use Rattle.engine.specs.Stands.{StandsOpen}
 use Rattle.engine.specs.WithinBudget.{HasLeftUpTo, StepsUpTo}

@@ -22,10 +22,10 @@ use Rattle.engine.specs.declared.work.Progress.TheVariants as progress
 use Rattle.engine.specs.Causes.{IsCausedIn, IsMet, broken_in}
 use Rattle.engine.specs.Follows.{LeadsOpen}
 use Rattle.engine.specs.Held.{Held}
-use Rattle.engine.specs.Machine.{Machine}
-use Rattle.engine.specs.Serving.{not_serving}
+use Rattle.machine.specs.Machine.{Machine}
+use Rattle.machine.specs.Serving.{not_serving}
 use Rattle.engine.specs.Stands.{StandsClosed}
-use Rattle.engine.specs.Upkeep.{UpkeepRefused, Works}
+use Rattle.machine.specs.Upkeep.{UpkeepRefused, Works}
 use Rattle.engine.specs.OptionValues.{OptionValues}
 use Rattle.engine.specs.Working.{DoesWork, GoesOn, IsAtEase, IsFurther, IsPiece, IsSameMemory, MayRefusePiece, refused_as, work_answer}
 use Rattle.engine.proofs.Steps.{broken_cause, broken_of, by_cause, closed_cause, no_cause, serving_of}

@@ -26,9 +26,9 @@ use Rattle.engine.specs.declared.ids.Ids.{Ids}
 use Rattle.engine.specs.declared.state.DbState.{DbState}
 use Rattle.engine.specs.Follows.{LeadsOpen}
 use Rattle.engine.specs.Held.{Held, held}
-use Rattle.engine.specs.Machine.{Machine}
+use Rattle.machine.specs.Machine.{Machine}
 use Rattle.engine.specs.Stands.{IsServing}
-use Rattle.engine.specs.Upkeep.{UpkeepRefused}
+use Rattle.machine.specs.Upkeep.{UpkeepRefused}
 use Rattle.engine.specs.Working.{ClosesTables, IsPiece, IsSameMemory, broken_by, numbers_of}
 use Rattle.engine.specs.InUse.{IsMemoryUsed, IsTableUsed}
 use Rattle.engine.proofs.Cleaning.{DropsKept, sealed_same, serving_cleaned}

@@ -10,10 +10,10 @@ use Rattle.engine.specs.declared.work.Progress.{Progress}
 use Rattle.engine.specs.declared.work.Progress.TheVariants as progress
 use Rattle.engine.specs.Follows.{LeadsOpen}
 use Rattle.engine.specs.Held.{Held}
-use Rattle.engine.specs.Machine.{Machine, weight}
-use Rattle.engine.specs.Serving.{not_serving}
+use Rattle.machine.specs.Machine.{Machine, weight}
+use Rattle.machine.specs.Serving.{not_serving}
 use Rattle.engine.specs.Stands.{HasCounts, IsBroken, IsServing}
-use Rattle.engine.specs.Upkeep.{Draws, UpkeepRefused, WorkDone, Works}
+use Rattle.machine.specs.Upkeep.{Draws, UpkeepRefused, WorkDone, Works}
 use Rattle.engine.specs.Working.{IsPiece, work_answer}
 use Rattle.engine.proofs.Steps.{serving_of, denies_none, without_cause}
 

@@ -7,16 +7,16 @@ use Rattle.coding.specs.declared.error.DbError.{DbError}
 use Rattle.cursor.specs.Places.{Cmp}
 use Rattle.store.specs.Files.{Facts}
 use Rattle.ikey.specs.Orders.{Order}
-use Rattle.engine.specs.declared.command.Op.{Op}
-use Rattle.engine.specs.declared.command.Op.TheVariants.{Get, Work, CompactLevel, CompactAll, Close}
-use Rattle.engine.specs.declared.command.Answer.{Answer}
-use Rattle.engine.specs.declared.command.Answer.TheVariants.{Done, Value, Worked}
-use Rattle.engine.specs.declared.command.Answer.TheVariants as answer
+use Rattle.machine.specs.declared.command.Op.{Op}
+use Rattle.machine.specs.declared.command.Op.TheVariants.{Get, Work, CompactLevel, CompactAll, Close}
+use Rattle.machine.specs.declared.command.Answer.{Answer}
+use Rattle.machine.specs.declared.command.Answer.TheVariants.{Done, Value, Worked}
+use Rattle.machine.specs.declared.command.Answer.TheVariants as answer
 use Rattle.memtable.specs.Contents.{size_of}
 use Rattle.engine.specs.declared.ids.Ids.{Ids}
 use Rattle.engine.specs.ExactFiles.{LeavesExactlyLive}
 use Rattle.engine.specs.Held.{Held}
-use Rattle.engine.specs.Machine.{Machine}
+use Rattle.machine.specs.Machine.{Machine}
 use Rattle.engine.specs.Needed.{HasOnlyNeeded}
 use Rattle.engine.specs.Stands.{Stands, store_of, held_in, options_of}
 use Rattle.engine.specs.StandsDb.{db_store_of, held_by, seen_by}
@@ -29,7 +29,7 @@ use Rattle.engine.specs.Working.{WantsCompaction, DoesWork, HasLiveOnly, LosesDe
 use Rattle.engine.specs.declared.session.Session.{Session}
 use Rattle.engine.specs.declared.db.Db.{Db}
 use Rattle.engine.specs.Reads.{sequence_at, ReadsMemory}
-use Rattle.engine.specs.Step.{Step}
+use Rattle.machine.specs.Step.{Step}
 use Rattle.engine.specs.Follows.{Follows}
 use Rattle.engine.specs.Outcomes.{IsAnswerTo, Outcome, Succeeds, keeps_of}
 use Rattle.engine.specs.Causes.{IsCaused, IsCausedIn, where_open, write_refusal, cause_of}

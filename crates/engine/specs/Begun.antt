@@ -12,7 +12,7 @@ use Rattle.memtables.specs.Memories.{Memories, logged_in, sealed_inserts}
 use Rattle.recover.specs.Numbers.{IsFree}
 use Rattle.recover.specs.Tables.{TableContent}
 use Rattle.versions.specs.Levels.{Lists, AreInOrder}
-use Rattle.engine.specs.declared.command.Mode.{Mode}
+use Rattle.machine.specs.declared.command.Mode.{Mode}
 use Rattle.engine.specs.declared.opening.Begun.{Begun}
 use Rattle.engine.specs.Directory.{IsDirectoryOf, CanAppend}
 use Rattle.engine.specs.Knowing.{HasLogs, KnowsDirectory}

@@ -6,17 +6,17 @@ use Rattle.batch.specs.Batch.{first_refusal}
 use Rattle.batch.specs.declared.operation.Operation.{Operation}
 use Rattle.coding.specs.declared.error.DbError.{DbError}
 use Rattle.coding.specs.declared.error.DbError.TheVariants as error
-use Rattle.engine.specs.declared.command.Op.{Op}
-use Rattle.engine.specs.declared.command.Op.TheVariants as op
-use Rattle.engine.specs.declared.command.Op.TheVariants.{Open, Write, Get, Release, Iterate, First, Last, Seek, Next, Prev, DropIterator, Work, CompactLevel, CompactAll, Close}
-use Rattle.engine.specs.declared.command.Answer.{Answer}
-use Rattle.engine.specs.declared.command.Answer.TheVariants.{Refused}
+use Rattle.machine.specs.declared.command.Op.{Op}
+use Rattle.machine.specs.declared.command.Op.TheVariants as op
+use Rattle.machine.specs.declared.command.Op.TheVariants.{Open, Write, Get, Release, Iterate, First, Last, Seek, Next, Prev, DropIterator, Work, CompactLevel, CompactAll, Close}
+use Rattle.machine.specs.declared.command.Answer.{Answer}
+use Rattle.machine.specs.declared.command.Answer.TheVariants.{Refused}
 use Rattle.engine.specs.declared.ids.Ids.{Ids}
 use Rattle.engine.specs.Held.{Held}
 use Rattle.engine.specs.Live.{kept_at}
 use Rattle.engine.specs.Reads.{sequence_at}
-use Rattle.engine.specs.Views.{spent}
-use Rattle.engine.specs.Walks.{Motion, ToFirst, ToLast, ToKey, ToNext, ToPrev, lacks_place}
+use Rattle.machine.specs.Views.{spent}
+use Rattle.machine.specs.Walks.{Motion, ToFirst, ToLast, ToKey, ToNext, ToPrev, lacks_place}
 
 -- ---- in an open database
 

@@ -18,7 +18,7 @@ use Rattle.engine.specs.declared.work.Progress.TheVariants as progress
 use Rattle.engine.specs.Held.{Held}
 use Rattle.engine.specs.InUse.{IsTableRead}
 use Rattle.engine.specs.Live.{kept_at}
-use Rattle.engine.specs.Machine.{Machine}
+use Rattle.machine.specs.Machine.{Machine}
 use Rattle.engine.specs.Stands.{StandsOpen}
 
 -- the file is `CURRENT`, the lock, the MANIFEST, the log that writes go to, or a table of the version or of that of an open iterator

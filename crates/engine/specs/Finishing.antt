@@ -6,7 +6,7 @@ use Rattle.running_job.specs.Running.{shown}
 use Rattle.store.specs.Files.{Facts}
 use Rattle.versions.specs.Levels.{tables_at}
 use Rattle.engine.specs.Held.{Held}
-use Rattle.engine.specs.Machine.{Machine, entry_count}
+use Rattle.machine.specs.Machine.{Machine, entry_count}
 use Rattle.engine.specs.Outcomes.{KeepsViews}
 use Rattle.engine.specs.Working.{IsPiece}
 

@@ -3,15 +3,16 @@ use Rattle.std.specs.Prelude.{◌≡◌, ◌≤◌, ℕ, Bool, false, Option, So
 use Rattle.std.specs.declared.cmp.Ordering.{Ordering}
 use Rattle.ikey.specs.Views.{Contents as View}
 use Rattle.cursor.specs.Views.{Walked, walk_first, walk_last, walk_to, walk_next, walk_prev}
-use Rattle.db_cursor.specs.Pairs.{ArePairs, listed_pair}
+use Rattle.db_cursor.specs.Pairs.{listed_pair}
+use Rattle.machine.specs.Views.{AreSortedPairs}
 use Rattle.cache.specs.Tables.{table_at}
 use Rattle.edits.specs.Names.{IsNumbered}
 use Rattle.level_cursor.specs.InRows.{HasNumber}
 use Rattle.db_cursor.specs.Scans.{IsOnePastLimit, IsScan, reads_table, tables_of}
 use Rattle.db_cursor.specs.Whole.{Whole}
 use Rattle.db_cursor.specs.declared.scan.Scan.{Scan}
-use Rattle.engine.specs.Machine.{Walk}
-use Rattle.engine.specs.Walks.{Motion, ToFirst, ToLast, ToKey, ToNext, ToPrev}
+use Rattle.machine.specs.Machine.{Walk}
+use Rattle.machine.specs.Walks.{Motion, ToFirst, ToLast, ToKey, ToNext, ToPrev}
 
 -- what it answers from: its sequence, and the key on which it stands
 abbrev pub standing : {K : Type 0} {g : _} → Scan K g → ℕ × Option (List ℕ)
@@ -39,4 +40,4 @@ destination cmp ToPrev at = walk_prev at
 -- A new iterator goes over the pairs of the map, in the order of their keys, and has no place.
 abbrev pub BeginsWalk : {K : Type 0} {g : _} → (List ℕ → List ℕ → Ordering) → Bool → View → Whole → Scan K g → Type 0
 BeginsWalk cmp limited map whole iterator =
-    (pairs : List (List ℕ × List ℕ)) × ArePairs cmp map pairs × IsWalk cmp limited whole iterator (record { pairs = pairs; place = None })
+    (pairs : List (List ℕ × List ℕ)) × AreSortedPairs cmp map pairs × IsWalk cmp limited whole iterator (record { pairs = pairs; place = None })

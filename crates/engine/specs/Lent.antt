@@ -10,7 +10,7 @@ use Rattle.engine.specs.declared.state.DbState.{DbState}
 use Rattle.engine.specs.Finishing.{ServesOn, CompactOutcome}
 use Rattle.engine.specs.Follows.{LeadsOpen}
 use Rattle.engine.specs.Held.{held}
-use Rattle.engine.specs.Machine.{Machine}
+use Rattle.machine.specs.Machine.{Machine}
 use Rattle.engine.specs.Outcomes.{DbOutcome}
 
 -- from whatever it stands for, to what these moves make of that

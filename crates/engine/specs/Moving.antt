@@ -11,9 +11,9 @@ use Rattle.table_access.specs.Tables.{Carries}
 use Rattle.table.specs.Reading.{IsStill, Reads}
 use Rattle.engine.specs.Causes.{IsMet}
 use Rattle.engine.specs.Iterators.{IsWalk, standing}
-use Rattle.engine.specs.Machine.{Walk}
+use Rattle.machine.specs.Machine.{Walk}
 use Rattle.engine.specs.Outcomes.{MayRefuseMove}
-use Rattle.engine.specs.Walks.{Motion, lacks_place, place_after, pair_at}
+use Rattle.machine.specs.Walks.{Motion, lacks_place, place_after, pair_at}
 
 -- Where a move has led an iterator that was this walk: to the place of the motion, with the pair there, or, refused, to where
 -- it stood.

@@ -11,7 +11,7 @@ use Rattle.table_access.specs.Tables.{Seen}
 use Rattle.store.specs.Files.{Files}
 use Rattle.engine.specs.declared.ids.Ids.{Ids}
 use Rattle.engine.specs.Held.{Held}
-use Rattle.engine.specs.Machine.{Machine, current}
+use Rattle.machine.specs.Machine.{Machine, current}
 use Rattle.engine.specs.Stands.{StandsOpen}
 
 -- the sequences that are read at: the last one used, and those of the live snapshots

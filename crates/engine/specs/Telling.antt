@@ -10,9 +10,9 @@ use Rattle.edits.specs.declared.names.FileName.TheVariants.{Current}
 use Rattle.recover.specs.Directory.{Directory, IsConsistent, IsEmpty}
 use Rattle.recover.specs.Reading.{Recovers, IsBeyondReading}
 use Rattle.recover.specs.declared.reading.Recovered.{Recovered}
-use Rattle.engine.specs.declared.command.Op.{Op}
-use Rattle.engine.specs.declared.command.Op.TheVariants.{Open}
-use Rattle.engine.specs.declared.command.Answer.{Answer}
+use Rattle.machine.specs.declared.command.Op.{Op}
+use Rattle.machine.specs.declared.command.Op.TheVariants.{Open}
+use Rattle.machine.specs.declared.command.Answer.{Answer}
 use Rattle.engine.specs.Held.{Held}
 use Rattle.engine.specs.Touching.{unit_result}
 

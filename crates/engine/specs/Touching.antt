@@ -3,10 +3,10 @@ use Rattle.std.specs.Prelude.{◌≡◌, ◌≢◌, ◌⊎◌, ◌<◌, ℕ, Boo
 use Rattle.batch.specs.declared.operation.Operation.{Operation}
 use Rattle.coding.specs.declared.error.DbError.{DbError}
 use Rattle.store.specs.Files.{Facts}
-use Rattle.engine.specs.declared.command.Op.{Op}
-use Rattle.engine.specs.declared.command.Op.TheVariants.{Open, Write, Work, CompactLevel, CompactAll, Close}
-use Rattle.engine.specs.declared.command.Answer.{Answer}
-use Rattle.engine.specs.declared.command.Answer.TheVariants.{Refused}
+use Rattle.machine.specs.declared.command.Op.{Op}
+use Rattle.machine.specs.declared.command.Op.TheVariants.{Open, Write, Work, CompactLevel, CompactAll, Close}
+use Rattle.machine.specs.declared.command.Answer.{Answer}
+use Rattle.machine.specs.declared.command.Answer.TheVariants.{Refused}
 use Rattle.engine.specs.Held.{Held}
 use Rattle.engine.specs.Durable.{SyncsOnly, IsSynced, KeepsForeign, LeavesDurable}
 

@@ -27,13 +27,13 @@ use Rattle.running_job.specs.Running.{shown}
 use Rattle.running_job.specs.declared.open_job.OpenJob.{OpenJob}
 use Rattle.directory_writes.specs.declared.flush.FlushError.{FlushError}
 use Rattle.directory_writes.specs.declared.flush.FlushError.TheVariants.{Before, Edit}
-use Rattle.engine.specs.declared.command.Answer.{Answer}
-use Rattle.engine.specs.declared.command.Answer.TheVariants.{Worked, Idle, Refused}
+use Rattle.machine.specs.declared.command.Answer.{Answer}
+use Rattle.machine.specs.declared.command.Answer.TheVariants.{Worked, Idle, Refused}
 use Rattle.engine.specs.declared.state.DbState.{DbState}
 use Rattle.engine.specs.declared.work.Progress.{Progress}
 use Rattle.engine.specs.declared.work.Progress.TheVariants as progress
-use Rattle.engine.specs.Machine.{Machine}
-use Rattle.engine.specs.Upkeep.{Draws, UpkeepRefused}
+use Rattle.machine.specs.Machine.{Machine}
+use Rattle.machine.specs.Upkeep.{Draws, UpkeepRefused}
 
 -- It draws so many numbers at most, and changes nothing else, or is refused.
 pub record IsPiece {T : Type 0} (old : Machine) (most : ℕ) (result : Result T DbError) (new : Machine) : Type 0 where

@@ -24,7 +24,7 @@ impl<K: KeyOrder> DbState<K> {
     ghost use Rattle.engine.specs.Lent.{LeadsLent, ServesLent, CompactLent};
     ghost use Rattle.engine.specs.Held.{held};
     ghost use Rattle.db_cursor.specs.Whole.{seen_of};
-    ghost use Rattle.engine.specs.Upkeep.{CompactsAll, CompactsLevel, most_drawn};
+    ghost use Rattle.machine.specs.Upkeep.{CompactsAll, CompactsLevel, most_drawn};
     ghost use Rattle.engine.specs.Working.{IsPiece, MayRefusePiece};
     ghost use Rattle.memtables.specs.Places.{LeavesMemories};
     ghost use Rattle.directory_writes.specs.Install.{Replaces};

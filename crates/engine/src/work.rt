@@ -38,7 +38,7 @@ impl<K: KeyOrder> DbState<K> {
     ghost use Rattle.engine.specs.Held.{held};
     ghost use Rattle.db_cursor.specs.Whole.{seen_of};
     ghost use Rattle.engine.specs.Outcomes.{IsSame, MayRefuseWork};
-    ghost use Rattle.engine.specs.Upkeep.{Works};
+    ghost use Rattle.machine.specs.Upkeep.{Works};
     ghost use Rattle.engine.specs.WithinBudget.{EndsWithin};
     ghost use Rattle.engine.specs.Working.{DoesWork, HasLiveOnly, IsPiece, IsSameMemory, LosesDead, MayRefusePiece};
     ghost use Rattle.engine.specs.Working.{SealsMemory, WritesTable, broken_by, flush_answer, work_answer};

@@ -13,7 +13,7 @@ use Rattle.coding.specs.declared.error.DbError.TheVariants as refused
 use Rattle.hex.specs.Hex.{encode_lower, lower_digits}
 use Rattle.hex.proofs.HexLemmas.{IsAscii-encode_with}
 use Rattle.script.specs.Words.{text_of_bytes}
-use Rattle.engine.specs.declared.command.Answer.TheVariants as answer
+use Rattle.machine.specs.declared.command.Answer.TheVariants as answer
 use Rattle.script.specs.Script.{line_of, refusal_of}
 
 -- a test that computes at a literal

@@ -3,10 +3,10 @@ use Rattle.std.proofs.Common.{◌≡◌, ℕ, ◌+◌, ◌*◌, ◌≤◌, List,
 use Rattle.std.proofs.Math.Dec.{eqb}
 use Rattle.std.specs.Prelude.{Option, Some, None}
 use Rattle.batch.specs.declared.operation.Operation.{Operation}
-use Rattle.engine.specs.declared.command.Mode.{Mode}
-use Rattle.engine.specs.declared.command.Mode.TheVariants.{Existing, New, Any}
-use Rattle.engine.specs.declared.command.Op.{Op}
-use Rattle.engine.specs.declared.command.Op.TheVariants as op
+use Rattle.machine.specs.declared.command.Mode.{Mode}
+use Rattle.machine.specs.declared.command.Mode.TheVariants.{Existing, New, Any}
+use Rattle.machine.specs.declared.command.Op.{Op}
+use Rattle.machine.specs.declared.command.Op.TheVariants as op
 use Rattle.std.specs.Str.Parse.{AllDigits}
 use Rattle.std.proofs.lemmas.Fmt.{digits_decimal}
 use Rattle.std.proofs.lemmas.Str.Parse.{numerals_by_value, tells_digits, digit_at}

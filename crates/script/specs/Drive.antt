@@ -5,12 +5,12 @@ use Rattle.std.specs.Io.KnownBytes.{Appends}
 use Rattle.coding.specs.declared.error.DbError.TheVariants.{BadLine}
 use Rattle.store.specs.Files.{Facts}
 use Rattle.ikey.specs.Orders.{Order}
-use Rattle.engine.specs.declared.command.Op.{Op}
-use Rattle.engine.specs.declared.command.Op.TheVariants.{Close}
-use Rattle.engine.specs.declared.command.Answer.{Answer}
-use Rattle.engine.specs.declared.command.Answer.TheVariants.{Refused}
+use Rattle.machine.specs.declared.command.Op.{Op}
+use Rattle.machine.specs.declared.command.Op.TheVariants.{Close}
+use Rattle.machine.specs.declared.command.Answer.{Answer}
+use Rattle.machine.specs.declared.command.Answer.TheVariants.{Refused}
 use Rattle.engine.specs.declared.session.Session.{Session}
-use Rattle.engine.specs.Step.{Run}
+use Rattle.machine.specs.Step.{Run}
 use Rattle.engine.specs.Follows.{Follows}
 use Rattle.engine.specs.Outcomes.{AreAnswersTo}
 use Rattle.engine.specs.Applied.{Applied, AllApplied}

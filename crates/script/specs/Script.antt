@@ -5,12 +5,12 @@ use Rattle.batch.specs.declared.operation.Operation.{Operation}
 use Rattle.batch.specs.declared.operation.Operation.TheVariants.{Put, Delete}
 use Rattle.coding.specs.Errors as error
 use Rattle.coding.specs.declared.error.DbError.{DbError}
-use Rattle.engine.specs.declared.command.Mode.{Mode}
-use Rattle.engine.specs.declared.command.Mode.TheVariants.{Existing, New, Any}
-use Rattle.engine.specs.declared.command.Op.{Op}
-use Rattle.engine.specs.declared.command.Op.TheVariants as op
-use Rattle.engine.specs.declared.command.Answer.{Answer}
-use Rattle.engine.specs.declared.command.Answer.TheVariants as answer
+use Rattle.machine.specs.declared.command.Mode.{Mode}
+use Rattle.machine.specs.declared.command.Mode.TheVariants.{Existing, New, Any}
+use Rattle.machine.specs.declared.command.Op.{Op}
+use Rattle.machine.specs.declared.command.Op.TheVariants as op
+use Rattle.machine.specs.declared.command.Answer.{Answer}
+use Rattle.machine.specs.declared.command.Answer.TheVariants as answer
 use Rattle.script.specs.declared.verb.Verb.{Verb}
 use Rattle.script.specs.declared.verb.Verb.TheVariants as verb
 use Rattle.script.specs.Verbs.{name_of}

@@ -3,7 +3,7 @@
 ghost use Rattle.std.specs.Prelude.{◌≡◌, ◌++◌, ◌∷◌, IfOk, OnOk, OnErr, IsAscii, Some, string_bytes};
 ghost use Rattle.std.specs.Fmt.{decimal};
 ghost use Rattle.std.specs.Io.{StartsWith};
-ghost use Rattle.engine.specs.declared.command.Answer.TheVariants as answer;
+ghost use Rattle.machine.specs.declared.command.Answer.TheVariants as answer;
 ghost use Rattle.hex.specs.Hex.{encode_lower};
 ghost use Rattle.script.specs.Words.{text_of_bytes};
 ghost use Rattle.script.specs.Script.{line_of, refusal_of};

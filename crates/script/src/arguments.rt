@@ -1,8 +1,8 @@
 //! What stands behind the first word of most lines: ids, numbers, keys.
 
 ghost use Rattle.std.specs.Prelude.{◌≡◌, [], ◌∷◌, IfOk};
-ghost use Rattle.engine.specs.declared.command.Mode.{Mode as ModeValue};
-ghost use Rattle.engine.specs.declared.command.Op.{Op as OpValue};
+ghost use Rattle.machine.specs.declared.command.Mode.{Mode as ModeValue};
+ghost use Rattle.machine.specs.declared.command.Op.{Op as OpValue};
 ghost use Rattle.script.specs.declared.verb.Verb.TheVariants as verb;
 ghost use Rattle.script.specs.Words.{texts_of, Reads};
 ghost use Rattle.script.specs.Script.{Spells, IsCompaction, IsNumberAlone, AreSnapshot, mode_words};

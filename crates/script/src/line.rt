@@ -1,7 +1,7 @@
 //! Lines and the commands that they say.
 
 ghost use Rattle.std.specs.Prelude.{IfOk, ℕ, List};
-ghost use Rattle.engine.specs.declared.command.Op.{Op as OpValue};
+ghost use Rattle.machine.specs.declared.command.Op.{Op as OpValue};
 ghost use Rattle.script.specs.Words.{texts_of, Reads};
 ghost use Rattle.script.specs.Script.{AreCommand, Spells, Says, IsSame};
 

@@ -2,7 +2,7 @@ use Rattle.std.proofs.Common.{◌≡◌, ◌∙◌, ℕ, List, Option, Result, E
 use Rattle.coding.specs.declared.error.DbError.{DbError}
 use Rattle.db_cursor.specs.Whole.{whole_in}
 use Rattle.engine.specs.Moving.{IsMoved}
-use Rattle.engine.specs.Walks.{motion_of}
+use Rattle.engine.specs.Motions.{motion_of}
 use Rattle.engine.proofs.Iterations.{has_place, moved_err, moved_ok, taken_back}
 use Rattle.engine.proofs.view_iterator.move_iterator.Goals.{then-needs_place+else-not-stood, else-needs_place}
 use Rattle.engine.proofs.view_iterator.move_iterator.Goals as goal

@@ -1,8 +1,8 @@
 use Rattle.std.proofs.Common.{sym, subst}
-use Rattle.engine.specs.declared.command.Movement.{Movement}
+use Rattle.engine.specs.declared.movement.Movement.{Movement}
 use Rattle.db_cursor.specs.Whole.{whole_in}
 use Rattle.engine.specs.Iterators.{destination}
-use Rattle.engine.specs.Walks.{motion_of}
+use Rattle.engine.specs.Motions.{motion_of}
 use Rattle.db_cursor.specs.Scanning.{IsScanned}
 use Rattle.engine.proofs.view_iterator.move_scan.Goals as goal
 

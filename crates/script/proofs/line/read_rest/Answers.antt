@@ -1,5 +1,5 @@
 use Rattle.script.specs.Words.{texts_of}
-use Rattle.engine.specs.declared.command.Op.TheVariants as op
+use Rattle.machine.specs.declared.command.Op.TheVariants as op
 use Rattle.script.proofs.Made.{made_of_number, made_of_snapshot}
 use Rattle.script.proofs.line.read_rest.Goals as goal
 

@@ -8,7 +8,7 @@ use Rattle.engine.specs.Held.{held}
 use Rattle.db_cursor.specs.Whole.{seen_of}
 use Rattle.engine.specs.Needed.{LeavesNeeded}
 use Rattle.engine.specs.Stands.{StandsOver}
-use Rattle.engine.specs.Upkeep.{CompactsAll}
+use Rattle.machine.specs.Upkeep.{CompactsAll}
 use Rattle.engine.proofs.Emptied.{all_closed}
 use Rattle.engine.proofs.Steps.{stays}
 use Rattle.engine.proofs.WriteSteps.{lifts}

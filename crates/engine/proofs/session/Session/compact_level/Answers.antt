@@ -7,7 +7,7 @@ use Rattle.engine.specs.Follows.{LeadsOpen, unit_answer}
 use Rattle.engine.specs.Held.{held}
 use Rattle.db_cursor.specs.Whole.{seen_of}
 use Rattle.engine.specs.Stands.{StandsOver}
-use Rattle.engine.specs.Upkeep.{CompactsLevel}
+use Rattle.machine.specs.Upkeep.{CompactsLevel}
 use Rattle.engine.proofs.Emptied.{level_closed}
 use Rattle.engine.proofs.Steps.{stays}
 use Rattle.engine.proofs.WriteSteps.{lifts}

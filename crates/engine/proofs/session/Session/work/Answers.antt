@@ -8,7 +8,7 @@ use Rattle.engine.specs.Follows.{LeadsOpen}
 use Rattle.engine.specs.Held.{held}
 use Rattle.db_cursor.specs.Whole.{seen_of}
 use Rattle.engine.specs.Stands.{StandsOver}
-use Rattle.engine.specs.Upkeep.{Works}
+use Rattle.machine.specs.Upkeep.{Works}
 use Rattle.engine.specs.Working.{work_answer}
 use Rattle.engine.proofs.Steps.{stays}
 use Rattle.engine.proofs.WorkAnswers.{works_closed}

@@ -9,7 +9,7 @@ use Rattle.engine.specs.Finishing.{CompactOutcome, beyond}
 use Rattle.engine.specs.Follows.{LeadsOpen}
 use Rattle.engine.specs.Held.{held}
 use Rattle.db_cursor.specs.Whole.{seen_of}
-use Rattle.engine.specs.Upkeep.{most_drawn}
+use Rattle.machine.specs.Upkeep.{most_drawn}
 use Rattle.engine.specs.Working.{IsPiece, MayRefusePiece}
 use Rattle.engine.proofs.Emptied.{beyond_most, level_emptied, on_ok}
 use Rattle.engine.proofs.Finishing.{outcome_all, outcome_done, outcome_then, stays_full, then_bound, within_bound}

@@ -13,7 +13,7 @@ use Rattle.db_cursor.proofs.ScanSteps.{scan_kept}
 use Rattle.table_access.specs.Tables.{seen}
 use Rattle.versions.specs.Keeping.{HasNumber}
 use Rattle.versions.specs.Levels.{Placement}
-use Rattle.engine.specs.Access.{Gets}
+use Rattle.machine.specs.Access.{Gets}
 use Rattle.engine.specs.Applied.{IsReadBy}
 use Rattle.engine.specs.Follows.{LeadsOpen, value_answer}
 use Rattle.engine.specs.Held.{held}

@@ -6,7 +6,7 @@ use Rattle.engine.specs.Follows.{LeadsOpen}
 use Rattle.engine.specs.Held.{held}
 use Rattle.db_cursor.specs.Whole.{seen_of}
 use Rattle.engine.specs.Stands.{no_ids}
-use Rattle.engine.specs.Upkeep.{Works}
+use Rattle.machine.specs.Upkeep.{Works}
 use Rattle.engine.specs.Working.{refused_as, work_answer}
 use Rattle.engine.proofs.ExactFiles.{leaves_exactly}
 use Rattle.engine.proofs.WorkAnswers.{caused_met, does_on, failures_rose, then_piece, then_refused, works, works_broken}
