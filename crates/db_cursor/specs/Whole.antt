@@ -3,7 +3,7 @@ use Rattle.cache.specs.Blocks.{BlockCache}
 use Rattle.cache.specs.Tables.{TableCache}
 use Rattle.store.specs.Files.{Facts}
 use Rattle.db_cursor.specs.declared.source.Sources.{Sources}
-use Rattle.table_access.specs.Tables.{Seen, seen, seen_in}
+use Rattle.table_access.specs.Tables.{Seen, seen, seen_through}
 use Rattle.memtables.specs.Memories.{Memories}
 
 -- its store, with what is kept of its tables, and its memory tables
@@ -16,7 +16,7 @@ whole facts tables blocks memory = record { seen = seen facts tables blocks; mem
 
 -- what is known of the store of these sources, and kept of its tables
 abbrev pub seen_of : {S K : Type 0} → (S → Facts) → Sources K S → Seen
-seen_of facts source = seen_in facts source.tables
+seen_of facts source = seen_through facts source.tables
 
 -- what reads of these sources go over
 abbrev pub whole_in : {S K : Type 0} → (S → Facts) → Sources K S → Whole

@@ -11,7 +11,7 @@ ghost use Rattle.db_cursor.specs.Places.{OneGoesOver};
 ghost use Rattle.db_cursor.specs.Whole.{whole_in};
 ghost use Rattle.db_cursor.specs.declared.source.Sources.{Sources};
 ghost use Rattle.db_cursor.specs.declared.source_cursor.SourceCursor.{SourceCursor};
-ghost use Rattle.table_access.specs.Tables.{KeepsOf, seen_in};
+ghost use Rattle.table_access.specs.Tables.{KeepsOf, seen_through};
 
 use crate::beginning::{add_levels, add_newest};
 use crate::source_cursor::SourceCursor;
@@ -66,7 +66,7 @@ pub fn inputs_read_apart<K: KeyOrder, S: Store>()
         → AreDisjoint (OneGoesOver merge.children.items) (IsToCome next)
         → ReadsApart S.facts (λ source. source.tables.store)
         (λ source store. record source { tables = record source.tables { store = store } })
-        (λ (source : Sources K S) number. KeepsOf (seen_in S.facts source.tables) number)
+        (λ (source : Sources K S) number. KeepsOf (seen_through S.facts source.tables) number)
         (λ merge old new. KeepsMerge K.cmp merge (whole_in S.facts old) (whole_in S.facts new))
         merge (IsToCome next) }
 {

@@ -15,13 +15,13 @@ pub struct Sources<K: KeyOrder, S> {
 /// A compaction writes its tables to the store, and leaves what is kept of others.
 impl<K: KeyOrder, S: Store> HasStore<S> for Sources<K, S> {
     ghost use Rattle.std.proofs.Common.{refl};
-    ghost use Rattle.table_access.specs.Tables.{KeepsOf, seen_in};
+    ghost use Rattle.table_access.specs.Tables.{KeepsOf, seen_through};
 
     ghost store_of = { λ source. source.tables.store };
 
     ghost with_store = { λ source store. record source { tables = record source.tables { store = store } } };
 
-    ghost gathers = { λ source number. KeepsOf (seen_in S.facts source.tables) number };
+    ghost gathers = { λ source number. KeepsOf (seen_through S.facts source.tables) number };
 
     fn store_mut(&mut self) -> &mut S {
         let tables = &mut self.tables;

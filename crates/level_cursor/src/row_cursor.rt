@@ -5,7 +5,7 @@ ghost use Rattle.cursor.specs.Moves.{Refuses};
 ghost use Rattle.ikey.specs.Entries.{InternalEntry};
 ghost use Rattle.level_cursor.specs.InRows.{IsOpenLimited, IsOpenNumber, IsPlacedRow, table_stands};
 ghost use Rattle.level_cursor.specs.Searches.{IsSameTable, StepsBack, StepsOn};
-ghost use Rattle.table_access.specs.Tables.{Carries, seen_in};
+ghost use Rattle.table_access.specs.Tables.{Carries, seen_through};
 ghost use Rattle.table.specs.Reading.{IsStill};
 
 use crate::in_table::InTable;
@@ -65,19 +65,19 @@ impl<K: KeyOrder, S: Store> Cursor<K, Tables<K, S>> for RowCursor<K> {
     ghost use Rattle.level_cursor.specs.RowLaws.{limits_kept, lists_kept, placed_in, row_onward, row_still};
     ghost use Rattle.level_cursor.specs.Rows.{GoesOverRow, IsRowLimited, KeepsRow, ListsRow, row_stands};
     ghost use Rattle.table_access.specs.TableLaws.{carries_both, carries_itself, carries_more};
-    ghost use Rattle.table_access.specs.Tables.{Carries, seen_in};
+    ghost use Rattle.table_access.specs.Tables.{Carries, seen_through};
 
     ghost facts = { λ source. S.facts source.store };
 
-    ghost lists = { λ cursor source at. ListsRow K.cmp (seen_in S.facts source) cursor at };
+    ghost lists = { λ cursor source at. ListsRow K.cmp (seen_through S.facts source) cursor at };
 
-    ghost keeps = { λ cursor old new. KeepsRow K.cmp cursor (seen_in S.facts old) (seen_in S.facts new) };
+    ghost keeps = { λ cursor old new. KeepsRow K.cmp cursor (seen_through S.facts old) (seen_through S.facts new) };
 
     ghost stands = { λ cursor. row_stands cursor };
 
-    ghost limited = { λ cursor source. IsRowLimited K.cmp (seen_in S.facts source) cursor };
+    ghost limited = { λ cursor source. IsRowLimited K.cmp (seen_through S.facts source) cursor };
 
-    ghost leaves = { λ numbers old new. Carries K.cmp numbers (seen_in S.facts old) (seen_in S.facts new) };
+    ghost leaves = { λ numbers old new. Carries K.cmp numbers (seen_through S.facts old) (seen_through S.facts new) };
 
     ghost over = { λ cursor number. GoesOverRow cursor number };
 
@@ -170,14 +170,14 @@ fn step_on<K: KeyOrder, S: Store>(
     source: &mut Tables<K, S>,
 ) -> Result<Option<usize>, DbError>
     requires { IsTrue (table_stands here.old) }
-    ensures carries { Carries K.cmp (λ number. IsOpenNumber here.old number) (seen_in S.facts source.old) (seen_in S.facts source.new) }
+    ensures carries { Carries K.cmp (λ number. IsOpenNumber here.old number) (seen_through S.facts source.old) (seen_through S.facts source.new) }
     ensures same { IsSameTable here.old here.new }
     ensures steps { IsTrue (S.facts source.new.store).faithful → (lists : List (List InternalEntry)) (place : Option ℕ)
-        → IsPlacedRow K.cmp (seen_in S.facts source.old) lists here.old place
-        → StepsOn K.cmp (seen_in S.facts source.new) lists here.new place result }
+        → IsPlacedRow K.cmp (seen_through S.facts source.old) lists here.old place
+        → StepsOn K.cmp (seen_through S.facts source.new) lists here.new place result }
     ensures still { IsStill (S.facts source.old.store) (S.facts source.new.store) result }
     ensures refused { IfErr result (λ e. Refuses e (S.facts source.old.store) (S.facts source.new.store)
-        ((lists : List (List InternalEntry)) (place : Option ℕ) → IsPlacedRow K.cmp (seen_in S.facts source.old) lists here.old place
+        ((lists : List (List InternalEntry)) (place : Option ℕ) → IsPlacedRow K.cmp (seen_through S.facts source.old) lists here.old place
         → ⊥) (IsOpenLimited here.old)) }
 {
     let Some(here) = here else {
@@ -196,14 +196,14 @@ fn step_back<K: KeyOrder, S: Store>(
     source: &mut Tables<K, S>,
 ) -> Result<Option<usize>, DbError>
     requires { IsTrue (table_stands here.old) }
-    ensures carries { Carries K.cmp (λ number. IsOpenNumber here.old number) (seen_in S.facts source.old) (seen_in S.facts source.new) }
+    ensures carries { Carries K.cmp (λ number. IsOpenNumber here.old number) (seen_through S.facts source.old) (seen_through S.facts source.new) }
     ensures same { IsSameTable here.old here.new }
     ensures steps { IsTrue (S.facts source.new.store).faithful → (lists : List (List InternalEntry)) (place : Option ℕ)
-        → IsPlacedRow K.cmp (seen_in S.facts source.old) lists here.old place
-        → StepsBack K.cmp (seen_in S.facts source.new) lists here.new place result }
+        → IsPlacedRow K.cmp (seen_through S.facts source.old) lists here.old place
+        → StepsBack K.cmp (seen_through S.facts source.new) lists here.new place result }
     ensures still { IsStill (S.facts source.old.store) (S.facts source.new.store) result }
     ensures refused { IfErr result (λ e. Refuses e (S.facts source.old.store) (S.facts source.new.store)
-        ((lists : List (List InternalEntry)) (place : Option ℕ) → IsPlacedRow K.cmp (seen_in S.facts source.old) lists here.old place
+        ((lists : List (List InternalEntry)) (place : Option ℕ) → IsPlacedRow K.cmp (seen_through S.facts source.old) lists here.old place
         → ⊥) (IsOpenLimited here.old)) }
 {
     let Some(here) = here else {

@@ -10,7 +10,7 @@ ghost use Rattle.ikey.specs.Keys.{Key};
 ghost use Rattle.level_cursor.specs.InRows.{HasList, HasNumber, HaveLists, IsOneLimited, IsPlacedRow, entries_before, joined};
 ghost use Rattle.level_cursor.specs.Searches.{IsAimed, IsFirstTable, IsOneOf, passes};
 ghost use Rattle.table_access.specs.TablePlaces.{ListsTable};
-ghost use Rattle.table_access.specs.Tables.{Carries, HasTable, IsOpen, Only, SaysOf, seen_in};
+ghost use Rattle.table_access.specs.Tables.{Carries, HasTable, IsOpen, Only, SaysOf, seen_through};
 ghost use Rattle.table_access.specs.Values.{IsPastLimit};
 ghost use Rattle.table.specs.Reading.{IsStill};
 
@@ -41,19 +41,19 @@ pub fn search_on<K: KeyOrder, S: Store>(
     start: usize,
     aim: Aim<'_>,
 ) -> Result<Option<InTable<K>>, DbError>
-    ensures carries { Carries K.cmp (HasNumber row.now) (seen_in S.facts source.old) (seen_in S.facts source.new) }
+    ensures carries { Carries K.cmp (HasNumber row.now) (seen_through S.facts source.old) (seen_through S.facts source.new) }
     ensures found { IfOk result (λ here. IsTrue (S.facts source.new.store).faithful → (lists : List (List InternalEntry))
-        → HaveLists K.cmp (seen_in S.facts source.old) row.now lists
+        → HaveLists K.cmp (seen_through S.facts source.old) row.now lists
         → (goal : Option Key) → IsAimed aim.entry goal
-        → IsPlacedRow K.cmp (seen_in S.facts source.new) lists here
+        → IsPlacedRow K.cmp (seen_through S.facts source.new) lists here
         (within (joined lists) (entries_before lists start + leading (passes K.cmp goal) (joined (drop start lists))))) }
-    ensures opened { IfOk result (λ here. IfSome here (λ found. IsOneOf K.cmp (seen_in S.facts source.old)
-        (seen_in S.facts source.new) row.now found.cursor.number found.cursor.table.value.frame)) }
+    ensures opened { IfOk result (λ here. IfSome here (λ found. IsOneOf K.cmp (seen_through S.facts source.old)
+        (seen_through S.facts source.new) row.now found.cursor.number found.cursor.table.value.frame)) }
     ensures still { IsStill (S.facts source.old.store) (S.facts source.new.store) result }
     ensures refused { IfErr result (λ e. Refuses e (S.facts source.old.store) (S.facts source.new.store)
-        ((lists : List (List InternalEntry)) (goal : Option Key) → HaveLists K.cmp (seen_in S.facts source.old) row.now lists
+        ((lists : List (List InternalEntry)) (goal : Option Key) → HaveLists K.cmp (seen_through S.facts source.old) row.now lists
         → IsAimed aim.entry goal → ⊥)
-        (IsOneLimited K.cmp (seen_in S.facts source.old) row.now)) }
+        (IsOneLimited K.cmp (seen_through S.facts source.old) row.now)) }
 {
     for index in start..row.len() {
         let cursor = enter(alloc, source, &row[index], aim)?;
@@ -71,16 +71,16 @@ pub fn search_back<K: KeyOrder, S: Store>(
     row: &[PlacedTable],
     end: usize,
 ) -> Result<Option<InTable<K>>, DbError>
-    ensures carries { Carries K.cmp (HasNumber row.now) (seen_in S.facts source.old) (seen_in S.facts source.new) }
+    ensures carries { Carries K.cmp (HasNumber row.now) (seen_through S.facts source.old) (seen_through S.facts source.new) }
     ensures found { IfOk result (λ here. IsTrue (S.facts source.new.store).faithful → (lists : List (List InternalEntry))
-        → HaveLists K.cmp (seen_in S.facts source.old) row.now lists
-        → end ≤ length lists → IsPlacedRow K.cmp (seen_in S.facts source.new) lists here (index_before (entries_before lists end))) }
-    ensures opened { IfOk result (λ here. IfSome here (λ found. IsOneOf K.cmp (seen_in S.facts source.old)
-        (seen_in S.facts source.new) row.now found.cursor.number found.cursor.table.value.frame)) }
+        → HaveLists K.cmp (seen_through S.facts source.old) row.now lists
+        → end ≤ length lists → IsPlacedRow K.cmp (seen_through S.facts source.new) lists here (index_before (entries_before lists end))) }
+    ensures opened { IfOk result (λ here. IfSome here (λ found. IsOneOf K.cmp (seen_through S.facts source.old)
+        (seen_through S.facts source.new) row.now found.cursor.number found.cursor.table.value.frame)) }
     ensures still { IsStill (S.facts source.old.store) (S.facts source.new.store) result }
     ensures refused { IfErr result (λ e. Refuses e (S.facts source.old.store) (S.facts source.new.store)
-        ((lists : List (List InternalEntry)) → HaveLists K.cmp (seen_in S.facts source.old) row.now lists → end ≤ length lists → ⊥)
-        (IsOneLimited K.cmp (seen_in S.facts source.old) row.now)) }
+        ((lists : List (List InternalEntry)) → HaveLists K.cmp (seen_through S.facts source.old) row.now lists → end ≤ length lists → ⊥)
+        (IsOneLimited K.cmp (seen_through S.facts source.old) row.now)) }
 {
     for step in 0..end {
         let index = end - step - 1;
@@ -120,19 +120,19 @@ fn enter<K: KeyOrder, S: Store>(
     placed: &PlacedTable,
     aim: Aim<'_>,
 ) -> Result<TableCursor<K>, DbError>
-    ensures carries { Carries K.cmp (Only placed.now.table.number) (seen_in S.facts source.old) (seen_in S.facts source.new) }
+    ensures carries { Carries K.cmp (Only placed.now.table.number) (seen_through S.facts source.old) (seen_through S.facts source.new) }
     ensures number { IfOk result (λ cursor. cursor.number ≡ placed.now.table.number) }
-    ensures opened { IfOk result (λ cursor. SaysOf K.cmp (seen_in S.facts source.old)
-        (seen_in S.facts source.new) placed.now.table.number (λ file. IsOpen K.cmp file cursor.table.value.frame)) }
+    ensures opened { IfOk result (λ cursor. SaysOf K.cmp (seen_through S.facts source.old)
+        (seen_through S.facts source.new) placed.now.table.number (λ file. IsOpen K.cmp file cursor.table.value.frame)) }
     ensures found { IfOk result (λ cursor. IsTrue (S.facts source.new.store).faithful → (list : List InternalEntry)
-        → HasList K.cmp (seen_in S.facts source.old) placed.now list → (goal : Option Key) → IsAimed aim.entry goal
-        → ListsTable K.cmp (seen_in S.facts source.new) cursor.number cursor.table.value.frame cursor.here
+        → HasList K.cmp (seen_through S.facts source.old) placed.now list → (goal : Option Key) → IsAimed aim.entry goal
+        → ListsTable K.cmp (seen_through S.facts source.new) cursor.number cursor.table.value.frame cursor.here
         (listed list (ahead (passes K.cmp goal) list))) }
     ensures still { IsStill (S.facts source.old.store) (S.facts source.new.store) result }
     ensures refused { IfErr result (λ e. Refuses e (S.facts source.old.store) (S.facts source.new.store)
-        ((list : List InternalEntry) (goal : Option Key) → HasList K.cmp (seen_in S.facts source.old) placed.now list
+        ((list : List InternalEntry) (goal : Option Key) → HasList K.cmp (seen_through S.facts source.old) placed.now list
         → IsAimed aim.entry goal → ⊥)
-        ((file : List ℕ) → HasTable K.cmp (seen_in S.facts source.old) placed.now.table.number file → IsPastLimit K.cmp file)) }
+        ((file : List ℕ) → HasTable K.cmp (seen_through S.facts source.old) placed.now.table.number file → IsPastLimit K.cmp file)) }
 {
     let mut cursor = open(alloc, source, placed)?;
     match aim {
@@ -153,18 +153,18 @@ fn leave<K: KeyOrder, S: Store>(
     source: &mut Tables<K, S>,
     placed: &PlacedTable,
 ) -> Result<TableCursor<K>, DbError>
-    ensures carries { Carries K.cmp (Only placed.now.table.number) (seen_in S.facts source.old) (seen_in S.facts source.new) }
+    ensures carries { Carries K.cmp (Only placed.now.table.number) (seen_through S.facts source.old) (seen_through S.facts source.new) }
     ensures number { IfOk result (λ cursor. cursor.number ≡ placed.now.table.number) }
-    ensures opened { IfOk result (λ cursor. SaysOf K.cmp (seen_in S.facts source.old)
-        (seen_in S.facts source.new) placed.now.table.number (λ file. IsOpen K.cmp file cursor.table.value.frame)) }
+    ensures opened { IfOk result (λ cursor. SaysOf K.cmp (seen_through S.facts source.old)
+        (seen_through S.facts source.new) placed.now.table.number (λ file. IsOpen K.cmp file cursor.table.value.frame)) }
     ensures found { IfOk result (λ cursor. IsTrue (S.facts source.new.store).faithful → (list : List InternalEntry)
-        → HasList K.cmp (seen_in S.facts source.old) placed.now list
-        → ListsTable K.cmp (seen_in S.facts source.new) cursor.number cursor.table.value.frame cursor.here
+        → HasList K.cmp (seen_through S.facts source.old) placed.now list
+        → ListsTable K.cmp (seen_through S.facts source.new) cursor.number cursor.table.value.frame cursor.here
         (listed list (index_before (length list)))) }
     ensures still { IsStill (S.facts source.old.store) (S.facts source.new.store) result }
     ensures refused { IfErr result (λ e. Refuses e (S.facts source.old.store) (S.facts source.new.store)
-        ((list : List InternalEntry) → HasList K.cmp (seen_in S.facts source.old) placed.now list → ⊥)
-        ((file : List ℕ) → HasTable K.cmp (seen_in S.facts source.old) placed.now.table.number file → IsPastLimit K.cmp file)) }
+        ((list : List InternalEntry) → HasList K.cmp (seen_through S.facts source.old) placed.now list → ⊥)
+        ((file : List ℕ) → HasTable K.cmp (seen_through S.facts source.old) placed.now.table.number file → IsPastLimit K.cmp file)) }
 {
     let mut cursor = open(alloc, source, placed)?;
     cursor.to_last(alloc, source)?;
@@ -177,17 +177,17 @@ fn open<K: KeyOrder, S: Store>(
     source: &mut Tables<K, S>,
     placed: &PlacedTable,
 ) -> Result<TableCursor<K>, DbError>
-    ensures carries { Carries K.cmp (Only placed.now.table.number) (seen_in S.facts source.old) (seen_in S.facts source.new) }
+    ensures carries { Carries K.cmp (Only placed.now.table.number) (seen_through S.facts source.old) (seen_through S.facts source.new) }
     ensures number { IfOk result (λ cursor. cursor.number ≡ placed.now.table.number) }
-    ensures opened { IfOk result (λ cursor. SaysOf K.cmp (seen_in S.facts source.old)
-        (seen_in S.facts source.new) placed.now.table.number (λ file. IsOpen K.cmp file cursor.table.value.frame)) }
+    ensures opened { IfOk result (λ cursor. SaysOf K.cmp (seen_through S.facts source.old)
+        (seen_through S.facts source.new) placed.now.table.number (λ file. IsOpen K.cmp file cursor.table.value.frame)) }
     ensures found { IfOk result (λ cursor. IsTrue (S.facts source.new.store).faithful → (list : List InternalEntry)
-        → HasList K.cmp (seen_in S.facts source.old) placed.now list
-        → ListsTable K.cmp (seen_in S.facts source.new) cursor.number cursor.table.value.frame cursor.here (listed list None)) }
+        → HasList K.cmp (seen_through S.facts source.old) placed.now list
+        → ListsTable K.cmp (seen_through S.facts source.new) cursor.number cursor.table.value.frame cursor.here (listed list None)) }
     ensures still { IsStill (S.facts source.old.store) (S.facts source.new.store) result }
     ensures refused { IfErr result (λ e. Refuses e (S.facts source.old.store) (S.facts source.new.store)
-        ((list : List InternalEntry) → HasList K.cmp (seen_in S.facts source.old) placed.now list → ⊥)
-        ((file : List ℕ) → HasTable K.cmp (seen_in S.facts source.old) placed.now.table.number file → IsPastLimit K.cmp file)) }
+        ((list : List InternalEntry) → HasList K.cmp (seen_through S.facts source.old) placed.now list → ⊥)
+        ((file : List ℕ) → HasTable K.cmp (seen_through S.facts source.old) placed.now.table.number file → IsPastLimit K.cmp file)) }
 {
     let number = placed.table.number;
     // No file has the number 0, and the caches aren't asked for it.

@@ -26,8 +26,8 @@ abbrev pub seen : Facts → TableCache → BlockCache → Seen
 seen facts tables blocks = record { facts = facts; tables = tables.tables; blocks = blocks.blocks }
 
 -- so of a store whose tables are read through caches
-abbrev pub seen_in : {S K : Type 0} → (S → Facts) → Tables K S → Seen
-seen_in facts source = seen (facts source.store) source.tables source.blocks
+abbrev pub seen_through : {S K : Type 0} → (S → Facts) → Tables K S → Seen
+seen_through facts source = seen (facts source.store) source.tables source.blocks
 
 -- how many tables stay open
 abbrev pub open_tables : ℕ

@@ -4,7 +4,7 @@ ghost use Rattle.std.specs.Prelude.{◌≡◌, ◌<◌, ◌^◌, ℕ, List, Some
 ghost use Rattle.cache.specs.Tables.{kept_table_at};
 ghost use Rattle.cursor.specs.Moves.{Refuses};
 ghost use Rattle.ikey.specs.Entries.{InternalEntry, Pair, IsPair};
-ghost use Rattle.table_access.specs.Tables.{Carries, HasTable, Only, SaysOf, seen_in};
+ghost use Rattle.table_access.specs.Tables.{Carries, HasTable, Only, SaysOf, seen_through};
 ghost use Rattle.table_access.specs.Values.{DeniesKey, HasValue, IsDenied, IsNoTable, IsPastLimit, SaysOfEntry};
 ghost use Rattle.table.specs.Frame.{IsFrame, Opened};
 ghost use Rattle.table.specs.Reading.{IsStill};
@@ -31,8 +31,8 @@ pub fn table_value<K: KeyOrder, S: Store>(
 ) -> Result<Option<Option<Bytes>>, DbError>
     requires positive { 0 < number }
     requires fits { sequence < 2 ^ 56 }
-    ensures carries { Carries K.cmp (Only number) (seen_in S.facts source.old) (seen_in S.facts source.new) }
-    ensures found { IfOk result (λ value. SaysOf K.cmp (seen_in S.facts source.old) (seen_in S.facts source.new)
+    ensures carries { Carries K.cmp (Only number) (seen_through S.facts source.old) (seen_through S.facts source.new) }
+    ensures found { IfOk result (λ value. SaysOf K.cmp (seen_through S.facts source.old) (seen_through S.facts source.new)
         number (λ file. HasValue K.cmp file key.now sequence value)) }
     ensures still { IsStill (S.facts source.old.store) (S.facts source.new.store) result }
     // Where the table is open and its filter denies the key, no block is asked for.
@@ -40,8 +40,8 @@ pub fn table_value<K: KeyOrder, S: Store>(
         → IsFrame K.cmp file table.frame → IsDenied K.cmp table.frame key.now sequence
         → (source.new.store ≡ source.old.store) × (source.new.blocks ≡ source.old.blocks) }
     ensures refused { IfErr result (λ e. Refuses e (S.facts source.old.store) (S.facts source.new.store)
-        ((file : List ℕ) → HasTable K.cmp (seen_in S.facts source.old) number file → IsNoTable K.cmp file)
-        ((file : List ℕ) → HasTable K.cmp (seen_in S.facts source.old) number file → IsPastLimit K.cmp file)) }
+        ((file : List ℕ) → HasTable K.cmp (seen_through S.facts source.old) number file → IsNoTable K.cmp file)
+        ((file : List ℕ) → HasTable K.cmp (seen_through S.facts source.old) number file → IsPastLimit K.cmp file)) }
 {
     let table = source.get_table(alloc, number)?;
     let target = seek_key(alloc, key, sequence)?;

@@ -35,7 +35,7 @@ impl<K: KeyOrder> TableCursor<K> {
     ghost use Rattle.ikey.specs.Entries.{InternalEntry};
     ghost use Rattle.ikey.specs.Keys.{Key, IsKey};
     ghost use Rattle.table_access.specs.TablePlaces.{ListsTable, StepsTo, block_stands};
-    ghost use Rattle.table_access.specs.Tables.{Carries, HasTable, IsOpen, Only, SaysOf, seen_in};
+    ghost use Rattle.table_access.specs.Tables.{Carries, HasTable, IsOpen, Only, SaysOf, seen_through};
     ghost use Rattle.table.specs.Frame.{AnyLong, handles};
     ghost use Rattle.table.specs.Reading.{IsStill};
     ghost use Rattle.table.specs.Refusals.{IsFrameDamaged, IsFrameUnsupported};
@@ -51,11 +51,11 @@ impl<K: KeyOrder> TableCursor<K> {
         requires { 0 < number }
         ensures number { IfOk result (λ cursor. cursor.number ≡ number) }
         ensures nowhere { IfOk result (λ cursor. cursor.here ≡ None) }
-        ensures carries { Carries K.cmp (Only number) (seen_in S.facts source.old) (seen_in S.facts source.new) }
-        ensures lists { IfOk result (λ cursor. SaysOf K.cmp (seen_in S.facts source.old) (seen_in S.facts source.new) number
+        ensures carries { Carries K.cmp (Only number) (seen_through S.facts source.old) (seen_through S.facts source.new) }
+        ensures lists { IfOk result (λ cursor. SaysOf K.cmp (seen_through S.facts source.old) (seen_through S.facts source.new) number
             (λ file. (entries : List InternalEntry) → IsTable K.cmp file entries
-            → ListsTable K.cmp (seen_in S.facts source.new) number cursor.table.value.frame None (listed entries None))) }
-        ensures open { IfOk result (λ cursor. SaysOf K.cmp (seen_in S.facts source.old) (seen_in S.facts source.new) number
+            → ListsTable K.cmp (seen_through S.facts source.new) number cursor.table.value.frame None (listed entries None))) }
+        ensures open { IfOk result (λ cursor. SaysOf K.cmp (seen_through S.facts source.old) (seen_through S.facts source.new) number
             (λ file. IsOpen K.cmp file cursor.table.value.frame)) }
         ensures stood { OnOk result ((S.facts source.new.store).failures ≡ (S.facts source.old.store).failures) }
         ensures still { IsStill (S.facts source.old.store) (S.facts source.new.store) result }
@@ -76,16 +76,16 @@ impl<K: KeyOrder> TableCursor<K> {
         alloc: Global,
         source: &mut Tables<K, S>,
     ) -> Result<(), DbError>
-        ensures carries { Carries K.cmp (Only self.old.number) (seen_in S.facts source.old) (seen_in S.facts source.new) }
+        ensures carries { Carries K.cmp (Only self.old.number) (seen_through S.facts source.old) (seen_through S.facts source.new) }
         ensures number { self.new.number ≡ self.old.number }
         ensures table { self.new.table ≡ self.old.table }
         ensures moves { IsTrue (S.facts source.new.store).faithful → (at : Listed)
-            → ListsTable K.cmp (seen_in S.facts source.old) self.old.number self.old.table.value.frame self.old.here at
-            → ListsTable K.cmp (seen_in S.facts source.new) self.old.number self.old.table.value.frame self.new.here
+            → ListsTable K.cmp (seen_through S.facts source.old) self.old.number self.old.table.value.frame self.old.here at
+            → ListsTable K.cmp (seen_through S.facts source.new) self.old.number self.old.table.value.frame self.new.here
             (after_move result to_first at) }
         ensures still { IsStill (S.facts source.old.store) (S.facts source.new.store) result }
         ensures refused { IfErr result (λ e. Refuses e (S.facts source.old.store) (S.facts source.new.store)
-            ((at : Listed) → ListsTable K.cmp (seen_in S.facts source.old) self.old.number self.old.table.value.frame self.old.here at → ⊥)
+            ((at : Listed) → ListsTable K.cmp (seen_through S.facts source.old) self.old.number self.old.table.value.frame self.old.here at → ⊥)
             (AnyLong (handles self.old.table.value.frame))) }
     {
         self.here = search_on(alloc, source, self.number, &self.table, 0, Aim::First)?;
@@ -98,16 +98,16 @@ impl<K: KeyOrder> TableCursor<K> {
         alloc: Global,
         source: &mut Tables<K, S>,
     ) -> Result<(), DbError>
-        ensures carries { Carries K.cmp (Only self.old.number) (seen_in S.facts source.old) (seen_in S.facts source.new) }
+        ensures carries { Carries K.cmp (Only self.old.number) (seen_through S.facts source.old) (seen_through S.facts source.new) }
         ensures number { self.new.number ≡ self.old.number }
         ensures table { self.new.table ≡ self.old.table }
         ensures moves { IsTrue (S.facts source.new.store).faithful → (at : Listed)
-            → ListsTable K.cmp (seen_in S.facts source.old) self.old.number self.old.table.value.frame self.old.here at
-            → ListsTable K.cmp (seen_in S.facts source.new) self.old.number self.old.table.value.frame self.new.here
+            → ListsTable K.cmp (seen_through S.facts source.old) self.old.number self.old.table.value.frame self.old.here at
+            → ListsTable K.cmp (seen_through S.facts source.new) self.old.number self.old.table.value.frame self.new.here
             (after_move result to_last at) }
         ensures still { IsStill (S.facts source.old.store) (S.facts source.new.store) result }
         ensures refused { IfErr result (λ e. Refuses e (S.facts source.old.store) (S.facts source.new.store)
-            ((at : Listed) → ListsTable K.cmp (seen_in S.facts source.old) self.old.number self.old.table.value.frame self.old.here at → ⊥)
+            ((at : Listed) → ListsTable K.cmp (seen_through S.facts source.old) self.old.number self.old.table.value.frame self.old.here at → ⊥)
             (AnyLong (handles self.old.table.value.frame))) }
     {
         let end = self.table.places().len();
@@ -122,17 +122,17 @@ impl<K: KeyOrder> TableCursor<K> {
         source: &mut Tables<K, S>,
         target: &[u8],
     ) -> Result<(), DbError>
-        ensures carries { Carries K.cmp (Only self.old.number) (seen_in S.facts source.old) (seen_in S.facts source.new) }
+        ensures carries { Carries K.cmp (Only self.old.number) (seen_through S.facts source.old) (seen_through S.facts source.new) }
         ensures number { self.new.number ≡ self.old.number }
         ensures table { self.new.table ≡ self.old.table }
         ensures moves { (key : Key) → IsKey target.now key → IsTrue (S.facts source.new.store).faithful → (at : Listed)
-            → ListsTable K.cmp (seen_in S.facts source.old) self.old.number self.old.table.value.frame self.old.here at
-            → ListsTable K.cmp (seen_in S.facts source.new) self.old.number self.old.table.value.frame self.new.here
+            → ListsTable K.cmp (seen_through S.facts source.old) self.old.number self.old.table.value.frame self.old.here at
+            → ListsTable K.cmp (seen_through S.facts source.new) self.old.number self.old.table.value.frame self.new.here
             (after_move result (to_key K.cmp key) at) }
         ensures still { IsStill (S.facts source.old.store) (S.facts source.new.store) result }
         ensures refused { IfErr result (λ e. Refuses e (S.facts source.old.store) (S.facts source.new.store)
             ((key : Key) → IsKey target.now key → (at : Listed)
-            → ListsTable K.cmp (seen_in S.facts source.old) self.old.number self.old.table.value.frame self.old.here at → ⊥)
+            → ListsTable K.cmp (seen_through S.facts source.old) self.old.number self.old.table.value.frame self.old.here at → ⊥)
             (AnyLong (handles self.old.table.value.frame))) }
     {
         let start = self.table.first_place(target);
@@ -148,16 +148,16 @@ impl<K: KeyOrder> TableCursor<K> {
         source: &mut Tables<K, S>,
     ) -> Result<bool, DbError>
         requires { IsTrue (block_stands self.old.here) }
-        ensures carries { Carries K.cmp (Only self.old.number) (seen_in S.facts source.old) (seen_in S.facts source.new) }
+        ensures carries { Carries K.cmp (Only self.old.number) (seen_through S.facts source.old) (seen_through S.facts source.new) }
         ensures number { self.new.number ≡ self.old.number }
         ensures table { self.new.table ≡ self.old.table }
         ensures steps { IsTrue (S.facts source.new.store).faithful → (at : Listed)
-            → ListsTable K.cmp (seen_in S.facts source.old) self.old.number self.old.table.value.frame self.old.here at
+            → ListsTable K.cmp (seen_through S.facts source.old) self.old.number self.old.table.value.frame self.old.here at
             → StepsTo (ListsTable K.cmp
-            (seen_in S.facts source.new) self.old.number self.old.table.value.frame self.new.here) to_next result at }
+            (seen_through S.facts source.new) self.old.number self.old.table.value.frame self.new.here) to_next result at }
         ensures still { IsStill (S.facts source.old.store) (S.facts source.new.store) result }
         ensures refused { IfErr result (λ e. Refuses e (S.facts source.old.store) (S.facts source.new.store)
-            ((at : Listed) → ListsTable K.cmp (seen_in S.facts source.old) self.old.number self.old.table.value.frame self.old.here at → ⊥)
+            ((at : Listed) → ListsTable K.cmp (seen_through S.facts source.old) self.old.number self.old.table.value.frame self.old.here at → ⊥)
             (AnyLong (handles self.old.table.value.frame))) }
     {
         let start = match step_on(&mut self.here)? {
@@ -180,16 +180,16 @@ impl<K: KeyOrder> TableCursor<K> {
         source: &mut Tables<K, S>,
     ) -> Result<bool, DbError>
         requires { IsTrue (block_stands self.old.here) }
-        ensures carries { Carries K.cmp (Only self.old.number) (seen_in S.facts source.old) (seen_in S.facts source.new) }
+        ensures carries { Carries K.cmp (Only self.old.number) (seen_through S.facts source.old) (seen_through S.facts source.new) }
         ensures number { self.new.number ≡ self.old.number }
         ensures table { self.new.table ≡ self.old.table }
         ensures steps { IsTrue (S.facts source.new.store).faithful → (at : Listed)
-            → ListsTable K.cmp (seen_in S.facts source.old) self.old.number self.old.table.value.frame self.old.here at
+            → ListsTable K.cmp (seen_through S.facts source.old) self.old.number self.old.table.value.frame self.old.here at
             → StepsTo (ListsTable K.cmp
-            (seen_in S.facts source.new) self.old.number self.old.table.value.frame self.new.here) to_prev result at }
+            (seen_through S.facts source.new) self.old.number self.old.table.value.frame self.new.here) to_prev result at }
         ensures still { IsStill (S.facts source.old.store) (S.facts source.new.store) result }
         ensures refused { IfErr result (λ e. Refuses e (S.facts source.old.store) (S.facts source.new.store)
-            ((at : Listed) → ListsTable K.cmp (seen_in S.facts source.old) self.old.number self.old.table.value.frame self.old.here at → ⊥)
+            ((at : Listed) → ListsTable K.cmp (seen_through S.facts source.old) self.old.number self.old.table.value.frame self.old.here at → ⊥)
             (AnyLong (handles self.old.table.value.frame))) }
     {
         let end = match step_back(&mut self.here)? {
@@ -211,20 +211,20 @@ impl<K: KeyOrder, S: Store> Cursor<K, Tables<K, S>> for TableCursor<K> {
     ghost use Rattle.table_access.specs.TableLaws.{carries_both, carries_itself, carries_more, lists_kept};
     ghost use Rattle.table_access.specs.TableLaws.{placed_in, table_onward, table_still};
     ghost use Rattle.table_access.specs.TablePlaces.{KeepsTable, ListsTable};
-    ghost use Rattle.table_access.specs.Tables.{Carries, seen_in};
+    ghost use Rattle.table_access.specs.Tables.{Carries, seen_through};
     ghost use Rattle.table.specs.Frame.{AnyLong, handles};
 
     ghost facts = { λ source. S.facts source.store };
 
-    ghost lists = { λ cursor source at. ListsTable K.cmp (seen_in S.facts source) cursor.number cursor.table.value.frame cursor.here at };
+    ghost lists = { λ cursor source at. ListsTable K.cmp (seen_through S.facts source) cursor.number cursor.table.value.frame cursor.here at };
 
-    ghost keeps = { λ cursor old new. KeepsTable K.cmp cursor.number (seen_in S.facts old) (seen_in S.facts new) };
+    ghost keeps = { λ cursor old new. KeepsTable K.cmp cursor.number (seen_through S.facts old) (seen_through S.facts new) };
 
     ghost stands = { λ cursor. block_stands cursor.here };
 
     ghost limited = { λ cursor source. AnyLong (handles cursor.table.value.frame) };
 
-    ghost leaves = { λ numbers old new. Carries K.cmp numbers (seen_in S.facts old) (seen_in S.facts new) };
+    ghost leaves = { λ numbers old new. Carries K.cmp numbers (seen_through S.facts old) (seen_through S.facts new) };
 
     ghost over = { λ cursor number. number ≡ cursor.number };
 

@@ -7,7 +7,7 @@ ghost use Rattle.cursor.specs.Places.{index_before};
 ghost use Rattle.cursor.specs.Places.{within as within_list};
 ghost use Rattle.ikey.specs.Entries.{Pair};
 ghost use Rattle.table_access.specs.TablePlaces.{IsPlacedIn, Passed, StopsAt, joined, pairs_before};
-ghost use Rattle.table_access.specs.Tables.{Carries, HasData, Only, seen_in};
+ghost use Rattle.table_access.specs.Tables.{Carries, HasData, Only, seen_through};
 ghost use Rattle.table.specs.Frame.{AnyLong, handles};
 ghost use Rattle.table.specs.Reading.{IsStill};
 
@@ -41,15 +41,15 @@ pub fn search_on<K: KeyOrder, S: Store>(
     aim: Aim<'_>,
 ) -> Result<Option<InBlock<BlockCursor<Internal<K>>>>, DbError>
     requires { 0 < number }
-    ensures carries { Carries K.cmp (Only number) (seen_in S.facts source.old) (seen_in S.facts source.new) }
+    ensures carries { Carries K.cmp (Only number) (seen_through S.facts source.old) (seen_through S.facts source.new) }
     ensures found { IfOk result (λ here. IsTrue (S.facts source.new.store).faithful → (groups : List (List Pair))
-        → HasData K.cmp (seen_in S.facts source.old) number table.now.frame groups → start ≤ length groups
+        → HasData K.cmp (seen_through S.facts source.old) number table.now.frame groups → start ≤ length groups
         → (place : ℕ) × StopsAt (Passed K.cmp aim.entry) (joined groups) (pairs_before groups start) place
         × IsPlacedIn groups here (within_list (joined groups) place)) }
     ensures stands { IfOk result (λ here. IfSome here (λ found. IsSome found.cursor.place)) }
     ensures still { IsStill (S.facts source.old.store) (S.facts source.new.store) result }
     ensures refused { IfErr result (λ e. Refuses e (S.facts source.old.store) (S.facts source.new.store)
-        ((groups : List (List Pair)) → HasData K.cmp (seen_in S.facts source.old) number table.now.frame groups → start ≤ length groups → ⊥)
+        ((groups : List (List Pair)) → HasData K.cmp (seen_through S.facts source.old) number table.now.frame groups → start ≤ length groups → ⊥)
         (AnyLong (handles table.now.frame))) }
 {
     for index in start..table.places().len() {
@@ -71,13 +71,13 @@ pub fn search_back<K: KeyOrder, S: Store>(
     end: usize,
 ) -> Result<Option<InBlock<BlockCursor<Internal<K>>>>, DbError>
     requires { 0 < number }
-    ensures carries { Carries K.cmp (Only number) (seen_in S.facts source.old) (seen_in S.facts source.new) }
+    ensures carries { Carries K.cmp (Only number) (seen_through S.facts source.old) (seen_through S.facts source.new) }
     ensures found { IfOk result (λ here. IsTrue (S.facts source.new.store).faithful → (groups : List (List Pair))
-        → HasData K.cmp (seen_in S.facts source.old) number table.now.frame groups → end ≤ length groups
+        → HasData K.cmp (seen_through S.facts source.old) number table.now.frame groups → end ≤ length groups
         → IsPlacedIn groups here (index_before (pairs_before groups end))) }
     ensures still { IsStill (S.facts source.old.store) (S.facts source.new.store) result }
     ensures refused { IfErr result (λ e. Refuses e (S.facts source.old.store) (S.facts source.new.store)
-        ((groups : List (List Pair)) → HasData K.cmp (seen_in S.facts source.old) number table.now.frame groups → end ≤ length groups → ⊥)
+        ((groups : List (List Pair)) → HasData K.cmp (seen_through S.facts source.old) number table.now.frame groups → end ≤ length groups → ⊥)
         (AnyLong (handles table.now.frame))) }
 {
     for step in 0..end {
@@ -124,12 +124,12 @@ fn read_index<K: KeyOrder, S: Store>(
     index: usize,
 ) -> Result<Rc<Block<Internal<K>>>, DbError>
     requires { 0 < number }
-    ensures carries { Carries K.cmp (Only number) (seen_in S.facts source.old) (seen_in S.facts source.new) }
+    ensures carries { Carries K.cmp (Only number) (seen_through S.facts source.old) (seen_through S.facts source.new) }
     ensures found { IfOk result (λ block. IsTrue (S.facts source.new.store).faithful → (groups : List (List Pair))
-        → HasData K.cmp (seen_in S.facts source.old) number table.now.frame groups → slice_get groups index ≡ Some block.value.pairs) }
+        → HasData K.cmp (seen_through S.facts source.old) number table.now.frame groups → slice_get groups index ≡ Some block.value.pairs) }
     ensures still { IsStill (S.facts source.old.store) (S.facts source.new.store) result }
     ensures refused { IfErr result (λ e. Refuses e (S.facts source.old.store) (S.facts source.new.store)
-        ((groups : List (List Pair)) → HasData K.cmp (seen_in S.facts source.old) number table.now.frame groups → index < length groups → ⊥)
+        ((groups : List (List Pair)) → HasData K.cmp (seen_through S.facts source.old) number table.now.frame groups → index < length groups → ⊥)
         (AnyLong (handles table.now.frame))) }
 {
     let Some(place) = table.places().get(index) else {

@@ -30,7 +30,7 @@ impl<K: KeyOrder, S: Store> Tables<K, S> {
     ghost use Rattle.cache.specs.Blocks.{answer_of};
     ghost use Rattle.cache.specs.Tables.{HitsTable, RefusesTable, kept_table_at, table_answer_of};
     ghost use Rattle.table_access.specs.Tables.{Carries, HasTable, IsBlockDamaged, IsBlockUnsupported, IsOpen};
-    ghost use Rattle.table_access.specs.Tables.{Knows, Only, SaysOf, open_tables, seen_in};
+    ghost use Rattle.table_access.specs.Tables.{Knows, Only, SaysOf, open_tables, seen_through};
     ghost use Rattle.table.specs.Reading.{HasFile};
     ghost use Rattle.table.specs.Refusals.{IsFrameDamaged, IsFrameUnsupported};
     ghost use Rattle.table.specs.Table.{HasBlock};
@@ -81,14 +81,14 @@ impl<K: KeyOrder, S: Store> Tables<K, S> {
     /// The open table of this number, as `TableCache::get_table`.
     pub fn get_table(&mut self, alloc: Global, number: u64) -> Result<Rc<Table<K>>, DbError>
         requires { 0 < number }
-        ensures carries { Carries K.cmp (Only number) (seen_in S.facts self.old) (seen_in S.facts self.new) }
-        ensures found { IfOk (table_answer_of result) (λ table. SaysOf K.cmp (seen_in S.facts self.old) (seen_in S.facts self.new)
+        ensures carries { Carries K.cmp (Only number) (seen_through S.facts self.old) (seen_through S.facts self.new) }
+        ensures found { IfOk (table_answer_of result) (λ table. SaysOf K.cmp (seen_through S.facts self.old) (seen_through S.facts self.new)
             number (λ file. HasFile (S.facts self.new.store) table.name file × IsOpen K.cmp file table.frame)) }
         // Where the table is kept it is answered, and the store isn't asked.
         ensures hit { IfSome (kept_table_at self.old.tables.tables number)
             (λ table. HitsTable table (table_answer_of result) × (self.new.store ≡ self.old.store)) }
         ensures blocks { self.new.blocks ≡ self.old.blocks }
-        ensures known { OnOk result (IsTrue (S.facts self.new.store).faithful → Knows (seen_in S.facts self.old) number) }
+        ensures known { OnOk result (IsTrue (S.facts self.new.store).faithful → Knows (seen_through S.facts self.old) number) }
         ensures stood { OnOk result ((S.facts self.new.store).failures ≡ (S.facts self.old.store).failures) }
         ensures refused { IfErr (table_answer_of result) (λ e. RefusesTable e (S.facts self.old.store) (S.facts self.new.store) number
             (IsFrameDamaged K.cmp) IsFrameUnsupported) }
@@ -104,14 +104,14 @@ impl<K: KeyOrder, S: Store> Tables<K, S> {
         handle: Handle,
     ) -> Result<Rc<Block<Internal<K>>>, DbError>
         requires { 0 < number }
-        ensures carries { Carries K.cmp (Only number) (seen_in S.facts self.old) (seen_in S.facts self.new) }
-        ensures found { IfOk (answer_of result) (λ pairs. SaysOf K.cmp (seen_in S.facts self.old) (seen_in S.facts self.new)
+        ensures carries { Carries K.cmp (Only number) (seen_through S.facts self.old) (seen_through S.facts self.new) }
+        ensures found { IfOk (answer_of result) (λ pairs. SaysOf K.cmp (seen_through S.facts self.old) (seen_through S.facts self.new)
             number (λ file. HasBlock K.cmp file handle pairs)) }
         ensures stood { OnOk result ((S.facts self.new.store).failures ≡ (S.facts self.old.store).failures) }
         // What it says of a table that the store has, it says where what is kept is right.
         ensures refused { IfErr (answer_of result) (λ e. RefusesTable e (S.facts self.old.store) (S.facts self.new.store) number
-            (λ file. HasTable K.cmp (seen_in S.facts self.old) number file → IsBlockDamaged K.cmp handle file)
-            (λ file. HasTable K.cmp (seen_in S.facts self.old) number file → IsBlockUnsupported handle file)) }
+            (λ file. HasTable K.cmp (seen_through S.facts self.old) number file → IsBlockDamaged K.cmp handle file)
+            (λ file. HasTable K.cmp (seen_through S.facts self.old) number file → IsBlockUnsupported handle file)) }
     {
         let table = self.get_table(alloc, number)?;
         self.blocks

@@ -4,7 +4,7 @@ ghost use Rattle.std.specs.Prelude.{◌≡◌, ◌<◌, ◌^◌, ◌+◌, length
 ghost use Rattle.cursor.specs.Moves.{Refuses};
 ghost use Rattle.ikey.specs.Orders.{order_of};
 ghost use Rattle.version_get.specs.Gets.{HasNoEntries, HasNoTablesOf, IsOneTooLong, IsOnlyTooLong, SaysOfAll, SaysOfTable};
-ghost use Rattle.table_access.specs.Tables.{Carries, Only, seen_in};
+ghost use Rattle.table_access.specs.Tables.{Carries, Only, seen_through};
 ghost use Rattle.table.specs.Reading.{IsStill};
 ghost use Rattle.versions.specs.Keeping.{HasNumber};
 
@@ -28,14 +28,14 @@ pub fn value_in_tables<K: KeyOrder, S: Store>(
     sequence: u64,
 ) -> Result<Option<Option<Bytes>>, DbError>
     requires { sequence < 2 ^ 56 }
-    ensures carries { Carries K.cmp (λ number. HasNumber number version.now.tables) (seen_in S.facts source.old)
-        (seen_in S.facts source.new) }
-    ensures found { IfOk result (λ value. SaysOfAll (order_of K.name K.cmp) (seen_in S.facts source.old) (seen_in S.facts source.new)
+    ensures carries { Carries K.cmp (λ number. HasNumber number version.now.tables) (seen_through S.facts source.old)
+        (seen_through S.facts source.new) }
+    ensures found { IfOk result (λ value. SaysOfAll (order_of K.name K.cmp) (seen_through S.facts source.old) (seen_through S.facts source.new)
         version.now.tables key.now sequence value) }
     ensures still { IsStill (S.facts source.old.store) (S.facts source.new.store) result }
     ensures refused { IfErr result (λ e. Refuses e (S.facts source.old.store) (S.facts source.new.store)
-        (HasNoTablesOf (order_of K.name K.cmp) (seen_in S.facts source.old) version.now.tables)
-        (IsOneTooLong (order_of K.name K.cmp) (seen_in S.facts source.old) version.now.tables)) }
+        (HasNoTablesOf (order_of K.name K.cmp) (seen_through S.facts source.old) version.now.tables)
+        (IsOneTooLong (order_of K.name K.cmp) (seen_through S.facts source.old) version.now.tables)) }
 {
     let target = seek_key(alloc, key, sequence)?;
     let end = search_end(version);
@@ -70,13 +70,13 @@ fn value_in_table<K: KeyOrder, S: Store>(
     sequence: u64,
 ) -> Result<Option<Option<Bytes>>, DbError>
     requires { sequence < 2 ^ 56 }
-    ensures carries { Carries K.cmp (Only placed.now.table.number) (seen_in S.facts source.old) (seen_in S.facts source.new) }
-    ensures found { IfOk result (λ value. SaysOfTable (order_of K.name K.cmp) (seen_in S.facts source.old) (seen_in S.facts source.new)
+    ensures carries { Carries K.cmp (Only placed.now.table.number) (seen_through S.facts source.old) (seen_through S.facts source.new) }
+    ensures found { IfOk result (λ value. SaysOfTable (order_of K.name K.cmp) (seen_through S.facts source.old) (seen_through S.facts source.new)
         placed.now key.now sequence value) }
     ensures still { IsStill (S.facts source.old.store) (S.facts source.new.store) result }
     ensures refused { IfErr result (λ e. Refuses e (S.facts source.old.store) (S.facts source.new.store)
-        (HasNoEntries (order_of K.name K.cmp) (seen_in S.facts source.old) placed.now)
-        (IsOnlyTooLong (order_of K.name K.cmp) (seen_in S.facts source.old) placed.now)) }
+        (HasNoEntries (order_of K.name K.cmp) (seen_through S.facts source.old) placed.now)
+        (IsOnlyTooLong (order_of K.name K.cmp) (seen_through S.facts source.old) placed.now)) }
 {
     let number = placed.table.number;
     // No file has the number 0, and the caches aren't asked for it.
