@@ -28,7 +28,8 @@ use Rattle.db_cursor.specs.declared.scan.Scan.{Scan}
 use Rattle.store.specs.Files.{Files}
 use Rattle.table_access.specs.Tables.{Seen}
 use Rattle.engine.specs.Accounted.{AreAccounted}
-use Rattle.engine.specs.Directory.{IsWithinLimits, Means, MeansAccepted}
+use Rattle.engine.specs.Directory.{Means, MeansAccepted}
+use Rattle.recover.specs.Limits.{IsWithinLimits}
 use Rattle.engine.specs.Held.{Held, entries_of}
 use Rattle.engine.specs.Iterators.{IsWalk}
 use Rattle.engine.specs.Live.{kept_at, IsBoth, AreLive, AreSnapshots, AreWalks, IsSnapshot}

@@ -38,7 +38,8 @@ use Rattle.store.specs.Files.{Files, Facts}
 use Rattle.table.proofs.FrameParts.{long_frame}
 use Rattle.versions.specs.Levels.{Lists}
 use Rattle.engine.specs.declared.ids.Ids.{Ids}
-use Rattle.engine.specs.Directory.{IsAtRest, IsReadable, IsWithinLimits}
+use Rattle.engine.specs.Directory.{IsAtRest, IsReadable}
+use Rattle.recover.specs.Limits.{IsWithinLimits}
 use Rattle.engine.specs.Held.{Held, whole_of}
 use Rattle.engine.specs.Iterators.{IsWalk, walked_of}
 use Rattle.engine.specs.Compacting.{IsCompacting}

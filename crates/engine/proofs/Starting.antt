@@ -20,7 +20,7 @@ use Rattle.db_cursor.specs.declared.scan.Scan.{Scan}
 use Rattle.version_laws.specs.Laws.{VersionLaw}
 use Rattle.version_laws.specs.Places.{table_sources}
 use Rattle.table_access.specs.Tables.{Seen}
-use Rattle.engine.specs.Directory.{IsWithinLimits}
+use Rattle.recover.specs.Limits.{IsWithinLimits}
 use Rattle.engine.specs.Held.{Held, whole_of, entries_of}
 use Rattle.engine.specs.Iterators.{BeginsWalk}
 use Rattle.engine.specs.Stands.{HasLog, HasTables}

@@ -6,7 +6,8 @@ use Rattle.ikey.specs.Views.{Among}
 use Rattle.memtable.specs.Contents.{byte_length}
 use Rattle.recover.specs.Entries.{RiseAbove}
 use Rattle.compact.specs.Rooms.{room_of}
-use Rattle.engine.specs.Accounted.{AreAccounted, entry_weight}
+use Rattle.engine.specs.Accounted.{AreAccounted}
+use Rattle.machine.specs.Machine.{entry_weight}
 
 -- no entry is there twice
 abbrev pub NoTwice : List Entry → Type 0

@@ -1,11 +1,8 @@
 -- How much a database can have: no entry that wasn't there at first or came with a batch.
-use Rattle.std.specs.Prelude.{◌≤◌, ℕ, ◌+◌, List, [], length, sum_by, unwrap_or}
+use Rattle.std.specs.Prelude.{◌≤◌, ℕ, List, length, sum_by}
 use Rattle.ikey.specs.declared.entry.Entry.{Entry}
 use Rattle.ikey.specs.Views.{Among}
-
--- what an entry weighs, as an operation does
-abbrev pub entry_weight : Entry → ℕ
-entry_weight entry = length entry.key + length (unwrap_or entry.value []) + 64
+use Rattle.machine.specs.Machine.{entry_weight}
 
 -- The entries are some of at most so many, which weigh no more than this.
 pub record AreAccounted (entries : List Entry) (most_entries most_weight : ℕ) : Type 0 where

@@ -46,3 +46,7 @@ IsBeyondChecking order files = IsBeyondReading order files
 -- Whatever consistent directory the files are, it passes a limit of reading: on the numbers of tables, or on blocks.
 abbrev pub PassesLimit : Order → Files → Type 0
 PassesLimit order files = (d : Directory) → IsConsistent order files d → HasPastLimit (fields_of d.edits) ⊎ AnyHasBytes (IsLongTable order) files d.tables
+
+-- None that they are does.
+abbrev pub IsWithinLimits : Order → Files → Type 0
+IsWithinLimits order files = (d : Directory) → IsConsistent order files d → HasPastLimit (fields_of d.edits) ⊎ AnyHasBytes (IsLongTable order) files d.tables → ⊥
