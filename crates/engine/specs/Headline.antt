@@ -1,0 +1,58 @@
+-- The headline: what a run over a store answers and leaves, from its files to its files.
+use Rattle.std.specs.Prelude.{◌≡◌, ◌⊎◌, ◌≤◌, ℕ, Bool, false, None, IsTrue, MatchOption, List, [], length, sum_by}
+use Rattle.std.specs.Cmp.{IsTotalOrder}
+use Rattle.std.specs.FinMap.{contains_key}
+use Rattle.store.specs.Files.{Files, Facts}
+use Rattle.ikey.specs.Orders.{Order}
+use Rattle.ikey.specs.Views.{IsView}
+use Rattle.ikey.specs.declared.entry.Entry.{Entry}
+use Rattle.edits.specs.Names.{name_of}
+use Rattle.edits.specs.declared.names.FileName.TheVariants.{Current}
+use Rattle.recover.specs.Directory.{IsDirectory}
+use Rattle.recover.specs.Limits.{IsWithinLimits}
+use Rattle.recover.specs.Numbers.{IsFree}
+use Rattle.machine.specs.declared.command.Answer.{Answer}
+use Rattle.machine.specs.declared.command.Op.{Op}
+use Rattle.machine.specs.Access.{accepted}
+use Rattle.machine.specs.Machine.{Machine, current, entry_weight}
+use Rattle.machine.specs.Step.{Run}
+
+-- The files are a database of what the machine accepted: they are empty or a consistent directory, whose entries show its map.
+pub record Holds (order : Order) (files : Files) (m : Machine) : Type 0 where
+  pub entries : List Entry
+  pub directory : IsDirectory order files entries m.used
+  pub view : IsView entries m.used (current m)
+
+-- What else it says of them: whether there is a database, a number from which on all are free, and whether all of it can be read.
+pub record Bounds (order : Order) (files : Files) (m : Machine) : Type 0 where
+  pub made : m.made ≡ contains_key files (name_of Current)
+  pub numbers : IsFree order files m.numbers
+  pub limits : m.over_limit ≡ false → IsWithinLimits order files
+
+-- The machine before the first command: nothing was accepted yet, nothing is open, and no id was given.
+pub record IsFirst (order : Order) (facts : Facts) (m : Machine) : Type 0 where
+  pub holds : Holds order facts.files m
+  pub bounds : Bounds order facts.files m
+  pub accepted : (m.batches ≡ []) × (m.in_doubt ≡ None)
+  pub closed : (m.opened ≡ false) × (m.broken ≡ false) × (m.snapshots ≡ []) × (m.iterators ≡ [])
+  pub ids : (m.last_snapshot ≡ 0) × (m.last_iterator ≡ 0)
+  pub counts : (m.failures ≡ facts.failures) × (m.denials ≡ facts.denials)
+  pub size : (m.first_entries ≡ length holds.entries) × (m.first_weight ≡ sum_by entry_weight holds.entries)
+
+-- The machine behind the last one: the files hold what it accepted, with the batch in doubt as a whole or without it.
+pub record IsLast (order : Order) (facts : Facts) (m : Machine) : Type 0 where
+  pub holds : MatchOption m.in_doubt (Holds order facts.files m) (λ batch. Holds order facts.files m ⊎ Holds order facts.files (accepted m batch))
+  pub bounds : Bounds order facts.files m
+  pub failures : m.failures ≤ facts.failures
+  pub denials : m.denials ≡ facts.denials
+
+-- While the store is faithful, each machine of the files at first gives these answers to these commands, and the files are then
+-- those of the machine that it comes to.
+abbrev pub Headline : Order → Facts → Facts → List Op → List Answer → Type 0
+Headline order old new ops answers =
+    IsTrue new.faithful → (first : Machine) → IsFirst order old first → (last : Machine) × Run order first ops answers last × IsLast order new last
+
+-- There is a machine of each empty or consistent directory; over no limit, where the directory passes none.
+abbrev pub FirstLaw : Type 0
+FirstLaw = (order : Order) (facts : Facts) (entries : List Entry) (used : ℕ) (over_limit : Bool) → IsTotalOrder order.cmp → IsDirectory order facts.files entries used
+    → (over_limit ≡ false → IsWithinLimits order facts.files) → (first : Machine) × IsFirst order facts first × (first.over_limit ≡ over_limit)

@@ -1,0 +1,60 @@
+//! A run over a store, from its files to its files.
+
+ghost use Rattle.std.specs.Prelude.{◌≡◌, ◌++◌, List, IsTrue, OnOk, OnErr, IfErr};
+ghost use Rattle.coding.specs.declared.error.DbError.TheVariants.{OutOfMemory};
+ghost use Rattle.ikey.specs.Orders.{order_of};
+ghost use Rattle.machine.specs.declared.command.Answer.{Answer};
+ghost use Rattle.engine.specs.Headline.{Headline, FirstLaw};
+ghost use Rattle.engine.specs.Touching.{LeavesStore};
+ghost use Rattle.engine.specs.Bridges.{StartsLaw, EndsLaw};
+
+use crate::options::Options;
+use crate::session::Session;
+use coding::DbError;
+use ikey::KeyOrder;
+use machine::{Answer, Op};
+use recover::{distinct_law, one_manifest};
+use std::alloc::Global;
+use store::Store;
+
+/// Law: there is a first machine of each directory that is empty or consistent, and so of each that `recover::check` finds good.
+pub fn there_is_a_first()
+    ensures { FirstLaw }
+{
+    // Laws, for the proof alone.
+    distinct_law();
+    one_manifest();
+}
+
+// Law: a new session over these files may be in it.
+fn starts()
+    ensures { StartsLaw }
+{}
+
+// Law: the files of a session that is closed are those of the machine at which it ended.
+fn ends()
+    ensures { EndsLaw }
+{}
+
+/// Runs commands over a store in which no database is open, and puts their answers behind those that `sink` has. A database
+/// that is open at the end is closed. Where there is no memory for the answers, nothing is done.
+pub fn run_over<S: Store, K: KeyOrder>(
+    alloc: Global,
+    store: S,
+    options: Options,
+    ops: &[Op],
+    sink: &mut Vec<Answer>,
+) -> (Result<(), DbError>, S)
+    ensures headline { OnOk result.0 ((answers : List Answer) × (sink.new.items ≡ sink.old.items ++ answers)
+        × Headline (order_of K.name K.cmp) (S.facts store) (S.facts result.1) ops.now answers) }
+    ensures refused { OnErr result.0 ((sink.new.items ≡ sink.old.items) × LeavesStore (S.facts store) (S.facts result.1)) }
+    ensures memory { IfErr result.0 (λ error. error ≡ OutOfMemory) }
+    ensures faithful { IsTrue (S.facts result.1).faithful → IsTrue (S.facts store).faithful }
+{
+    // Laws, for the proof alone.
+    starts();
+    ends();
+    let mut session: Session<S, K> = Session::new(alloc, store, options);
+    let result = session.run(alloc, ops, sink);
+    (result, session.into_store())
+}
