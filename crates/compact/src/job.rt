@@ -9,13 +9,13 @@ ghost use Rattle.ikey.specs.declared.entry.Entry.{Entry};
 ghost use Rattle.compact.specs.Choosing.{Precedes};
 ghost use Rattle.compact.specs.Merging.{IsUpTo};
 
-use crate::chosen::{set_bytes, write_chosen};
+use crate::chosen::write_chosen;
 use crate::deeper::DeeperFiles;
 use crate::job_edit::edit_of;
 use crate::outputs::Outputs;
 use crate::selection::Selection;
 use coding::{Damage, DbError, FileKind};
-use cursor::Cursor;
+use cursor::{Cursor, copy_to};
 use edits::{Edit, FileNumbers};
 use ikey::{KeyOrder, Kind, unpack};
 use std::alloc::Global;
@@ -282,8 +282,8 @@ impl<K: KeyOrder, C: Drop> Job<K, C> {
         if !comes_behind::<K>(self.last.as_slice(), bytes) {
             return Err(DbError::Corrupt(FileKind::Table, Damage::Order));
         }
-        set_bytes(&mut self.last, bytes)?;
-        set_bytes(&mut self.value, self.cursor.value(source))?;
+        copy_to(&mut self.last, bytes)?;
+        copy_to(&mut self.value, self.cursor.value(source))?;
         let Some(key) = unpack(self.last.as_slice()) else {
             return Err(DbError::Corrupt(FileKind::Table, Damage::Kind));
         };

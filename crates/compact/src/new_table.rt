@@ -9,8 +9,8 @@ ghost use Rattle.table.specs.Reading.{HasFile};
 ghost use Rattle.table.specs.Writing.{Writes, IsTableOf, NeedsLongEnds};
 ghost use Rattle.compact.specs.Outputs.{table_name, RefusesEntry};
 
-use crate::chosen::set_bytes;
 use coding::{Bytes, Damage, DbError, FileKind};
+use cursor::copy_to;
 use edits::{FileName, TableFile, print_name};
 use ikey::{KeyOrder, unpack};
 use std::alloc::{AllocError, Global};
@@ -100,7 +100,7 @@ impl<K: KeyOrder> NewTable<K> {
         if !self.builder.accepts(key) {
             return Err(DbError::Corrupt(FileKind::Table, Damage::Order));
         }
-        set_bytes(&mut self.largest, key)?;
+        copy_to(&mut self.largest, key)?;
         self.builder.add(store, key, value)?;
         Ok(())
     }

@@ -14,6 +14,7 @@ mod standing;
 mod visible;
 mod walking;
 
+pub use copying::copy_to;
 pub use cursor::Cursor;
 pub use laws::{each_list_has_a_view, lists_have_a_union, views_agree};
 pub use list_cursor::ListCursor;

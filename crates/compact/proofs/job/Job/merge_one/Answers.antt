@@ -26,19 +26,19 @@ returns-clause-merged g c = λ came entry rest t h.
     let at : Listed = listed (came ++ entry ∷ rest) (within (came ++ entry ∷ rest) (length came)) in
     let is_key : IsKey c.key-bytes.result.now entry.key = c.key-bytes.ensures at (length came) entry h.left (standing came entry rest) (at_place came entry rest) in
     let value_is : c.value.result.now ≡ entry.value = c.value.ensures at (length came) entry h.left (standing came entry rest) (at_place came entry rest) in
-    let over_is : IsKey c.set_bytes.new.bytes.items entry.key = subst (λ (bytes : List ℕ). IsKey bytes entry.key) (sym c.in_ok-set_bytes.ensures) is_key in
+    let over_is : IsKey c.copy_to.new.buffer.items entry.key = subst (λ (bytes : List ℕ). IsKey bytes entry.key) (sym c.in_ok-copy_to.ensures.ok) is_key in
     let k : Key = key_of c.in-Some.key in
-    let same : entry.key ≡ k = same_key c.set_bytes.new.bytes.items entry.key k over_is (subst (λ (bytes : List ℕ). IsKey bytes k) c.as_slice-2.ensures.value c.in-Some.ensures.found) in
+    let same : entry.key ≡ k = same_key c.copy_to.new.buffer.items entry.key k over_is (subst (λ (bytes : List ℕ). IsKey bytes k) c.as_slice-2.ensures.value c.in-Some.ensures.found) in
     job-step g.K.KeyOrder.cmp (g.D.DeeperFiles.covers c.args.deeper.now) g.S.Store.facts g.H.HasStore.store_of g.H.HasStore.with_store g.H.HasStore.gathers g.C.Cursor.facts g.C.Cursor.lists g.C.Cursor.keeps g.C.Cursor.limited g.C.Cursor.leaves g.C.Cursor.over
     c.requires.facts g.met.H.HasStore.replaced g.met.H.HasStore.apart c.requires.gathers g.met.C.Cursor.kept
-    c.args.self.now.last.items c.set_bytes.new.bytes.items c.args.self.now.cursor c.next.new.self c.args.self.now.selection c.take.new.self c.args.self.now.outputs c.write_chosen.new.outputs
+    c.args.self.now.last.items c.copy_to.new.buffer.items c.args.self.now.cursor c.next.new.self c.args.self.now.selection c.take.new.self c.args.self.now.outputs c.write_chosen.new.outputs
     c.args.source.now c.store_mut.result.now c.write_chosen.new.store c.next.new.source c.args.numbers.now.next c.write_chosen.new.numbers.next came entry rest c.in_ok-choice.choice
     c.store_mut.ensures.value (writes-mine (g.S.Store.facts c.store_mut.result.now) (g.S.Store.facts c.write_chosen.new.store) c.args.self.now.outputs c.args.numbers.now.next c.write_chosen.new.numbers.next c.write_chosen.new.numbers.in_range.1 c.in_ok-write_chosen.ensures.writes) c.in_ok-write_chosen.ensures.numbers c.write_chosen.new.numbers.in_range.1 c.in_ok-write_chosen.ensures.mine c.in_ok-next.ensures.moves c.in_ok-next.ensures.stays t over_is
     (λ last_key x is up. c.comes_behind.ensures.behind c.if-not-comes_behind.false last_key entry.key x (entry_of entry) (subst (λ (bytes : List ℕ). IsKey bytes last_key) (sym c.as_slice.ensures.value) is) is_key up refl refl)
     (λ xs ys behind chosen. c.in_ok-choice.ensures.chosen xs ys (entry_of entry) (ap (λ (x : Key). x.user) same) (ap (λ (x : Key). x.sequence) same) (kind-kept entry.key.kind entry.value ∙ ap (λ (x : Key). x.kind) same) behind chosen)
     (λ tb pairs kept are is.
     let new = c.in_ok-write_chosen.ensures.written pairs kept (rewritten entry) tb
-    (is-rewritten c.as_slice-3.result.now c.kept_value.result.now c.as_slice-4.result.now entry k.kind (subst (λ (bytes : List ℕ). IsKey bytes entry.key) (sym c.as_slice-3.ensures.value) over_is) (ap (λ (x : Key). x.kind) same) (c.as_slice-4.ensures.value ∙ c.in_ok-set_bytes-2.ensures ∙ value_is) c.kept_value.ensures)
+    (is-rewritten c.as_slice-3.result.now c.kept_value.result.now c.as_slice-4.result.now entry k.kind (subst (λ (bytes : List ℕ). IsKey bytes entry.key) (sym c.as_slice-3.ensures.value) over_is) (ap (λ (x : Key). x.kind) same) (c.as_slice-4.ensures.value ∙ c.in_ok-copy_to-2.ensures.ok ∙ value_is) c.kept_value.ensures)
     (ap (λ (x : Key). x.user) same) are is in
     (new.0, new.1, new.2, new.3, new.4 ∙ (λ i. written_for c.in_ok-choice.choice (c.released.ensures.value i) (same-rewritten entry i)), new.5 (well-rewritten entry)))
     h
@@ -55,7 +55,7 @@ pub returns-in_default-clause-refused : goal.returns-in_default-clause-refused
 returns-in_default-clause-refused g c = λ t came entry rest h own.
     let at : Listed = listed (came ++ entry ∷ rest) (within (came ++ entry ∷ rest) (length came)) in
     let is_key : IsKey c.key-bytes.result.now entry.key = c.key-bytes.ensures at (length came) entry h.left (standing came entry rest) (at_place came entry rest) in
-    c.in_default.ensures.none entry.key (subst (λ (bytes : List ℕ). IsKey bytes entry.key) (sym (c.as_slice-2.ensures.value ∙ c.in_ok-set_bytes.ensures)) is_key)
+    c.in_default.ensures.none entry.key (subst (λ (bytes : List ℕ). IsKey bytes entry.key) (sym (c.as_slice-2.ensures.value ∙ c.in_ok-copy_to.ensures.ok)) is_key)
 
 pub returns-in_err-write_chosen-clause-refused : goal.returns-in_err-write_chosen-clause-refused
 returns-in_err-write_chosen-clause-refused g c =
@@ -74,16 +74,16 @@ returns-in_err-write_chosen-clause-refused g c =
     let at : Listed = listed (came ++ entry ∷ rest) (within (came ++ entry ∷ rest) (length came)) in
     let is_key : IsKey c.key-bytes.result.now entry.key = c.key-bytes.ensures at (length came) entry h.left (standing came entry rest) (at_place came entry rest) in
     let value_is : c.value.result.now ≡ entry.value = c.value.ensures at (length came) entry h.left (standing came entry rest) (at_place came entry rest) in
-    let over_is : IsKey c.set_bytes.new.bytes.items entry.key = subst (λ (bytes : List ℕ). IsKey bytes entry.key) (sym c.in_ok-set_bytes.ensures) is_key in
+    let over_is : IsKey c.copy_to.new.buffer.items entry.key = subst (λ (bytes : List ℕ). IsKey bytes entry.key) (sym c.in_ok-copy_to.ensures.ok) is_key in
     let k : Key = key_of c.in-Some.key in
-    let same : entry.key ≡ k = same_key c.set_bytes.new.bytes.items entry.key k over_is (subst (λ (bytes : List ℕ). IsKey bytes k) c.as_slice-2.ensures.value c.in-Some.ensures.found) in
+    let same : entry.key ≡ k = same_key c.copy_to.new.buffer.items entry.key k over_is (subst (λ (bytes : List ℕ). IsKey bytes k) c.as_slice-2.ensures.value c.in-Some.ensures.found) in
     let chosen = c.in_ok-choice.ensures.chosen (map entry_of came) (map entry_of h.merging.kept) (entry_of entry) (ap (λ (x : Key). x.user) same) (ap (λ (x : Key). x.sequence) same)
     (kind-kept entry.key.kind entry.value ∙ ap (λ (x : Key). x.kind) same)
     (λ x m. let b = h.merging.bound x m in
     c.comes_behind.ensures.behind c.if-not-comes_behind.false b.0 entry.key x (entry_of entry) (subst (λ (bytes : List ℕ). IsKey bytes b.0) (sym c.as_slice.ensures.value) b.1) is_key b.2 refl refl)
     h.merging.chooses in
     none.1 (subst (λ (f : Facts). IsTrue f.faithful) (sym same_new) t) h.merging.written h.merging.kept (rewritten entry)
-    (is-rewritten c.as_slice-3.result.now c.kept_value.result.now c.as_slice-4.result.now entry k.kind (subst (λ (bytes : List ℕ). IsKey bytes entry.key) (sym c.as_slice-3.ensures.value) over_is) (ap (λ (x : Key). x.kind) same) (c.as_slice-4.ensures.value ∙ c.in_ok-set_bytes-2.ensures ∙ value_is) c.kept_value.ensures)
+    (is-rewritten c.as_slice-3.result.now c.kept_value.result.now c.as_slice-4.result.now entry k.kind (subst (λ (bytes : List ℕ). IsKey bytes entry.key) (sym c.as_slice-3.ensures.value) over_is) (ap (λ (x : Key). x.kind) same) (c.as_slice-4.ensures.value ∙ c.in_ok-copy_to-2.ensures.ok ∙ value_is) c.kept_value.ensures)
     (ap (λ (x : Key). x.user) same) h.merging.written_are
     (record {
       written = subst (λ s. HasWritten g.K.KeyOrder.cmp c.args.self.now.outputs (g.S.Store.facts s) c.args.numbers.now.next h.merging.written) (sym c.store_mut.ensures.value) h.merging.has_written;
@@ -95,9 +95,9 @@ returns-in_err-write_chosen-clause-refused g c =
     let at : Listed = listed (came ++ entry ∷ rest) (within (came ++ entry ∷ rest) (length came)) in
     let is_key : IsKey c.key-bytes.result.now entry.key = c.key-bytes.ensures at (length came) entry h.left (standing came entry rest) (at_place came entry rest) in
     let value_is : c.value.result.now ≡ entry.value = c.value.ensures at (length came) entry h.left (standing came entry rest) (at_place came entry rest) in
-    let over_is : IsKey c.set_bytes.new.bytes.items entry.key = subst (λ (bytes : List ℕ). IsKey bytes entry.key) (sym c.in_ok-set_bytes.ensures) is_key in
+    let over_is : IsKey c.copy_to.new.buffer.items entry.key = subst (λ (bytes : List ℕ). IsKey bytes entry.key) (sym c.in_ok-copy_to.ensures.ok) is_key in
     let k : Key = key_of c.in-Some.key in
-    let same : entry.key ≡ k = same_key c.set_bytes.new.bytes.items entry.key k over_is (subst (λ (bytes : List ℕ). IsKey bytes k) c.as_slice-2.ensures.value c.in-Some.ensures.found) in
+    let same : entry.key ≡ k = same_key c.copy_to.new.buffer.items entry.key k over_is (subst (λ (bytes : List ℕ). IsKey bytes k) c.as_slice-2.ensures.value c.in-Some.ensures.found) in
     let chosen = c.in_ok-choice.ensures.chosen (map entry_of came) (map entry_of h.merging.kept) (entry_of entry) (ap (λ (x : Key). x.user) same) (ap (λ (x : Key). x.sequence) same)
     (kind-kept entry.key.kind entry.value ∙ ap (λ (x : Key). x.kind) same)
     (λ x m. let b = h.merging.bound x m in
@@ -106,7 +106,7 @@ returns-in_err-write_chosen-clause-refused g c =
     inr (large-chosen (g.D.DeeperFiles.covers c.args.deeper.now) c.take.new.self c.in-Some.key.user.now c.released.result.now c.in_ok-choice.choice g.K.KeyOrder.cmp h.merging.written came rest h.merging.kept entry
     long.0 (ap (λ (x : Key). x.user) same) c.released.ensures.value h.merging.written_are h.merging.well_kept chosen
     (long.1 (subst (λ (f : Facts). IsTrue f.faithful) (sym same_new) t) h.merging.written h.merging.kept (rewritten entry)
-    (is-rewritten c.as_slice-3.result.now c.kept_value.result.now c.as_slice-4.result.now entry k.kind (subst (λ (bytes : List ℕ). IsKey bytes entry.key) (sym c.as_slice-3.ensures.value) over_is) (ap (λ (x : Key). x.kind) same) (c.as_slice-4.ensures.value ∙ c.in_ok-set_bytes-2.ensures ∙ value_is) c.kept_value.ensures)
+    (is-rewritten c.as_slice-3.result.now c.kept_value.result.now c.as_slice-4.result.now entry k.kind (subst (λ (bytes : List ℕ). IsKey bytes entry.key) (sym c.as_slice-3.ensures.value) over_is) (ap (λ (x : Key). x.kind) same) (c.as_slice-4.ensures.value ∙ c.in_ok-copy_to-2.ensures.ok ∙ value_is) c.kept_value.ensures)
     (ap (λ (x : Key). x.user) same) (well-rewritten entry) h.merging.written_are
     (record {
       written = subst (λ s. HasWritten g.K.KeyOrder.cmp c.args.self.now.outputs (g.S.Store.facts s) c.args.numbers.now.next h.merging.written) (sym c.store_mut.ensures.value) h.merging.has_written;

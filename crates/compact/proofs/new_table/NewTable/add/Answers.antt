@@ -11,6 +11,6 @@ returns-clause-added g c = λ pairs t none h.
     let a : Facts = g.S.Store.facts c.args.store.now in
     let b : Facts = g.S.Store.facts c.add.new.store in
     let pair : Pair = record { key = c.args.key.now; value = c.args.value.now } in
-    let new : Filling = record { number = c.self.inside.number; smallest = c.self.inside.smallest; largest = c.set_bytes.new.bytes.items; building = c.add.new.self } in
-    filling-more g.K.KeyOrder.cmp c.args.self.now new a b pairs pair (ap (λ (f : Filling). f.smallest) c.self.view_is) c.in_ok-set_bytes.ensures none
+    let new : Filling = record { number = c.self.inside.number; smallest = c.self.inside.smallest; largest = c.copy_to.new.buffer.items; building = c.add.new.self } in
+    filling-more g.K.KeyOrder.cmp c.args.self.now new a b pairs pair (ap (λ (f : Filling). f.smallest) c.self.view_is) c.in_ok-copy_to.ensures.ok none
     (λ builds. c.in_ok-add.ensures.added pairs t (subst (λ (f : Filling). Builds g.K.KeyOrder.cmp f.building a pairs) (sym c.self.view_is) builds)) h
