@@ -10,14 +10,25 @@ import tempfile
 
 sys.dont_write_bytecode = True
 ROOT = os.path.dirname(os.path.dirname(os.path.realpath(__file__)))
-RT = os.environ.get("RT") or shutil.which("rt") or "/opt/rattle/bin/rt"
+RT = shutil.which(os.environ.get("RT") or "rt") or os.environ.get("RT") or "/opt/rattle/bin/rt"
+
+# What a check takes at most, so that as many run side by side as there are processors, where the memory is there. (By itself rt
+# reckons twice that for `engine`, which then waits until nearly all edits below it were tried.)
+MEMORY_OF_A_CHECK = 5 << 30
+
+
+def lanes():
+    """How many checks run side by side: as the environment says, or as there are processors and memory."""
+    memory = os.sysconf("SC_PHYS_PAGES") * os.sysconf("SC_PAGE_SIZE")
+    said = os.environ.get("RT_JOBS", "")
+    return int(said) if said.isdigit() and int(said) else max(1, min(len(os.sched_getaffinity(0)), memory // MEMORY_OF_A_CHECK))
 
 
 @functools.cache
-def crates():
+def crates(root=ROOT):
     """The crates of crates.txt, lowest first, each with the libraries that it names."""
     found = {}
-    with open(f"{ROOT}/crates.txt", encoding="utf-8") as lines:
+    with open(f"{root}/crates.txt", encoding="utf-8") as lines:
         for line in lines:
             words, _, libraries = line.partition("#")[0].partition(":")
             if words.split():
@@ -26,20 +37,29 @@ def crates():
 
 
 @functools.cache
-def below(crate):
+def below(crate, root=ROOT):
     """The crates of the repository on which this one stands."""
     found = []
-    for it in crates().get(crate, []):
-        if it in crates():
-            found += [other for other in [*below(it), it] if other not in found]
+    for it in crates(root).get(crate, []):
+        if it in crates(root):
+            found += [other for other in [*below(it, root), it] if other not in found]
     return found
 
 
-def edits(folder):
+def edits(folder, root=ROOT):
     """The edits of a folder, in the order of their names."""
-    path = f"{ROOT}/{folder}"
+    path = f"{root}/{folder}"
     names = sorted(os.listdir(path)) if os.path.isdir(path) else []
     return [f"{folder}/{it}" for it in names if it.endswith(".edit")]
+
+
+def edits_of(crate, root=ROOT):
+    """All edits of a crate: those that the gate may try, and those that only tools/bugs does."""
+    return [*edits(f"crates/{crate}/must-fail", root), *edits(f"bugs/{crate}", root)]
+
+
+def is_program(crate):
+    return os.path.isfile(f"{ROOT}/crates/{crate}/src/main.rt")
 
 
 def asked(words):
@@ -50,18 +70,30 @@ def asked(words):
     return words or list(crates())
 
 
+def texts():
+    """The files that git knows or would, whoever owns the checkout."""
+    listing = ["git", "-c", f"safe.directory={ROOT}", "ls-files", "-z", "--cached", "--others", "--exclude-standard"]
+    found = subprocess.check_output(listing, cwd=ROOT, text=True).split("\0")
+    return [it for it in found if it and os.path.isfile(f"{ROOT}/{it}")]
+
+
 @contextlib.contextmanager
-def copied(name, built):
-    """A copy of the files that git knows or would, with out/ of the crates named; it is gone at the end."""
+def copied(name, built=()):
+    """A copy of the files that git knows or would, with the libraries of the crates named that stand here; it is gone at the end."""
     signal.signal(signal.SIGTERM, lambda *_: sys.exit(143))
     os.makedirs(f"{ROOT}/build", exist_ok=True)
     with tempfile.TemporaryDirectory(prefix=f"{name}-", dir=f"{ROOT}/build") as copy:
-        listing = ["git", "ls-files", "-z", "--cached", "--others", "--exclude-standard"]
-        for path in subprocess.check_output(listing, cwd=ROOT, text=True).split("\0"):
-            if path and os.path.isfile(f"{ROOT}/{path}"):
-                os.makedirs(os.path.dirname(f"{copy}/{path}"), exist_ok=True)
-                shutil.copy2(f"{ROOT}/{path}", f"{copy}/{path}")
+        for path in texts():
+            os.makedirs(os.path.dirname(f"{copy}/{path}"), exist_ok=True)
+            shutil.copy2(f"{ROOT}/{path}", f"{copy}/{path}")
         for crate in built:
-            if os.path.isdir(f"{ROOT}/crates/{crate}/out"):
-                shutil.copytree(f"{ROOT}/crates/{crate}/out", f"{copy}/crates/{crate}/out", symlinks=True)
+            lend(crate, copy)
         yield copy
+
+
+def lend(crate, copy):
+    """Gives a copy the crate's library, where it stands here. Its files are never written in place, so that links do."""
+    library = f"{ROOT}/crates/{crate}/out/rlib"
+    if os.path.isfile(f"{library}/stamp"):
+        shutil.rmtree(f"{copy}/crates/{crate}/out/rlib", ignore_errors=True)
+        shutil.copytree(library, f"{copy}/crates/{crate}/out/rlib", symlinks=True, copy_function=os.link)
