@@ -1,22 +1,31 @@
 """What the checks of this folder share: their list, the programs under test, LevelDB, and folders."""
 import os
+import re
 import shutil
+import struct
 import subprocess
 import sys
 import tempfile
 
 sys.path.append(os.path.join(os.path.dirname(os.path.dirname(os.path.abspath(__file__))), "tools"))
-from listed import CHECKS, Wrong, check  # noqa: E402  pylint: disable=wrong-import-position
+from listed import CHECKS, Wrong, check, parser, run_checks  # noqa: E402,F401  pylint: disable=wrong-import-position,unused-import
 
-if len(sys.argv) != 4:
-    sys.exit("usage: checks.py QUICKSTART LDBTOOL LEVELDB_DRIVER")
-QUICKSTART, LDBTOOL, LEVELDB = map(os.path.abspath, sys.argv[1:])
+
+class Programs:
+    """The programs under test, and LevelDB behind its command line; whoever runs the checks says where they are."""
+
+    quickstart = ldbtool = leveldb = ""
+
 
 SECONDS = 60
 
-# what QUICKSTART writes
+# what quickstart writes
 KEY = "61"
 WRITTEN = "31"
+
+BLOCK = 32768
+FRAGMENT_HEADER = 7
+
 
 def want(holds, text):
     if not holds:
@@ -36,11 +45,11 @@ def run(words, **how):
 
 
 def ldbtool(verb, folder, script=None, flags=()):
-    return run([LDBTOOL, verb, *flags, folder], input=script)
+    return run([Programs.ldbtool, verb, *flags, folder], input=script)
 
 
 def prints(verb, folder, script=None, flags=()):
-    """What LDBTOOL prints over a folder that it is to accept."""
+    """What ldbtool prints over a folder that it is to accept."""
     ran = ldbtool(verb, folder, script, flags)
     want(ran.returncode == 0, f"ldbtool {verb} ended with status {ran.returncode}: {short(ran.stdout + ran.stderr)}")
     want(ran.stderr == "", f"ldbtool {verb} complained: {short(ran.stderr)}")
@@ -53,11 +62,36 @@ def want_answers(folder, script, wanted, whose, flags=()):
     want_lines(found, "".join(line + "\n" for line in wanted), whose)
 
 
+def quickstart(folder):
+    """Runs the program under test over a folder, which it is to accept: the value before, and the log."""
+    ran = run([Programs.quickstart, folder])
+    want(ran.returncode == 0, f"quickstart ended with status {ran.returncode}: {short(ran.stderr)}")
+    lines = ran.stdout.split("\n")
+    want(len(lines) == 4 and lines[3] == "", f"quickstart printed {len(lines) - 1} lines, not 3: {short(ran.stdout)}")
+    want(lines[1] == WRITTEN, f"quickstart printed {short(lines[1])} for the value that it had just written")
+    return lines[0] or "-", bytes.fromhex(lines[2])
+
+
+def refused(folder, name):
+    """Runs the program under test over a folder, which it is to refuse by this name and to leave as it is."""
+    before = contents(folder)
+    ran = run([Programs.quickstart, folder])
+    want(ran.returncode == 1, f"quickstart ended with status {ran.returncode}, not 1: {short(ran.stdout + ran.stderr)}")
+    want(re.search(rf"\b{name}\b", ran.stderr) is not None, f"quickstart was refused, but not with {name}: {short(ran.stderr)}")
+    want(ran.stdout == "", f"a refused quickstart printed {short(ran.stdout)}")
+    want(contents(folder) == before, "a refused quickstart changed the folder")
+
+
+def leveldb_writes(folder, lines, *flags):
+    ran = run([Programs.leveldb, "write", *flags, folder], input="".join(line + "\n" for line in lines))
+    want(ran.returncode == 0, f"LevelDB did not write: {short(ran.stderr)}")
+
+
 def leveldb_reads(folder, *flags):
     """What LevelDB finds in a copy of the folder, as a map."""
     with tempfile.TemporaryDirectory(prefix="interop-") as room:
         copy = copied(folder, room)
-        ran = run([LEVELDB, "dump", *flags, copy])
+        ran = run([Programs.leveldb, "dump", *flags, copy])
         want(ran.returncode == 0, f"LevelDB did not open the folder: {short(ran.stderr)}")
     pairs = [line.split(" ") for line in ran.stdout.splitlines()]
     keys = [bytes.fromhex(key.replace("-", "")) for key, _ in pairs]
@@ -67,7 +101,7 @@ def leveldb_reads(folder, *flags):
 
 def leveldb(verb, folder, *flags, lines=()):
     """What LevelDB prints, over the folder itself."""
-    ran = run([LEVELDB, verb, *flags, folder], input="".join(line + "\n" for line in lines))
+    ran = run([Programs.leveldb, verb, *flags, folder], input="".join(line + "\n" for line in lines))
     want(ran.returncode == 0, f"LevelDB did not {verb}: {short(ran.stderr)}")
     return ran.stdout
 
@@ -104,6 +138,25 @@ def bytes_of(path):
         return file.read()
 
 
+def last_log(folder):
+    return os.path.join(folder, files_of(folder, ".log")[-1])
+
+
+def want_logs_alone(folder):
+    tables = files_of(folder, ".ldb") + files_of(folder, ".sst")
+    want(not tables, f"the folder has tables, so this check would say nothing: {tables}")
+
+
+def sequence_of(log):
+    """The sequence of the one batch of a log that quickstart has just made."""
+    want(len(log) >= FRAGMENT_HEADER + 8, f"the log has {len(log)} bytes")
+    return struct.unpack_from("<Q", log, FRAGMENT_HEADER)[0]
+
+
+def operations_in(opens):
+    return sum(line.startswith(("put", "del")) for lines in opens for line in lines)
+
+
 # ---- what was found
 
 
@@ -123,3 +176,13 @@ def want_lines(found, wanted, whose):
         less = [line for line in wanted if line not in set(found)] or wanted
         more = [line for line in found if line not in set(wanted)] or found
         raise Wrong(f"{whose}: {len(found)} lines in place of {len(wanted)}, {short(str(more[:2]))} for {short(str(less[:2]))}")
+
+
+def read_and_go_on(folder, operations):
+    """Has quickstart read a folder that LevelDB wrote, and LevelDB read what is there after it."""
+    want_logs_alone(folder)
+    wanted = leveldb_reads(folder)
+    before, log = quickstart(folder)
+    want(before == wanted.get(KEY, "none"), f"quickstart printed {short(before)}, LevelDB has {short(wanted.get(KEY, 'none'))}")
+    want(sequence_of(log) == operations + 1, f"quickstart wrote at sequence {sequence_of(log)}, behind {operations} operations")
+    want_map(leveldb_reads(folder), {**wanted, KEY: WRITTEN})

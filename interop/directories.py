@@ -12,8 +12,8 @@ import subprocess
 import tempfile
 
 from beside import (
-    LEVELDB,
     SECONDS,
+    Programs,
     bytes_of,
     check,
     contents,
@@ -300,7 +300,7 @@ def no_lock(room):
     os.mkdir(empty)
     want(prints("check", empty) == "empty\n" and prints("dump", empty) == "", "an empty folder isn't empty")
     held = copied(history(1), room)
-    holder = subprocess.Popen([LEVELDB, "hold", "--reuse", held], stdin=subprocess.PIPE, stdout=subprocess.PIPE, text=True)
+    holder = subprocess.Popen([Programs.leveldb, "hold", "--reuse", held], stdin=subprocess.PIPE, stdout=subprocess.PIPE, text=True)
     try:
         want(holder.stdout.readline() == "held\n", "LevelDB did not open the folder")
         want(prints("check", held).startswith("good\n"), "a folder that LevelDB holds is not good")

@@ -1,13 +1,12 @@
 """How tools/program runs ldbtool and compares what it prints."""
 import os
 import subprocess
-import sys
 
 from listed import Wrong
 from repository import ROOT
 
-PROGRAM = os.path.abspath(sys.argv[1] if len(sys.argv) > 1 else f"{ROOT}/build/ldbtool")
 SECONDS = 60
+
 
 def want(found, wanted, what):
     if found != wanted:
@@ -22,8 +21,26 @@ def short(it):
 # ---- the program
 
 
+class Under:
+    """The program under test: what `make build` made, where nothing else is said."""
+
+    program = os.environ.get("LDBTOOL") or f"{ROOT}/build/ldbtool"
+
+
+def under_test(path=None):
+    """Where the program is that the checks run; a path that is given is that from now on."""
+    if path:
+        Under.program = path
+    return os.path.abspath(Under.program)
+
+
+def missing():
+    """Why the checks can't run, or nothing."""
+    return "" if os.path.isfile(under_test()) else f"there is no {under_test()}: make build proves and makes it"
+
+
 def ldbtool(*words, script=b"", **how):
-    return subprocess.run([PROGRAM, *words], input=script, capture_output=True, timeout=SECONDS, **how)
+    return subprocess.run([under_test(), *words], input=script, capture_output=True, timeout=SECONDS, **how)
 
 
 def lines(*texts):

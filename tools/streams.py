@@ -11,7 +11,7 @@ import time
 
 from files import ONE_TABLE, bytes_of, log_file, new_folder, with_table
 from listed import check
-from running import PROGRAM, SECONDS, ldbtool, lines, want, want_answers, want_entries, want_report
+from running import SECONDS, ldbtool, lines, under_test, want, want_answers, want_entries, want_report
 
 
 def failing_behind(count):
@@ -29,7 +29,7 @@ def want_beginning(room, words, script, whole, count):
     path = f"{room}/output"
     with open(path, "wb") as output:
         how = {"input": script, "stdout": output, "stderr": subprocess.PIPE, "timeout": SECONDS, "preexec_fn": failing_behind(count)}
-        ran = subprocess.run([PROGRAM, *words], **how)
+        ran = subprocess.run([under_test(), *words], **how)
     wanted = (0, whole) if count >= len(whole) else (1, whole[:count])
     want((ran.returncode, bytes_of(room, "output")), wanted, f"{words[0]} behind byte {count} of {len(whole)}")
     # the limit holds for standard error too, but that is a pipe
@@ -66,7 +66,7 @@ def full_device(room):
     folder = with_table(room, "folder", ONE_TABLE)
     for words in (["dump", folder], ["check", folder], ["run", folder], ["--help"], ["--version"]):
         with open("/dev/full", "wb") as full:
-            ran = subprocess.run([PROGRAM, *words], input=b"get 61\n", stdout=full, stderr=subprocess.PIPE, timeout=SECONDS)
+            ran = subprocess.run([under_test(), *words], input=b"get 61\n", stdout=full, stderr=subprocess.PIPE, timeout=SECONDS)
         want((ran.returncode, ran.stderr[:9]), (1, b"ldbtool: "), f"{words} to /dev/full")
 
 
@@ -79,7 +79,7 @@ def closed_pipe(room):
         if words[0] != "dump":
             # (a short text would be written before a later close)
             os.close(reading)
-        with subprocess.Popen([PROGRAM, *words], stdin=subprocess.PIPE, stdout=writing, stderr=subprocess.PIPE) as ran:
+        with subprocess.Popen([under_test(), *words], stdin=subprocess.PIPE, stdout=writing, stderr=subprocess.PIPE) as ran:
             os.close(writing)
             if words[0] == "dump":
                 os.read(reading, 1)
@@ -91,7 +91,7 @@ def closed_pipe(room):
 @contextlib.contextmanager
 def at_hand(folder, *options):
     """The program with its input and output at hand; at the end the input is closed, and the rest of the output read."""
-    with subprocess.Popen([PROGRAM, "run", *options, folder], stdin=subprocess.PIPE, stdout=subprocess.PIPE, bufsize=0) as ran:
+    with subprocess.Popen([under_test(), "run", *options, folder], stdin=subprocess.PIPE, stdout=subprocess.PIPE, bufsize=0) as ran:
         yield ran
         ran.stdin.close()
         want((ran.stdout.read(), ran.wait(SECONDS)), (b"", 0), "the end of a script that was typed")
@@ -121,7 +121,7 @@ def together(room):
     with open(f"{room}/script", "wb") as file:
         file.write(script)
     ours, theirs = socket.socketpair(socket.AF_UNIX, socket.SOCK_SEQPACKET)
-    with ours, open(f"{room}/script", "rb") as file, subprocess.Popen([PROGRAM, "run", room], stdin=file, stdout=theirs) as ran:
+    with ours, open(f"{room}/script", "rb") as file, subprocess.Popen([under_test(), "run", room], stdin=file, stdout=theirs) as ran:
         theirs.close()
         written = list(iter(lambda: ours.recv(2**20), b""))
     want(ran.returncode, 0, "status")
@@ -148,7 +148,7 @@ def read_by(ran):
 
 def is_held(verb, folder, error):
     """Holds a reading of a folder for more than a second, and answers whether that was on its way: a busy machine may come to it too late."""
-    with subprocess.Popen([PROGRAM, verb, folder], stdin=subprocess.DEVNULL, stdout=subprocess.DEVNULL, stderr=error) as ran:
+    with subprocess.Popen([under_test(), verb, folder], stdin=subprocess.DEVNULL, stdout=subprocess.DEVNULL, stderr=error) as ran:
         while ran.poll() is None and read_by(ran) < 1_000_000:
             pass
         ran.send_signal(signal.SIGSTOP)

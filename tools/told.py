@@ -1,0 +1,140 @@
+"""The checks of tools/program that are about the command line, about what is told of it, and about installing."""
+import os
+import re
+import subprocess
+
+from examples import examples_of_help, examples_of_page, examples_of_readme
+from files import bytes_of, new_folder
+from listed import check
+from repository import ROOT
+from running import SECONDS, ldbtool, lines, under_test, want, want_answers, want_fault, want_ran
+from scripts import MISUSES, OPTIONS, TOLD
+
+
+# ---- the command line
+
+
+@check("a folder that is missing, or none, is said on standard error, with status 1")
+def wrong_folders(room):
+    with open(f"{room}/file", "wb"):
+        pass
+    for folder in (f"{room}/missing", f"{room}/file", f"{room}/file/below", ""):
+        for verb in ("run", "check", "dump"):
+            ran = ldbtool(verb, folder, script=b"open new\n")
+            want_fault(ran, 1, f"{verb} over {folder!r}")
+            want(ran.stderr[:9], b"ldbtool: ", f"what {verb} over {folder!r} says")
+
+
+@check("folders of any name that is UTF-8, and a clear refusal of others")
+def names_of_folders(room):
+    for name in (" a b ", "new\nline", "'\"$(x)", "\u6587\u5b57", "-x", "..."):
+        folder = new_folder(room, name)
+        want_answers(folder, "open new; put 61 31", "ok; ok")
+        want_ran(ldbtool("check", "--", name, cwd=room), 0, lines("good", "last-sequence 1", "log 2 1 clean"), f"check of {name!r}")
+    raw = os.fsencode(room) + b"/\xff"
+    os.mkdir(raw)
+    ran = ldbtool("check", raw)
+    want((ran.returncode, ran.stdout, ran.stderr), (2, b"", b"ldbtool: a word of the command line isn't UTF-8\n"), "a name that isn't UTF-8")
+
+
+@check("a wrong command line is said on standard error, with status 2")
+def misuses(_room):
+    for words in MISUSES:
+        want_fault(ldbtool(*words), 2, f"the words {words}")
+
+
+@check("each option takes the numbers from 1 to its greatest, and no other word")
+def options(room):
+    folder = new_folder(room)
+    for name, default, most in OPTIONS:
+        for number in (1, default, most):
+            want_answers(folder, "get 61", "refused 16 NotOpen", f"--{name}", str(number))
+            want_answers(folder, "get 61", "refused 16 NotOpen", f"--{name}={number}")
+        for word in ("0", str(most + 1), "-1", "x", "", "1.5", str(2**64)):
+            want_fault(ldbtool("run", f"--{name}={word}", folder), 2, f"--{name}={word}")
+            want_fault(ldbtool("run", f"--{name}", word, folder), 2, f"--{name} {word!r}")
+
+
+@check("the options' defaults and ranges stand in the help and on the manual page")
+def told_options(_room):
+    told = ldbtool("help", "run").stdout.decode()
+    with open(f"{ROOT}/man/ldbtool.1", encoding="utf-8") as file:
+        page = file.read().replace("\\-", "-")
+    for name, default, most in OPTIONS:
+        for text, wanted in ((told, f"--{name} <N>.*from 1 to {most}.*\\[default: {default}\\]"), (page, f"--{name} .*(\n.*)?\nFrom 1 to {most}; {default} where")):
+            want(bool(re.search(wanted, text)), True, f"--{name} is told with its range and default")
+
+
+@check("help and version go to standard output, with status 0")
+def helps(_room):
+    for words, told in TOLD:
+        ran = ldbtool(*words.split())
+        want((ran.returncode, ran.stderr, told in ran.stdout.decode()), (0, b"", True), f"{words} tells {told!r}")
+    version = ldbtool("--version").stdout.decode()
+    want(bool(re.fullmatch(r"ldbtool \d+\.\d+\.\d+\n", version)), True, f"the version {version!r}")
+    with open(f"{ROOT}/man/ldbtool.1", encoding="utf-8") as file:
+        want(f'"{version.strip()}"' in file.read(), True, "the manual page has this version")
+    for words in (["--help"], ["-h"], ["help"], ["-V"], *[[verb, "--help"] for verb in ("run", "check", "dump")]):
+        ran = ldbtool(*words)
+        want((ran.returncode, ran.stderr), (0, b""), f"the words {words}")
+        want(words == ["-V"] or b"Exit status" in ran.stdout, True, f"{words} tells the statuses")
+    for verb in ("run", "check", "dump"):
+        want(ldbtool("help", verb).stdout, ldbtool(verb, "--help").stdout, f"help {verb}")
+
+
+@check("the manual page has every refusal with its number, and so has the help")
+def told_refusals(_room):
+    with open(f"{ROOT}/crates/coding/src/error.rt", encoding="utf-8") as file:
+        source = file.read()
+    numbers = dict(re.findall(r"DbError::(\w+)(?:\([_, ]*\))? => (\d+),", source))
+    with open(f"{ROOT}/man/ldbtool.1", encoding="utf-8") as file:
+        page = re.findall(r"^\.B (\d+) (\w+)$", file.read(), re.M)
+    want(sorted(page), sorted((number, name) for name, number in numbers.items()), "the page's refusals")
+    told = re.findall(r"(\d+) ([A-Z][A-Za-z]+)", ldbtool("help", "run").stdout.decode())
+    want(set(page) - set(told), set(), "refusals that the help leaves out")
+
+
+# ---- what is told, and what is installed
+
+
+def want_examples(room, found, least):
+    """Runs commands and compares what they print, one after the other in one folder."""
+    os.mkdir(f"{room}/bin")
+    os.symlink(under_test(), f"{room}/bin/ldbtool")
+    work = new_folder(room, "work")
+    environment = {**os.environ, "PATH": f"{room}/bin:{os.environ['PATH']}"}
+    for command, wanted in found:
+        ran = subprocess.run(["sh", "-c", command], cwd=work, env=environment, capture_output=True, text=True, timeout=SECONDS)
+        want((ran.stdout, ran.stderr), (wanted, ""), f"the example {command!r}")
+    want(len(found) >= least, True, f"{len(found)} examples are all")
+
+
+@check("the examples of the manual page print what they say")
+def examples_page(room):
+    want_examples(room, examples_of_page(), 8)
+
+
+@check("the examples of the README print what they say")
+def examples_readme(room):
+    want_examples(room, examples_of_readme(), 4)
+
+
+@check("the examples of the help print what they say")
+def examples_help(room):
+    told = {verb: ldbtool("help", verb).stdout.decode() for verb in ("run", "check", "dump")}
+    want_examples(room, [it for verb in told for it in examples_of_help(told[verb])], 5)
+
+
+@check("make install puts program and page in place, the program needs no environment, and make uninstall takes them away")
+def installed(room):
+    how = {"cwd": ROOT, "capture_output": True, "text": True, "timeout": SECONDS}
+    where = [f"LDBTOOL={under_test()}", f"DESTDIR={room}/dest", "PREFIX=/opt/local"]
+    program, page = f"{room}/dest/opt/local/bin/ldbtool", f"{room}/dest/opt/local/share/man/man1/ldbtool.1"
+    ran = subprocess.run(["make", "--no-print-directory", "install", *where], **how)
+    want((ran.returncode, ran.stdout.splitlines()), (0, [f"installed {program}", f"installed {page}"]), "make install")
+    ran = subprocess.run(["env", "-i", program, "run", new_folder(room)], input=b"open new\nput 61 31\nget 61", capture_output=True, timeout=SECONDS)
+    want_ran(ran, 0, lines("ok", "ok", "value 31"), "the installed program")
+    want(bytes_of(ROOT, "man/ldbtool.1"), bytes_of(page, ""), "the installed page")
+    for wanted in ([f"removed {program}", f"removed {page}"], [f"there is no {program}", f"there is no {page}"]):
+        ran = subprocess.run(["make", "--no-print-directory", "uninstall", *where], **how)
+        want((ran.returncode, ran.stdout.splitlines()), (0, wanted), "make uninstall")
