@@ -21,7 +21,8 @@ SOURCES := crates.txt $(shell find crates -name out -prune -o \( -name '*.rt' -o
 help:
 	echo 'make demo      runs quickstart before any proof: it opens, writes, reads, closes and shows the log (under a minute)'
 	echo 'make quick     what needs no proof: each test and program, and over what is in build/ the checks of ldbtool and those beside LevelDB (minutes)'
-	echo 'make test      everything: each proof from nothing, each edit and test, the checks of ldbtool and those beside LevelDB itself (two hours)'
+	echo 'make test      everything: each proof from nothing, each test, the edits of crates that have changed since all theirs were refused, the checks'
+	echo '               of ldbtool and those beside LevelDB itself (two hours; make test FULL=1 tries the edits of all crates)'
 	echo 'make build     proves the programs and leaves them in build/'
 	echo 'make install   puts ldbtool, proved, and its manual page below PREFIX (/usr/local), which lies in DESTDIR (none)'
 	echo 'make uninstall takes both away again'
@@ -29,7 +30,7 @@ help:
 	echo 'make soak      drawn sessions of ldbtool beside a plain model, every second one killed midway: ten minutes, or make soak SECONDS=60'
 	echo 'make interop   the checks beside LevelDB itself alone'
 	echo 'make bench     the benchmark beside LevelDB, into docs/SPEED.md: make bench N=100000 for fewer entries than a million'
-	echo 'make bugs      the edits of bugs/, each of which the prover must refuse (hours; make bugs CRATE=table for one crate)'
+	echo 'make bugs      the edits of must-fail/ and bugs/: the prover must refuse each, as bugs/refused.txt then records (hours; make bugs CRATE=table for one crate)'
 	echo 'make costs     what the gate pays for each crate (hours; make costs CRATE=table for one crate)'
 	echo 'make clean     takes away all that was built'
 
@@ -41,8 +42,9 @@ quick: needs-rt
 	tools/quick
 
 build: needs-rt
-	echo 'Proving $(PROGRAMS) and all below: one to two hours from nothing, and seconds where nothing has changed.'
+	echo 'Proving $(PROGRAMS) and all below: half an hour to an hour from nothing on four processors, and minutes where nothing has changed.'
 	mkdir -p build
+	tools/libraries $(PROGRAMS)
 	for program in $(PROGRAMS); do \
 	  (cd crates/$$program && set -- && if [ -f args ]; then set -- -- $$(cat args); fi && $(RT) run "$$@" < /dev/null > /dev/null) && \
 	    install -m 755 crates/$$program/out/$$program build/ || exit 1; \
@@ -77,7 +79,7 @@ bench: needs-rt
 	N=$(N) bench/run
 
 test: needs-rt
-	tools/gate
+	tools/gate $(if $(FULL),--full)
 
 bugs: needs-rt
 	tools/bugs $(CRATE)

@@ -2,7 +2,7 @@
 import os
 import threading
 
-from repository import ROOT, crates
+from repository import crates
 
 TICKS = os.sysconf("SC_CLK_TCK")
 EVERY = 1.0
@@ -15,19 +15,31 @@ def words_of(process):
         return it.read().decode(errors="replace").split("\0")
 
 
+def fields_of(process):
+    with open(f"/proc/{process}/stat", encoding="utf-8", errors="replace") as it:
+        return it.read().rpartition(")")[2].split()
+
+
 def used_by(process):
     """When it started, and the seconds that it and what it waited for have used."""
-    with open(f"/proc/{process}/stat", encoding="utf-8", errors="replace") as it:
-        fields = it.read().rpartition(")")[2].split()
+    fields = fields_of(process)
     return int(fields[19]), sum(map(int, fields[11:15])) / TICKS
 
 
-class Spent(threading.Thread):
-    """Looks at the provers of a run until it is told to stop."""
+def is_below(process, run):
+    """Whether the process was started by the run, or by what that has started."""
+    while int(process) > 1 and int(process) != run:
+        process = fields_of(process)[1]
+    return int(process) == run
 
-    def __init__(self, run):
+
+class Spent(threading.Thread):
+    """Looks at the provers of a run in a folder until it is told to stop."""
+
+    def __init__(self, run, root):
         super().__init__(daemon=True)
-        self.edited = f"/rt-edit-{run}-"
+        # (by process, since others may try edits at the same time: the folder of an edit doesn't say whose it is)
+        self.process, self.root = run, root
         self.ended = threading.Event()
         # by process and start: the crate, what it was for, and its seconds
         self.seen = {}
@@ -46,9 +58,9 @@ class Spent(threading.Thread):
         if os.path.basename(words[0]) != "rattle" or "--crate-name" not in words:
             return
         folder = os.readlink(f"/proc/{process}/cwd")
-        if self.edited in folder:
+        if "/rt-edit-" in folder and is_below(process, self.process):
             what = EDITS
-        elif folder.startswith(f"{ROOT}/crates/"):
+        elif folder.startswith(f"{self.root}/crates/"):
             what = TESTS if "--test" in words else PROOF
         else:
             return

@@ -1,0 +1,126 @@
+"""Which crates' edits were all refused, as bugs/refused.txt records it, and of what text that is true.
+
+A line is a crate, the number of its edits, and a sum of all that the prover reads where it judges them. tools/bugs writes it, and
+nothing else: tools/gate tries no edit of a crate whose line has the present sum.
+
+**What the sum covers.** Of the crate itself its sources, definitions, proofs, edits and its line of crates.txt; of each crate below
+its line, sources and definitions, which have the contracts, types, constants and macros that it is judged by; the kit, since
+another prover may judge otherwise. A proof of a crate below is read where another one cites it, so the proofs of those crates that
+are cited by name, from the text that is covered, belong to it as well. The bodies of functions below don't matter to what stands
+above them, and are covered all the same: what part of a source a proof above reads can't be told without the prover, and a line
+that is stale too often costs time, where one that is present too long would be false.
+
+**Comments** of sources and definitions are not covered, nor are blank lines: the prover doesn't read them, and each better sentence in
+`coding` would cost the edits of the whole tree, 80 minutes of processors. (An edit whose old text stands in a comment too no longer
+applies: tools/edits, with which the gate begins, says so.) Only the documentation comments of a crate that lists `clap` are, which
+makes help of them.
+"""
+import fcntl
+import functools
+import hashlib
+import os
+import re
+import subprocess
+import tempfile
+
+from repository import ROOT, RT, below, crates, edits_of
+
+FILE = "bugs/refused.txt"
+HEAD = """\
+# The crates of which the prover refused each edit, those of crates/CRATE/must-fail and of bugs/CRATE: the crate, their number, and a sum
+# of all that it read (tools/refused.py says of what). `make bugs` writes the line of a crate at the end of a run that has tried them
+# all; never write one by hand. `make test` leaves out the edits of a crate whose line has the present sum.
+"""
+
+# Strings stay, whatever is in them; a comment goes.
+RUST = re.compile(r"""(?P<kept>b?r(?P<marks>#*)".*?"(?P=marks)|b?"(?:\\.|[^"\\])*"|(?:(?<!\w)|\bb)'(?:\\[^\n]+?|[^\\'\n])')|/\*.*?\*/|//[^\n]*""", re.S)
+DOCUMENTED = re.compile(RUST.pattern.replace("//[^\\n]*", "//(?![/!])[^\\n]*"), re.S)
+ANTT = re.compile(r"^\s*--[^\n]*", re.M)
+CITED = re.compile(r"\bRattle[.·-](\w+)[.·-]proofs\b")
+
+
+def bare(path, text, documented=False):
+    """The text without its comments and blank lines."""
+    if path.endswith(".rt"):
+        text = (DOCUMENTED if documented else RUST).sub(lambda it: it["kept"] or "", text)
+    elif path.endswith(".antt"):
+        text = ANTT.sub("", text)
+    return "\n".join(it for it in map(str.rstrip, text.split("\n")) if it)
+
+
+@functools.cache
+def read(root, crate, part):
+    """The bare texts of a part of a crate, src, specs or proofs, by their paths."""
+    found, top = {}, f"{root}/crates/{crate}"
+    for at, folders, names in os.walk(f"{top}/{part}"):
+        folders.sort()
+        for name in sorted(names):
+            path = os.path.relpath(f"{at}/{name}", top)
+            with open(f"{at}/{name}", encoding="utf-8", errors="surrogateescape") as file:
+                found[path] = bare(name, file.read(), "clap" in crates(root)[crate])
+    return found
+
+
+@functools.cache
+def cited(root, crate, part):
+    """The crates whose proofs a part of a crate cites."""
+    return {name for text in read(root, crate, part).values() for name in CITED.findall(text)}
+
+
+def covered(crate, root):
+    """The parts of crates that the sum covers, each with its texts."""
+    found = {(crate, part): read(root, crate, part) for part in ("src", "specs", "proofs")}
+    for it in below(crate, root):
+        found.update({(it, part): read(root, it, part) for part in ("src", "specs")})
+    seen = set()
+    while seen != set(found):
+        for key in set(found) - seen:
+            seen.add(key)
+            for it in cited(root, *key) & set(below(crate, root)):
+                found[it, "proofs"] = read(root, it, "proofs")
+    return found
+
+
+@functools.cache
+def kit():
+    return subprocess.check_output([RT, "version"], text=True)
+
+
+def sum_of(crate, root=ROOT):
+    """The sum of all that the prover reads where it judges the edits of a crate."""
+    parts = sorted(covered(crate, root).items())
+    lines = [(it, sorted(crates(root)[it])) for it in sorted([*below(crate, root), crate])]
+    tried = []
+    for path in edits_of(crate, root):
+        with open(f"{root}/{path}", "rb") as file:
+            tried.append((os.path.basename(path), file.read()))
+    return hashlib.sha256(repr((kit(), lines, sorted(tried), parts)).encode(errors="surrogateescape")).hexdigest()
+
+
+def recorded(root=ROOT):
+    """The recorded lines: by crate the number of its edits and the sum."""
+    if not os.path.isfile(f"{root}/{FILE}"):
+        return {}
+    with open(f"{root}/{FILE}", encoding="utf-8") as lines:
+        rows = [line.split() for line in lines if line.strip() and not line.startswith("#")]
+    return {crate: (int(count), found) for crate, count, found in rows}
+
+
+def state_of(crate, root=ROOT):
+    """`present`, `stale` or `absent`: what the crate's line is, over the text that stands there."""
+    found = recorded(root).get(crate)
+    return "absent" if not found else "present" if found == (len(edits_of(crate, root)), sum_of(crate, root)) else "stale"
+
+
+def record(crate, line):
+    """Writes the line of a crate, a number of edits and a sum, or takes it away where there is none. Other runs may do so at the same time."""
+    os.makedirs(f"{ROOT}/build", exist_ok=True)
+    with open(f"{ROOT}/build/refused.lock", "w", encoding="utf-8") as lock:
+        fcntl.flock(lock, fcntl.LOCK_EX)
+        rows = recorded()
+        rows.pop(crate, None)
+        rows.update({crate: line} if line else {})
+        with tempfile.NamedTemporaryFile("w", encoding="utf-8", dir=f"{ROOT}/build", delete=False) as file:
+            file.write(HEAD + "".join(f"{it} {count} {found}\n" for it, (count, found) in sorted(rows.items())))
+        os.chmod(file.name, 0o644)
+        os.replace(file.name, f"{ROOT}/{FILE}")
