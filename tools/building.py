@@ -65,15 +65,16 @@ def longest_first(named):
     return sorted(named, key=lambda it: -behind[it])
 
 
-def started(crate, copy):
-    """`rt lib` in the crate's folder of a copy, over what stands and is kept here; its words go to a file."""
+def started(crate, copy, jobs):
+    """`rt lib` in the crate's folder of a copy, over what stands and is kept here; its words go to a file. (With four jobs it takes half as
+    many seconds of processors again, so it has one where others run beside it.)"""
     for it in below(crate):
         lend(it, copy)
     kept, to = f"{ROOT}/crates/{crate}/out/incremental", f"{copy}/crates/{crate}/out/incremental"
     if os.path.isdir(kept) and not os.path.isdir(to):
         shutil.copytree(kept, to, symlinks=True)
     with open(f"{ROOT}/build/libraries/{crate}", "w", encoding="utf-8") as words:
-        return subprocess.Popen([RT, "lib"], cwd=f"{copy}/crates/{crate}", stdin=subprocess.DEVNULL, stdout=words, stderr=words)
+        return subprocess.Popen([RT, "lib", "--jobs", str(jobs)], cwd=f"{copy}/crates/{crate}", stdin=subprocess.DEVNULL, stdout=words, stderr=words)
 
 
 def take(crate, copy):
@@ -104,22 +105,25 @@ def ended(running):
 
 
 def build(named, at_once=None):
-    """Builds the libraries among these crates and below them, and answers whether all stand. Of each a line is printed as it is done."""
+    """Builds the libraries among these crates and below them, and answers whether all stand. Of each a line is printed as it is done:
+    its own seconds, and those since the beginning."""
     os.makedirs(f"{ROOT}/build/libraries", exist_ok=True)
     wanted = libraries(named)
     done = {it for it in wanted if stands(it)}
     left, running, failed, begun = longest_first([it for it in wanted if it not in done]), {}, [], time.monotonic()
+    at_once = at_once or lanes()
     if done:
         print(f"libraries: {len(done)} of {len(wanted)} stand", flush=True)
     with ExitStack() as stack:
-        free = [stack.enter_context(copied("libraries")) for _ in range(min(at_once or lanes(), len(left)))]
+        free = [stack.enter_context(copied("libraries")) for _ in range(min(at_once, len(left)))]
         stack.enter_context(ended(lambda: [it for it, *_ in running.values()]))
         while running or (left and not failed):
-            ready = [it for it in left if not failed and all(other in done for other in below(it))]
-            for crate in ready[: len(free)]:
+            ready = [it for it in left if not failed and all(other in done for other in below(it))][: len(free)]
+            jobs = max(1, at_once // max(1, len(ready) + len(running)))
+            for crate in ready:
                 left.remove(crate)
                 copy = free.pop()
-                running[crate] = started(crate, copy), copy, time.monotonic()
+                running[crate] = started(crate, copy, jobs), copy, time.monotonic()
             time.sleep(0.5)
             for crate in [it for it, (process, *_) in running.items() if process.poll() is not None]:
                 process, copy, since = running.pop(crate)
@@ -131,5 +135,5 @@ def build(named, at_once=None):
                 take(crate, copy)
                 done.add(crate)
                 now = time.monotonic()
-                print(f"[{len(done)} of {len(wanted)}] {crate}, {now - since:.0f} s ({now - begun:.0f} s in all)", flush=True)
+                print(f"[{len(done)} of {len(wanted)}] {crate}, {now - since:.0f} s, after {now - begun:.0f} s", flush=True)
     return not failed
