@@ -26,52 +26,9 @@ from beside import (
     want_answers,
     want_lines,
 )
+from entries import Entry, a_value, by_sequence, lines_of, map_of, newest, rows_of, some_entries, some_keys
 
 FOOTER = 48
-
-
-class Entry:
-    """An entry of a table. A delete has no value."""
-
-    def __init__(self, key, sequence, value):
-        self.key, self.sequence, self.value = key, sequence, value
-
-    def order(self):
-        return self.key, -self.sequence
-
-    def line(self):
-        """The line of a dump, behind the table's level and number."""
-        end = "delete" if self.value is None else f"put {spelled(self.value)}"
-        return f"{spelled(self.key)} {self.sequence} {end}\n"
-
-    def write(self):
-        """The line with which it is written, by LevelDB's driver and by a script."""
-        return f"del {spelled(self.key)}" if self.value is None else f"put {spelled(self.key)} {spelled(self.value)}"
-
-
-def lines_of(entries):
-    return "".join(entry.line() for entry in sorted(entries, key=Entry.order))
-
-
-def newest(entries):
-    """The newest entry of each key."""
-    return list({entry.key: entry for entry in sorted(entries, key=lambda entry: entry.sequence)}.values())
-
-
-def map_of(entries):
-    """What a database of these entries has."""
-    return {spelled(entry.key): spelled(entry.value) for entry in newest(entries) if entry.value is not None}
-
-
-def rows_of(entries):
-    """Its pairs, by rising keys."""
-    return sorted(map_of(entries).items(), key=lambda pair: pair[0].replace("-", ""))
-
-
-def by_sequence(entries):
-    written = sorted(entries, key=lambda entry: entry.sequence)
-    want([entry.sequence for entry in written] == list(range(1, len(written) + 1)), "sequences are 1, 2, 3 ..")
-    return written
 
 
 def dumped(folder):
@@ -103,34 +60,6 @@ def leveldb_tables(folder, entries, *flags):
     leveldb("write", folder, *flags, lines=["begin", *[entry.write() for entry in by_sequence(entries)], "end"])
     leveldb("dump", folder, *flags)
     return files_of(folder, ".ldb")
-
-
-def a_value(chance):
-    return chance.randbytes(chance.choice([0, 1, 7, 20, 60, 100, 100, 300]))
-
-
-def some_keys(chance, count):
-    """Keys of several lengths and any bytes, of which many share their fronts, and the empty one."""
-    fronts = [chance.randbytes(length) for length in (0, 1, 3, 10, 40)]
-    ends = [chance.randbytes(chance.choice([0, 1, 2, 2, 8, 30])) for _ in range(count)]
-    runs = [b"key" + b"%05d" % number for number in range(count // 3)]
-    joined = {chance.choice(fronts) + end for end in ends} | {bytes([255] * length) for length in range(5)}
-    return sorted({b"", *joined, *runs})
-
-
-def some_entries(seed):
-    """Some thousand entries: puts and deletes, several of some keys, and some long values."""
-    chance = random.Random(seed)
-    keys = some_keys(chance, 2500)
-    keys += chance.choices(keys, k=300) + chance.choices(keys[:40], k=200)
-    chance.shuffle(keys)
-    entries = []
-    for sequence, key in enumerate(keys, 1):
-        value = None if chance.random() < 0.1 else a_value(chance)
-        if chance.random() < 0.01:
-            value = chance.randbytes(chance.randrange(2000, 10_500))
-        entries.append(Entry(key, sequence, value))
-    return entries
 
 
 @check("tables: one entry is written byte for byte as LevelDB writes it, by a flush and by a compaction")

@@ -6,7 +6,7 @@ import os
 import random
 
 from beside import check, files_of, leveldb, leveldb_reads, prints, want, want_lines, want_map
-from directories import Layout, pairs_of
+from layout import Layout, pairs_of
 
 SEEDS = (1, 2, 3)
 TURNS = 80
