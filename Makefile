@@ -21,8 +21,8 @@ SOURCES := crates.txt $(shell find crates -name out -prune -o \( -name '*.rt' -o
 help:
 	echo 'make demo      runs quickstart before any proof: it opens, writes, reads, closes and shows the log (under a minute)'
 	echo 'make quick     what needs no proof: each test and program, and over what is in build/ the checks of ldbtool and those beside LevelDB (minutes)'
-	echo 'make test      everything: each proof from nothing, each test, the edits of crates that have changed since all theirs were refused, the checks'
-	echo '               of ldbtool and those beside LevelDB itself (two hours; make test FULL=1 tries the edits of all crates)'
+	echo 'make test      everything: each proof from nothing, each test, the edits of crates that have changed since all were refused, the checks of ldbtool'
+	echo '               and those beside LevelDB itself (two hours; make test FULL=1 tries the edits of every crate)'
 	echo 'make build     proves the programs and leaves them in build/'
 	echo 'make install   puts ldbtool, proved, and its manual page below PREFIX (/usr/local), which lies in DESTDIR (none)'
 	echo 'make uninstall takes both away again'
@@ -30,7 +30,8 @@ help:
 	echo 'make soak      drawn sessions of ldbtool beside a plain model, every second one killed midway: ten minutes, or make soak SECONDS=60'
 	echo 'make interop   the checks beside LevelDB itself alone'
 	echo 'make bench     the benchmark beside LevelDB, into docs/SPEED.md: make bench N=100000 for fewer entries than a million'
-	echo 'make bugs      the edits of must-fail/ and bugs/: the prover must refuse each, as bugs/refused.txt then records (hours; make bugs CRATE=table for one crate)'
+	echo 'make bugs      the edits of must-fail/ and bugs/, each of which the prover must refuse; bugs/refused.txt says of which crates it did (hours;'
+	echo '               make bugs CRATE=table for one crate)'
 	echo 'make costs     what the gate pays for each crate (hours; make costs CRATE=table for one crate)'
 	echo 'make clean     takes away all that was built'
 
