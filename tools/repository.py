@@ -82,13 +82,20 @@ def copied(name, built=()):
     """A copy of the files that git knows or would, with the libraries of the crates named that stand here; it is gone at the end."""
     signal.signal(signal.SIGTERM, lambda *_: sys.exit(143))
     os.makedirs(f"{ROOT}/build", exist_ok=True)
-    with tempfile.TemporaryDirectory(prefix=f"{name}-", dir=f"{ROOT}/build") as copy:
+    copy = tempfile.mkdtemp(prefix=f"{name}-", dir=f"{ROOT}/build")
+    try:
         for path in texts():
             os.makedirs(os.path.dirname(f"{copy}/{path}"), exist_ok=True)
             shutil.copy2(f"{ROOT}/{path}", f"{copy}/{path}")
         for crate in built:
             lend(crate, copy)
         yield copy
+    finally:
+        try:
+            shutil.rmtree(copy)
+        finally:
+            # (what is left where a signal came in the midst of that)
+            shutil.rmtree(copy, ignore_errors=True)
 
 
 def lend(crate, copy):
