@@ -16,7 +16,9 @@ use Rattle.directory_writes.specs.Install.{Replaces}
 use Rattle.versions.specs.Levels.{Placement}
 use Rattle.versions.specs.Plans.{IsPicked}
 use Rattle.versions.specs.declared.plan.JobPlan.{JobPlan}
+use Rattle.machine.specs.declared.command.Answer.{Answer}
 use Rattle.engine.specs.declared.ids.Ids.{Ids}
+use Rattle.engine.specs.Applied.{DoneWork, WorksIn}
 use Rattle.engine.specs.declared.work.Progress.{Progress}
 use Rattle.engine.specs.declared.work.Progress.TheVariants as progress
 use Rattle.engine.specs.Causes.{IsCausedIn, IsMet, broken_in}
@@ -166,3 +168,12 @@ of_none A P o is h = subst (λ (p : Option _). MatchOption p A P) is h
 pub picked_for : (cmp : Cmp) (files base level0_files base_bytes : ℕ) (version tables : Placement) (plan : JobPlan) → files ≡ level0_files → base ≡ base_bytes → version ≡ tables → IsPicked cmp files base version plan → IsPicked cmp level0_files base_bytes tables plan
 picked_for cmp files base level0_files base_bytes version tables plan files_are base_is same picked =
     subst (λ (n : ℕ). IsPicked cmp n base_bytes tables plan) files_are (subst (λ (n : ℕ). IsPicked cmp files n tables plan) base_is (subst (λ (v : Placement). IsPicked cmp files base v plan) same picked))
+
+-- what work promises, where this was open before and that was answered
+pub done_in : {K : Type 0} {g : _} (order : Order) (options : OptionValues) (budget : ℕ) (old new : Seen) (state : Option (Held K g)) (before after : Held K g) (answer : Answer) (result : Result Progress DbError) {shown : Result Progress DbError}
+    → result ≡ shown → state ≡ Some before → DoneWork order options budget old new before after result
+    → (DoneWork order options budget old new before after shown → WorksIn order options budget old new (Some before) (Some after) answer) → WorksIn order options budget old new state (Some after) answer
+done_in order options budget old new state before after answer result is open done shows =
+    subst (λ (o : Option (Held _ _)). WorksIn order options budget old new o (Some after) answer) (sym open)
+    (shows (subst (λ (r : Result Progress DbError). DoneWork order options budget old new before after r) is done))
+

@@ -10,18 +10,21 @@ use Rattle.ikey.specs.Orders.{Order}
 use Rattle.machine.specs.declared.command.Op.{Op}
 use Rattle.machine.specs.declared.command.Op.TheVariants.{Get, Work, CompactLevel, CompactAll, Close}
 use Rattle.machine.specs.declared.command.Answer.{Answer}
-use Rattle.machine.specs.declared.command.Answer.TheVariants.{Done, Value, Worked}
+use Rattle.machine.specs.declared.command.Answer.TheVariants.{Done, Value, Worked, Refused}
 use Rattle.machine.specs.declared.command.Answer.TheVariants as answer
 use Rattle.memtable.specs.Contents.{size_of}
 use Rattle.engine.specs.declared.ids.Ids.{Ids}
 use Rattle.engine.specs.ExactFiles.{LeavesExactlyLive}
 use Rattle.engine.specs.Held.{Held}
+use Rattle.engine.specs.InUse.{HasUsedMemory}
 use Rattle.machine.specs.Machine.{Machine}
 use Rattle.engine.specs.Needed.{HasOnlyNeeded}
-use Rattle.engine.specs.Stands.{Stands, store_of, held_in, options_of}
+use Rattle.engine.specs.Stands.{Stands, store_of, held_in, options_of, seen_in}
+use Rattle.table_access.specs.Tables.{Seen}
 use Rattle.engine.specs.StandsDb.{db_store_of, held_by, seen_by}
 use Rattle.engine.specs.declared.work.Progress.{Progress}
 use Rattle.engine.specs.declared.work.Progress.TheVariants.{Idle}
+use Rattle.engine.specs.declared.work.Progress.TheVariants as progress
 use Rattle.engine.specs.OptionValues.{OptionValues}
 use Rattle.engine.specs.Finishing.{CompactOutcome, IsAllCompacted, IsLevelEmpty}
 use Rattle.engine.specs.WithinBudget.{EndsWithin}
@@ -92,6 +95,28 @@ Shuts _ state = Unit {0}
 abbrev pub write_causes : {K : Type 0} {g : _} → List Operation → Option (Held K g) → Ids → Option DbError
 write_causes operations state ids = option_or (first_refusal [] operations) (where_open (λ s. write_refusal s operations) state)
 
+-- What a call of work promises beside its step: which piece of work it was, and within which budget; where there was none, that the files
+-- are exactly the live ones, unless one couldn't be removed, and that no memory table is kept that is of no use.
+pub record DoneWork {K : Type 0} {g : _} (order : Order) (options : OptionValues) (budget : ℕ) (old new : Seen) (before after : Held K g) (result : Result Progress DbError) : Type 0 where
+  pub does : DoesWork order.cmp options budget before after result
+  pub within : EndsWithin order options budget old new before after result
+  pub tidy : result ≡ Ok Idle → IsTrue new.facts.faithful → new.facts.failures ≡ old.facts.failures → HasLiveOnly new.facts.files after
+  pub removes : result ≡ Ok Idle → IsTrue new.facts.faithful → LosesDead old.facts new.facts after
+  pub exact : LeavesExactlyLive order old new before after result
+  pub dropped : result ≡ Ok Idle → HasUsedMemory after.memory after.iterators
+
+-- so of a command to work, where a database is open
+abbrev pub WorksIn : {K : Type 0} {g : _} → Order → OptionValues → ℕ → Seen → Seen → Option (Held K g) → Option (Held K g) → Answer → Type 0
+WorksIn order options budget old new None state answer = Unit {0}
+WorksIn order options budget old new (Some before) (Some after) Worked = DoneWork order options budget old new before after (Ok progress.Worked)
+WorksIn order options budget old new (Some before) (Some after) answer.Idle = DoneWork order options budget old new before after (Ok Idle)
+WorksIn order options budget old new (Some before) (Some after) (Refused error) = DoneWork order options budget old new before after (Err error)
+WorksIn order options budget old new (Some before) state _ = ⊥
+
+abbrev pub WorksAs : {K : Type 0} {g : _} → Op → Order → OptionValues → Seen → Seen → Option (Held K g) → Option (Held K g) → Answer → Type 0
+WorksAs (Work budget) order options old new before after answer = WorksIn order options budget old new before after answer
+WorksAs _ order options old new before after answer = Unit {0}
+
 -- ---- of two sessions
 
 abbrev pub CausedBy : {S K : Type 0} {g : _} → (Option (Held K g) → Ids → Option DbError) → Session S K g → Session S K g → Answer → Type 0
@@ -114,6 +139,12 @@ ReadBy key snapshot old answer = IsRead key snapshot (held_in old) answer
 
 abbrev pub WorkShown : {S K : Type 0} {g : _} → Session S K g → Answer → Type 0
 WorkShown old answer = ShowsWork old.options (held_in old) answer
+
+abbrev pub WorkDone : {S K : Type 0} {g : _} → Order → (S → Facts) → ℕ → Session S K g → Session S K g → Answer → Type 0
+WorkDone order facts budget old new answer = WorksIn order old.options budget (seen_in facts old) (seen_in facts new) (held_in old) (held_in new) answer
+
+abbrev pub WorkDoneBy : {S K : Type 0} {g : _} → Op → Order → (S → Facts) → Session S K g → Session S K g → Answer → Type 0
+WorkDoneBy op order facts old new answer = WorksAs op order old.options (seen_in facts old) (seen_in facts new) (held_in old) (held_in new) answer
 
 abbrev pub ShownBy : {S K : Type 0} {g : _} → Op → Session S K g → Answer → Type 0
 ShownBy op old answer = Shows old.options op (held_in old) answer
@@ -155,6 +186,7 @@ pub record Applied {S K : Type 0} {g : _} (order : Order) (facts : S → Facts) 
   pub tells : ToldBy op order facts old new answer
   pub shown : ShownBy op old answer
   pub leaves : LeavesBy op new answer
+  pub works : WorkDoneBy op order facts old new answer
   pub needed : NeededBy op order facts old new answer
   pub shut : ShutBy op new
   pub options : options_of new ≡ options_of old
@@ -200,6 +232,10 @@ DbWorks cmp budget old new result = DoesWork cmp old.options budget (held_by old
 -- Where there was none, all files are live, unless one couldn't be removed.
 abbrev pub DbTidies : {S K : Type 0} {g : _} → (S → Facts) → Db S K g → Db S K g → Result Progress DbError → Type 0
 DbTidies facts old new result = result ≡ Ok Idle → IsTrue (facts (db_store_of new)).faithful → (facts (db_store_of new)).failures ≡ (facts (db_store_of old)).failures → HasLiveOnly (facts (db_store_of new)).files (held_by new)
+
+-- No memory table is kept then that is of no use.
+abbrev pub DbDrops : {S K : Type 0} {g : _} → Db S K g → Result Progress DbError → Type 0
+DbDrops new result = result ≡ Ok Idle → HasUsedMemory new.source.memory new.state.iterators
 
 -- Live files and those of other programs stay then.
 abbrev pub DbRemoves : {S K : Type 0} {g : _} → (S → Facts) → Db S K g → Db S K g → Result Progress DbError → Type 0

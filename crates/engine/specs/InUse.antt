@@ -1,9 +1,10 @@
 -- Which tables and memory tables an open database still reads.
-use Rattle.std.specs.Prelude.{◌⊎◌, ℕ, List, Option, Any, MatchOption}
+use Rattle.std.specs.Prelude.{◌≡◌, ◌⊎◌, ℕ, List, Option, Some, None, Any, MatchOption}
 use Rattle.std.specs.BTreeMap.{BTreeMap}
 use Rattle.std.specs.Map.{values_of}
 use Rattle.compact.specs.Outputs.{IsOwn}
 use Rattle.edits.specs.declared.field.PlacedTable.{PlacedTable}
+use Rattle.memtables.specs.Memories.{Memories, older_at}
 use Rattle.running_job.specs.declared.open_job.OpenJob.{OpenJob}
 use Rattle.db_cursor.specs.Scans.{reads_memory, tables_of}
 use Rattle.db_cursor.specs.declared.scan.Scan.{Scan}
@@ -29,6 +30,10 @@ IsTableUsed tables job iterators number = IsTableRead tables iterators number �
 -- an open iterator reads the memory table of this generation
 abbrev pub IsMemoryUsed : {K : Type 0} {g : _} → BTreeMap ℕ (Scan K g) → ℕ → Type 0
 IsMemoryUsed iterators generation = AnyIterator iterators (λ scan. reads_memory scan generation)
+
+-- beside the current memory table none is there but the sealed one and those that open iterators read
+abbrev pub HasUsedMemory : {K : Type 0} {g : _} → Memories → BTreeMap ℕ (Scan K g) → Type 0
+HasUsedMemory memory iterators = (generation : ℕ) → ((memory.sealed ≡ Some generation) ⊎ IsMemoryUsed iterators generation → ⊥) → older_at memory.older generation ≡ None
 
 -- what is kept anew of tables is of those of such numbers
 abbrev pub Gathers : (ℕ → Type 0) → Seen → Seen → Type 0

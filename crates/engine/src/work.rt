@@ -34,6 +34,7 @@ impl<K: KeyOrder> DbState<K> {
     ghost use Rattle.engine.specs.declared.work.Progress.TheVariants.{Idle};
     ghost use Rattle.engine.specs.Causes.{IsCausedIn, broken_in};
     ghost use Rattle.engine.specs.ExactFiles.{LeavesExactlyLive};
+    ghost use Rattle.engine.specs.InUse.{HasUsedMemory};
     ghost use Rattle.engine.specs.Lent.{LeadsLent, ServesLent, OutcomeLent};
     ghost use Rattle.engine.specs.Held.{held};
     ghost use Rattle.db_cursor.specs.Whole.{seen_of};
@@ -68,6 +69,8 @@ impl<K: KeyOrder> DbState<K> {
         // They are exactly those that a database without work needs then: of the logs the one that writes go to.
         ensures exact { LeavesExactlyLive (order_of K.name K.cmp) (seen_of S.facts source.old) (seen_of S.facts source.new)
             (held source.old.memory self.old) (held source.new.memory self.new) result }
+        // Nor is a memory table kept then that is of no use.
+        ensures dropped { result ≡ Ok Idle → HasUsedMemory source.new.memory self.new.iterators }
         // All files that are live stay then, and those of other programs.
         ensures removes { result ≡ Ok Idle → IsTrue (S.facts source.new.tables.store).faithful
             → LosesDead (S.facts source.old.tables.store) (S.facts source.new.tables.store) (held source.new.memory self.new) }
@@ -95,6 +98,7 @@ impl<K: KeyOrder> DbState<K> {
         ensures outcome { OutcomeLent MayRefusePiece S.facts source.old self.now source.new self.now result }
         ensures same { IsSame (held source.old.memory self.now) (held source.new.memory self.now) }
         ensures memory { IsSameMemory source.old.memory source.new.memory }
+        ensures dropped { OnOk result (HasUsedMemory source.new.memory self.now.iterators) }
         ensures complete { IfOk result (λ complete. IsTrue complete
             → (S.facts source.new.tables.store).failures ≡ (S.facts source.old.tables.store).failures) }
         ensures unfailed { IfOk result (λ complete. (S.facts source.new.tables.store).failures ≡

@@ -13,6 +13,9 @@ use Rattle.engine.specs.Working.{work_answer}
 use Rattle.engine.proofs.Steps.{stays}
 use Rattle.engine.proofs.WorkAnswers.{works_closed}
 use Rattle.engine.proofs.WriteSteps.{lifts}
+use Rattle.machine.specs.declared.command.Answer.TheVariants.{Worked, Refused}
+use Rattle.machine.specs.declared.command.Answer.TheVariants as answer
+use Rattle.engine.proofs.WorkAnswers.{done_in}
 use Rattle.engine.proofs.session.Session.work.Goals as goal
 
 pub returns-in-None-clause-step : goal.returns-in-None-clause-step
@@ -62,3 +65,30 @@ returns-in-Err-clause-step g c =
     let after = held c.work.new.source.memory c.work.new.self in
     lifts order old new ids ids (option_map (held memory) c.args.self.now.state) before after _ (ap (option_map (held memory)) c.in-Some.is)
     (subst (λ (r : Result Progress DbError). LeadsOpen order old new ids before after (λ m n. Works m c.args.budget (work_answer r) n)) c.in-Err.is (c.work.ensures.step ids))
+
+pub returns-in-Ok-Worked-clause-works : goal.returns-in-Ok-Worked-clause-works
+returns-in-Ok-Worked-clause-works g c =
+    let order = order_of g.K.KeyOrder.name g.K.KeyOrder.cmp in
+    let facts = g.S.Store.facts in
+    let memory = c.args.self.now.source.memory in
+    done_in order c.args.self.now.options c.args.budget (seen_of facts c.args.self.now.source) (seen_of facts c.work.new.source) (option_map (held memory) c.args.self.now.state)
+    (held memory c.in-Some.state) (held c.work.new.source.memory c.work.new.self) Worked c.work.result (c.in-Ok-Worked.is ∙ ap Ok c.in-Ok-Worked.field-0-is) (ap (option_map (held memory)) c.in-Some.is)
+    (record { does = c.work.ensures.does; within = c.work.ensures.within; tidy = c.work.ensures.tidy; removes = c.work.ensures.removes; exact = c.work.ensures.exact; dropped = c.work.ensures.dropped }) (λ d. d)
+
+pub returns-in-Ok-Idle-clause-works : goal.returns-in-Ok-Idle-clause-works
+returns-in-Ok-Idle-clause-works g c =
+    let order = order_of g.K.KeyOrder.name g.K.KeyOrder.cmp in
+    let facts = g.S.Store.facts in
+    let memory = c.args.self.now.source.memory in
+    done_in order c.args.self.now.options c.args.budget (seen_of facts c.args.self.now.source) (seen_of facts c.work.new.source) (option_map (held memory) c.args.self.now.state)
+    (held memory c.in-Some.state) (held c.work.new.source.memory c.work.new.self) answer.Idle c.work.result (c.in-Ok-Idle.is ∙ ap Ok c.in-Ok-Idle.field-0-is) (ap (option_map (held memory)) c.in-Some.is)
+    (record { does = c.work.ensures.does; within = c.work.ensures.within; tidy = c.work.ensures.tidy; removes = c.work.ensures.removes; exact = c.work.ensures.exact; dropped = c.work.ensures.dropped }) (λ d. d)
+
+pub returns-in-Err-clause-works : goal.returns-in-Err-clause-works
+returns-in-Err-clause-works g c =
+    let order = order_of g.K.KeyOrder.name g.K.KeyOrder.cmp in
+    let facts = g.S.Store.facts in
+    let memory = c.args.self.now.source.memory in
+    done_in order c.args.self.now.options c.args.budget (seen_of facts c.args.self.now.source) (seen_of facts c.work.new.source) (option_map (held memory) c.args.self.now.state)
+    (held memory c.in-Some.state) (held c.work.new.source.memory c.work.new.self) (Refused c.in-Err.error) c.work.result (c.in-Err.is) (ap (option_map (held memory)) c.in-Some.is)
+    (record { does = c.work.ensures.does; within = c.work.ensures.within; tidy = c.work.ensures.tidy; removes = c.work.ensures.removes; exact = c.work.ensures.exact; dropped = c.work.ensures.dropped }) (λ d. d)

@@ -1,4 +1,5 @@
-use Rattle.std.proofs.Common.{◌≡◌, ℕ, List, Result, Err, sym, subst, rules}
+use Rattle.std.proofs.Common.{◌≡◌, ◌∙◌, ℕ, List, Result, Err, ap, inl, inr, sym, subst, rules}
+use Rattle.memtables.specs.Memories.{Memories}
 use Rattle.coding.specs.declared.error.DbError.{DbError}
 use Rattle.ikey.specs.Orders.{order_of}
 use Rattle.db_cursor.proofs.ScanSteps.{scan_kept}
@@ -35,3 +36,11 @@ pub returns-clause-memory : goal.returns-clause-memory
 returns-clause-memory g c =
     memory_cleaned (order_of g.K.KeyOrder.name g.K.KeyOrder.cmp) (λ scan. scan_kept g.K.KeyOrder.cmp scan) c.one_directory.ensures c.sound_lasts.ensures c.changes_are_kept.ensures.dropped (seen_of g.S.Store.facts c.args.source.now) (g.S.Store.facts c.remove_files.new.store)
     (record { snapshot = 0; iterator = 0 }) (held c.args.source.now.memory c.args.self.now) c.close_tables.new.tables.tables c.drop_unused.new.self c.in_ok-removal.removal.tables.items c.drop_unused.ensures
+
+pub returns-clause-dropped : goal.returns-clause-dropped
+returns-clause-dropped g c = λ generation unused.
+    let gone = c.drop_unused.ensures in
+    gone.gone generation (λ used. unused (elim used [
+      | inl sealed ↦ inl (ap (λ (m : Memories). m.sealed) gone.others ∙ sealed)
+      | inr read ↦ inr read
+    ]))

@@ -4,6 +4,8 @@ use Rattle.ikey.specs.Orders.{order_of}
 use Rattle.engine.specs.declared.work.Progress.{Progress}
 use Rattle.engine.specs.Follows.{LeadsOpen}
 use Rattle.engine.specs.Held.{held}
+use Rattle.engine.specs.InUse.{IsMemoryUsed}
+use Rattle.memtables.specs.Memories.{older_at}
 use Rattle.db_cursor.specs.Whole.{seen_of}
 use Rattle.engine.specs.Stands.{no_ids}
 use Rattle.machine.specs.Upkeep.{Works}
@@ -94,3 +96,13 @@ returns-in-Ok-clause-within g c worked which gone f =
     let mid_faithful = (piece.step no_ids).faithful f in
     steps_behind order old mid before between (max c.args.budget 1) cleaned.step mid_faithful refl refl
     (tables_stay order old mid before between refl refl refl c.if-self.false (cleaned.removes mid_faithful)) inner
+
+pub returns-in-Ok-clause-dropped : goal.returns-in-Ok-clause-dropped
+returns-in-Ok-clause-dropped g c = λ idle.
+    let same = c.in-Ok.ensures.idle idle in
+    λ generation unused.
+    ap (λ source. older_at source.memory.older generation) same.0
+    ∙ c.in_ok-complete.ensures.dropped generation (λ used. unused (elim used [
+      | inl sealed ↦ inl (ap (λ source. source.memory.sealed) same.0 ∙ sealed)
+      | inr read ↦ inr (subst (λ state. IsMemoryUsed state.iterators generation) (sym same.1) read)
+    ]))
