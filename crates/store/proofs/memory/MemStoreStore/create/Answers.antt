@@ -12,7 +12,7 @@ pub returns-clause-calls : goal.returns-clause-calls
 returns-clause-calls c =
     let name = c.args.name.now in
     let k = c.in_ok-known.known in
-    let held = c.in_ok-held.locked in
+    let held = c.in_ok-held.held in
     let old = c.args.self.now.files.entries in
     let made : files_of c.put.new.files.entries ≡ insert (files_of old) name [] = c.in_ok-held.ensures.ok ∙ ap (λ (v : MemFile). insert (files_of old) name v.bytes) c.new.ensures in
     let kept : synced_of c.put.new.files.entries ≡ with_synced (synced_of old) name None = c.in_ok-held.ensures.synced ∙ ap (λ (v : MemFile). with_synced (synced_of old) name v.synced) c.new.ensures in

@@ -1,4 +1,4 @@
-use Rattle.std.proofs.Common.{◌≡◌, ◌++◌, ◌∷◌, List, [], None, ap, ◌∙◌, refl, sym}
+use Rattle.std.proofs.Common.{◌++◌, ◌∷◌, List, [], ap, ◌∙◌, refl}
 use Rattle.store.specs.Files.{Disk, LockFile}
 use Rattle.store.specs.MemStore.{files_of, synced_of}
 use Rattle.store.specs.declared.past.Past.{Past}
