@@ -22,8 +22,12 @@ const LOCK: &str = "LOCK";
 /// One bound on that: a call that must answer Device also raises the count of failures, and the counter has
 /// 64 bits. From the failure of number 2^64 - 1 on nothing more is claimed of what the store returns.
 ///
-/// It keeps of each call that changes something what undoes it, and makes room for that before the call acts: a file that
-/// was removed or replaced, and of an append the length before it.
+/// It keeps of each call that changes something what undoes it, so that its facts have what each of them found. No byte is
+/// copied for that: an append keeps the length that the file had, and a file that was removed or replaced is itself kept, so
+/// that its bytes stay in memory as long as the store. A further call takes a copy of its names. A `copy` begins anew.
+///
+/// Room for what undoes a call is made before it acts. Where there is none it answers Memory, but for `sync` and `remove`,
+/// which never do: they have failed, and have changed nothing.
 #[derive(Drop)]
 pub struct MemStore {
     alloc: Global,
@@ -50,7 +54,8 @@ impl MemStore {
         }
     }
 
-    /// A directory with a copy of each file, synced as it is here, its lock free and its counts 0.
+    /// A directory with a copy of each file, synced as it is here, its lock free and its counts 0. Nothing of the calls
+    /// made here comes along, nor of the files that they took away.
     pub fn copy(&self) -> Result<MemStore, StoreError>
         ensures copied { IfOk result (λ copy. mem_facts copy ≡ record (mem_facts self.now) { calls = []; faithful = true; locked = false; failures = 0; denials = 0 }) }
         ensures memory { IfErr result (λ error. error ≡ StoreError.Memory) }
@@ -159,6 +164,7 @@ impl Store for MemStore {
         }
         let known = room_for(&mut self.past, self.alloc, from)?;
         let known_to = String::from_str(self.alloc, to)?;
+        // A file to replace comes first: behind it nothing more can be refused for want of memory.
         let made = make_if_missing(&mut self.files, self.alloc, to)?;
         let held = move_file(&mut self.files, from, to);
         let held = unless(made, held);
@@ -184,6 +190,7 @@ impl Store for MemStore {
         make_room(&mut self.past)?;
         let made = make_if_missing(&mut self.files, self.alloc, LOCK)?;
         self.locked = true;
+        // With the file there the call has changed none, and there is nothing to undo.
         if !made {
             return Ok(true);
         }
@@ -250,7 +257,7 @@ fn move_file(files: &mut BTreeMap<String, MemFile>, from: &str, to: &str) -> Opt
     None
 }
 
-// The file, unless its name had none before.
+// The file that was replaced, unless it was made for that alone.
 fn unless(made: bool, held: Option<MemFile>) -> Option<MemFile>
     ensures { result ≡ (if made then None else held) }
 {
