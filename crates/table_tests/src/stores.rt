@@ -176,10 +176,46 @@ pub const CALLS: &[Row] = &[
     (Step::Names(""), Ok(true)),
 ];
 
+/// Files that are replaced, taken away and made again: nothing that they held comes back.
+pub const REPLACED: &[Row] = &[
+    (Step::Create("a"), Ok(true)),
+    (Step::Append("a", b"first"), Ok(true)),
+    (Step::Sync("a"), Ok(true)),
+    (Step::Append("a", b", more"), Ok(true)),
+    (Step::Create("a"), Ok(true)),
+    (Step::Holds("a", b""), Ok(true)),
+    (Step::Append("a", b"second"), Ok(true)),
+    (Step::Create("b"), Ok(true)),
+    (Step::Append("b", b"third"), Ok(true)),
+    (Step::Sync("b"), Ok(true)),
+    (Step::Append("b", b"!"), Ok(true)),
+    (Step::Rename("b", "a"), Ok(true)),
+    (Step::Names("a;"), Ok(true)),
+    (Step::Append("a", b"?"), Ok(true)),
+    (Step::Holds("a", b"third!?"), Ok(true)),
+    (Step::Rename("a", "b"), Ok(true)),
+    (Step::Holds("a", b""), Err(StoreError::Missing)),
+    (Step::Create("a"), Ok(true)),
+    (Step::Sync("a"), Ok(true)),
+    (Step::Append("a", b"fourth"), Ok(true)),
+    (Step::Holds("a", b"fourth"), Ok(true)),
+    (Step::Holds("b", b"third!?"), Ok(true)),
+    (Step::Remove("b"), Ok(true)),
+    (Step::Holds("b", b""), Err(StoreError::Missing)),
+    (Step::Create("b"), Ok(true)),
+    (Step::Holds("b", b""), Ok(true)),
+    (Step::Remove("a"), Ok(true)),
+    (Step::Names("b;"), Ok(true)),
+    (Step::Remove("b"), Ok(true)),
+    (Step::Names(""), Ok(true)),
+];
+
 #[test]
 fn memory_keeps_what_was_written(rt: HostRuntime) {
     let mut store = MemStore::new(rt.alloc());
-    assert_eq!(rt; first_wrong(rt.alloc(), &mut store, CALLS), None);
+    for rows in [CALLS, REPLACED, CALLS, REPLACED] {
+        assert_eq!(rt; first_wrong(rt.alloc(), &mut store, rows), None);
+    }
 }
 
 #[test]
@@ -255,7 +291,7 @@ fn a_fault_writes_a_part_of_its_append(rt: HostRuntime) {
 }
 
 // The writing calls of a small life of a directory.
-const LIFE: [Step<'static>; 12] = [
+const LIFE: [Step<'static>; 13] = [
     Step::Create("000001.dbtmp"),
     Step::Append("000001.dbtmp", b"MANIFEST-000002\n"),
     Step::Rename("000001.dbtmp", "CURRENT"),
@@ -267,6 +303,7 @@ const LIFE: [Step<'static>; 12] = [
     ),
     Step::Create("000003.log"),
     Step::Sync("000003.log"),
+    Step::Create("000004.log"),
     Step::Rename("000003.log", "000004.log"),
     Step::Lock,
     Step::Remove("CURRENT"),
@@ -302,7 +339,15 @@ fn copied(store: &MemStore) -> Result<MemStore, StoreError> {
     }
 }
 
-// Whether a step that was refused changed nothing, for want of memory, and is done once more.
+// How a step is refused for want of memory. A sync and a removal don't say so: they have failed.
+fn refusal(step: Step<'_>) -> StoreError {
+    match step {
+        Step::Sync(_) | Step::Remove(_) => StoreError::Device,
+        _ => StoreError::Memory,
+    }
+}
+
+// Whether a step that was refused for want of memory changed nothing, and is done once more.
 fn is_done_again(
     alloc: Global,
     before: &mut MemStore,
@@ -310,7 +355,7 @@ fn is_done_again(
     step: Step<'_>,
     error: StoreError,
 ) -> bool {
-    error == StoreError::Memory
+    error == refusal(step)
         && are_same(alloc, before, store) == Ok(true)
         && does(alloc, store, step)
 }
