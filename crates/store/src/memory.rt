@@ -2,7 +2,8 @@
 ghost use Rattle.std.specs.Prelude.{◌≡◌, ◌≢◌, ◌+◌, ◌++◌, ◌≤◌, ◌^◌, [], List, ℕ, Some, None, true, false, take, drop, length, IfOk, OnOk, OnErr, IfErr, IsSome, IfSome, if◌then◌else◌};
 ghost use Rattle.std.specs.FinMap as map;
 ghost use Rattle.std.specs.FinMap.{insert};
-ghost use Rattle.store.specs.Files.{Renames, made_if_missing, with_synced, renamed};
+ghost use Rattle.store.specs.Calls.{Notes};
+ghost use Rattle.store.specs.Files.{LockFile, Locks, Renames, made_if_missing, with_synced, renamed};
 ghost use Rattle.store.specs.MemFile.{front_of};
 ghost use Rattle.store.specs.MemStore.{files_of, synced_of};
 ghost use Rattle.store.specs.Past.{Holds};
@@ -86,6 +87,35 @@ impl MemStore {
         ensures full { OnOk result ((self.new.counters.failures ≡ self.old.counters.failures) × (2 ^ 64 ≤ self.new.counters.failures + 1)) }
     {
         self.counters.fail()
+    }
+
+    // Denies the lock and counts it, or answers Memory where no further denial can be counted.
+    pub(crate) fn deny(&mut self) -> Result<bool, StoreError>
+        ensures files { self.new ≡ record self.old { counters = self.new.counters } }
+        ensures failures { self.new.counters.failures ≡ self.old.counters.failures }
+        ensures counted { IfOk result (λ taken. (taken ≡ false) × (self.new.counters.denials ≡ self.old.counters.denials + 1)) }
+        ensures memory { IfErr result (λ error. (error ≡ StoreError.Memory) × (self.new.counters.denials ≡ self.old.counters.denials)) }
+    {
+        self.counters.deny()
+    }
+
+    // Makes the lock's file where it is missing, and leaves the lock as it is.
+    pub(crate) fn make_lock_file(&mut self) -> Result<(), StoreError>
+        ensures rest { self.new ≡ record self.old { files = self.new.files; past = self.new.past } }
+        ensures ok { OnOk result (Locks (mem_facts self.old).files (mem_facts self.new).files) }
+        ensures err { OnErr result ((mem_facts self.new).files ≡ (mem_facts self.old).files) }
+        ensures synced { (mem_facts self.new).synced ≡ (mem_facts self.old).synced }
+        ensures calls { Notes (mem_facts self.old) (mem_facts self.new) result LockFile }
+        ensures memory { IfErr result (λ error. error ≡ StoreError.Memory) }
+    {
+        make_room(&mut self.past)?;
+        let made = make_if_missing(&mut self.files, self.alloc, LOCK)?;
+        // With the file there no file has changed, and there is nothing to undo.
+        if !made {
+            return Ok(());
+        }
+        keep(&mut self.past, Past::Locked);
+        Ok(())
     }
 }
 
@@ -185,16 +215,10 @@ impl Store for MemStore {
 
     fn lock(&mut self) -> Result<bool, StoreError> {
         if self.locked {
-            return self.counters.deny();
+            return self.deny();
         }
-        make_room(&mut self.past)?;
-        let made = make_if_missing(&mut self.files, self.alloc, LOCK)?;
+        self.make_lock_file()?;
         self.locked = true;
-        // With the file there the call has changed none, and there is nothing to undo.
-        if !made {
-            return Ok(true);
-        }
-        keep(&mut self.past, Past::Locked);
         Ok(true)
     }
 
