@@ -11,7 +11,7 @@ use edits::{Edit, Field, FileNumbers, PlacedTable};
 use ikey::{Bytewise, KeyOrder, Kind};
 use std::alloc::{AllocError, Global};
 use std::test::*;
-use store::{Fault, FaultStore, HasStore, MemStore, Store, StoreError};
+use store::{Extent, Fault, FaultStore, HasStore, MemStore, Plan, Store, StoreError};
 use table::{KeyValue, Table};
 use versions::JobPlan;
 
@@ -443,8 +443,8 @@ fn failing(alloc: Global, call: u64) -> Result<FaultStore, StoreError> {
     let mut files = MemStore::new(alloc);
     files.create("000004.ldb")?;
     files.append("000004.ldb", b"in")?;
-    let faults = Vec::from_array(alloc, [(call, Fault::Part(3))])?;
-    Ok(FaultStore::new(files, faults))
+    let fault = Fault::Fail(Extent::Part(3));
+    Ok(FaultStore::new(files, Some(Plan { call, fault })))
 }
 
 fn keeps_input(alloc: Global, store: &mut MemStore) -> bool {
