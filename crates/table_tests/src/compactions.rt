@@ -438,7 +438,7 @@ fn refusals_say_why(rt: HostRuntime) {
     }
 }
 
-// A store with an input's file, whose call of this number fails behind three bytes.
+// A store with an input's file, whose call of this number fails, an append behind three bytes.
 fn failing(alloc: Global, call: u64) -> Result<FaultStore, StoreError> {
     let mut files = MemStore::new(alloc);
     files.create("000004.ldb")?;
@@ -475,10 +475,10 @@ fn failures_of(alloc: Global, case: &Case) -> Option<u64> {
     Some(failed)
 }
 
-// The three tables are appended to twice each.
+// Each of the three tables is made, appended to twice and synced.
 #[test]
 fn a_failing_store_is_answered(rt: HostRuntime) {
-    assert_eq!(rt; failures_of(rt.alloc(), &CASES[5]), Some(6));
+    assert_eq!(rt; failures_of(rt.alloc(), &CASES[5]), Some(12));
 }
 
 // ---- deeper tables
