@@ -1,5 +1,5 @@
 -- The files that a map from names to contents stands for, through a look-up and a change of the map.
-use Rattle.std.proofs.Common.{◌≡◌, ℕ, Bool, true, false, cond, List, [], ◌∷◌, map, Option, Some, None, is_some, is_none, not, String, Vec, string_bytes, refl, sym, ap, subst, T, ◌∙◌}
+use Rattle.std.proofs.Common.{◌≡◌, ℕ, Bool, true, false, cond, List, [], ◌∷◌, map, Option, Some, None, is_some, is_none, not, String, string_bytes, refl, sym, ap, subst, T, ◌∙◌}
 use Rattle.std.specs.declared.alloc.Global.{Global}
 use Rattle.std.specs.BTreeMap.{BTreeMap, get_by_text, Updates, UpdatesBy, IsOrdered, IsClone}
 use Rattle.std.specs.BTreeMap as tree
@@ -17,13 +17,11 @@ use mathlib.Core.Bool.{true≢false, ◌&&◌}
 use Rattle.std.specs.Str.{bytes_eq}
 use Rattle.std.specs.String.{string_cmp}
 use Rattle.std.specs.FinMap.{get, insert, remove, keys, from_entries, from_sorted, get-from_sorted, entries-from_sorted, find, is_sorted, get-from_entries, get-insert, get-remove, same_map, slice_cmp-IsAntisymmetric, nat_cmp-IsAntisymmetric}
-use Rattle.std.proofs.lemmas.List.Elements.{same_from_all_zip}
-use Rattle.std.specs.Vec.{vec_len}
 use Rattle.std.proofs.lemmas.Map.Text.{btree_map_updates_text, is_eq-slice_cmp}
 use Rattle.store.specs.Files.{Files, Synced, Renames, made_if_missing, with_synced, renamed}
 use Rattle.store.specs.declared.mem_file.MemFile.{MemFile}
 use Rattle.store.specs.MemStore.{files_of, synced_of}
-use Rattle.store.specs.Past.{Holds, bytes_of, synced_in}
+use Rattle.store.specs.Past.{Holds}
 
 abbrev Tree : Type 0
 Tree = BTreeMap (String Global) (MemFile)

@@ -1,9 +1,9 @@
 -- What a stop may leave, moment by moment.
-use Rattle.std.proofs.Common.{◌≤◌, ◌≡◌, ◌⊎◌, ◌++◌, inl, inr, ⊎_elim, ℕ, List, [], ◌∷◌, length, drop, refl, sym, ap, ◌∙◌, subst, append-nil, arith}
+use Rattle.std.proofs.Common.{◌≤◌, ◌≡◌, ◌⊎◌, inl, inr, ⊎_elim, List, [], ◌∷◌, length, drop, refl, sym, ap, ◌∙◌, subst, append-nil, arith}
 use Rattle.std.proofs.Math.Seq.{drop-append_seam}
 use Rattle.store.specs.Files.{Facts, Files, Call}
 use Rattle.store.specs.Losses.{LostSinceLaw}
-use Rattle.store.specs.Stops.{LeftDuring, Left, moment, LeavesOnly, LeftNowLaw, LeftSinceLaw, LeftBothLaw}
+use Rattle.store.specs.Stops.{LeftDuring, LeavesOnly, LeftNowLaw, LeftSinceLaw, LeftBothLaw}
 
 pub both_parts : LeftBothLaw
 both_parts [] second files left = inr left

@@ -3,7 +3,7 @@ use Rattle.std.proofs.Common.{◌≡◌, ℕ, Bool, true, false, cond, List, [],
 use mathlib.Core.Bool.{true≢false}
 use Rattle.std.proofs.Common.{inl, inr, Result, Ok, Err, append-nil, zero, suc, IsTrue}
 use Rattle.std.proofs.Math.Seq.{take-append_seam, drop-append_seam}
-use Rattle.std.proofs.lemmas.List.{reverse-append, take-take}
+use Rattle.std.proofs.lemmas.List.{reverse-append}
 use Rattle.std.specs.Cmp.{tied_itself}
 use Rattle.std.specs.Ordering.{is_eq}
 use Rattle.std.specs.Option.{option_map, option_and_then}
@@ -11,9 +11,9 @@ use Rattle.std.specs.declared.alloc.Global.{Global}
 use Rattle.std.specs.Cmp.Lexicographic.{slice_cmp, nat_list_cmp_total}
 use Rattle.std.specs.Ordering.{nat_cmp, eq_by_cmp}
 use Rattle.std.specs.FinMap.{get, insert, remove, get-insert, get-remove}
-use Rattle.store.specs.Files.{Files, Synced, Facts, Disk, disk_of, Call, Change, Creation, Addition, Sync, Move, Removal, LockFile, Does, Appends, lock_name, with_synced, renamed}
+use Rattle.store.specs.Files.{Files, Synced, Facts, Disk, disk_of, Call, Change, Addition, Does, Appends, lock_name, with_synced, renamed}
 use Rattle.store.specs.MemFile.{front_of}
-use Rattle.store.specs.Calls.{Notes, NotesAppend, NotesSync, Idles, Adds}
+use Rattle.store.specs.Calls.{Notes, NotesAppend, NotesSync, Adds}
 use Rattle.store.specs.declared.error.StoreError.{StoreError}
 use Rattle.store.specs.declared.error.StoreError.TheVariants.{Memory}
 use Rattle.store.specs.declared.mem_file.MemFile.{MemFile}

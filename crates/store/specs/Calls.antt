@@ -2,7 +2,7 @@
 use Rattle.std.specs.Prelude.{◌≡◌, ◌≢◌, ◌⊎◌, ◌<◌, ◌≤◌, ◌++◌, ◌∷◌, [], ℕ, List, take, IsTrue, Result, Err, OnOk, OnErr}
 use Rattle.store.specs.declared.error.StoreError.{StoreError}
 use Rattle.store.specs.declared.error.StoreError.TheVariants.{Memory, Device}
-use Rattle.store.specs.Files.{Facts, Files, Synced, Change, Addition, Call, Does, disk_of}
+use Rattle.store.specs.Files.{Facts, Files, Synced, Change, Addition, Does, disk_of}
 
 -- Once a store has returned something else than what was written, that is so for good. The counts don't fall.
 -- A call raises the count of failures exactly where it answers Device.

@@ -14,7 +14,7 @@ mod past;
 mod store;
 
 pub use error::StoreError;
-pub use fault_store::{Fault, FaultStore};
+pub use fault_store::{Extent, Fault, FaultStore, Plan};
 pub use file_store::FileStore;
 pub use has_store::HasStore;
 pub use laws::{left_now, left_since, lost_since};

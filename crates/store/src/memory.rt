@@ -2,7 +2,8 @@
 ghost use Rattle.std.specs.Prelude.{◌≡◌, ◌≢◌, ◌+◌, ◌++◌, ◌≤◌, ◌^◌, [], List, ℕ, Some, None, true, false, take, drop, length, IfOk, OnOk, OnErr, IfErr, IsSome, IfSome, if◌then◌else◌};
 ghost use Rattle.std.specs.FinMap as map;
 ghost use Rattle.std.specs.FinMap.{insert};
-ghost use Rattle.store.specs.Files.{Renames, made_if_missing, with_synced, renamed};
+ghost use Rattle.store.specs.Calls.{Notes};
+ghost use Rattle.store.specs.Files.{LockFile, Locks, Renames, made_if_missing, with_synced, renamed};
 ghost use Rattle.store.specs.MemFile.{front_of};
 ghost use Rattle.store.specs.MemStore.{files_of, synced_of};
 ghost use Rattle.store.specs.Past.{Holds};
@@ -22,8 +23,12 @@ const LOCK: &str = "LOCK";
 /// One bound on that: a call that must answer Device also raises the count of failures, and the counter has
 /// 64 bits. From the failure of number 2^64 - 1 on nothing more is claimed of what the store returns.
 ///
-/// It keeps of each call that changes something what undoes it, and makes room for that before the call acts: a file that
-/// was removed or replaced, and of an append the length before it.
+/// It keeps of each call that changes something what undoes it, so that its facts have what each of them found. No byte is
+/// copied for that: an append keeps the length that the file had, and a file that was removed or replaced is itself kept, so
+/// that its bytes stay in memory as long as the store. A further call takes a copy of its names. A `copy` begins anew.
+///
+/// Room for what undoes a call is made before it acts. Where there is none it answers Memory, but for `sync` and `remove`,
+/// which never do: they have failed, and have changed nothing.
 #[derive(Drop)]
 pub struct MemStore {
     alloc: Global,
@@ -50,7 +55,8 @@ impl MemStore {
         }
     }
 
-    /// A directory with a copy of each file, synced as it is here, its lock free and its counts 0.
+    /// A directory with a copy of each file, synced as it is here, its lock free and its counts 0. Nothing of the calls
+    /// made here comes along, nor of the files that they took away.
     pub fn copy(&self) -> Result<MemStore, StoreError>
         ensures copied { IfOk result (λ copy. mem_facts copy ≡ record (mem_facts self.now) { calls = []; faithful = true; locked = false; failures = 0; denials = 0 }) }
         ensures memory { IfErr result (λ error. error ≡ StoreError.Memory) }
@@ -81,6 +87,35 @@ impl MemStore {
         ensures full { OnOk result ((self.new.counters.failures ≡ self.old.counters.failures) × (2 ^ 64 ≤ self.new.counters.failures + 1)) }
     {
         self.counters.fail()
+    }
+
+    // Denies the lock and counts it, or answers Memory where no further denial can be counted.
+    pub(crate) fn deny(&mut self) -> Result<bool, StoreError>
+        ensures files { self.new ≡ record self.old { counters = self.new.counters } }
+        ensures failures { self.new.counters.failures ≡ self.old.counters.failures }
+        ensures counted { IfOk result (λ taken. (taken ≡ false) × (self.new.counters.denials ≡ self.old.counters.denials + 1)) }
+        ensures memory { IfErr result (λ error. (error ≡ StoreError.Memory) × (self.new.counters.denials ≡ self.old.counters.denials)) }
+    {
+        self.counters.deny()
+    }
+
+    // Makes the lock's file where it is missing, and leaves the lock as it is.
+    pub(crate) fn make_lock_file(&mut self) -> Result<(), StoreError>
+        ensures rest { self.new ≡ record self.old { files = self.new.files; past = self.new.past } }
+        ensures ok { OnOk result (Locks (mem_facts self.old).files (mem_facts self.new).files) }
+        ensures err { OnErr result ((mem_facts self.new).files ≡ (mem_facts self.old).files) }
+        ensures synced { (mem_facts self.new).synced ≡ (mem_facts self.old).synced }
+        ensures calls { Notes (mem_facts self.old) (mem_facts self.new) result LockFile }
+        ensures memory { IfErr result (λ error. error ≡ StoreError.Memory) }
+    {
+        make_room(&mut self.past)?;
+        let made = make_if_missing(&mut self.files, self.alloc, LOCK)?;
+        // With the file there no file has changed, and there is nothing to undo.
+        if !made {
+            return Ok(());
+        }
+        keep(&mut self.past, Past::Locked);
+        Ok(())
     }
 }
 
@@ -159,6 +194,7 @@ impl Store for MemStore {
         }
         let known = room_for(&mut self.past, self.alloc, from)?;
         let known_to = String::from_str(self.alloc, to)?;
+        // A file to replace comes first: behind it nothing more can be refused for want of memory.
         let made = make_if_missing(&mut self.files, self.alloc, to)?;
         let held = move_file(&mut self.files, from, to);
         let held = unless(made, held);
@@ -179,15 +215,10 @@ impl Store for MemStore {
 
     fn lock(&mut self) -> Result<bool, StoreError> {
         if self.locked {
-            return self.counters.deny();
+            return self.deny();
         }
-        make_room(&mut self.past)?;
-        let made = make_if_missing(&mut self.files, self.alloc, LOCK)?;
+        self.make_lock_file()?;
         self.locked = true;
-        if !made {
-            return Ok(true);
-        }
-        keep(&mut self.past, Past::Locked);
         Ok(true)
     }
 
@@ -250,7 +281,7 @@ fn move_file(files: &mut BTreeMap<String, MemFile>, from: &str, to: &str) -> Opt
     None
 }
 
-// The file, unless its name had none before.
+// The file that was replaced, unless it was made for that alone.
 fn unless(made: bool, held: Option<MemFile>) -> Option<MemFile>
     ensures { result ≡ (if made then None else held) }
 {

@@ -6,7 +6,7 @@ use ikey::{Bytewise, KeyOrder, Kind};
 use std::alloc::Global;
 use std::cmp::Ordering;
 use std::test::*;
-use store::{Fault, FaultStore, FileStore, MemStore, Store, StoreError};
+use store::{Extent, Fault, FaultStore, FileStore, MemStore, Plan, Store, StoreError};
 use table::{Handle, KeyValue, Table, TableBuilder};
 
 const OTHER: &str = "000004.log";
@@ -460,8 +460,8 @@ fn has_three(alloc: Global, store: &mut MemStore) -> Result<bool, DbError> {
 fn failing(alloc: Global, call: u64, count: usize) -> Result<FaultStore, StoreError> {
     let mut inner = MemStore::new(alloc);
     put_other(&mut inner)?;
-    let faults = Vec::from_array(alloc, [(call, Fault::Part(count))])?;
-    Ok(FaultStore::new(inner, faults))
+    let fault = Fault::Fail(Extent::Part(count));
+    Ok(FaultStore::new(inner, Some(Plan { call, fault })))
 }
 
 // What is left of a table of three odd numbers, a block each, where the call of this number writes so many bytes and

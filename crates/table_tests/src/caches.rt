@@ -25,7 +25,7 @@ const SECOND: Handle = Handle {
 // A store that counts its calls: table 5 has one entry, and table 7, under its old name, two blocks.
 fn two_tables(alloc: Global) -> Result<FaultStore, DbError> {
     match both(alloc) {
-        Ok(store) => Ok(FaultStore::new(store, Vec::new(alloc))),
+        Ok(store) => Ok(FaultStore::new(store, None)),
         Err(_) => Err(DbError::OutOfMemory),
     }
 }

@@ -11,7 +11,7 @@ use edits::{Edit, Field, FileNumbers, PlacedTable};
 use ikey::{Bytewise, KeyOrder, Kind};
 use std::alloc::{AllocError, Global};
 use std::test::*;
-use store::{Fault, FaultStore, HasStore, MemStore, Store, StoreError};
+use store::{Extent, Fault, FaultStore, HasStore, MemStore, Plan, Store, StoreError};
 use table::{KeyValue, Table};
 use versions::JobPlan;
 
@@ -438,13 +438,13 @@ fn refusals_say_why(rt: HostRuntime) {
     }
 }
 
-// A store with an input's file, whose call of this number fails behind three bytes.
+// A store with an input's file, whose call of this number fails, an append behind three bytes.
 fn failing(alloc: Global, call: u64) -> Result<FaultStore, StoreError> {
     let mut files = MemStore::new(alloc);
     files.create("000004.ldb")?;
     files.append("000004.ldb", b"in")?;
-    let faults = Vec::from_array(alloc, [(call, Fault::Part(3))])?;
-    Ok(FaultStore::new(files, faults))
+    let fault = Fault::Fail(Extent::Part(3));
+    Ok(FaultStore::new(files, Some(Plan { call, fault })))
 }
 
 fn keeps_input(alloc: Global, store: &mut MemStore) -> bool {
@@ -475,10 +475,10 @@ fn failures_of(alloc: Global, case: &Case) -> Option<u64> {
     Some(failed)
 }
 
-// The three tables are appended to twice each.
+// Each of the three tables is made, appended to twice and synced.
 #[test]
 fn a_failing_store_is_answered(rt: HostRuntime) {
-    assert_eq!(rt; failures_of(rt.alloc(), &CASES[5]), Some(6));
+    assert_eq!(rt; failures_of(rt.alloc(), &CASES[5]), Some(12));
 }
 
 // ---- deeper tables

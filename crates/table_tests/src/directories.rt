@@ -16,7 +16,7 @@ use ikey::Bytewise;
 use memtable::MemTable;
 use std::alloc::{AllocError, Global};
 use std::test::*;
-use store::{Fault, FaultStore, MemStore, Store, StoreError};
+use store::{Extent, Fault, FaultStore, MemStore, Plan, Store, StoreError};
 use versions::LiveNumbers;
 
 // ---- the MANIFEST
@@ -86,8 +86,8 @@ const FAILURES: &[(u64, usize, &[u8])] = &[
 
 // A store with an empty file of this name, whose call of this number fails behind so many bytes.
 fn failing(alloc: Global, name: &str, call: u64, count: usize) -> Result<FaultStore, StoreError> {
-    let faults = Vec::from_array(alloc, [(call, Fault::Part(count))])?;
-    let mut store = FaultStore::new(MemStore::new(alloc), faults);
+    let fault = Fault::Fail(Extent::Part(count));
+    let mut store = FaultStore::new(MemStore::new(alloc), Some(Plan { call, fault }));
     store.create(name)?;
     Ok(store)
 }

@@ -1,5 +1,5 @@
 // What a store over a folder of the system does.
-use crate::stores::{CALLS, Row, Step, first_wrong, perform};
+use crate::stores::{CALLS, REPLACED, Row, Step, first_wrong, perform};
 use std::alloc::{AllocError, Global};
 use std::os::unix::fs::PermissionsExt;
 use std::test::*;
@@ -61,7 +61,7 @@ const NOT_THERE: &[Row] = &[
 #[test]
 fn a_folder_keeps_what_was_written(rt: HostRuntime) -> Result<(), Fail> {
     let folder = fresh_folder(&rt, "keeps")?;
-    for rows in [CALLS, NOT_THERE, NAMED] {
+    for rows in [CALLS, REPLACED, NOT_THERE, NAMED] {
         assert_eq!(rt; first_wrong_in(&rt, folder.as_str(), rows), Ok(None));
     }
     fs::remove_dir_all(&rt, folder.as_str())?;

@@ -1,7 +1,7 @@
 // What stores in memory do, by the calls of a database.
 use std::alloc::Global;
 use std::test::*;
-use store::{Fault, FaultStore, MemStore, Store, StoreError};
+use store::{Extent, Fault, FaultStore, MemStore, Plan, Store, StoreError};
 
 // A call of a store, or a look at its files that answers whether they are so.
 #[derive(Clone, Copy)]
@@ -176,15 +176,51 @@ pub const CALLS: &[Row] = &[
     (Step::Names(""), Ok(true)),
 ];
 
+/// Files that are replaced, taken away and made again: nothing that they held comes back.
+pub const REPLACED: &[Row] = &[
+    (Step::Create("a"), Ok(true)),
+    (Step::Append("a", b"first"), Ok(true)),
+    (Step::Sync("a"), Ok(true)),
+    (Step::Append("a", b", more"), Ok(true)),
+    (Step::Create("a"), Ok(true)),
+    (Step::Holds("a", b""), Ok(true)),
+    (Step::Append("a", b"second"), Ok(true)),
+    (Step::Create("b"), Ok(true)),
+    (Step::Append("b", b"third"), Ok(true)),
+    (Step::Sync("b"), Ok(true)),
+    (Step::Append("b", b"!"), Ok(true)),
+    (Step::Rename("b", "a"), Ok(true)),
+    (Step::Names("a;"), Ok(true)),
+    (Step::Append("a", b"?"), Ok(true)),
+    (Step::Holds("a", b"third!?"), Ok(true)),
+    (Step::Rename("a", "b"), Ok(true)),
+    (Step::Holds("a", b""), Err(StoreError::Missing)),
+    (Step::Create("a"), Ok(true)),
+    (Step::Sync("a"), Ok(true)),
+    (Step::Append("a", b"fourth"), Ok(true)),
+    (Step::Holds("a", b"fourth"), Ok(true)),
+    (Step::Holds("b", b"third!?"), Ok(true)),
+    (Step::Remove("b"), Ok(true)),
+    (Step::Holds("b", b""), Err(StoreError::Missing)),
+    (Step::Create("b"), Ok(true)),
+    (Step::Holds("b", b""), Ok(true)),
+    (Step::Remove("a"), Ok(true)),
+    (Step::Names("b;"), Ok(true)),
+    (Step::Remove("b"), Ok(true)),
+    (Step::Names(""), Ok(true)),
+];
+
 #[test]
 fn memory_keeps_what_was_written(rt: HostRuntime) {
     let mut store = MemStore::new(rt.alloc());
-    assert_eq!(rt; first_wrong(rt.alloc(), &mut store, CALLS), None);
+    for rows in [CALLS, REPLACED, CALLS, REPLACED] {
+        assert_eq!(rt; first_wrong(rt.alloc(), &mut store, rows), None);
+    }
 }
 
 #[test]
 fn no_fault_changes_no_call(rt: HostRuntime) {
-    let mut store = FaultStore::new(MemStore::new(rt.alloc()), Vec::new(rt.alloc()));
+    let mut store = FaultStore::new(MemStore::new(rt.alloc()), None);
     assert_eq!(rt; first_wrong(rt.alloc(), &mut store, CALLS), None);
 }
 
@@ -217,45 +253,195 @@ fn a_copy_has_the_files_alone(rt: HostRuntime) {
     assert!(rt; does(rt.alloc(), &mut store, Step::Holds("a", b"first")));
 }
 
-const PARTS: [(u64, Fault); 4] = [
-    (3, Fault::Part(2)),
-    (4, Fault::Part(9)),
-    (6, Fault::Part(0)),
-    (7, Fault::Part(1)),
-];
+// ---- faults
+
+// How many bytes of `abc` come behind a log that has one, as a fault lets them, and what it has then.
+const PARTS: [(usize, &[u8]); 4] = [(2, b"-abf"), (3, b"-abcf"), (9, b"-abcf"), (0, b"-f")];
 
 const PARTLY: &[Row] = &[
     (Step::Create("log"), Ok(true)),
     (Step::Append("log", b"-"), Ok(true)),
     (Step::Append("log", b"abc"), Err(StoreError::Device)),
-    (Step::Append("log", b"de"), Err(StoreError::Device)),
     (Step::Append("log", b"f"), Ok(true)),
-    (Step::Append("log", b"gh"), Err(StoreError::Device)),
     (Step::Sync("log"), Ok(true)),
 ];
 
-// Whether a store with those faults counts these calls, and has written what each left of its bytes.
-fn writes_parts(alloc: Global) -> Result<bool, StoreError> {
-    let faults = Vec::from_array(alloc, PARTS)?;
-    let mut store = FaultStore::new(MemStore::new(alloc), faults);
-    let is_so = first_wrong(alloc, &mut store, PARTLY).is_none() && store.calls() == 7;
-    Ok(
-        is_so
-            && does(
-                alloc,
-                &mut store.into_inner(),
-                Step::Holds("log", b"-abdef"),
-            ),
-    )
+// Whether a store counts these calls, whose third is an append of so many bytes, and the log is this then.
+fn writes_part(alloc: Global, count: usize, log: &[u8]) -> bool {
+    let fault = Fault::Fail(Extent::Part(count));
+    let mut store = FaultStore::new(MemStore::new(alloc), Some(Plan { call: 3, fault }));
+    let is_so = first_wrong(alloc, &mut store, PARTLY).is_none() && store.calls() == 5;
+    is_so && does(alloc, &mut store.into_inner(), Step::Holds("log", log))
 }
 
 #[test]
 fn a_fault_writes_a_part_of_its_append(rt: HostRuntime) {
-    assert_eq!(rt; writes_parts(rt.alloc()), Ok(true));
+    for (count, log) in PARTS {
+        assert!(rt; writes_part(rt.alloc(), count, log), "{count}");
+    }
+}
+
+// A call that a fault hits, over the one file `a` that holds `first+`, and what it leaves of the files: where it isn't done,
+// where it is, where two bytes of an append are, and where locks are denied.
+struct Hit {
+    step: Step<'static>,
+    undone: &'static str,
+    done: &'static str,
+    part: &'static str,
+    denied: &'static str,
+}
+
+#[rattlefmt::skip]
+const HITS: [Hit; 13] = [
+    Hit { step: Step::Names("a;"), undone: "a=first+;", done: "a=first+;", part: "a=first+;", denied: "a=first+;" },
+    Hit { step: Step::Holds("a", b"first+"), undone: "a=first+;", done: "a=first+;", part: "a=first+;", denied: "a=first+;" },
+    Hit { step: Step::Reads("a", 1, 2, b"ir"), undone: "a=first+;", done: "a=first+;", part: "a=first+;", denied: "a=first+;" },
+    Hit { step: Step::Create("a"), undone: "a=first+;", done: "a=;", part: "a=first+;", denied: "a=;" },
+    Hit { step: Step::Create("b"), undone: "a=first+;", done: "a=first+;b=;", part: "a=first+;", denied: "a=first+;b=;" },
+    Hit { step: Step::Append("a", b"xyz"), undone: "a=first+;", done: "a=first+xyz;", part: "a=first+xy;", denied: "a=first+xyz;" },
+    Hit { step: Step::Append("a", b"x"), undone: "a=first+;", done: "a=first+x;", part: "a=first+x;", denied: "a=first+x;" },
+    Hit { step: Step::Append("a", b""), undone: "a=first+;", done: "a=first+;", part: "a=first+;", denied: "a=first+;" },
+    Hit { step: Step::Sync("a"), undone: "a=first+;", done: "a=first+;", part: "a=first+;", denied: "a=first+;" },
+    Hit { step: Step::Rename("a", "b"), undone: "a=first+;", done: "b=first+;", part: "a=first+;", denied: "b=first+;" },
+    Hit { step: Step::Remove("a"), undone: "a=first+;", done: "", part: "a=first+;", denied: "" },
+    Hit { step: Step::Lock, undone: "a=first+;", done: "LOCK=;a=first+;", part: "a=first+;", denied: "a=first+;" },
+    Hit { step: Step::Unlock, undone: "a=first+;", done: "a=first+;", part: "a=first+;", denied: "a=first+;" },
+];
+
+const FAULTS: [Fault; 7] = [
+    Fault::Fail(Extent::Before),
+    Fault::Fail(Extent::After),
+    Fault::Fail(Extent::Part(2)),
+    Fault::Deny,
+    Fault::Stop(Extent::Before),
+    Fault::Stop(Extent::After),
+    Fault::Stop(Extent::Part(2)),
+];
+
+fn is_stop(fault: Fault) -> bool {
+    matches!(fault, Fault::Stop(_))
+}
+
+// What the call answers.
+fn answer_of(hit: &Hit, fault: Fault) -> Result<bool, StoreError> {
+    match fault {
+        Fault::Deny => Ok(!matches!(hit.step, Step::Lock)),
+        _ => Err(StoreError::Device),
+    }
+}
+
+// What it leaves.
+fn left_by(hit: &Hit, fault: Fault) -> &'static str {
+    match fault {
+        Fault::Deny => hit.denied,
+        Fault::Fail(Extent::Before) | Fault::Stop(Extent::Before) => hit.undone,
+        Fault::Fail(Extent::After) | Fault::Stop(Extent::After) => hit.done,
+        Fault::Fail(Extent::Part(_)) | Fault::Stop(Extent::Part(_)) => hit.part,
+    }
+}
+
+// Whether it is done, wholly or in part, and fails.
+fn acts(hit: &Hit, fault: Fault) -> bool {
+    match fault {
+        Fault::Fail(Extent::After) | Fault::Stop(Extent::After) => matches!(
+            hit.step,
+            Step::Create(_) | Step::Append(_, _) | Step::Rename(_, _) | Step::Remove(_) | Step::Lock
+        ),
+        Fault::Fail(Extent::Part(_)) | Fault::Stop(Extent::Part(_)) => {
+            matches!(hit.step, Step::Append(_, _))
+        }
+        _ => false,
+    }
+}
+
+// Whether these are the files: each name with its bytes behind a sign, in order and each ended by a semicolon.
+fn has_left(alloc: Global, store: &mut MemStore, wanted: &str) -> Result<bool, StoreError> {
+    let mut names = store.list(alloc)?;
+    names.sort()?;
+    let mut left = Vec::new(alloc);
+    for name in names.iter() {
+        left.extend_from_slice(name.as_str().as_bytes())?;
+        left.push(b'=')?;
+        let bytes = store.read_at(alloc, name.as_str(), 0, 100)?;
+        left.extend_from_slice(bytes.as_slice())?;
+        left.push(b';')?;
+    }
+    Ok(left.as_slice() == wanted.as_bytes())
+}
+
+// A store whose second call from here on has the fault.
+fn faulty(alloc: Global, fault: Fault) -> Result<FaultStore, StoreError> {
+    let mut inner = MemStore::new(alloc);
+    inner.create("a")?;
+    inner.append("a", b"first")?;
+    Ok(FaultStore::new(inner, Some(Plan { call: 2, fault })))
+}
+
+// Whether the call in front of the fault is done, and the one that it hits answers as it should.
+fn is_hit(alloc: Global, store: &mut FaultStore, hit: &Hit, fault: Fault) -> bool {
+    does(alloc, store, Step::Append("a", b"+"))
+        && perform(alloc, store, hit.step) == answer_of(hit, fault)
+        && store.acted() == acts(hit, fault)
+}
+
+// Whether what is left is what it should be, and another process takes the lock.
+fn remains(alloc: Global, store: &FaultStore, wanted: &str) -> Result<bool, StoreError> {
+    let mut copy = store.remains()?;
+    Ok(has_left(alloc, &mut copy, wanted)? && copy.lock()?)
+}
+
+// The calls behind the one that was hit: all are done, or none, where it was a stop.
+const BEHIND: [Step<'static>; 4] = [
+    Step::Lock,
+    Step::Unlock,
+    Step::Create("z"),
+    Step::Append("z", b"z"),
+];
+
+fn goes_on(alloc: Global, store: &mut FaultStore, fault: Fault) -> bool {
+    let wanted = if is_stop(fault) {
+        Err(StoreError::Device)
+    } else {
+        Ok(true)
+    };
+    for step in BEHIND {
+        if perform(alloc, store, step) != wanted {
+            return false;
+        }
+    }
+    true
+}
+
+// Whether a fault at a call does as it should, then and later.
+fn strikes(alloc: Global, hit: &Hit, fault: Fault) -> Result<bool, StoreError> {
+    let mut store = faulty(alloc, fault)?;
+    let wanted = left_by(hit, fault);
+    if !is_hit(alloc, &mut store, hit, fault) || !remains(alloc, &store, wanted)? {
+        return Ok(false);
+    }
+    let goes_on = goes_on(alloc, &mut store, fault);
+    Ok(goes_on && (!is_stop(fault) || remains(alloc, &store, wanted)?))
+}
+
+// The first call at which a fault does otherwise, by its place.
+fn first_astray(alloc: Global, fault: Fault) -> Result<Option<usize>, StoreError> {
+    for (place, hit) in HITS.iter().enumerate() {
+        if !strikes(alloc, hit, fault)? {
+            return Ok(Some(place));
+        }
+    }
+    Ok(None)
+}
+
+#[test]
+fn faults_strike_one_call_or_stop_all_behind_it(rt: HostRuntime) {
+    for fault in FAULTS {
+        assert_eq!(rt; first_astray(rt.alloc(), fault), Ok(None), "{fault:?}");
+    }
 }
 
 // The writing calls of a small life of a directory.
-const LIFE: [Step<'static>; 12] = [
+const LIFE: [Step<'static>; 13] = [
     Step::Create("000001.dbtmp"),
     Step::Append("000001.dbtmp", b"MANIFEST-000002\n"),
     Step::Rename("000001.dbtmp", "CURRENT"),
@@ -267,6 +453,7 @@ const LIFE: [Step<'static>; 12] = [
     ),
     Step::Create("000003.log"),
     Step::Sync("000003.log"),
+    Step::Create("000004.log"),
     Step::Rename("000003.log", "000004.log"),
     Step::Lock,
     Step::Remove("CURRENT"),
@@ -302,7 +489,15 @@ fn copied(store: &MemStore) -> Result<MemStore, StoreError> {
     }
 }
 
-// Whether a step that was refused changed nothing, for want of memory, and is done once more.
+// How a step is refused for want of memory. A sync and a removal don't say so: they have failed.
+fn refusal(step: Step<'_>) -> StoreError {
+    match step {
+        Step::Sync(_) | Step::Remove(_) => StoreError::Device,
+        _ => StoreError::Memory,
+    }
+}
+
+// Whether a step that was refused for want of memory changed nothing, and is done once more.
 fn is_done_again(
     alloc: Global,
     before: &mut MemStore,
@@ -310,7 +505,7 @@ fn is_done_again(
     step: Step<'_>,
     error: StoreError,
 ) -> bool {
-    error == StoreError::Memory
+    error == refusal(step)
         && are_same(alloc, before, store) == Ok(true)
         && does(alloc, store, step)
 }

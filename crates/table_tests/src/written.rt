@@ -34,7 +34,7 @@ pub fn stored(alloc: Global, files: &[File], block_bytes: usize) -> Result<MemSt
 
 /// The same, of which calls are counted from then on.
 pub fn counted(alloc: Global, files: &[File], block_bytes: usize) -> Result<FaultStore, DbError> {
-    Ok(FaultStore::new(stored(alloc, files, block_bytes)?, Vec::new(alloc)))
+    Ok(FaultStore::new(stored(alloc, files, block_bytes)?, None))
 }
 
 /// A store that is read through caches of so many tables and so many blocks, which is more than none.

@@ -1,5 +1,5 @@
-use Rattle.std.proofs.Common.{◌≡◌, Some, None, List, ℕ, sym, ap, ◌∙◌, refl, rules}
-use Rattle.std.specs.FinMap.{get, insert, remove}
+use Rattle.std.proofs.Common.{◌≡◌, Some, None, sym, ap, ◌∙◌, rules}
+use Rattle.std.specs.FinMap.{get, insert}
 use Rattle.store.specs.Files.{Files, Synced, with_synced}
 use Rattle.store.specs.MemStore.{files_of, synced_of}
 use Rattle.store.specs.declared.mem_file.MemFile.{MemFile}

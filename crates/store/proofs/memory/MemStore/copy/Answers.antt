@@ -1,4 +1,4 @@
-use Rattle.std.proofs.Common.{◌≡◌, ◌∙◌, [], ap, true, false}
+use Rattle.std.proofs.Common.{◌∙◌, [], true, false}
 use Rattle.store.specs.Files.{Facts, Files, Synced}
 use Rattle.store.proofs.MemFiles.{files-clone, synced-clone}
 use Rattle.store.proofs.memory.MemStore.copy.Goals as goal

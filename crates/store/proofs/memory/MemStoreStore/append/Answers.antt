@@ -1,5 +1,5 @@
-use Rattle.std.proofs.Common.{◌≡◌, ◌++◌, ◌∷◌, List, [], ap, ◌∙◌, refl, sym, length}
-use Rattle.std.specs.FinMap.{get, insert}
+use Rattle.std.proofs.Common.{◌≡◌, ◌++◌, ◌∷◌, List, [], ap, ◌∙◌, refl, sym}
+use Rattle.std.specs.FinMap.{get}
 use Rattle.store.specs.Files.{Disk}
 use Rattle.store.specs.MemStore.{files_of, synced_of}
 use Rattle.store.specs.declared.past.Past.{Past}

@@ -1,6 +1,5 @@
-use Rattle.std.proofs.Common.{◌≡◌, ◌++◌, ◌∷◌, List, [], Some, None, IsSome, is_some, ap, ◌∙◌, refl, sym}
-use Rattle.std.specs.FinMap.{get, remove}
-use Rattle.store.specs.Files.{Disk, Removal, with_synced}
+use Rattle.std.proofs.Common.{◌++◌, ◌∷◌, List, [], Some, None, is_some, ap, ◌∙◌, refl, sym}
+use Rattle.store.specs.Files.{Disk, Removal}
 use Rattle.store.specs.MemStore.{files_of, synced_of}
 use Rattle.store.specs.declared.past.Past.{Past}
 use Rattle.store.specs.declared.past.Past.TheVariants.{Taken}

@@ -1,6 +1,6 @@
-use Rattle.std.proofs.Common.{◌≡◌, ◌++◌, ◌∷◌, List, [], ap, ◌∙◌, refl, sym}
+use Rattle.std.proofs.Common.{◌++◌, ◌∷◌, List, [], ap, ◌∙◌, refl, sym}
 use Rattle.std.specs.FinMap.{get}
-use Rattle.store.specs.Files.{Disk, Sync, with_synced}
+use Rattle.store.specs.Files.{Disk, Sync}
 use Rattle.store.specs.MemStore.{files_of, synced_of}
 use Rattle.store.specs.declared.past.Past.{Past}
 use Rattle.store.specs.declared.past.Past.TheVariants.{Kept}

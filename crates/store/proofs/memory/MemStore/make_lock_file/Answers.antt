@@ -1,11 +1,11 @@
-use Rattle.std.proofs.Common.{◌≡◌, ◌++◌, ◌∷◌, List, [], None, ap, ◌∙◌, refl, sym}
+use Rattle.std.proofs.Common.{◌++◌, ◌∷◌, List, [], ap, ◌∙◌, refl}
 use Rattle.store.specs.Files.{Disk, LockFile}
 use Rattle.store.specs.MemStore.{files_of, synced_of}
 use Rattle.store.specs.declared.past.Past.{Past}
 use Rattle.store.specs.declared.past.Past.TheVariants.{Locked}
 use Rattle.store.proofs.MemFiles.{made_not, made_new, none_of_missing}
 use Rattle.store.proofs.Undoing.{notes_change, notes_none, locked_back}
-use Rattle.store.proofs.memory.MemStoreStore.lock.Goals as goal
+use Rattle.store.proofs.memory.MemStore.make_lock_file.Goals as goal
 
 pub returns-then-not-made-clause-calls : goal.returns-then-not-made-clause-calls
 returns-then-not-made-clause-calls c =
