@@ -4,12 +4,12 @@ use Rattle.std.proofs.lemmas.Bool.{cond_both, eqb-true}
 use Rattle.std.specs.List.{AllByRecursion}
 use Rattle.std.specs.Option.{option_or}
 use Rattle.edits.specs.declared.field.Field.{Field}
-use Rattle.edits.specs.declared.field.Field.TheVariants.{LogNumber, NextFileNumber, LastSequence, NewFile, PreviousLogNumber}
+use Rattle.edits.specs.declared.field.Field.TheVariants.{Comparator, LogNumber, NextFileNumber, LastSequence, NewFile, PreviousLogNumber}
 use Rattle.edits.specs.declared.field.PlacedTable.{PlacedTable}
 use Rattle.edits.specs.declared.field.TableFile.{TableFile}
 use Rattle.edits.specs.declared.layout.Layout.{Layout}
 use Rattle.edits.specs.Edit.{IsInOrder}
-use Rattle.edits.specs.Layout.{IsLayout, IsComparator, fields_of, last_said, log_number_in, next_file_number_in, last_sequence_in, previous_log_number_in, compact_pointer_in, is_used, inserted, with_table, after_deleted, after_new, after_edit, after_edits}
+use Rattle.edits.specs.Layout.{IsLayout, IsComparator, AreOfOrder, names_none, fields_of, last_said, log_number_in, next_file_number_in, last_sequence_in, previous_log_number_in, compact_pointer_in, is_used, inserted, with_table, after_deleted, after_new, after_edit, after_edits}
 use Rattle.edits.proofs.Folds.{last_said-append}
 use Rattle.directory_writes.specs.FlushEdits.{IsAfterFlush, flush_fields, previous_gone}
 
@@ -35,6 +35,17 @@ fields_last (d ∷ es) e = ap (λ (fs : List Field). d ++ fs) (fields_last es e)
 pub all_fields : (P : Field → Type 0) (fs gs : List Field) → AllByRecursion P fs → AllByRecursion P gs → AllByRecursion P (fs ++ gs)
 all_fields P [] gs h k = k
 all_fields P (f ∷ fs) gs h k = (h.0, all_fields P fs gs h.1 k)
+
+none_within : (fs gs : List Field) → names_none (fs ++ gs) ≡ true → names_none fs ≡ true
+none_within [] gs h = refl
+none_within (Comparator name ∷ fs) gs h = absurd (cc)
+none_within (f ∷ fs) gs h = none_within fs gs h
+
+-- an edit that names no other order leaves the order as it was
+pub order_more : (name : List ℕ) (es : List (List Field)) (e : List Field) → AreOfOrder name (fields_of es) → AllByRecursion (IsComparator name) e → AreOfOrder name (fields_of (es ++ e ∷ []))
+order_more name es e order mine =
+    let P : List Field → Type 0 = λ fs. AreOfOrder name fs in
+    subst P (sym (fields_last es e)) (all_fields (IsComparator name) (fields_of es) e order.0 mine, λ none. order.1 (none_within (fields_of es) e none))
 
 pub said_last : {V : Type 0} (said : Field → Option V) (es : List (List Field)) (e : List Field) → last_said said (fields_of (es ++ e ∷ [])) ≡ option_or (last_said said e) (last_said said (fields_of es))
 said_last said es e = ap (last_said said) (fields_last es e) ∙ last_said-append said (fields_of es) e
@@ -118,7 +129,7 @@ after_flush name edits old new log previous next_file last table layout was unus
     let pointer : (level : ℕ) → last_said (compact_pointer_in level) (fields_of (edits ++ edit ∷ [])) ≡ last_said (compact_pointer_in level) fields = λ level.
     said_last (compact_pointer_in level) edits edit ∙ ap (λ (o : Option (List ℕ)). option_or o (last_said (compact_pointer_in level) fields)) (pointer_said level log previous next_file last table) in
     record {
-      comparator = subst (AllByRecursion (IsComparator name)) (sym (fields_last edits edit)) (all_fields (IsComparator name) fields edit layout.comparator (all_said (IsComparator name) log previous next_file last table tt tt tt tt tt));
+      order = order_more name edits edit layout.order (all_said (IsComparator name) log previous next_file last table tt tt tt tt tt);
       log_number = said_last log_number_in edits edit ∙ ap (λ (o : Option ℕ). option_or o (last_said log_number_in fields)) (log_said log previous next_file last table) ∙ ap (λ (n : ℕ). Some n) (sym h.log_number);
       next_file_number = said_last next_file_number_in edits edit ∙ ap (λ (o : Option ℕ). option_or o (last_said next_file_number_in fields)) (next_said log previous next_file last table) ∙ ap (λ (n : ℕ). Some n) (sym h.next_file_number);
       last_sequence = said_last last_sequence_in edits edit ∙ ap (λ (o : Option ℕ). option_or o (last_said last_sequence_in fields)) (sequence_said log previous next_file last table) ∙ ap (λ (n : ℕ). Some n) (sym h.last_sequence);

@@ -7,12 +7,12 @@ use Rattle.edits.specs.declared.field.Field.TheVariants.{NextFileNumber, LastSeq
 use Rattle.edits.specs.declared.field.PlacedTable.{PlacedTable}
 use Rattle.edits.specs.declared.field.TableFile.{TableFile}
 use Rattle.edits.specs.declared.layout.Layout.{Layout}
-use Rattle.edits.specs.Layout.{IsLayout, IsComparator, fields_of, last_said, log_number_in, next_file_number_in, last_sequence_in, previous_log_number_in, compact_pointer_in, after_edit, after_edits, levels}
+use Rattle.edits.specs.Layout.{IsLayout, IsComparator, AreOfOrder, fields_of, last_said, log_number_in, next_file_number_in, last_sequence_in, previous_log_number_in, compact_pointer_in, after_edit, after_edits, levels}
 use Rattle.edits.proofs.Folds.{last_said-append}
 use Rattle.versions.specs.Levels.{pointers_after}
 use Rattle.compact.specs.JobEdits.{gone, placed_at, pointer_fields}
 use Rattle.directory_writes.specs.Compactions.{IsAfterJob, JobFoldsLaw}
-use Rattle.directory_writes.proofs.FlushEdits.{after_last, fields_last, all_fields, said_last}
+use Rattle.directory_writes.proofs.FlushEdits.{after_last, order_more, all_fields, said_last}
 
 -- ---- the fields of the edit
 
@@ -99,15 +99,15 @@ module _ (name : List ℕ) (edits : List (List Field)) (level next last : ℕ) (
   tables_are : after_edits (edits ++ job_edit ∷ []) [] ≡ after_edit job_edit old.tables.items
   tables_are = after_last edits job_edit [] ∙ ap (option_and_then (after_edit job_edit)) layout.tables
 
-  comparators : AllByRecursion (IsComparator name) (fields_of (edits ++ job_edit ∷ []))
-  comparators =
-      subst (AllByRecursion (IsComparator name)) (sym (fields_last edits job_edit)) (all_fields (IsComparator name) (fields_of edits) job_edit layout.comparator
+  ordered : AreOfOrder name (fields_of (edits ++ job_edit ∷ []))
+  ordered =
+      order_more name edits job_edit layout.order
       (all_fields (IsComparator name) (front_of level next last pointer) (files_of level sorted tables) (front_all (IsComparator name) level next last pointer tt tt (λ key. tt))
-      (all_fields (IsComparator name) (map gone sorted) (map (placed_at level) tables) (all_map (IsComparator name) gone (λ p. tt) sorted) (all_map (IsComparator name) (placed_at level) (λ t. tt) tables))))
+      (all_fields (IsComparator name) (map gone sorted) (map (placed_at level) tables) (all_map (IsComparator name) gone (λ p. tt) sorted) (all_map (IsComparator name) (placed_at level) (λ t. tt) tables)))
 
   to_layout : IsAfterJob next last job_edit old new → IsLayout name (edits ++ job_edit ∷ []) new
   to_layout h = record {
-    comparator = comparators;
+    order = ordered;
     log_number = log_is ∙ ap (λ (n : ℕ). Some n) (sym h.log_number);
     next_file_number = next_is ∙ ap (λ (n : ℕ). Some n) (sym h.next_file_number);
     last_sequence = last_is ∙ ap (λ (n : ℕ). Some n) (sym h.last_sequence);

@@ -4,9 +4,10 @@ use Rattle.std.specs.Option.{option_or, option_map, option_copied}
 use Rattle.std.specs.List.{insert, remove}
 use Rattle.std.proofs.lemmas.List.{drop_more, drop_all, take_more, map_more}
 use Rattle.edits.specs.declared.field.Field.{Field}
+use Rattle.edits.specs.declared.field.Field.TheVariants.{Comparator}
 use Rattle.edits.specs.declared.field.PlacedTable.{PlacedTable}
 use Rattle.std.specs.List.{AllByRecursion}
-use Rattle.edits.specs.Layout.{levels, NamesOther, fields_of, last_said, without, inserted, is_at, is_before, is_used}
+use Rattle.edits.specs.Layout.{levels, NamesOther, names_none, fields_of, last_said, without, inserted, is_at, is_before, is_used}
 
 -- ---- a list from an element on
 
@@ -136,6 +137,16 @@ names_front name (f ∷ fs) gs (inr h) = inr (names_front name fs gs h)
 pub names_back : (name : List ℕ) (fs gs : List Field) → NamesOther name gs → NamesOther name (fs ++ gs)
 names_back name [] gs h = h
 names_back name (f ∷ fs) gs h = inr (names_back name fs gs h)
+
+pub none_front : (fs gs : List Field) → names_none fs ≡ true → names_none (fs ++ gs) ≡ names_none gs
+none_front [] gs h = refl
+none_front (Comparator name ∷ fs) gs h = absurd (cc)
+none_front (f ∷ fs) gs h = none_front fs gs h
+
+pub some_front : (fs gs : List Field) → names_none fs ≡ false → names_none (fs ++ gs) ≡ false
+some_front [] gs h = absurd (cc)
+some_front (Comparator name ∷ fs) gs h = refl
+some_front (f ∷ fs) gs h = some_front fs gs h
 
 pub all_append : {X : Type 0} (P : X → Type 0) (xs ys : List X) → AllByRecursion P xs → AllByRecursion P ys → AllByRecursion P (xs ++ ys)
 all_append P [] ys h k = k

@@ -261,7 +261,7 @@ snapshot_folds name layout kept =
     let whole : fs ≡ fields_of (fs ∷ []) = sym (append-nil fs) in
     let C : List Field → Type 0 = λ gs. AllByRecursion (IsComparator name) gs in
     record {
-      comparator = subst C whole (refl, (tt, (tt, (tt, body_all (IsComparator name) ps ts n (pointers_all (IsComparator name) (λ l k. tt) 0 ps) (tables_all (IsComparator name) (λ p. tt) ts) (previous_all (IsComparator name) (λ k. tt) n)))));
+      order = (subst C whole (refl, (tt, (tt, (tt, body_all (IsComparator name) ps ts n (pointers_all (IsComparator name) (λ l k. tt) 0 ps) (tables_all (IsComparator name) (λ p. tt) ts) (previous_all (IsComparator name) (λ k. tt) n))))), λ none. absurd (cc));
       log_number = ap (last_said log_number_in) (sym whole) ∙ ap (λ o. option_or (option_or (option_or (option_or o None) None) (Some layout.log_number)) None) (quiet_body log_number_in ps ts n (λ l k. refl) (λ p. refl) (λ k. refl));
       next_file_number = ap (last_said next_file_number_in) (sym whole) ∙ ap (λ o. option_or (option_or (option_or (option_or o None) (Some layout.next_file_number)) None) None) (quiet_body next_file_number_in ps ts n (λ l k. refl) (λ p. refl) (λ k. refl));
       last_sequence = ap (last_said last_sequence_in) (sym whole) ∙ ap (λ o. option_or (option_or (option_or (option_or o (Some layout.last_sequence)) None) None) None) (quiet_body last_sequence_in ps ts n (λ l k. refl) (λ p. refl) (λ k. refl));

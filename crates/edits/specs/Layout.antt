@@ -1,6 +1,6 @@
 -- The layout that the edits of a MANIFEST leave (LevelDB's doc/impl.md, "Manifest", and its db/version_set.cc,
 -- VersionSet::Recover and VersionSet::Builder).
-use Rattle.std.specs.Prelude.{◌≡◌, ◌≢◌, ◌⊎◌, ◌==◌, ◌&&◌, ◌||◌, nat_lt, ℕ, Bool, false, if◌then◌else◌, List, [], ◌∷◌, ◌++◌, map, Option, Some, None, unwrap_or, option_map, option_and_then}
+use Rattle.std.specs.Prelude.{◌≡◌, ◌≢◌, ◌⊎◌, ◌==◌, ◌&&◌, ◌||◌, nat_lt, ℕ, Bool, true, false, if◌then◌else◌, codes, List, [], ◌∷◌, ◌++◌, map, Option, Some, None, unwrap_or, option_map, option_and_then}
 use Rattle.std.specs.List.{AllByRecursion}
 use Rattle.std.specs.Option.{option_or}
 use Rattle.edits.specs.declared.field.Field.{Field}
@@ -28,6 +28,24 @@ IsOther name field = ⊥
 abbrev pub NamesOther : List ℕ → List Field → Type 0
 NamesOther name [] = ⊥
 NamesOther name (field ∷ fields) = IsOther name field ⊎ NamesOther name fields
+
+-- no field of these names an order
+abbrev pub names_none : List Field → Bool
+names_none [] = true
+names_none (Comparator name ∷ fields) = false
+names_none (field ∷ fields) = names_none fields
+
+-- the name of the order of bytes
+abbrev pub bytewise : List ℕ
+bytewise = codes "leveldb.BytewiseComparator"
+
+-- Each order that is named is this one, and where none is, this is the order of bytes.
+abbrev pub AreOfOrder : List ℕ → List Field → Type 0
+AreOfOrder name fields = AllByRecursion (IsComparator name) fields × (names_none fields ≡ true → name ≡ bytewise)
+
+-- Another order is named, or none is, and this isn't the order of bytes.
+abbrev pub AreOfOther : List ℕ → List Field → Type 0
+AreOfOther name fields = NamesOther name fields ⊎ ((names_none fields ≡ true) × (name ≢ bytewise))
 
 -- ---- numbers: of each the last that is said counts
 
@@ -113,7 +131,7 @@ levels = 0 ∷ 1 ∷ 2 ∷ 3 ∷ 4 ∷ 5 ∷ 6 ∷ []
 
 -- The edits leave this layout, under the order of this name.
 pub record IsLayout (name : List ℕ) (edits : List (List Field)) (layout : Layout) : Type 0 where
-  pub comparator : AllByRecursion (IsComparator name) (fields_of edits)
+  pub order : AreOfOrder name (fields_of edits)
   pub log_number : last_said log_number_in (fields_of edits) ≡ Some layout.log_number
   pub next_file_number : last_said next_file_number_in (fields_of edits) ≡ Some layout.next_file_number
   pub last_sequence : last_said last_sequence_in (fields_of edits) ≡ Some layout.last_sequence

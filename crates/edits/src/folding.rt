@@ -4,7 +4,7 @@ ghost use Rattle.std.specs.Prelude.{◌≡◌, List, [], ℕ, IfOk, IfErr, Match
 ghost use Rattle.std.specs.List.{AllByRecursion};
 ghost use Rattle.std.specs.Option.{option_or, option_copied};
 ghost use Rattle.edits.specs.Edit.{RefusesFor};
-ghost use Rattle.edits.specs.Layout.{IsLayout, IsComparator, IsOther, NamesOther, fields_of, last_said, log_number_in, next_file_number_in, last_sequence_in, previous_log_number_in, compact_pointer_in, levels};
+ghost use Rattle.edits.specs.Layout.{IsLayout, AreOfOrder, AreOfOther, IsComparator, IsOther, NamesOther, names_none, fields_of, last_said, log_number_in, next_file_number_in, last_sequence_in, previous_log_number_in, compact_pointer_in, levels};
 ghost use Rattle.edits.specs.declared.field.Field.{Field as FieldValue};
 ghost use Rattle.edits.specs.declared.layout.Layout.{Layout as LayoutValue};
 
@@ -14,6 +14,9 @@ use crate::tables::tables_after;
 use crate::version_edit::Edit;
 use coding::{Bytes, Damage, Feature, ReadError};
 use std::alloc::{AllocError, Global};
+
+// The order of a database that names none.
+const BYTEWISE: &str = "leveldb.BytewiseComparator";
 
 // The numbers that the fields so far say last.
 #[derive(Clone, Copy)]
@@ -28,18 +31,19 @@ struct Numbers {
 /// db/version_set.cc, `VersionSet::Recover` and `VersionSet::Builder`). Of each number and compact pointer
 /// the last one counts. Within an edit deleted files go before new ones.
 ///
-/// Unsupported: an edit names another order, whichever edit it is. Corrupt: the log number, the next file
+/// Unsupported: an edit names another order, whichever edit it is, or none names an order and this isn't
+/// `leveldb.BytewiseComparator`. Corrupt: the log number, the next file
 /// number or the last sequence is in no edit, or an edit deletes a file that isn't at that level, or adds
 /// one whose number is there.
 pub fn fold_edits(alloc: Global, comparator: &[u8], edits: &[Edit]) -> Result<Layout, ReadError>
     ensures found { IfOk result (λ layout. IsLayout comparator.now edits.now layout) }
-    // Edits that are refused leave no layout, or name another order.
+    // Edits that are refused leave no layout, or are of another order.
     ensures refused { IfErr result (λ e. RefusesFor e ((layout : LayoutValue) → IsLayout comparator.now edits.now layout → ⊥)
-        (NamesOther comparator.now (fields_of edits.now))) }
-    // Where an edit names another order, it is for that.
-    ensures other { IfErr result (λ e. RefusesFor e (AllByRecursion (IsComparator comparator.now) (fields_of edits.now)) (NamesOther comparator.now (fields_of edits.now))) }
+        (AreOfOther comparator.now (fields_of edits.now))) }
+    // Where they are of another order, it is for that.
+    ensures other { IfErr result (λ e. RefusesFor e (AreOfOrder comparator.now (fields_of edits.now)) (AreOfOther comparator.now (fields_of edits.now))) }
 {
-    if edits_name_other(comparator, edits) {
+    if are_of_other(comparator, edits) {
         return Err(ReadError::Unsupported(Feature::Comparator));
     }
     let numbers = numbers_of(edits);
@@ -60,6 +64,42 @@ pub fn fold_edits(alloc: Global, comparator: &[u8], edits: &[Edit]) -> Result<La
         compact_pointers,
         tables,
     })
+}
+
+// Whether the edits are of another order.
+fn are_of_other(comparator: &[u8], edits: &[Edit]) -> bool
+    ensures { MatchBool result (AreOfOther comparator.now (fields_of edits.now)) (AreOfOrder comparator.now (fields_of edits.now)) }
+{
+    if edits_name_other(comparator, edits) {
+        return true;
+    }
+    if comparator == BYTEWISE.as_bytes() {
+        return false;
+    }
+    edits_name_none(edits)
+}
+
+// Whether no field of these edits names an order.
+fn edits_name_none(edits: &[Edit]) -> bool
+    ensures { result ≡ names_none (fields_of edits.now) }
+{
+    for edit in edits {
+        if !name_none(edit.fields()) {
+            return false;
+        }
+    }
+    true
+}
+
+fn name_none(fields: &[Field]) -> bool
+    ensures { result ≡ names_none fields.now }
+{
+    for field in fields {
+        if let Field::Comparator(_) = field {
+            return false;
+        }
+    }
+    true
 }
 
 // Whether a field of these edits names another order.

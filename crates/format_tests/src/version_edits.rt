@@ -138,13 +138,13 @@ fn snapshot_repeats_the_layout(rt: HostRuntime) -> Result<(), Fail> {
     Ok(())
 }
 
-// The layout that these edits leave, in this order.
-fn layout_of(alloc: Global, edits: &[&[u8]]) -> Result<Layout, ReadError> {
+// The layout that these edits leave, under the order of this name.
+fn layout_of(alloc: Global, comparator: &[u8], edits: &[&[u8]]) -> Result<Layout, ReadError> {
     let mut read = Vec::new(alloc);
     for bytes in edits {
         read.push(decode_edit(alloc, bytes)?)?;
     }
-    fold_edits(alloc, COMPARATOR, &read)
+    fold_edits(alloc, comparator, &read)
 }
 
 fn is_flushed(placed: &PlacedTable) -> bool {
@@ -177,7 +177,7 @@ fn has_fields(alloc: Global, bytes: &[u8], count: usize) -> bool {
 fn flush_edit_is_read_and_cut_ones_are_corrupt(rt: HostRuntime) {
     let alloc = rt.alloc();
     assert!(rt; has_fields(alloc, &FLUSH, 4));
-    assert!(rt; matches!(layout_of(alloc, &[&FLUSH]), Ok(layout) if is_left_by_the_flush(&layout)));
+    assert!(rt; matches!(layout_of(alloc, COMPARATOR, &[&FLUSH]), Ok(layout) if is_left_by_the_flush(&layout)));
     for end in 1..31 {
         assert!(rt;
             end == 2 || end == 4 || end == 6 || is_corrupt(alloc, &FLUSH[..end]),
@@ -316,7 +316,27 @@ fn is_left(left: &Result<Layout, ReadError>, wanted: &Left) -> bool {
 fn edits_fold_to_the_layout(rt: HostRuntime) {
     for (edits, wanted) in FOLDED {
         assert!(rt;
-            is_left(&layout_of(rt.alloc(), edits), &wanted),
+            is_left(&layout_of(rt.alloc(), COMPARATOR, edits), &wanted),
+            "{edits:?}"
+        );
+    }
+}
+
+// The same under the order `c`, which isn't that of edits that name none.
+const FOLDED_UNDER_C: [(&[&[u8]], Left); 6] = [
+    (&[NUMBERS, &[], &[]], COMPARATORS),
+    (&[NUMBERS, TWO, MOVED], COMPARATORS),
+    (&[NUMBERS, OUR_ORDER, &[]], COMPARATORS),
+    (&[OTHER_ORDER, OUR_ORDER, NUMBERS], COMPARATORS),
+    (&[NUMBERS, &[], OTHER_ORDER], Ok((9, 0, &[]))),
+    (&[OTHER_ORDER, NUMBERS, TWO], Ok((9, 0, &[(0, 4), (1, 5)]))),
+];
+
+#[test]
+fn edits_without_a_name_are_of_the_order_of_bytes(rt: HostRuntime) {
+    for (edits, wanted) in FOLDED_UNDER_C {
+        assert!(rt;
+            is_left(&layout_of(rt.alloc(), b"c", edits), &wanted),
             "{edits:?}"
         );
     }

@@ -1,5 +1,5 @@
 -- The edits of a MANIFEST, and the numbers that they name.
-use Rattle.std.proofs.Common.{◌≡◌, ℕ, zero, suc, ◌+◌, ◌-◌, ◌<◌, max, inl, inr, List, [], ◌∷◌, ◌++◌, length, take, get_or, map, Some, IsTrue, sym, ap, ◌∙◌, subst, append_assoc, arith}
+use Rattle.std.proofs.Common.{◌≡◌, ℕ, zero, suc, ◌+◌, ◌-◌, ◌<◌, ◌≤◌, max, inl, inr, List, [], ◌∷◌, ◌++◌, length, take, get_or, map, Some, IsTrue, sym, ap, ◌∙◌, subst, append_assoc, arith}
 use Rattle.std.specs.List.{AllByRecursion}
 use Rattle.std.proofs.lemmas.List.{append-nil, take_more, take_all, map-append, take-map, length-append, take-append-le}
 use Rattle.coding.specs.declared.error.DbError.{DbError}
@@ -10,7 +10,7 @@ use Rattle.logfile.specs.Log.{IsLog}
 use Rattle.logfile.specs.declared.record.Tail.{Tail}
 use Rattle.logfile.proofs.LogLaws.{same_log}
 use Rattle.edits.specs.Edit.{IsEdit, HasPastLimit, RefusesFor}
-use Rattle.edits.specs.Layout.{fields_of, IsLayout, IsComparator, NamesOther}
+use Rattle.edits.specs.Layout.{fields_of, IsLayout, IsComparator, NamesOther, AreOfOrder, AreOfOther}
 use Rattle.edits.specs.declared.field.Field.{Field}
 use Rattle.edits.specs.declared.field.Field.TheVariants.{Comparator, LogNumber, NextFileNumber, LastSequence, CompactPointer, DeletedFile, NewFile, PreviousLogNumber}
 use Rattle.edits.specs.declared.layout.Layout.{Layout}
@@ -115,7 +115,7 @@ pub no_manifest_edits : (order : Order) (bytes : List ℕ) (records : List (List
 no_manifest_edits order bytes records tail e log h =
     refuses_more e ((edits : List (List Field)) → AreEdits records edits → ⊥) (ArePastLimit records) (SpellsNone order bytes) (SpellsBeyond order bytes)
     (λ no edits layout m. no edits (their_edits order bytes records tail edits layout log m))
-    (λ past. record { records = records; tail = tail; log = log; count = past.0; edits = past.1; spelled = past.2; beyond = inr past.3 }) h
+    (λ past. record { records = records; tail = tail; log = log; count = past.0; edits = past.1; spelled = past.2; beyond = inl past.3 }) h
 
 other_name : (name : List ℕ) (fields : List Field) → NamesOther name fields → AllByRecursion (IsComparator name) fields → ⊥
 other_name name [] h all = h
@@ -129,8 +129,12 @@ other_name name (NewFile placed ∷ fields) (inl h) all = h
 other_name name (PreviousLogNumber n ∷ fields) (inl h) all = h
 other_name name (field ∷ fields) (inr h) all = other_name name fields h all.1
 
+of_other : (name : List ℕ) (fields : List Field) → AreOfOther name fields → AreOfOrder name fields → ⊥
+of_other name fields (inl named) order = other_name name fields named order.0
+of_other name fields (inr none) order = none.1 (order.1 none.0)
+
 pub no_manifest_layout : (order : Order) (bytes : List ℕ) (records : List (List ℕ)) (tail : Tail) (edits : List (List Field)) (file : FileKind) (e : ReadError) (result : DbError) → IsLog bytes records tail → AreEdits records edits
-    → result ≡ in_file file e → RefusesFor e ((layout : Layout) → IsLayout order.name edits layout → ⊥) (NamesOther order.name (fields_of edits))
+    → result ≡ in_file file e → RefusesFor e ((layout : Layout) → IsLayout order.name edits layout → ⊥) (AreOfOther order.name (fields_of edits))
     → RefusesBytes result (SpellsNone order bytes) (SpellsBeyond order bytes)
 no_manifest_layout order bytes records tail edits file e result log are named refused =
     let P : DbError → Type 0 = λ r. RefusesBytes r (SpellsNone order bytes) (SpellsBeyond order bytes) in
@@ -138,10 +142,10 @@ no_manifest_layout order bytes records tail edits file e result log are named re
     let Q : List (List Field) → Type 0 = λ es. IsLayout order.name es layout in
     subst Q (same_edits records others edits (their_edits order bytes records tail others layout log m) are) m.folded in
     let R : List (List ℕ) → Type 0 = λ rs. AreEdits rs edits in
-    subst P (sym named) (refuses_more (in_file file e) ((layout : Layout) → IsLayout order.name edits layout → ⊥) (NamesOther order.name (fields_of edits)) (SpellsNone order bytes) (SpellsBeyond order bytes)
+    subst P (sym named) (refuses_more (in_file file e) ((layout : Layout) → IsLayout order.name edits layout → ⊥) (AreOfOther order.name (fields_of edits)) (SpellsNone order bytes) (SpellsBeyond order bytes)
     (λ no others layout m. no layout (folded others layout m))
-    (λ other. record { records = records; tail = tail; log = log; count = length records; edits = edits; spelled = subst R (sym (take_all (length records) records (omega arith))) are; beyond = inl other })
-    (refuses_for file e ((layout : Layout) → IsLayout order.name edits layout → ⊥) (NamesOther order.name (fields_of edits)) refused))
+    (λ other. record { records = records; tail = tail; log = log; count = length records; edits = edits; spelled = subst R (sym (take_all (length records) records (omega arith))) are; beyond = inr (let all : length records ≤ length records = omega arith in all, other) })
+    (refuses_for file e ((layout : Layout) → IsLayout order.name edits layout → ⊥) (AreOfOther order.name (fields_of edits)) refused))
 
 -- ---- `CURRENT`
 
@@ -190,24 +194,18 @@ past_front zero edits h = absurd h
 past_front (suc n) [] h = absurd h
 past_front (suc n) (e ∷ edits) h = past_within e (fields_of (take n edits)) (fields_of edits) (past_front n edits) h
 
-other_within : (name : List ℕ) (xs ys zs : List Field) → (NamesOther name ys → NamesOther name zs) → NamesOther name (xs ++ ys) → NamesOther name (xs ++ zs)
-other_within name [] ys zs f h = f h
-other_within name (x ∷ xs) ys zs f (inl h) = inl h
-other_within name (x ∷ xs) ys zs f (inr h) = inr (other_within name xs ys zs f h)
-
-other_front : (name : List ℕ) (n : ℕ) (edits : List (List Field)) → NamesOther name (fields_of (take n edits)) → NamesOther name (fields_of edits)
-other_front name zero edits h = absurd h
-other_front name (suc n) [] h = absurd h
-other_front name (suc n) (e ∷ edits) h = other_within name e (fields_of (take n edits)) (fields_of edits) (other_front name n edits) h
-
 -- a MANIFEST that is there names a table past the limit
 pub beyond_past : BeyondLaw
 beyond_past order files n edits layout b m =
     let s = b.spelled in
     let mine : IsManifest order b.bytes edits layout = current_bytes order files b.number b.bytes b.numbered b.current b.there n edits layout m in
     let are : AreEdits s.records edits = their_edits order b.bytes s.records s.tail edits layout s.log mine in
-    let same : s.edits ≡ take s.count edits = same_edits (take s.count s.records) s.edits (take s.count edits) s.spelled (edits_front s.count s.records edits are) in
     elim s.beyond [
-      | inl other ↦ absurd (other_name order.name (fields_of edits) (other_front order.name s.count edits (subst (λ (es : List (List Field)). NamesOther order.name (fields_of es)) same other)) mine.folded.comparator)
-      | inr past ↦ past_front s.count edits (subst (λ (es : List (List Field)). HasPastLimit (fields_of es)) same past)
+      | inl past ↦
+          let same : s.edits ≡ take s.count edits = same_edits (take s.count s.records) s.edits (take s.count edits) s.spelled (edits_front s.count s.records edits are) in
+          past_front s.count edits (subst (λ (es : List (List Field)). HasPastLimit (fields_of es)) same past)
+      | inr other ↦
+          let whole : AreEdits s.records s.edits = subst (λ (rs : List (List ℕ)). AreEdits rs s.edits) (take_all s.count s.records other.0) s.spelled in
+          let same : s.edits ≡ edits = same_edits s.records s.edits edits whole are in
+          absurd (of_other order.name (fields_of edits) (subst (λ (es : List (List Field)). AreOfOther order.name (fields_of es)) same other.1) mine.folded.order)
     ]

@@ -1,6 +1,6 @@
 -- What the names of a directory say, what reading its MANIFEST and its logs gives, and why it is refused
 -- (LevelDB's db/db_impl.cc, DBImpl::Recover).
-use Rattle.std.specs.Prelude.{◌≡◌, ◌⊎◌, ◌<◌, ◌≤◌, ◌-◌, ◌^◌, ◌↔◌, ℕ, min, max, true, List, [], ◌∷◌, ◌++◌, map, take, IsTrue, MatchBool, Result, Ok, Err, Contains, Some, None}
+use Rattle.std.specs.Prelude.{◌≡◌, ◌⊎◌, ◌<◌, ◌≤◌, ◌-◌, ◌^◌, ◌↔◌, ℕ, min, max, true, List, [], ◌∷◌, ◌++◌, map, length, take, IsTrue, MatchBool, Result, Ok, Err, Contains, Some, None}
 use Rattle.std.specs.FinMap.{get, contains_key}
 use Rattle.coding.specs.declared.error.DbError.{DbError}
 use Rattle.coding.specs.declared.error.DbError.TheVariants as error
@@ -9,7 +9,7 @@ use Rattle.ikey.specs.Orders.{Order}
 use Rattle.logfile.specs.Log.{IsLog}
 use Rattle.logfile.specs.declared.record.Tail.{Tail}
 use Rattle.edits.specs.Edit.{HasPastLimit}
-use Rattle.edits.specs.Layout.{fields_of, NamesOther}
+use Rattle.edits.specs.Layout.{fields_of, AreOfOther}
 use Rattle.edits.specs.Names.{name_of, IsFileName, IsNumbered}
 use Rattle.edits.specs.declared.field.Field.{Field}
 use Rattle.edits.specs.declared.names.FileName.{FileName}
@@ -111,8 +111,8 @@ RefusesDirectory _ old new damaged unsupported = ⊥
 abbrev pub IsInconsistent : Order → Files → Type 0
 IsInconsistent order files = (d : Directory) → IsConsistent order files d → ⊥
 
--- The bytes are a log, and so many of its first records are edits that name another order of keys, or a table past the
--- limit of numbers.
+-- The bytes are a log, and so many of its first records are edits that name a table past the limit of numbers, or all
+-- of them are edits, of another order of keys.
 pub record SpellsBeyond (order : Order) (bytes : List ℕ) : Type 0 where
   pub records : List (List ℕ)
   pub tail : Tail
@@ -120,7 +120,7 @@ pub record SpellsBeyond (order : Order) (bytes : List ℕ) : Type 0 where
   pub count : ℕ
   pub edits : List (List Field)
   pub spelled : AreEdits (take count records) edits
-  pub beyond : NamesOther order.name (fields_of edits) ⊎ HasPastLimit (fields_of edits)
+  pub beyond : HasPastLimit (fields_of edits) ⊎ ((length records ≤ count) × AreOfOther order.name (fields_of edits))
 
 -- `CURRENT` names a MANIFEST of such bytes, which is there.
 pub record IsBeyondReading (order : Order) (files : Files) : Type 0 where
