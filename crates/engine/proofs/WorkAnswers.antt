@@ -173,7 +173,7 @@ picked_for cmp files base level0_files base_bytes version tables plan files_are 
 pub done_in : {K : Type 0} {g : _} (order : Order) (options : OptionValues) (budget : ℕ) (old new : Seen) (state : Option (Held K g)) (before after : Held K g) (answer : Answer) (result : Result Progress DbError) {shown : Result Progress DbError}
     → result ≡ shown → state ≡ Some before → DoneWork order options budget old new before after result
     → (DoneWork order options budget old new before after shown → WorksIn order options budget old new (Some before) (Some after) answer) → WorksIn order options budget old new state (Some after) answer
-done_in order options budget old new state before after answer result is open done shows =
-    subst (λ (o : Option (Held _ _)). WorksIn order options budget old new o (Some after) answer) (sym open)
+done_in order options budget old new state before after answer result is opened done shows =
+    subst (λ (o : Option (Held _ _)). WorksIn order options budget old new o (Some after) answer) (sym opened)
     (shows (subst (λ (r : Result Progress DbError). DoneWork order options budget old new before after r) is done))
 
