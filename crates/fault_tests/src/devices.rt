@@ -24,7 +24,7 @@ fn tried(alloc: Global, script: Script, plan: Option<Plan>) -> Result<(u64, bool
     let Ok(files) = remains_of(&session) else {
         return Err(DbError::OutOfMemory);
     };
-    Ok((calls, done && are_left(alloc, files, script.sizes, &model, Line::Close)))
+    Ok((calls, done && are_left(alloc, &files, script.sizes, &model, Line::Close)))
 }
 
 fn is_borne(alloc: Global, script: Script, call: u64, extent: Extent) -> bool {

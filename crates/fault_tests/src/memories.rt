@@ -22,7 +22,7 @@ fn gone_through(alloc: Global, session: &mut Faulty, script: Script) -> Result<u
     let Ok(files) = remains_of(session) else {
         return Err(DbError::OutOfMemory);
     };
-    let left = is_ordered(session) && are_left(alloc, files, script.sizes, &model, Line::Close);
+    let left = is_ordered(session) && are_left(alloc, &files, script.sizes, &model, Line::Close);
     Ok(lines.saturating_add(if left { 2 } else { 1 }))
 }
 

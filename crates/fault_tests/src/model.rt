@@ -248,7 +248,7 @@ impl Model {
                 Some(new)
             }
             (Line::Write(_), _) => None,
-            (Line::Snapshot, _) => None,
+            (Line::Snapshot | Line::DropIterator(_), _) => None,
             (Line::Work(_), Failed::Write) => self.standing(Standing::Doubtful),
             (Line::CompactAll, Failed::Write) => self.standing(Standing::Doubtful),
             (_, Failed::Write) => None,
@@ -269,6 +269,7 @@ impl Model {
             Line::Iterate => self.iterate() == answer,
             Line::Work(_) => matches!(answer, Seen::Worked | Seen::Idle),
             Line::CompactAll => answer == Seen::Done,
+            Line::DropIterator(id) => self.drop_iterator(id) == answer,
             other => self.go(other) == answer,
         }
     }
@@ -296,6 +297,16 @@ impl Model {
             *free = Some(View { pairs: self.now, place: None });
         }
         Seen::Iterator(id as u64)
+    }
+
+    fn drop_iterator(&mut self, id: u64) -> Seen {
+        match self.iterators.get_mut(index_of(id)) {
+            Some(kept) if kept.is_some() => {
+                *kept = None;
+                Seen::Done
+            }
+            _ => Seen::Refused(DbError::NoIterator),
+        }
     }
 
     fn go(&mut self, line: Line) -> Seen {

@@ -67,7 +67,7 @@ fn outcome_of(alloc: Global, start: &Start, script: Script, plan: Option<Plan>) 
         return Err(DbError::OutOfMemory);
     };
     let bytes = bytes_in(alloc, &mut left);
-    let well = line.is_some_and(|it| are_left(alloc, left, script.sizes, &model, it));
+    let well = line.is_some_and(|it| are_left(alloc, &left, script.sizes, &model, it));
     Ok(Outcome { bytes, calls, well })
 }
 

@@ -65,8 +65,8 @@ impl WatchedStore {
 
     // Counts a failure.
     fn note(&mut self, answer: Result<(), StoreError>) -> Result<(), StoreError>
-        ensures { self.new.inner ≡ self.old.inner }
-        ensures { result ≡ answer }
+        ensures inner { self.new.inner ≡ self.old.inner }
+        ensures answer { result ≡ answer }
     {
         if matches!(answer, Err(StoreError::Device)) {
             self.failed_writes = self.failed_writes.saturating_add(1);
