@@ -1,6 +1,6 @@
 use batch::{Batch, Operation, encode_operations, refusal};
 use coding::{Bytes, Damage, DbError, ReadError, SEQUENCE_END};
-use std::alloc::Global;
+use std::alloc::{AllocError, Global};
 use std::test::*;
 
 // What a batch has: keys, each with its value, or with none where it is deleted.
@@ -218,6 +218,32 @@ fn long_keys_and_values_are_refused(rt: HostRuntime) -> Result<(), Fail> {
     batch.delete(&key[1..])?;
     batch.put(&key[1..], b"")?;
     assert!(rt; are_long_ones_refused(&mut batch, &key, &value));
+    Ok(())
+}
+
+// A put, which is made once more where there is no memory for it.
+fn persistent_put(batch: &mut Batch, key: &[u8], value: &[u8]) -> Result<(), DbError> {
+    match batch.put(key, value) {
+        Err(DbError::OutOfMemory) => batch.put(key, value),
+        other => other,
+    }
+}
+
+fn longest_value(alloc: Global) -> Result<Vec<u8>, AllocError> {
+    match vec![in alloc; 0u8; 268_435_456] {
+        Ok(value) => Ok(value),
+        Err(_) => vec![in alloc; 0u8; 268_435_456],
+    }
+}
+
+// To be run with each allocation failing in turn: one that is made for the second value would be answered otherwise.
+#[test]
+fn a_second_longest_value_is_refused_before_it_is_copied(rt: HostRuntime) -> Result<(), Fail> {
+    let value = longest_value(rt.alloc())?;
+    let mut batch = Batch::new(rt.alloc());
+    assert_eq!(rt; persistent_put(&mut batch, b"a", &value), Ok(()));
+    assert!(rt; refuses(&mut batch, b"b", Some(&value), DbError::BatchTooLarge));
+    assert_eq!(rt; batch.ops().len(), 1);
     Ok(())
 }
 

@@ -186,9 +186,10 @@ fn flush_edit_is_read_and_cut_ones_are_corrupt(rt: HostRuntime) {
     }
 }
 
-const MALFORMED: [&[u8]; 15] = [
+const MALFORMED: [&[u8]; 16] = [
     // tags that there are none of
     &[0],
+    &[8],
     &[8, 1],
     &[10, 1],
     // a number that is cut, or longer than it has to be

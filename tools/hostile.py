@@ -1,0 +1,132 @@
+"""Checks of tools/program over directories that were made to hurt: lengths, offsets and counts beyond all bounds. Whatever `check`, `dump`
+and `run` answer, they answer it within a second of a processor and 64 MB."""
+import os
+import struct
+import subprocess
+import tempfile
+import threading
+
+from files import ONE_TABLE, Manifest, hexadecimal, internal_key, masked, record, stored, varint, write_directory
+from listed import Wrong, check
+from running import SECONDS, under_test, want
+
+A_SECOND = 1.0
+MEGABYTES = 64
+
+CORRUPT = "refused 5 Corrupt"
+
+
+# ---- tables
+
+
+def with_footer(metaindex, index):
+    """The one-entry table with these two handles in its footer: of each the offset and the length."""
+    handles = b"".join(map(varint, (*metaindex, *index)))
+    return ONE_TABLE[:128] + handles + bytes(40 - len(handles)) + ONE_TABLE[-8:]
+
+
+def with_index(offset, length):
+    """The one-entry table, whose index names a data block there."""
+    handle = varint(offset) + varint(length)
+    entry = varint(0) + varint(9) + varint(len(handle)) + internal_key("61", 1) + handle
+    index = entry + struct.pack("<II", 0, 1)
+    footer = varint(49) + varint(47) + varint(101) + varint(len(index))
+    return ONE_TABLE[:101] + stored(index) + footer + bytes(40 - len(footer)) + ONE_TABLE[-8:]
+
+
+# the handles that the footer of the one-entry table has
+METAINDEX, INDEX = (49, 47), (101, 22)
+assert with_footer(METAINDEX, INDEX) == ONE_TABLE and with_index(0, 21) == ONE_TABLE
+
+# the end of that table, and lengths that no file has
+FAR = (176, 2**31, 2**32, 2**32 + 22, 2**63, 2**64 - 1, 2**64 - 5)
+
+TABLES = {f"{name} at {offset}, {length} bytes": table(offset, length) for offset in (0, *FAR) for length in (22, *FAR) for name, table in (
+    ("metaindex", lambda offset, length: with_footer((offset, length), INDEX)),
+    ("index", lambda offset, length: with_footer(METAINDEX, (offset, length))),
+    ("data", with_index),
+)}  # fmt: skip
+
+
+# ---- directories
+
+
+def directory(manifest=None, log=b"", **files):
+    """The files of a database whose MANIFEST has these bytes, or says log 3, next file 6, last sequence 1 and no table."""
+    return {"CURRENT": b"MANIFEST-000001\n", "MANIFEST-000001": record(hexadecimal("02 03 03 06 04 01")) if manifest is None else manifest,
+            "000003.log": log, **files}  # fmt: skip
+
+
+def with_one_table(table, said=None):
+    """The table 5 of level 6, of which the MANIFEST says such a length."""
+    manifest = Manifest(log=3, next_file=6, last_sequence=1, tables=[(6, 5, len(table) if said is None else said, ("61", 1), ("61", 1))])
+    return directory(manifest.file(), **{"000005.ldb": table})
+
+
+def edit(text):
+    return directory(record(hexadecimal("02 03 03 06 04 01") + text))
+
+
+def logged(text):
+    return directory(log=record(text))
+
+
+BATCH = struct.pack("<QI", 1, 1)
+
+# files, what a check prints first, and what an open is answered, which looks into no table
+DIRECTORIES = {
+    **{f"a table with its {name}": (with_one_table(table), CORRUPT, "ok") for name, table in TABLES.items()},
+    **{f"a table of which the MANIFEST says {said} bytes": (with_one_table(ONE_TABLE, said), CORRUPT, CORRUPT) for said in FAR[1:]},
+    **{f"an edit with a key of {length} bytes": (edit(b"\x07\x06\x05\xb0\x01" + varint(length)), CORRUPT, CORRUPT) for length in FAR},
+    **{f"an edit with a comparator of {length} bytes": (edit(b"\x01" + varint(length)), CORRUPT, CORRUPT) for length in FAR},
+    **{f"a batch of {count} operations": (logged(struct.pack("<QI", 1, count)), CORRUPT, CORRUPT) for count in (2**31, 2**32 - 1)},
+    **{f"a batch with a key of {length} bytes": (logged(BATCH + b"\x01" + varint(length)), CORRUPT, CORRUPT) for length in FAR},
+    **{f"a batch with a value of {length} bytes": (logged(BATCH + b"\x01\x01a" + varint(length)), CORRUPT, CORRUPT) for length in FAR},
+    "a record of 65,535 bytes in a log of seven": (directory(log=masked(b"\x01") + b"\xff\xff\x01"), CORRUPT, CORRUPT),
+    "a log by a number of 30 digits": (directory(**{"1" * 30 + ".log": b"\xff"}), "good", "ok"),
+    "a table by a number of 30 digits": (directory(**{"9" * 30 + ".ldb": b"\xff"}), "good", "ok"),
+    "a MANIFEST by a number of 30 digits": ({"CURRENT": b"MANIFEST-" + b"1" * 30 + b"\n", "MANIFEST-" + "1" * 30: b""}, CORRUPT, CORRUPT),
+}
+
+
+# ---- what is measured
+
+
+def measured(words, script):
+    """What a run printed, its status, and the seconds of a processor and the megabytes that it took."""
+    with tempfile.TemporaryFile() as given, tempfile.TemporaryFile() as printed:
+        given.write(script)
+        given.seek(0)
+        with subprocess.Popen([under_test(), *words], stdin=given, stdout=printed, stderr=subprocess.DEVNULL) as process:
+            killer = threading.Timer(SECONDS, process.kill)
+            killer.start()
+            _, status, usage = os.wait4(process.pid, 0)
+            killer.cancel()
+            process.returncode = os.waitstatus_to_exitcode(status)
+        printed.seek(0)
+        return printed.read().decode().splitlines(), process.returncode, usage.ru_utime + usage.ru_stime, usage.ru_maxrss / 1024
+
+
+OPENED = ["open any", "get 61", "iter", "first 1", "put 61 32", "compact all", "get 61", "close"]
+
+
+def want_within_bounds(folder, name, report, opened):
+    """A check prints this first, an open is answered so, and a dump says no more than a check; all within the bounds."""
+    for verb, script, status, first in (("check", [], int(report != "good"), report), ("dump", [], int(report != "good"), None), ("run", OPENED, 0, opened)):
+        printed, found, seconds, megabytes = measured([verb, folder], "".join(f"{line}\n" for line in script).encode())
+        what = f"{verb} of {name}"
+        if seconds > A_SECOND or megabytes > MEGABYTES:
+            raise Wrong(f"{what} took {seconds:.2f} s and {megabytes:.0f} MB")
+        want(found, status, f"the status of {what}")
+        if verb == "dump":
+            want(printed[-1:], [] if report == "good" else [report], what)
+        else:
+            want(printed[0], first, what)
+        if verb == "run":
+            want(len(printed), len(OPENED), f"the answers to {what}")
+
+
+@check("lengths, offsets and counts beyond all bounds are refused within a second and 64 MB")
+def beyond_bounds(room):
+    for number, (name, (files, *wanted)) in enumerate(DIRECTORIES.items()):
+        want_within_bounds(write_directory(room, f"{number}", None, files), name, *wanted)
