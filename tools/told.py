@@ -88,7 +88,7 @@ def told_refusals(_room):
         source = file.read()
     numbers = dict(re.findall(r"DbError::(\w+)(?:\([_, ]*\))? => (\d+),", source))
     with open(f"{ROOT}/man/ldbtool.1", encoding="utf-8") as file:
-        page = re.findall(r"^\.B (\d+) (\w+)$", file.read(), re.M)
+        page = re.findall(r"^(\d+) (\w+)\tT\{$", file.read(), re.M)
     want(sorted(page), sorted((number, name) for name, number in numbers.items()), "the page's refusals")
     told = re.findall(r"(\d+) ([A-Z][A-Za-z]+)", ldbtool("help", "run").stdout.decode())
     want(set(page) - set(told), set(), "refusals that the help leaves out")
