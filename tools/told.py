@@ -1,10 +1,10 @@
-"""The checks of tools/program that are about the command line, about what is told of it, and about installing."""
+"""The checks of tools/program that are about the command line, and about what is told of it."""
 import os
 import re
 import subprocess
 
 from examples import examples_of_help, examples_of_page, examples_of_readme
-from files import bytes_of, new_folder
+from files import new_folder
 from listed import check
 from repository import ROOT
 from running import SECONDS, ldbtool, lines, under_test, want, want_answers, want_fault, want_ran
@@ -94,7 +94,7 @@ def told_refusals(_room):
     want(set(page) - set(told), set(), "refusals that the help leaves out")
 
 
-# ---- what is told, and what is installed
+# ---- examples
 
 
 def want_examples(room, found, least):
@@ -123,18 +123,3 @@ def examples_readme(room):
 def examples_help(room):
     told = {verb: ldbtool("help", verb).stdout.decode() for verb in ("run", "check", "dump")}
     want_examples(room, [it for verb in told for it in examples_of_help(told[verb])], 5)
-
-
-@check("make install puts program and page in place, the program needs no environment, and make uninstall takes them away")
-def installed(room):
-    how = {"cwd": ROOT, "capture_output": True, "text": True, "timeout": SECONDS}
-    where = [f"LDBTOOL={under_test()}", f"DESTDIR={room}/dest", "PREFIX=/opt/local"]
-    program, page = f"{room}/dest/opt/local/bin/ldbtool", f"{room}/dest/opt/local/share/man/man1/ldbtool.1"
-    ran = subprocess.run(["make", "--no-print-directory", "install", *where], **how)
-    want((ran.returncode, ran.stdout.splitlines()), (0, [f"installed {program}", f"installed {page}"]), "make install")
-    ran = subprocess.run(["env", "-i", program, "run", new_folder(room)], input=b"open new\nput 61 31\nget 61", capture_output=True, timeout=SECONDS)
-    want_ran(ran, 0, lines("ok", "ok", "value 31"), "the installed program")
-    want(bytes_of(ROOT, "man/ldbtool.1"), bytes_of(page, ""), "the installed page")
-    for wanted in ([f"removed {program}", f"removed {page}"], [f"there is no {program}", f"there is no {page}"]):
-        ran = subprocess.run(["make", "--no-print-directory", "uninstall", *where], **how)
-        want((ran.returncode, ran.stdout.splitlines()), (0, wanted), "make uninstall")
