@@ -1,6 +1,7 @@
 """The checks of tools/program that are about the command line, and about what is told of it."""
 import os
 import re
+import shutil
 import subprocess
 
 from examples import examples_of_help, examples_of_page, examples_of_readme
@@ -92,6 +93,22 @@ def told_refusals(_room):
     want(sorted(page), sorted((number, name) for name, number in numbers.items()), "the page's refusals")
     told = re.findall(r"(\d+) ([A-Z][A-Za-z]+)", ldbtool("help", "run").stdout.decode())
     want(set(page) - set(told), set(), "refusals that the help leaves out")
+
+
+@check("the manual page is laid out without a warning, by groff and by mandoc, and each part that a user asks for is there")
+def laid_out(_room):
+    page = f"{ROOT}/man/ldbtool.1"
+    eighty = {**os.environ, "LC_ALL": "C.UTF-8", "MANWIDTH": "80", "MANROFFSEQ": ""}
+    commands = [["man", "--warnings", "-E", "UTF-8", "-l", "-Tutf8", "-Z", page], ["mandoc", "-T", "lint", "-W", "warning", page]]
+    there = [it for it in commands if shutil.which(it[0])]
+    for command in there:
+        ran = subprocess.run(command, env=eighty, capture_output=True, text=True, timeout=SECONDS)
+        want((ran.returncode, ran.stderr, ran.stdout if command[0] == "mandoc" else ""), (0, "", ""), f"what {command[0]} says of the page")
+    with open(page, encoding="utf-8") as file:
+        parts = re.findall(r"^\.SH (.*)$", file.read(), re.M)
+    wanted = {"NAME", "SYNOPSIS", "OPTIONS", "WHAT OPEN WRITES", "WORK AND IMPORTS", "REFUSALS", "EXIT STATUS", "EXAMPLES", "FILES", "REPORTING BUGS", "SEE ALSO"}
+    want(wanted - set(parts), set(), "parts that are missing")
+    return f"by {' and '.join(it[0] for it in there)} alone" if len(there) < len(commands) else None
 
 
 # ---- examples
