@@ -119,8 +119,8 @@ class Typed:
         self.child, self.terminal = pty.fork()
         if self.child == 0:
             os.chdir(place)
-            words = {"PATH": os.environ["PATH"], "TERM": "dumb", "ZDOTDIR": room, "COMPLETION": f"{ROOT}/completion", "ANSWERS": self.answers}
-            os.execvpe("zsh", ["zsh", "-d", "-i"], words)
+            told = {"ZDOTDIR": room, "COMPLETION": f"{ROOT}/completion", "ANSWERS": self.answers}
+            os.execvpe("zsh", ["zsh", "-d", "-i"], {"PATH": os.environ["PATH"], "TERM": "dumb", **told})
 
     def __enter__(self):
         return self

@@ -22,7 +22,11 @@ PLACES = {
 }
 
 # Where Debian wants them: what is packed there by gzip, and the rest.
-PACKED = {"man/ldbtool.1": "share/man/man1/ldbtool.1.gz", "CHANGELOG.md": "share/doc/ldbtool/changelog.gz", "packaging/changelog": "share/doc/ldbtool/changelog.Debian.gz"}
+PACKED = {
+    "man/ldbtool.1": "share/man/man1/ldbtool.1.gz",
+    "CHANGELOG.md": "share/doc/ldbtool/changelog.gz",
+    "packaging/changelog": "share/doc/ldbtool/changelog.Debian.gz",
+}
 PLAIN = {
     "completion/ldbtool.bash": "share/bash-completion/completions/ldbtool",
     "completion/_ldbtool": "share/zsh/vendor-completions/_ldbtool",
