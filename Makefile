@@ -6,16 +6,24 @@ export RT
 
 PROGRAMS := quickstart ldbtool
 
-# Where `make install` puts ldbtool and its page. DESTDIR is put in front of it, as packagers want it.
+# Where `make install` puts ldbtool and what belongs to it. DESTDIR is put in front of it, as packagers want it.
 PREFIX ?= /usr/local
 LDBTOOL ?= build/ldbtool
-BIN := $(DESTDIR)$(PREFIX)/bin
-MAN := $(DESTDIR)$(PREFIX)/share/man/man1
+BELOW := $(DESTDIR)$(PREFIX)
+DOC := share/doc/ldbtool
+
+# What is installed beside the program, and where (each FILE:PLACE, the place below PREFIX). Debian's zsh looks elsewhere in a package.
+ZSH ?= share/zsh/site-functions
+FILES := \
+  man/ldbtool.1:share/man/man1/ldbtool.1 \
+  completion/ldbtool.bash:share/bash-completion/completions/ldbtool \
+  completion/_ldbtool:$(ZSH)/_ldbtool \
+  $(foreach it,README.md CHANGELOG.md LICENSE-MIT LICENSE-APACHE,$(it):$(DOC)/$(it))
 
 # What the proved program is made of: where none of it is newer, it isn't proved again.
 SOURCES := crates.txt $(shell find crates -name out -prune -o \( -name '*.rt' -o -name '*.antt' \) -print)
 
-.PHONY: help demo quick build install uninstall program soak test bugs costs interop bench clean needs-rt
+.PHONY: help demo quick build install uninstall deb program soak test bugs costs interop bench clean needs-rt
 .SILENT:
 
 help:
@@ -24,8 +32,10 @@ help:
 	echo 'make test      everything: each proof from nothing, each test, the edits of crates that have changed since all were refused, the checks of ldbtool'
 	echo '               and those beside LevelDB itself (two hours; make test FULL=1 tries the edits of every crate)'
 	echo 'make build     proves the programs and leaves them in build/'
-	echo 'make install   puts ldbtool, proved, and its manual page below PREFIX (/usr/local), which lies in DESTDIR (none)'
-	echo 'make uninstall takes both away again'
+	echo 'make install   puts ldbtool, proved, its manual page, completion for bash and zsh, licences and README below PREFIX (/usr/local),'
+	echo '               which lies in DESTDIR (none)'
+	echo 'make uninstall takes them away again'
+	echo 'make deb       makes a Debian package of the same, in build/ (needs dpkg-dev and binutils)'
 	echo 'make program   ldbtool as its users run it: scripts, pipes, wrong folders, examples, installing (a minute once it is built)'
 	echo 'make soak      drawn sessions of ldbtool beside a plain model, every second one killed midway: ten minutes, or make soak SECONDS=60'
 	echo 'make interop   the checks beside LevelDB itself alone'
@@ -56,16 +66,21 @@ build/ldbtool: $(SOURCES)
 	$(MAKE) --no-print-directory build PROGRAMS=ldbtool
 
 install: $(LDBTOOL)
-	install -d '$(BIN)' '$(MAN)'
-	install -m 755 '$(LDBTOOL)' '$(BIN)/ldbtool'
-	install -m 644 man/ldbtool.1 '$(MAN)/ldbtool.1'
-	echo 'installed $(BIN)/ldbtool'
-	echo 'installed $(MAN)/ldbtool.1'
+	install -D -m 755 '$(LDBTOOL)' '$(BELOW)/bin/ldbtool'
+	echo 'installed $(BELOW)/bin/ldbtool'
+	for it in $(FILES); do \
+	  install -D -m 644 "$${it%%:*}" '$(BELOW)'/"$${it#*:}" && echo 'installed $(BELOW)'/"$${it#*:}" || exit 1; \
+	done
 
 uninstall:
-	for file in '$(BIN)/ldbtool' '$(MAN)/ldbtool.1'; do \
+	for file in bin/ldbtool $(foreach it,$(FILES),$(lastword $(subst :, ,$(it)))); do \
+	  file='$(BELOW)'/"$$file"; \
 	  if [ -e "$$file" ]; then rm "$$file" && echo "removed $$file" || exit 1; else echo "there is no $$file"; fi; \
 	done
+	if [ -d '$(BELOW)/$(DOC)' ]; then rmdir --ignore-fail-on-non-empty '$(BELOW)/$(DOC)'; fi
+
+deb: $(LDBTOOL)
+	tools/deb '$(LDBTOOL)' '$(or $(DEB),build)'
 
 program: build/ldbtool
 	tools/program build/ldbtool

@@ -1,10 +1,11 @@
-"""The checks of tools/program that are about the command line, about what is told of it, and about installing."""
+"""The checks of tools/program that are about the command line, and about what is told of it."""
 import os
 import re
+import shutil
 import subprocess
 
 from examples import examples_of_help, examples_of_page, examples_of_readme
-from files import bytes_of, new_folder
+from files import new_folder
 from listed import check
 from repository import ROOT
 from running import SECONDS, ldbtool, lines, under_test, want, want_answers, want_fault, want_ran
@@ -88,13 +89,29 @@ def told_refusals(_room):
         source = file.read()
     numbers = dict(re.findall(r"DbError::(\w+)(?:\([_, ]*\))? => (\d+),", source))
     with open(f"{ROOT}/man/ldbtool.1", encoding="utf-8") as file:
-        page = re.findall(r"^\.B (\d+) (\w+)$", file.read(), re.M)
+        page = re.findall(r"^(\d+) (\w+)\tT\{$", file.read(), re.M)
     want(sorted(page), sorted((number, name) for name, number in numbers.items()), "the page's refusals")
     told = re.findall(r"(\d+) ([A-Z][A-Za-z]+)", ldbtool("help", "run").stdout.decode())
     want(set(page) - set(told), set(), "refusals that the help leaves out")
 
 
-# ---- what is told, and what is installed
+@check("the manual page is laid out without a warning, by groff and by mandoc, and each part that a user asks for is there")
+def laid_out(_room):
+    page = f"{ROOT}/man/ldbtool.1"
+    eighty = {**os.environ, "LC_ALL": "C.UTF-8", "MANWIDTH": "80", "MANROFFSEQ": ""}
+    commands = [["man", "--warnings", "-E", "UTF-8", "-l", "-Tutf8", "-Z", page], ["mandoc", "-T", "lint", "-W", "warning", page]]
+    there = [it for it in commands if shutil.which(it[0])]
+    for command in there:
+        ran = subprocess.run(command, env=eighty, capture_output=True, text=True, timeout=SECONDS)
+        want((ran.returncode, ran.stderr, ran.stdout if command[0] == "mandoc" else ""), (0, "", ""), f"what {command[0]} says of the page")
+    with open(page, encoding="utf-8") as file:
+        parts = re.findall(r"^\.SH (.*)$", file.read(), re.M)
+    wanted = {"NAME", "SYNOPSIS", "OPTIONS", "WHAT OPEN WRITES", "WORK AND IMPORTS", "REFUSALS", "EXIT STATUS", "EXAMPLES", "FILES", "REPORTING BUGS", "SEE ALSO"}
+    want(wanted - set(parts), set(), "parts that are missing")
+    return f"by {' and '.join(it[0] for it in there)} alone" if len(there) < len(commands) else None
+
+
+# ---- examples
 
 
 def want_examples(room, found, least):
@@ -123,18 +140,3 @@ def examples_readme(room):
 def examples_help(room):
     told = {verb: ldbtool("help", verb).stdout.decode() for verb in ("run", "check", "dump")}
     want_examples(room, [it for verb in told for it in examples_of_help(told[verb])], 5)
-
-
-@check("make install puts program and page in place, the program needs no environment, and make uninstall takes them away")
-def installed(room):
-    how = {"cwd": ROOT, "capture_output": True, "text": True, "timeout": SECONDS}
-    where = [f"LDBTOOL={under_test()}", f"DESTDIR={room}/dest", "PREFIX=/opt/local"]
-    program, page = f"{room}/dest/opt/local/bin/ldbtool", f"{room}/dest/opt/local/share/man/man1/ldbtool.1"
-    ran = subprocess.run(["make", "--no-print-directory", "install", *where], **how)
-    want((ran.returncode, ran.stdout.splitlines()), (0, [f"installed {program}", f"installed {page}"]), "make install")
-    ran = subprocess.run(["env", "-i", program, "run", new_folder(room)], input=b"open new\nput 61 31\nget 61", capture_output=True, timeout=SECONDS)
-    want_ran(ran, 0, lines("ok", "ok", "value 31"), "the installed program")
-    want(bytes_of(ROOT, "man/ldbtool.1"), bytes_of(page, ""), "the installed page")
-    for wanted in ([f"removed {program}", f"removed {page}"], [f"there is no {program}", f"there is no {page}"]):
-        ran = subprocess.run(["make", "--no-print-directory", "uninstall", *where], **how)
-        want((ran.returncode, ran.stdout.splitlines()), (0, wanted), "make uninstall")

@@ -1,0 +1,76 @@
+# Completion of ldbtool's command line for bash. It needs nothing but bash itself.
+
+# What a verb takes, an option a word; an option that takes a value ends with '='.
+_ldbtool_options() {
+    case $1 in
+        run) echo "--write-buffer= --block-bytes= --file-bytes= --level0-files= --base-bytes= --cache-blocks= --order= --help" ;;
+        check | dump) echo "--order= --help" ;;
+    esac
+}
+
+# Sets `words`, in which an option and its value are two words, also where they are joined by '=' (bash may cut
+# them there, and then the '=' is a word too), and `last`, the word that is to be completed.
+_ldbtool_words() {
+    local word
+    words=()
+    for word in "${COMP_WORDS[@]:1:COMP_CWORD}"; do
+        case $word in
+            =) words[${#words[@]}]= ;;
+            --*=*) words+=("${word%%=*}" "${word#*=}") ;;
+            *)
+                if [[ ${#words[@]} -gt 0 && -z ${words[-1]} ]]; then words[-1]=$word; else words+=("$word"); fi
+                ;;
+        esac
+    done
+    last=${words[-1]}
+    unset 'words[-1]'
+}
+
+# Offers those of these words that begin as the last one does. An option with a value is joined to it by a space.
+_ldbtool_offer() {
+    mapfile -t COMPREPLY < <(compgen -W "$1" -- "$last")
+}
+
+_ldbtool_folders() {
+    compopt -o filenames 2> /dev/null
+    mapfile -t COMPREPLY < <(compgen -d -- "$last")
+}
+
+# Behind a verb: the value of an option, an option that isn't there yet, or DIR where that isn't.
+_ldbtool_rest() {
+    local verb=$1 word value= folder= ended= left
+    shift
+    left=" $(_ldbtool_options "$verb") "
+    for word in "$@"; do
+        if [[ $value ]]; then
+            value=
+        elif [[ ! $ended && $word == -- ]]; then
+            ended=yes
+        elif [[ ! $ended && $word == --* ]]; then
+            [[ $left == *" $word= "* ]] && value=$word
+            left=${left/ $word= / }
+        elif [[ $ended || $word != -* ]]; then
+            folder=$word
+        fi
+    done
+    if [[ $value ]]; then
+        [[ $value != --order ]] || _ldbtool_offer "bytes reverse"
+    elif [[ ! $ended && $last == -* ]]; then
+        _ldbtool_offer "${left//=/}"
+    elif [[ ! $folder ]]; then
+        _ldbtool_folders
+    fi
+}
+
+_ldbtool() {
+    local words last
+    COMPREPLY=()
+    _ldbtool_words
+    case ${words[0]-} in
+        "") if [[ $last == -* ]]; then _ldbtool_offer "--help --version"; else _ldbtool_offer "run check dump help"; fi ;;
+        help) [[ ${#words[@]} -gt 1 ]] || _ldbtool_offer "run check dump" ;;
+        run | check | dump) _ldbtool_rest "${words[@]}" ;;
+    esac
+}
+
+complete -F _ldbtool ldbtool
