@@ -505,9 +505,7 @@ fn is_done_again(
     step: Step<'_>,
     error: StoreError,
 ) -> bool {
-    error == refusal(step)
-        && are_same(alloc, before, store) == Ok(true)
-        && does(alloc, store, step)
+    error == refusal(step) && are_same(alloc, before, store) == Ok(true) && does(alloc, store, step)
 }
 
 // Whether a step is done, or changed nothing and is done once more.
