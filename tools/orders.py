@@ -112,8 +112,9 @@ def run_turned(folder, options, script, answers, states):
     states, fault = after_all([line for line, _ in told], [answer for _, answer in told], states)
     if fault:
         raise Wrong(f"{fault[0]!r} of {script!r} was answered {fault[1]!r}")
-    # the end of a script closes what is open
-    return [state.after("close", "ok")[0] if state.is_open else state for state in states]
+    # the end of a script closes what is open, and the next program counts from 1 again
+    closed = [state.after("close", "ok")[0] if state.is_open else state for state in states]
+    return [state.changed(last_snapshot=0, last_iterator=0) for state in closed]
 
 
 def want_turned(folder, options, parts):
