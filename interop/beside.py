@@ -1,4 +1,5 @@
 """What the checks of this folder share: their list, the programs under test, LevelDB, and folders."""
+import functools
 import os
 import re
 import shutil
@@ -11,10 +12,37 @@ sys.path.append(os.path.join(os.path.dirname(os.path.dirname(os.path.abspath(__f
 from listed import CHECKS, Wrong, check, parser, run_checks  # noqa: E402,F401  pylint: disable=wrong-import-position,unused-import
 
 
+class Order:
+    """An order of keys: how ldbtool and LevelDB are told it, and whether it is that of bytes turned round."""
+
+    def __init__(self, ours, theirs, turned):
+        self.ours, self.theirs, self.turned = ours, theirs, turned
+
+
+BYTES = Order((), (), False)
+REVERSE = Order(("--order", "reverse"), ("--reverse",), True)
+
+
 class Programs:
-    """The programs under test, and LevelDB behind its command line; whoever runs the checks says where they are."""
+    """The programs under test, and LevelDB behind its command line; whoever runs the checks says where they are. ldbtool and LevelDB
+    work in the order that stands here."""
 
     quickstart = ldbtool = leveldb = ""
+    order = BYTES
+
+
+def in_reverse(function):
+    """The same check with all keys in the order of bytes turned round."""
+
+    @functools.wraps(function)
+    def turned(room):
+        Programs.order = REVERSE
+        try:
+            return function(room)
+        finally:
+            Programs.order = BYTES
+
+    return turned
 
 
 SECONDS = 60
@@ -45,7 +73,7 @@ def run(words, **how):
 
 
 def ldbtool(verb, folder, script=None, flags=()):
-    return run([Programs.ldbtool, verb, *flags, folder], input=script)
+    return run([Programs.ldbtool, verb, *Programs.order.ours, *flags, folder], input=script)
 
 
 def prints(verb, folder, script=None, flags=()):
@@ -91,17 +119,17 @@ def leveldb_reads(folder, *flags):
     """What LevelDB finds in a copy of the folder, as a map."""
     with tempfile.TemporaryDirectory(prefix="interop-") as room:
         copy = copied(folder, room)
-        ran = run([Programs.leveldb, "dump", *flags, copy])
+        ran = run([Programs.leveldb, "dump", *Programs.order.theirs, *flags, copy])
         want(ran.returncode == 0, f"LevelDB did not open the folder: {short(ran.stderr)}")
     pairs = [line.split(" ") for line in ran.stdout.splitlines()]
     keys = [bytes.fromhex(key.replace("-", "")) for key, _ in pairs]
-    want(keys == sorted(set(keys)), "LevelDB's keys do not rise")
+    want(keys == sorted(set(keys), reverse=Programs.order.turned), "LevelDB's keys do not rise")
     return dict(pairs)
 
 
 def leveldb(verb, folder, *flags, lines=()):
     """What LevelDB prints, over the folder itself."""
-    ran = run([Programs.leveldb, verb, *flags, folder], input="".join(line + "\n" for line in lines))
+    ran = run([Programs.leveldb, verb, *Programs.order.theirs, *flags, folder], input="".join(line + "\n" for line in lines))
     want(ran.returncode == 0, f"LevelDB did not {verb}: {short(ran.stderr)}")
     return ran.stdout
 

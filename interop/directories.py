@@ -12,6 +12,8 @@ import subprocess
 import tempfile
 
 from beside import (
+    BYTES,
+    REVERSE,
     SECONDS,
     Programs,
     bytes_of,
@@ -31,11 +33,16 @@ from beside import (
 )
 from layout import Layout, pairs_of, want_dump
 
-SEEDS = range(1, 21)
+# of each order those of its directories
+SEEDS = {BYTES: range(1, 21), REVERSE: range(21, 29)}
 CHANGES = 12
 
 
 # ---- the directories
+
+
+def seeds():
+    return SEEDS[Programs.order]
 
 
 @functools.lru_cache(maxsize=None)
@@ -47,14 +54,14 @@ def history(seed):
 
 
 def forget_histories():
-    for seed in SEEDS:
+    for seed in seeds():
         shutil.rmtree(os.path.dirname(history(seed)), ignore_errors=True)
 
 
 @check("directories: a check prints the tables and logs that LevelDB's own files say, and changes nothing")
 def checked(_room):
     levels, filters = set(), 0
-    for seed in SEEDS:
+    for seed in seeds():
         folder = history(seed)
         layout, before = Layout(folder), contents(folder)
         want_lines(prints("check", folder), layout.report(), f"seed {seed}")
@@ -67,7 +74,7 @@ def checked(_room):
 
 @check("directories: a dump has each entry of each table and log, and its newest ones are LevelDB's pairs")
 def dumped(_room):
-    for seed in SEEDS:
+    for seed in seeds():
         folder = history(seed)
         text = prints("dump", folder)
         want_dump(Layout(folder), text)
@@ -88,7 +95,7 @@ def flip(path, place, mask):
 @check("directories: a check refuses a table with a changed byte, wherever it lies")
 def changed(_room):
     taken, kinds = [], {}
-    for seed in SEEDS:
+    for seed in seeds():
         chance, layout = random.Random(seed), Layout(history(seed))
         with tempfile.TemporaryDirectory(prefix="interop-") as room:
             copy = copied(layout.folder, room)
@@ -103,8 +110,8 @@ def changed(_room):
                 kinds[ran.stdout] = kinds.get(ran.stdout, 0) + 1
                 if ran.returncode != 1 or re.fullmatch(r"refused 5 Corrupt\n|refused 6 Unsupported\n", ran.stdout) is None:
                     taken.append(f"seed {seed}, level {level}, table {number}, byte {place} of {length}: {short(ran.stdout)}")
-    want(not taken, f"{len(taken)} of {CHANGES * len(SEEDS)} changes were taken: {short(str(taken))}")
-    want(kinds.get("refused 5 Corrupt\n", 0) > 9 * CHANGES * len(SEEDS) // 10, f"refusals: {kinds}")
+    want(not taken, f"{len(taken)} of {CHANGES * len(seeds())} changes were taken: {short(str(taken))}")
+    want(kinds.get("refused 5 Corrupt\n", 0) > 9 * CHANGES * len(seeds()) // 10, f"refusals: {kinds}")
 
 
 # ---- scripts
@@ -158,19 +165,19 @@ def want_writes(folder, chance):
 
 @check("directories: a script reads what LevelDB reads, both ways, and at keys between")
 def read_by_script(_room):
-    for seed in SEEDS:
+    for seed in seeds():
         want_reads(history(seed), random.Random(seed))
 
 
 @check("directories: LevelDB reads what a script wrote over its own tables")
 def written_by_script(_room):
-    for seed in SEEDS:
+    for seed in seeds():
         want_writes(history(seed), random.Random(seed))
 
 
 @check("directories: LevelDB reads the tables that `work` wrote beside its own, and no table is left that isn't live")
 def worked(_room):
-    for seed in SEEDS:
+    for seed in seeds():
         chance, pairs = random.Random(seed), leveldb_reads(history(seed))
         with tempfile.TemporaryDirectory(prefix="interop-") as room:
             copy = copied(history(seed), room)
@@ -208,8 +215,8 @@ def no_lock(room):
     empty = os.path.join(room, "empty")
     os.mkdir(empty)
     want(prints("check", empty) == "empty\n" and prints("dump", empty) == "", "an empty folder isn't empty")
-    held = copied(history(1), room)
-    holder = subprocess.Popen([Programs.leveldb, "hold", "--reuse", held], stdin=subprocess.PIPE, stdout=subprocess.PIPE, text=True)
+    held = copied(history(seeds()[0]), room)
+    holder = subprocess.Popen([Programs.leveldb, "hold", *Programs.order.theirs, "--reuse", held], stdin=subprocess.PIPE, stdout=subprocess.PIPE, text=True)
     try:
         want(holder.stdout.readline() == "held\n", "LevelDB did not open the folder")
         want(prints("check", held).startswith("good\n"), "a folder that LevelDB holds is not good")

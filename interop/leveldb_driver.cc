@@ -22,6 +22,7 @@
 //   --reuse              goes on with the log and the MANIFEST that are there (reuse_logs). Without it LevelDB
 //                        moves what the logs hold into a table
 //   --other-comparator   orders the keys by a comparator of another name
+//   --reverse            orders the keys by their bytes turned round, as `ldbtool --order reverse` does
 //   --filter             a Bloom filter of 10 bits a key
 //   --snappy             compression by Snappy
 //   --block-bytes=N      block_size
@@ -93,6 +94,16 @@ class OtherComparator : public leveldb::Comparator {
   void FindShortSuccessor(std::string*) const override {}
 };
 
+// LevelDB's own order turned round, so that a proper prefix comes last, under the name that `ldbtool --order reverse` records. No
+// key is shortened: what lies between two keys in the one order doesn't in the other.
+class ReverseComparator : public leveldb::Comparator {
+ public:
+  int Compare(const leveldb::Slice& a, const leveldb::Slice& b) const override { return b.compare(a); }
+  const char* Name() const override { return "ldbtool.ReverseBytewiseComparator"; }
+  void FindShortestSeparator(std::string*, const leveldb::Slice&) const override {}
+  void FindShortSuccessor(std::string*) const override {}
+};
+
 struct Database {
   std::string folder;
   leveldb::Options options;
@@ -104,6 +115,7 @@ struct Database {
 // What a flag says of a database. The comparator and the filter policy are kept to the end of the program.
 bool TakeFlag(const std::string& flag, Database* database) {
   static const OtherComparator other;
+  static const ReverseComparator reverse;
   static const leveldb::FilterPolicy* const bloom = leveldb::NewBloomFilterPolicy(10);
   const size_t equals = flag.find('=');
   const std::string name = flag.substr(0, equals);
@@ -113,6 +125,8 @@ bool TakeFlag(const std::string& flag, Database* database) {
     options.reuse_logs = true;
   } else if (name == "--other-comparator") {
     options.comparator = &other;
+  } else if (name == "--reverse") {
+    options.comparator = &reverse;
   } else if (name == "--filter") {
     options.filter_policy = bloom;
   } else if (name == "--snappy") {
@@ -304,9 +318,9 @@ leveldb::Options ChosenOptions(const leveldb::Options& given, Chance* chance) {
   return options;
 }
 
-void CompactSome(leveldb::DB* db, Chance* chance) {
+void CompactSome(leveldb::DB* db, const leveldb::Comparator* comparator, Chance* chance) {
   std::string first = chance->Key(), last = chance->Key();
-  if (last < first) std::swap(first, last);
+  if (comparator->Compare(last, first) < 0) std::swap(first, last);
   const leveldb::Slice begin = first, end = last;
   const bool all = chance->Below(4) == 0;
   db->CompactRange(all ? nullptr : &begin, all ? nullptr : &end);
@@ -323,7 +337,7 @@ void AddSome(leveldb::WriteBatch* batch, Chance* chance, uint64_t count) {
 }
 
 // One open with so many writes. Snapshots keep old versions of keys through the compactions meanwhile.
-leveldb::Status Live(leveldb::DB* db, Chance* chance, int operations) {
+leveldb::Status Live(leveldb::DB* db, const leveldb::Comparator* comparator, Chance* chance, int operations) {
   std::vector<const leveldb::Snapshot*> snapshots;
   leveldb::Status status;
   for (int done = 0; done < operations && status.ok();) {
@@ -334,7 +348,7 @@ leveldb::Status Live(leveldb::DB* db, Chance* chance, int operations) {
     how.sync = chance->Below(500) == 0;
     status = db->Write(how, &batch);
     done += count;
-    if (chance->Below(600) == 0) CompactSome(db, chance);
+    if (chance->Below(600) == 0) CompactSome(db, comparator, chance);
     if (chance->Below(200) == 0) snapshots.push_back(db->GetSnapshot());
     if (chance->Below(400) == 0 && !snapshots.empty()) {
       db->ReleaseSnapshot(snapshots.back());
@@ -352,7 +366,7 @@ int History(const Database& database) {
     leveldb::DB* opened = nullptr;
     leveldb::Status status = leveldb::DB::Open(ChosenOptions(database.options, &chance), database.folder, &opened);
     std::unique_ptr<leveldb::DB> db(opened);
-    if (status.ok()) status = Live(db.get(), &chance, database.operations / opens);
+    if (status.ok()) status = Live(db.get(), database.options.comparator, &chance, database.operations / opens);
     if (!status.ok()) return Refuse(status);
   }
   return 0;

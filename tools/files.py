@@ -63,16 +63,18 @@ def internal_key(key, sequence):
 
 @dataclass
 class Manifest:
-    """A MANIFEST of one edit. A table is its level, number, size, and its least and greatest key, each with its sequence."""
+    """A MANIFEST of one edit. A table is its level, number, size, and its least and greatest key, each with its sequence. The order of
+    keys has a name, or none."""
 
     log: int
     next_file: int
     last_sequence: int = 0
     tables: list = field(default_factory=list)
     number: int = 1
+    comparator: str | None = "leveldb.BytewiseComparator"
 
     def file(self):
-        edit = b"\x01" + string(b"leveldb.BytewiseComparator")
+        edit = b"" if self.comparator is None else b"\x01" + string(self.comparator.encode())
         edit += b"\x02" + varint(self.log) + b"\x03" + varint(self.next_file) + b"\x04" + varint(self.last_sequence)
         for level, number, size, least, greatest in self.tables:
             edit += b"\x07" + varint(level) + varint(number) + varint(size)

@@ -12,11 +12,12 @@ def text_of(a_word):
 
 
 class View:
-    """What a snapshot or an iterator sees, and at which of its pairs that stands."""
+    """What a snapshot or an iterator sees, in the order of bytes or that turned round, and at which of its pairs that stands."""
 
-    def __init__(self, pairs):
+    def __init__(self, pairs, turned=False):
         self.pairs = pairs
-        self.keys = sorted(pairs)
+        self.turned = turned
+        self.keys = sorted(pairs, reverse=turned)
         self.place = None
 
     def stand(self, place):
@@ -27,7 +28,7 @@ class View:
         return f"at {word(key)} {word(self.pairs[key])}"
 
     def seek(self, key):
-        return self.stand(next((place for place, it in enumerate(self.keys) if it >= key), None))
+        return self.stand(next((place for place, it in enumerate(self.keys) if (it <= key if self.turned else it >= key)), None))
 
     def step(self, by):
         return "refused 10 NoPlace" if self.place is None else self.stand(self.place + by)
@@ -50,9 +51,11 @@ MOVES = ("first", "last", "seek", "next", "prev")
 
 
 class Machine:
-    """One state that a session may be in. `doubt` is what the directory holds if the batch counts that the device refused."""
+    """One state that a session may be in. `doubt` is what the directory holds if the batch counts that the device refused;
+    `turned` says that keys are in the order of bytes turned round."""
 
-    def __init__(self):
+    def __init__(self, turned=False):
+        self.turned = turned
         self.pairs, self.doubt = {}, None
         self.is_made = self.is_open = self.is_broken = False
         self.snapshots, self.iterators = {}, {}
@@ -147,7 +150,7 @@ class Machine:
             key = text_of(words[0])
             return [self] if answer == (f"value {word(pairs[key])}" if key in pairs else "none") else []
         made = self.last_iterator + 1
-        with_it = {"last_iterator": made, "iterators": {**self.iterators, made: View(pairs)}}
+        with_it = {"last_iterator": made, "iterators": {**self.iterators, made: View(pairs, self.turned)}}
         return [self.changed(**with_it)] if answer == f"iter {made}" else []
 
     def after_drop(self, what, number, answer):
@@ -157,9 +160,10 @@ class Machine:
         return [self.changed(**{what: live})] if answer == "ok" else []
 
 
-def after_all(lines, answers):
-    """The states in which a session may be behind these answers, and the first line whose answer none allows, if there is one."""
-    states = [Machine()]
+def after_all(lines, answers, states=None):
+    """The states in which a session may be behind these answers, and the first line whose answer none allows, if there is one.
+    It begins in one of these states, or in a folder where nothing is."""
+    states = states or [Machine()]
     for line, answer in zip(lines, answers):
         states = [new for old in states for new in old.after(line, answer)]
         if not states:

@@ -59,12 +59,12 @@ def want_answers(folder, script, answers, *options):
     want_ran(ldbtool("run", *options, folder, script=script), 0, wanted, f"the script {short(script)}")
 
 
-def want_report(folder, *wanted, status=0):
-    want_ran(ldbtool("check", folder), status, lines(*wanted), "check")
+def want_report(folder, *wanted, status=0, options=()):
+    want_ran(ldbtool("check", *options, folder), status, lines(*wanted), "check")
 
 
-def want_entries(folder, *wanted, status=0):
-    want_ran(ldbtool("dump", folder), status, lines(*wanted), "dump")
+def want_entries(folder, *wanted, status=0, options=()):
+    want_ran(ldbtool("dump", *options, folder), status, lines(*wanted), "dump")
 
 
 def want_fault(ran, status, what):

@@ -72,6 +72,8 @@ WORKED = [
 MISUSES = [
     [], ["frob", "DIR"], ["run"], ["check"], ["dump"], ["check", "A", "B"], ["run", "A", "B"], ["dump", "--cache-blocks", "1", "DIR"], ["dump", "--write-buffer", "1", "DIR"],
     ["run", "--frob", "DIR"], ["run", "--cache-blocks", "DIR"], ["--cache-blocks", "1", "run", "DIR"], ["help", "frob"],
+    ["run", "--order", "DIR"], ["run", "--order", "backwards", "DIR"], ["check", "--order", "Bytes", "DIR"], ["dump", "--order", "", "DIR"],
+    ["dump", "--order", "bytes", "--order", "reverse", "DIR"], ["--order", "bytes", "check", "DIR"],
 ]  # fmt: skip
 
 # the options of `run`: the name, the default and the greatest number of each

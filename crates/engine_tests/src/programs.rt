@@ -55,13 +55,14 @@ const ANSWERS: &str =
 
 // What is asked of one folder, one after the other: the words, a script, the status, and what is written. Nothing is written
 // exactly where a fault is said on the side.
-const STEPS: [(&[&str], &str, u8, &str); 15] = [
+const STEPS: [(&[&str], &str, u8, &str); 21] = [
     (&[], "", 2, ""),
     (&["frob", "DIR"], "", 2, ""),
     (&["run", "--block-bytes", "0", "DIR"], "", 2, ""),
     (&["run", "--cache-blocks", "65537", "DIR"], "", 2, ""),
     (&["check", "DIR", "B"], "", 2, ""),
     (&["dump", "--write-buffer", "1", "DIR"], "", 2, ""),
+    (&["dump", "--order", "backwards", "DIR"], "", 2, ""),
     (&["run", "/tmp/ldbtool-there-is-none"], "open new\n", 1, ""),
     (&["check", "/tmp/ldbtool-there-is-none"], "", 1, ""),
     (&["--version"], "", 0, "ldbtool 0.1.0\n"),
@@ -90,6 +91,36 @@ const STEPS: [(&[&str], &str, u8, &str); 15] = [
         "",
         0,
         "log 2 6a 1 put -\nlog 2 61 2 put 31\nlog 4 6a 3 delete\n",
+    ),
+    (
+        &["run", "--order", "reverse", "DIR"],
+        "open\n",
+        0,
+        "refused 6 Unsupported\n",
+    ),
+    (
+        &["check", "--order", "reverse", "DIR"],
+        "",
+        1,
+        "refused 6 Unsupported\n",
+    ),
+    (
+        &["dump", "--order=reverse", "DIR"],
+        "",
+        1,
+        "refused 6 Unsupported\n",
+    ),
+    (
+        &["run", "--order", "bytes", "DIR"],
+        "open\nget 61\n",
+        0,
+        "ok\nvalue 31\n",
+    ),
+    (
+        &["check", "--order", "bytes", "DIR"],
+        "",
+        0,
+        "good\nlast-sequence 3\nlog 2 2 clean\nlog 4 1 clean\nlog 6 0 clean\n",
     ),
 ];
 

@@ -14,4 +14,6 @@ mod logs;
 #[cfg(test)]
 mod numbers;
 #[cfg(test)]
+mod own_orders;
+#[cfg(test)]
 mod version_edits;

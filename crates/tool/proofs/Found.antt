@@ -39,6 +39,6 @@ asks_for m name rows task named found asks =
     subst (λ (n : Option Text). AsksFor n (option_map (λ p. p.1) (subcommand_rows_of m)) task) (named ∙ sym (name_by_rows m))
     (subst (λ (r : Option (List Row)). AsksFor (Some name) r task) found asks)
 
--- the folder, by the rows
-pub folder_by_rows : (f : Found) (name folder : Text) → Some folder ≡ first_value f name → first_of name (rows_of f) ≡ Some folder
-folder_by_rows f name folder e = sym (first_value-rows f name) ∙ sym e
+-- a word, by the rows
+pub word_by_rows : (f : Found) (name word : Text) → Some word ≡ first_value f name → first_of name (rows_of f) ≡ Some word
+word_by_rows f name word e = sym (first_value-rows f name) ∙ sym e

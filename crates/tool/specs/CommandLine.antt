@@ -1,5 +1,5 @@
 -- What the words of the command line ask for.
-use Rattle.std.specs.Prelude.{◌≡◌, ◌≤◌, ◌^◌, ℕ, List, [], ◌∷◌, true, false, option_map, Option, Some, Ok, codes}
+use Rattle.std.specs.Prelude.{◌≡◌, ◌^◌, ℕ, List, [], ◌∷◌, true, false, option_map, Option, Some, Ok, codes}
 use Rattle.std.specs.Str.Parse.{ParsesUnsigned}
 use Rattle.clap.specs.Words.{App, Row, Rule, Text, app_of, first_of, new_app, new_rule, one_of, rule_of, subcommand_of, with_rule, with_subcommand}
 use Rattle.clap.specs.declared.builder.arg.Arg.{Arg}
@@ -8,6 +8,8 @@ use Rattle.clap.specs.declared.builder.command.Command.TheViews.{out-Command as 
 use Rattle.clap.specs.declared.builder.value_parser.ValueParser.TheVariants as vp
 use Rattle.engine.specs.OptionValues.{AreInRange, OptionValues}
 use Rattle.tool.specs.declared.task.Numbers.{Numbers}
+use Rattle.tool.specs.declared.task.OrderName.{OrderName}
+use Rattle.tool.specs.declared.task.OrderName.TheVariants.{Bytes, Reverse}
 use Rattle.tool.specs.declared.task.Task.{Task}
 use Rattle.tool.specs.declared.task.Task.TheVariants.{Run, Check, Dump}
 
@@ -22,20 +24,33 @@ number_rule name default most = record (new_rule name) {
   defaults = default ∷ [];
 }
 
+-- the option --order ORDER, of any word
+abbrev pub order_rule : Rule
+order_rule = record (new_rule (codes "order")) {
+  long = Some (codes "order");
+  value_names = 1;
+  defaults = codes "bytes" ∷ [];
+}
+
 -- DIR, which must be there
 abbrev pub folder_rule : Rule
 folder_rule = record (new_rule (codes "DIR")) { required = true }
 
 abbrev pub run_app : App
 run_app =
-    with_rule (with_rule (with_rule (with_rule (with_rule (with_rule (with_rule (new_app (codes "run"))
+    with_rule (with_rule (with_rule (with_rule (with_rule (with_rule (with_rule (with_rule (new_app (codes "run"))
     (number_rule (codes "write-buffer") (codes "4194304") (2 ^ 30)))
     (number_rule (codes "block-bytes") (codes "4096") (2 ^ 20)))
     (number_rule (codes "file-bytes") (codes "2097152") (2 ^ 30)))
     (number_rule (codes "level0-files") (codes "4") 1024))
     (number_rule (codes "base-bytes") (codes "10485760") (2 ^ 40)))
     (number_rule (codes "cache-blocks") (codes "1024") 65536))
+    order_rule)
     folder_rule
+
+-- a subcommand that reads
+abbrev pub reading_app : Text → App
+reading_app name = with_rule (with_rule (new_app name) order_rule) folder_rule
 
 -- the command itself, which has a version and takes a subcommand
 abbrev pub bare_app : App
@@ -47,14 +62,22 @@ bare_app = record {
 abbrev pub the_app : App
 the_app =
     with_subcommand (with_subcommand (with_subcommand bare_app run_app.top)
-    (with_rule (new_app (codes "check")) folder_rule).top)
-    (with_rule (new_app (codes "dump")) folder_rule).top
+    (reading_app (codes "check")).top)
+    (reading_app (codes "dump")).top
 
 -- ---- what was found
 
 -- the option's text, given or by default, is read as this number
 abbrev pub IsNumberOf : Text → List Row → ℕ → Type 0
 IsNumberOf name rows number = (text : Text) × (one_of name rows ≡ Some text) × ParsesUnsigned {E = ℕ} 64 10 text (Ok number)
+
+abbrev pub word_of : OrderName → Text
+word_of Bytes = codes "bytes"
+word_of Reverse = codes "reverse"
+
+-- the word of --order, given or by default, is this order's
+abbrev pub IsOrderOf : List Row → OrderName → Type 0
+IsOrderOf rows order = first_of (codes "order") rows ≡ Some (word_of order)
 
 -- the numbers as a database is told them
 abbrev pub values_of : Numbers → OptionValues
@@ -78,9 +101,10 @@ pub record HaveNumbers (rows : List Row) (numbers : Numbers) : Type 0 where
 
 -- a subcommand's name and what was found for it ask for this
 abbrev pub AsksFor : Option Text → Option (List Row) → Task → Type 0
-AsksFor (Some name) (Some rows) (Run numbers folder) = (name ≡ codes "run") × (first_of (codes "DIR") rows ≡ Some folder.now) × HaveNumbers rows numbers
-AsksFor (Some name) (Some rows) (Check folder) = (name ≡ codes "check") × (first_of (codes "DIR") rows ≡ Some folder.now)
-AsksFor (Some name) (Some rows) (Dump folder) = (name ≡ codes "dump") × (first_of (codes "DIR") rows ≡ Some folder.now)
+AsksFor (Some name) (Some rows) (Run numbers order folder) =
+    (name ≡ codes "run") × (first_of (codes "DIR") rows ≡ Some folder.now) × IsOrderOf rows order × HaveNumbers rows numbers
+AsksFor (Some name) (Some rows) (Check order folder) = (name ≡ codes "check") × (first_of (codes "DIR") rows ≡ Some folder.now) × IsOrderOf rows order
+AsksFor (Some name) (Some rows) (Dump order folder) = (name ≡ codes "dump") × (first_of (codes "DIR") rows ≡ Some folder.now) × IsOrderOf rows order
 AsksFor _ _ task = ⊥
 
 abbrev pub AsksForIn : Option (Text × List Row) → Task → Type 0

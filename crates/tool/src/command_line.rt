@@ -1,8 +1,7 @@
 // The command line, as `clap` is told of it.
 
 ghost use Rattle.std.specs.Prelude.{◌≡◌, ◌≤◌, ◌^◌, IfOk, codes};
-ghost use Rattle.clap.specs.Words.{new_app, with_rule};
-ghost use Rattle.tool.specs.CommandLine.{the_app, run_app, number_rule, folder_rule, IsArg, IsCommand};
+ghost use Rattle.tool.specs.CommandLine.{the_app, run_app, reading_app, number_rule, order_rule, folder_rule, IsArg, IsCommand};
 
 use crate::help;
 use clap::builder::ValueParser;
@@ -20,22 +19,23 @@ pub fn command<'a>(alloc: Global) -> Result<Command<'a>, AllocError>
         .subcommand_required(true)
         .arg_required_else_help(true);
     let with_run = bare.subcommand(run(alloc)?)?;
-    let with_check = with_run.subcommand(folder_alone(alloc, "check", help::CHECK, help::REPORT)?)?;
-    let whole = with_check.subcommand(folder_alone(alloc, "dump", help::DUMP, help::ENTRIES)?)?;
+    let with_check = with_run.subcommand(reading(alloc, "check", help::CHECK, help::REPORT)?)?;
+    let whole = with_check.subcommand(reading(alloc, "dump", help::DUMP, help::ENTRIES)?)?;
     Ok(whole)
 }
 
-// A subcommand that takes a folder and no option.
-fn folder_alone<'a>(
+// A subcommand that takes a folder, and the order of its keys.
+fn reading<'a>(
     alloc: Global,
     name: &'a str,
     about: &'a str,
     after: &'a str,
 ) -> Result<Command<'a>, AllocError>
-    ensures { IfOk result (λ command. IsCommand command (with_rule (new_app name.entry.now) folder_rule)) }
+    ensures { IfOk result (λ command. IsCommand command (reading_app name.entry.now)) }
 {
     let bare = Command::new(alloc, name).about(about).after_help(after);
-    let whole = bare.arg(folder(alloc))?;
+    let ordered = bare.arg(order(alloc))?;
+    let whole = ordered.arg(folder(alloc))?;
     Ok(whole)
 }
 
@@ -52,7 +52,8 @@ fn run<'a>(alloc: Global) -> Result<Command<'a>, AllocError>
     let fourth = third.arg(level0_files(alloc))?;
     let fifth = fourth.arg(base_bytes(alloc))?;
     let sixth = fifth.arg(cache_blocks(alloc))?;
-    let whole = sixth.arg(folder(alloc))?;
+    let seventh = sixth.arg(order(alloc))?;
+    let whole = seventh.arg(folder(alloc))?;
     Ok(whole)
 }
 
@@ -113,6 +114,16 @@ fn number<'a>(alloc: Global, name: &'a str, default: &'a str, most: u64) -> Arg<
         .value_name("N")
         .value_parser(ValueParser::unsigned(1, most))
         .default_value(default)
+}
+
+fn order<'a>(alloc: Global) -> Arg<'a>
+    ensures { IsArg result (order_rule) }
+{
+    Arg::new(alloc, "order")
+        .long("order")
+        .value_name("ORDER")
+        .default_value("bytes")
+        .help(help::ORDER)
 }
 
 fn folder<'a>(alloc: Global) -> Arg<'a>

@@ -112,4 +112,7 @@ Example:
   $ ldbtool dump mydb
   log 2 6b6579 1 put 76616c7565";
 
+pub const ORDER: &str =
+    "The order of keys: `bytes`, or `reverse`, that of bytes turned round, so that a prefix comes last";
+
 pub const FOLDER: &str = "The folder of the database, which must exist";

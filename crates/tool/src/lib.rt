@@ -13,4 +13,4 @@ mod task;
 
 pub use inspect::{check, dump};
 pub use program::{refuse_words, start};
-pub use task::{Numbers, Task, settings};
+pub use task::{Numbers, OrderName, Task, settings};

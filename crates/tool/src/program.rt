@@ -5,10 +5,10 @@ ghost use Rattle.std.specs.Prelude.{◌≡◌, ◌⊎◌};
 use crate::inspect::{check, dump};
 use crate::progress::{Meter, Watched, bytes_of};
 use crate::status::{DONE, FAILED, MISUSED};
-use crate::task::{Numbers, Task, settings};
+use crate::task::{Numbers, OrderName, Task, settings};
 use clap::error::ErrorKind;
 use engine::{Options, Session};
-use ikey::Bytewise;
+use ikey::{Bytewise, KeyOrder, ReverseBytes};
 use script::{Fault, drive};
 use std::alloc::Global;
 use std::fmt;
@@ -35,16 +35,37 @@ pub fn start<R: Read + Drop, W: Write, F: Write>(
         Ok(store) => store,
         Err(error) => return folder_fault(faults, folder, error),
     };
+    // The one place where an order is chosen.
+    match order_of(&task) {
+        OrderName::Bytes => {
+            perform::<Bytewise, R, W, F>(rt, &task, store, watched, reader, writer, faults)
+        }
+        OrderName::Reverse => {
+            perform::<ReverseBytes, R, W, F>(rt, &task, store, watched, reader, writer, faults)
+        }
+    }
+}
+
+// Does the task over the store, whose keys are in the order `K`.
+fn perform<K: KeyOrder, R: Read + Drop, W: Write, F: Write>(
+    rt: &HostRuntime,
+    task: &Task<'_>,
+    store: FileStore,
+    watched: bool,
+    reader: R,
+    writer: &mut W,
+    faults: &mut F,
+) -> u8 {
     match task {
-        Task::Run(numbers, _) => run(rt, store, numbers, reader, writer, faults),
-        Task::Check(_) => {
+        Task::Run(numbers, _, _) => run::<K, R, W, F>(rt, store, *numbers, reader, writer, faults),
+        Task::Check(_, _) => {
             let mut store = watched_store(rt, store, watched, 1);
-            let done = check::<Bytewise, Watched<FileStore>, W>(rt.alloc(), &mut store, writer);
+            let done = check::<K, Watched<FileStore>, W>(rt.alloc(), &mut store, writer);
             status_of(done, faults)
         }
-        Task::Dump(_) => {
+        Task::Dump(_, _) => {
             let mut store = watched_store(rt, store, watched, 2);
-            let done = dump::<Bytewise, Watched<FileStore>, W>(rt.alloc(), &mut store, writer);
+            let done = dump::<K, Watched<FileStore>, W>(rt.alloc(), &mut store, writer);
             status_of(done, faults)
         }
     }
@@ -67,9 +88,17 @@ fn watched_store(
 
 fn folder_of<'a>(task: &Task<'a>) -> &'a str {
     match task {
-        Task::Run(_, folder) => folder,
-        Task::Check(folder) => folder,
-        Task::Dump(folder) => folder,
+        Task::Run(_, _, folder) => folder,
+        Task::Check(_, folder) => folder,
+        Task::Dump(_, folder) => folder,
+    }
+}
+
+fn order_of(task: &Task<'_>) -> OrderName {
+    match task {
+        Task::Run(_, order, _) => *order,
+        Task::Check(order, _) => *order,
+        Task::Dump(order, _) => *order,
     }
 }
 
@@ -90,7 +119,7 @@ fn refuse<W: Write, F: Write>(error: &clap::Error, writer: &mut W, faults: &mut 
 }
 
 // Runs a script over the store.
-fn run<R: Read + Drop, W: Write, F: Write>(
+fn run<K: KeyOrder, R: Read + Drop, W: Write, F: Write>(
     rt: &HostRuntime,
     store: FileStore,
     numbers: Numbers,
@@ -101,7 +130,7 @@ fn run<R: Read + Drop, W: Write, F: Write>(
     let Some(options) = numbers.options() else {
         return MISUSED;
     };
-    let mut session = new_session(rt.alloc(), store, options);
+    let mut session = new_session::<K>(rt.alloc(), store, options);
     match drive(rt.alloc(), &mut session, reader, writer) {
         Ok(()) => DONE,
         Err(fault) => stop(faults, &fault),
@@ -109,7 +138,11 @@ fn run<R: Read + Drop, W: Write, F: Write>(
 }
 
 // The one place where a session is made.
-fn new_session(alloc: Global, store: FileStore, options: Options) -> Session<FileStore, Bytewise> {
+fn new_session<K: KeyOrder>(
+    alloc: Global,
+    store: FileStore,
+    options: Options,
+) -> Session<FileStore, K> {
     Session::new(alloc, store, options)
 }
 

@@ -3,7 +3,7 @@
 ghost use Rattle.std.specs.Prelude.{◌≡◌, ◌≤◌, ◌^◌, map, option_map, IfOk, IfSome, string_bytes, codes};
 ghost use Rattle.engine.specs.OptionValues.{AreInRange};
 ghost use Rattle.clap.specs.Words.{app_of, found_of, is_simple, one_of, rows_of, subcommand_of, subcommand_rows_of};
-ghost use Rattle.tool.specs.CommandLine.{the_app, IsTask, AsksForIn, HaveNumbers, IsNumberOf, values_of};
+ghost use Rattle.tool.specs.CommandLine.{the_app, IsTask, AsksForIn, HaveNumbers, IsNumberOf, IsOrderOf, values_of};
 
 use crate::command_line::command;
 use clap::error::ErrorKind;
@@ -11,15 +11,24 @@ use clap::{ArgMatches, Error};
 use engine::Options;
 use std::alloc::Global;
 
-/// What is to be done, in which folder.
+/// What is to be done, under which order of keys and in which folder.
 #[derive(Clone, Copy, Debug, PartialEq, Eq)]
 pub enum Task<'a> {
     /// Run a script over a database with these options.
-    Run(Numbers, &'a str),
+    Run(Numbers, OrderName, &'a str),
     /// Check the directory.
-    Check(&'a str),
+    Check(OrderName, &'a str),
     /// Print the entries of the directory.
-    Dump(&'a str),
+    Dump(OrderName, &'a str),
+}
+
+/// An order of keys, as the command line names it.
+#[derive(Clone, Copy, Debug, PartialEq, Eq)]
+pub enum OrderName {
+    /// `bytes`: `ikey::Bytewise`.
+    Bytes,
+    /// `reverse`: `ikey::ReverseBytes`.
+    Reverse,
 }
 
 /// The options of a database, as the command line has them.
@@ -58,24 +67,42 @@ pub fn settings<'a>(alloc: Global, words: &'a [String]) -> Result<Task<'a>, Erro
     let matches = command.try_get_matches_from_mut(words)?;
     match read_task(&matches) {
         Some(task) => Ok(task),
-        None => Err(command.error(ErrorKind::MissingSubcommand, "nothing to do")?),
+        None => Err(command.error(
+            ErrorKind::InvalidValue,
+            "the value of '--order <ORDER>' is `bytes` or `reverse`",
+        )?),
     }
 }
 
-// What was found. A subcommand, its folder and its numbers are always there.
+// What was found. A subcommand, its folder and its options are always there; the order may be none.
 fn read_task<'a>(matches: &ArgMatches<'a>) -> Option<Task<'a>>
     ensures { IfSome result (AsksForIn (subcommand_rows_of matches.now)) }
 {
     let (name, found) = matches.subcommand()?;
     let folder = found.get_str("DIR")?;
+    let order = read_order(found)?;
     if name == "run" {
-        return Some(Task::Run(read_numbers(found)?, folder));
+        return Some(Task::Run(read_numbers(found)?, order, folder));
     }
     if name == "check" {
-        return Some(Task::Check(folder));
+        return Some(Task::Check(order, folder));
     }
     if name == "dump" {
-        return Some(Task::Dump(folder));
+        return Some(Task::Dump(order, folder));
+    }
+    None
+}
+
+// The order, where it is one.
+fn read_order(found: &ArgMatches<'_>) -> Option<OrderName>
+    ensures { IfSome result (IsOrderOf (rows_of (found_of found.now))) }
+{
+    let text = found.get_str("order")?;
+    if text == "bytes" {
+        return Some(OrderName::Bytes);
+    }
+    if text == "reverse" {
+        return Some(OrderName::Reverse);
     }
     None
 }

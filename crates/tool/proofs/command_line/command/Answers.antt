@@ -13,5 +13,5 @@ returns c =
     let named = with_after_help c.about.result c.after_help.result _ _ (with_about c.version.result c.about.result _ _ dated c.about.ensures) c.after_help.ensures in
     let bare = with_help_else c.subcommand_required.result c.arg_required_else_help-bare.result _ true (with_required c.after_help.result c.subcommand_required.result _ true named c.subcommand_required.ensures) c.arg_required_else_help-bare.ensures in
     let first = add_subcommand c.arg_required_else_help-bare.result c.in_ok-run.field-0 c.in_ok-with_run.with_run _ _ bare c.in_ok-run.ensures c.in_ok-with_run.ensures in
-    let second = add_subcommand c.in_ok-with_run.with_run c.in_ok-folder_alone.field-0 c.in_ok-with_check.with_check _ _ first c.in_ok-folder_alone.ensures c.in_ok-with_check.ensures in
-    add_subcommand c.in_ok-with_check.with_check c.in_ok-folder_alone-2.field-0 c.in_ok-whole.whole _ _ second c.in_ok-folder_alone-2.ensures c.in_ok-whole.ensures
+    let second = add_subcommand c.in_ok-with_run.with_run c.in_ok-reading.field-0 c.in_ok-with_check.with_check _ _ first c.in_ok-reading.ensures c.in_ok-with_check.ensures in
+    add_subcommand c.in_ok-with_check.with_check c.in_ok-reading-2.field-0 c.in_ok-whole.whole _ _ second c.in_ok-reading-2.ensures c.in_ok-whole.ensures

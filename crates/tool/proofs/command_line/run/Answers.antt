@@ -14,5 +14,6 @@ returns c =
     let fourth = add_arg c.in_ok-third.third c.in_ok-fourth.fourth c.level0_files.result _ _ third c.level0_files.ensures c.in_ok-fourth.ensures in
     let fifth = add_arg c.in_ok-fourth.fourth c.in_ok-fifth.fifth c.base_bytes.result _ _ fourth c.base_bytes.ensures c.in_ok-fifth.ensures in
     let sixth = add_arg c.in_ok-fifth.fifth c.in_ok-sixth.sixth c.cache_blocks.result _ _ fifth c.cache_blocks.ensures c.in_ok-sixth.ensures in
-    let whole = add_arg c.in_ok-sixth.sixth c.in_ok-whole.whole c.folder.result _ _ sixth c.folder.ensures c.in_ok-whole.ensures in
+    let seventh = add_arg c.in_ok-sixth.sixth c.in_ok-seventh.seventh c.order.result _ _ sixth c.order.ensures c.in_ok-seventh.ensures in
+    let whole = add_arg c.in_ok-seventh.seventh c.in_ok-whole.whole c.folder.result _ _ seventh c.folder.ensures c.in_ok-whole.ensures in
     whole
