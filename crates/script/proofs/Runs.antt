@@ -171,7 +171,6 @@ progress_shown order facts old now script left before after later waiting still 
   answers = p.answers;
   shown = p.shown ++ shows.0;
   leaves = p.leaves;
-  works = p.works;
   answered = p.answered;
   text = p.text ∙ ap (λ (t : List ℕ). p.shown ++ t) shows.1 ∙ sym (append_assoc p.shown shows.0 still);
   written = appends_then before after later p.shown shows.0 p.written shows.2;
