@@ -152,7 +152,8 @@ impl Model {
         self.doubt = None;
     }
 
-    /// The state behind a command that was answered so, or none where it may not be.
+    /// The state behind a command that was answered so, or none where it may not be: Io comes where a call failed, and always where one did
+    /// that writes.
     pub fn after(&self, line: Line, answer: Seen, failed: Failed) -> Option<Model> {
         let is_io = answer == Seen::Refused(DbError::Io);
         if is_io && failed == Failed::Nothing || !is_io && failed == Failed::Write {
