@@ -53,7 +53,11 @@ fn walked(alloc: Global, session: &mut Faulty) -> Option<Map> {
         return None;
     };
     let found = walked_by(alloc, session, id);
-    if asked(alloc, session, Line::DropIterator(id)) == Seen::Done { found } else { None }
+    if asked(alloc, session, Line::DropIterator(id)) == Seen::Done {
+        found
+    } else {
+        None
+    }
 }
 
 fn is_walked(alloc: Global, session: &mut Faulty, wanted: &Map) -> bool {
@@ -85,7 +89,13 @@ fn is_found(alloc: Global, session: &mut Faulty, model: &Model, line: Line) -> b
     }
 }
 
-fn serves_on(alloc: Global, files: MemStore, sizes: Sizes, model: &Model, line: Line) -> Result<Option<MemStore>, DbError> {
+fn serves_on(
+    alloc: Global,
+    files: MemStore,
+    sizes: Sizes,
+    model: &Model,
+    line: Line,
+) -> Result<Option<MemStore>, DbError> {
     let mut next = session(alloc, WatchedStore::new(files, None), sizes)?;
     let found = is_found(alloc, &mut next, model, line);
     let files = next.into_store().into_inner();

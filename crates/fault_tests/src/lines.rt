@@ -12,11 +12,17 @@ const KEY_BYTES: [&[u8]; KEYS] = [b"a", b"b", b"bb", b"c", b"d", b"e", b"o"];
 
 // The places of the keys.
 pub const A: usize = 0;
+
 pub const B: usize = 1;
+
 pub const BB: usize = 2;
+
 pub const C: usize = 3;
+
 pub const D: usize = 4;
+
 pub const E: usize = 5;
+
 pub const O: usize = 6;
 
 /// A value, of a byte, by the place of its key.

@@ -5,8 +5,8 @@ use crate::lines::Line;
 use crate::model::Model;
 use crate::runs::{Faulty, is_ordered, rests, run, session};
 use crate::scripts::*;
-use coding::DbError;
 use crate::watched::WatchedStore;
+use coding::DbError;
 use std::alloc::{AllocGlobal, Global};
 use std::test::Fail;
 use store::MemStore;
@@ -27,7 +27,11 @@ fn gone_through(alloc: Global, session: &mut Faulty, script: Script) -> Result<u
 }
 
 fn reached(alloc: Global, script: Script) -> Result<usize, DbError> {
-    let mut session = session(alloc, WatchedStore::new(MemStore::new(alloc), None), script.sizes)?;
+    let mut session = session(
+        alloc,
+        WatchedStore::new(MemStore::new(alloc), None),
+        script.sizes,
+    )?;
     gone_through(alloc, &mut session, script)
 }
 

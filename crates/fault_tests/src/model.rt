@@ -152,7 +152,8 @@ impl Model {
         self.doubt = None;
     }
 
-    /// The state behind a command that was answered so, or none where it may not be. 
+    /// The state behind a command that was answered so, or none where it may not be: Io comes where a call failed, and always where one did
+    /// that writes.
     pub fn after(&self, line: Line, answer: Seen, failed: Failed) -> Option<Model> {
         let is_io = answer == Seen::Refused(DbError::Io);
         if is_io && failed == Failed::Nothing || !is_io && failed == Failed::Write {
@@ -195,7 +196,11 @@ impl Model {
                 };
                 new.made = Some(true);
                 new.standing = Standing::Open;
-                if refused.is_some() && refused == self.made { None } else { Some(new) }
+                if refused.is_some() && refused == self.made {
+                    None
+                } else {
+                    Some(new)
+                }
             }
             // (it may have come as far as CURRENT)
             Seen::Refused(DbError::Io) => {
@@ -204,8 +209,12 @@ impl Model {
                 }
                 Some(new)
             }
-            Seen::Refused(DbError::Exists) => self.unchanged(mode == Mode::New && self.made != Some(false)),
-            Seen::Refused(DbError::NoDatabase) => self.unchanged(mode == Mode::Existing && self.made != Some(true)),
+            Seen::Refused(DbError::Exists) => self.unchanged(
+                mode == Mode::New && self.made != Some(false),
+            ),
+            Seen::Refused(DbError::NoDatabase) => self.unchanged(
+                mode == Mode::Existing && self.made != Some(true),
+            ),
             Seen::Refused(DbError::Locked) => self.unchanged(self.locked),
             _ => None,
         }
@@ -220,7 +229,11 @@ impl Model {
         new.locked = failed != Failed::Nothing;
         new.snapshots = NO_SNAPSHOTS;
         new.iterators = NO_ITERATORS;
-        if answer == Seen::Done { Some(new) } else { None }
+        if answer == Seen::Done {
+            Some(new)
+        } else {
+            None
+        }
     }
 
     // Of every other command.
@@ -233,7 +246,11 @@ impl Model {
             (_, _) => {
                 let mut new = *self;
                 new.standing = Standing::Open;
-                if new.serve(line, answer) { Some(new) } else { None }
+                if new.serve(line, answer) {
+                    Some(new)
+                } else {
+                    None
+                }
             }
         }
     }
@@ -294,7 +311,10 @@ impl Model {
         self.last_iterator = self.last_iterator.saturating_add(1);
         let id = self.last_iterator;
         if let Some(free) = self.iterators.get_mut(id) {
-            *free = Some(View { pairs: self.now, place: None });
+            *free = Some(View {
+                pairs: self.now,
+                place: None,
+            });
         }
         Seen::Iterator(id as u64)
     }
@@ -326,7 +346,10 @@ impl Model {
     // Puts an iterator where its map has a value.
     fn stand(&mut self, id: u64, view: View, place: Option<usize>) -> Seen {
         if let Some(kept) = self.iterators.get_mut(index_of(id)) {
-            *kept = Some(View { pairs: view.pairs, place });
+            *kept = Some(View {
+                pairs: view.pairs,
+                place,
+            });
         }
         Seen::Pair(place.map(|it| (it, value_at(&view.pairs, it))))
     }
@@ -343,7 +366,11 @@ impl Model {
             return Seen::Refused(DbError::NoIterator);
         };
         match view.place {
-            Some(place) if up => self.stand(id, view, up_from(&view.pairs, place.saturating_add(1))),
+            Some(place) if up => self.stand(
+                id,
+                view,
+                up_from(&view.pairs, place.saturating_add(1)),
+            ),
             Some(place) => self.stand(id, view, down_from(&view.pairs, place)),
             None => Seen::Refused(DbError::NoPlace),
         }

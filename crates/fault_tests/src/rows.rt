@@ -1,10 +1,10 @@
 //! What single failures of the store are answered, and what they leave.
-use coding::DbError;
 use crate::runs::{Faulty, calls_of, session};
 use crate::scripts::{DEFAULTS, Sizes};
+use crate::watched::WatchedStore;
+use coding::DbError;
 use engine::Answer;
 use script::{answer_line, read_line};
-use crate::watched::WatchedStore;
 use std::alloc::{AllocGlobal, Global};
 use std::test::Fail;
 use store::{Extent, Fault, MemStore, Plan, Store};
@@ -45,7 +45,10 @@ const ROWS: &[Row] = &[
     Row {
         sizes: DEFAULTS,
         made: &[],
-        lines: &[("open new", "refused 18 Locked", &[]), ("open new", "ok", &[])],
+        lines: &[
+            ("open new", "refused 18 Locked", &[]),
+            ("open new", "ok", &[]),
+        ],
         fault: Fault::Deny,
         place: 0,
         call: 1,
@@ -74,9 +77,17 @@ const ROWS: &[Row] = &[
         sizes: DEFAULTS,
         made: &[],
         lines: &[
-            ("open new", "refused 2 Io", &[Found::Bytes("CURRENT", b"MANIFEST-000001\n")]),
+            (
+                "open new",
+                "refused 2 Io",
+                &[Found::Bytes("CURRENT", b"MANIFEST-000001\n")],
+            ),
             ("open new", "refused 4 Exists", &[]),
-            ("open", "ok", &[Found::Bytes("CURRENT", b"MANIFEST-000003\n")]),
+            (
+                "open",
+                "ok",
+                &[Found::Bytes("CURRENT", b"MANIFEST-000003\n")],
+            ),
         ],
         fault: Fault::Fail(Extent::After),
         place: 0,
@@ -106,7 +117,11 @@ const ROWS: &[Row] = &[
             ("open new", "ok", &[]),
             ("put 61 31", "ok", &[]),
             ("work 1", "worked", &[]),
-            ("work 1", "worked", &[Found::There("000002.log"), Found::There("000004.ldb")]),
+            (
+                "work 1",
+                "worked",
+                &[Found::There("000002.log"), Found::There("000004.ldb")],
+            ),
             ("work 1", "idle", &[Found::There("000002.log")]),
             ("close", "ok", &[]),
             ("open", "ok", &[Found::Gone("000002.log")]),
@@ -183,7 +198,11 @@ fn run(alloc: Global, session: &mut Faulty, lines: &[Line]) -> usize {
 
 // The files that a row begins with.
 fn made(alloc: Global, row: &Row) -> Result<MemStore, DbError> {
-    let mut before = session(alloc, WatchedStore::new(MemStore::new(alloc), None), row.sizes)?;
+    let mut before = session(
+        alloc,
+        WatchedStore::new(MemStore::new(alloc), None),
+        row.sizes,
+    )?;
     let lines = run(alloc, &mut before, row.made);
     if lines < row.made.len() {
         return Err(DbError::Broken);
@@ -210,8 +229,15 @@ fn call_of(alloc: Global, row: &Row) -> Result<u64, DbError> {
 
 fn gone_through(alloc: Global, row: &Row) -> Result<usize, DbError> {
     let call = call_of(alloc, row)?;
-    let plan = Plan { call, fault: row.fault };
-    let mut session = session(alloc, WatchedStore::new(made(alloc, row)?, Some(plan)), row.sizes)?;
+    let plan = Plan {
+        call,
+        fault: row.fault,
+    };
+    let mut session = session(
+        alloc,
+        WatchedStore::new(made(alloc, row)?, Some(plan)),
+        row.sizes,
+    )?;
     Ok(run(alloc, &mut session, row.lines))
 }
 

@@ -98,7 +98,11 @@ pub fn step(alloc: Global, session: &mut Faulty, model: &mut Model, line: Line) 
     let answer = asked(alloc, session, line);
     let new = model.after(line, answer, failed_since(session, failures))?;
     *model = new;
-    if settles(alloc, session, model) { Some(answer) } else { None }
+    if settles(alloc, session, model) {
+        Some(answer)
+    } else {
+        None
+    }
 }
 
 // The same, and once more where an open was refused.

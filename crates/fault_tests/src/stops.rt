@@ -4,8 +4,8 @@ use crate::lines::Line;
 use crate::model::Model;
 use crate::runs::{Faulty, calls_of, run, session, step};
 use crate::scripts::*;
-use coding::DbError;
 use crate::watched::WatchedStore;
+use coding::DbError;
 use std::alloc::{AllocGlobal, Global};
 use std::test::Fail;
 use store::{Extent, Fault, MemStore, Plan, Store};
@@ -14,7 +14,13 @@ const SCRIPTS: [Script; 5] = [PUTS, ITERATOR, STEPS, SNAPSHOTS, LEVELS];
 
 // Goes through a script up to the line in which a call comes. Answers that line, or none where an answer before it isn't one that
 // the model allows. Behind the last line it is a close.
-fn stopped_in(alloc: Global, session: &mut Faulty, model: &mut Model, lines: &[Line], call: u64) -> Option<Line> {
+fn stopped_in(
+    alloc: Global,
+    session: &mut Faulty,
+    model: &mut Model,
+    lines: &[Line],
+    call: u64,
+) -> Option<Line> {
     for line in lines {
         let before = *model;
         let answer = step(alloc, session, model, *line);
@@ -54,7 +60,12 @@ struct Outcome {
     well: bool,
 }
 
-fn outcome_of(alloc: Global, start: &Start, script: Script, plan: Option<Plan>) -> Result<Outcome, DbError> {
+fn outcome_of(
+    alloc: Global,
+    start: &Start,
+    script: Script,
+    plan: Option<Plan>,
+) -> Result<Outcome, DbError> {
     let Ok(copy) = start.files.copy() else {
         return Err(DbError::OutOfMemory);
     };
@@ -96,7 +107,14 @@ fn stops_at(alloc: Global, start: &Start, script: Script, call: u64) -> Option<u
 
 // How many stops of a script there were, all well, or the first call at which one isn't.
 fn first_wrong(alloc: Global, start: &Start, script: Script) -> Result<u64, u64> {
-    let Ok(Outcome { calls, well: true, .. }) = outcome_of(alloc, start, script, None) else {
+    let Ok(
+        Outcome {
+            calls,
+            well: true,
+            ..
+        },
+    ) = outcome_of(alloc, start, script, None)
+    else {
         return Err(0);
     };
     let mut stops: u64 = 0;
@@ -139,7 +157,11 @@ fn the_process_may_stop_at_each_call(rt: HostRuntime) -> Result<(), Fail> {
 // How many calls the store has had behind the first put.
 fn calls_behind_a_put(alloc: Global) -> Result<u64, DbError> {
     let mut model = Model::new();
-    let mut session = session(alloc, WatchedStore::new(MemStore::new(alloc), None), PUTS.sizes)?;
+    let mut session = session(
+        alloc,
+        WatchedStore::new(MemStore::new(alloc), None),
+        PUTS.sizes,
+    )?;
     for line in PUTS.lines.iter().take(2) {
         let _ = step(alloc, &mut session, &mut model, *line);
     }
@@ -174,7 +196,10 @@ const PARTS: [usize; 4] = [0, 5, 23, 24];
 fn the_process_may_stop_behind_a_put_that_failed(rt: HostRuntime) -> Result<(), Fail> {
     for count in PARTS {
         let stops = first_wrong_behind(rt.alloc(), count);
-        assert!(rt; matches!(stops, Ok(stops) if stops > 100), "{count} bytes: {stops:?}");
+        assert!(rt;
+            matches!(stops, Ok(stops) if stops > 100),
+            "{count} bytes: {stops:?}"
+        );
     }
     Ok(())
 }
