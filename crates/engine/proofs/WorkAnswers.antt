@@ -176,4 +176,3 @@ pub done_in : {K : Type 0} {g : _} (order : Order) (options : OptionValues) (bud
 done_in order options budget old new state before after answer result is opened done shows =
     subst (λ (o : Option (Held _ _)). WorksIn order options budget old new o (Some after) answer) (sym opened)
     (shows (subst (λ (r : Result Progress DbError). DoneWork order options budget old new before after r) is done))
-

@@ -40,11 +40,14 @@ fn after<K: KeyOrder>(
 }
 
 // Two keys, one of them a front of the other, and one behind both in the order of bytes.
-const SCRIPT: &str = "open new\nput 61 31\nput 6161 32\nput 62 33\ncompact all\niter\nfirst 1\nnext 1\nnext 1\nnext 1\nseek 1 6162\nseek 1 60\n";
+const SCRIPT: &str =
+    "open new\nput 61 31\nput 6161 32\nput 62 33\ncompact all\niter\nfirst 1\nnext 1\nnext 1\nnext 1\nseek 1 6162\nseek 1 60\n";
 
-const TURNED: &str = "ok\nok\nok\nok\nok\niter 1\nat 62 33\nat 6161 32\nat 61 31\nend\nat 6161 32\nend\n";
+const TURNED: &str =
+    "ok\nok\nok\nok\nok\niter 1\nat 62 33\nat 6161 32\nat 61 31\nend\nat 6161 32\nend\n";
 
-const BY_BYTES: &str = "ok\nok\nok\nok\nok\niter 1\nat 61 31\nat 6161 32\nat 62 33\nend\nat 62 33\nat 61 31\n";
+const BY_BYTES: &str =
+    "ok\nok\nok\nok\nok\niter 1\nat 61 31\nat 6161 32\nat 62 33\nend\nat 62 33\nat 61 31\n";
 
 #[test]
 fn a_proper_prefix_comes_last_where_bytes_are_turned_round(rt: HostRuntime) -> Result<(), Fail> {
@@ -53,9 +56,15 @@ fn a_proper_prefix_comes_last_where_bytes_are_turned_round(rt: HostRuntime) -> R
     Ok(())
 }
 
-const OPENED: (&str, &str) = ("open\nopen any\n", "refused 6 Unsupported\nrefused 6 Unsupported\n");
+const OPENED: (&str, &str) = (
+    "open\nopen any\n",
+    "refused 6 Unsupported\nrefused 6 Unsupported\n",
+);
 
-const WALKED: (&str, &str) = ("open\niter\nlast 1\nget 6161\n", "ok\niter 1\nat 61 31\nvalue 32\n");
+const WALKED: (&str, &str) = (
+    "open\niter\nlast 1\nget 6161\n",
+    "ok\niter 1\nat 61 31\nvalue 32\n",
+);
 
 #[test]
 fn a_directory_of_one_order_is_refused_under_the_other(rt: HostRuntime) -> Result<(), Fail> {
@@ -69,7 +78,8 @@ fn a_directory_of_one_order_is_refused_under_the_other(rt: HostRuntime) -> Resul
 }
 
 // The name of 33 bytes in an edit of 41, in a record of 48.
-const MANIFEST: &[u8] = b"\x29\x00\x01\x01\x21ldbtool.ReverseBytewiseComparator\x02\x02\x03\x03\x04\x00";
+const MANIFEST: &[u8] =
+    b"\x29\x00\x01\x01\x21ldbtool.ReverseBytewiseComparator\x02\x02\x03\x03\x04\x00";
 
 fn is_named(alloc: Global, store: &mut MemStore) -> bool {
     match store.read_at(alloc, "MANIFEST-000001", 0, 1_000) {

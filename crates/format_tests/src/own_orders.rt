@@ -42,12 +42,28 @@ impl KeyOrder for ShorterFirst {
 }
 
 const WRITTEN: [&[u8]; 9] = [
-    b"100", b"9", b"", b"10", b"99", b"2", b"1000", b"\x01\x00\x00", b"\xff\xff",
+    b"100",
+    b"9",
+    b"",
+    b"10",
+    b"99",
+    b"2",
+    b"1000",
+    b"\x01\x00\x00",
+    b"\xff\xff",
 ];
 
 // The same by length: the empty key, the numbers of one digit, of two and so on.
 const SORTED: [&[u8]; 9] = [
-    b"", b"2", b"9", b"10", b"99", b"\xff\xff", b"\x01\x00\x00", b"100", b"1000",
+    b"",
+    b"2",
+    b"9",
+    b"10",
+    b"99",
+    b"\xff\xff",
+    b"\x01\x00\x00",
+    b"100",
+    b"1000",
 ];
 
 fn table_of(alloc: Global, keys: &[&[u8]]) -> Result<MemTable<ShorterFirst>, AllocError> {

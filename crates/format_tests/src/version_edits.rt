@@ -177,7 +177,9 @@ fn has_fields(alloc: Global, bytes: &[u8], count: usize) -> bool {
 fn flush_edit_is_read_and_cut_ones_are_corrupt(rt: HostRuntime) {
     let alloc = rt.alloc();
     assert!(rt; has_fields(alloc, &FLUSH, 4));
-    assert!(rt; matches!(layout_of(alloc, COMPARATOR, &[&FLUSH]), Ok(layout) if is_left_by_the_flush(&layout)));
+    assert!(rt;
+        matches!(layout_of(alloc, COMPARATOR, &[&FLUSH]), Ok(layout) if is_left_by_the_flush(&layout))
+    );
     for end in 1..31 {
         assert!(rt;
             end == 2 || end == 4 || end == 6 || is_corrupt(alloc, &FLUSH[..end]),
