@@ -1,9 +1,10 @@
 """Checks of tools/program over directories that were made to hurt: lengths, offsets and counts beyond all bounds. Whatever `check`, `dump`
 and `run` answer, they answer it within a second of a processor and 64 MB."""
 import os
+import signal
 import struct
 import subprocess
-import tempfile
+import sys
 import threading
 
 from files import ONE_TABLE, Manifest, hexadecimal, internal_key, masked, record, stored, varint, write_directory
@@ -92,19 +93,25 @@ DIRECTORIES = {
 # ---- what is measured
 
 
+# A process counts as its own what its maker held when it was made, so that a small one in between makes the program and tells what it took.
+MEASURE = """
+import os, sys
+silent = [(os.POSIX_SPAWN_OPEN, 2, os.devnull, os.O_WRONLY, 0)]
+_, status, usage = os.wait4(os.posix_spawn(sys.argv[1], sys.argv[1:], os.environ, file_actions=silent), 0)
+print(os.waitstatus_to_exitcode(status), usage.ru_utime + usage.ru_stime, usage.ru_maxrss / 1024, file=sys.stderr)
+"""
+
+
 def measured(words, script):
     """What a run printed, its status, and the seconds of a processor and the megabytes that it took."""
-    with tempfile.TemporaryFile() as given, tempfile.TemporaryFile() as printed:
-        given.write(script)
-        given.seek(0)
-        with subprocess.Popen([under_test(), *words], stdin=given, stdout=printed, stderr=subprocess.DEVNULL) as process:
-            killer = threading.Timer(SECONDS, process.kill)
-            killer.start()
-            _, status, usage = os.wait4(process.pid, 0)
-            killer.cancel()
-            process.returncode = os.waitstatus_to_exitcode(status)
-        printed.seek(0)
-        return printed.read().decode().splitlines(), process.returncode, usage.ru_utime + usage.ru_stime, usage.ru_maxrss / 1024
+    command = [sys.executable, "-S", "-E", "-c", MEASURE, under_test(), *words]
+    with subprocess.Popen(command, stdin=subprocess.PIPE, stdout=subprocess.PIPE, stderr=subprocess.PIPE, start_new_session=True) as process:
+        killer = threading.Timer(SECONDS, os.killpg, (process.pid, signal.SIGKILL))
+        killer.start()
+        printed, told = process.communicate(script)
+        killer.cancel()
+    status, seconds, megabytes = told.split() or (b"-9", b"inf", b"inf")
+    return printed.decode().splitlines(), int(status), float(seconds), float(megabytes)
 
 
 OPENED = ["open any", "get 61", "iter", "first 1", "put 61 32", "compact all", "get 61", "close"]
