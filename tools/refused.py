@@ -6,9 +6,11 @@ nothing else: tools/gate tries no edit of a crate whose line has the present sum
 **What the sum covers.** Of the crate itself its sources, definitions, proofs, edits and its line of crates.txt; of each crate below
 its line, sources and definitions, which have the contracts, types, constants and macros that it is judged by; the kit, since
 another prover may judge otherwise. A proof of a crate below is read where another one cites it, so the proofs of those crates that
-are cited by name, from the text that is covered, belong to it as well. The bodies of functions below don't matter to what stands
-above them, and are covered all the same: what part of a source a proof above reads can't be told without the prover, and a line
-that is stale too often costs time, where one that is present too long would be false.
+are cited by name, from the text that is covered, belong to it as well.
+
+**Bodies below** are not covered: a function is judged by the contracts of those that it calls, and a library, as the kit builds it,
+keeps of each function its signature and its clauses alone (`out/rlib/CRATE.rlib/lang/src`). So a faster body in `coding` costs the edits
+of `coding`, and of no other crate. Bodies are told by the layout that `rt fmt` gives; where that leaves a doubt they count.
 
 **Comments** of sources and definitions are not covered, nor are blank lines: the prover doesn't read them, and each better sentence in
 `coding` would cost the edits of the whole tree, 80 minutes of processors. (An edit whose old text stands in a comment too no longer
@@ -38,6 +40,9 @@ DOCUMENTED = re.compile(RUST.pattern.replace("//[^\\n]*", "//(?![/!])[^\\n]*"), 
 ANTT = re.compile(r"^\s*--[^\n]*", re.M)
 CITED = re.compile(r"\bRattle[.·-](\w+)[.·-]proofs\b")
 
+# The line on which a function begins, with its indentation.
+BEGINS = re.compile(r"( *)(?:#\[[^\]]*\] )?(?:pub(?:\([^)]*\))? )?(?:const )?(?:unsafe )?fn \w")
+
 
 def bare(path, text, documented=False):
     """The text without its comments and blank lines."""
@@ -46,6 +51,33 @@ def bare(path, text, documented=False):
     elif path.endswith(".antt"):
         text = ANTT.sub("", text)
     return "\n".join(it for it in map(str.rstrip, text.split("\n")) if it)
+
+
+def unbodied(text):
+    """A bare source without the bodies of its functions. A body opens on a line of its own, behind the clauses, or at the end of the
+    signature, and ends at the first closing brace at the function's indentation."""
+    kept, indent, inside = [], None, False
+    for line in text.split("\n"):
+        if inside:
+            inside = line != f"{indent}}}"
+            indent = indent if inside else None
+            continue
+        kept.append(line)
+        begins = BEGINS.match(line)
+        indent = begins[1] if begins else indent
+        if indent is None:
+            continue
+        ends_signature = begins or line.startswith(f"{indent})")
+        inside = line == f"{indent}{{" or bool(ends_signature and line.endswith(" {"))
+        # (a function without statements, or one that a trait only names)
+        indent = None if not inside and line.endswith(("{}", ";")) else indent
+    return "\n".join(kept)
+
+
+@functools.cache
+def signatures(root, crate):
+    """The bare sources of a crate without bodies; a source whole where a macro may write functions elsewhere."""
+    return {path: text if "macro_rules!" in text else unbodied(text) for path, text in read(root, crate, "src").items()}
 
 
 @functools.cache
@@ -71,7 +103,7 @@ def covered(crate, root):
     """The parts of crates that the sum covers, each with its texts."""
     found = {(crate, part): read(root, crate, part) for part in ("src", "specs", "proofs")}
     for it in below(crate, root):
-        found.update({(it, part): read(root, it, part) for part in ("src", "specs")})
+        found.update({(it, "src"): signatures(root, it), (it, "specs"): read(root, it, "specs")})
     seen = set()
     while seen != set(found):
         for key in set(found) - seen:
