@@ -8,13 +8,23 @@ MASK = 0xA282EAD8
 PUT = 1
 
 
+def shifted(register):
+    for _ in range(8):
+        register = register >> 1 ^ (CRC32C if register & 1 else 0)
+    return register
+
+
+SHIFTED = [shifted(it) for it in range(256)]
+
+
 def crc32c(text):
     register = 0xFFFFFFFF
     for byte in text:
-        register ^= byte
-        for _ in range(8):
-            register = register >> 1 ^ (CRC32C if register & 1 else 0)
+        register = register >> 8 ^ SHIFTED[(register ^ byte) & 0xFF]
     return register ^ 0xFFFFFFFF
+
+
+assert crc32c(b"123456789") == 0xE3069283
 
 
 def masked(text):
@@ -43,6 +53,27 @@ def spelled(text):
 def record(payload):
     """A log record that fits one block, at the block's front or behind others in it."""
     return masked(b"\x01" + payload) + struct.pack("<HB", len(payload), 1) + payload
+
+
+BLOCK = 32_768
+
+
+def log_of(payloads):
+    """A log of these records, of any length: each is cut into fragments where blocks end."""
+    found = bytearray()
+    for payload in payloads:
+        kinds = iter(b"\x02" + b"\x03" * (len(payload) // (BLOCK - 7) + 1))
+        left, whole = payload, True
+        while whole or left:
+            room = BLOCK - len(found) % BLOCK
+            if room < 7:
+                found += bytes(room)
+                continue
+            data, left = left[: room - 7], left[room - 7 :]
+            kind = next(kinds) if left else 1 if whole else 4
+            found += masked(bytes([kind]) + data) + struct.pack("<HB", len(data), kind) + data
+            whole = False
+    return bytes(found)
 
 
 def log_file(batches):
@@ -133,14 +164,18 @@ def bytes_of(folder, name):
 
 
 def write_directory(room, name, manifest, files):
-    """A new folder with these files, and with the MANIFEST and a CURRENT that names it, where one is given."""
+    """A new folder with these files, and with the MANIFEST and a CURRENT that names it, where one is given. A file is its bytes, or its first
+    bytes and its length, up to which zeros follow."""
     folder = new_folder(room, name)
     if manifest:
         name_of_manifest = f"MANIFEST-{manifest.number:06}"
         files = {"CURRENT": f"{name_of_manifest}\n".encode(), name_of_manifest: manifest.file(), **files}
     for name_of_file, text in files.items():
         with open(os.path.join(folder, name_of_file), "wb") as file:
-            file.write(text)
+            front, length = text if isinstance(text, tuple) else (text, len(text))
+            file.write(front)
+            # (a file of a gigabyte of zeros takes no room)
+            file.truncate(length)
     return folder
 
 

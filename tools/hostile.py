@@ -7,7 +7,7 @@ import subprocess
 import sys
 import threading
 
-from files import ONE_TABLE, Manifest, hexadecimal, internal_key, masked, record, stored, varint, write_directory
+from files import ONE_TABLE, Manifest, hexadecimal, internal_key, log_file, log_of, masked, record, stored, string, varint, write_directory
 from listed import Wrong, check
 from running import SECONDS, under_test, want
 
@@ -74,6 +74,23 @@ def logged(text):
 
 BATCH = struct.pack("<QI", 1, 1)
 
+GIGABYTE = 2**30
+MANY = 100_000
+
+
+def listed(number):
+    """A table of this number in level 6, of one key, which rises with the number."""
+    key = internal_key(f"{number:08x}", 1)
+    return b"\x07\x06" + varint(number) + varint(len(ONE_TABLE)) + 2 * string(key)
+
+
+def many_tables(tables_in_edits):
+    """A MANIFEST that lists tables whose files aren't there."""
+    return directory(log_of([hexadecimal("02 03") + b"\x03" + varint(MANY + 6) + b"\x04\x01", *tables_in_edits]))
+
+
+NUMBERS = range(5, MANY + 5)
+
 # files, what a check prints first, and what an open is answered, which looks into no table
 DIRECTORIES = {
     **{f"a table with its {name}": (with_one_table(table), CORRUPT, "ok") for name, table in TABLES.items()},
@@ -86,6 +103,11 @@ DIRECTORIES = {
     "a record of 65,535 bytes in a log of seven": (directory(log=masked(b"\x01") + b"\xff\xff\x01"), CORRUPT, CORRUPT),
     "a log by a number of 30 digits": (directory(**{"1" * 30 + ".log": b"\xff"}), "good", "ok"),
     "a table by a number of 30 digits": (directory(**{"9" * 30 + ".ldb": b"\xff"}), "good", "ok"),
+    f"a MANIFEST of {MANY} tables in one edit": (many_tables([b"".join(map(listed, NUMBERS))]), CORRUPT, CORRUPT),
+    f"a MANIFEST of {MANY} tables in an edit each, from the last to the first": (many_tables(map(listed, reversed(NUMBERS))), CORRUPT, CORRUPT),
+    "a MANIFEST that goes on with a gigabyte of zeros": (directory((record(hexadecimal("02 03 03 06 04 01")), GIGABYTE)), CORRUPT, CORRUPT),
+    "a log of a gigabyte of zeros": (directory(log=(b"", GIGABYTE)), CORRUPT, CORRUPT),
+    "a log that goes on with a gigabyte of zeros": (directory(log=(log_file([(1, [("61", "31")])]), GIGABYTE)), CORRUPT, CORRUPT),
     "a MANIFEST by a number of 30 digits": ({"CURRENT": b"MANIFEST-" + b"1" * 30 + b"\n", "MANIFEST-" + "1" * 30: b""}, CORRUPT, CORRUPT),
 }
 
