@@ -62,7 +62,7 @@ impl<K: KeyOrder, C: Drop> Merge<K, C> {
     }
 }
 
-/// Where each cursor of a new merge stands nowhere in a list, the merge stands nowhere in the lists' union.
+/// Law: where each cursor of a new merge stands nowhere in a list, the merge stands nowhere in the lists' union.
 pub fn merge_begins<K: KeyOrder, S, C: Cursor<K, S>>(merge: &Merge<K, C>, source: &S)
     requires nowhere { merge.now.current ≡ None }
     requires astray { AllByRecursion (λ child. child.side ≡ Side.Astray) merge.now.children.items }

@@ -55,7 +55,7 @@ impl<K: KeyOrder> Scan<K> {
         each_list_has_a_view::<K>();
         views_agree::<K>();
         row_begins::<K>();
-        // They are in order.
+        // For the proof alone: they are in order.
         let _tables = version.tables();
         source.memory.are_bounded();
         let sequence = sequence.min(source.memory.last());
@@ -184,14 +184,14 @@ impl<K: KeyOrder> Scan<K> {
         self.version.has_number(number)
     }
 
-    /// A scan stays where it is while what it reads is kept.
+    /// Law: a scan stays where it is while what it reads is kept.
     pub fn stays(&self)
         ensures { ScanIsKept K.cmp self.now }
     {
         let _ = self;
     }
 
-    /// A scan that passes a limit of reading goes over a table whose file does.
+    /// Law: a scan that passes a limit of reading goes over a table whose file does.
     pub fn past_limit(&self)
         ensures { ScanPastLimit K.cmp self.now }
     {

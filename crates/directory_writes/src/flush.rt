@@ -165,6 +165,7 @@ pub(crate) fn version_after<K: KeyOrder>(
     ensures old { AreInOrder K.cmp version.now.tables }
     ensures refused { IfErr result (λ error. RefusesVersion error (LeadsAstray K.cmp (after_edit edit.now) version.now.tables)) }
 {
+    // For the proof alone, here and behind the edit: the tables are in order.
     let _tables = version.tables();
     let after = match version.after(alloc, edit.fields()) {
         Ok(after) => after,

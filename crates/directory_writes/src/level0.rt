@@ -140,6 +140,7 @@ fn add_entries<K: KeyOrder, S: Store>(
     ensures refused { IfErr result (λ e. WriteRefuses e (S.facts store.old) (S.facts store.new)
         (Builds K.cmp builder.old (S.facts store.old) [] → IsTooLarge (S.facts store.new) memory.now.inserts)) }
 {
+    // A law, for the proof alone.
     memory.rises();
     let mut key = Vec::new(alloc);
     let mut at = memory.first();

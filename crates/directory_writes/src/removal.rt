@@ -19,7 +19,8 @@ use std::alloc::{AllocError, Global};
 use store::{Store, StoreError};
 use versions::LiveNumbers;
 
-/// Which tables are in use: those of the current version, of versions that are pinned, and those that are being written.
+/// Which tables are in use: those of the current version, of open iterators' versions, and those that a compaction under way reads or has
+/// written (`engine`'s `readers.rt` answers it).
 pub trait LiveTables {
     ghost has: { Self → ℕ → Type 0 };
 

@@ -237,6 +237,7 @@ impl<K: KeyOrder> DbState<K> {
             → EndsNeeded (order_of K.name K.cmp) (seen_of S.facts source.old) (seen_of S.facts source.new)
             (held source.old.memory self.old) (held source.new.memory self.new)) }
     {
+        // A loop without a measure: as many turns as 64 bits count, and out of memory behind them, which no run reaches.
         for _ in 0..u64::MAX {
             if self.step_job(alloc, source, 1)? {
                 return Ok(());

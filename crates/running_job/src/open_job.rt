@@ -102,7 +102,7 @@ impl<K: KeyOrder> OpenJob<K> {
         planned_law();
         version_of_part();
         sound_lasts();
-        // They are in order.
+        // For the proof alone: they are in order.
         let _tables = version.tables();
         if !can_be_named::<K>(&plan) {
             return Err(DbError::Corrupt(FileKind::Manifest, Damage::Length));

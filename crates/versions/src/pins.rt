@@ -19,7 +19,7 @@ pub struct Pinned<V> {
 
 /// The current version, and those that are pinned by readers, each in a place whose index is the pin's id
 /// (LevelDB's db/version_set.h, `VersionSet`: its list of live versions). A place whose version is neither current
-/// nor pinned is free for a later one.
+/// nor pinned is free for a later one. The engine has no use for it: its iterators share their versions by an `Rc`.
 #[derive(Drop)]
 pub struct Versions<K: KeyOrder> {
     places: Vec<Pinned<Version<K>>>,
@@ -138,7 +138,7 @@ impl<K: KeyOrder> Versions<K> {
 
     /// Whether the file belongs to the open database: it is `CURRENT`, the MANIFEST, the lock, a live log, or a
     /// table of a version that is current or pinned. Outputs of an open job are known to the job. Where table n is there
-    /// as `.ldb` and as `.sst`, the `.sst` is never read.
+    /// as `.ldb` and as `.sst`, the `.sst` is never read. (What the engine removes, `directory_writes::remove_files` decides.)
     pub fn is_live(&self, numbers: &LiveNumbers, file: FileName) -> bool
         ensures { MatchBool result (IsLive numbers.now self.now file) (IsLive numbers.now self.now file → ⊥) }
     {
