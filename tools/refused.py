@@ -118,12 +118,12 @@ def kit():
     return subprocess.check_output([RT, "version"], text=True)
 
 
-def sum_of(crate, root=ROOT):
-    """The sum of all that the prover reads where it judges the edits of a crate."""
+def sum_of(crate, root=ROOT, only=None):
+    """The sum of all that the prover reads where it judges the edits of a crate, or those of these files alone."""
     parts = sorted(covered(crate, root).items())
     lines = [(it, sorted(crates(root)[it])) for it in sorted([*below(crate, root), crate])]
     tried = []
-    for path in edits_of(crate, root):
+    for path in edits_of(crate, root) if only is None else only:
         with open(f"{root}/{path}", "rb") as file:
             tried.append((os.path.basename(path), file.read()))
     return hashlib.sha256(repr((kit(), lines, sorted(tried), parts)).encode(errors="surrogateescape")).hexdigest()
