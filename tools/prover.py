@@ -14,10 +14,16 @@ import re
 import signal
 import sys
 import tempfile
+import threading
 
 from repository import ROOT, RT
 
 ONE_JOB = ["--jobs", "1"]
+STOPPED = threading.Event()
+
+
+class Stopped(Exception):
+    """The run was stopped while a check ran."""
 
 
 @functools.cache
@@ -29,11 +35,21 @@ def rt():
     loader.exec_module(made)
     words = made.rtlib.guarded()
     made.rtlib.guarded = lambda: words
+    check = made.checked
+
+    def checked(*given):
+        ran = check(*given)
+        if STOPPED.is_set():
+            raise Stopped
+        return ran
+
+    made.checked = checked
     return made
 
 
 def stop_checks():
-    """Ends the checks that still run."""
+    """Ends the checks that still run: what these would say is told to nobody."""
+    STOPPED.set()
     found = re.search(r"setpgid\(0, (\d+)\)", " ".join(rt().rtlib.guarded()))
     if found:
         os.killpg(int(found[1]), signal.SIGKILL)
