@@ -5,3 +5,4 @@ pub mod Folds
 pub mod Orders
 pub mod Snapshots
 pub mod Kept
+pub mod Ranked

@@ -10,6 +10,7 @@ mod numbers;
 mod reading;
 mod snapshot;
 mod spelling;
+mod table_set;
 mod tables;
 mod version_edit;
 mod writing;
