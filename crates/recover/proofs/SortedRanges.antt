@@ -1,15 +1,15 @@
 -- Of ranges in a row that are sorted by level and smallest key, neighbours tell of each two.
-use Rattle.std.proofs.Common.{◌≡◌, ◌⊎◌, inl, inr, ℕ, zero, suc, ◌<◌, ◌≤◌, ◌+◌, ◌-◌, Bool, true, false, MatchBool, List, [], ◌∷◌, ◌++◌, length, take, get_or, set, swap, refl, sym, ap, ◌∙◌, subst, arith, IsPermutation, All, AllPairs, IsSortedBy}
+use Rattle.std.proofs.Common.{◌≡◌, ◌⊎◌, inl, inr, ℕ, zero, suc, ◌<◌, ◌≤◌, ◌+◌, ◌-◌, Bool, true, false, MatchBool, List, [], ◌∷◌, length, get_or, set, swap, refl, sym, ap, ◌∙◌, subst, arith, IsPermutation, All, IsSortedBy}
 use Rattle.std.proofs.lemmas.Bool.{cases_lt, cases_eq}
 use Rattle.std.proofs.lemmas.List.{length-set, get_or-set_same, get_or-set_other}
 use Rattle.std.proofs.lemmas.List.Edits.{swap_is}
-use Rattle.std.proofs.lemmas.List.Sorted.{IsPermutation-keeps, IsPermutation-sym, All-permutation, length_permutation, sorted_far, ranks_by}
+use Rattle.std.proofs.lemmas.List.Sorted.{IsPermutation-keeps, IsPermutation-sym, All-permutation, sorted_far, ranks_by}
 use Rattle.std.proofs.lemmas.List.Elements.{All-from_recursion, recursion_from_All}
 use Rattle.std.specs.List.{AllByRecursion, AllAdjacentBelow}
 use Rattle.std.specs.Cmp.{IsTotalOrder, IsStrictWeakOrder, tied_itself, then_total, on_total, back_total, nat_cmp_total, nat_cmp_is}
 use Rattle.std.specs.Ordering.{nat_cmp, is_lt, ordering_then}
 use Rattle.std.specs.declared.cmp.Ordering.{Ordering}
-use Rattle.std.specs.declared.cmp.Ordering.TheVariants.{Less, Equal, Greater}
+use Rattle.std.specs.declared.cmp.Ordering.TheVariants.{Less, Equal}
 use Rattle.ikey.specs.Orders.{Order}
 use Rattle.ikey.specs.Keys.{Key, IsKey}
 use Rattle.ikey.specs.KeyViews.{key_of}
@@ -58,7 +58,7 @@ module _ {X : Type 0} (R : X → X → Type 0) where
   two_swapped : (xs : List X) (i j : ℕ) → i < length xs → j < length xs → EachTwo xs → EachTwo (swap xs i j)
   two_swapped xs i j p q two k l d other r s =
       let long : length (swap xs i j) ≡ length xs =
-          ap length (sym (swap_is xs i j d p q)) ∙ length-set (set xs i (get_or xs j d)) j (get_or xs i d) ∙ length-set xs i (get_or xs j d) in
+      ap length (sym (swap_is xs i j d p q)) ∙ length-set (set xs i (get_or xs j d)) j (get_or xs i d) ∙ length-set xs i (get_or xs j d) in
       let a = stood xs i j k d p q (omega (arith, r, long)) in
       let b = stood xs i j l d p q (omega (arith, s, long)) in
       let T : X → Type 0 = λ x. R x (get_or (swap xs i j) l d) in

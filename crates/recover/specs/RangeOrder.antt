@@ -12,7 +12,10 @@ use Rattle.recover.specs.declared.ranges.KeyRange.{KeyRange}
 -- the level and the keys of the table, which are in order
 abbrev pub IsRangeOf : Order → PlacedTable → KeyRange → Type 0
 IsRangeOf order placed range =
-    (range.level ≡ placed.level) × IsKey placed.table.smallest (key_of range.smallest) × IsKey placed.table.largest (key_of range.largest) × HasRange order placed.table
+    (range.level ≡ placed.level)
+    × IsKey placed.table.smallest (key_of range.smallest)
+    × IsKey placed.table.largest (key_of range.largest)
+    × HasRange order placed.table
 
 -- those of each table, in their order
 abbrev pub AreRangesOf : Order → List PlacedTable → List KeyRange → Type 0
@@ -24,7 +27,8 @@ AreRangesOf order (placed ∷ tables) (range ∷ ranges) = IsRangeOf order place
 -- by level, then by the smallest key: its user key, and of one user key the newer first
 abbrev pub range_cmp : (List ℕ → List ℕ → Ordering) → KeyRange → KeyRange → Ordering
 range_cmp cmp =
-    then_cmp (on (λ (r : KeyRange). r.level) nat_cmp) (then_cmp (on (λ (r : KeyRange). r.smallest.user.now) cmp) (flip_args (on (λ (r : KeyRange). r.smallest.sequence) nat_cmp)))
+    then_cmp (on (λ (r : KeyRange). r.level) nat_cmp)
+    (then_cmp (on (λ (r : KeyRange). r.smallest.user.now) cmp) (flip_args (on (λ (r : KeyRange). r.smallest.sequence) nat_cmp)))
 
 -- where both are of one level from 1 on, the first ends before the second begins
 abbrev pub EndsBefore : Order → KeyRange → KeyRange → Type 0
