@@ -29,6 +29,17 @@ pub fn fragments_of(alloc: Global, bytes: &[u8]) -> Result<(Vec<Fragment<'_>>, b
     Ok((fragments, cut))
 }
 
+/// Whether a block is one of a log, whole or cut off by the file's end: refused as damaged is one with a fault, by which
+/// it is no block of any log (`each_block`). So a long file is judged by some of its blocks before more of it is read.
+pub fn judge_block(alloc: Global, block: &[u8]) -> Result<(), ReadError>
+    ensures found { IfOk result (λ _. (fragments : List FragmentValue) × (cut : Bool) × AreBlocks block.now fragments cut) }
+    ensures fault { IfErr result (λ e. NamesFault e (λ what. AreFaulty what block.now)) }
+    ensures refused { IfErr result (λ e. RefusesOnly e ((fragments : List FragmentValue) (cut : Bool) → AreBlocks block.now fragments cut → ⊥)) }
+{
+    let _ = fragments_of(alloc, block)?;
+    Ok(())
+}
+
 // Adds the fragments of a block, and answers whether something at its end is cut off.
 fn push_fragments<'a>(fragments: &mut Vec<Fragment<'a>>, block: &'a [u8]) -> Result<bool, ReadError>
     requires { length block.now ≤ 32768 }

@@ -12,6 +12,7 @@ mod record;
 mod writing;
 
 pub use appending::{appended, beginnings, failed_append, one_writing, written_length};
-pub use reading::{faults_are_real, one_kind_of_fault, one_reading, read_log};
+pub use blocks::judge_block;
+pub use reading::{each_block, faults_are_real, one_kind_of_fault, one_reading, read_log};
 pub use record::Tail;
 pub use writing::LogWriter;

@@ -1,10 +1,10 @@
 //! Reading a log (LevelDB's doc/log_format.md and db/log_reader.cc).
 
-ghost use Rattle.std.specs.Prelude.{◌≡◌, List, ℕ, map, IfOk, IfErr};
+ghost use Rattle.std.specs.Prelude.{◌≡◌, ◌*◌, List, ℕ, Bool, take, drop, map, IfOk, IfErr};
 ghost use Rattle.coding.specs.Errors.{NamesFault, RefusesOnly};
 ghost use Rattle.coding.specs.declared.error.Damage.{Damage};
 ghost use Rattle.logfile.specs.Faults.{HasFault};
-ghost use Rattle.logfile.specs.Log.{IsLog};
+ghost use Rattle.logfile.specs.Log.{Fragment, IsLog, AreBlocks};
 ghost use Rattle.logfile.specs.declared.record.Tail.{Tail as TailValue};
 
 use crate::blocks::fragments_of;
@@ -50,4 +50,10 @@ pub fn faults_are_real()
 /// Law: no bytes have faults of two kinds.
 pub fn one_kind_of_fault()
     ensures { (what other : Damage) (bytes : List ℕ) → HasFault what bytes → HasFault other bytes → what ≡ other }
+{}
+
+/// Law: from a block's beginning on, any bytes of a log are blocks of one. So is each of its blocks.
+pub fn each_block()
+    ensures { (bytes : List ℕ) (records : List (List ℕ)) (tail : TailValue) (k n : ℕ) → IsLog bytes records tail
+        → (fragments : List Fragment) × (cut : Bool) × AreBlocks (take n (drop (32768 * k) bytes)) fragments cut }
 {}

@@ -1,5 +1,6 @@
 -- What the steps of reading a directory hand to one another.
-use Rattle.std.specs.Prelude.{◌≡◌, ◌≤◌, ℕ, max, Bool, ◌&&◌, ◌||◌, ◌==◌, nat_lt, nat_le, List, [], ◌∷◌, ◌++◌, map, take, IsTrue}
+use Rattle.std.specs.Prelude.{◌≡◌, ◌≤◌, ℕ, max, Bool, ◌&&◌, ◌||◌, ◌==◌, nat_lt, nat_le, List, [], ◌∷◌, ◌++◌, map, take, Some, IsTrue}
+use Rattle.std.specs.FinMap.{get}
 use Rattle.coding.specs.declared.error.DbError.{DbError}
 use Rattle.coding.specs.declared.error.DbError.TheVariants as error
 use Rattle.coding.specs.declared.error.FileKind.{FileKind}
@@ -7,6 +8,8 @@ use Rattle.coding.specs.declared.error.ReadError.{ReadError}
 use Rattle.coding.specs.declared.error.ReadError.TheVariants as read_error
 use Rattle.store.specs.Files.{Facts, Files}
 use Rattle.ikey.specs.Orders.{Order}
+use Rattle.logfile.specs.Log.{IsLog}
+use Rattle.logfile.specs.declared.record.Tail.{Tail}
 use Rattle.ikey.specs.declared.entry.Entry.{Entry}
 use Rattle.edits.specs.Edit.{HasPastLimit}
 use Rattle.edits.specs.Layout.{fields_of}
@@ -45,6 +48,10 @@ RefusesBytes error.OutOfMemory damaged unsupported = Unit {0}
 RefusesBytes (error.Corrupt file what) damaged unsupported = damaged
 RefusesBytes (error.Unsupported what) damaged unsupported = unsupported
 RefusesBytes _ damaged unsupported = ⊥
+
+-- what the file of this name has is no log
+abbrev pub HoldsNoLog : Files → List ℕ → Type 0
+HoldsNoLog files name = (bytes : List ℕ) (records : List (List ℕ)) (tail : Tail) → get files name ≡ Some bytes → IsLog bytes records tail → ⊥
 
 -- ---- the MANIFEST
 

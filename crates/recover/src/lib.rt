@@ -6,6 +6,7 @@ mod comparing;
 mod files;
 mod laws;
 mod listing;
+mod log_files;
 mod manifest;
 mod origins;
 mod ranges;

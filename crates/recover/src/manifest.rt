@@ -12,7 +12,8 @@ ghost use Rattle.recover.specs.Directory.{AreEdits};
 ghost use Rattle.recover.specs.Reading.{IsCounted, RefusesDirectory, SpellsBeyond, IsBeyondReading};
 ghost use Rattle.recover.specs.Parts.{IsUnchanged, RefusesBytes, number_in, highest_in, SpellsManifest, SpellsNone, ArePastLimit, SaysManifest, HasNoManifest};
 
-use crate::files::{read_file, refusal_in};
+use crate::files::{read_short_file, refusal_in};
+use crate::log_files::read_log_file;
 use coding::{Damage, DbError, FileKind};
 use edits::{
     Edit, Field, FileName, Layout, decode_edit, fold_edits, layouts_are_kept, parse_name,
@@ -22,6 +23,9 @@ use ikey::KeyOrder;
 use logfile::{Tail, read_log};
 use std::alloc::Global;
 use store::Store;
+
+/// `CURRENT` has no more bytes than this: the name of a MANIFEST has 29 at most.
+const MOST_IN_CURRENT: u64 = 64;
 
 /// What a MANIFEST says.
 #[derive(Drop)]
@@ -47,12 +51,14 @@ pub fn read_manifest<K: KeyOrder, S: Store>(
     // Over any store: the layout can be written again.
     ensures kept { IfOk result (λ manifest. IsKept manifest.layout × (manifest.layout.last_sequence < 2 ^ 56)) }
 {
-    let Some(current) = read_file(alloc, store, "CURRENT")? else {
+    let Some(current) =
+        read_short_file(alloc, store, "CURRENT", FileKind::Current, MOST_IN_CURRENT)?
+    else {
         return Err(DbError::Corrupt(FileKind::Current, Damage::Missing));
     };
     let number = manifest_number(&current)?;
     let name = print_name(alloc, FileName::Manifest(number))?;
-    let Some(bytes) = read_file(alloc, store, name.as_str())? else {
+    let Some(bytes) = read_log_file(alloc, store, name.as_str(), FileKind::Manifest)? else {
         return Err(DbError::Corrupt(FileKind::Manifest, Damage::Missing));
     };
     let manifest = decode_manifest::<K>(alloc, &bytes)?;
