@@ -2,12 +2,15 @@
 use Rattle.std.proofs.Common.{◌^◌, ◌≡◌, ◌⊎◌, ◌<◌, ◌≤◌, ℕ, Bool, None, Result, Ok, List, [], ◌∷◌, ◌++◌, IsTrue, map, length, inl, inr, refl, sym, ap, subst, ◌∙◌}
 use Rattle.coding.specs.declared.error.DbError.{DbError}
 use Rattle.coding.specs.declared.error.DbError.TheVariants.{OutOfMemory, Io, Corrupt, Unsupported}
+use Rattle.cursor.specs.declared.cursor.Cursor.{Ghosts as OfCursor}
 use Rattle.cursor.specs.Merging.{listed}
 use Rattle.cursor.specs.Moves.{Moves, Stays, Refuses}
 use Rattle.cursor.specs.Places.{Cmp, Listed, within, to_first, to_next}
 use Rattle.ikey.specs.declared.entry.Entry.{Entry}
 use Rattle.ikey.specs.Entries.{InternalEntry, Pair, entry_of}
 use Rattle.ikey.specs.Keys.{Key, IsKey}
+use Rattle.store.specs.declared.has_store.HasStore.{Ghosts as OfSource}
+use Rattle.store.specs.declared.store.Store.{Ghosts as OfStore}
 use Rattle.store.specs.Files.{Facts}
 use Rattle.table.specs.Reading.{IsErrorStill, Reads}
 use Rattle.table.specs.Table.{ArePairs}
@@ -126,15 +129,14 @@ module _ {C H S : Type 0} (cmp : Cmp) (deep : List ℕ → Bool) (facts : S → 
 
 -- ---- the same job, with lists that are the same
 
-module _ {K C H S : Type 0} (cmp : Cmp) (deep : List ℕ → Bool) (facts : S → Facts) (store_of : H → S) (with_store : H → S → H) (gathers : H → ℕ → Type 0)
-    (lists : C → H → Listed → Type 0) (keeps : C → H → H → Type 0) (goes_over : C → ℕ → Type 0) (job : Job K C) (source : H) (next : ℕ) where
+module _ {K C H S : Type 0} (cmp : Cmp) (deep : List ℕ → Bool) (of_store : OfStore S) (of_source : OfSource H S) (of_cursor : OfCursor C K H) (job : Job K C) (source : H) (next : ℕ) where
   pub job-more : (came back rest : List InternalEntry) → back ≡ rest
-      → IsBetween cmp deep facts store_of with_store gathers lists keeps goes_over job source next came back → IsBetween cmp deep facts store_of with_store gathers lists keeps goes_over job source next came rest
-  job-more came back rest e h = subst (λ (l : List InternalEntry). IsBetween cmp deep facts store_of with_store gathers lists keeps goes_over job source next came l) e h
+      → IsBetween cmp deep of_store of_source of_cursor job source next came back → IsBetween cmp deep of_store of_source of_cursor job source next came rest
+  job-more came back rest e h = subst (λ (l : List InternalEntry). IsBetween cmp deep of_store of_source of_cursor job source next came l) e h
 
   pub job-all : (came front rest : List InternalEntry) → came ≡ front
-      → IsBetween cmp deep facts store_of with_store gathers lists keeps goes_over job source next came rest → IsBetween cmp deep facts store_of with_store gathers lists keeps goes_over job source next front rest
-  job-all came front rest e h = subst (λ (l : List InternalEntry). IsBetween cmp deep facts store_of with_store gathers lists keeps goes_over job source next l rest) e h
+      → IsBetween cmp deep of_store of_source of_cursor job source next came rest → IsBetween cmp deep of_store of_source of_cursor job source next front rest
+  job-all came front rest e h = subst (λ (l : List InternalEntry). IsBetween cmp deep of_store of_source of_cursor job source next l rest) e h
 
 -- ---- a job begins
 

@@ -8,6 +8,7 @@ use Rattle.compact.specs.JobEdits.{IsEditOf}
 use Rattle.compact.specs.declared.job.Job.{Job}
 use Rattle.compact.specs.declared.job.Progress.{Progress}
 use Rattle.std.specs.declared.cmp.Ordering.TheVariants.{Less}
+use Rattle.cursor.specs.declared.cursor.Cursor.{Ghosts as OfCursor}
 use Rattle.cursor.specs.Merging.{listed}
 use Rattle.cursor.specs.Places.{Cmp, Listed, within}
 use Rattle.ikey.specs.declared.entry.Entry.{Entry}
@@ -16,6 +17,8 @@ use Rattle.ikey.specs.Entries.{InternalEntry, Pair, entry_of, value_kept, value_
 use Rattle.ikey.specs.Keys.{Key, IsKey}
 use Rattle.ikey.specs.Orders.{order_of}
 use Rattle.ikey.specs.Sources.{AreSorted}
+use Rattle.store.specs.declared.has_store.HasStore.{Ghosts as OfSource}
+use Rattle.store.specs.declared.store.Store.{Ghosts as OfStore}
 use Rattle.store.specs.Files.{Facts}
 use Rattle.table.specs.Table.{ArePairs}
 use Rattle.ikey.specs.Views.{Among}
@@ -83,10 +86,11 @@ pub record IsJob {C H S : Type 0} (cmp : Cmp) (deep : List ℕ → Bool) (facts 
   pub ungathered : AreDisjoint (gathers source) (IsMine w next)
   pub outside : AreDisjoint (over cursor) (IsMine w next)
 
--- the same of a job as its fields have it
-abbrev pub IsBetween : {K C H S : Type 0} → Cmp → (List ℕ → Bool) → (S → Facts) → (H → S) → (H → S → H) → (H → ℕ → Type 0) → (C → H → Listed → Type 0) → (C → H → H → Type 0) → (C → ℕ → Type 0) → Job K C → H → ℕ → List InternalEntry → List InternalEntry → Type 0
-IsBetween cmp deep facts store_of with_store gathers lists keeps over job source next came rest =
-    IsJob cmp deep facts store_of with_store gathers lists keeps over job.last.items job.cursor job.selection job.outputs source next came rest
+-- The same of a job as its fields have it, by what the traits say of its store, of the source that has it and of the cursor.
+abbrev pub IsBetween : {K C H S : Type 0} → Cmp → (List ℕ → Bool) → OfStore S → OfSource H S → OfCursor C K H → Job K C → H → ℕ → List InternalEntry → List InternalEntry → Type 0
+IsBetween cmp deep of_store of_source of_cursor job source next came rest =
+    IsJob cmp deep of_store.facts of_source.store_of of_source.with_store of_source.gathers of_cursor.lists of_cursor.keeps of_cursor.over
+    job.last.items job.cursor job.selection job.outputs source next came rest
 
 -- the table at hand was so before, or has a number that was drawn since
 abbrev pub KeepsMine : Written → ℕ → Written → ℕ → Type 0

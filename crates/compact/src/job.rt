@@ -97,7 +97,7 @@ impl<K: KeyOrder, C: Drop> Job<K, C> {
             → IsTrue (S.facts (H.store_of source.new)).faithful
             → C.lists cursor source.old at → ReadsApart S.facts H.store_of H.with_store H.gathers C.keeps cursor (IsToCome next)
             → AreDisjoint (H.gathers source.old) (IsToCome next) → AreDisjoint (C.over cursor) (IsToCome next)
-            → IsBetween K.cmp deep S.facts H.store_of H.with_store H.gathers C.lists C.keeps C.over job source.new next [] at.entries) }
+            → IsBetween K.cmp deep S.Store H.HasStore C.Cursor job source.new next [] at.entries) }
     {
         let mut cursor = cursor;
         let selection = Selection::new(alloc, snapshots)?;
@@ -144,25 +144,21 @@ impl<K: KeyOrder, C: Drop> Job<K, C> {
         ensures stood { OnOk result ((S.facts (H.store_of source.new)).failures ≡ (S.facts (H.store_of source.old)).failures) }
         ensures refused { IfErr result (λ e. RefusesEntry e (S.facts (H.store_of source.old)) (S.facts (H.store_of source.new))
             (IsTrue (S.facts (H.store_of source.new)).faithful → (came : List InternalEntry) (rest : List InternalEntry)
-            → IsBetween K.cmp (D.covers deeper.now) S.facts H.store_of H.with_store H.gathers C.lists C.keeps C.over self.old
-            source.old numbers.old.next came rest → HaveOwnSequences (came ++ rest) → ⊥)
+            → IsBetween K.cmp (D.covers deeper.now) S.Store H.HasStore C.Cursor self.old source.old numbers.old.next came rest
+            → HaveOwnSequences (came ++ rest) → ⊥)
             (IsTrue (S.facts (H.store_of source.new)).faithful → (came : List InternalEntry) (rest : List InternalEntry)
-            → IsBetween K.cmp (D.covers deeper.now) S.facts H.store_of H.with_store H.gathers C.lists C.keeps C.over self.old
-            source.old numbers.old.next came rest
+            → IsBetween K.cmp (D.covers deeper.now) S.Store H.HasStore C.Cursor self.old source.old numbers.old.next came rest
             → IsLimited C.limited self.old source.old ⊎ AreLarge (map entry_of (came ++ rest)))
             (2 ^ 62 ≤ numbers.new.next)) }
         ensures limits { OnOk result ((came : List InternalEntry) (rest : List InternalEntry)
             → IsTrue (S.facts (H.store_of source.new)).faithful
-            → IsBetween K.cmp (D.covers deeper.now) S.facts H.store_of H.with_store H.gathers C.lists C.keeps C.over self.old
-            source.old numbers.old.next came rest
+            → IsBetween K.cmp (D.covers deeper.now) S.Store H.HasStore C.Cursor self.old source.old numbers.old.next came rest
             → IsLimited C.limited self.new source.new → IsLimited C.limited self.old source.old) }
         ensures sliced { IfOk result (λ progress. (came : List InternalEntry) (rest : List InternalEntry)
             → IsTrue (S.facts (H.store_of source.new)).faithful
-            → IsBetween K.cmp (D.covers deeper.now) S.facts H.store_of H.with_store H.gathers C.lists C.keeps C.over self.old
-            source.old numbers.old.next came rest
+            → IsBetween K.cmp (D.covers deeper.now) S.Store H.HasStore C.Cursor self.old source.old numbers.old.next came rest
             → (front : List InternalEntry) × (back : List InternalEntry) × (rest ≡ front ++ back) × IsStepOf budget progress front back
-            × IsBetween K.cmp (D.covers deeper.now) S.facts H.store_of H.with_store H.gathers C.lists C.keeps C.over self.new
-            source.new numbers.new.next (came ++ front) back) }
+            × IsBetween K.cmp (D.covers deeper.now) S.Store H.HasStore C.Cursor self.new source.new numbers.new.next (came ++ front) back) }
     {
         for merged in 0..budget.max(1) {
             if !self.cursor.stands() {
@@ -258,25 +254,22 @@ impl<K: KeyOrder, C: Drop> Job<K, C> {
         ensures refused { IfErr result (λ e. RefusesEntry e (S.facts (H.store_of source.old)) (S.facts (H.store_of source.new))
             (IsTrue (S.facts (H.store_of source.new)).faithful
             → (came : List InternalEntry) (entry : InternalEntry) (rest : List InternalEntry)
-            → IsBetween K.cmp (D.covers deeper.now) S.facts H.store_of H.with_store H.gathers C.lists C.keeps C.over self.old
-            source.old numbers.old.next came (entry ∷ rest) → HaveOwnSequences (came ++ entry ∷ rest) → ⊥)
+            → IsBetween K.cmp (D.covers deeper.now) S.Store H.HasStore C.Cursor self.old source.old numbers.old.next came (entry ∷ rest)
+            → HaveOwnSequences (came ++ entry ∷ rest) → ⊥)
             (IsTrue (S.facts (H.store_of source.new)).faithful
             → (came : List InternalEntry) (entry : InternalEntry) (rest : List InternalEntry)
-            → IsBetween K.cmp (D.covers deeper.now) S.facts H.store_of H.with_store H.gathers C.lists C.keeps C.over self.old
-            source.old numbers.old.next came (entry ∷ rest)
+            → IsBetween K.cmp (D.covers deeper.now) S.Store H.HasStore C.Cursor self.old source.old numbers.old.next came (entry ∷ rest)
             → IsLimited C.limited self.old source.old ⊎ AreLarge (map entry_of (came ++ entry ∷ rest)))
             (2 ^ 62 ≤ numbers.new.next)) }
         ensures limits { OnOk result ((came : List InternalEntry) (entry : InternalEntry) (rest : List InternalEntry)
             → IsTrue (S.facts (H.store_of source.new)).faithful
-            → IsBetween K.cmp (D.covers deeper.now) S.facts H.store_of H.with_store H.gathers C.lists C.keeps C.over self.old
-            source.old numbers.old.next came (entry ∷ rest)
+            → IsBetween K.cmp (D.covers deeper.now) S.Store H.HasStore C.Cursor self.old source.old numbers.old.next came (entry ∷ rest)
             → IsLimited C.limited self.new source.new → IsLimited C.limited self.old source.old) }
         ensures merged { OnOk result ((came : List InternalEntry) (entry : InternalEntry) (rest : List InternalEntry)
             → IsTrue (S.facts (H.store_of source.new)).faithful
-            → IsBetween K.cmp (D.covers deeper.now) S.facts H.store_of H.with_store H.gathers C.lists C.keeps C.over self.old
-            source.old numbers.old.next came (entry ∷ rest)
-            → IsBetween K.cmp (D.covers deeper.now) S.facts H.store_of H.with_store H.gathers C.lists C.keeps C.over self.new
-            source.new numbers.new.next (came ++ entry ∷ []) rest) }
+            → IsBetween K.cmp (D.covers deeper.now) S.Store H.HasStore C.Cursor self.old source.old numbers.old.next came (entry ∷ rest)
+            → IsBetween K.cmp (D.covers deeper.now) S.Store H.HasStore C.Cursor self.new source.new numbers.new.next
+            (came ++ entry ∷ []) rest) }
     {
         let bytes = self.cursor.key(source);
         if !comes_behind::<K>(self.last.as_slice(), bytes) {

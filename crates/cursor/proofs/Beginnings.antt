@@ -16,7 +16,7 @@ use Rattle.ikey.specs.Keys.{Key, IsFirstKey, key_cmp, tag, tag_of}
 use Rattle.ikey.specs.Views.{Among}
 use Rattle.cursor.specs.Places.{Cmp, Rises, is_less, is_below, leading, first_from}
 use Rattle.cursor.specs.Views.{IsVisible, is_user_below}
-use Rattle.cursor.specs.Searches.{SearchesOn, HasPassedNone, PassesLower, IsBetween, FromOn}
+use Rattle.cursor.specs.Searches.{SearchesOn, HasPassedNone, PassesLower, StandsBetween, FromOn}
 use Rattle.cursor.proofs.Orders.{true_or_false, less_is, is_less_of}
 use Rattle.cursor.proofs.Fronts.{among_get, on_test, get_leading, failing_fails}
 use Rattle.cursor.proofs.Singles.{leading_at}
@@ -106,7 +106,7 @@ module _ (cmp : Cmp) (total : IsTotalOrder cmp) (exact : IsAntisymmetric cmp) wh
   module _ (entries : List InternalEntry) (rises : Rises cmp entries) (sequence : ℕ) where
     -- ---- past a user key, from between the lower ones and the others
 
-    pub past_on : (user : List ℕ) (n : ℕ) → IsBetween cmp entries n user → SearchesOn cmp entries sequence (λ (u : List ℕ). not (is_less (cmp user u))) n true user
+    pub past_on : (user : List ℕ) (n : ℕ) → StandsBetween cmp entries n user → SearchesOn cmp entries sequence (λ (u : List ℕ). not (is_less (cmp user u))) n true user
     past_on user n h = record {
       lower = up_to_lower user;
       passed = λ k entry less e v. of_not (is_less (cmp user entry.key.user)) (h.front k entry less e);
@@ -120,7 +120,7 @@ module _ (cmp : Cmp) (total : IsTotalOrder cmp) (exact : IsAntisymmetric cmp) wh
     past_back user n h k other le e v t = true_not_false (is_less (cmp other.key.user user)) t (h k other le e)
 
     -- an entry stands between those of lower user keys and the others, but for newer ones of its own
-    pub at_entry : (n : ℕ) (x : InternalEntry) → slice_get entries n ≡ Some x → IsBetween cmp entries n x.key.user
+    pub at_entry : (n : ℕ) (x : InternalEntry) → slice_get entries n ≡ Some x → StandsBetween cmp entries n x.key.user
     at_entry n x at = record {
       front = λ k entry less e. later_no_lower cmp total exact entry.key x.key (rises_get cmp entries k n entry x rises less e at);
       rest = λ k entry le e. elim (index_cases k n) [
@@ -158,7 +158,7 @@ module _ (cmp : Cmp) (total : IsTotalOrder cmp) (exact : IsAntisymmetric cmp) wh
       | inr s ↦ ap (λ (a : List ℕ). is_less (cmp a user)) s.0 ∙ t
     ]
 
-    pub user_between : (user : List ℕ) → IsBetween cmp entries (leading (is_user_below cmp user) entries) user
+    pub user_between : (user : List ℕ) → StandsBetween cmp entries (leading (is_user_below cmp user) entries) user
     user_between user = record {
       front = λ k entry less e. less_or_not cmp total exact entry.key.user user (less_is (cmp entry.key.user user) (leading_passes (is_user_below cmp user) entries k entry less e));
       rest = λ k entry le e. leading_fails (is_user_below cmp user) (user_initial user) k entry le e;

@@ -10,7 +10,7 @@ use Rattle.cursor.specs.Places.{Cmp, Listed, Rises, is_less, within, index_befor
 use Rattle.cursor.specs.Merging.{listed, ahead, behind}
 use Rattle.cursor.specs.Motions.{entry_at}
 use Rattle.cursor.specs.Views.{IsVisible, is_user_below}
-use Rattle.cursor.specs.Searches.{IsBetween, FromOn}
+use Rattle.cursor.specs.Searches.{StandsBetween, FromOn}
 use Rattle.cursor.proofs.Leading.{within_some}
 use Rattle.cursor.proofs.Beginnings.{at_entry, behind_entry, user_between, again_at}
 
@@ -48,13 +48,13 @@ module _ {C S : Type 0} (cmp : Cmp) (total : IsTotalOrder cmp) (exact : IsAntisy
   -- ---- beside the pair
 
   module _ (sequence : ℕ) (entry : InternalEntry) (user : List ℕ) (same : user ≡ entry.key.user) where
-    pub here_ahead : (place : Option ℕ) → lists c s (listed entries place) → entry_at entries place ≡ Some entry → (index : ℕ) × lists c s (listed entries (within entries index)) × IsBetween cmp entries index user
+    pub here_ahead : (place : Option ℕ) → lists c s (listed entries place) → entry_at entries place ≡ Some entry → (index : ℕ) × lists c s (listed entries (within entries index)) × StandsBetween cmp entries index user
     here_ahead place l e =
         let at = entry_place entries place entry e in
         let less = slice_get_within entries at.0 entry at.2 in (
           at.0,
           subst (λ (p : Option ℕ). lists c s (listed entries p)) (at.1 ∙ sym (within_some entries at.0 less)) l,
-          subst (IsBetween cmp entries at.0) (sym same) (at_entry cmp total exact entries (rises c s (listed entries place) l) sequence at.0 entry at.2),
+          subst (StandsBetween cmp entries at.0) (sym same) (at_entry cmp total exact entries (rises c s (listed entries place) l) sequence at.0 entry at.2),
         )
 
     pub here_behind : (place : Option ℕ) → lists c s (listed entries place) → entry_at entries place ≡ Some entry
@@ -67,11 +67,11 @@ module _ {C S : Type 0} (cmp : Cmp) (total : IsTotalOrder cmp) (exact : IsAntisy
               (behind_entry cmp total exact entries (rises c s (listed entries place) l) sequence at.0 entry at.2),
         )
 
-    pub ahead_there : lists c s (listed entries (ahead (is_user_below cmp entry.key.user) entries)) → (index : ℕ) × lists c s (listed entries (within entries index)) × IsBetween cmp entries index user
+    pub ahead_there : lists c s (listed entries (ahead (is_user_below cmp entry.key.user) entries)) → (index : ℕ) × lists c s (listed entries (within entries index)) × StandsBetween cmp entries index user
     ahead_there l = (
       leading (is_user_below cmp entry.key.user) entries,
       l,
-      subst (IsBetween cmp entries (leading (is_user_below cmp entry.key.user) entries)) (sym same)
+      subst (StandsBetween cmp entries (leading (is_user_below cmp entry.key.user) entries)) (sym same)
           (user_between cmp total exact entries (rises c s (listed entries (ahead (is_user_below cmp entry.key.user) entries)) l) sequence entry.key.user),
     )
 

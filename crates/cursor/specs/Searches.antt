@@ -31,7 +31,7 @@ abbrev pub FromOn : List InternalEntry → ℕ → (InternalEntry → Type 0) �
 FromOn entries index is = (k : ℕ) (entry : InternalEntry) → index ≤ k → slice_get entries k ≡ Some entry → is entry
 
 -- the index stands between the entries of no higher user keys and those of no lower ones
-pub record IsBetween (cmp : Cmp) (entries : List InternalEntry) (index : ℕ) (user : List ℕ) : Type 0 where
+pub record StandsBetween (cmp : Cmp) (entries : List InternalEntry) (index : ℕ) (user : List ℕ) : Type 0 where
   pub front : InFront entries index (λ entry. is_less (cmp user entry.key.user) ≡ false)
   pub rest : FromOn entries index (λ entry. is_less (cmp entry.key.user user) ≡ false)
 

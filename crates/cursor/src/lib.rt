@@ -11,6 +11,7 @@ mod list_cursor;
 mod merge;
 mod scanning;
 mod standing;
+mod stepping;
 mod visible;
 mod walking;
 

@@ -1,17 +1,18 @@
 //! Where the cursor beneath a walk stands, and how it comes beside the walk's pair.
 
-ghost use Rattle.std.specs.Prelude.{◌≡◌, ◌<◌, ◌^◌, ℕ, Bool, List, Option, Some, false, IsTrue, IfErr, OnOk, slice_get};
+ghost use Rattle.std.specs.Prelude.{◌≡◌, ◌<◌, ◌^◌, ℕ, List, Option, Some, false, IsTrue, OnOk, slice_get};
 ghost use Rattle.std.specs.Option.{option_copied};
 ghost use Rattle.ikey.specs.Entries.{InternalEntry};
 ghost use Rattle.table.specs.Reading.{IsStill};
-ghost use Rattle.cursor.specs.Places.{Cmp, Listed, within, index_before, is_less};
+ghost use Rattle.cursor.specs.Places.{within, index_before, is_less};
 ghost use Rattle.cursor.specs.Moves.{RefusesMove};
-ghost use Rattle.cursor.specs.Merging.{listed, ahead, behind};
-ghost use Rattle.cursor.specs.Views.{IsVisible, is_user_below};
-ghost use Rattle.cursor.specs.Searches.{Wanders, IsBetween, FromOn};
+ghost use Rattle.cursor.specs.Merging.{listed};
+ghost use Rattle.cursor.specs.Views.{IsVisible};
+ghost use Rattle.cursor.specs.Searches.{Wanders, StandsBetween, FromOn};
 ghost use Rattle.cursor.specs.Standing.{StandsAt, bound_if};
 
 use crate::cursor::Cursor;
+use crate::stepping::step_ahead;
 use coding::DbError;
 use ikey::{KeyOrder, seek_key};
 use std::alloc::Global;
@@ -42,7 +43,8 @@ pub fn stand_ahead<K: KeyOrder, S, C: Cursor<K, S>>(
         ((entries : List InternalEntry) (entry : InternalEntry) (value : List ℕ) → IsVisible entries sequence entry
         → user.now ≡ entry.key.user
         → StandsAt K.cmp C.lists position cursor.old source.old entries entry value
-        → (index : ℕ) × C.lists cursor.new source.new (listed entries (within entries index)) × IsBetween K.cmp entries index user.now) }
+        → (index : ℕ) × C.lists cursor.new source.new (listed entries (within entries index))
+        × StandsBetween K.cmp entries index user.now) }
     ensures wanders { Wanders C.facts C.lists C.keeps C.limited C.leaves C.over cursor.old cursor.new source.old source.new }
     ensures still { IsStill (C.facts source.old) (C.facts source.new) result }
     ensures refused { RefusesMove C.facts C.lists C.limited cursor.old source.old source.new result }
@@ -50,7 +52,7 @@ pub fn stand_ahead<K: KeyOrder, S, C: Cursor<K, S>>(
     match position {
         Position::Here => Ok(()),
         Position::Behind => {
-            step_on(cursor, alloc, source)?;
+            step_ahead(cursor, alloc, source)?;
             Ok(())
         }
         Position::Astray => {
@@ -88,27 +90,6 @@ pub fn stand_behind<K: KeyOrder, S, C: Cursor<K, S>>(
             Ok(())
         }
     }
-}
-
-// From the last entry in front of a place to the first that isn't.
-fn step_on<K: KeyOrder, S, C: Cursor<K, S>>(
-    cursor: &mut C,
-    alloc: Global,
-    source: &mut S,
-) -> Result<(), DbError>
-    ensures steps { IsTrue (C.facts source.new).faithful → OnOk result
-        ((entries : List InternalEntry) (test : InternalEntry → Bool) → C.lists cursor.old source.old (listed entries (behind test entries))
-        → C.lists cursor.new source.new (listed entries (ahead test entries))) }
-    ensures wanders { Wanders C.facts C.lists C.keeps C.limited C.leaves C.over cursor.old cursor.new source.old source.new }
-    ensures still { IsStill (C.facts source.old) (C.facts source.new) result }
-    ensures refused { RefusesMove C.facts C.lists C.limited cursor.old source.old source.new result }
-{
-    if cursor.stands() {
-        cursor.next(alloc, source)?;
-        return Ok(());
-    }
-    cursor.first(alloc, source)?;
-    Ok(())
 }
 
 // Has the cursor stand on the visible entry of the user key.

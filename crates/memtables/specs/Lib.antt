@@ -1,4 +1,5 @@
 pub mod Changes
 pub mod Memories
+pub mod Motions
 pub mod PlaceLaws
 pub mod Places

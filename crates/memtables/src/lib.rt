@@ -5,6 +5,7 @@
 mod laws;
 mod memories_cursor;
 mod memory_tables;
+mod motion;
 mod users;
 
 pub use laws::changes_are_kept;

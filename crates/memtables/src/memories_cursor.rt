@@ -1,6 +1,7 @@
 //! A cursor over one of the memory tables of an open database (LevelDB's db/memtable.cc, MemTableIterator).
 
 use crate::memory_tables::MemoryTables;
+use crate::motion::Motion;
 use coding::DbError;
 use cursor::Cursor;
 use ikey::KeyOrder;
@@ -80,11 +81,11 @@ impl<K: KeyOrder> Cursor<K, MemoryTables<K>> for MemoriesCursor<K> {
     ghost over = { λ cursor number. ⊥ };
 
     fn first(&mut self, alloc: Global, source: &mut MemoryTables<K>) -> Result<(), DbError> {
-        source.cursor_first(alloc, self.generation, &mut self.cursor)
+        source.move_cursor(alloc, self.generation, &mut self.cursor, Motion::First)
     }
 
     fn last(&mut self, alloc: Global, source: &mut MemoryTables<K>) -> Result<(), DbError> {
-        source.cursor_last(alloc, self.generation, &mut self.cursor)
+        source.move_cursor(alloc, self.generation, &mut self.cursor, Motion::Last)
     }
 
     fn seek(
@@ -93,15 +94,20 @@ impl<K: KeyOrder> Cursor<K, MemoryTables<K>> for MemoriesCursor<K> {
         source: &mut MemoryTables<K>,
         target: &[u8],
     ) -> Result<(), DbError> {
-        source.cursor_seek(alloc, self.generation, &mut self.cursor, target)
+        source.move_cursor(
+            alloc,
+            self.generation,
+            &mut self.cursor,
+            Motion::Seek(target),
+        )
     }
 
     fn next(&mut self, alloc: Global, source: &mut MemoryTables<K>) -> Result<(), DbError> {
-        source.cursor_next(alloc, self.generation, &mut self.cursor)
+        source.move_cursor(alloc, self.generation, &mut self.cursor, Motion::Next)
     }
 
     fn prev(&mut self, alloc: Global, source: &mut MemoryTables<K>) -> Result<(), DbError> {
-        source.cursor_prev(alloc, self.generation, &mut self.cursor)
+        source.move_cursor(alloc, self.generation, &mut self.cursor, Motion::Prev)
     }
 
     fn stands(&self) -> bool {

@@ -8,10 +8,10 @@ ghost use Rattle.ikey.specs.Sources.{IsAnswer};
 ghost use Rattle.memtables.specs.Memories.{operation_bytes};
 ghost use Rattle.memtable.specs.Newest.{IsNew};
 
+use crate::motion::{Motion, go};
 use crate::users::Users;
 use batch::Operation;
 use coding::{Bytes, Damage, DbError, FileKind};
-use cursor::Cursor;
 use ikey::{Entry, KeyOrder, newest_in_front, unseen_in_front};
 use memtable::MemTable;
 use std::alloc::{AllocError, Global};
@@ -54,15 +54,14 @@ impl<K: KeyOrder> Model for MemoryTables<K> {
 
 impl<K: KeyOrder> MemoryTables<K> {
     ghost use Rattle.std.specs.Prelude.{◌≡◌, ◌==◌, ◌+◌, ◌-◌, ◌++◌, ◌∷◌, [], ◌<◌, ◌≤◌, ◌^◌};
-    ghost use Rattle.std.specs.Prelude.{length, is_some, IsTrue, None, Some, IfOk, IfErr, OnOk, OnErr};
+    ghost use Rattle.std.specs.Prelude.{length, is_some, None, Some, IfOk, IfErr, OnOk, OnErr};
     ghost use Rattle.std.specs.Option.{option_copied};
     ghost use Rattle.cursor.specs.Moves.{ListsNone, Moves, Refuses};
-    ghost use Rattle.cursor.specs.Places.{to_first, to_key, to_last, to_next, to_prev};
-    ghost use Rattle.ikey.specs.Keys.{Key, IsKey};
     ghost use Rattle.ikey.specs.Sources.{IsAnswer};
     ghost use Rattle.memtables.specs.Changes.{IsFlushed, IsRemembered, IsSealed, IsUsed, IsWritten, KeepsUsed};
     ghost use Rattle.memtables.specs.Memories.{AreMemories, HasRoom, IsAlone, Memories, logged_in};
     ghost use Rattle.memtables.specs.Memories.{operation_bytes, sealed_in, sealed_inserts, table_in};
+    ghost use Rattle.memtables.specs.Motions.{Aimed, Leads, MayGo};
     ghost use Rattle.memtables.specs.Places.{LeavesMemories, ListsTable, StaysInMemories};
     ghost use Rattle.memtable.specs.Contents.{size_of};
     ghost use Rattle.recover.specs.Entries.{RiseAbove, greatest, made_entry, entries_of};
@@ -291,118 +290,26 @@ impl<K: KeyOrder> MemoryTables<K> {
         self.older.get(&generation)
     }
 
-    /// Moves a cursor to the first entry that it lists of the table of a generation. The entries stay. Corrupt, where there
-    /// is no such table.
-    pub(crate) fn cursor_first(
+    /// Moves a cursor over the table of a generation. The entries stay. Corrupt, where there is no such table.
+    pub(crate) fn move_cursor(
         &mut self,
         alloc: Global,
         generation: u64,
         cursor: &mut MemoryCursor<K>,
+        motion: Motion<'_>,
     ) -> Result<(), DbError>
-        ensures moves { Moves (λ memories. memory_facts)
-            (λ place memories at. ListsTable K.cmp generation place memories at) cursor.old cursor.new self.old self.new result to_first }
+        requires { MayGo motion (is_some cursor.old.node) }
+        ensures moves { Leads K.cmp motion.entry (Moves (λ memories. memory_facts)
+            (λ place memories at. ListsTable K.cmp generation place memories at) cursor.old cursor.new self.old self.new result) }
         ensures stays { StaysInMemories K.cmp cursor.old cursor.new self.old self.new }
-        ensures refused { IfErr result (λ e. Refuses e memory_facts memory_facts
-            (ListsNone (λ place memories at. ListsTable K.cmp generation place memories at) cursor.old self.old) ⊥) }
+        ensures refused { IfErr result (λ e. Refuses e memory_facts memory_facts (Aimed motion.entry
+            (ListsNone (λ place memories at. ListsTable K.cmp generation place memories at) cursor.old self.old)) ⊥) }
     {
         if generation == self.generation {
-            return cursor.first(alloc, &mut self.current);
+            return go(cursor, alloc, &mut self.current, motion);
         }
         match self.older.get_mut(&generation) {
-            Some(table) => cursor.first(alloc, table),
-            None => Err(missing_table()),
-        }
-    }
-
-    /// Moves it to the last one. The entries stay.
-    pub(crate) fn cursor_last(
-        &mut self,
-        alloc: Global,
-        generation: u64,
-        cursor: &mut MemoryCursor<K>,
-    ) -> Result<(), DbError>
-        ensures moves { Moves (λ memories. memory_facts)
-            (λ place memories at. ListsTable K.cmp generation place memories at) cursor.old cursor.new self.old self.new result to_last }
-        ensures stays { StaysInMemories K.cmp cursor.old cursor.new self.old self.new }
-        ensures refused { IfErr result (λ e. Refuses e memory_facts memory_facts
-            (ListsNone (λ place memories at. ListsTable K.cmp generation place memories at) cursor.old self.old) ⊥) }
-    {
-        if generation == self.generation {
-            return cursor.last(alloc, &mut self.current);
-        }
-        match self.older.get_mut(&generation) {
-            Some(table) => cursor.last(alloc, table),
-            None => Err(missing_table()),
-        }
-    }
-
-    /// Moves it to the first one whose internal key isn't below the target. The entries stay.
-    pub(crate) fn cursor_seek(
-        &mut self,
-        alloc: Global,
-        generation: u64,
-        cursor: &mut MemoryCursor<K>,
-        target: &[u8],
-    ) -> Result<(), DbError>
-        ensures moves { (key : Key) → IsKey target.now key → Moves (λ memories. memory_facts)
-            (λ place memories at. ListsTable K.cmp generation place memories at) cursor.old cursor.new self.old self.new result
-            (to_key K.cmp key) }
-        ensures stays { StaysInMemories K.cmp cursor.old cursor.new self.old self.new }
-        ensures refused { IfErr result (λ e. Refuses e memory_facts memory_facts
-            ((key : Key) → IsKey target.now key → ListsNone
-            (λ place memories at. ListsTable K.cmp generation place memories at) cursor.old self.old) ⊥) }
-    {
-        if generation == self.generation {
-            return cursor.seek(alloc, &mut self.current, target);
-        }
-        match self.older.get_mut(&generation) {
-            Some(table) => cursor.seek(alloc, table, target),
-            None => Err(missing_table()),
-        }
-    }
-
-    /// Moves it to the one behind. The entries stay.
-    pub(crate) fn cursor_next(
-        &mut self,
-        alloc: Global,
-        generation: u64,
-        cursor: &mut MemoryCursor<K>,
-    ) -> Result<(), DbError>
-        requires { IsTrue (is_some cursor.old.node) }
-        ensures moves { Moves (λ memories. memory_facts)
-            (λ place memories at. ListsTable K.cmp generation place memories at) cursor.old cursor.new self.old self.new result to_next }
-        ensures stays { StaysInMemories K.cmp cursor.old cursor.new self.old self.new }
-        ensures refused { IfErr result (λ e. Refuses e memory_facts memory_facts
-            (ListsNone (λ place memories at. ListsTable K.cmp generation place memories at) cursor.old self.old) ⊥) }
-    {
-        if generation == self.generation {
-            return cursor.next(alloc, &mut self.current);
-        }
-        match self.older.get_mut(&generation) {
-            Some(table) => cursor.next(alloc, table),
-            None => Err(missing_table()),
-        }
-    }
-
-    /// Moves it to the one in front. The entries stay.
-    pub(crate) fn cursor_prev(
-        &mut self,
-        alloc: Global,
-        generation: u64,
-        cursor: &mut MemoryCursor<K>,
-    ) -> Result<(), DbError>
-        requires { IsTrue (is_some cursor.old.node) }
-        ensures moves { Moves (λ memories. memory_facts)
-            (λ place memories at. ListsTable K.cmp generation place memories at) cursor.old cursor.new self.old self.new result to_prev }
-        ensures stays { StaysInMemories K.cmp cursor.old cursor.new self.old self.new }
-        ensures refused { IfErr result (λ e. Refuses e memory_facts memory_facts
-            (ListsNone (λ place memories at. ListsTable K.cmp generation place memories at) cursor.old self.old) ⊥) }
-    {
-        if generation == self.generation {
-            return cursor.prev(alloc, &mut self.current);
-        }
-        match self.older.get_mut(&generation) {
-            Some(table) => cursor.prev(alloc, table),
+            Some(table) => go(cursor, alloc, table, motion),
             None => Err(missing_table()),
         }
     }

@@ -12,11 +12,11 @@ returns-in-Here-clause-stands g c = λ t entries entry value v same h.
     let here = rw c.in-Here.is at h in
     here_ahead g.K.KeyOrder.cmp g.met.K.KeyOrder.total g.met.K.KeyOrder.exact g.C.Cursor.lists g.C.Cursor.stands g.met.C.Cursor.rises g.met.C.Cursor.placed c.args.cursor.now c.args.cursor.now c.args.source.now c.args.source.now entries c.args.sequence entry c.args.user.now same here.0 here.1 here.2
 
-pub returns-in_ok-step_on-in-Behind-clause-stands : goal.returns-in_ok-step_on-in-Behind-clause-stands
-returns-in_ok-step_on-in-Behind-clause-stands g c = λ t entries entry value v same h.
+pub returns-in_ok-step_ahead-in-Behind-clause-stands : goal.returns-in_ok-step_ahead-in-Behind-clause-stands
+returns-in_ok-step_ahead-in-Behind-clause-stands g c = λ t entries entry value v same h.
     let here = rw c.in-Behind.is at h in
-    ahead_there g.K.KeyOrder.cmp g.met.K.KeyOrder.total g.met.K.KeyOrder.exact g.C.Cursor.lists g.C.Cursor.stands g.met.C.Cursor.rises g.met.C.Cursor.placed c.step_on.new.cursor c.step_on.new.cursor c.step_on.new.source c.step_on.new.source entries c.args.sequence entry c.args.user.now same
-    (c.in_ok-step_on-in-Behind.ensures.steps t entries (is_user_below g.K.KeyOrder.cmp entry.key.user) here.0)
+    ahead_there g.K.KeyOrder.cmp g.met.K.KeyOrder.total g.met.K.KeyOrder.exact g.C.Cursor.lists g.C.Cursor.stands g.met.C.Cursor.rises g.met.C.Cursor.placed c.step_ahead.new.cursor c.step_ahead.new.cursor c.step_ahead.new.source c.step_ahead.new.source entries c.args.sequence entry c.args.user.now same
+    (c.in_ok-step_ahead-in-Behind.ensures.moves t (is_user_below g.K.KeyOrder.cmp entry.key.user) entries here.0)
 
 pub returns-in_ok-find_again-in-Astray-clause-stands : goal.returns-in_ok-find_again-in-Astray-clause-stands
 returns-in_ok-find_again-in-Astray-clause-stands g c = λ t entries entry value v same h.

@@ -65,8 +65,8 @@ returns-in_err-write_chosen-clause-refused g c =
     let p = err_from_is_err_and c.from_residual-in_err-write_chosen.result c.from_residual-in_err-write_chosen.ensures.1 in
     rw (p.1, p.2) (refuses-same c.in_err-write_chosen.field-0.0 (g.S.Store.facts c.store_mut.result.now) (g.S.Store.facts (g.H.HasStore.store_of c.args.source.now)) b d
     _ (IsTrue d.faithful → (came : List InternalEntry) (entry : InternalEntry) (rest : List InternalEntry)
-    → IsBetween g.K.KeyOrder.cmp (g.D.DeeperFiles.covers c.args.deeper.now) g.S.Store.facts g.H.HasStore.store_of g.H.HasStore.with_store g.H.HasStore.gathers g.C.Cursor.lists g.C.Cursor.keeps g.C.Cursor.over c.args.self.now c.args.source.now c.args.numbers.now.next came (entry ∷ rest) → HaveOwnSequences (came ++ entry ∷ rest) → ⊥)
-    _ (IsTrue d.faithful → (came : List InternalEntry) (entry : InternalEntry) (rest : List InternalEntry) → IsBetween g.K.KeyOrder.cmp (g.D.DeeperFiles.covers c.args.deeper.now) g.S.Store.facts g.H.HasStore.store_of g.H.HasStore.with_store g.H.HasStore.gathers g.C.Cursor.lists g.C.Cursor.keeps g.C.Cursor.over c.args.self.now c.args.source.now c.args.numbers.now.next came (entry ∷ rest)
+    → IsBetween g.K.KeyOrder.cmp (g.D.DeeperFiles.covers c.args.deeper.now) g.S.Store g.H.HasStore g.C.Cursor c.args.self.now c.args.source.now c.args.numbers.now.next came (entry ∷ rest) → HaveOwnSequences (came ++ entry ∷ rest) → ⊥)
+    _ (IsTrue d.faithful → (came : List InternalEntry) (entry : InternalEntry) (rest : List InternalEntry) → IsBetween g.K.KeyOrder.cmp (g.D.DeeperFiles.covers c.args.deeper.now) g.S.Store g.H.HasStore g.C.Cursor c.args.self.now c.args.source.now c.args.numbers.now.next came (entry ∷ rest)
     → IsLimited g.C.Cursor.limited c.args.self.now c.args.source.now ⊎ AreLarge (map entry_of (came ++ entry ∷ rest)))
     (2 ^ 62 ≤ c.write_chosen.new.numbers.next)
     (ap g.S.Store.facts c.store_mut.ensures.value) same_new
@@ -142,8 +142,8 @@ returns-in_err-next-clause-refused g c =
     let p = err_from_is_err_and c.from_residual-in_err-next.result c.from_residual-in_err-next.ensures.1 in
     rw (p.1, p.2) (refuses-as c.in_err-next.field-0.0 a b d (IsTrue d.faithful → ListsNone g.C.Cursor.lists c.args.self.now.cursor mid) (IsTrue d.faithful → ListsNone g.C.Cursor.lists c.args.self.now.cursor mid ⊎ g.C.Cursor.limited c.args.self.now.cursor mid) spent
     (IsTrue d.faithful → (came : List InternalEntry) (entry : InternalEntry) (rest : List InternalEntry)
-    → IsBetween g.K.KeyOrder.cmp (g.D.DeeperFiles.covers c.args.deeper.now) g.S.Store.facts g.H.HasStore.store_of g.H.HasStore.with_store g.H.HasStore.gathers g.C.Cursor.lists g.C.Cursor.keeps g.C.Cursor.over c.args.self.now c.args.source.now c.args.numbers.now.next came (entry ∷ rest) → HaveOwnSequences (came ++ entry ∷ rest) → ⊥)
-    (IsTrue d.faithful → (came : List InternalEntry) (entry : InternalEntry) (rest : List InternalEntry) → IsBetween g.K.KeyOrder.cmp (g.D.DeeperFiles.covers c.args.deeper.now) g.S.Store.facts g.H.HasStore.store_of g.H.HasStore.with_store g.H.HasStore.gathers g.C.Cursor.lists g.C.Cursor.keeps g.C.Cursor.over c.args.self.now c.args.source.now c.args.numbers.now.next came (entry ∷ rest)
+    → IsBetween g.K.KeyOrder.cmp (g.D.DeeperFiles.covers c.args.deeper.now) g.S.Store g.H.HasStore g.C.Cursor c.args.self.now c.args.source.now c.args.numbers.now.next came (entry ∷ rest) → HaveOwnSequences (came ++ entry ∷ rest) → ⊥)
+    (IsTrue d.faithful → (came : List InternalEntry) (entry : InternalEntry) (rest : List InternalEntry) → IsBetween g.K.KeyOrder.cmp (g.D.DeeperFiles.covers c.args.deeper.now) g.S.Store g.H.HasStore g.C.Cursor c.args.self.now c.args.source.now c.args.numbers.now.next came (entry ∷ rest)
     → IsLimited g.C.Cursor.limited c.args.self.now c.args.source.now ⊎ AreLarge (map entry_of (came ++ entry ∷ rest))) spent (c.in_ok-write_chosen.ensures.stood ∙ ap (λ s. (g.S.Store.facts s).failures) c.store_mut.ensures.value)
     (λ none t came entry rest h own.
     let at : Listed = listed (came ++ entry ∷ rest) (within (came ++ entry ∷ rest) (length came)) in

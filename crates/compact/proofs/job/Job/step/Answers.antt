@@ -34,13 +34,13 @@ loop-merged-preserved g c =
             found.1,
             front-more rest front at.1 found.1 entry at.2 found.2,
             longer front entry c.loop-merged.merged at.3,
-            job-all g.K.KeyOrder.cmp (g.D.DeeperFiles.covers c.args.deeper.now) g.S.Store.facts g.H.HasStore.store_of g.H.HasStore.with_store g.H.HasStore.gathers g.C.Cursor.lists g.C.Cursor.keeps g.C.Cursor.over
+            job-all g.K.KeyOrder.cmp (g.D.DeeperFiles.covers c.args.deeper.now) g.S.Store g.H.HasStore g.C.Cursor
                 c.merge_one.new.self c.merge_one.new.source c.merge_one.new.numbers.next ((came ++ front) ++ entry ∷ []) (came ++ (front ++ entry ∷ [])) found.1 (append_assoc came front (entry ∷ []))
                 (c.in_ok-merge_one.ensures.merged (came ++ front) entry found.1 t
-                (job-more g.K.KeyOrder.cmp (g.D.DeeperFiles.covers c.args.deeper.now) g.S.Store.facts g.H.HasStore.store_of g.H.HasStore.with_store g.H.HasStore.gathers g.C.Cursor.lists g.C.Cursor.keeps g.C.Cursor.over
+                (job-more g.K.KeyOrder.cmp (g.D.DeeperFiles.covers c.args.deeper.now) g.S.Store g.H.HasStore g.C.Cursor
                 c.loop-merged.self c.loop-merged.source c.loop-merged.numbers.next (came ++ front) at.1 (entry ∷ found.1) found.2 at.4)),
             (λ past. at.5 (c.in_ok-merge_one.ensures.limits (came ++ front) entry found.1 t
-                (job-more g.K.KeyOrder.cmp (g.D.DeeperFiles.covers c.args.deeper.now) g.S.Store.facts g.H.HasStore.store_of g.H.HasStore.with_store g.H.HasStore.gathers g.C.Cursor.lists g.C.Cursor.keeps g.C.Cursor.over
+                (job-more g.K.KeyOrder.cmp (g.D.DeeperFiles.covers c.args.deeper.now) g.S.Store g.H.HasStore g.C.Cursor
                 c.loop-merged.self c.loop-merged.source c.loop-merged.numbers.next (came ++ front) at.1 (entry ∷ found.1) found.2 at.4) past)),
           )),
       mine-on c.args.self.now.outputs c.loop-merged.self.outputs c.merge_one.new.self.outputs c.args.numbers.now.next c.loop-merged.numbers.next c.merge_one.new.numbers.next inv.0 c.in_ok-merge_one.ensures.numbers inv.3 c.in_ok-merge_one.ensures.mine,
@@ -64,7 +64,7 @@ loop-merged-init g c =
         rest,
         refl,
         refl,
-        job-all g.K.KeyOrder.cmp (g.D.DeeperFiles.covers c.args.deeper.now) g.S.Store.facts g.H.HasStore.store_of g.H.HasStore.with_store g.H.HasStore.gathers g.C.Cursor.lists g.C.Cursor.keeps g.C.Cursor.over
+        job-all g.K.KeyOrder.cmp (g.D.DeeperFiles.covers c.args.deeper.now) g.S.Store g.H.HasStore g.C.Cursor
             c.args.self.now c.args.source.now c.args.numbers.now.next came (came ++ []) rest (sym (append-nil came)) h,
         λ past. past,
       )),
@@ -130,11 +130,11 @@ returns-in_err-merge_one-clause-refused g c =
     let p = err_from_is_err_and c.from_residual.result c.from_residual.ensures.1 in
     rw (p.1, p.2) (refuses-as c.in_err-merge_one.field-0.0 a b d
     (IsTrue d.faithful → (came : List InternalEntry) (entry : InternalEntry) (rest : List InternalEntry)
-    → IsBetween g.K.KeyOrder.cmp (g.D.DeeperFiles.covers c.args.deeper.now) g.S.Store.facts g.H.HasStore.store_of g.H.HasStore.with_store g.H.HasStore.gathers g.C.Cursor.lists g.C.Cursor.keeps g.C.Cursor.over c.loop-merged.self c.loop-merged.source c.loop-merged.numbers.next came (entry ∷ rest) → HaveOwnSequences (came ++ entry ∷ rest) → ⊥) _ spent
+    → IsBetween g.K.KeyOrder.cmp (g.D.DeeperFiles.covers c.args.deeper.now) g.S.Store g.H.HasStore g.C.Cursor c.loop-merged.self c.loop-merged.source c.loop-merged.numbers.next came (entry ∷ rest) → HaveOwnSequences (came ++ entry ∷ rest) → ⊥) _ spent
     (IsTrue d.faithful → (came : List InternalEntry) (rest : List InternalEntry)
-    → IsBetween g.K.KeyOrder.cmp (g.D.DeeperFiles.covers c.args.deeper.now) g.S.Store.facts g.H.HasStore.store_of g.H.HasStore.with_store g.H.HasStore.gathers g.C.Cursor.lists g.C.Cursor.keeps g.C.Cursor.over c.args.self.now c.args.source.now c.args.numbers.now.next came rest → HaveOwnSequences (came ++ rest) → ⊥)
+    → IsBetween g.K.KeyOrder.cmp (g.D.DeeperFiles.covers c.args.deeper.now) g.S.Store g.H.HasStore g.C.Cursor c.args.self.now c.args.source.now c.args.numbers.now.next came rest → HaveOwnSequences (came ++ rest) → ⊥)
     (IsTrue d.faithful → (came : List InternalEntry) (rest : List InternalEntry)
-    → IsBetween g.K.KeyOrder.cmp (g.D.DeeperFiles.covers c.args.deeper.now) g.S.Store.facts g.H.HasStore.store_of g.H.HasStore.with_store g.H.HasStore.gathers g.C.Cursor.lists g.C.Cursor.keeps g.C.Cursor.over c.args.self.now c.args.source.now c.args.numbers.now.next came rest
+    → IsBetween g.K.KeyOrder.cmp (g.D.DeeperFiles.covers c.args.deeper.now) g.S.Store g.H.HasStore g.C.Cursor c.args.self.now c.args.source.now c.args.numbers.now.next came rest
     → IsLimited g.C.Cursor.limited c.args.self.now c.args.source.now ⊎ AreLarge (map entry_of (came ++ rest))) spent
     inv.8
     (λ none t came rest h own.
@@ -143,7 +143,7 @@ returns-in_err-merge_one-clause-refused g c =
     let found = some-left (came ++ at.0) at.1
     (sym (g.met.C.Cursor.placed c.loop-merged.self.cursor c.loop-merged.source (listed all (within all (length (came ++ at.0)))) at.4.left) ∙ sym c.stands.ensures ∙ c.if-not-stands.false) in
     none t (came ++ at.0) found.0 found.1
-    (job-more g.K.KeyOrder.cmp (g.D.DeeperFiles.covers c.args.deeper.now) g.S.Store.facts g.H.HasStore.store_of g.H.HasStore.with_store g.H.HasStore.gathers g.C.Cursor.lists g.C.Cursor.keeps g.C.Cursor.over c.loop-merged.self c.loop-merged.source c.loop-merged.numbers.next (came ++ at.0) at.1 (found.0 ∷ found.1) found.2 at.4)
+    (job-more g.K.KeyOrder.cmp (g.D.DeeperFiles.covers c.args.deeper.now) g.S.Store g.H.HasStore g.C.Cursor c.loop-merged.self c.loop-merged.source c.loop-merged.numbers.next (came ++ at.0) at.1 (found.0 ∷ found.1) found.2 at.4)
     (subst HaveOwnSequences (ap (λ (l : List InternalEntry). came ++ l) (at.2 ∙ ap (λ (l : List InternalEntry). at.0 ++ l) found.2) ∙ sym (append_assoc came at.0 (found.0 ∷ found.1))) own))
     (λ long t came rest h.
     let at = inv.2 came rest (c.in_err-merge_one.ensures.writes.faithful t) h in
@@ -151,7 +151,7 @@ returns-in_err-merge_one-clause-refused g c =
     let found = some-left (came ++ at.0) at.1
     (sym (g.met.C.Cursor.placed c.loop-merged.self.cursor c.loop-merged.source (listed all (within all (length (came ++ at.0)))) at.4.left) ∙ sym c.stands.ensures ∙ c.if-not-stands.false) in
     elim (long t (came ++ at.0) found.0 found.1
-    (job-more g.K.KeyOrder.cmp (g.D.DeeperFiles.covers c.args.deeper.now) g.S.Store.facts g.H.HasStore.store_of g.H.HasStore.with_store g.H.HasStore.gathers g.C.Cursor.lists g.C.Cursor.keeps g.C.Cursor.over c.loop-merged.self c.loop-merged.source c.loop-merged.numbers.next (came ++ at.0) at.1 (found.0 ∷ found.1) found.2 at.4)) [
+    (job-more g.K.KeyOrder.cmp (g.D.DeeperFiles.covers c.args.deeper.now) g.S.Store g.H.HasStore g.C.Cursor c.loop-merged.self c.loop-merged.source c.loop-merged.numbers.next (came ++ at.0) at.1 (found.0 ∷ found.1) found.2 at.4)) [
       | inl past ↦ inl (at.5 past)
       | inr many ↦ inr (subst (λ (es : List InternalEntry). AreLarge (map entry_of es))
           (append_assoc came at.0 (found.0 ∷ found.1) ∙ ap (λ (l : List InternalEntry). came ++ l) (ap (λ (l : List InternalEntry). at.0 ++ l) (sym found.2) ∙ sym at.2)) many)

@@ -10,10 +10,10 @@ invariant-loop-merged g l =
     (l.initial.numbers.next ≤ l.numbers.next)
     × (l.self.selection.snapshots ≡ l.initial.self.selection.snapshots)
     × ((came : List InternalEntry) (rest : List InternalEntry) → IsTrue (g.S.Store.facts (g.H.HasStore.store_of l.source)).faithful
-    → IsBetween g.K.KeyOrder.cmp (g.D.DeeperFiles.covers l.deeper) g.S.Store.facts g.H.HasStore.store_of g.H.HasStore.with_store g.H.HasStore.gathers g.C.Cursor.lists g.C.Cursor.keeps g.C.Cursor.over
+    → IsBetween g.K.KeyOrder.cmp (g.D.DeeperFiles.covers l.deeper) g.S.Store g.H.HasStore g.C.Cursor
     l.initial.self l.initial.source l.initial.numbers.next came rest
     → (front : List InternalEntry) × (back : List InternalEntry) × (rest ≡ front ++ back) × (length front ≡ l.merged)
-    × IsBetween g.K.KeyOrder.cmp (g.D.DeeperFiles.covers l.deeper) g.S.Store.facts g.H.HasStore.store_of g.H.HasStore.with_store g.H.HasStore.gathers g.C.Cursor.lists g.C.Cursor.keeps g.C.Cursor.over
+    × IsBetween g.K.KeyOrder.cmp (g.D.DeeperFiles.covers l.deeper) g.S.Store g.H.HasStore g.C.Cursor
     l.self l.source l.numbers.next (came ++ front) back
     × (IsLimited g.C.Cursor.limited l.self l.source → IsLimited g.C.Cursor.limited l.initial.self l.initial.source))
     × KeepsMine l.initial.self.outputs l.initial.numbers.next l.self.outputs l.numbers.next

@@ -4,7 +4,7 @@ use Rattle.cursor.specs.declared.standing.Position.TheVariants.{Astray}
 use Rattle.cursor.specs.Places.{is_less, within}
 use Rattle.cursor.specs.Merging.{listed}
 use Rattle.cursor.specs.Views.{passed, walk_next}
-use Rattle.cursor.specs.Searches.{IsBetween}
+use Rattle.cursor.specs.Searches.{StandsBetween}
 use Rattle.cursor.specs.Walks.{IsPlacedWalk}
 use Rattle.cursor.proofs.Wanderings.{wanders_then, refused_then}
 use Rattle.cursor.proofs.Beginnings.{past_on}
@@ -55,7 +55,7 @@ returns-clause-moves g c = λ t at h.
     let stand = subst (λ (b : Bool). IsPlacedWalk g.K.KeyOrder.cmp g.C.Cursor.lists c.args.self.now.cursor c.args.self.now.sequence b c.args.self.now.position c.args.self.now.here.key.items c.args.self.now.here.value.items c.args.source.now h.0 at) c.requires h.2 in
     let beside = c.in_ok-stand_ahead.ensures.stands (c.go_on.ensures.wanders.stays.reads.faithful t) h.0 stand.entry c.args.self.now.here.value.items stand.visible (c.as_slice.ensures.value ∙ stand.key_is) stand.beneath in
     let test = λ (user : List ℕ). not (is_less (g.K.KeyOrder.cmp c.args.self.now.here.key.items user)) in
-    let between = subst (IsBetween g.K.KeyOrder.cmp h.0 beside.0) c.as_slice.ensures.value beside.2 in
+    let between = subst (StandsBetween g.K.KeyOrder.cmp h.0 beside.0) c.as_slice.ensures.value beside.2 in
     let arrives = c.in_ok-go_on.ensures.arrives t h.0 at.pairs test beside.0 h.1 beside.1 (past_on g.K.KeyOrder.cmp g.met.K.KeyOrder.total g.met.K.KeyOrder.exact h.0 rises c.args.self.now.sequence c.args.self.now.here.key.items beside.0 between) in
     arrived_walk g.K.KeyOrder.cmp g.C.Cursor.lists c.go_on.new.self.cursor c.go_on.new.self.sequence c.go_on.new.self.stands c.go_on.new.self.position c.go_on.new.self.here.key.items c.go_on.new.self.here.value.items c.go_on.new.source c.args.self.now.sequence h.0 at (within at.pairs (passed test at.pairs)) (walk_next at) h.1 c.go_on.ensures.sequence arrives
     (next_passed g.K.KeyOrder.cmp g.met.K.KeyOrder.total g.met.K.KeyOrder.exact g.C.Cursor.lists c.args.self.now.cursor c.args.self.now.sequence c.args.self.now.position c.args.self.now.here.key.items c.args.self.now.here.value.items c.args.source.now h.0 at h.1.rises stand)

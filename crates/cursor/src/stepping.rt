@@ -1,0 +1,51 @@
+//! Steps over a place in a list: the entries in front of it pass a test, and those behind it don't.
+
+ghost use Rattle.std.specs.Prelude.{List, Bool, IsTrue};
+ghost use Rattle.ikey.specs.Entries.{InternalEntry};
+ghost use Rattle.table.specs.Reading.{IsStill};
+ghost use Rattle.cursor.specs.Moves.{Stays, place_after, RefusesMove};
+ghost use Rattle.cursor.specs.Merging.{listed, ahead, behind};
+ghost use Rattle.cursor.specs.Searches.{Wanders};
+
+use crate::cursor::Cursor;
+use coding::DbError;
+use ikey::KeyOrder;
+use std::alloc::Global;
+
+/// From the last entry in front of a place to the first that isn't.
+pub fn step_ahead<K: KeyOrder, S, C: Cursor<K, S>>(
+    cursor: &mut C,
+    alloc: Global,
+    source: &mut S,
+) -> Result<(), DbError>
+    ensures moves { IsTrue (C.facts source.new).faithful → (test : InternalEntry → Bool) (list : List InternalEntry)
+        → C.lists cursor.old source.old (listed list (behind test list))
+        → C.lists cursor.new source.new (listed list (place_after result (ahead test list) (behind test list))) }
+    ensures wanders { Wanders C.facts C.lists C.keeps C.limited C.leaves C.over cursor.old cursor.new source.old source.new }
+    ensures still { IsStill (C.facts source.old) (C.facts source.new) result }
+    ensures refused { RefusesMove C.facts C.lists C.limited cursor.old source.old source.new result }
+{
+    if cursor.stands() {
+        return cursor.next(alloc, source);
+    }
+    cursor.first(alloc, source)
+}
+
+/// From the first entry that isn't in front of a place to the last that is.
+pub fn step_behind<K: KeyOrder, S, C: Cursor<K, S>>(
+    cursor: &mut C,
+    alloc: Global,
+    source: &mut S,
+) -> Result<(), DbError>
+    ensures moves { IsTrue (C.facts source.new).faithful → (test : InternalEntry → Bool) (list : List InternalEntry)
+        → C.lists cursor.old source.old (listed list (ahead test list))
+        → C.lists cursor.new source.new (listed list (place_after result (behind test list) (ahead test list))) }
+    ensures stays { Stays C.facts C.keeps C.limited C.leaves C.over cursor.old cursor.new source.old source.new }
+    ensures still { IsStill (C.facts source.old) (C.facts source.new) result }
+    ensures refused { RefusesMove C.facts C.lists C.limited cursor.old source.old source.new result }
+{
+    if cursor.stands() {
+        return cursor.prev(alloc, source);
+    }
+    cursor.last(alloc, source)
+}
