@@ -12,6 +12,7 @@ pub mod Puts
 pub mod Runs
 pub mod Sets
 pub mod Slices
+pub mod TakenOut
 pub mod Layouts
 pub mod Listed
 pub mod Widths
