@@ -90,6 +90,26 @@ DIRECTORIES = {
 }
 
 
+# ---- files that go on with zeros
+
+
+GIGABYTE = 2**30
+
+
+# a block of a log: the put of a value that fills it
+WHOLE_BLOCK = record(BATCH + b"\x01\x01a" + varint(32_743) + bytes(32_743))
+assert len(WHOLE_BLOCK) == 32_768
+
+# The files, and the one behind whose bytes stand zeros up to a gigabyte. They are refused, and none of them is read whole.
+ENDLESS = {
+    "a log of a gigabyte of zeros": (directory(), "000003.log"),
+    "a log of one batch and a gigabyte of zeros": (logged(BATCH + b"\x01\x01a\x011"), "000003.log"),
+    "a log of two megabytes and a gigabyte of zeros": (directory(log=WHOLE_BLOCK * 64), "000003.log"),
+    "a MANIFEST with a gigabyte of zeros behind it": (directory(), "MANIFEST-000001"),
+    "a CURRENT with a gigabyte of zeros behind it": (directory(), "CURRENT"),
+}
+
+
 # ---- what is measured
 
 
@@ -137,3 +157,11 @@ def want_within_bounds(folder, name, report, opened):
 def beyond_bounds(room):
     for number, (name, (files, *wanted)) in enumerate(DIRECTORIES.items()):
         want_within_bounds(write_directory(room, f"{number}", None, files), name, *wanted)
+
+
+@check("files with a gigabyte of zeros in them are refused within a second and 64 MB")
+def without_end(room):
+    for number, (name, (files, endless)) in enumerate(ENDLESS.items()):
+        folder = write_directory(room, f"endless-{number}", None, files)
+        os.truncate(os.path.join(folder, endless), GIGABYTE)
+        want_within_bounds(folder, name, CORRUPT, CORRUPT)
