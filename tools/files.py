@@ -164,18 +164,14 @@ def bytes_of(folder, name):
 
 
 def write_directory(room, name, manifest, files):
-    """A new folder with these files, and with the MANIFEST and a CURRENT that names it, where one is given. A file is its bytes, or its first
-    bytes and its length, up to which zeros follow."""
+    """A new folder with these files, and with the MANIFEST and a CURRENT that names it, where one is given."""
     folder = new_folder(room, name)
     if manifest:
         name_of_manifest = f"MANIFEST-{manifest.number:06}"
         files = {"CURRENT": f"{name_of_manifest}\n".encode(), name_of_manifest: manifest.file(), **files}
     for name_of_file, text in files.items():
         with open(os.path.join(folder, name_of_file), "wb") as file:
-            front, length = text if isinstance(text, tuple) else (text, len(text))
-            file.write(front)
-            # (a file of a gigabyte of zeros takes no room)
-            file.truncate(length)
+            file.write(text)
     return folder
 
 

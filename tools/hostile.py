@@ -7,7 +7,7 @@ import subprocess
 import sys
 import threading
 
-from files import ONE_TABLE, Manifest, hexadecimal, internal_key, log_file, log_of, masked, record, stored, string, varint, write_directory
+from files import ONE_TABLE, Manifest, hexadecimal, internal_key, log_of, masked, record, stored, string, varint, write_directory
 from listed import Wrong, check
 from running import SECONDS, under_test, want
 
@@ -74,7 +74,6 @@ def logged(text):
 
 BATCH = struct.pack("<QI", 1, 1)
 
-GIGABYTE = 2**30
 MANY = 100_000
 
 
@@ -105,10 +104,27 @@ DIRECTORIES = {
     "a table by a number of 30 digits": (directory(**{"9" * 30 + ".ldb": b"\xff"}), "good", "ok"),
     f"a MANIFEST of {MANY} tables in one edit": (many_tables([b"".join(map(listed, NUMBERS))]), CORRUPT, CORRUPT),
     f"a MANIFEST of {MANY} tables in an edit each, from the last to the first": (many_tables(map(listed, reversed(NUMBERS))), CORRUPT, CORRUPT),
-    "a MANIFEST that goes on with a gigabyte of zeros": (directory((record(hexadecimal("02 03 03 06 04 01")), GIGABYTE)), CORRUPT, CORRUPT),
-    "a log of a gigabyte of zeros": (directory(log=(b"", GIGABYTE)), CORRUPT, CORRUPT),
-    "a log that goes on with a gigabyte of zeros": (directory(log=(log_file([(1, [("61", "31")])]), GIGABYTE)), CORRUPT, CORRUPT),
     "a MANIFEST by a number of 30 digits": ({"CURRENT": b"MANIFEST-" + b"1" * 30 + b"\n", "MANIFEST-" + "1" * 30: b""}, CORRUPT, CORRUPT),
+}
+
+
+# ---- files that go on with zeros
+
+
+GIGABYTE = 2**30
+
+
+# a block of a log: the put of a value that fills it
+WHOLE_BLOCK = record(BATCH + b"\x01\x01a" + varint(32_743) + bytes(32_743))
+assert len(WHOLE_BLOCK) == 32_768
+
+# The files, and the one behind whose bytes stand zeros up to a gigabyte. They are refused, and none of them is read whole.
+ENDLESS = {
+    "a log of a gigabyte of zeros": (directory(), "000003.log"),
+    "a log of one batch and a gigabyte of zeros": (logged(BATCH + b"\x01\x01a\x011"), "000003.log"),
+    "a log of two megabytes and a gigabyte of zeros": (directory(log=WHOLE_BLOCK * 64), "000003.log"),
+    "a MANIFEST with a gigabyte of zeros behind it": (directory(), "MANIFEST-000001"),
+    "a CURRENT with a gigabyte of zeros behind it": (directory(), "CURRENT"),
 }
 
 
@@ -159,3 +175,11 @@ def want_within_bounds(folder, name, report, opened):
 def beyond_bounds(room):
     for number, (name, (files, *wanted)) in enumerate(DIRECTORIES.items()):
         want_within_bounds(write_directory(room, f"{number}", None, files), name, *wanted)
+
+
+@check("files with a gigabyte of zeros in them are refused within a second and 64 MB")
+def without_end(room):
+    for number, (name, (files, endless)) in enumerate(ENDLESS.items()):
+        folder = write_directory(room, f"endless-{number}", None, files)
+        os.truncate(os.path.join(folder, endless), GIGABYTE)
+        want_within_bounds(folder, name, CORRUPT, CORRUPT)

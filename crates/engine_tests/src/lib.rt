@@ -7,6 +7,8 @@ mod checks;
 #[cfg(test)]
 mod faults;
 #[cfg(test)]
+mod long_logs;
+#[cfg(test)]
 mod orders;
 #[cfg(test)]
 mod origins;

@@ -1,5 +1,5 @@
 use coding::{Damage, ReadError, crc32c, mask, put_fixed32};
-use logfile::{LogWriter, Tail, read_log};
+use logfile::{LogWriter, Tail, judge_block, read_log};
 use std::alloc::{AllocError, Global};
 use std::test::*;
 
@@ -301,4 +301,31 @@ fn damaged_logs_are_corrupt(rt: HostRuntime) -> Result<(), Fail> {
     padded.extend_from_slice(&[0, 0, 1])?;
     assert!(rt; is_refused(alloc, &padded, Damage::Padding));
     Ok(())
+}
+
+// What may be a block of a log, whole or cut off, by itself: records' beginnings and middles may stand in any order there. And what is none.
+const BLOCKS: [(&[u8], Option<Damage>); 8] = [
+    (b"", None),
+    (ONE, None),
+    (EMPTY_FIRST, None),
+    (b"\x64\x51\xd0\xe9\0\0\x02\x64\x51\xd0\xe9\0\0\x02", None),
+    (b"\0\0\0", None),
+    (b"\0\0\0\0\x01\0\x09", None),
+    (b"\0\0\0\0\0\0\0", Some(Damage::Checksum)),
+    (b"\0\0\0\0\xff\xff\x01", Some(Damage::Length)),
+];
+
+fn is_judged(alloc: Global, block: &[u8], fault: Option<Damage>) -> bool {
+    match judge_block(alloc, block) {
+        Ok(()) => fault.is_none(),
+        Err(ReadError::Corrupt(what)) => fault == Some(what),
+        Err(_) => false,
+    }
+}
+
+#[test]
+fn a_block_is_judged_by_itself(rt: HostRuntime) {
+    for (block, fault) in BLOCKS {
+        assert!(rt; is_judged(rt.alloc(), block, fault), "{block:?}");
+    }
 }

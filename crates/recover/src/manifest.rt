@@ -51,8 +51,13 @@ pub fn read_manifest<K: KeyOrder, S: Store>(
     // Over any store: the layout can be written again.
     ensures kept { IfOk result (λ manifest. IsKept manifest.layout × (manifest.layout.last_sequence < 2 ^ 56)) }
 {
-    let Some(current) =
-        read_short_file(alloc, store, "CURRENT", FileKind::Current, MOST_IN_CURRENT)?
+    let Some(current) = read_short_file(
+        alloc,
+        store,
+        "CURRENT",
+        FileKind::Current,
+        MOST_IN_CURRENT,
+    )?
     else {
         return Err(DbError::Corrupt(FileKind::Current, Damage::Missing));
     };

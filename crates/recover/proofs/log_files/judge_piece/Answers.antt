@@ -1,4 +1,3 @@
-use Rattle.std.proofs.Common.{length, sym, ◌∙◌, arith}
 use Rattle.recover.proofs.LogPieces.{judged}
 use Rattle.recover.proofs.log_files.judge_piece.Goals as goal
 
