@@ -6,11 +6,12 @@ use Rattle.store.specs.Files.{Facts, Files, Synced, MayLock, lock_name}
 use Rattle.store.specs.Calls.{Counts}
 use Rattle.store.specs.declared.error.StoreError.{StoreError}
 use Rattle.store.specs.declared.error.StoreError.TheVariants as store_error
-use Rattle.edits.specs.Names.{name_of}
+use Rattle.edits.specs.Names.{name_of, IsFileName}
+use Rattle.edits.specs.declared.names.FileName.{FileName}
 use Rattle.edits.specs.declared.names.FileName.TheVariants.{Current, Lock}
 use Rattle.recover.proofs.NamedFiles.{get_other}
 use Rattle.engine.specs.Calls.{TakesLock}
-use Rattle.engine.specs.Durable.{IsForeign, KeepsForeign, LeavesFile, LeavesDurable}
+use Rattle.engine.specs.Durable.{IsForeign, IsSpared, KeepsForeign, LeavesFile, LeavesDurable, Spares}
 use Rattle.engine.specs.Touching.{OpensStore, Frees}
 use Rattle.engine.proofs.OpenLock.{OnlyLock, may_lock_only}
 
@@ -40,14 +41,15 @@ behind_read {T} {U} old mid new e back files synced d = behind_durable {T = T} {
 pub done_durable : {T U : Type 0} (old mid new : Facts) (x : T) (y : U) → LeavesDurable {T = T} mid new (Ok x) → LeavesDurable {T = U} old new (Ok y)
 done_durable old mid new x y d = record { ok = d.ok; err = λ f. tt }
 
--- ---- files of other programs
+-- ---- files that an open leaves alone
 
-foreign_on : (old mid new : Facts) → KeepsForeign old mid → KeepsForeign mid new → KeepsForeign old new
-foreign_on old mid new first next name is = let a = first name is in let b = next name is in (b.0 ∙ a.0, b.1 ∙ a.1)
+-- where it was only read
+pub spared_same : (old new : Facts) → new.files ≡ old.files → new.synced ≡ old.synced → Spares old new
+spared_same old new files synced name is = (ap (λ (fs : Files). get fs name) files, ap (λ (s : Synced). s name) synced)
 
 -- behind what was only read
-pub foreign_behind : (old mid new : Facts) → mid.files ≡ old.files → mid.synced ≡ old.synced → KeepsForeign mid new → KeepsForeign old new
-foreign_behind old mid new files synced kept = foreign_on old mid new (λ name is. (ap (λ (fs : Files). get fs name) files, ap (λ (s : Synced). s name) synced)) kept
+pub spared_behind : (old mid new : Facts) → mid.files ≡ old.files → mid.synced ≡ old.synced → Spares mid new → Spares old new
+spared_behind old mid new files synced kept name is = let a = spared_same old mid files synced name is in let b = kept name is in (b.0 ∙ a.0, b.1 ∙ a.1)
 
 made_beside : (b : Bool) (files : Files) (name : List ℕ) → IsForeign name → get (cond b files (insert files lock_name [])) name ≡ get files name
 made_beside true files name is = refl
@@ -57,9 +59,17 @@ may_lock_beside : (old new : Files) → MayLock old new → (name : List ℕ) �
 may_lock_beside old new (inl same) name is = ap (λ (f : Files). get f name) same
 may_lock_beside old new (inr made) name is = ap (λ (f : Files). get f name) made ∙ made_beside (contains_key old lock_name) old name is
 
-foreign_locked : (old mid new : Facts) → TakesLock old mid (Ok tt) → IsTrue mid.faithful → KeepsForeign mid new → KeepsForeign old new
-foreign_locked old mid new taken f kept =
-    foreign_on old mid new (λ name is. (may_lock_beside old.files mid.files (taken.files f) name is, ap (λ (s : Synced). s name) (taken.synced f))) kept
+foreign_asked : {r : Result (Unit {0}) DbError} (old new : Facts) → TakesLock old new r → IsTrue new.faithful → KeepsForeign old new
+foreign_asked old new taken f name is = (may_lock_beside old.files new.files (taken.files f) name is, ap (λ (s : Synced). s name) (taken.synced f))
+
+foreign_spared : (name : List ℕ) → IsForeign name → IsSpared name
+foreign_spared name foreign file is apart = foreign file is
+
+foreign_locked : (old mid new : Facts) → TakesLock old mid (Ok tt) → IsTrue mid.faithful → Spares mid new → KeepsForeign old new
+foreign_locked old mid new taken f kept name is =
+    let a = foreign_asked {r = Ok tt} old mid taken f name is in
+    let b = kept name (foreign_spared name is) in
+    (b.0 ∙ a.0, b.1 ∙ a.1)
 
 -- ---- the lock
 
@@ -72,11 +82,11 @@ pub unlocked_open : {T : Type 0} (old new : Facts) (e : DbError) → TakesLock o
 unlocked_open old new e taken = record {
   locks = record { locked = tt; freed = λ h. inl (sym taken.unheld ∙ h) };
   durable = record { ok = λ f. tt; err = λ f. inl (left_by_lock {r = Err e} old new taken f) };
-  foreign = λ f. tt;
+  foreign = λ f. foreign_asked {r = Err e} old new taken f;
 }
 
 -- it was, and the open was done
-pub locked_open : {T : Type 0} (old mid new : Facts) (x : T) → TakesLock old mid (Ok tt) → new.locked ≡ mid.locked → (IsTrue new.faithful → IsTrue mid.faithful) → LeavesDurable {T = T} mid new (Ok x) → (IsTrue new.faithful → KeepsForeign mid new) → OpensStore {T = T} old new (Ok x)
+pub locked_open : {T : Type 0} (old mid new : Facts) (x : T) → TakesLock old mid (Ok tt) → new.locked ≡ mid.locked → (IsTrue new.faithful → IsTrue mid.faithful) → LeavesDurable {T = T} mid new (Ok x) → (IsTrue new.faithful → Spares mid new) → OpensStore {T = T} old new (Ok x)
 locked_open {T} old mid new x taken same back d kept = record {
   locks = record { locked = same ∙ taken.locked; freed = tt };
   durable = done_durable {T = T} {U = T} old mid new x x d;
@@ -101,10 +111,10 @@ pub frees : (r : Result (Unit {0}) StoreError) (old new : Facts) → Counts old 
 frees r old new counts free missing memory held = freed_by r old new counts free missing memory held
 
 -- it was, and given back
-pub given_back : {T : Type 0} (old mid new last : Facts) (e : DbError) (r : Result (Unit {0}) StoreError) → TakesLock old mid (Ok tt) → mid.failures ≤ new.failures → (IsTrue new.faithful → IsTrue mid.faithful) → LeavesDurable {T = T} mid new (Err e)
+pub given_back : {T : Type 0} (old mid new last : Facts) (e : DbError) (r : Result (Unit {0}) StoreError) → TakesLock old mid (Ok tt) → mid.failures ≤ new.failures → (IsTrue new.faithful → IsTrue mid.faithful) → LeavesDurable {T = T} mid new (Err e) → (IsTrue new.faithful → Spares mid new)
     → Counts new last r → (IsTrue last.faithful → last.files ≡ new.files) → (IsTrue last.faithful → last.synced ≡ new.synced) → OnOk r (last.locked ≡ false) → r ≢ Err store_error.Missing → r ≢ Err store_error.Memory
     → OpensStore {T = T} old last (Err e)
-given_back {T} old mid new last e r taken rise back d counts files synced free missing memory =
+given_back {T} old mid new last e r taken rise back d spared counts files synced free missing memory =
     let whole = behind_durable {T = T} {U = T} old mid new e back (λ f. left_by_lock {r = Ok tt} old mid taken f) d in
     record {
       locks = record { locked = tt; freed = λ h. inr (let fails : new.failures < last.failures = freed_by r new last counts free missing memory h in omega (arith, taken.failures, rise, fails)) };
@@ -121,7 +131,9 @@ given_back {T} old mid new last e r taken rise back d counts files synced free m
                   inr (made.0, (d.0, (fs _ ∙ d.1.0, ss _ ∙ d.1.1), fs _ ∙ d.2, ss _ ∙ d.3)))
             ];
       };
-      foreign = λ f. tt;
+      foreign = λ f.
+          let g = counts.faithful f in
+          foreign_locked old mid last taken (back g) (λ name is. let first = spared g name is in let after = spared_same new last (files f) (synced f) name is in (after.0 ∙ first.0, after.1 ∙ first.1));
     }
 
 -- where no memory was found no failure was counted, unless the lock wasn't given back

@@ -63,12 +63,12 @@ pub record ClosesStore (old new : Facts) : Type 0 where
   pub synced : IsTrue new.faithful → new.synced ≡ old.synced
   pub freed : Frees old new
 
--- An open leaves `CURRENT` and its MANIFEST synced whole wherever it changed them. One that is accepted leaves the files of other
--- programs alone.
+-- An open leaves `CURRENT` and its MANIFEST synced whole wherever it changed them, and the files of other programs alone, also one that
+-- is refused.
 pub record OpensStore {T : Type 0} (old new : Facts) (result : Result T DbError) : Type 0 where
   pub locks : Locks old new result
   pub durable : LeavesDurable old new result
-  pub foreign : IsTrue new.faithful → OnOk result (KeepsForeign old new)
+  pub foreign : IsTrue new.faithful → KeepsForeign old new
 
 abbrev pub OpenTouches : {K : Type 0} {g : _} → Option (Held K g) → Facts → Facts → Answer → Type 0
 OpenTouches None old new answer = OpensStore old new (unit_result answer)
