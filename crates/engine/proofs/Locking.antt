@@ -1,7 +1,8 @@
 -- What an open does to the lock, and what of its writing is synced, from the call that takes the lock on.
-use Rattle.std.proofs.Common.{Bool, true, false, cond, List, ℕ, [], ◌≡◌, ◌≢◌, ◌⊎◌, ◌<◌, ◌≤◌, ap, sym, ◌∙◌, Result, Ok, Err, IsTrue, OnOk, OnErr, inl, inr, refl, arith}
+use Rattle.std.proofs.Common.{Bool, true, false, cond, List, ℕ, [], ◌≡◌, ◌≢◌, ◌⊎◌, ◌<◌, ◌≤◌, ◌+◌, ap, sym, ◌∙◌, Result, Ok, Err, IsTrue, OnOk, OnErr, inl, inr, refl, arith}
 use Rattle.std.specs.FinMap.{get, contains_key, insert}
 use Rattle.coding.specs.declared.error.DbError.{DbError}
+use Rattle.coding.specs.declared.error.DbError.TheVariants.{Io}
 use Rattle.store.specs.Files.{Facts, Files, Synced, MayLock, lock_name}
 use Rattle.store.specs.Calls.{Counts}
 use Rattle.store.specs.declared.error.StoreError.{StoreError}
@@ -12,7 +13,7 @@ use Rattle.edits.specs.declared.names.FileName.TheVariants.{Current, Lock}
 use Rattle.recover.proofs.NamedFiles.{get_other}
 use Rattle.engine.specs.Calls.{TakesLock}
 use Rattle.engine.specs.Durable.{IsForeign, IsSpared, KeepsForeign, LeavesFile, LeavesDurable, Spares}
-use Rattle.engine.specs.Touching.{OpensStore, Frees}
+use Rattle.engine.specs.Touching.{OpensStore, Frees, told_failures}
 use Rattle.engine.proofs.OpenLock.{OnlyLock, may_lock_only}
 
 -- ---- what is synced
@@ -110,14 +111,19 @@ freed_by (Err store_error.Device) old new counts free missing memory held = coun
 pub frees : (r : Result (Unit {0}) StoreError) (old new : Facts) → Counts old new r → OnOk r (new.locked ≡ false) → r ≢ Err store_error.Missing → r ≢ Err store_error.Memory → Frees old new
 frees r old new counts free missing memory held = freed_by r old new counts free missing memory held
 
+-- a refusal tells of no more failures than there were
+told_most : (e : DbError) (old new : Facts) → old.failures ≤ new.failures → (e ≡ Io → old.failures < new.failures) → old.failures + told_failures e ≤ new.failures
+told_most Io old new rise io = let fails : old.failures < new.failures = io refl in omega (arith, fails)
+told_most _ old new rise io = omega (arith, rise)
+
 -- it was, and given back
-pub given_back : {T : Type 0} (old mid new last : Facts) (e : DbError) (r : Result (Unit {0}) StoreError) → TakesLock old mid (Ok tt) → mid.failures ≤ new.failures → (IsTrue new.faithful → IsTrue mid.faithful) → LeavesDurable {T = T} mid new (Err e) → (IsTrue new.faithful → Spares mid new)
+pub given_back : {T : Type 0} (old mid new last : Facts) (e : DbError) (r : Result (Unit {0}) StoreError) → TakesLock old mid (Ok tt) → mid.failures ≤ new.failures → (e ≡ Io → mid.failures < new.failures) → (IsTrue new.faithful → IsTrue mid.faithful) → LeavesDurable {T = T} mid new (Err e) → (IsTrue new.faithful → Spares mid new)
     → Counts new last r → (IsTrue last.faithful → last.files ≡ new.files) → (IsTrue last.faithful → last.synced ≡ new.synced) → OnOk r (last.locked ≡ false) → r ≢ Err store_error.Missing → r ≢ Err store_error.Memory
     → OpensStore {T = T} old last (Err e)
-given_back {T} old mid new last e r taken rise back d spared counts files synced free missing memory =
+given_back {T} old mid new last e r taken rise io back d spared counts files synced free missing memory =
     let whole = behind_durable {T = T} {U = T} old mid new e back (λ f. left_by_lock {r = Ok tt} old mid taken f) d in
     record {
-      locks = record { locked = tt; freed = λ h. inr (let fails : new.failures < last.failures = freed_by r new last counts free missing memory h in omega (arith, taken.failures, rise, fails)) };
+      locks = record { locked = tt; freed = λ h. inr (let fails : new.failures < last.failures = freed_by r new last counts free missing memory h in let told = told_most e mid new rise io in omega (arith, taken.failures, told, fails)) };
       durable = record {
         ok = λ f. tt;
         err = λ f.

@@ -1,7 +1,8 @@
 -- What a command does to its store, faithful or not.
-use Rattle.std.specs.Prelude.{◌≡◌, ◌≢◌, ◌⊎◌, ◌<◌, ℕ, Bool, true, false, IsTrue, Option, Some, None, List, [], Result, Ok, Err, OnOk, OnErr, string_bytes}
+use Rattle.std.specs.Prelude.{◌≡◌, ◌≢◌, ◌⊎◌, ◌<◌, ◌+◌, ℕ, Bool, true, false, IsTrue, Option, Some, None, List, [], Result, Ok, Err, OnOk, OnErr, IfErr, string_bytes}
 use Rattle.batch.specs.declared.operation.Operation.{Operation}
 use Rattle.coding.specs.declared.error.DbError.{DbError}
+use Rattle.coding.specs.declared.error.DbError.TheVariants.{Io}
 use Rattle.store.specs.Files.{Facts}
 use Rattle.machine.specs.declared.command.Op.{Op}
 use Rattle.machine.specs.declared.command.Op.TheVariants.{Open, Write, Work, CompactLevel, CompactAll, Close}
@@ -40,10 +41,16 @@ log_of (Some state) = string_bytes state.log.name
 
 -- ---- open and close
 
--- An accepted open holds the lock. A refused one doesn't, unless it was held before or the store failed to give it back.
+-- how many failures of the store a refusal tells of, at least
+abbrev pub told_failures : DbError → ℕ
+told_failures Io = 1
+told_failures _ = 0
+
+-- An accepted open holds the lock. A refused one doesn't, unless it was held before or the store failed to give it back: then it failed
+-- once more than the refusal tells.
 pub record Locks {T : Type 0} (old new : Facts) (result : Result T DbError) : Type 0 where
   pub locked : OnOk result (new.locked ≡ true)
-  pub freed : OnErr result (new.locked ≡ true → (old.locked ≡ true) ⊎ (old.failures < new.failures))
+  pub freed : IfErr result (λ e. new.locked ≡ true → (old.locked ≡ true) ⊎ (old.failures + told_failures e < new.failures))
 
 -- The lock is given back, unless the store failed to.
 abbrev pub Frees : Facts → Facts → Type 0
