@@ -1,5 +1,5 @@
 -- What an open does to the lock, and what of its writing is synced, from the call that takes the lock on.
-use Rattle.std.proofs.Common.{Bool, true, false, cond, List, ℕ, [], ◌≡◌, ◌≢◌, ◌⊎◌, ◌<◌, ◌≤◌, ◌+◌, ap, sym, ◌∙◌, Result, Ok, Err, IsTrue, OnOk, OnErr, inl, inr, refl, arith}
+use Rattle.std.proofs.Common.{Bool, true, false, cond, List, ℕ, [], IsSome, is_some, ◌≡◌, ◌≢◌, ◌⊎◌, ◌<◌, ◌≤◌, ◌+◌, ap, sym, ◌∙◌, Result, Ok, Err, IsTrue, OnOk, OnErr, inl, inr, refl, arith}
 use Rattle.std.specs.FinMap.{get, contains_key, insert}
 use Rattle.coding.specs.declared.error.DbError.{DbError}
 use Rattle.coding.specs.declared.error.DbError.TheVariants.{Io}
@@ -10,11 +10,12 @@ use Rattle.store.specs.declared.error.StoreError.TheVariants as store_error
 use Rattle.edits.specs.Names.{name_of, IsFileName}
 use Rattle.edits.specs.declared.names.FileName.{FileName}
 use Rattle.edits.specs.declared.names.FileName.TheVariants.{Current, Lock}
-use Rattle.recover.proofs.NamedFiles.{get_other}
+use Rattle.recover.proofs.NamedFiles.{get_other, get_same}
 use Rattle.engine.specs.Calls.{TakesLock}
 use Rattle.engine.specs.Durable.{IsForeign, IsSpared, KeepsForeign, LeavesFile, LeavesDurable, Spares}
-use Rattle.engine.specs.Touching.{OpensStore, Frees, told_failures}
+use Rattle.engine.specs.Touching.{HasLockFile, OpensStore, Frees, told_failures}
 use Rattle.engine.proofs.OpenLock.{OnlyLock, may_lock_only}
+use Rattle.engine.proofs.Reopening.{files_apart}
 
 -- ---- what is synced
 
@@ -72,6 +73,37 @@ foreign_locked old mid new taken f kept name is =
     let b = kept name (foreign_spared name is) in
     (b.0 ∙ a.0, b.1 ∙ a.1)
 
+-- ---- the lock's file
+
+-- an open leaves it alone once it has the lock
+lock_spared : IsSpared lock_name
+lock_spared file is apart same = files_apart file Lock is tt apart (sym same)
+
+made_there : (b : Bool) (files : Files) → contains_key files lock_name ≡ b → IsSome (get (cond b files (insert files lock_name [])) lock_name)
+made_there true files is = is
+made_there false files is = ap is_some (get_same files lock_name [])
+
+stays_made : (b : Bool) (files : Files) → contains_key files lock_name ≡ b → IsSome (get files lock_name) → get (cond b files (insert files lock_name [])) lock_name ≡ get files lock_name
+stays_made true files is there = refl
+stays_made false files is there = (let clash : true ≡ false = sym there ∙ is in absurd (cc))
+
+stays_asked : (old new : Files) → MayLock old new → IsSome (get old lock_name) → get new lock_name ≡ get old lock_name
+stays_asked old new (inl same) there = ap (λ (f : Files). get f lock_name) same
+stays_asked old new (inr made) there = ap (λ (f : Files). get f lock_name) made ∙ stays_made (contains_key old lock_name) old refl there
+
+left_asked : {r : Result (Unit {0}) DbError} (old new : Facts) → TakesLock old new r → IsTrue new.faithful → IsSome (get old.files lock_name) → LeavesFile old new lock_name
+left_asked old new taken f there = (stays_asked old.files new.files (taken.files f) there, ap (λ (s : Synced). s lock_name) (taken.synced f))
+
+left_locked : (old mid new : Facts) → TakesLock old mid (Ok tt) → IsTrue mid.faithful → Spares mid new → IsSome (get old.files lock_name) → LeavesFile old new lock_name
+left_locked old mid new taken f kept there =
+    let a = left_asked {r = Ok tt} old mid taken f there in
+    let b = kept lock_name lock_spared in
+    (b.0 ∙ a.0, b.1 ∙ a.1)
+
+there_locked : (old mid new : Facts) → TakesLock old mid (Ok tt) → IsTrue mid.faithful → Spares mid new → IsSome (get new.files lock_name)
+there_locked old mid new taken f kept =
+    ap is_some ((kept lock_name lock_spared).0 ∙ ap (λ (fs : Files). get fs lock_name) (taken.made f)) ∙ made_there (contains_key old.files lock_name) old.files refl
+
 -- ---- the lock
 
 left_by_lock : {r : Result (Unit {0}) DbError} (old mid : Facts) → TakesLock old mid r → IsTrue mid.faithful → LeavesFile old mid (name_of Current)
@@ -82,6 +114,7 @@ left_by_lock old mid taken f = (may_lock_only old.files mid.files (taken.files f
 pub unlocked_open : {T : Type 0} (old new : Facts) (e : DbError) → TakesLock old new (Err e) → OpensStore {T = T} old new (Err e)
 unlocked_open old new e taken = record {
   locks = record { locked = tt; freed = λ h. inl (sym taken.unheld ∙ h) };
+  lock_file = record { there = λ f. tt; stays = λ f. left_asked {r = Err e} old new taken f };
   durable = record { ok = λ f. tt; err = λ f. inl (left_by_lock {r = Err e} old new taken f) };
   foreign = λ f. foreign_asked {r = Err e} old new taken f;
 }
@@ -90,6 +123,7 @@ unlocked_open old new e taken = record {
 pub locked_open : {T : Type 0} (old mid new : Facts) (x : T) → TakesLock old mid (Ok tt) → new.locked ≡ mid.locked → (IsTrue new.faithful → IsTrue mid.faithful) → LeavesDurable {T = T} mid new (Ok x) → (IsTrue new.faithful → Spares mid new) → OpensStore {T = T} old new (Ok x)
 locked_open {T} old mid new x taken same back d kept = record {
   locks = record { locked = same ∙ taken.locked; freed = tt };
+  lock_file = record { there = λ f. there_locked old mid new taken (back f) (kept f); stays = λ f. left_locked old mid new taken (back f) (kept f) };
   durable = done_durable {T = T} {U = T} old mid new x x d;
   foreign = λ f. foreign_locked old mid new taken (back f) (kept f);
 }
@@ -98,6 +132,7 @@ locked_open {T} old mid new x taken same back d kept = record {
 pub opened_as : {T U : Type 0} (old new : Facts) (x : T) (y : U) → OpensStore {T = T} old new (Ok x) → OpensStore {T = U} old new (Ok y)
 opened_as old new x y opens = record {
   locks = record { locked = opens.locks.locked; freed = tt };
+  lock_file = record { there = opens.lock_file.there; stays = opens.lock_file.stays };
   durable = record { ok = opens.durable.ok; err = λ f. tt };
   foreign = opens.foreign;
 }
@@ -121,9 +156,14 @@ pub given_back : {T : Type 0} (old mid new last : Facts) (e : DbError) (r : Resu
     → Counts new last r → (IsTrue last.faithful → last.files ≡ new.files) → (IsTrue last.faithful → last.synced ≡ new.synced) → OnOk r (last.locked ≡ false) → r ≢ Err store_error.Missing → r ≢ Err store_error.Memory
     → OpensStore {T = T} old last (Err e)
 given_back {T} old mid new last e r taken rise io back d spared counts files synced free missing memory =
+    let left : IsTrue last.faithful → Spares mid last = λ f name is.
+        let first = spared (counts.faithful f) name is in
+        let after = spared_same new last (files f) (synced f) name is in
+        (after.0 ∙ first.0, after.1 ∙ first.1) in
     let whole = behind_durable {T = T} {U = T} old mid new e back (λ f. left_by_lock {r = Ok tt} old mid taken f) d in
     record {
       locks = record { locked = tt; freed = λ h. inr (let fails : new.failures < last.failures = freed_by r new last counts free missing memory h in let told = told_most e mid new rise io in omega (arith, taken.failures, told, fails)) };
+      lock_file = record { there = λ f. tt; stays = λ f. left_locked old mid last taken (back (counts.faithful f)) (left f) };
       durable = record {
         ok = λ f. tt;
         err = λ f.
@@ -137,9 +177,7 @@ given_back {T} old mid new last e r taken rise io back d spared counts files syn
                   inr (made.0, (d.0, (fs _ ∙ d.1.0, ss _ ∙ d.1.1), fs _ ∙ d.2, ss _ ∙ d.3)))
             ];
       };
-      foreign = λ f.
-          let g = counts.faithful f in
-          foreign_locked old mid last taken (back g) (λ name is. let first = spared g name is in let after = spared_same new last (files f) (synced f) name is in (after.0 ∙ first.0, after.1 ∙ first.1));
+      foreign = λ f. foreign_locked old mid last taken (back (counts.faithful f)) (left f);
     }
 
 -- where no memory was found no failure was counted, unless the lock wasn't given back

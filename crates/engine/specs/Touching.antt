@@ -1,15 +1,16 @@
 -- What a command does to its store, faithful or not.
-use Rattle.std.specs.Prelude.{◌≡◌, ◌≢◌, ◌⊎◌, ◌<◌, ◌+◌, ℕ, Bool, true, false, IsTrue, Option, Some, None, List, [], Result, Ok, Err, OnOk, OnErr, IfErr, string_bytes}
+use Rattle.std.specs.Prelude.{◌≡◌, ◌≢◌, ◌⊎◌, ◌<◌, ◌+◌, ℕ, Bool, true, false, IsSome, IsTrue, Option, Some, None, List, [], Result, Ok, Err, OnOk, OnErr, IfErr, string_bytes}
+use Rattle.std.specs.FinMap.{get}
 use Rattle.batch.specs.declared.operation.Operation.{Operation}
 use Rattle.coding.specs.declared.error.DbError.{DbError}
 use Rattle.coding.specs.declared.error.DbError.TheVariants.{Io}
-use Rattle.store.specs.Files.{Facts}
+use Rattle.store.specs.Files.{Facts, lock_name}
 use Rattle.machine.specs.declared.command.Op.{Op}
 use Rattle.machine.specs.declared.command.Op.TheVariants.{Open, Write, Work, CompactLevel, CompactAll, Close}
 use Rattle.machine.specs.declared.command.Answer.{Answer}
 use Rattle.machine.specs.declared.command.Answer.TheVariants.{Refused}
 use Rattle.engine.specs.Held.{Held}
-use Rattle.engine.specs.Durable.{SyncsOnly, IsSynced, KeepsForeign, LeavesDurable}
+use Rattle.engine.specs.Durable.{SyncsOnly, IsSynced, KeepsForeign, LeavesDurable, LeavesFile}
 
 -- whether it was refused
 abbrev pub unit_result : Answer → Result (Unit {0}) DbError
@@ -52,6 +53,11 @@ pub record Locks {T : Type 0} (old new : Facts) (result : Result T DbError) : Ty
   pub locked : OnOk result (new.locked ≡ true)
   pub freed : IfErr result (λ e. new.locked ≡ true → (old.locked ≡ true) ⊎ (old.failures + told_failures e < new.failures))
 
+-- Behind an accepted open the file `LOCK` is there. One that was there is left alone, also by an open that is refused.
+pub record HasLockFile {T : Type 0} (old new : Facts) (result : Result T DbError) : Type 0 where
+  pub there : IsTrue new.faithful → OnOk result (IsSome (get new.files lock_name))
+  pub stays : IsTrue new.faithful → IsSome (get old.files lock_name) → LeavesFile old new lock_name
+
 -- The lock is given back, unless the store failed to.
 abbrev pub Frees : Facts → Facts → Type 0
 Frees old new = new.locked ≡ true → old.failures < new.failures
@@ -74,6 +80,7 @@ pub record ClosesStore (old new : Facts) : Type 0 where
 -- is refused.
 pub record OpensStore {T : Type 0} (old new : Facts) (result : Result T DbError) : Type 0 where
   pub locks : Locks old new result
+  pub lock_file : HasLockFile old new result
   pub durable : LeavesDurable old new result
   pub foreign : IsTrue new.faithful → KeepsForeign old new
 
