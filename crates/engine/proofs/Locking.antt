@@ -7,13 +7,12 @@ use Rattle.store.specs.Files.{Facts, Files, Synced, MayLock, lock_name}
 use Rattle.store.specs.Calls.{Counts}
 use Rattle.store.specs.declared.error.StoreError.{StoreError}
 use Rattle.store.specs.declared.error.StoreError.TheVariants as store_error
-use Rattle.edits.specs.Names.{name_of, IsFileName}
-use Rattle.edits.specs.declared.names.FileName.{FileName}
+use Rattle.edits.specs.Names.{name_of}
 use Rattle.edits.specs.declared.names.FileName.TheVariants.{Current, Lock}
 use Rattle.recover.proofs.NamedFiles.{get_other, get_same}
 use Rattle.engine.specs.Calls.{TakesLock}
 use Rattle.engine.specs.Durable.{IsForeign, IsSpared, KeepsForeign, LeavesFile, LeavesDurable, Spares}
-use Rattle.engine.specs.Touching.{HasLockFile, OpensStore, Frees, told_failures}
+use Rattle.engine.specs.Touching.{OpensStore, Frees, told_failures}
 use Rattle.engine.proofs.OpenLock.{OnlyLock, may_lock_only}
 use Rattle.engine.proofs.Reopening.{files_apart}
 

@@ -4,7 +4,7 @@ use Rattle.coding.specs.declared.error.DbError.{DbError}
 use Rattle.coding.specs.declared.error.DbError.TheVariants as error
 use Rattle.edits.specs.Names.{name_of, IsFileName}
 use Rattle.edits.specs.declared.names.FileName.{FileName}
-use Rattle.edits.specs.declared.names.FileName.TheVariants.{Current, Lock, Manifest}
+use Rattle.edits.specs.declared.names.FileName.TheVariants.{Current, Manifest}
 use Rattle.edits.proofs.FileNames.{one_file}
 use Rattle.ikey.specs.Orders.{Order}
 use Rattle.table_access.specs.Tables.{Seen}
