@@ -1,18 +1,20 @@
 -- What an open does to the lock, and what of its writing is synced, from the call that takes the lock on.
-use Rattle.std.proofs.Common.{Bool, true, false, cond, List, ℕ, [], ◌≡◌, ◌≢◌, ◌⊎◌, ◌<◌, ◌≤◌, ap, sym, ◌∙◌, Result, Ok, Err, IsTrue, OnOk, OnErr, inl, inr, refl, arith}
+use Rattle.std.proofs.Common.{Bool, true, false, cond, List, ℕ, [], IsSome, is_some, ◌≡◌, ◌≢◌, ◌⊎◌, ◌<◌, ◌≤◌, ◌+◌, ap, sym, ◌∙◌, Result, Ok, Err, IsTrue, OnOk, OnErr, inl, inr, refl, arith}
 use Rattle.std.specs.FinMap.{get, contains_key, insert}
 use Rattle.coding.specs.declared.error.DbError.{DbError}
+use Rattle.coding.specs.declared.error.DbError.TheVariants.{Io}
 use Rattle.store.specs.Files.{Facts, Files, Synced, MayLock, lock_name}
 use Rattle.store.specs.Calls.{Counts}
 use Rattle.store.specs.declared.error.StoreError.{StoreError}
 use Rattle.store.specs.declared.error.StoreError.TheVariants as store_error
 use Rattle.edits.specs.Names.{name_of}
 use Rattle.edits.specs.declared.names.FileName.TheVariants.{Current, Lock}
-use Rattle.recover.proofs.NamedFiles.{get_other}
+use Rattle.recover.proofs.NamedFiles.{get_other, get_same}
 use Rattle.engine.specs.Calls.{TakesLock}
-use Rattle.engine.specs.Durable.{IsForeign, KeepsForeign, LeavesFile, LeavesDurable}
-use Rattle.engine.specs.Touching.{OpensStore, Frees}
+use Rattle.engine.specs.Durable.{IsForeign, IsSpared, KeepsForeign, LeavesFile, LeavesDurable, Spares}
+use Rattle.engine.specs.Touching.{OpensStore, Frees, told_failures}
 use Rattle.engine.proofs.OpenLock.{OnlyLock, may_lock_only}
+use Rattle.engine.proofs.Reopening.{files_apart}
 
 -- ---- what is synced
 
@@ -40,14 +42,15 @@ behind_read {T} {U} old mid new e back files synced d = behind_durable {T = T} {
 pub done_durable : {T U : Type 0} (old mid new : Facts) (x : T) (y : U) → LeavesDurable {T = T} mid new (Ok x) → LeavesDurable {T = U} old new (Ok y)
 done_durable old mid new x y d = record { ok = d.ok; err = λ f. tt }
 
--- ---- files of other programs
+-- ---- files that an open leaves alone
 
-foreign_on : (old mid new : Facts) → KeepsForeign old mid → KeepsForeign mid new → KeepsForeign old new
-foreign_on old mid new first next name is = let a = first name is in let b = next name is in (b.0 ∙ a.0, b.1 ∙ a.1)
+-- where it was only read
+pub spared_same : (old new : Facts) → new.files ≡ old.files → new.synced ≡ old.synced → Spares old new
+spared_same old new files synced name is = (ap (λ (fs : Files). get fs name) files, ap (λ (s : Synced). s name) synced)
 
 -- behind what was only read
-pub foreign_behind : (old mid new : Facts) → mid.files ≡ old.files → mid.synced ≡ old.synced → KeepsForeign mid new → KeepsForeign old new
-foreign_behind old mid new files synced kept = foreign_on old mid new (λ name is. (ap (λ (fs : Files). get fs name) files, ap (λ (s : Synced). s name) synced)) kept
+pub spared_behind : (old mid new : Facts) → mid.files ≡ old.files → mid.synced ≡ old.synced → Spares mid new → Spares old new
+spared_behind old mid new files synced kept name is = let a = spared_same old mid files synced name is in let b = kept name is in (b.0 ∙ a.0, b.1 ∙ a.1)
 
 made_beside : (b : Bool) (files : Files) (name : List ℕ) → IsForeign name → get (cond b files (insert files lock_name [])) name ≡ get files name
 made_beside true files name is = refl
@@ -57,9 +60,48 @@ may_lock_beside : (old new : Files) → MayLock old new → (name : List ℕ) �
 may_lock_beside old new (inl same) name is = ap (λ (f : Files). get f name) same
 may_lock_beside old new (inr made) name is = ap (λ (f : Files). get f name) made ∙ made_beside (contains_key old lock_name) old name is
 
-foreign_locked : (old mid new : Facts) → TakesLock old mid (Ok tt) → IsTrue mid.faithful → KeepsForeign mid new → KeepsForeign old new
-foreign_locked old mid new taken f kept =
-    foreign_on old mid new (λ name is. (may_lock_beside old.files mid.files (taken.files f) name is, ap (λ (s : Synced). s name) (taken.synced f))) kept
+foreign_asked : {r : Result (Unit {0}) DbError} (old new : Facts) → TakesLock old new r → IsTrue new.faithful → KeepsForeign old new
+foreign_asked old new taken f name is = (may_lock_beside old.files new.files (taken.files f) name is, ap (λ (s : Synced). s name) (taken.synced f))
+
+foreign_spared : (name : List ℕ) → IsForeign name → IsSpared name
+foreign_spared name foreign file is apart = foreign file is
+
+foreign_locked : (old mid new : Facts) → TakesLock old mid (Ok tt) → IsTrue mid.faithful → Spares mid new → KeepsForeign old new
+foreign_locked old mid new taken f kept name is =
+    let a = foreign_asked {r = Ok tt} old mid taken f name is in
+    let b = kept name (foreign_spared name is) in
+    (b.0 ∙ a.0, b.1 ∙ a.1)
+
+-- ---- the lock's file
+
+-- an open leaves it alone once it has the lock
+lock_spared : IsSpared lock_name
+lock_spared file is apart same = files_apart file Lock is tt apart (sym same)
+
+made_there : (b : Bool) (files : Files) → contains_key files lock_name ≡ b → IsSome (get (cond b files (insert files lock_name [])) lock_name)
+made_there true files is = is
+made_there false files is = ap is_some (get_same files lock_name [])
+
+stays_made : (b : Bool) (files : Files) → contains_key files lock_name ≡ b → IsSome (get files lock_name) → get (cond b files (insert files lock_name [])) lock_name ≡ get files lock_name
+stays_made true files is there = refl
+stays_made false files is there = (let clash : true ≡ false = sym there ∙ is in absurd (cc))
+
+stays_asked : (old new : Files) → MayLock old new → IsSome (get old lock_name) → get new lock_name ≡ get old lock_name
+stays_asked old new (inl same) there = ap (λ (f : Files). get f lock_name) same
+stays_asked old new (inr made) there = ap (λ (f : Files). get f lock_name) made ∙ stays_made (contains_key old lock_name) old refl there
+
+left_asked : {r : Result (Unit {0}) DbError} (old new : Facts) → TakesLock old new r → IsTrue new.faithful → IsSome (get old.files lock_name) → LeavesFile old new lock_name
+left_asked old new taken f there = (stays_asked old.files new.files (taken.files f) there, ap (λ (s : Synced). s lock_name) (taken.synced f))
+
+left_locked : (old mid new : Facts) → TakesLock old mid (Ok tt) → IsTrue mid.faithful → Spares mid new → IsSome (get old.files lock_name) → LeavesFile old new lock_name
+left_locked old mid new taken f kept there =
+    let a = left_asked {r = Ok tt} old mid taken f there in
+    let b = kept lock_name lock_spared in
+    (b.0 ∙ a.0, b.1 ∙ a.1)
+
+there_locked : (old mid new : Facts) → TakesLock old mid (Ok tt) → IsTrue mid.faithful → Spares mid new → IsSome (get new.files lock_name)
+there_locked old mid new taken f kept =
+    ap is_some ((kept lock_name lock_spared).0 ∙ ap (λ (fs : Files). get fs lock_name) (taken.made f)) ∙ made_there (contains_key old.files lock_name) old.files refl
 
 -- ---- the lock
 
@@ -71,14 +113,16 @@ left_by_lock old mid taken f = (may_lock_only old.files mid.files (taken.files f
 pub unlocked_open : {T : Type 0} (old new : Facts) (e : DbError) → TakesLock old new (Err e) → OpensStore {T = T} old new (Err e)
 unlocked_open old new e taken = record {
   locks = record { locked = tt; freed = λ h. inl (sym taken.unheld ∙ h) };
+  lock_file = record { there = λ f. tt; stays = λ f. left_asked {r = Err e} old new taken f };
   durable = record { ok = λ f. tt; err = λ f. inl (left_by_lock {r = Err e} old new taken f) };
-  foreign = λ f. tt;
+  foreign = λ f. foreign_asked {r = Err e} old new taken f;
 }
 
 -- it was, and the open was done
-pub locked_open : {T : Type 0} (old mid new : Facts) (x : T) → TakesLock old mid (Ok tt) → new.locked ≡ mid.locked → (IsTrue new.faithful → IsTrue mid.faithful) → LeavesDurable {T = T} mid new (Ok x) → (IsTrue new.faithful → KeepsForeign mid new) → OpensStore {T = T} old new (Ok x)
+pub locked_open : {T : Type 0} (old mid new : Facts) (x : T) → TakesLock old mid (Ok tt) → new.locked ≡ mid.locked → (IsTrue new.faithful → IsTrue mid.faithful) → LeavesDurable {T = T} mid new (Ok x) → (IsTrue new.faithful → Spares mid new) → OpensStore {T = T} old new (Ok x)
 locked_open {T} old mid new x taken same back d kept = record {
   locks = record { locked = same ∙ taken.locked; freed = tt };
+  lock_file = record { there = λ f. there_locked old mid new taken (back f) (kept f); stays = λ f. left_locked old mid new taken (back f) (kept f) };
   durable = done_durable {T = T} {U = T} old mid new x x d;
   foreign = λ f. foreign_locked old mid new taken (back f) (kept f);
 }
@@ -87,6 +131,7 @@ locked_open {T} old mid new x taken same back d kept = record {
 pub opened_as : {T U : Type 0} (old new : Facts) (x : T) (y : U) → OpensStore {T = T} old new (Ok x) → OpensStore {T = U} old new (Ok y)
 opened_as old new x y opens = record {
   locks = record { locked = opens.locks.locked; freed = tt };
+  lock_file = record { there = opens.lock_file.there; stays = opens.lock_file.stays };
   durable = record { ok = opens.durable.ok; err = λ f. tt };
   foreign = opens.foreign;
 }
@@ -100,14 +145,24 @@ freed_by (Err store_error.Device) old new counts free missing memory held = coun
 pub frees : (r : Result (Unit {0}) StoreError) (old new : Facts) → Counts old new r → OnOk r (new.locked ≡ false) → r ≢ Err store_error.Missing → r ≢ Err store_error.Memory → Frees old new
 frees r old new counts free missing memory held = freed_by r old new counts free missing memory held
 
+-- a refusal tells of no more failures than there were
+told_most : (e : DbError) (old new : Facts) → old.failures ≤ new.failures → (e ≡ Io → old.failures < new.failures) → old.failures + told_failures e ≤ new.failures
+told_most Io old new rise io = let fails : old.failures < new.failures = io refl in omega (arith, fails)
+told_most _ old new rise io = omega (arith, rise)
+
 -- it was, and given back
-pub given_back : {T : Type 0} (old mid new last : Facts) (e : DbError) (r : Result (Unit {0}) StoreError) → TakesLock old mid (Ok tt) → mid.failures ≤ new.failures → (IsTrue new.faithful → IsTrue mid.faithful) → LeavesDurable {T = T} mid new (Err e)
+pub given_back : {T : Type 0} (old mid new last : Facts) (e : DbError) (r : Result (Unit {0}) StoreError) → TakesLock old mid (Ok tt) → mid.failures ≤ new.failures → (e ≡ Io → mid.failures < new.failures) → (IsTrue new.faithful → IsTrue mid.faithful) → LeavesDurable {T = T} mid new (Err e) → (IsTrue new.faithful → Spares mid new)
     → Counts new last r → (IsTrue last.faithful → last.files ≡ new.files) → (IsTrue last.faithful → last.synced ≡ new.synced) → OnOk r (last.locked ≡ false) → r ≢ Err store_error.Missing → r ≢ Err store_error.Memory
     → OpensStore {T = T} old last (Err e)
-given_back {T} old mid new last e r taken rise back d counts files synced free missing memory =
+given_back {T} old mid new last e r taken rise io back d spared counts files synced free missing memory =
+    let left : IsTrue last.faithful → Spares mid last = λ f name is.
+        let first = spared (counts.faithful f) name is in
+        let after = spared_same new last (files f) (synced f) name is in
+        (after.0 ∙ first.0, after.1 ∙ first.1) in
     let whole = behind_durable {T = T} {U = T} old mid new e back (λ f. left_by_lock {r = Ok tt} old mid taken f) d in
     record {
-      locks = record { locked = tt; freed = λ h. inr (let fails : new.failures < last.failures = freed_by r new last counts free missing memory h in omega (arith, taken.failures, rise, fails)) };
+      locks = record { locked = tt; freed = λ h. inr (let fails : new.failures < last.failures = freed_by r new last counts free missing memory h in let told = told_most e mid new rise io in omega (arith, taken.failures, told, fails)) };
+      lock_file = record { there = λ f. tt; stays = λ f. left_locked old mid last taken (back (counts.faithful f)) (left f) };
       durable = record {
         ok = λ f. tt;
         err = λ f.
@@ -121,7 +176,7 @@ given_back {T} old mid new last e r taken rise back d counts files synced free m
                   inr (made.0, (d.0, (fs _ ∙ d.1.0, ss _ ∙ d.1.1), fs _ ∙ d.2, ss _ ∙ d.3)))
             ];
       };
-      foreign = λ f. tt;
+      foreign = λ f. foreign_locked old mid last taken (back (counts.faithful f)) (left f);
     }
 
 -- where no memory was found no failure was counted, unless the lock wasn't given back

@@ -12,7 +12,7 @@ use Rattle.store.specs.Files.{Facts}
 use Rattle.machine.specs.declared.command.Mode.{Mode}
 use Rattle.machine.specs.declared.command.Answer.TheVariants.{Done, Refused}
 use Rattle.engine.specs.declared.ids.Ids.{Ids}
-use Rattle.engine.specs.Durable.{HasDurable, IsDurable, KeepsForeign, LeavesDurable, LeavesFile}
+use Rattle.engine.specs.Durable.{HasDurable, IsDurable, LeavesDurable, LeavesFile, Spares}
 use Rattle.engine.specs.Follows.{Leads, LeadsOpen}
 use Rattle.engine.specs.Held.{Held}
 use Rattle.machine.specs.Lifetime.{OpenAnswered, Opened, Opens, open_cause}
@@ -83,10 +83,11 @@ module _ {K : Type 0} {g : _} (old new : Facts) (db : Held K g) (loses : LosesDe
     | inr gone ↦ (let dead = gone.0 in absurd (dead.3 (subst (λ (f : FileName). IsLiveIn db f) (one_file file dead.0 is dead.1 dead.2) live)))
   ]
 
-  foreign_stays : KeepsForeign old new
-  foreign_stays name is = elim (loses name) [
+  -- so do files of other programs, and the lock's
+  spared_stays : Spares old new
+  spared_stays name is = elim (loses name) [
     | inl same ↦ same
-    | inr gone ↦ (let dead = gone.0 in absurd (is dead.0 dead.1 dead.2))
+    | inr gone ↦ (let dead = gone.0 in absurd (is dead.0 dead.1 (λ lock. dead.3 (subst (λ (f : FileName). IsLiveIn db f) (sym lock) tt)) dead.2))
   ]
 
   durable_stays : HasDurable db.directory.manifest.number old → IsDurable new
@@ -101,5 +102,5 @@ pub durable_cleaned : {K T : Type 0} {g : _} (first old new : Facts) (db : Held 
     → (IsTrue old.faithful → HasDurable db.directory.manifest.number old) → LeavesDurable {T = T} first new (Ok done)
 durable_cleaned first old new db done back loses has = record { ok = λ f. durable_stays old new db (loses f) (has (back f)); err = λ f. tt }
 
-pub foreign_cleaned : {K : Type 0} {g : _} (first old new : Facts) (db : Held K g) → (IsTrue new.faithful → IsTrue old.faithful) → (IsTrue new.faithful → LosesDead old new db) → (IsTrue old.faithful → KeepsForeign first old) → IsTrue new.faithful → KeepsForeign first new
-foreign_cleaned first old new db back loses kept f name is = let a = kept (back f) name is in let b = foreign_stays old new db (loses f) name is in (b.0 ∙ a.0, b.1 ∙ a.1)
+pub spared_cleaned : {K : Type 0} {g : _} (first old new : Facts) (db : Held K g) → (IsTrue new.faithful → IsTrue old.faithful) → (IsTrue new.faithful → LosesDead old new db) → (IsTrue old.faithful → Spares first old) → IsTrue new.faithful → Spares first new
+spared_cleaned first old new db back loses kept f name is = let a = kept (back f) name is in let b = spared_stays old new db (loses f) name is in (b.0 ∙ a.0, b.1 ∙ a.1)

@@ -15,7 +15,7 @@ use Rattle.edits.specs.Names.{name_of, IsNumbered}
 use Rattle.edits.specs.declared.names.FileName.TheVariants.{Current, Log, Manifest, Temporary}
 use Rattle.recover.proofs.NamedFiles.{get_other}
 use Rattle.engine.specs.Calls.{KeepsOthers, Creates, Writes, SetsCurrent, MakesCurrent}
-use Rattle.engine.specs.Durable.{SyncsOnly, LeavesFile, WritesSynced, HasSyncedCurrent, MakesSynced, IsDurable, IsDurableAt, HasDurable, KeepsForeign, LeavesDurable}
+use Rattle.engine.specs.Durable.{SyncsOnly, LeavesFile, WritesSynced, HasSyncedCurrent, MakesSynced, IsDurable, IsDurableAt, HasDurable, IsSpared, LeavesDurable, Spares}
 use Rattle.engine.specs.Touching.{SyncsLog}
 use Rattle.engine.proofs.Reopening.{files_apart}
 use Rattle.engine.proofs.StoreCalls.{renamed_sets}
@@ -173,6 +173,10 @@ module _ (n : ℕ) (num : IsNumbered n) (manifest : List ℕ) (old mid : Facts) 
     err = λ f. inl (w.others f (name_of Current) (λ is. manifest_current n num (sym is)), s.others f (name_of Current) (λ is. manifest_current n num (sym is)));
   }
 
+  -- the names that an open writes are of known shapes, and none is the lock's
+  pub manifest_spared : (new : Facts) {r : Result (Unit {0}) DbError} → Writes old new (name_of (Manifest n)) manifest r → WritesSynced old new (name_of (Manifest n)) manifest r → IsTrue new.faithful → Spares old new
+  manifest_spared new w s f q spared = let named = spared (Manifest n) num (λ e. cc) in (w.others f q named, s.others f q named)
+
   module _ (w : Writes old mid (name_of (Manifest n)) manifest (Ok tt)) (s : WritesSynced old mid (name_of (Manifest n)) manifest (Ok tt)) where
     left_by_manifest : IsTrue mid.faithful → LeavesFile old mid (name_of Current)
     left_by_manifest f = (w.others f (name_of Current) (λ is. manifest_current n num (sym is)), s.others f (name_of Current) (λ is. manifest_current n num (sym is)))
@@ -197,6 +201,19 @@ module _ (n : ℕ) (num : IsNumbered n) (manifest : List ℕ) (old mid : Facts) 
           ];
     }
 
+    spared_both : (new : Facts) → (KeepsOthers mid.files new.files (name_of (Temporary n)) ⊎ SetsCurrent mid.files new.files (name_of (Temporary n)) new_current) → (q : List ℕ) → IsSpared q → get new.files q ≡ get mid.files q
+    spared_both new (inl kept) q spared = kept q (spared (Temporary n) num (λ e. cc))
+    spared_both new (inr set) q spared = set.1 q (spared (Temporary n) num (λ e. cc)) (spared Current tt (λ e. cc))
+
+    spared_beside : (new : Facts) {r : Result (Unit {0}) DbError} → MakesCurrent mid new (name_of (Temporary n)) new_current r → MakesSynced mid new (name_of (Temporary n)) new_current r → IsTrue new.faithful
+        → (KeepsOthers mid.files new.files (name_of (Temporary n)) ⊎ SetsCurrent mid.files new.files (name_of (Temporary n)) new_current) → Spares old new
+    spared_beside new m t f made q spared =
+        let first = manifest_spared mid w s (m.call.faithful f) q spared in
+        (spared_both new made q spared ∙ first.0, t.others f q (spared (Temporary n) num (λ e. cc)) (spared Current tt (λ e. cc)) ∙ first.1)
+
+    pub current_spared : (new : Facts) (e : DbError) → MakesCurrent mid new (name_of (Temporary n)) new_current (Err e) → MakesSynced mid new (name_of (Temporary n)) new_current (Err e) → IsTrue new.faithful → Spares old new
+    current_spared new e m t f = spared_beside new m t f (m.err f)
+
     -- ---- it is current, and the new log was made or not
     module _ (most : Facts) (m : MakesCurrent mid most (name_of (Temporary n)) new_current (Ok tt)) (t : MakesSynced mid most (name_of (Temporary n)) new_current (Ok tt)) where
       abbrev new_log : List ℕ
@@ -220,24 +237,18 @@ module _ (n : ℕ) (num : IsNumbered n) (manifest : List ℕ) (old mid : Facts) 
           | inr made ↦ ap (λ (fs : Files). get fs q) made ∙ get_other most.files new_log [] q apart
         ]
 
-        -- the names that were written are of known shapes
-        foreign_kept : (r : Result (Unit {0}) DbError) → Creates most new new_log r → (IsTrue new.faithful → SyncsOnly most.synced new.synced new_log) → IsTrue new.faithful → KeepsForeign old new
-        foreign_kept r c synced f q foreign =
+        pub log_spared : (r : Result (Unit {0}) DbError) → Creates most new new_log r → (IsTrue new.faithful → SyncsOnly most.synced new.synced new_log) → IsTrue new.faithful → Spares old new
+        log_spared r c synced f q spared =
             let at_most = c.call.faithful f in
-            let at_mid = m.call.faithful at_most in
-            let log = foreign (Log (n + 1)) next in
-            let temporary = foreign (Temporary n) num in
-            let current = foreign Current tt in
-            let named = foreign (Manifest n) num in (
-              log_others r c f q log ∙ (m.ok at_most).1 q temporary current ∙ w.others at_mid q named,
-              synced f q log ∙ t.others at_most q temporary current ∙ s.others at_mid q named,
-            )
+            let log = spared (Log (n + 1)) next (λ e. cc) in
+            let first = spared_beside most m t at_most (inr (m.ok at_most)) q spared in
+            (log_others r c f q log ∙ first.0, synced f q log ∙ first.1)
 
-        pub log_durable_named : (r : Result (Unit {0}) DbError) → Creates most new new_log r → (IsTrue new.faithful → SyncsOnly most.synced new.synced new_log) → LeavesDurable old new r × (IsTrue new.faithful → OnOk r (HasDurable n new)) × (IsTrue new.faithful → OnOk r (KeepsForeign old new))
+        pub log_durable_named : (r : Result (Unit {0}) DbError) → Creates most new new_log r → (IsTrue new.faithful → SyncsOnly most.synced new.synced new_log) → LeavesDurable old new r × (IsTrue new.faithful → OnOk r (HasDurable n new))
         log_durable_named (Ok x) c synced =
             let at : IsTrue new.faithful → IsDurableAt n new = λ f. durable_at (c.call.faithful f) (log_others (Ok x) c f) (synced f) in
-            (record { ok = λ f. (n, at f); err = λ f. tt }, λ f. record { numbered = num; durable = at f }, foreign_kept (Ok x) c synced)
-        log_durable_named (Err e) c synced = (record { ok = λ f. tt; err = λ f. inr (n, durable_at (c.call.faithful f) (log_others (Err e) c f) (synced f)) }, λ f. tt, λ f. tt)
+            (record { ok = λ f. (n, at f); err = λ f. tt }, λ f. record { numbered = num; durable = at f })
+        log_durable_named (Err e) c synced = (record { ok = λ f. tt; err = λ f. inr (n, durable_at (c.call.faithful f) (log_others (Err e) c f) (synced f)) }, λ f. tt)
 
 -- ---- a record behind the log
 

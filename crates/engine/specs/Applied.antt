@@ -34,7 +34,7 @@ use Rattle.engine.specs.declared.db.Db.{Db}
 use Rattle.engine.specs.Reads.{sequence_at, ReadsMemory}
 use Rattle.machine.specs.Step.{Step}
 use Rattle.engine.specs.Follows.{Follows}
-use Rattle.engine.specs.Outcomes.{IsAnswerTo, Outcome, Succeeds, keeps_of}
+use Rattle.engine.specs.Outcomes.{IsAnswerTo, Outcome, Succeeds, keeps_of, stood_of}
 use Rattle.engine.specs.Causes.{IsCaused, IsCausedIn, where_open, write_refusal, cause_of}
 use Rattle.engine.specs.Touching.{SyncsLog, LeavesStore, CloseTouches, Touches}
 use Rattle.engine.specs.Telling.{CommandTells, OpenTells}
@@ -165,7 +165,7 @@ abbrev pub NeededBy : {S K : Type 0} {g : _} → Op → Order → (S → Facts) 
 NeededBy op order facts old new answer = KeepsOnly op order (facts (store_of new)) (Stands order facts old) (held_in new) answer
 
 abbrev pub OutcomeBy : {S K : Type 0} {g : _} → Op → (S → Facts) → Session S K g → Session S K g → Answer → Type 0
-OutcomeBy {S} {K} {g} op facts old new answer = Outcome (IsAnswerTo op) (keeps_of {K = K} {g = g} op) (facts (store_of old)) (facts (store_of new)) old.ids new.ids (held_in old) (held_in new) answer
+OutcomeBy {S} {K} {g} op facts old new answer = Outcome (IsAnswerTo op) (stood_of op) (keeps_of {K = K} {g = g} op) (facts (store_of old)) (facts (store_of new)) old.ids new.ids (held_in old) (held_in new) answer
 
 abbrev pub IsShut : {S K : Type 0} {g : _} → Session S K g → Type 0
 IsShut session = held_in session ≡ None

@@ -6,7 +6,7 @@ use Rattle.coding.specs.declared.error.DbError.{DbError}
 use Rattle.store.specs.Files.{Facts, Synced}
 use Rattle.edits.specs.Names.{name_of, IsFileName, IsNumbered}
 use Rattle.edits.specs.declared.names.FileName.{FileName}
-use Rattle.edits.specs.declared.names.FileName.TheVariants.{Current, Manifest}
+use Rattle.edits.specs.declared.names.FileName.TheVariants.{Current, Lock, Manifest}
 
 -- but for the file of this name, what is synced is as before
 abbrev pub SyncsOnly : Synced → Synced → List ℕ → Type 0
@@ -27,6 +27,14 @@ IsForeign name = (file : FileName) → IsFileName file → name ≢ name_of file
 -- Files of other programs, and what of them is synced, are as before.
 abbrev pub KeepsForeign : Facts → Facts → Type 0
 KeepsForeign old new = (name : List ℕ) → IsForeign name → LeavesFile old new name
+
+-- The name of a file that an open neither writes nor removes: another program's, or the lock's.
+abbrev pub IsSpared : List ℕ → Type 0
+IsSpared name = (file : FileName) → IsFileName file → file ≢ Lock → name ≢ name_of file
+
+-- Such files, and what of them is synced, are as before.
+abbrev pub Spares : Facts → Facts → Type 0
+Spares old new = (name : List ℕ) → IsSpared name → LeavesFile old new name
 
 -- A file that was written anew is synced whole.
 pub record WritesSynced (old new : Facts) (name bytes : List ℕ) (result : Result (Unit {0}) DbError) : Type 0 where

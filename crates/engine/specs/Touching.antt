@@ -1,14 +1,16 @@
 -- What a command does to its store, faithful or not.
-use Rattle.std.specs.Prelude.{◌≡◌, ◌≢◌, ◌⊎◌, ◌<◌, ℕ, Bool, true, false, IsTrue, Option, Some, None, List, [], Result, Ok, Err, OnOk, OnErr, string_bytes}
+use Rattle.std.specs.Prelude.{◌≡◌, ◌≢◌, ◌⊎◌, ◌<◌, ◌+◌, ℕ, Bool, true, false, IsSome, IsTrue, Option, Some, None, List, [], Result, Ok, Err, OnOk, OnErr, IfErr, string_bytes}
+use Rattle.std.specs.FinMap.{get}
 use Rattle.batch.specs.declared.operation.Operation.{Operation}
 use Rattle.coding.specs.declared.error.DbError.{DbError}
-use Rattle.store.specs.Files.{Facts}
+use Rattle.coding.specs.declared.error.DbError.TheVariants.{Io}
+use Rattle.store.specs.Files.{Facts, lock_name}
 use Rattle.machine.specs.declared.command.Op.{Op}
 use Rattle.machine.specs.declared.command.Op.TheVariants.{Open, Write, Work, CompactLevel, CompactAll, Close}
 use Rattle.machine.specs.declared.command.Answer.{Answer}
 use Rattle.machine.specs.declared.command.Answer.TheVariants.{Refused}
 use Rattle.engine.specs.Held.{Held}
-use Rattle.engine.specs.Durable.{SyncsOnly, IsSynced, KeepsForeign, LeavesDurable}
+use Rattle.engine.specs.Durable.{SyncsOnly, IsSynced, KeepsForeign, LeavesDurable, LeavesFile}
 
 -- whether it was refused
 abbrev pub unit_result : Answer → Result (Unit {0}) DbError
@@ -40,10 +42,21 @@ log_of (Some state) = string_bytes state.log.name
 
 -- ---- open and close
 
--- An accepted open holds the lock. A refused one doesn't, unless it was held before or the store failed to give it back.
+-- how many failures of the store a refusal tells of, at least
+abbrev pub told_failures : DbError → ℕ
+told_failures Io = 1
+told_failures _ = 0
+
+-- An accepted open holds the lock. A refused one doesn't, unless it was held before or the store failed to give it back: then it failed
+-- once more than the refusal tells.
 pub record Locks {T : Type 0} (old new : Facts) (result : Result T DbError) : Type 0 where
   pub locked : OnOk result (new.locked ≡ true)
-  pub freed : OnErr result (new.locked ≡ true → (old.locked ≡ true) ⊎ (old.failures < new.failures))
+  pub freed : IfErr result (λ e. new.locked ≡ true → (old.locked ≡ true) ⊎ (old.failures + told_failures e < new.failures))
+
+-- Behind an accepted open the file `LOCK` is there. One that was there is left alone, also by an open that is refused.
+pub record HasLockFile {T : Type 0} (old new : Facts) (result : Result T DbError) : Type 0 where
+  pub there : IsTrue new.faithful → OnOk result (IsSome (get new.files lock_name))
+  pub stays : IsTrue new.faithful → IsSome (get old.files lock_name) → LeavesFile old new lock_name
 
 -- The lock is given back, unless the store failed to.
 abbrev pub Frees : Facts → Facts → Type 0
@@ -63,12 +76,13 @@ pub record ClosesStore (old new : Facts) : Type 0 where
   pub synced : IsTrue new.faithful → new.synced ≡ old.synced
   pub freed : Frees old new
 
--- An open leaves `CURRENT` and its MANIFEST synced whole wherever it changed them. One that is accepted leaves the files of other
--- programs alone.
+-- An open leaves `CURRENT` and its MANIFEST synced whole wherever it changed them, and the files of other programs alone, also one that
+-- is refused.
 pub record OpensStore {T : Type 0} (old new : Facts) (result : Result T DbError) : Type 0 where
   pub locks : Locks old new result
+  pub lock_file : HasLockFile old new result
   pub durable : LeavesDurable old new result
-  pub foreign : IsTrue new.faithful → OnOk result (KeepsForeign old new)
+  pub foreign : IsTrue new.faithful → KeepsForeign old new
 
 abbrev pub OpenTouches : {K : Type 0} {g : _} → Option (Held K g) → Facts → Facts → Answer → Type 0
 OpenTouches None old new answer = OpensStore old new (unit_result answer)

@@ -5,7 +5,7 @@ use Rattle.engine.specs.Durable.{HasDurable, LeavesDurable}
 use Rattle.engine.specs.declared.opening.Begun.{Begun}
 use Rattle.engine.proofs.BegunSteps.{continued_same, continued_behind, begins}
 use Rattle.engine.proofs.Telling.{found_openable}
-use Rattle.engine.proofs.Locking.{behind_read, foreign_behind}
+use Rattle.engine.proofs.Locking.{behind_read, spared_behind, spared_same}
 use Rattle.engine.proofs.opening.begin.Goals as goal
 
 pub returns-in_err-found-clause-continued : goal.returns-in_err-found-clause-continued
@@ -64,7 +64,26 @@ returns-clause-tells g c = λ f.
 pub returns-clause-current : goal.returns-clause-current
 returns-clause-current g c = λ f. subst (λ (n : ℕ). HasDurable n (g.S.Store.facts c.rewrite_directory.new.store)) (sym c.known_after.ensures.number) (c.in_ok-rewrite_directory.ensures.current f)
 
-pub returns-clause-foreign : goal.returns-clause-foreign
-returns-clause-foreign g c = λ f.
+-- ---- which files are spared
+
+pub returns-in_err-found-clause-spared : goal.returns-in_err-found-clause-spared
+returns-in_err-found-clause-spared g c = λ f. spared_same (g.S.Store.facts c.args.store.now) (g.S.Store.facts c.find.new.store) (c.in_err-found.ensures.store.same f) (c.in_err-found.ensures.store.synced f)
+
+pub returns-in_err-version-clause-spared : goal.returns-in_err-version-clause-spared
+returns-in_err-version-clause-spared g c = λ f. spared_same (g.S.Store.facts c.args.store.now) (g.S.Store.facts c.find.new.store) (c.in_ok-found.ensures.store.same f) (c.in_ok-found.ensures.store.synced f)
+
+pub returns-in_err-rewrite-clause-spared : goal.returns-in_err-rewrite-clause-spared
+returns-in_err-rewrite-clause-spared g c = λ f. spared_same (g.S.Store.facts c.args.store.now) (g.S.Store.facts c.find.new.store) (c.in_ok-found.ensures.store.same f) (c.in_ok-found.ensures.store.synced f)
+
+pub returns-in_err-memory-clause-spared : goal.returns-in_err-memory-clause-spared
+returns-in_err-memory-clause-spared g c = λ f. spared_same (g.S.Store.facts c.args.store.now) (g.S.Store.facts c.find.new.store) (c.in_ok-found.ensures.store.same f) (c.in_ok-found.ensures.store.synced f)
+
+pub returns-in_err-rewrite_directory-clause-spared : goal.returns-in_err-rewrite_directory-clause-spared
+returns-in_err-rewrite_directory-clause-spared g c = λ f.
+    let back = c.in_err-rewrite_directory.ensures.files.call.faithful f in
+    spared_behind (g.S.Store.facts c.args.store.now) (g.S.Store.facts c.find.new.store) (g.S.Store.facts c.rewrite_directory.new.store) (c.in_ok-found.ensures.store.same back) (c.in_ok-found.ensures.store.synced back) (c.in_err-rewrite_directory.ensures.spared f)
+
+pub returns-clause-spared : goal.returns-clause-spared
+returns-clause-spared g c = λ f.
     let back = c.in_ok-rewrite_directory.ensures.files.call.faithful f in
-    foreign_behind (g.S.Store.facts c.args.store.now) (g.S.Store.facts c.find.new.store) (g.S.Store.facts c.rewrite_directory.new.store) (c.in_ok-found.ensures.store.same back) (c.in_ok-found.ensures.store.synced back) (c.in_ok-rewrite_directory.ensures.foreign f)
+    spared_behind (g.S.Store.facts c.args.store.now) (g.S.Store.facts c.find.new.store) (g.S.Store.facts c.rewrite_directory.new.store) (c.in_ok-found.ensures.store.same back) (c.in_ok-found.ensures.store.synced back) (c.in_ok-rewrite_directory.ensures.spared f)
