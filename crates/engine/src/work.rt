@@ -59,7 +59,7 @@ impl<K: KeyOrder> DbState<K> {
         ensures outcome { OutcomeLent MayRefuseWork S.facts source.old self.old source.new self.new result }
         ensures caused { IsCausedIn (broken_in (held source.old.memory self.old)) source.old.tables.store source.new.tables.store result }
         ensures does { DoesWork K.cmp options.now budget (held source.old.memory self.old) (held source.new.memory self.new) result }
-        // A compaction that it brought to its end had no more entries left than the budget has, while the store is faithful.
+        // While the store is faithful, a compaction is at its end exactly where no more entries were left than the budget has.
         ensures within { EndsWithin (order_of K.name K.cmp) options.now budget (seen_of S.facts source.old)
             (seen_of S.facts source.new) (held source.old.memory self.old) (held source.new.memory self.new) result }
         // Where there is none, all files are live, unless one couldn't be removed.

@@ -54,10 +54,10 @@ returns-clause-step g c ids =
     piece_done order old new ids before after (max c.args.budget 1) (tt {0}) Worked (piece_within order old new ids before after 1 (max c.args.budget 1) (Ok (tt {0})) (omega arith) (c.in_ok-seal.ensures.step ids))
 
 pub returns-then-is_some-clause-within : goal.returns-then-is_some-clause-within
-returns-then-is_some-clause-within g c worked which gone f = absurd (elim which [
+returns-then-is_some-clause-within g c worked which f = absurd (elim which [
   | inl some ↦ not_some c.args.self.now.job c.requires.idle some
   | inr ease ↦ not_some c.args.source.now.memory.sealed ease.none c.in_ok-flush.ensures.does.was
 ])
 
 pub returns-then-size-write_buffer-clause-within : goal.returns-then-size-write_buffer-clause-within
-returns-then-size-write_buffer-clause-within g c worked which gone f = c.compact.ensures.few worked gone f
+returns-then-size-write_buffer-clause-within g c worked which f = c.compact.ensures.few worked f

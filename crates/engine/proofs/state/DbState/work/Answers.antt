@@ -1,5 +1,6 @@
-use Rattle.std.proofs.Common.{◌≡◌, ◌+◌, ◌<◌, ◌∙◌, max, false, Result, Ok, Err, ap, inl, inr, refl, sym, subst, arith, rules}
+use Rattle.std.proofs.Common.{◌≡◌, ◌∷◌, ℕ, ◌+◌, ◌<◌, ◌∙◌, max, false, Result, Ok, Err, ap, inl, inr, refl, sym, subst, arith, rules}
 use Rattle.coding.specs.declared.error.DbError.{DbError}
+use Rattle.std.specs.Map.{values_of}
 use Rattle.ikey.specs.Orders.{order_of}
 use Rattle.engine.specs.declared.work.Progress.{Progress}
 use Rattle.engine.specs.Follows.{LeadsOpen}
@@ -51,7 +52,7 @@ returns-in-Ok-clause-step g c ids =
 
 pub returns-in-Ok-clause-does : goal.returns-in-Ok-clause-does
 returns-in-Ok-clause-does g c =
-    does_on g.K.KeyOrder.cmp (held c.args.source.now.memory c.args.self.now) c.clean.new.source.memory (held c.do_piece.new.source.memory c.do_piece.new.self) c.args.options.now c.args.budget (Ok c.in-Ok.progress) c.in_ok-complete.ensures.memory c.in-Ok.ensures.does
+    does_on g.K.KeyOrder.cmp (held c.args.source.now.memory c.args.self.now) c.clean.new.source.memory (held c.do_piece.new.source.memory c.do_piece.new.self) c.args.options.now c.args.budget (Ok c.in-Ok.progress) c.in_ok-complete.ensures.memory c.in_ok-complete.ensures.same.sequence c.in-Ok.ensures.does
 
 pub returns-in-Err-clause-step : goal.returns-in-Err-clause-step
 returns-in-Err-clause-step g c ids =
@@ -84,7 +85,7 @@ returns-in-Ok-clause-exact g c =
     (returns-in-Ok-clause-tidy g c) (returns-in-Ok-clause-does g c)
 
 pub returns-in-Ok-clause-within : goal.returns-in-Ok-clause-within
-returns-in-Ok-clause-within g c worked which gone f =
+returns-in-Ok-clause-within g c worked which f =
     let order = order_of g.K.KeyOrder.name g.K.KeyOrder.cmp in
     let old = seen_of g.S.Store.facts c.args.source.now in
     let mid = seen_of g.S.Store.facts c.clean.new.source in
@@ -92,9 +93,10 @@ returns-in-Ok-clause-within g c worked which gone f =
     let between = held c.clean.new.source.memory c.args.self.now in
     let cleaned = c.in_ok-complete.ensures in
     let piece = c.in-Ok.ensures in
-    let inner = piece.within worked (elim which [ inl some ↦ inl some | inr ease ↦ inr (at_ease_on c.args.options.now before c.clean.new.source.memory cleaned.memory ease) ]) gone f in
+    let inner = piece.within worked (elim which [ inl some ↦ inl some | inr ease ↦ inr (at_ease_on c.args.options.now before c.clean.new.source.memory cleaned.memory ease) ]) f in
     let mid_faithful = (piece.step no_ids).faithful f in
-    steps_behind order old mid before between (max c.args.budget 1) cleaned.step mid_faithful refl refl
+    let sequences = ap (λ (n : ℕ). n ∷ values_of c.args.self.now.snapshots.entries) (sym cleaned.same.sequence) in
+    steps_behind order c.args.options.now old mid before between (max c.args.budget 1) c.do_piece.new.self.job cleaned.step mid_faithful refl sequences refl
     (tables_stay order old mid before between refl refl refl c.if-self.false (cleaned.removes mid_faithful)) inner
 
 pub returns-in-Ok-clause-dropped : goal.returns-in-Ok-clause-dropped
