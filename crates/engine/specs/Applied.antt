@@ -26,7 +26,7 @@ use Rattle.engine.specs.declared.work.Progress.{Progress}
 use Rattle.engine.specs.declared.work.Progress.TheVariants.{Idle}
 use Rattle.engine.specs.declared.work.Progress.TheVariants as progress
 use Rattle.engine.specs.OptionValues.{OptionValues}
-use Rattle.engine.specs.Finishing.{CompactOutcome, IsAllCompacted, IsLevelEmpty}
+use Rattle.engine.specs.Finishing.{CompactOutcome, IsAllCompacted, IsLevelEmpty, MovesLevel}
 use Rattle.engine.specs.WithinBudget.{EndsWithin}
 use Rattle.engine.specs.Working.{WantsCompaction, DoesWork, HasLiveOnly, LosesDead, HasNoWork}
 use Rattle.engine.specs.declared.session.Session.{Session}
@@ -113,8 +113,16 @@ WorksIn order options budget old new (Some before) (Some after) answer.Idle = Do
 WorksIn order options budget old new (Some before) (Some after) (Refused error) = DoneWork order options budget old new before after (Err error)
 WorksIn order options budget old new (Some before) state _ = ⊥
 
+-- What a compaction of a level does to the tables, where it was done.
+abbrev pub MovesIn : {K : Type 0} {g : _} → Cmp → ℕ → Option (Held K g) → Option (Held K g) → Answer → Type 0
+MovesIn cmp level (Some before) (Some after) Done = MovesLevel cmp level before after
+MovesIn cmp level (Some before) None Done = ⊥
+MovesIn cmp level None state Done = ⊥
+MovesIn cmp level before after _ = Unit {0}
+
 abbrev pub WorksAs : {K : Type 0} {g : _} → Op → Order → OptionValues → Seen → Seen → Option (Held K g) → Option (Held K g) → Answer → Type 0
 WorksAs (Work budget) order options old new before after answer = WorksIn order options budget old new before after answer
+WorksAs (CompactLevel level) order options old new before after answer = MovesIn order.cmp level before after answer
 WorksAs _ order options old new before after answer = Unit {0}
 
 -- ---- of two sessions
@@ -145,6 +153,9 @@ WorkDone order facts budget old new answer = WorksIn order old.options budget (s
 
 abbrev pub WorkDoneBy : {S K : Type 0} {g : _} → Op → Order → (S → Facts) → Session S K g → Session S K g → Answer → Type 0
 WorkDoneBy op order facts old new answer = WorksAs op order old.options (seen_in facts old) (seen_in facts new) (held_in old) (held_in new) answer
+
+abbrev pub LevelMoved : {S K : Type 0} {g : _} → Cmp → ℕ → Session S K g → Session S K g → Answer → Type 0
+LevelMoved cmp level old new answer = MovesIn cmp level (held_in old) (held_in new) answer
 
 abbrev pub ShownBy : {S K : Type 0} {g : _} → Op → Session S K g → Answer → Type 0
 ShownBy op old answer = Shows old.options op (held_in old) answer
