@@ -8,7 +8,7 @@ use Rattle.engine.specs.Held.{held}
 use Rattle.db_cursor.specs.Whole.{seen_of}
 use Rattle.engine.specs.Working.{IsPiece}
 use Rattle.engine.proofs.WorkSteps.{piece_done, piece_failed}
-use Rattle.engine.proofs.WithinBudget.{steps_itself}
+use Rattle.engine.proofs.WithinBudget.{not_some, steps_itself}
 use Rattle.engine.proofs.state.DbState.do_piece.Goals as goal
 
 pub returns-in_err-step_job-clause-step : goal.returns-in_err-step_job-clause-step
@@ -30,3 +30,6 @@ returns-then-is_some-clause-step g c ids =
 pub returns-then-is_some-clause-within : goal.returns-then-is_some-clause-within
 returns-then-is_some-clause-within g c worked which f =
     steps_itself (order_of g.K.KeyOrder.name g.K.KeyOrder.cmp) c.args.options.now (seen_of g.S.Store.facts c.args.source.now) (held c.args.source.now.memory c.args.self.now) (max c.args.budget 1) c.step_job.new.self.job c.requires.whole (c.in_ok-step_job.ensures.few f)
+
+pub returns-then-is_some-clause-flushes : goal.returns-then-is_some-clause-flushes
+returns-then-is_some-clause-flushes g c worked idle = absurd (not_some c.args.self.now.job idle (search rules))

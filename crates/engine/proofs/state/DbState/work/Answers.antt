@@ -12,6 +12,7 @@ use Rattle.engine.specs.Stands.{no_ids}
 use Rattle.machine.specs.Upkeep.{Works}
 use Rattle.engine.specs.Working.{refused_as, work_answer}
 use Rattle.engine.proofs.ExactFiles.{leaves_exactly}
+use Rattle.engine.proofs.FlushEnds.{flushes_behind}
 use Rattle.engine.proofs.WorkAnswers.{caused_met, does_on, failures_rose, then_piece, then_refused, works, works_broken}
 use Rattle.engine.proofs.WorkSteps.{piece_failed}
 use Rattle.engine.proofs.WithinBudget.{at_ease_on, steps_behind, tables_stay}
@@ -108,3 +109,15 @@ returns-in-Ok-clause-dropped g c = λ idle.
       | inl sealed ↦ inl (ap (λ source. source.memory.sealed) same.0 ∙ sealed)
       | inr read ↦ inr (subst (λ state. IsMemoryUsed state.iterators generation) (sym same.1) read)
     ]))
+
+pub returns-in-Ok-clause-flushes : goal.returns-in-Ok-clause-flushes
+returns-in-Ok-clause-flushes g c =
+    let order = order_of g.K.KeyOrder.name g.K.KeyOrder.cmp in
+    let old = seen_of g.S.Store.facts c.args.source.now in
+    let mid = seen_of g.S.Store.facts c.clean.new.source in
+    let new = seen_of g.S.Store.facts c.do_piece.new.source in
+    let before = held c.args.source.now.memory c.args.self.now in
+    let after = held c.do_piece.new.source.memory c.do_piece.new.self in
+    let cleaned = c.in_ok-complete.ensures in
+    let piece = c.in-Ok.ensures in
+    flushes_behind order old mid new before c.clean.new.source.memory after (Ok c.in-Ok.progress) cleaned.step (piece.step no_ids).faithful cleaned.memory piece.flushes
