@@ -3,10 +3,13 @@ use Rattle.std.proofs.Common.{◌≡◌, ◌⊎◌, ◌<◌, ◌≤◌, ◌+◌,
 use Rattle.std.proofs.lemmas.List.{append-nil, length-append, length-map}
 use Rattle.std.proofs.lemmas.List.Sorted.{Contains-permutation}
 use Rattle.std.specs.Cmp.{IsTotalOrder}
+use Rattle.std.specs.List.Sorted.{IsPermutation}
 use Rattle.std.specs.Map.{values_of}
 use Rattle.cache.specs.Tables.{table_at}
 use Rattle.coding.specs.declared.error.DbError.{DbError}
 use Rattle.coding.specs.declared.error.DbError.TheVariants as error
+use Rattle.compact.specs.Deeper.{is_covered_below}
+use Rattle.compact.specs.Needed.{AreNeeded}
 use Rattle.compact.specs.Outputs.{IsOwn, RefusesEntry}
 use Rattle.compact.specs.Rooms.{AreLarge}
 use Rattle.compact.specs.declared.job.Progress.{Progress}
@@ -15,6 +18,8 @@ use Rattle.edits.specs.declared.field.PlacedTable.{PlacedTable}
 use Rattle.ikey.proofs.SearchedSources.{among_front}
 use Rattle.ikey.specs.Entries.{InternalEntry, entry_of}
 use Rattle.ikey.specs.Orders.{Order}
+use Rattle.cursor.specs.Places.{Cmp}
+use Rattle.ikey.specs.Sources.{SameEntries}
 use Rattle.ikey.specs.Views.{Among}
 use Rattle.ikey.specs.declared.entry.Entry.{Entry}
 use Rattle.running_job.specs.Ending.{CanEnd, EndLeaves, RefusesEnd}
@@ -24,7 +29,7 @@ use Rattle.running_job.specs.declared.open_job.OpenJob.{OpenJob}
 use Rattle.memtables.specs.Memories.{Memories, logged_in}
 use Rattle.memtables.specs.PlaceLaws.{left_logged}
 use Rattle.memtables.specs.Places.{LeavesMemories}
-use Rattle.recover.proofs.Memberships.{among_chosen, from_chosen, one_of_tables}
+use Rattle.recover.proofs.Memberships.{among_chosen, from_chosen, from_rest, in_part, one_of_tables}
 use Rattle.recover.specs.Directory.{Directory}
 use Rattle.recover.specs.Laws.{OneDirectoryLaw}
 use Rattle.recover.specs.Tables.{HasTable, InTables, IsTableFile, TableContent, tabled}
@@ -43,6 +48,7 @@ use Rattle.directory_writes.specs.declared.flush.FlushError.TheVariants.{Before,
 use Rattle.directory_writes.specs.declared.install.Installed.{Installed}
 use Rattle.directory_writes.specs.declared.manifest.CurrentManifest.{CurrentManifest}
 use Rattle.versions.specs.Levels.{AreInOrder}
+use Rattle.versions.specs.declared.plan.JobPlan.{JobPlan}
 use Rattle.engine.specs.declared.ids.Ids.{Ids}
 use Rattle.engine.specs.declared.state.DbState.{DbState}
 use Rattle.engine.specs.Compacting.{IsCompacting}
@@ -50,7 +56,8 @@ use Rattle.engine.specs.Follows.{LeadsOpen}
 use Rattle.engine.specs.Held.{Held, entries_of, held, whole_of}
 use Rattle.machine.specs.Machine.{Machine, entry_count, weight}
 use Rattle.engine.specs.Needed.{EndsNeeded, TakesAll, live_sequences}
-use Rattle.engine.specs.Stands.{IsBroken, IsServing}
+use Rattle.engine.specs.Stands.{IsBroken, IsServing, StandsOpen}
+use Rattle.engine.specs.WrittenTables.{HasMerged, PutsMerged}
 use Rattle.machine.specs.Upkeep.{UpkeepRefused}
 use Rattle.engine.specs.Outcomes.{DbOutcome, IsSame}
 use Rattle.engine.specs.Finishing.{HasCome}
@@ -58,7 +65,8 @@ use Rattle.engine.specs.Working.{IsPiece, MayRefusePiece, broken_by, flush_answe
 use Rattle.engine.proofs.Installing.{broken_install, can_end, serving_installed, serving_uninstalled}
 use Rattle.engine.proofs.JobBounds.{count_within, merged_apart, room_apart_within}
 use Rattle.engine.proofs.NeededEntries.{installed_needed, takes_on}
-use Rattle.engine.proofs.Reading.{long_table}
+use Rattle.engine.proofs.Compacting.{all_contains}
+use Rattle.engine.proofs.Reading.{has_placed, long_table}
 use Rattle.engine.proofs.Stepping.{all_came, can_step, gone_on, serving_stepped, the_job}
 use Rattle.engine.proofs.Steps.{serving_of}
 use Rattle.engine.proofs.WorkSteps.{breaks, drawing, draws, serves_on}
@@ -217,6 +225,10 @@ outcome_behind {T = T} {U = U} old mid new before between after e stood undenied
     as_other : {x : DbError} → SameRefusal {U = U} (Err e) (Err x) → SameRefusal {U = T} (Err e) (Err x)
     as_other is = (let inner = refusal_in is in ap (λ (r : DbError). Err r) inner)
 
+-- the same keys are covered below
+deep_same : {K : Type 0} {g : _} (cmp : Cmp) (work more : OpenJob K g) → work.job.plan ≡ more.job.plan → work.version ≡ more.version → deep_of cmp work ≡ deep_of cmp more
+deep_same cmp work more plan version = λ i key. is_covered_below cmp (plan i).output_level (version i).value.tables key
+
 -- ---- a step
 
 module _ {K : Type 0} {g : _} (order : Order) (total : IsTotalOrder order.cmp) (kept : (scan : Scan K g) → ScanIsKept order.cmp scan) (one : OneDirectoryLaw) (lasts : SoundLasts)
@@ -345,6 +357,46 @@ module _ {K : Type 0} {g : _} (order : Order) (total : IsTotalOrder order.cmp) (
           installed_needed order new.facts.files facts.files (on m serving f).log.directory.directory after state.version.value.tables can.running.inputs can.running.rest (c m serving f).came can.served.consistent can.running.planned can.served.listed
           serving.tables.in_order.levels takes.inputs takes.output takes.version has.has (live_sequences (held after_memory (installed_state installed)))
           (λ sequence i. subst (λ (last : ℕ). Contains (last ∷ values_of state.snapshots.entries) sequence) (sym touches.memory.last) (takes.sequences sequence i))
+
+      -- what must be kept of its inputs' entries is in its outputs
+      pub ends_merged : (installed : Installed K) → result ≡ Ok installed → after.job.plan ≡ before.job.plan → after.version ≡ before.version → PutsMerged order old last_seen db (held after_memory (installed_state installed))
+      ends_merged installed said plan version =
+          subst (λ (o : Option (OpenJob K g)). MatchOption o ⊥ (λ work. IsTrue facts.faithful → (given : Ids) (m : Machine) → StandsOpen order old given db m → HasMerged order old.facts.files facts.files work db (held after_memory (installed_state installed)))) (sym is)
+          (λ f given m s.
+          let serving = serving_of order old given db m whole s in
+          let d = serving.log.directory.directory in
+          let has = subst (λ (r : Result (Installed K) FlushError). Means m serving f r) said (means m serving f) in
+          let can = can_end order kept one lasts new facts mid (drawing m most new.facts) (on m serving f) after (c m serving f) (none_left m serving f) in
+          let inputs = can.running.inputs in
+          let rest = can.running.rest in
+          let parted = can.running.planned.parted in
+          let outputs = has.has.outputs in
+          let contents = has.has.contents in
+          let tables = installed.version.value.tables in
+          let came = (c m serving f).came in
+          record {
+            inputs = inputs;
+            outputs = outputs;
+            planned = subst (λ (p : JobPlan). IsPermutation p.inputs.items (placed_in inputs)) plan can.running.planned.planned;
+            read = λ input i. one_of_tables order old.facts.files d.tables input serving.log.directory.consistent.tables (from_chosen d.tables inputs rest input parted i);
+            written = λ output i.
+                let there = from_chosen contents outputs rest output has.has.compaction.new_tables i in (
+                  one_of_tables order facts.files contents output has.has.consistent.tables there,
+                  has.has.compaction.levels output i ∙ ap (λ (p : JobPlan). p.output_level) plan,
+                  all_contains (Contains tables) (placed_in contents) output.placed has.listed.all (has_placed contents output there),
+                );
+            others = λ placed i.
+                let content = content_at contents placed (contains_among (placed_in contents) placed (all_contains (Contains (placed_in contents)) tables placed has.listed.only i)) in
+                elim (in_part contents outputs rest content.0 has.has.compaction.new_tables content.1) [
+                  | inl out ↦ inr (subst (λ (p : PlacedTable). Contains (placed_in outputs) p) content.2 (has_placed outputs content.0 out))
+                  | inr beside ↦ inl (subst (λ (p : PlacedTable). Contains state.version.value.tables p) content.2
+                        (all_contains (Contains state.version.value.tables) (placed_in d.tables) content.0.placed can.served.listed.all (has_placed d.tables content.0 (from_rest d.tables inputs rest content.0 parted beside))))
+                ];
+            entries = map entry_of came;
+            same = subst (λ (es : List InternalEntry). SameEntries (map entry_of es) (tabled inputs)) (append-nil came) can.running.entries;
+            needed = subst (λ (deep : List ℕ → Bool). AreNeeded (map entry_of came) before.job.selection.snapshots deep (tabled outputs)) (deep_same order.cmp after before plan version)
+                (subst (λ (ss : List ℕ). AreNeeded (map entry_of came) ss (deep_of order.cmp after) (tabled outputs)) snapshots has.has.put.needed);
+          })
 
       -- no number more is drawn than entries came
       pub ends_counted : {T : Type 0} (budget_is : most ≤ max budget 1) (merged : after.merged ≡ shown (before.merged + progress.merged)) (few : most ≤ progress.merged) (done : T) (installed : Installed K) → result ≡ Ok installed

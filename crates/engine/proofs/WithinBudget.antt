@@ -30,6 +30,7 @@ use Rattle.engine.specs.Needed.{IsForLive, live_sequences}
 use Rattle.engine.specs.WithinBudget.{HasLeftAbove, HasLeftBy, HasLeftUpTo, IsNewJob, StepsBy}
 use Rattle.engine.specs.InUse.{IsTableUsed}
 use Rattle.engine.specs.Working.{IsAtEase, IsSameMemory, LosesDead}
+use Rattle.engine.specs.WrittenTables.{PutsMerged}
 use Rattle.engine.proofs.ExactFiles.{table_numbered}
 use Rattle.engine.proofs.NeededEntries.{still_live}
 use Rattle.engine.proofs.Opened.{live_stays}
@@ -82,8 +83,8 @@ tables_stay order old new before between tables job iterators whole loses ids m 
 
 -- ---- where it began
 
-pub steps_itself : {K : Type 0} {g : _} (order : Order) (options : OptionValues) (old : Seen) (db : Held K g) (most : ℕ) (job : Option (OpenJob K g)) → db.broken ≡ false → HasLeftBy order old db most job → StepsBy order options old db most job
-steps_itself order options old db most job whole left = (old, db, record { stands = λ ids m s. (m, s); whole = whole; tables = refl; files = λ ids m s number has. refl; job = inl refl }, left)
+pub steps_itself : {K : Type 0} {g : _} (order : Order) (options : OptionValues) (old new : Seen) (db after : Held K g) (most : ℕ) → db.broken ≡ false → HasLeftBy order old db most after.job → (after.job ≡ None → PutsMerged order old new db after) → StepsBy order options old new db after most
+steps_itself order options old new db after most whole left merged = (old, db, record { stands = λ ids m s. (m, s); whole = whole; tables = refl; files = λ ids m s number has. refl; job = inl refl }, left, merged)
 
 module _ {K : Type 0} {g : _} (cmp : Cmp) (options : OptionValues) where
   -- one that was begun by the plan that was picked
@@ -102,10 +103,10 @@ module _ {K : Type 0} {g : _} (cmp : Cmp) (options : OptionValues) where
   }
 
 -- with a compaction that was begun
-pub steps_begun : {K : Type 0} {g : _} (order : Order) (options : OptionValues) (old between : Seen) (before mid : Held K g) (most : ℕ) (job : Option (OpenJob K g)) (plan : JobPlan) {P : Machine → Machine → Type 0} → ((ids : Ids) → LeadsOpen order old between ids before mid P) → IsTrue between.facts.faithful
+pub steps_begun : {K : Type 0} {g : _} (order : Order) (options : OptionValues) (old between new : Seen) (before mid after : Held K g) (most : ℕ) (plan : JobPlan) {P : Machine → Machine → Type 0} → ((ids : Ids) → LeadsOpen order old between ids before mid P) → IsTrue between.facts.faithful
     → mid.broken ≡ false → mid.tables ≡ before.tables → between.facts.files ≡ old.facts.files → before.job ≡ None → MatchOption mid.job ⊥ (λ work. (work.merged ≡ 0) × (work.job.plan ≡ plan)) → MatchOption mid.job ⊥ (λ work. IsForLive work before)
-    → IsPicked order.cmp options.level0_files options.base_bytes (version_of before) plan → HasLeftBy order between mid most job → StepsBy order options old before most job
-steps_begun order options old between before mid most job plan leads f whole tables files none begun live picked left = (
+    → IsPicked order.cmp options.level0_files options.base_bytes (version_of before) plan → HasLeftBy order between mid most after.job → (after.job ≡ None → PutsMerged order between new mid after) → StepsBy order options old new before after most
+steps_begun order options old between new before mid after most plan leads f whole tables files none begun live picked left merged = (
   between,
   mid,
   record {
@@ -116,12 +117,13 @@ steps_begun order options old between before mid most job plan leads f whole tab
     job = inr (none, new_job order.cmp options before plan picked mid.job begun live);
   },
   left,
+  merged,
 )
 
 -- behind a piece that leaves tables and compaction
-pub steps_behind : {K : Type 0} {g : _} (order : Order) (options : OptionValues) (old mid : Seen) (before between : Held K g) (most : ℕ) (job : Option (OpenJob K g)) {P : Machine → Machine → Type 0} → ((ids : Ids) → LeadsOpen order old mid ids before between P) → IsTrue mid.facts.faithful
-    → version_of between ≡ version_of before → live_sequences before ≡ live_sequences between → between.job ≡ before.job → KeepsTableFiles order old mid before → StepsBy order options mid between most job → StepsBy order options old before most job
-steps_behind {K} {g} order options old mid before between most job leads f version sequences same files inner =
+pub steps_behind : {K : Type 0} {g : _} (order : Order) (options : OptionValues) (old mid new : Seen) (before between after : Held K g) (most : ℕ) {P : Machine → Machine → Type 0} → ((ids : Ids) → LeadsOpen order old mid ids before between P) → IsTrue mid.facts.faithful
+    → version_of between ≡ version_of before → live_sequences before ≡ live_sequences between → between.job ≡ before.job → KeepsTableFiles order old mid before → StepsBy order options mid new between after most → StepsBy order options old new before after most
+steps_behind {K} {g} order options old mid new before between after most leads f version sequences same files inner =
     let tables = ap (λ (v : Placement). v.tables) version in (
       inner.0,
       inner.1,
@@ -135,6 +137,7 @@ steps_behind {K} {g} order options old mid before between most job leads f versi
         job = elim inner.2.job [ inl is ↦ inl (is ∙ same) | inr begun ↦ inr (sym same ∙ begun.0, new_behind order.cmp options between before version sequences inner.1.job begun.1) ];
       },
       inner.3,
+      inner.4,
     )
 
 -- ---- when it is asked

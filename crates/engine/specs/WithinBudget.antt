@@ -20,6 +20,7 @@ use Rattle.engine.specs.Needed.{IsForLive}
 use Rattle.engine.specs.OptionValues.{OptionValues}
 use Rattle.engine.specs.Stands.{StandsOpen}
 use Rattle.engine.specs.Working.{IsAtEase}
+use Rattle.engine.specs.WrittenTables.{PutsMerged}
 
 -- ---- what is left of its inputs
 
@@ -54,11 +55,12 @@ pub record IsBeforeStep {K : Type 0} {g : _} (order : Order) (options : OptionVa
   pub files : (ids : Ids) (m : Machine) → StandsOpen order old ids before m → (number : ℕ) → HasNumber number before.tables → table_at between.facts.files number ≡ table_at old.facts.files number
   pub job : (mid.job ≡ before.job) ⊎ ((before.job ≡ None) × MatchOption mid.job ⊥ (IsNewJob order.cmp options before))
 
--- It came through one in which so much was left, for this compaction to be under way then, or none.
-abbrev pub StepsBy : {K : Type 0} {g : _} → Order → OptionValues → Seen → Held K g → ℕ → Option (OpenJob K g) → Type 0
-StepsBy {K} {g} order options old before most job = (between : Seen) × (mid : Held K g) × IsBeforeStep order options old between before mid × HasLeftBy order between mid most job
+-- It came through one in which so much was left, and where the compaction is at its end, this is what has become of it.
+abbrev pub StepsBy : {K : Type 0} {g : _} → Order → OptionValues → Seen → Seen → Held K g → Held K g → ℕ → Type 0
+StepsBy {K} {g} order options old new before after most =
+    (between : Seen) × (mid : Held K g) × IsBeforeStep order options old between before mid × HasLeftBy order between mid most after.job × (after.job ≡ None → PutsMerged order between new mid after)
 
 -- Where it went on with a compaction, or began one, that is at its end exactly where no more were left than its budget has, one for 0.
 abbrev pub EndsWithin : {K : Type 0} {g : _} → Order → OptionValues → ℕ → Seen → Seen → Held K g → Held K g → Result Progress DbError → Type 0
 EndsWithin order options budget old new before after result =
-    result ≡ Ok Worked → IsSome before.job ⊎ IsAtEase options before → IsTrue new.facts.faithful → StepsBy order options old before (max budget 1) after.job
+    result ≡ Ok Worked → IsSome before.job ⊎ IsAtEase options before → IsTrue new.facts.faithful → StepsBy order options old new before after (max budget 1)

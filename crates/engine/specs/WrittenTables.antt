@@ -1,11 +1,17 @@
 -- What the table files hold that work writes.
-use Rattle.std.specs.Prelude.{◌≡◌, ◌⊎◌, ℕ, IsTrue, IsSome, None, List, [], Contains, Result, Ok}
+use Rattle.std.specs.Prelude.{◌≡◌, ◌⊎◌, ℕ, IsTrue, IsSome, None, List, [], Contains, MatchOption, Result, Ok}
+use Rattle.std.specs.List.Sorted.{IsPermutation}
 use Rattle.coding.specs.declared.error.DbError.{DbError}
+use Rattle.compact.specs.Needed.{AreNeeded}
+use Rattle.directory_writes.specs.Compactions.{placed_in}
+use Rattle.edits.specs.declared.field.PlacedTable.{PlacedTable}
 use Rattle.ikey.specs.Orders.{Order}
 use Rattle.ikey.specs.Sources.{SameEntries}
 use Rattle.ikey.specs.declared.entry.Entry.{Entry}
 use Rattle.memtables.specs.Memories.{sealed_inserts}
-use Rattle.recover.specs.Tables.{HasTable, TableContent}
+use Rattle.recover.specs.Tables.{HasTable, InTables, TableContent, tabled}
+use Rattle.running_job.specs.Running.{deep_of}
+use Rattle.running_job.specs.declared.open_job.OpenJob.{OpenJob}
 use Rattle.store.specs.Files.{Files}
 use Rattle.table_access.specs.Tables.{Seen}
 use Rattle.engine.specs.declared.ids.Ids.{Ids}
@@ -34,3 +40,23 @@ PutsSealed order old new before after =
 -- So it is behind a call of work in front of which a memory table was sealed, and no compaction under way.
 abbrev pub FlushesSealed : {K : Type 0} {g : _} → Order → Seen → Seen → Held K g → Held K g → Result Progress DbError → Type 0
 FlushesSealed order old new before after result = result ≡ Ok Worked → before.job ≡ None → IsSome before.memory.sealed → PutsSealed order old new before after
+
+-- ---- of a compaction
+
+-- Tables of its output level have come in the place of its inputs. Their files have exactly those of the inputs' entries that must be kept
+-- for its sequences.
+pub record HasMerged {K : Type 0} {g : _} (order : Order) (old new : Files) (work : OpenJob K g) (before after : Held K g) : Type 0 where
+  pub inputs : List TableContent
+  pub outputs : List TableContent
+  pub planned : IsPermutation work.job.plan.inputs.items (placed_in inputs)
+  pub read : (input : TableContent) → InTables inputs input → HasTable order old input
+  pub written : (output : TableContent) → InTables outputs output → HasTable order new output × (output.placed.level ≡ work.job.plan.output_level) × Contains after.tables output.placed
+  pub others : (placed : PlacedTable) → Contains after.tables placed → Contains before.tables placed ⊎ Contains (placed_in outputs) placed
+  pub entries : List Entry
+  pub same : SameEntries entries (tabled inputs)
+  pub needed : AreNeeded entries work.job.selection.snapshots (deep_of order.cmp work) (tabled outputs)
+
+-- While the store is faithful, that is what the compaction under way has become.
+abbrev pub PutsMerged : {K : Type 0} {g : _} → Order → Seen → Seen → Held K g → Held K g → Type 0
+PutsMerged order old new before after =
+    MatchOption before.job ⊥ (λ work. IsTrue new.facts.faithful → (ids : Ids) (m : Machine) → StandsOpen order old ids before m → HasMerged order old.facts.files new.facts.files work before after)

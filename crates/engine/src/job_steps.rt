@@ -32,6 +32,7 @@ impl<K: KeyOrder> DbState<K> {
     ghost use Rattle.engine.specs.Finishing.{HasCome};
     ghost use Rattle.engine.specs.Needed.{EndsNeeded, IsForLive, IsTakingAll};
     ghost use Rattle.engine.specs.WithinBudget.{HasLeftBy, StepsBy};
+    ghost use Rattle.engine.specs.WrittenTables.{PutsMerged};
     ghost use Rattle.engine.specs.Working.{BeginsJob, GoesOn, IsPiece, MayRefusePiece, WantsCompaction};
     ghost use Rattle.memtables.specs.Places.{LeavesMemories};
     ghost use Rattle.versions.specs.Plans.{IsPlanOf, IsWholePlan};
@@ -53,8 +54,8 @@ impl<K: KeyOrder> DbState<K> {
             (held source.new.memory self.new) }
         ensures unwanted { result ≡ Ok Idle → (level : ℕ) → WantsCompaction options.now (held source.old.memory self.old) level → ⊥ }
         ensures few { result ≡ Ok Worked → IsTrue (S.facts source.new.tables.store).faithful
-            → StepsBy (order_of K.name K.cmp) options.now (seen_of S.facts source.old) (held source.old.memory self.old)
-            (max budget 1) self.new.job }
+            → StepsBy (order_of K.name K.cmp) options.now (seen_of S.facts source.old) (seen_of S.facts source.new)
+            (held source.old.memory self.old) (held source.new.memory self.new) (max budget 1) }
         ensures idle { result ≡ Ok Idle → (source.new ≡ source.old) × (self.new ≡ self.old) }
         ensures lock { (S.facts source.new.tables.store).locked ≡ (S.facts source.old.tables.store).locked }
     {
@@ -137,6 +138,8 @@ impl<K: KeyOrder> DbState<K> {
         ensures few { OnOk result (IsTrue (S.facts source.new.tables.store).faithful
             → HasLeftBy (order_of K.name K.cmp) (seen_of S.facts source.old) (held source.old.memory self.old)
             (max budget 1) self.new.job) }
+        ensures merges { OnOk result (self.new.job ≡ None → PutsMerged (order_of K.name K.cmp) (seen_of S.facts source.old)
+            (seen_of S.facts source.new) (held source.old.memory self.old) (held source.new.memory self.new)) }
         ensures come { result ≡ Ok true → LeadsLent (order_of K.name K.cmp) S.facts source.old self.old source.new self.new
             (λ m n. HasCome budget (held source.old.memory self.old) m result n) }
         ensures lock { (S.facts source.new.tables.store).locked ≡ (S.facts source.old.tables.store).locked }

@@ -109,5 +109,7 @@ returns-clause-few g c worked f =
     let between = held c.begin_job.new.source.memory c.begin_job.new.self in
     let b = c.in_ok-begin_job.ensures in
     let a = c.in_ok-step_job.ensures in
+    let new = seen_of g.S.Store.facts c.step_job.new.source in
+    let after = held c.step_job.new.source.memory c.step_job.new.self in
     let still = (a.step no_ids).faithful f in
-    steps_begun order c.args.options.now old mid before between (max c.args.budget 1) c.step_job.new.self.job c.in-Some.plan b.step still b.whole b.same.tables (b.files still) c.requires.none b.none b.live (returns-clause-begins g c worked).picked (a.few f)
+    steps_begun order c.args.options.now old mid new before between after (max c.args.budget 1) c.in-Some.plan b.step still b.whole b.same.tables (b.files still) c.requires.none b.none b.live (returns-clause-begins g c worked).picked (a.few f) a.merges

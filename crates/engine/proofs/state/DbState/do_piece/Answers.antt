@@ -29,7 +29,12 @@ returns-then-is_some-clause-step g c ids =
 
 pub returns-then-is_some-clause-within : goal.returns-then-is_some-clause-within
 returns-then-is_some-clause-within g c worked which f =
-    steps_itself (order_of g.K.KeyOrder.name g.K.KeyOrder.cmp) c.args.options.now (seen_of g.S.Store.facts c.args.source.now) (held c.args.source.now.memory c.args.self.now) (max c.args.budget 1) c.step_job.new.self.job c.requires.whole (c.in_ok-step_job.ensures.few f)
+    let old = seen_of g.S.Store.facts c.args.source.now in
+    let new = seen_of g.S.Store.facts c.step_job.new.source in
+    let before = held c.args.source.now.memory c.args.self.now in
+    let after = held c.step_job.new.source.memory c.step_job.new.self in
+    let a = c.in_ok-step_job.ensures in
+    steps_itself (order_of g.K.KeyOrder.name g.K.KeyOrder.cmp) c.args.options.now old new before after (max c.args.budget 1) c.requires.whole (a.few f) a.merges
 
 pub returns-then-is_some-clause-flushes : goal.returns-then-is_some-clause-flushes
 returns-then-is_some-clause-flushes g c worked idle = absurd (not_some c.args.self.now.job idle (search rules))

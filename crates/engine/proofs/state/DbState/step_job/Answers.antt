@@ -18,9 +18,10 @@ use Rattle.engine.specs.Outcomes.{DbOutcome}
 use Rattle.engine.specs.Stands.{no_ids}
 use Rattle.engine.specs.WithinBudget.{HasLeftBy}
 use Rattle.engine.specs.Working.{IsFurther, IsPiece, MayRefusePiece, broken_by, flush_answer}
-use Rattle.engine.proofs.JobEnds.{ends_counted, ends_gone_on, ends_installed, ends_needed, ends_stopped, ends_unended, stopped_outcome, unended_outcome}
+use Rattle.engine.specs.WrittenTables.{PutsMerged}
+use Rattle.engine.proofs.JobEnds.{ends_counted, ends_gone_on, ends_installed, ends_merged, ends_needed, ends_stopped, ends_unended, stopped_outcome, unended_outcome}
 use Rattle.engine.proofs.NeededEntries.{takes_on, taking}
-use Rattle.engine.proofs.WithinBudget.{few_left, more_left}
+use Rattle.engine.proofs.WithinBudget.{few_left, more_left, not_some}
 use Rattle.engine.proofs.state.DbState.step_job.Goals as goal
 
 pub returns-in_err-progress-clause-step : goal.returns-in_err-progress-clause-step
@@ -230,6 +231,34 @@ returns-in-Ok-clause-few g c f =
     let gone : c.take_installed.new.self.job ≡ None = ap (λ (t : DbState g.row.K.Denot g.K.KeyOrder). t.job) c.take_installed.ensures ∙ none in
     subst (λ (o : Option (OpenJob g.row.K.Denot g.K.KeyOrder)). HasLeftBy order old db (max c.args.budget 1) o) (sym gone)
     (few_left order old (whole_in g.S.Store.facts c.step.new.source) db c.in-Some.job c.step.new.self c.step.new.numbers.next c.args.budget progress is ended c.in_ok-progress.ensures.goes_on (c.in-Ok.ensures.call.faithful f))
+
+pub returns-then-not-progress-clause-merges : goal.returns-then-not-progress-clause-merges
+returns-then-not-progress-clause-merges g c none = absurd (not_some (Some c.step.new.self) none (tt {0}))
+
+pub returns-in-Ok-clause-merges : goal.returns-in-Ok-clause-merges
+returns-in-Ok-clause-merges g c gone =
+    let order = order_of g.K.KeyOrder.name g.K.KeyOrder.cmp in
+    let old = seen_of g.S.Store.facts c.args.source.now in
+    let new = seen_of g.S.Store.facts c.step.new.source in
+    let facts = g.S.Store.facts c.install.new.store in
+    let state = c.args.self.now in
+    let memory = c.args.source.now.memory in
+    let after_memory = c.step.new.source.memory in
+    let numbers = c.step.new.numbers in
+    let most = max c.args.budget 1 in
+    let s = c.in_ok-progress.ensures in
+    let i = c.in-Ok.ensures in
+    let installed = c.in-Ok.installed in
+    let is : state.job ≡ Some c.in-Some.job = search rules in
+    let none : c.take.new.self ≡ None = search rules in
+    let ended : c.in_ok-progress.progress.ended ≡ true = search rules in
+    let after : Option (OpenJob g.row.K.Denot g.K.KeyOrder) → DbState g.row.K.Denot g.K.KeyOrder =
+    λ o. record state { version = installed.version; directory = record state.directory { numbers = numbers; manifest = record state.directory.manifest { end = installed.manifest_end } }; job = o } in
+    let taken : c.take_installed.new.self ≡ after c.take.new.self = c.take_installed.ensures in
+    subst (λ (t : DbState g.row.K.Denot g.K.KeyOrder). PutsMerged order old (record new { facts = facts }) (held memory state) (held after_memory t)) (sym (taken ∙ ap after none))
+    (ends_merged order g.met.K.KeyOrder.total (λ scan. scan_kept order.cmp scan) c.one_directory.ensures c.sound_lasts.ensures old new no_ids state memory after_memory numbers most c.in-Some.job c.step.new.self is c.requires.whole
+    s.numbers s.drawn s.touches s.keeps c.args.budget c.in_ok-progress.progress s.goes_on s.snapshots s.owns facts ended c.last-last_sequence.result c.last-last_sequence.ensures.is c.deref.result.now.tables (ap (λ (p : Placement). p.tables) c.deref.ensures) (Ok installed)
+    i.call i.leaves installed refl s.plan s.version)
 
 pub returns-in-Err-clause-step : goal.returns-in-Err-clause-step
 returns-in-Err-clause-step g c ids =

@@ -96,8 +96,10 @@ returns-in-Ok-clause-within g c worked which f =
     let piece = c.in-Ok.ensures in
     let inner = piece.within worked (elim which [ inl some ↦ inl some | inr ease ↦ inr (at_ease_on c.args.options.now before c.clean.new.source.memory cleaned.memory ease) ]) f in
     let mid_faithful = (piece.step no_ids).faithful f in
+    let new = seen_of g.S.Store.facts c.do_piece.new.source in
+    let after = held c.do_piece.new.source.memory c.do_piece.new.self in
     let sequences = ap (λ (n : ℕ). n ∷ values_of c.args.self.now.snapshots.entries) (sym cleaned.same.sequence) in
-    steps_behind order c.args.options.now old mid before between (max c.args.budget 1) c.do_piece.new.self.job cleaned.step mid_faithful refl sequences refl
+    steps_behind order c.args.options.now old mid new before between after (max c.args.budget 1) cleaned.step mid_faithful refl sequences refl
     (tables_stay order old mid before between refl refl refl c.if-self.false (cleaned.removes mid_faithful)) inner
 
 pub returns-in-Ok-clause-dropped : goal.returns-in-Ok-clause-dropped
