@@ -1,7 +1,7 @@
 -- How a call that goes on with a compaction ends.
 use Rattle.std.proofs.Common.{◌≡◌, ◌⊎◌, ◌<◌, ◌≤◌, ◌+◌, ◌^◌, ◌++◌, ℕ, Bool, true, false, List, [], ◌∷◌, map, Contains, Option, Some, None, MatchOption, max, Result, Ok, Err, IsTrue, inl, inr, refl, sym, ap, subst, ◌∙◌, arith, string_bytes}
 use Rattle.std.proofs.lemmas.List.{append-nil, length-append, length-map}
-use Rattle.std.proofs.lemmas.List.Sorted.{Contains-permutation}
+use Rattle.std.proofs.lemmas.List.Sorted.{Contains-permutation, IsPermutation-sym}
 use Rattle.std.specs.Cmp.{IsTotalOrder}
 use Rattle.std.specs.List.Sorted.{IsPermutation}
 use Rattle.std.specs.Map.{values_of}
@@ -30,6 +30,7 @@ use Rattle.memtables.specs.Memories.{Memories, logged_in}
 use Rattle.memtables.specs.PlaceLaws.{left_logged}
 use Rattle.memtables.specs.Places.{LeavesMemories}
 use Rattle.recover.proofs.Memberships.{among_chosen, from_chosen, from_rest, in_part, one_of_tables}
+use Rattle.recover.proofs.Adding.{table_of}
 use Rattle.recover.specs.Directory.{Directory}
 use Rattle.recover.specs.Laws.{OneDirectoryLaw}
 use Rattle.recover.specs.Tables.{HasTable, InTables, IsTableFile, TableContent, tabled}
@@ -39,7 +40,7 @@ use Rattle.db_cursor.specs.Whole.{Whole}
 use Rattle.db_cursor.specs.declared.scan.Scan.{Scan}
 use Rattle.table_access.specs.Tables.{Seen, SoundLasts}
 use Rattle.table_access.specs.Values.{IsPastLimit}
-use Rattle.store.specs.Files.{Facts}
+use Rattle.store.specs.Files.{Facts, Files}
 use Rattle.directory_writes.proofs.JobTables.{contains_among, content_at}
 use Rattle.directory_writes.specs.Compactions.{placed_in}
 use Rattle.directory_writes.specs.Install.{InstallMeans, InstallTouches}
@@ -47,7 +48,7 @@ use Rattle.directory_writes.specs.declared.flush.FlushError.{FlushError}
 use Rattle.directory_writes.specs.declared.flush.FlushError.TheVariants.{Before, Edit}
 use Rattle.directory_writes.specs.declared.install.Installed.{Installed}
 use Rattle.directory_writes.specs.declared.manifest.CurrentManifest.{CurrentManifest}
-use Rattle.versions.specs.Levels.{AreInOrder}
+use Rattle.versions.specs.Levels.{AreInOrder, Lists}
 use Rattle.versions.specs.declared.plan.JobPlan.{JobPlan}
 use Rattle.engine.specs.declared.ids.Ids.{Ids}
 use Rattle.engine.specs.declared.state.DbState.{DbState}
@@ -57,17 +58,18 @@ use Rattle.engine.specs.Held.{Held, entries_of, held, whole_of}
 use Rattle.machine.specs.Machine.{Machine, entry_count, weight}
 use Rattle.engine.specs.Needed.{EndsNeeded, TakesAll, live_sequences}
 use Rattle.engine.specs.Stands.{IsBroken, IsServing, StandsOpen}
-use Rattle.engine.specs.WrittenTables.{HasMerged, PutsMerged}
+use Rattle.engine.specs.WrittenTables.{HasMerged, KeepsTableFiles, PutsMerged}
 use Rattle.machine.specs.Upkeep.{UpkeepRefused}
 use Rattle.engine.specs.Outcomes.{DbOutcome, IsSame}
 use Rattle.engine.specs.Finishing.{HasCome}
 use Rattle.engine.specs.Working.{IsPiece, MayRefusePiece, broken_by, flush_answer}
+use Rattle.engine.proofs.InUse.{as_listed}
 use Rattle.engine.proofs.Installing.{broken_install, can_end, serving_installed, serving_uninstalled}
 use Rattle.engine.proofs.JobBounds.{count_within, merged_apart, room_apart_within}
 use Rattle.engine.proofs.NeededEntries.{installed_needed, takes_on}
 use Rattle.engine.proofs.Compacting.{all_contains}
 use Rattle.engine.proofs.Reading.{has_placed, long_table}
-use Rattle.engine.proofs.Stepping.{all_came, can_step, gone_on, serving_stepped, the_job}
+use Rattle.engine.proofs.Stepping.{all_came, can_step, gone_on, kept_parts, listed_apart, serving_stepped, the_job}
 use Rattle.engine.proofs.Steps.{serving_of}
 use Rattle.engine.proofs.WorkSteps.{breaks, drawing, draws, serves_on}
 
@@ -123,6 +125,14 @@ module _ {K : Type 0} {g : _} (order : Order) (total : IsTotalOrder order.cmp) (
       let within = count_within (entry_count m) (weight m) (map entry_of (c.came ++ c.left)) (entries_of serving.contents db) apart merged_within serving.accounted in
       let counted = c.running.counted in
       omega (arith, counted, within, length-map (c.came ++ c.left) entry_of, length-append c.came c.left)
+
+  -- its inputs are tables of the version
+  pub inputs_listed : (placed : PlacedTable) → Contains work.job.plan.inputs.items placed → Contains db.tables placed
+  inputs_listed placed i =
+      let content = content_at c.running.inputs placed (contains_among (placed_in c.running.inputs) placed (Contains-permutation work.job.plan.inputs.items (placed_in c.running.inputs) placed c.running.planned.planned i)) in
+      let there = from_chosen d.tables c.running.inputs c.running.rest content.0 c.running.planned.parted content.1 in
+      let listed = subst (λ (cs : List TableContent). Lists (placed_in cs) db.tables) serving.log.directory.in_tables serving.tables.version in
+      subst (λ (p : PlacedTable). Contains db.tables p) content.2 (all_contains (Contains db.tables) (placed_in d.tables) content.0.placed listed.all (has_placed d.tables content.0 there))
 
   -- an input that passes a limit is one of the first directory's
   pub job_limited : IsOnePastLimit order.cmp work.job.plan.inputs.items (whole_of old db) → m.over_limit ≡ true
@@ -229,6 +239,36 @@ outcome_behind {T = T} {U = U} old mid new before between after e stood undenied
 deep_same : {K : Type 0} {g : _} (cmp : Cmp) (work more : OpenJob K g) → work.job.plan ≡ more.job.plan → work.version ≡ more.version → deep_of cmp work ≡ deep_of cmp more
 deep_same cmp work more plan version = λ i key. is_covered_below cmp (plan i).output_level (version i).value.tables key
 
+-- what has become of a compaction is that of it as it was, where its inputs' files are the same
+pub merged_on : {K : Type 0} {g : _} (order : Order) (old mid new : Files) (work more : OpenJob K g) (before between after : Held K g) → more.job.plan ≡ work.job.plan → more.job.selection.snapshots ≡ work.job.selection.snapshots → more.version ≡ work.version
+    → between.tables ≡ before.tables → ((placed : PlacedTable) → Contains work.job.plan.inputs.items placed → table_at mid placed.table.number ≡ table_at old placed.table.number) → HasMerged order mid new more between after → HasMerged order old new work before after
+merged_on order old mid new work more before between after plan snapshots version tables files h =
+    let planned = subst (λ (p : JobPlan). IsPermutation p.inputs.items (placed_in h.inputs)) plan h.planned in
+    record {
+      inputs = h.inputs;
+      outputs = h.outputs;
+      planned = planned;
+      read = λ input i.
+          let has = h.read input i in
+          let taken = Contains-permutation (placed_in h.inputs) work.job.plan.inputs.items input.placed (IsPermutation-sym work.job.plan.inputs.items (placed_in h.inputs) planned) (has_placed h.inputs input i) in
+          record {
+            numbered = has.numbered;
+            bytes = has.bytes;
+            there = sym (files input.placed taken) ∙ has.there;
+            size = has.size;
+            spelled = has.spelled;
+            sorted = has.sorted;
+            smallest = has.smallest;
+            largest = has.largest;
+          };
+      written = λ output i. let has = h.written output i in (has.0, has.1 ∙ ap (λ (p : JobPlan). p.output_level) plan, has.2);
+      others = λ placed i. elim (h.others placed i) [ inl was ↦ inl (subst (λ (ts : List PlacedTable). Contains ts placed) tables was) | inr out ↦ inr out ];
+      entries = h.entries;
+      same = h.same;
+      needed = subst (λ (deep : List ℕ → Bool). AreNeeded h.entries work.job.selection.snapshots deep (tabled h.outputs)) (deep_same order.cmp more work plan version)
+          (subst (λ (ss : List ℕ). AreNeeded h.entries ss (deep_of order.cmp more) (tabled h.outputs)) snapshots h.needed);
+    }
+
 -- ---- a step
 
 module _ {K : Type 0} {g : _} (order : Order) (total : IsTotalOrder order.cmp) (kept : (scan : Scan K g) → ScanIsKept order.cmp scan) (one : OneDirectoryLaw) (lasts : SoundLasts)
@@ -262,6 +302,20 @@ module _ {K : Type 0} {g : _} (order : Order) (total : IsTotalOrder order.cmp) (
       )
   refused m error.NumbersSpent serving f same h = ((let below : next ≤ m.numbers = serving.numbers in omega (arith, h, below, upto)), draws m most new.facts)
   refused m _ serving f same h = absurd h
+
+  -- the files of the tables stay
+  pub steps_beside : IsTrue new.facts.faithful → KeepsTableFiles order old new db
+  steps_beside f given m s number has =
+      let serving = serving_of order old given db m whole s in
+      let d = serving.log.directory.directory in
+      let listed = subst (λ (cs : List TableContent). Lists (placed_in cs) state.version.value.tables) serving.log.directory.in_tables serving.tables.version in
+      let one_listed = as_listed state.version.value.tables number has in
+      let placed = one_listed.0 in
+      let content = content_at d.tables placed (contains_among (placed_in d.tables) placed (all_contains (Contains (placed_in d.tables)) state.version.value.tables placed listed.only one_listed.1)) in
+      let parts = kept_parts order kept one old new db after_memory numbers most before after is le upto touches keeps m serving f in
+      let apart = listed_apart order kept one old new db after_memory numbers most before after is le upto touches keeps m serving content.0 content.1 in
+      subst (λ (n : ℕ). table_at new.facts.files n ≡ table_at old.facts.files n) (ap (λ (p : PlacedTable). p.table.number) content.2 ∙ one_listed.2)
+      (parts.others.tables content.0.placed.table.number (table_of order old.facts.files d.tables content.0 serving.log.directory.consistent.tables content.1) apart)
 
   -- it was refused, and the job is given up
   pub ends_stopped : {T : Type 0} (e : DbError) → RefusesStep order (record { seen = old; memory = memory }) (record { seen = new; memory = after_memory }) next numbers.next before e

@@ -30,7 +30,7 @@ use Rattle.engine.specs.Needed.{IsForLive, live_sequences}
 use Rattle.engine.specs.WithinBudget.{HasLeftAbove, HasLeftBy, HasLeftUpTo, IsNewJob, StepsBy}
 use Rattle.engine.specs.InUse.{IsTableUsed}
 use Rattle.engine.specs.Working.{IsAtEase, IsSameMemory, LosesDead}
-use Rattle.engine.specs.WrittenTables.{PutsMerged}
+use Rattle.engine.specs.WrittenTables.{KeepsTableFiles, PutsMerged}
 use Rattle.engine.proofs.ExactFiles.{table_numbered}
 use Rattle.engine.proofs.NeededEntries.{still_live}
 use Rattle.engine.proofs.Opened.{live_stays}
@@ -68,11 +68,7 @@ more_left {K} {g} order old mid db work more next budget progress is going goes 
 
 -- ---- the files of its tables
 
--- those of the tables of the version stay
-abbrev pub KeepsTableFiles : {K : Type 0} {g : _} → Order → Seen → Seen → Held K g → Type 0
-KeepsTableFiles order old new before = (ids : Ids) (m : Machine) → StandsOpen order old ids before m → (number : ℕ) → HasNumber number before.tables → table_at new.facts.files number ≡ table_at old.facts.files number
-
--- they do where only what isn't live is removed
+-- those of the tables of the version stay where only what isn't live is removed
 pub tables_stay : {K : Type 0} {g : _} (order : Order) (old new : Seen) (before between : Held K g) → between.tables ≡ before.tables → between.job ≡ before.job → between.iterators ≡ before.iterators → before.broken ≡ false
     → LosesDead old.facts new.facts between → KeepsTableFiles order old new before
 tables_stay order old new before between tables job iterators whole loses ids m s number has =

@@ -28,7 +28,7 @@ use Rattle.engine.specs.declared.work.Progress.TheVariants as progress
 use Rattle.engine.specs.OptionValues.{OptionValues}
 use Rattle.engine.specs.Finishing.{CompactOutcome, IsAllCompacted, IsLevelEmpty, MovesLevel}
 use Rattle.engine.specs.WithinBudget.{EndsWithin}
-use Rattle.engine.specs.WrittenTables.{FlushesSealed}
+use Rattle.engine.specs.WrittenTables.{FlushesSealed, MergesLevel}
 use Rattle.engine.specs.Working.{WantsCompaction, DoesWork, HasLiveOnly, LosesDead, HasNoWork}
 use Rattle.engine.specs.declared.session.Session.{Session}
 use Rattle.engine.specs.declared.db.Db.{Db}
@@ -116,16 +116,21 @@ WorksIn order options budget old new (Some before) (Some after) answer.Idle = Do
 WorksIn order options budget old new (Some before) (Some after) (Refused error) = DoneWork order options budget old new before after (Err error)
 WorksIn order options budget old new (Some before) state _ = ⊥
 
--- What a compaction of a level does to the tables, where it was done.
-abbrev pub MovesIn : {K : Type 0} {g : _} → Cmp → ℕ → Option (Held K g) → Option (Held K g) → Answer → Type 0
-MovesIn cmp level (Some before) (Some after) Done = MovesLevel cmp level before after
-MovesIn cmp level (Some before) None Done = ⊥
-MovesIn cmp level None state Done = ⊥
-MovesIn cmp level before after _ = Unit {0}
+-- What a compaction of a level promises that is done: where its tables went, and which of their entries.
+pub record DoneLevel {K : Type 0} {g : _} (order : Order) (level : ℕ) (old new : Seen) (before after : Held K g) : Type 0 where
+  pub moves : MovesLevel order.cmp level before after
+  pub merges : MergesLevel order level old new before after
+
+-- so of the command
+abbrev pub LevelIn : {K : Type 0} {g : _} → Order → ℕ → Seen → Seen → Option (Held K g) → Option (Held K g) → Answer → Type 0
+LevelIn order level old new (Some before) (Some after) Done = DoneLevel order level old new before after
+LevelIn order level old new (Some before) None Done = ⊥
+LevelIn order level old new None state Done = ⊥
+LevelIn order level old new before after _ = Unit {0}
 
 abbrev pub WorksAs : {K : Type 0} {g : _} → Op → Order → OptionValues → Seen → Seen → Option (Held K g) → Option (Held K g) → Answer → Type 0
 WorksAs (Work budget) order options old new before after answer = WorksIn order options budget old new before after answer
-WorksAs (CompactLevel level) order options old new before after answer = MovesIn order.cmp level before after answer
+WorksAs (CompactLevel level) order options old new before after answer = LevelIn order level old new before after answer
 WorksAs _ order options old new before after answer = Unit {0}
 
 -- ---- of two sessions
@@ -157,8 +162,8 @@ WorkDone order facts budget old new answer = WorksIn order old.options budget (s
 abbrev pub WorkDoneBy : {S K : Type 0} {g : _} → Op → Order → (S → Facts) → Session S K g → Session S K g → Answer → Type 0
 WorkDoneBy op order facts old new answer = WorksAs op order old.options (seen_in facts old) (seen_in facts new) (held_in old) (held_in new) answer
 
-abbrev pub LevelMoved : {S K : Type 0} {g : _} → Cmp → ℕ → Session S K g → Session S K g → Answer → Type 0
-LevelMoved cmp level old new answer = MovesIn cmp level (held_in old) (held_in new) answer
+abbrev pub LevelDone : {S K : Type 0} {g : _} → Order → (S → Facts) → ℕ → Session S K g → Session S K g → Answer → Type 0
+LevelDone order facts level old new answer = LevelIn order level (seen_in facts old) (seen_in facts new) (held_in old) (held_in new) answer
 
 abbrev pub ShownBy : {S K : Type 0} {g : _} → Op → Session S K g → Answer → Type 0
 ShownBy op old answer = Shows old.options op (held_in old) answer

@@ -1,6 +1,5 @@
 -- How far a call of work brings a compaction: by as many entries as its budget has, and to its end where no more are left.
 use Rattle.std.specs.Prelude.{◌≡◌, ◌⊎◌, ◌<◌, ◌≤◌, ℕ, false, IsTrue, IsSome, Option, None, List, length, max, MatchOption, Result, Ok}
-use Rattle.cache.specs.Tables.{table_at}
 use Rattle.coding.specs.declared.error.DbError.{DbError}
 use Rattle.cursor.specs.Places.{Cmp}
 use Rattle.ikey.specs.Entries.{InternalEntry}
@@ -9,7 +8,6 @@ use Rattle.running_job.specs.Stepping.{CanStep}
 use Rattle.running_job.specs.declared.open_job.OpenJob.{OpenJob}
 use Rattle.recover.specs.Directory.{Directory}
 use Rattle.table_access.specs.Tables.{Seen}
-use Rattle.versions.specs.Keeping.{HasNumber}
 use Rattle.versions.specs.Plans.{IsPicked}
 use Rattle.engine.specs.declared.ids.Ids.{Ids}
 use Rattle.engine.specs.declared.work.Progress.{Progress}
@@ -20,7 +18,7 @@ use Rattle.engine.specs.Needed.{IsForLive}
 use Rattle.engine.specs.OptionValues.{OptionValues}
 use Rattle.engine.specs.Stands.{StandsOpen}
 use Rattle.engine.specs.Working.{IsAtEase}
-use Rattle.engine.specs.WrittenTables.{PutsMerged}
+use Rattle.engine.specs.WrittenTables.{KeepsTableFiles, PutsMerged}
 
 -- ---- what is left of its inputs
 
@@ -52,7 +50,7 @@ pub record IsBeforeStep {K : Type 0} {g : _} (order : Order) (options : OptionVa
   pub stands : (ids : Ids) (m : Machine) → StandsOpen order old ids before m → (n : Machine) × StandsOpen order between ids mid n
   pub whole : mid.broken ≡ false
   pub tables : mid.tables ≡ before.tables
-  pub files : (ids : Ids) (m : Machine) → StandsOpen order old ids before m → (number : ℕ) → HasNumber number before.tables → table_at between.facts.files number ≡ table_at old.facts.files number
+  pub files : KeepsTableFiles order old between before
   pub job : (mid.job ≡ before.job) ⊎ ((before.job ≡ None) × MatchOption mid.job ⊥ (IsNewJob order.cmp options before))
 
 -- It came through one in which so much was left, and where the compaction is at its end, this is what has become of it.

@@ -64,9 +64,9 @@ pub record IsSameMemory (old new : Memories) : Type 0 where
 
 -- ---- which piece it is
 
--- so many entries more of its inputs came to the same compaction, which is for the same sequences
+-- so many entries more of its inputs came to the same compaction, which is for the same version and the same sequences
 abbrev pub IsFurther : {K : Type 0} {g : _} → OpenJob K g → ℕ → OpenJob K g → Type 0
-IsFurther work merged more = (more.job.plan ≡ work.job.plan) × (more.merged ≡ shown (work.merged + merged)) × (more.job.selection.snapshots ≡ work.job.selection.snapshots)
+IsFurther work merged more = (more.job.plan ≡ work.job.plan) × (more.merged ≡ shown (work.merged + merged)) × (more.job.selection.snapshots ≡ work.job.selection.snapshots) × (more.version ≡ work.version)
 
 -- A compaction was under way. As many entries more of its inputs came as the budget has, one for 0, and it is under way still, with the
 -- tables as they were; or all came, and its outputs are in the place of its inputs.

@@ -26,6 +26,7 @@ impl<K: KeyOrder> DbState<K> {
     ghost use Rattle.db_cursor.specs.Whole.{seen_of};
     ghost use Rattle.machine.specs.Upkeep.{CompactsAll, CompactsLevel, most_drawn};
     ghost use Rattle.engine.specs.Working.{IsPiece, MayRefusePiece};
+    ghost use Rattle.engine.specs.WrittenTables.{MergesLevel, MergesPlan, PutsMerged};
     ghost use Rattle.memtables.specs.Places.{LeavesMemories};
     ghost use Rattle.directory_writes.specs.Install.{Replaces};
     ghost use Rattle.versions.specs.Plans.{IsPlanOf, IsWholePlan};
@@ -46,6 +47,9 @@ impl<K: KeyOrder> DbState<K> {
             (held source.old.memory self.old) level) source.old.tables.store source.new.tables.store result }
         ensures emptied { OnOk result (IsLevelEmpty level (held source.new.memory self.new)) }
         ensures moves { OnOk result (MovesLevel K.cmp level (held source.old.memory self.old) (held source.new.memory self.new)) }
+        // While the store is faithful, each entry that must be kept is in what its tables have become, and no other.
+        ensures merges { OnOk result (MergesLevel (order_of K.name K.cmp) level (seen_of S.facts source.old) (seen_of S.facts source.new)
+            (held source.old.memory self.old) (held source.new.memory self.new)) }
     {
         if self.broken {
             return Err(DbError::Broken);
@@ -94,6 +98,8 @@ impl<K: KeyOrder> DbState<K> {
         ensures outcome { CompactLent MayRefusePiece S.facts source.old self.old source.new self.new result }
         ensures emptied { OnOk result (IsLevelEmpty level (held source.new.memory self.new)) }
         ensures moves { OnOk result (MovesLevel K.cmp level (held source.old.memory self.old) (held source.new.memory self.new)) }
+        ensures merges { OnOk result (MergesLevel (order_of K.name K.cmp) level (seen_of S.facts source.old) (seen_of S.facts source.new)
+            (held source.old.memory self.old) (held source.new.memory self.new)) }
     {
         // Laws, for the proof alone.
         plans_of_tables();
@@ -192,6 +198,8 @@ impl<K: KeyOrder> DbState<K> {
         ensures needed { OnOk result (IsWholePlan self.old.version.value.tables plan
             → EndsNeeded (order_of K.name K.cmp) (seen_of S.facts source.old) (seen_of S.facts source.new)
             (held source.old.memory self.old) (held source.new.memory self.new)) }
+        ensures merges { OnOk result (MergesPlan (order_of K.name K.cmp) plan (seen_of S.facts source.old) (seen_of S.facts source.new)
+            (held source.old.memory self.old) (held source.new.memory self.new)) }
     {
         self.begin_job(alloc, source, options, plan)?;
         self.run_job_to_end(alloc, source)
@@ -215,6 +223,8 @@ impl<K: KeyOrder> DbState<K> {
         ensures needed { OnOk result (IsTakingAll (held source.old.memory self.old)
             → EndsNeeded (order_of K.name K.cmp) (seen_of S.facts source.old) (seen_of S.facts source.new)
             (held source.old.memory self.old) (held source.new.memory self.new)) }
+        ensures merges { OnOk result (IsSome self.old.job → PutsMerged (order_of K.name K.cmp) (seen_of S.facts source.old)
+            (seen_of S.facts source.new) (held source.old.memory self.old) (held source.new.memory self.new)) }
     {
         if self.job.is_none() {
             return Ok(());
@@ -240,6 +250,8 @@ impl<K: KeyOrder> DbState<K> {
         ensures needed { OnOk result (IsTakingAll (held source.old.memory self.old)
             → EndsNeeded (order_of K.name K.cmp) (seen_of S.facts source.old) (seen_of S.facts source.new)
             (held source.old.memory self.old) (held source.new.memory self.new)) }
+        ensures merges { OnOk result (PutsMerged (order_of K.name K.cmp) (seen_of S.facts source.old)
+            (seen_of S.facts source.new) (held source.old.memory self.old) (held source.new.memory self.new)) }
     {
         for _ in 0..u64::MAX {
             if self.step_job(alloc, source, 1)? {

@@ -32,7 +32,7 @@ impl<K: KeyOrder> DbState<K> {
     ghost use Rattle.engine.specs.Finishing.{HasCome};
     ghost use Rattle.engine.specs.Needed.{EndsNeeded, IsForLive, IsTakingAll};
     ghost use Rattle.engine.specs.WithinBudget.{HasLeftBy, StepsBy};
-    ghost use Rattle.engine.specs.WrittenTables.{PutsMerged};
+    ghost use Rattle.engine.specs.WrittenTables.{KeepsTableFiles, PutsMerged};
     ghost use Rattle.engine.specs.Working.{BeginsJob, GoesOn, IsPiece, MayRefusePiece, WantsCompaction};
     ghost use Rattle.memtables.specs.Places.{LeavesMemories};
     ghost use Rattle.versions.specs.Plans.{IsPlanOf, IsWholePlan};
@@ -138,6 +138,9 @@ impl<K: KeyOrder> DbState<K> {
         ensures few { OnOk result (IsTrue (S.facts source.new.tables.store).faithful
             → HasLeftBy (order_of K.name K.cmp) (seen_of S.facts source.old) (held source.old.memory self.old)
             (max budget 1) self.new.job) }
+        ensures beside { result ≡ Ok false → IsTrue (S.facts source.new.tables.store).faithful
+            → KeepsTableFiles (order_of K.name K.cmp) (seen_of S.facts source.old) (seen_of S.facts source.new)
+            (held source.old.memory self.old) }
         ensures merges { OnOk result (self.new.job ≡ None → PutsMerged (order_of K.name K.cmp) (seen_of S.facts source.old)
             (seen_of S.facts source.new) (held source.old.memory self.old) (held source.new.memory self.new)) }
         ensures come { result ≡ Ok true → LeadsLent (order_of K.name K.cmp) S.facts source.old self.old source.new self.new

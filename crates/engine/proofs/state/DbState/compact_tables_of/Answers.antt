@@ -13,6 +13,7 @@ use Rattle.machine.specs.Upkeep.{most_drawn}
 use Rattle.engine.specs.Working.{IsPiece, MayRefusePiece}
 use Rattle.engine.proofs.Emptied.{beyond_most, both_ok, level_emptied, level_moved, level_unmoved, on_ok}
 use Rattle.engine.proofs.Finishing.{outcome_all, outcome_done, outcome_then, stays_full, then_bound, within_bound}
+use Rattle.engine.proofs.NeededEnds.{merges_level, merges_none}
 use Rattle.engine.proofs.WorkAnswers.{of_none, of_some}
 use Rattle.engine.proofs.state.DbState.compact_tables_of.Goals as goal
 
@@ -147,3 +148,30 @@ run_job-requires-clause-plan g c =
     let tables_are : c.deref.result.now.tables ≡ tables = ap (λ (p : Placement). p.tables) c.deref.ensures in
     let planned = of_some (tables_at level c.deref.result.now.tables ≡ []) (IsLevelPlan cmp c.deref.result.now.tables level) c.in_ok-plan.field-0 plan c.in-Some.is c.in_ok-plan.ensures in
     subst (λ (ts : List PlacedTable). IsPlanOf cmp ts plan) tables_are ((c.plans_of_tables.ensures cmp c.deref.result.now plan).1 level c.requires.level planned)
+
+pub returns-in_default-clause-merges : goal.returns-in_default-clause-merges
+returns-in_default-clause-merges g c =
+    let order = order_of g.K.KeyOrder.name g.K.KeyOrder.cmp in
+    let old = seen_of g.S.Store.facts c.args.source.now in
+    let mid = seen_of g.S.Store.facts c.run_job_to_end.new.source in
+    let before = held c.args.source.now.memory c.args.self.now in
+    let between = held c.run_job_to_end.new.source.memory c.run_job_to_end.new.self in
+    let r = c.in_ok-run_job_to_end.ensures in
+    merges_none order c.args.level old mid before between r.step r.merges (returns-in_default-clause-emptied g c)
+
+pub returns-clause-merges : goal.returns-clause-merges
+returns-clause-merges g c =
+    let order = order_of g.K.KeyOrder.name g.K.KeyOrder.cmp in
+    let cmp = g.K.KeyOrder.cmp in
+    let level = c.args.level in
+    let plan = c.in-Some.plan in
+    let old = seen_of g.S.Store.facts c.args.source.now in
+    let mid = seen_of g.S.Store.facts c.run_job_to_end.new.source in
+    let new = seen_of g.S.Store.facts c.run_job.new.source in
+    let before = held c.args.source.now.memory c.args.self.now in
+    let between = held c.run_job_to_end.new.source.memory c.run_job_to_end.new.self in
+    let after = held c.run_job.new.source.memory c.run_job.new.self in
+    let tables_are : c.deref.result.now.tables ≡ between.tables = ap (λ (p : Placement). p.tables) c.deref.ensures in
+    let planned = of_some (tables_at level c.deref.result.now.tables ≡ []) (IsLevelPlan cmp c.deref.result.now.tables level) c.in_ok-plan.field-0 plan c.in-Some.is c.in_ok-plan.ensures in
+    let r = c.in_ok-run_job_to_end.ensures in
+    on_ok c.run_job.result (λ merges. merges_level order level old mid new before between after plan r.step c.run_job.ensures.step r.merges (subst (λ (ts : List PlacedTable). IsLevelPlan cmp ts level plan) tables_are planned) merges) c.run_job.ensures.merges

@@ -4,7 +4,7 @@ use Rattle.memtables.specs.PlaceLaws.{left_there}
 use Rattle.engine.specs.Held.{held}
 use Rattle.db_cursor.specs.Whole.{seen_of}
 use Rattle.engine.specs.Working.{MayRefusePiece}
-use Rattle.engine.proofs.Emptied.{always_ok}
+use Rattle.engine.proofs.Emptied.{always_ok, on_ok}
 use Rattle.engine.proofs.Finishing.{outcome_done, serves_same, stays_done}
 use Rattle.engine.proofs.NeededEntries.{not_taking}
 use Rattle.engine.proofs.WithinBudget.{not_some}
@@ -38,3 +38,9 @@ pub returns-clause-stays : goal.returns-clause-stays
 returns-clause-stays g c =
     let some : IsSome c.args.self.now.job = search rules in
     always_ok c.take_steps.result (λ none. absurd (not_some c.args.self.now.job none some))
+
+pub returns-then-is_none-clause-merges : goal.returns-then-is_none-clause-merges
+returns-then-is_none-clause-merges g c some = absurd (not_some c.args.self.now.job (search rules) some)
+
+pub returns-clause-merges : goal.returns-clause-merges
+returns-clause-merges g c = on_ok c.take_steps.result (λ h some. h) c.take_steps.ensures.merges

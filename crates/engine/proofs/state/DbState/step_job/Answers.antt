@@ -19,7 +19,7 @@ use Rattle.engine.specs.Stands.{no_ids}
 use Rattle.engine.specs.WithinBudget.{HasLeftBy}
 use Rattle.engine.specs.Working.{IsFurther, IsPiece, MayRefusePiece, broken_by, flush_answer}
 use Rattle.engine.specs.WrittenTables.{PutsMerged}
-use Rattle.engine.proofs.JobEnds.{ends_counted, ends_gone_on, ends_installed, ends_merged, ends_needed, ends_stopped, ends_unended, stopped_outcome, unended_outcome}
+use Rattle.engine.proofs.JobEnds.{ends_counted, ends_gone_on, ends_installed, ends_merged, ends_needed, ends_stopped, ends_unended, steps_beside, stopped_outcome, unended_outcome}
 use Rattle.engine.proofs.NeededEntries.{takes_on, taking}
 use Rattle.engine.proofs.WithinBudget.{few_left, more_left, not_some}
 use Rattle.engine.proofs.state.DbState.step_job.Goals as goal
@@ -74,7 +74,7 @@ returns-then-not-progress-clause-on g c =
     let going : c.in_ok-progress.progress.ended ≡ false = search rules in
     let s = c.in_ok-progress.ensures in
     let exactly = s.going_on going in
-    record { work = c.in-Some.job; was = is; on = ((s.plan, omega (arith, s.merged, exactly), s.snapshots), refl) }
+    record { work = c.in-Some.job; was = is; on = ((s.plan, omega (arith, s.merged, exactly), s.snapshots, s.version), refl) }
 
 pub returns-then-not-progress-clause-serves : goal.returns-then-not-progress-clause-serves
 returns-then-not-progress-clause-serves g c =
@@ -104,6 +104,17 @@ returns-then-not-progress-clause-few g c f =
     let is : c.args.self.now.job ≡ Some c.in-Some.job = search rules in
     let going : progress.ended ≡ false = search rules in
     more_left order old (whole_in g.S.Store.facts c.step.new.source) (held c.args.source.now.memory c.args.self.now) c.in-Some.job c.step.new.self c.step.new.numbers.next c.args.budget progress is going c.in_ok-progress.ensures.goes_on f
+
+pub returns-then-not-progress-clause-beside : goal.returns-then-not-progress-clause-beside
+returns-then-not-progress-clause-beside g c said f =
+    let order = order_of g.K.KeyOrder.name g.K.KeyOrder.cmp in
+    let old = seen_of g.S.Store.facts c.args.source.now in
+    let new = seen_of g.S.Store.facts c.step.new.source in
+    let state = c.args.self.now in
+    let s = c.in_ok-progress.ensures in
+    let is : state.job ≡ Some c.in-Some.job = search rules in
+    steps_beside order g.met.K.KeyOrder.total (λ scan. scan_kept order.cmp scan) c.one_directory.ensures c.sound_lasts.ensures old new no_ids state c.args.source.now.memory c.step.new.source.memory c.step.new.numbers (max c.args.budget 1) c.in-Some.job c.step.new.self is c.requires.whole
+    s.numbers s.drawn s.touches s.keeps f
 
 pub returns-in-Ok-clause-step : goal.returns-in-Ok-clause-step
 returns-in-Ok-clause-step g c ids =
