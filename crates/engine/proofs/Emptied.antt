@@ -6,6 +6,7 @@ use Rattle.std.proofs.lemmas.Bool.{cond_both, eq-eqb, eqb-true, lt-ltb, le-ltb}
 use Rattle.std.proofs.lemmas.List.Elements.{All-contains}
 use Rattle.coding.specs.declared.error.DbError.{DbError}
 use Rattle.coding.specs.declared.error.DbError.TheVariants as error
+use Rattle.cursor.specs.Places.{Cmp}
 use Rattle.edits.specs.declared.field.PlacedTable.{PlacedTable}
 use Rattle.ikey.specs.Orders.{Order}
 use Rattle.running_job.specs.declared.open_job.OpenJob.{OpenJob}
@@ -19,7 +20,7 @@ use Rattle.versions.specs.declared.plan.JobPlan.{JobPlan}
 use Rattle.memtables.specs.Places.{LeavesMemories}
 use Rattle.engine.specs.declared.ids.Ids.{Ids}
 use Rattle.engine.specs.Causes.{IsCausedIn, IsMet, broken_in, level_refusal}
-use Rattle.engine.specs.Finishing.{HasNoMemory, beyond}
+use Rattle.engine.specs.Finishing.{HasNoMemory, MovesLevel, beyond}
 use Rattle.engine.specs.Follows.{LeadsOpen, unit_answer}
 use Rattle.engine.specs.Held.{Held}
 use Rattle.machine.specs.Machine.{Machine}
@@ -47,6 +48,10 @@ level_emptied cmp old new level plan is done = none_at level new (λ placed ther
   | inr output ↦ (let to = is.0.output in omega (arith, at, output, to))
 ])
 
+either_ended : {X A : Type 0} {P : X → Type 0} (job : Option X) → MatchOption job (Unit {0}) P → (job ≡ None → A) → MatchOption job A P
+either_ended None done stays = stays refl
+either_ended (Some work) done stays = done
+
 pub all_last : (old new : List PlacedTable) (plan : JobPlan) → IsWholePlan old plan → Replaces plan old new → (level : ℕ) → level < 6 → tables_at level new ≡ []
 all_last old new plan is done level below = none_at level new (λ placed there at. elim (done.tables placed there) [
   | inl was ↦ was.1 (subst (λ (ts : List PlacedTable). Contains ts placed) (sym is.inputs) was.0)
@@ -59,10 +64,29 @@ none_there tables none level below = ap (tables_at level) none
 pub memory_left : {K : Type 0} {g : _} (before after : Held K g) → LeavesMemories before.memory after.memory → HasNoMemory before → HasNoMemory after
 memory_left before after left h = record { current = left.inserts ∙ h.current; sealed = left.sealed ∙ h.sealed }
 
+-- the first compaction came to its end, and the plan's was the second
+pub level_moved : {K : Type 0} {g : _} (cmp : Cmp) (level : ℕ) (before after : Held K g) (between : List PlacedTable) (plan : JobPlan) → MatchOption before.job (Unit {0}) (λ work. Replaces work.job.plan before.tables between) → (before.job ≡ None → between ≡ before.tables)
+    → after.job ≡ None → IsLevelPlan cmp between level plan → Replaces plan between after.tables → MovesLevel cmp level before after
+level_moved cmp level before after between plan done stays idle is replaces =
+    record { between = between; ended = either_ended before.job done stays; moved = inr (plan, is, replaces); idle = idle }
+
+-- there was no table for a second one
+pub level_unmoved : {K : Type 0} {g : _} (cmp : Cmp) (level : ℕ) (before after : Held K g) → MatchOption before.job (Unit {0}) (λ work. Replaces work.job.plan before.tables after.tables) → (before.job ≡ None → after.tables ≡ before.tables)
+    → after.job ≡ None → tables_at level after.tables ≡ [] → MovesLevel cmp level before after
+level_unmoved cmp level before after done stays idle none = record { between = after.tables; ended = either_ended before.job done stays; moved = inl (none, refl); idle = idle }
+
 -- where it was answered
 pub on_ok : {T : Type 0} {P Q : Type 0} (result : Result T DbError) → (P → Q) → OnOk result P → OnOk result Q
 on_ok (Ok x) f h = f h
 on_ok (Err e) f h = tt
+
+pub always_ok : {T : Type 0} {P : Type 0} (result : Result T DbError) → P → OnOk result P
+always_ok (Ok x) h = h
+always_ok (Err e) h = tt
+
+pub both_ok : {T : Type 0} {P Q R : Type 0} (result : Result T DbError) → (P → Q → R) → OnOk result P → OnOk result Q → OnOk result R
+both_ok (Ok x) f p q = f p q
+both_ok (Err e) f p q = tt
 
 -- the compaction of a plan that was begun at once
 pub done_of : {T K : Type 0} {g : _} (result : Result T DbError) (job : Option (OpenJob K g)) (plan : JobPlan) (old mid new : List PlacedTable) → mid ≡ old → MatchOption job ⊥ (λ work. (work.merged ≡ 0) × (work.job.plan ≡ plan))

@@ -1,5 +1,5 @@
 -- Compactions that are brought to their end: how their steps compose.
-use Rattle.std.proofs.Common.{◌≡◌, ◌<◌, ◌≤◌, ◌+◌, ◌^◌, ◌-◌, ℕ, true, false, max, List, Option, Some, None, IsSome, MatchOption, Result, Ok, Err, MatchResult, OnOk, inl, inr, refl, sym, ap, subst, ◌∙◌, arith}
+use Rattle.std.proofs.Common.{◌≡◌, ◌<◌, ◌≤◌, ◌+◌, ◌^◌, ◌-◌, ℕ, true, false, max, List, Contains, Option, IsTrue, Some, None, IsSome, MatchOption, Result, Ok, Err, MatchResult, OnOk, inl, inr, refl, sym, ap, subst, ◌∙◌, arith}
 use Rattle.std.specs.Cmp.{IsTotalOrder}
 use Rattle.coding.specs.declared.error.DbError.{DbError}
 use Rattle.coding.specs.declared.error.DbError.TheVariants as error
@@ -12,6 +12,7 @@ use Rattle.memtables.specs.Places.{LeavesMemories}
 use Rattle.table_access.specs.Tables.{Seen}
 use Rattle.store.specs.Files.{Facts}
 use Rattle.directory_writes.specs.Install.{Replaces}
+use Rattle.versions.specs.Keeping.{HasNumber}
 use Rattle.versions.specs.declared.plan.JobPlan.{JobPlan}
 use Rattle.engine.specs.declared.ids.Ids.{Ids}
 use Rattle.engine.specs.Compacting.{IsCompacting}
@@ -24,7 +25,9 @@ use Rattle.engine.specs.Outcomes.{DbOutcome, IsSame, KeepsViews, MayRefuseLevel,
 use Rattle.engine.specs.Stands.{StandsOpen}
 use Rattle.machine.specs.Upkeep.{Draws}
 use Rattle.engine.specs.Working.{GoesOn, IsFurther, IsPiece, MayRefusePiece}
-use Rattle.engine.proofs.JobEnds.{job_counted}
+use Rattle.engine.specs.WrittenTables.{HasMerged, KeepsTableFiles, PutsMerged}
+use Rattle.engine.proofs.InUse.{as_used}
+use Rattle.engine.proofs.JobEnds.{inputs_listed, job_counted, merged_on}
 use Rattle.engine.proofs.Steps.{serving_of}
 use Rattle.engine.proofs.WorkAnswers.{then_piece}
 use Rattle.engine.proofs.WorkSteps.{piece_done, piece_more, pieces_on}
@@ -227,6 +230,14 @@ stands_counted {K} {g} order total source ids db m work whole is s =
     let c = subst (λ (o : Option (OpenJob K g)). MatchOption o (Unit {0}) (IsCompacting order (whole_of source db) db.directory.numbers.next db.snapshots db.iterators serving.log.directory.directory)) is serving.job in
     job_counted order total source db m serving work c
 
+-- its inputs are tables of the version
+stands_listed : {K : Type 0} {g : _} (order : Order) (total : IsTotalOrder order.cmp) (source : Seen) (ids : Ids) (db : Held K g) (m : Machine) (work : OpenJob K g) → db.broken ≡ false → db.job ≡ Some work → StandsOpen order source ids db m
+    → (placed : PlacedTable) → Contains work.job.plan.inputs.items placed → Contains db.tables placed
+stands_listed {K} {g} order total source ids db m work whole is s =
+    let serving = serving_of order source ids db m whole s in
+    let c = subst (λ (o : Option (OpenJob K g)). MatchOption o (Unit {0}) (IsCompacting order (whole_of source db) db.directory.numbers.next db.snapshots db.iterators serving.log.directory.directory)) is serving.job in
+    inputs_listed order total source db m serving work c
+
 -- So many steps were taken, and the compaction is under way still.
 pub record Taken {K : Type 0} {g : _} (order : Order) (old new : Seen) (before after : Held K g) (steps : ℕ) : Type 0 where
   pub work : OpenJob K g
@@ -234,8 +245,11 @@ pub record Taken {K : Type 0} {g : _} (order : Order) (old new : Seen) (before a
   pub more : OpenJob K g
   pub now : after.job ≡ Some more
   pub plan : more.job.plan ≡ work.job.plan
+  pub snapshots : more.job.selection.snapshots ≡ work.job.selection.snapshots
+  pub version : more.version ≡ work.version
   pub merged : shown steps ≤ more.merged
   pub tables : after.tables ≡ before.tables
+  pub files : IsTrue new.facts.faithful → KeepsTableFiles order old new before
   pub serves : ServesOn old.facts new.facts before after
   pub memory : LeavesMemories before.memory after.memory
   pub all : IsTakingAll before → IsTakingAll after
@@ -248,8 +262,11 @@ taken_none order source db work whole is = record {
   more = work;
   now = is;
   plan = refl;
+  snapshots = refl;
+  version = refl;
   merged = omega arith;
   tables = refl;
+  files = λ f ids m s number has. refl;
   serves = serves_same source.facts db whole;
   memory = left_there db.memory;
   all = λ h. h;
@@ -265,8 +282,8 @@ job_in a b is = cc
 
 module _ {K : Type 0} {g : _} (order : Order) (old mid new : Seen) (before between after : Held K g) (steps : ℕ) (t : Taken order old mid before between steps) where
   pub taken_more : GoesOn 1 between after → IsSome after.job → ServesOn mid.facts new.facts between after → LeavesMemories between.memory after.memory → (IsTakingAll between → IsTakingAll after)
-      → ((ids : Ids) → LeadsOpen order mid new ids between after (λ m n. IsPiece m 1 (Ok false) n)) → Taken order old new before after (steps + 1)
-  taken_more goes some serves memory all step = at after.job refl goes.on some
+      → (IsTrue new.facts.faithful → KeepsTableFiles order mid new between) → ((ids : Ids) → LeadsOpen order mid new ids between after (λ m n. IsPiece m 1 (Ok false) n)) → Taken order old new before after (steps + 1)
+  taken_more goes some serves memory all beside step = at after.job refl goes.on some
     where
       at : (o : Option (OpenJob K g)) → after.job ≡ o → MatchOption o (Replaces goes.work.job.plan between.tables after.tables) (λ more. IsFurther goes.work (max 1 1) more × (after.tables ≡ between.tables)) → IsSome o → Taken order old new before after (steps + 1)
       at None is on some = absurd (cc)
@@ -278,8 +295,14 @@ module _ {K : Type 0} {g : _} (order : Order) (old mid new : Seen) (before betwe
             more = more;
             now = is;
             plan = on.0.0 ∙ ap (λ (w : OpenJob K g). w.job.plan) same ∙ t.plan;
+            snapshots = on.0.2 ∙ ap (λ (w : OpenJob K g). w.job.selection.snapshots) same ∙ t.snapshots;
+            version = on.0.3 ∙ ap (λ (w : OpenJob K g). w.version) same ∙ t.version;
             merged = (let a = on.0.1 in let b = t.merged in let s = ap (λ (w : OpenJob K g). w.merged) same in omega (arith, a, b, s));
             tables = on.1 ∙ t.tables;
+            files = λ f ids m s number has.
+                let still = (step ids).faithful f in
+                let one = (t.step ids).moved still m s in
+                beside f ids one.0 one.2 number (subst (HasNumber number) (sym t.tables) has) ∙ t.files still ids m s number has;
             serves = serves_then old.facts mid.facts new.facts before between after t.serves serves;
             memory = left_onward before.memory between.memory after.memory t.memory memory;
             all = λ h. all (t.all h);
@@ -294,6 +317,20 @@ module _ {K : Type 0} {g : _} (order : Order) (old mid new : Seen) (before betwe
       let plan : goes.work.job.plan ≡ t.work.job.plan = ap (λ (w : OpenJob K g). w.job.plan) same ∙ t.plan in
       subst (λ (o : Option (OpenJob K g)). MatchOption o (Unit {0}) (λ work. Replaces work.job.plan before.tables after.tables)) (sym t.was)
       (subst (λ (p : JobPlan). Replaces p before.tables after.tables) plan (subst (λ (ts : List PlacedTable). Replaces goes.work.job.plan ts after.tables) t.tables done))
+
+  -- and what must be kept of the inputs' entries is in them
+  pub taken_merged : {P : Machine → Machine → Type 0} (total : IsTotalOrder order.cmp) → before.broken ≡ false → ((ids : Ids) → LeadsOpen order mid new ids between after P) → PutsMerged order mid new between after → PutsMerged order old new before after
+  taken_merged total whole next merged =
+      subst (λ (o : Option (OpenJob K g)). MatchOption o ⊥ (λ work. IsTrue new.facts.faithful → (ids : Ids) (m : Machine) → StandsOpen order old ids before m → HasMerged order old.facts.files new.facts.files work before after)) (sym t.was)
+      (λ f ids m s.
+      let still = (next ids).faithful f in
+      let one = (t.step ids).moved still m s in
+      let inner = subst (λ (o : Option (OpenJob K g)). MatchOption o ⊥ (λ work. IsTrue new.facts.faithful → (given : Ids) (n : Machine) → StandsOpen order mid given between n → HasMerged order mid.facts.files new.facts.files work between after)) t.now merged in
+      merged_on order old.facts.files mid.facts.files new.facts.files t.work t.more before between after t.plan t.snapshots t.version t.tables
+      (λ placed i.
+      t.files still ids m s placed.table.number
+      (as_used before.tables placed.table.number (placed, stands_listed order total old ids before m t.work whole t.was s placed i, refl)))
+      (inner f ids one.0 one.2))
 
   pub taken_ended : (ids : Ids) → steps < 2 ^ 64 - 1 → LeadsOpen order mid new ids between after (λ m n. HasCome 1 between m (Ok true) n) → LeadsOpen order old new ids before after (λ m n. EndsJob m (Ok (tt {0})) n)
   taken_ended ids below next = record {

@@ -1,5 +1,5 @@
 -- What an open database is, and the machine, after a flush, however that ends.
-use Rattle.std.proofs.Common.{length, ◌≡◌, ℕ, ◌+◌, ◌≤◌, ◌<◌, ◌^◌, true, false, List, [], ◌∷◌, ◌++◌, None, Ok, Err, IsTrue, inl, inr, refl, sym, ap, subst, ◌∙◌, arith, string_bytes}
+use Rattle.std.proofs.Common.{length, ◌≡◌, ℕ, ◌+◌, ◌≤◌, ◌<◌, ◌^◌, true, false, List, [], ◌∷◌, ◌++◌, Contains, None, IsSome, Result, Ok, Err, IsTrue, inl, inr, refl, sym, ap, subst, ◌∙◌, arith, string_bytes}
 use Rattle.std.specs.declared.alloc.Global.{Global}
 use Rattle.std.specs.declared.rc.Rc.{Rc}
 use Rattle.coding.specs.declared.error.DbError.{DbError}
@@ -9,10 +9,12 @@ use Rattle.edits.specs.Names.{name_of}
 use Rattle.edits.specs.declared.field.PlacedTable.{PlacedTable}
 use Rattle.edits.specs.declared.names.FileName.TheVariants.{Table}
 use Rattle.ikey.specs.Orders.{Order}
-use Rattle.ikey.specs.Sources.{SameViewLaw}
+use Rattle.ikey.specs.Sources.{SameEntries, SameViewLaw}
 use Rattle.ikey.specs.declared.entry.Entry.{Entry}
 use Rattle.ikey.proofs.SearchedSources.{among_back, among_front}
 use Rattle.memtables.specs.Memories.{Memories, logged_in, sealed_inserts}
+use Rattle.recover.proofs.Memberships.{new_in_with, one_of_tables}
+use Rattle.recover.specs.Changes.{with_content}
 use Rattle.recover.specs.Directory.{Directory}
 use Rattle.recover.specs.Entries.{RiseAbove}
 use Rattle.recover.specs.Laws.{OneDirectoryLaw}
@@ -22,6 +24,7 @@ use Rattle.db_cursor.specs.Scanning.{ScanIsKept}
 use Rattle.db_cursor.specs.declared.scan.Scan.{Scan}
 use Rattle.table_access.specs.Tables.{Seen, IsSound, SoundLasts}
 use Rattle.store.specs.Files.{Facts}
+use Rattle.directory_writes.specs.Compactions.{placed_in}
 use Rattle.directory_writes.specs.Flush.{CanFlush, DrawsTable, FlushMeans, FlushTouches, IsCorrupt, IsFlushed, MayBeFlushed, RefusesFlush, RefusesTable}
 use Rattle.compact.specs.Rooms.{room_of}
 use Rattle.directory_writes.specs.Level0.{IsTooLarge}
@@ -31,15 +34,19 @@ use Rattle.directory_writes.specs.declared.flush.FlushPlan.{FlushPlan}
 use Rattle.versions.specs.Levels.{AreInOrder, Placement}
 use Rattle.engine.specs.declared.ids.Ids.{Ids}
 use Rattle.engine.specs.declared.state.DbState.{DbState}
+use Rattle.engine.specs.declared.work.Progress.{Progress}
 use Rattle.engine.specs.Follows.{LeadsOpen}
 use Rattle.engine.specs.Held.{Held, entries_of, held, whole_of}
 use Rattle.machine.specs.Machine.{Machine, entry_count, weight}
 use Rattle.engine.specs.Stands.{IsServing}
 use Rattle.machine.specs.Upkeep.{UpkeepRefused}
-use Rattle.engine.specs.Working.{IsPiece, broken_by, flush_answer}
-use Rattle.engine.proofs.Compacting.{each_job, goes_beside, have_itself, known_itself, version_unowned}
+use Rattle.engine.specs.Working.{IsPiece, IsSameMemory, broken_by, flush_answer}
+use Rattle.engine.specs.WrittenTables.{FlushesSealed, PutsSealed}
+use Rattle.engine.proofs.Compacting.{all_contains, each_job, goes_beside, have_itself, known_itself, version_unowned}
 use Rattle.engine.proofs.Flushing.{NamesStay, names_same, names_unchanged, FlushKept, StaysBelow, broken_flush, can_flush, serving_flushed, serving_unflushed, sound_beside, sound_unchanged, table_same, table_unchanged}
 use Rattle.engine.proofs.Pieces.{free_up, walks_each}
+use Rattle.engine.proofs.Reading.{has_placed}
+use Rattle.engine.proofs.Steps.{serving_of}
 use Rattle.engine.proofs.Weighing.{room_within}
 use Rattle.engine.proofs.WorkSteps.{breaks, drawing, draws, serves_on}
 
@@ -175,6 +182,27 @@ module _ {K : Type 0} {g : _} (order : Order) (kept : (scan : Scan K g) → Scan
         serving_flushed order kept one lasts law flushes old facts before m serving plan numbers.next (stays_below m serving f) (names_below m serving f) (sound_still m serving f) done.free upto.1 end version.value.tables version.value.compact_pointers (with_table end version).directory entries in_order done refl refl refl refl refl refl upto.0,
       )))
 
+  -- and its file has the entries of the memory table
+  pub table_put : (end : ℕ) (version : Rc Placement Global) (after : DbState K g) → after ≡ with_table end version
+      → (IsTrue facts.faithful → (m : Machine) (serving : IsServing order old before m) → IsFlushed order old.facts.files facts.files next numbers.next end entries version.value.tables serving.log.directory.directory serving.log.logs.sealed serving.log.logs.current)
+      → PutsSealed order old new before (held (record memory { sealed = None }) after)
+  table_put end version after is has =
+      subst (λ (s : DbState K g). PutsSealed order old new before (held (record memory { sealed = None }) s)) (sym is)
+      (λ f given m s.
+      let serving = serving_of order old given before m whole s in
+      let done = has f m serving in
+      let d = serving.log.directory.directory in
+      let content = done.has.content in
+      let there = new_in_with content d.tables in
+      inr (record {
+        content = content;
+        level = done.has.flush.level;
+        number = done.has.number_is;
+        listed = all_contains (Contains version.value.tables) (placed_in (with_content content d.tables)) content.placed done.listed.all (has_placed (with_content content d.tables) content there);
+        has = one_of_tables order facts.files (with_content content d.tables) content done.has.consistent.tables there;
+        entries_are = subst (λ (es : List Entry). SameEntries content.entries es) entries_are done.has.table_entries;
+      }))
+
 -- ---- an empty sealed table
 
 module _ {K : Type 0} {g : _} (order : Order) (kept : (scan : Scan K g) → ScanIsKept order.cmp scan) (flushes : FlushKept order.cmp) (source : Seen) (ids : Ids) (state : DbState K g) (memory : Memories) (whole : state.broken ≡ false)
@@ -220,3 +248,22 @@ module _ {K : Type 0} {g : _} (order : Order) (kept : (scan : Scan K g) → Scan
   ends_let_go =
       serves_on order source source ids (held memory state) (held let_go state) 1 (Ok (tt {0})) whole whole (λ f. f) (omega arith) refl
       (λ m f same serving. (draws m 1 source.facts, serving_let_go m serving))
+
+-- ---- behind a removal
+
+pub flushes_behind : {K : Type 0} {g : _} (order : Order) (old mid new : Seen) (before : Held K g) (memory : Memories) (after : Held K g) (result : Result Progress DbError) {P : Machine → Machine → Type 0}
+    → ((ids : Ids) → LeadsOpen order old mid ids before (record before { memory = memory }) P) → (IsTrue new.facts.faithful → IsTrue mid.facts.faithful) → IsSameMemory before.memory memory → FlushesSealed order mid new (record before { memory = memory }) after result
+    → FlushesSealed order old new before after result
+flushes_behind order old mid new before memory after result leads still same flushes done idle some f ids m s =
+    let one = (leads ids).moved (still f) m s in
+    elim (flushes done idle (subst IsSome (sym same.sealed) some) f ids one.0 one.2) [
+      | inl none ↦ inl (sym same.sealed_are ∙ none)
+      | inr h ↦ inr (record {
+            content = h.content;
+            level = h.level;
+            number = h.number;
+            listed = h.listed;
+            has = h.has;
+            entries_are = subst (λ (es : List Entry). SameEntries h.content.entries es) same.sealed_are h.entries_are;
+          })
+    ]

@@ -1,12 +1,15 @@
 -- How a call that goes on with a compaction ends.
 use Rattle.std.proofs.Common.{◌≡◌, ◌⊎◌, ◌<◌, ◌≤◌, ◌+◌, ◌^◌, ◌++◌, ℕ, Bool, true, false, List, [], ◌∷◌, map, Contains, Option, Some, None, MatchOption, max, Result, Ok, Err, IsTrue, inl, inr, refl, sym, ap, subst, ◌∙◌, arith, string_bytes}
 use Rattle.std.proofs.lemmas.List.{append-nil, length-append, length-map}
-use Rattle.std.proofs.lemmas.List.Sorted.{Contains-permutation}
+use Rattle.std.proofs.lemmas.List.Sorted.{Contains-permutation, IsPermutation-sym}
 use Rattle.std.specs.Cmp.{IsTotalOrder}
+use Rattle.std.specs.List.Sorted.{IsPermutation}
 use Rattle.std.specs.Map.{values_of}
 use Rattle.cache.specs.Tables.{table_at}
 use Rattle.coding.specs.declared.error.DbError.{DbError}
 use Rattle.coding.specs.declared.error.DbError.TheVariants as error
+use Rattle.compact.specs.Deeper.{is_covered_below}
+use Rattle.compact.specs.Needed.{AreNeeded}
 use Rattle.compact.specs.Outputs.{IsOwn, RefusesEntry}
 use Rattle.compact.specs.Rooms.{AreLarge}
 use Rattle.compact.specs.declared.job.Progress.{Progress}
@@ -15,6 +18,8 @@ use Rattle.edits.specs.declared.field.PlacedTable.{PlacedTable}
 use Rattle.ikey.proofs.SearchedSources.{among_front}
 use Rattle.ikey.specs.Entries.{InternalEntry, entry_of}
 use Rattle.ikey.specs.Orders.{Order}
+use Rattle.cursor.specs.Places.{Cmp}
+use Rattle.ikey.specs.Sources.{SameEntries}
 use Rattle.ikey.specs.Views.{Among}
 use Rattle.ikey.specs.declared.entry.Entry.{Entry}
 use Rattle.running_job.specs.Ending.{CanEnd, EndLeaves, RefusesEnd}
@@ -24,7 +29,8 @@ use Rattle.running_job.specs.declared.open_job.OpenJob.{OpenJob}
 use Rattle.memtables.specs.Memories.{Memories, logged_in}
 use Rattle.memtables.specs.PlaceLaws.{left_logged}
 use Rattle.memtables.specs.Places.{LeavesMemories}
-use Rattle.recover.proofs.Memberships.{among_chosen, from_chosen, one_of_tables}
+use Rattle.recover.proofs.Memberships.{among_chosen, from_chosen, from_rest, in_part, one_of_tables}
+use Rattle.recover.proofs.Adding.{table_of}
 use Rattle.recover.specs.Directory.{Directory}
 use Rattle.recover.specs.Laws.{OneDirectoryLaw}
 use Rattle.recover.specs.Tables.{HasTable, InTables, IsTableFile, TableContent, tabled}
@@ -34,7 +40,7 @@ use Rattle.db_cursor.specs.Whole.{Whole}
 use Rattle.db_cursor.specs.declared.scan.Scan.{Scan}
 use Rattle.table_access.specs.Tables.{Seen, SoundLasts}
 use Rattle.table_access.specs.Values.{IsPastLimit}
-use Rattle.store.specs.Files.{Facts}
+use Rattle.store.specs.Files.{Facts, Files}
 use Rattle.directory_writes.proofs.JobTables.{contains_among, content_at}
 use Rattle.directory_writes.specs.Compactions.{placed_in}
 use Rattle.directory_writes.specs.Install.{InstallMeans, InstallTouches}
@@ -42,7 +48,8 @@ use Rattle.directory_writes.specs.declared.flush.FlushError.{FlushError}
 use Rattle.directory_writes.specs.declared.flush.FlushError.TheVariants.{Before, Edit}
 use Rattle.directory_writes.specs.declared.install.Installed.{Installed}
 use Rattle.directory_writes.specs.declared.manifest.CurrentManifest.{CurrentManifest}
-use Rattle.versions.specs.Levels.{AreInOrder}
+use Rattle.versions.specs.Levels.{AreInOrder, Lists}
+use Rattle.versions.specs.declared.plan.JobPlan.{JobPlan}
 use Rattle.engine.specs.declared.ids.Ids.{Ids}
 use Rattle.engine.specs.declared.state.DbState.{DbState}
 use Rattle.engine.specs.Compacting.{IsCompacting}
@@ -50,16 +57,19 @@ use Rattle.engine.specs.Follows.{LeadsOpen}
 use Rattle.engine.specs.Held.{Held, entries_of, held, whole_of}
 use Rattle.machine.specs.Machine.{Machine, entry_count, weight}
 use Rattle.engine.specs.Needed.{EndsNeeded, TakesAll, live_sequences}
-use Rattle.engine.specs.Stands.{IsBroken, IsServing}
+use Rattle.engine.specs.Stands.{IsBroken, IsServing, StandsOpen}
+use Rattle.engine.specs.WrittenTables.{HasMerged, KeepsTableFiles, PutsMerged}
 use Rattle.machine.specs.Upkeep.{UpkeepRefused}
 use Rattle.engine.specs.Outcomes.{DbOutcome, IsSame}
 use Rattle.engine.specs.Finishing.{HasCome}
 use Rattle.engine.specs.Working.{IsPiece, MayRefusePiece, broken_by, flush_answer}
+use Rattle.engine.proofs.InUse.{as_listed}
 use Rattle.engine.proofs.Installing.{broken_install, can_end, serving_installed, serving_uninstalled}
 use Rattle.engine.proofs.JobBounds.{count_within, merged_apart, room_apart_within}
 use Rattle.engine.proofs.NeededEntries.{installed_needed, takes_on}
-use Rattle.engine.proofs.Reading.{long_table}
-use Rattle.engine.proofs.Stepping.{all_came, can_step, gone_on, serving_stepped, the_job}
+use Rattle.engine.proofs.Compacting.{all_contains}
+use Rattle.engine.proofs.Reading.{has_placed, long_table}
+use Rattle.engine.proofs.Stepping.{all_came, can_step, gone_on, kept_parts, listed_apart, serving_stepped, the_job}
 use Rattle.engine.proofs.Steps.{serving_of}
 use Rattle.engine.proofs.WorkSteps.{breaks, drawing, draws, serves_on}
 
@@ -115,6 +125,14 @@ module _ {K : Type 0} {g : _} (order : Order) (total : IsTotalOrder order.cmp) (
       let within = count_within (entry_count m) (weight m) (map entry_of (c.came ++ c.left)) (entries_of serving.contents db) apart merged_within serving.accounted in
       let counted = c.running.counted in
       omega (arith, counted, within, length-map (c.came ++ c.left) entry_of, length-append c.came c.left)
+
+  -- its inputs are tables of the version
+  pub inputs_listed : (placed : PlacedTable) → Contains work.job.plan.inputs.items placed → Contains db.tables placed
+  inputs_listed placed i =
+      let content = content_at c.running.inputs placed (contains_among (placed_in c.running.inputs) placed (Contains-permutation work.job.plan.inputs.items (placed_in c.running.inputs) placed c.running.planned.planned i)) in
+      let there = from_chosen d.tables c.running.inputs c.running.rest content.0 c.running.planned.parted content.1 in
+      let listed = subst (λ (cs : List TableContent). Lists (placed_in cs) db.tables) serving.log.directory.in_tables serving.tables.version in
+      subst (λ (p : PlacedTable). Contains db.tables p) content.2 (all_contains (Contains db.tables) (placed_in d.tables) content.0.placed listed.all (has_placed d.tables content.0 there))
 
   -- an input that passes a limit is one of the first directory's
   pub job_limited : IsOnePastLimit order.cmp work.job.plan.inputs.items (whole_of old db) → m.over_limit ≡ true
@@ -217,6 +235,40 @@ outcome_behind {T = T} {U = U} old mid new before between after e stood undenied
     as_other : {x : DbError} → SameRefusal {U = U} (Err e) (Err x) → SameRefusal {U = T} (Err e) (Err x)
     as_other is = (let inner = refusal_in is in ap (λ (r : DbError). Err r) inner)
 
+-- the same keys are covered below
+deep_same : {K : Type 0} {g : _} (cmp : Cmp) (work more : OpenJob K g) → work.job.plan ≡ more.job.plan → work.version ≡ more.version → deep_of cmp work ≡ deep_of cmp more
+deep_same cmp work more plan version = λ i key. is_covered_below cmp (plan i).output_level (version i).value.tables key
+
+-- what has become of a compaction is that of it as it was, where its inputs' files are the same
+pub merged_on : {K : Type 0} {g : _} (order : Order) (old mid new : Files) (work more : OpenJob K g) (before between after : Held K g) → more.job.plan ≡ work.job.plan → more.job.selection.snapshots ≡ work.job.selection.snapshots → more.version ≡ work.version
+    → between.tables ≡ before.tables → ((placed : PlacedTable) → Contains work.job.plan.inputs.items placed → table_at mid placed.table.number ≡ table_at old placed.table.number) → HasMerged order mid new more between after → HasMerged order old new work before after
+merged_on order old mid new work more before between after plan snapshots version tables files h =
+    let planned = subst (λ (p : JobPlan). IsPermutation p.inputs.items (placed_in h.inputs)) plan h.planned in
+    record {
+      inputs = h.inputs;
+      outputs = h.outputs;
+      planned = planned;
+      read = λ input i.
+          let has = h.read input i in
+          let taken = Contains-permutation (placed_in h.inputs) work.job.plan.inputs.items input.placed (IsPermutation-sym work.job.plan.inputs.items (placed_in h.inputs) planned) (has_placed h.inputs input i) in
+          record {
+            numbered = has.numbered;
+            bytes = has.bytes;
+            there = sym (files input.placed taken) ∙ has.there;
+            size = has.size;
+            spelled = has.spelled;
+            sorted = has.sorted;
+            smallest = has.smallest;
+            largest = has.largest;
+          };
+      written = λ output i. let has = h.written output i in (has.0, has.1 ∙ ap (λ (p : JobPlan). p.output_level) plan, has.2);
+      others = λ placed i. elim (h.others placed i) [ inl was ↦ inl (subst (λ (ts : List PlacedTable). Contains ts placed) tables was) | inr out ↦ inr out ];
+      entries = h.entries;
+      same = h.same;
+      needed = subst (λ (deep : List ℕ → Bool). AreNeeded h.entries work.job.selection.snapshots deep (tabled h.outputs)) (deep_same order.cmp more work plan version)
+          (subst (λ (ss : List ℕ). AreNeeded h.entries ss (deep_of order.cmp more) (tabled h.outputs)) snapshots h.needed);
+    }
+
 -- ---- a step
 
 module _ {K : Type 0} {g : _} (order : Order) (total : IsTotalOrder order.cmp) (kept : (scan : Scan K g) → ScanIsKept order.cmp scan) (one : OneDirectoryLaw) (lasts : SoundLasts)
@@ -250,6 +302,20 @@ module _ {K : Type 0} {g : _} (order : Order) (total : IsTotalOrder order.cmp) (
       )
   refused m error.NumbersSpent serving f same h = ((let below : next ≤ m.numbers = serving.numbers in omega (arith, h, below, upto)), draws m most new.facts)
   refused m _ serving f same h = absurd h
+
+  -- the files of the tables stay
+  pub steps_beside : IsTrue new.facts.faithful → KeepsTableFiles order old new db
+  steps_beside f given m s number has =
+      let serving = serving_of order old given db m whole s in
+      let d = serving.log.directory.directory in
+      let listed = subst (λ (cs : List TableContent). Lists (placed_in cs) state.version.value.tables) serving.log.directory.in_tables serving.tables.version in
+      let one_listed = as_listed state.version.value.tables number has in
+      let placed = one_listed.0 in
+      let content = content_at d.tables placed (contains_among (placed_in d.tables) placed (all_contains (Contains (placed_in d.tables)) state.version.value.tables placed listed.only one_listed.1)) in
+      let parts = kept_parts order kept one old new db after_memory numbers most before after is le upto touches keeps m serving f in
+      let apart = listed_apart order kept one old new db after_memory numbers most before after is le upto touches keeps m serving content.0 content.1 in
+      subst (λ (n : ℕ). table_at new.facts.files n ≡ table_at old.facts.files n) (ap (λ (p : PlacedTable). p.table.number) content.2 ∙ one_listed.2)
+      (parts.others.tables content.0.placed.table.number (table_of order old.facts.files d.tables content.0 serving.log.directory.consistent.tables content.1) apart)
 
   -- it was refused, and the job is given up
   pub ends_stopped : {T : Type 0} (e : DbError) → RefusesStep order (record { seen = old; memory = memory }) (record { seen = new; memory = after_memory }) next numbers.next before e
@@ -345,6 +411,46 @@ module _ {K : Type 0} {g : _} (order : Order) (total : IsTotalOrder order.cmp) (
           installed_needed order new.facts.files facts.files (on m serving f).log.directory.directory after state.version.value.tables can.running.inputs can.running.rest (c m serving f).came can.served.consistent can.running.planned can.served.listed
           serving.tables.in_order.levels takes.inputs takes.output takes.version has.has (live_sequences (held after_memory (installed_state installed)))
           (λ sequence i. subst (λ (last : ℕ). Contains (last ∷ values_of state.snapshots.entries) sequence) (sym touches.memory.last) (takes.sequences sequence i))
+
+      -- what must be kept of its inputs' entries is in its outputs
+      pub ends_merged : (installed : Installed K) → result ≡ Ok installed → after.job.plan ≡ before.job.plan → after.version ≡ before.version → PutsMerged order old last_seen db (held after_memory (installed_state installed))
+      ends_merged installed said plan version =
+          subst (λ (o : Option (OpenJob K g)). MatchOption o ⊥ (λ work. IsTrue facts.faithful → (given : Ids) (m : Machine) → StandsOpen order old given db m → HasMerged order old.facts.files facts.files work db (held after_memory (installed_state installed)))) (sym is)
+          (λ f given m s.
+          let serving = serving_of order old given db m whole s in
+          let d = serving.log.directory.directory in
+          let has = subst (λ (r : Result (Installed K) FlushError). Means m serving f r) said (means m serving f) in
+          let can = can_end order kept one lasts new facts mid (drawing m most new.facts) (on m serving f) after (c m serving f) (none_left m serving f) in
+          let inputs = can.running.inputs in
+          let rest = can.running.rest in
+          let parted = can.running.planned.parted in
+          let outputs = has.has.outputs in
+          let contents = has.has.contents in
+          let tables = installed.version.value.tables in
+          let came = (c m serving f).came in
+          record {
+            inputs = inputs;
+            outputs = outputs;
+            planned = subst (λ (p : JobPlan). IsPermutation p.inputs.items (placed_in inputs)) plan can.running.planned.planned;
+            read = λ input i. one_of_tables order old.facts.files d.tables input serving.log.directory.consistent.tables (from_chosen d.tables inputs rest input parted i);
+            written = λ output i.
+                let there = from_chosen contents outputs rest output has.has.compaction.new_tables i in (
+                  one_of_tables order facts.files contents output has.has.consistent.tables there,
+                  has.has.compaction.levels output i ∙ ap (λ (p : JobPlan). p.output_level) plan,
+                  all_contains (Contains tables) (placed_in contents) output.placed has.listed.all (has_placed contents output there),
+                );
+            others = λ placed i.
+                let content = content_at contents placed (contains_among (placed_in contents) placed (all_contains (Contains (placed_in contents)) tables placed has.listed.only i)) in
+                elim (in_part contents outputs rest content.0 has.has.compaction.new_tables content.1) [
+                  | inl out ↦ inr (subst (λ (p : PlacedTable). Contains (placed_in outputs) p) content.2 (has_placed outputs content.0 out))
+                  | inr beside ↦ inl (subst (λ (p : PlacedTable). Contains state.version.value.tables p) content.2
+                        (all_contains (Contains state.version.value.tables) (placed_in d.tables) content.0.placed can.served.listed.all (has_placed d.tables content.0 (from_rest d.tables inputs rest content.0 parted beside))))
+                ];
+            entries = map entry_of came;
+            same = subst (λ (es : List InternalEntry). SameEntries (map entry_of es) (tabled inputs)) (append-nil came) can.running.entries;
+            needed = subst (λ (deep : List ℕ → Bool). AreNeeded (map entry_of came) before.job.selection.snapshots deep (tabled outputs)) (deep_same order.cmp after before plan version)
+                (subst (λ (ss : List ℕ). AreNeeded (map entry_of came) ss (deep_of order.cmp after) (tabled outputs)) snapshots has.has.put.needed);
+          })
 
       -- no number more is drawn than entries came
       pub ends_counted : {T : Type 0} (budget_is : most ≤ max budget 1) (merged : after.merged ≡ shown (before.merged + progress.merged)) (few : most ≤ progress.merged) (done : T) (installed : Installed K) → result ≡ Ok installed

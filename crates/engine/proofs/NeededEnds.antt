@@ -1,5 +1,5 @@
 -- That a compaction of all leaves what is needed: behind its first pieces, without tables, and beside the machine's map.
-use Rattle.std.proofs.Common.{◌≡◌, ◌++◌, ℕ, Bool, true, false, List, [], ◌∷◌, Option, Some, None, Result, Ok, Err, MatchBool, OnOk, cond, inl, inr, refl, sym, ap, subst, ◌∙◌, arith, append-nil}
+use Rattle.std.proofs.Common.{◌≡◌, ◌++◌, ℕ, Bool, true, false, List, [], ◌∷◌, Option, Some, None, IsSome, IsTrue, MatchOption, Result, Ok, Err, MatchBool, OnOk, cond, inl, inr, refl, sym, ap, subst, ◌∙◌, arith, append-nil}
 use Rattle.std.proofs.lemmas.Bool.{eq-eqb}
 use Rattle.std.specs.BTreeMap.{BTreeMap}
 use Rattle.std.specs.Bool.{nat_eq}
@@ -25,17 +25,21 @@ use Rattle.recover.specs.Tables.{TableContent, tabled}
 use Rattle.table_access.specs.Tables.{Seen}
 use Rattle.directory_writes.proofs.PlanParts.{distinct_front}
 use Rattle.directory_writes.specs.Compactions.{placed_in}
-use Rattle.versions.specs.Levels.{Lists}
+use Rattle.running_job.specs.declared.open_job.OpenJob.{OpenJob}
+use Rattle.versions.specs.Levels.{Lists, tables_at}
+use Rattle.versions.specs.Plans.{IsLevelPlan}
+use Rattle.versions.specs.declared.plan.JobPlan.{JobPlan}
 use Rattle.engine.specs.declared.ids.Ids.{Ids}
 use Rattle.engine.specs.Finishing.{HasNoMemory, IsAllCompacted}
 use Rattle.engine.specs.Follows.{LeadsOpen}
 use Rattle.engine.specs.Held.{Held, entries_of}
 use Rattle.engine.specs.Live.{IsBoth, IsSnapshot, kept_at}
 use Rattle.machine.specs.Machine.{Machine, current}
-use Rattle.engine.specs.Needed.{EndsNeeded, HasNeeded, LeavesNeeded, live_sequences, none_below}
+use Rattle.engine.specs.Needed.{EndsNeeded, HasNeeded, IsForLive, LeavesNeeded, live_sequences, none_below}
 use Rattle.engine.specs.Stands.{IsBroken, IsServing, StandsOpen}
 use Rattle.machine.specs.Upkeep.{most_drawn}
 use Rattle.engine.specs.Working.{IsPiece}
+use Rattle.engine.specs.WrittenTables.{MergesLevel, MergesPlan, PutsMerged}
 use Rattle.engine.proofs.Steps.{serving_of}
 
 -- ---- behind what came first
@@ -43,6 +47,25 @@ use Rattle.engine.proofs.Steps.{serving_of}
 module _ {K : Type 0} {g : _} (order : Order) (old mid new : Seen) (before between after : Held K g) {P Q : Machine → Machine → Type 0} where
   pub needed_behind : ((ids : Ids) → LeadsOpen order old mid ids before between P) → ((ids : Ids) → LeadsOpen order mid new ids between after Q) → EndsNeeded order mid new between after → EndsNeeded order old new before after
   needed_behind first next ends f ids m s = let one = (first ids).moved ((next ids).faithful f) m s in ends f ids one.0 one.2
+
+module _ {K : Type 0} {g : _} (order : Order) (plan : JobPlan) (old mid new : Seen) (before between after : Held K g) {P Q : Machine → Machine → Type 0} where
+  pub merges_plan : ((ids : Ids) → LeadsOpen order old mid ids before between P) → ((ids : Ids) → LeadsOpen order mid new ids between after Q) → between.tables ≡ before.tables → IsSome between.job
+      → MatchOption between.job ⊥ (λ work. (work.merged ≡ 0) × (work.job.plan ≡ plan)) → MatchOption between.job ⊥ (λ work. IsForLive work before) → (IsSome between.job → PutsMerged order mid new between after) → MergesPlan order plan old new before after
+  merges_plan first next tables some begun live merges f =
+      (mid, between, (λ ids m s. let one = (first ids).moved ((next ids).faithful f) m s in (one.0, one.2)), tables, both between.job begun live, merges some)
+    where
+      both : (o : Option (OpenJob K g)) → MatchOption o ⊥ (λ work. (work.merged ≡ 0) × (work.job.plan ≡ plan)) → MatchOption o ⊥ (λ work. IsForLive work before) → MatchOption o ⊥ (λ work. (work.job.plan ≡ plan) × IsForLive work before)
+      both None begun live = begun
+      both (Some work) begun live = (begun.1, live)
+
+pub merges_none : {K : Type 0} {g : _} (order : Order) (level : ℕ) (old new : Seen) (before after : Held K g) {P : Machine → Machine → Type 0} → ((ids : Ids) → LeadsOpen order old new ids before after P) → (IsSome before.job → PutsMerged order old new before after)
+    → tables_at level after.tables ≡ [] → MergesLevel order level old new before after
+merges_none order level old new before after first merges none f = (new, after, (λ ids m s. let one = (first ids).moved f m s in (one.0, one.2)), merges, inl none)
+
+pub merges_level : {K : Type 0} {g : _} (order : Order) (level : ℕ) (old mid new : Seen) (before between after : Held K g) (plan : JobPlan) {P Q : Machine → Machine → Type 0} → ((ids : Ids) → LeadsOpen order old mid ids before between P)
+    → ((ids : Ids) → LeadsOpen order mid new ids between after Q) → (IsSome before.job → PutsMerged order old mid before between) → IsLevelPlan order.cmp between.tables level plan → MergesPlan order plan mid new between after → MergesLevel order level old new before after
+merges_level order level old mid new before between after plan first next ended is merges f =
+    (mid, between, (λ ids m s. let one = (first ids).moved ((next ids).faithful f) m s in (one.0, one.2)), ended, inr (plan, is, merges))
 
 -- ---- without tables
 

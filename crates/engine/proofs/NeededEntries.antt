@@ -35,7 +35,7 @@ use Rattle.versions.specs.Ranges.{covers}
 use Rattle.versions.specs.declared.plan.JobPlan.{JobPlan}
 use Rattle.engine.specs.declared.state.DbState.{DbState}
 use Rattle.engine.specs.Held.{Held, held}
-use Rattle.engine.specs.Needed.{HasNeeded, IsTakingAll, TakesAll, live_sequences, none_below}
+use Rattle.engine.specs.Needed.{HasNeeded, IsForLive, IsTakingAll, TakesAll, live_sequences, none_below}
 use Rattle.engine.proofs.Compacting.{all_contains}
 use Rattle.engine.proofs.Reading.{has_placed}
 
@@ -123,6 +123,13 @@ module _ {K : Type 0} {g : _} where
     output = ap (λ p. p.output_level) plan ∙ h.output;
     version = ap (λ v. v.value.tables) version ∙ h.version ∙ sym tables;
     sequences = λ s i. subst (λ (ss : List ℕ). Contains ss s) (sym sequences) (h.sequences s (subst (λ (ss : List ℕ). Contains ss s) snapshots i));
+  }
+
+  -- one that is for the sequences that are read at is so where it is for the same, and the same are read at
+  pub still_live : (work more : OpenJob K g) (before after : Held K g) → more.job.selection.snapshots ≡ work.job.selection.snapshots → live_sequences after ≡ live_sequences before → IsForLive work before → IsForLive more after
+  still_live work more before after kept same h = record {
+    each = λ s i. subst (λ (ss : List ℕ). Contains ss s) (sym kept) (h.each s (subst (λ (ss : List ℕ). Contains ss s) same i));
+    only = λ s i. subst (λ (ss : List ℕ). Contains ss s) (sym same) (h.only s (subst (λ (ss : List ℕ). Contains ss s) kept i));
   }
 
   -- one that was begun for all

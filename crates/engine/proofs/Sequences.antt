@@ -1,5 +1,5 @@
 -- What the sequences hold that a compaction keeps the views of, once they are sorted.
-use Rattle.std.proofs.Common.{◌≡◌, ℕ, Bool, true, false, cond, List, [], ◌∷◌, Option, Some, suc, arith, sym, subst, ◌∙◌, ◌++◌, map, Bor, None, Contains, inl, inr}
+use Rattle.std.proofs.Common.{◌≡◌, ℕ, Bool, true, false, cond, List, [], ◌∷◌, Option, Some, zero, suc, arith, sym, subst, ◌∙◌, ◌++◌, map, Bor, None, Contains, inl, inr}
 use Rattle.std.specs.BTreeMap.{BTreeMap}
 use Rattle.std.specs.Iterator.{Yields}
 use Rattle.std.specs.List.Sorted.{IsPermutation}
@@ -31,6 +31,16 @@ pub live_kept : (kept : BTreeMap ℕ ℕ) (yielded : List (Bor ℕ)) (s t u : Li
 live_kept kept yielded s t u r xs items sorted last pushed start y is step behind moved id sequence there =
     let all = iter_end deref (values_of kept.entries) yielded s t u r start y is step in
     let among : Contains xs sequence = subst (λ (ys : List ℕ). Contains ys sequence) (sym (pushed ∙ all.0)) (value_found _ kept.entries sequence there) in
+    Contains-permutation items sorted sequence moved (subst (λ (ys : List ℕ). Contains ys sequence) (sym behind) (Contains-append_left xs (last ∷ []) sequence among))
+
+-- the one that was pushed is there, and so are those of the map
+pub each_kept : (kept : BTreeMap ℕ ℕ) (yielded : List (Bor ℕ)) (s t u : List ℕ) (r : Option (Bor ℕ)) (xs items sorted : List ℕ) (last : ℕ) → xs ≡ map deref yielded → s ≡ values_of kept.entries → Yields (TakesFirst deref) s yielded t → r ≡ None
+    → TakesFirst deref t r u → items ≡ xs ++ last ∷ [] → IsPermutation items sorted → (sequence : ℕ) → Contains (last ∷ values_of kept.entries) sequence → Contains sorted sequence
+each_kept kept yielded s t u r xs items sorted last pushed start y is step behind moved sequence (zero, lt, same) =
+    subst (λ (one : ℕ). Contains sorted one) same (last_kept xs items sorted last behind moved)
+each_kept kept yielded s t u r xs items sorted last pushed start y is step behind moved sequence (suc k, lt, same) =
+    let all = iter_end deref (values_of kept.entries) yielded s t u r start y is step in
+    let among : Contains xs sequence = subst (λ (ys : List ℕ). Contains ys sequence) (sym (pushed ∙ all.0)) (k, omega (arith, lt), same) in
     Contains-permutation items sorted sequence moved (subst (λ (ys : List ℕ). Contains ys sequence) (sym behind) (Contains-append_left xs (last ∷ []) sequence among))
 
 -- none is there but the one that was pushed and those of the map

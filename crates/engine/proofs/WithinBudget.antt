@@ -1,8 +1,10 @@
--- That a step which ends a compaction has merged no more entries than its budget has.
-use Rattle.std.proofs.Common.{◌≡◌, ◌++◌, ◌≤◌, ℕ, Bool, true, false, List, length, max, Option, Some, None, IsSome, IsTrue, MatchBool, MatchOption, inl, inr, refl, sym, ap, subst, ◌∙◌, arith, append-nil}
+-- That a step ends a compaction exactly where no more entries are left than its budget has.
+use Rattle.std.proofs.Common.{◌≡◌, ◌++◌, ◌≤◌, ◌<◌, ℕ, true, false, List, [], ◌∷◌, length, max, Option, Some, None, IsSome, IsTrue, MatchOption, inl, inr, refl, sym, ap, subst, ◌∙◌, arith, append-nil}
+use Rattle.std.proofs.lemmas.List.{length-append}
 use Rattle.std.specs.Option.{option_or}
 use Rattle.cache.specs.Tables.{table_at}
 use Rattle.compact.specs.declared.job.Progress.{Progress as Merged}
+use Rattle.cursor.specs.Places.{Cmp}
 use Rattle.edits.specs.declared.names.FileName.TheVariants.{OldTable, Table}
 use Rattle.ikey.specs.Entries.{InternalEntry}
 use Rattle.ikey.specs.Orders.{Order}
@@ -15,16 +17,22 @@ use Rattle.db_cursor.specs.Whole.{Whole}
 use Rattle.table_access.specs.Tables.{Seen}
 use Rattle.store.specs.Files.{Files}
 use Rattle.versions.specs.Keeping.{HasNumber}
+use Rattle.versions.specs.Levels.{Placement}
+use Rattle.versions.specs.Plans.{IsPicked}
+use Rattle.versions.specs.declared.plan.JobPlan.{JobPlan}
 use Rattle.engine.specs.declared.ids.Ids.{Ids}
 use Rattle.engine.specs.Follows.{LeadsOpen}
-use Rattle.engine.specs.Held.{Held, whole_of}
+use Rattle.engine.specs.Held.{Held, version_of, whole_of}
 use Rattle.machine.specs.Machine.{Machine}
 use Rattle.engine.specs.OptionValues.{OptionValues}
 use Rattle.engine.specs.Stands.{StandsOpen}
-use Rattle.engine.specs.WithinBudget.{HasLeftUpTo, StepsUpTo}
+use Rattle.engine.specs.Needed.{IsForLive, live_sequences}
+use Rattle.engine.specs.WithinBudget.{HasLeftAbove, HasLeftBy, HasLeftUpTo, IsNewJob, StepsBy}
 use Rattle.engine.specs.InUse.{IsTableUsed}
 use Rattle.engine.specs.Working.{IsAtEase, IsSameMemory, LosesDead}
+use Rattle.engine.specs.WrittenTables.{KeepsTableFiles, PutsMerged}
 use Rattle.engine.proofs.ExactFiles.{table_numbered}
+use Rattle.engine.proofs.NeededEntries.{still_live}
 use Rattle.engine.proofs.Opened.{live_stays}
 use Rattle.engine.proofs.Steps.{serving_of}
 
@@ -41,13 +49,26 @@ few_left {K} {g} order old mid db work more next budget progress is ended goes f
     let most = s.3.most in
     omega (arith, count, long, most))
 
+-- more were left than came
+pub more_left : {K : Type 0} {g : _} (order : Order) (old : Seen) (mid : Whole) (db : Held K g) (work more : OpenJob K g) (next budget : ℕ) (progress : Merged) → db.job ≡ Some work → progress.ended ≡ false
+    → GoesOn order (whole_of old db) mid db.directory.numbers.next next budget work more progress → IsTrue mid.seen.facts.faithful → HasLeftAbove order old db (max budget 1)
+more_left {K} {g} order old mid db work more next budget progress is going goes f =
+    let Above : OpenJob K g → Type 0 = λ one. (d : Directory) (came left : List InternalEntry) → CanStep order (whole_of old db) db.directory.numbers.next d one came left → max budget 1 < length left in
+    subst (λ (job : Option (OpenJob K g)). MatchOption job ⊥ Above) (sym is) (λ d came left can.
+    let s = goes f d came left can in
+    let count = ap (λ (entries : List InternalEntry). length entries) s.2 ∙ length-append s.0 s.1 in
+    let long = s.3.long in
+    let exactly = (s.3.going_on going).0 in
+    let some : 0 < length s.1 = not_none s.1 (s.3.going_on going).1 in
+    omega (arith, count, long, exactly, some))
+  where
+    not_none : (entries : List InternalEntry) → (entries ≡ [] → ⊥) → 0 < length entries
+    not_none [] none = absurd (none refl)
+    not_none (x ∷ entries) none = omega arith
+
 -- ---- the files of its tables
 
--- those of the tables of the version stay
-abbrev pub KeepsTableFiles : {K : Type 0} {g : _} → Order → Seen → Seen → Held K g → Type 0
-KeepsTableFiles order old new before = (ids : Ids) (m : Machine) → StandsOpen order old ids before m → (number : ℕ) → HasNumber number before.tables → table_at new.facts.files number ≡ table_at old.facts.files number
-
--- they do where only what isn't live is removed
+-- those of the tables of the version stay where only what isn't live is removed
 pub tables_stay : {K : Type 0} {g : _} (order : Order) (old new : Seen) (before between : Held K g) → between.tables ≡ before.tables → between.job ≡ before.job → between.iterators ≡ before.iterators → before.broken ≡ false
     → LosesDead old.facts new.facts between → KeepsTableFiles order old new before
 tables_stay order old new before between tables job iterators whole loses ids m s number has =
@@ -58,17 +79,30 @@ tables_stay order old new before between tables job iterators whole loses ids m 
 
 -- ---- where it began
 
-pub steps_itself : {K : Type 0} {g : _} (order : Order) (old : Seen) (db : Held K g) (most : ℕ) → db.broken ≡ false → HasLeftUpTo order old db most → StepsUpTo order old db most
-steps_itself order old db most whole few = (old, db, record { stands = λ ids m s. (m, s); whole = whole; tables = refl; files = λ ids m s number has. refl; job = inl refl }, few)
+pub steps_itself : {K : Type 0} {g : _} (order : Order) (options : OptionValues) (old new : Seen) (db after : Held K g) (most : ℕ) → db.broken ≡ false → HasLeftBy order old db most after.job → (after.job ≡ None → PutsMerged order old new db after) → StepsBy order options old new db after most
+steps_itself order options old new db after most whole left merged = (old, db, record { stands = λ ids m s. (m, s); whole = whole; tables = refl; files = λ ids m s number has. refl; job = inl refl }, left, merged)
 
-first_of : {X : Type 0} (P Q : X → Type 0) (o : Option X) → MatchOption o ⊥ (λ x. P x × Q x) → MatchOption o ⊥ P
-first_of P Q None h = h
-first_of P Q (Some x) h = h.0
+module _ {K : Type 0} {g : _} (cmp : Cmp) (options : OptionValues) where
+  -- one that was begun by the plan that was picked
+  new_job : (db : Held K g) (plan : JobPlan) → IsPicked cmp options.level0_files options.base_bytes (version_of db) plan → (o : Option (OpenJob K g)) → MatchOption o ⊥ (λ work. (work.merged ≡ 0) × (work.job.plan ≡ plan)) → MatchOption o ⊥ (λ work. IsForLive work db)
+      → MatchOption o ⊥ (IsNewJob cmp options db)
+  new_job db plan picked None begun live = begun
+  new_job db plan picked (Some work) begun live = record { none = begun.0; picked = subst (λ (p : JobPlan). IsPicked cmp options.level0_files options.base_bytes (version_of db) p) (sym begun.1) picked; live = live }
+
+  -- it is so for a database of the same version that reads at the same sequences
+  new_behind : (between before : Held K g) → version_of between ≡ version_of before → live_sequences before ≡ live_sequences between → (o : Option (OpenJob K g)) → MatchOption o ⊥ (IsNewJob cmp options between) → MatchOption o ⊥ (IsNewJob cmp options before)
+  new_behind between before version same None h = h
+  new_behind between before version same (Some work) h = record {
+    none = h.none;
+    picked = subst (λ (v : Placement). IsPicked cmp options.level0_files options.base_bytes v work.job.plan) version h.picked;
+    live = still_live work work between before refl same h.live;
+  }
 
 -- with a compaction that was begun
-pub steps_begun : {K : Type 0} {g : _} (order : Order) (old between : Seen) (before mid : Held K g) (most : ℕ) (Q : OpenJob K g → Type 0) {P : Machine → Machine → Type 0} → ((ids : Ids) → LeadsOpen order old between ids before mid P) → IsTrue between.facts.faithful
-    → mid.broken ≡ false → mid.tables ≡ before.tables → between.facts.files ≡ old.facts.files → before.job ≡ None → MatchOption mid.job ⊥ (λ work. (work.merged ≡ 0) × Q work) → HasLeftUpTo order between mid most → StepsUpTo order old before most
-steps_begun {K} {g} order old between before mid most Q leads f whole tables files none begun few = (
+pub steps_begun : {K : Type 0} {g : _} (order : Order) (options : OptionValues) (old between new : Seen) (before mid after : Held K g) (most : ℕ) (plan : JobPlan) {P : Machine → Machine → Type 0} → ((ids : Ids) → LeadsOpen order old between ids before mid P) → IsTrue between.facts.faithful
+    → mid.broken ≡ false → mid.tables ≡ before.tables → between.facts.files ≡ old.facts.files → before.job ≡ None → MatchOption mid.job ⊥ (λ work. (work.merged ≡ 0) × (work.job.plan ≡ plan)) → MatchOption mid.job ⊥ (λ work. IsForLive work before)
+    → IsPicked order.cmp options.level0_files options.base_bytes (version_of before) plan → HasLeftBy order between mid most after.job → (after.job ≡ None → PutsMerged order between new mid after) → StepsBy order options old new before after most
+steps_begun order options old between new before mid after most plan leads f whole tables files none begun live picked left merged = (
   between,
   mid,
   record {
@@ -76,28 +110,31 @@ steps_begun {K} {g} order old between before mid most Q leads f whole tables fil
     whole = whole;
     tables = tables;
     files = λ ids m s number has. ap (λ (there : Files). table_at there number) files;
-    job = inr (none, first_of (λ (work : OpenJob K g). work.merged ≡ 0) Q mid.job begun);
+    job = inr (none, new_job order.cmp options before plan picked mid.job begun live);
   },
-  few,
+  left,
+  merged,
 )
 
 -- behind a piece that leaves tables and compaction
-pub steps_behind : {K : Type 0} {g : _} (order : Order) (old mid : Seen) (before between : Held K g) (most : ℕ) {P : Machine → Machine → Type 0} → ((ids : Ids) → LeadsOpen order old mid ids before between P) → IsTrue mid.facts.faithful
-    → between.tables ≡ before.tables → between.job ≡ before.job → KeepsTableFiles order old mid before → StepsUpTo order mid between most → StepsUpTo order old before most
-steps_behind {K} {g} order old mid before between most leads f tables same files inner = (
-  inner.0,
-  inner.1,
-  record {
-    stands = λ ids m s. let one = (leads ids).moved f m s in inner.2.stands ids one.0 one.2;
-    whole = inner.2.whole;
-    tables = inner.2.tables ∙ tables;
-    files = λ ids m s number has.
-        let one = (leads ids).moved f m s in
-        inner.2.files ids one.0 one.2 number (subst (HasNumber number) (sym tables) has) ∙ files ids m s number has;
-    job = elim inner.2.job [ inl is ↦ inl (is ∙ same) | inr begun ↦ inr (sym same ∙ begun.0, begun.1) ];
-  },
-  inner.3,
-)
+pub steps_behind : {K : Type 0} {g : _} (order : Order) (options : OptionValues) (old mid new : Seen) (before between after : Held K g) (most : ℕ) {P : Machine → Machine → Type 0} → ((ids : Ids) → LeadsOpen order old mid ids before between P) → IsTrue mid.facts.faithful
+    → version_of between ≡ version_of before → live_sequences before ≡ live_sequences between → between.job ≡ before.job → KeepsTableFiles order old mid before → StepsBy order options mid new between after most → StepsBy order options old new before after most
+steps_behind {K} {g} order options old mid new before between after most leads f version sequences same files inner =
+    let tables = ap (λ (v : Placement). v.tables) version in (
+      inner.0,
+      inner.1,
+      record {
+        stands = λ ids m s. let one = (leads ids).moved f m s in inner.2.stands ids one.0 one.2;
+        whole = inner.2.whole;
+        tables = inner.2.tables ∙ tables;
+        files = λ ids m s number has.
+            let one = (leads ids).moved f m s in
+            inner.2.files ids one.0 one.2 number (subst (HasNumber number) (sym tables) has) ∙ files ids m s number has;
+        job = elim inner.2.job [ inl is ↦ inl (is ∙ same) | inr begun ↦ inr (sym same ∙ begun.0, new_behind order.cmp options between before version sequences inner.1.job begun.1) ];
+      },
+      inner.3,
+      inner.4,
+    )
 
 -- ---- when it is asked
 
@@ -107,11 +144,6 @@ at_ease_on options before memory same h = record {
   none = same.sealed ∙ h.none;
   small = (let size : size_of memory.current.inserts ≡ size_of before.memory.current.inserts = ap (λ c. size_of c.inserts) same.current in let least = h.small in omega (arith, size, least));
 }
-
--- the end that a step answers
-pub ended_of : (P Q : Type 0) (ended : Bool) → MatchBool ended P Q → (Q → ⊥) → ended ≡ true
-ended_of P Q true h other = refl
-ended_of P Q false h other = absurd (other h)
 
 pub not_some : {X : Type 0} (o : Option X) → o ≡ None → IsSome o → ⊥
 not_some None is some = cc

@@ -1,6 +1,7 @@
 -- What work answers, of what its pieces do.
-use Rattle.std.proofs.Common.{◌≡◌, ℕ, ◌+◌, ◌≤◌, ◌<◌, max, Bool, true, false, if◌then◌else◌, Option, Some, None, Result, Ok, Err, IsTrue, IsSome, MatchOption, List, inl, inr, refl, sym, ap, subst, ◌∙◌, arith}
+use Rattle.std.proofs.Common.{◌≡◌, ◌∷◌, ℕ, ◌+◌, ◌≤◌, ◌<◌, max, Bool, true, false, if◌then◌else◌, Option, Some, None, Result, Ok, Err, IsTrue, IsSome, MatchOption, List, inl, inr, refl, sym, ap, subst, ◌∙◌, arith}
 use Rattle.std.proofs.lemmas.Bool.{cases_order}
+use Rattle.std.specs.Map.{values_of}
 use Rattle.coding.specs.declared.error.DbError.{DbError}
 use Rattle.cursor.specs.Places.{Cmp}
 use Rattle.coding.specs.declared.error.DbError.TheVariants as error
@@ -24,12 +25,14 @@ use Rattle.engine.specs.declared.work.Progress.TheVariants as progress
 use Rattle.engine.specs.Causes.{IsCausedIn, IsMet, broken_in}
 use Rattle.engine.specs.Follows.{LeadsOpen}
 use Rattle.engine.specs.Held.{Held}
+use Rattle.engine.specs.Needed.{IsForLive}
 use Rattle.machine.specs.Machine.{Machine}
 use Rattle.machine.specs.Serving.{not_serving}
 use Rattle.engine.specs.Stands.{StandsClosed}
 use Rattle.machine.specs.Upkeep.{UpkeepRefused, Works}
 use Rattle.engine.specs.OptionValues.{OptionValues}
 use Rattle.engine.specs.Working.{DoesWork, GoesOn, IsAtEase, IsFurther, IsPiece, IsSameMemory, MayRefusePiece, refused_as, work_answer}
+use Rattle.engine.proofs.NeededEntries.{still_live}
 use Rattle.engine.proofs.Steps.{broken_cause, broken_of, by_cause, closed_cause, no_cause, serving_of}
 use Rattle.engine.proofs.WorkSteps.{piece_failed, pieces_on, works_as}
 use Rattle.engine.proofs.WriteSteps.{stays_open}
@@ -124,10 +127,21 @@ at_ease options before memory same h = record {
   small = (let size : size_of memory.current.inserts ≡ size_of before.memory.current.inserts = ap (λ c. size_of c.inserts) same.current in let least = h.small in omega (arith, size, least));
 }
 
-pub does_on : {K : Type 0} {g : _} (cmp : Cmp) (before : Held K g) (memory : Memories) (after : Held K g) (options : OptionValues) (budget : ℕ) (result : Result Progress DbError) → IsSameMemory before.memory memory → DoesWork cmp options budget (record before { memory = memory }) after result
+begun_on : {K : Type 0} {g : _} (budget : ℕ) (plan : JobPlan) (before : Held K g) (memory : Memories) (after : Held K g) → memory.last ≡ before.memory.last
+    → MatchOption after.job (Replaces plan before.tables after.tables) (λ work. (work.job.plan ≡ plan) × (work.merged ≡ shown (max budget 1)) × IsForLive work (record before { memory = memory }) × (after.tables ≡ before.tables))
+    → MatchOption after.job (Replaces plan before.tables after.tables) (λ work. (work.job.plan ≡ plan) × (work.merged ≡ shown (max budget 1)) × IsForLive work before × (after.tables ≡ before.tables))
+begun_on {K} {g} budget plan before memory after last = at after.job
+  where
+    at : (o : Option (OpenJob K g))
+        → MatchOption o (Replaces plan before.tables after.tables) (λ work. (work.job.plan ≡ plan) × (work.merged ≡ shown (max budget 1)) × IsForLive work (record before { memory = memory }) × (after.tables ≡ before.tables))
+        → MatchOption o (Replaces plan before.tables after.tables) (λ work. (work.job.plan ≡ plan) × (work.merged ≡ shown (max budget 1)) × IsForLive work before × (after.tables ≡ before.tables))
+    at None h = h
+    at (Some work) h = (h.0, h.1, still_live work work (record before { memory = memory }) before refl (ap (λ (n : ℕ). n ∷ values_of before.snapshots.entries) (sym last)) h.2, h.3)
+
+pub does_on : {K : Type 0} {g : _} (cmp : Cmp) (before : Held K g) (memory : Memories) (after : Held K g) (options : OptionValues) (budget : ℕ) (result : Result Progress DbError) → IsSameMemory before.memory memory → memory.last ≡ before.memory.last → DoesWork cmp options budget (record before { memory = memory }) after result
     → DoesWork cmp options budget before after result
-does_on cmp before memory after options budget (Ok progress.Worked) same (inl h) = inl (record { work = h.work; was = h.was; on = h.on })
-does_on cmp before memory after options budget (Ok progress.Worked) same (inr (inl h)) = inr (inl (record {
+does_on cmp before memory after options budget (Ok progress.Worked) same last (inl h) = inl (record { work = h.work; was = h.was; on = h.on })
+does_on cmp before memory after options budget (Ok progress.Worked) same last (inr (inl h)) = inr (inl (record {
   idle = h.idle;
   was = subst IsSome same.sealed h.was;
   gone = h.gone;
@@ -135,26 +149,29 @@ does_on cmp before memory after options budget (Ok progress.Worked) same (inr (i
   still = h.still;
   table = elim h.table [ inl none ↦ inl (sym same.sealed_are ∙ none) | inr table ↦ inr table ];
 }))
-does_on cmp before memory after options budget (Ok progress.Worked) same (inr (inr (inl h))) = inr (inr (inl (
+does_on cmp before memory after options budget (Ok progress.Worked) same last (inr (inr (inl h))) = inr (inr (inl (
   (let size : size_of memory.current.inserts ≡ size_of before.memory.current.inserts = ap (λ c. size_of c.inserts) same.current in let most_is = h.0 in omega (arith, size, most_is)),
   record { idle = h.1.idle; none = sym same.sealed ∙ h.1.none; sealed = h.1.sealed ∙ ap (λ c. c.inserts) same.current; is = h.1.is; still = h.1.still; empty = h.1.empty; log = h.1.log; begins = h.1.begins },
 )))
-does_on cmp before memory after options budget (Ok progress.Worked) same (inr (inr (inr h))) = inr (inr (inr (record { ease = at_ease options before memory same h.ease; job = record { plan = h.job.plan; picked = h.job.picked; begun = h.job.begun } })))
-does_on cmp before memory after options budget (Ok progress.Idle) same h = (record { ease = at_ease options before memory same h.0.ease; unwanted = h.0.unwanted }, h.1)
-does_on cmp before memory after options budget (Err e) same h = tt
+does_on cmp before memory after options budget (Ok progress.Worked) same last (inr (inr (inr h))) = inr (inr (inr (record { ease = at_ease options before memory same h.ease; job = record { plan = h.job.plan; picked = h.job.picked; begun = begun_on budget h.job.plan before memory after last h.job.begun } })))
+does_on cmp before memory after options budget (Ok progress.Idle) same last h = (record { ease = at_ease options before memory same h.0.ease; unwanted = h.0.unwanted }, h.1)
+does_on cmp before memory after options budget (Err e) same last h = tt
 
 -- so many came of those of a compaction that was begun at once, or all
-pub begun_further : {K : Type 0} {g : _} (budget : ℕ) (plan : JobPlan) (before mid after : Held K g) → mid.tables ≡ before.tables → MatchOption mid.job ⊥ (λ work. (work.merged ≡ 0) × (work.job.plan ≡ plan)) → GoesOn budget mid after
-    → MatchOption after.job (Replaces plan before.tables after.tables) (λ work. (work.job.plan ≡ plan) × (work.merged ≡ shown (max budget 1)) × (after.tables ≡ before.tables))
-begun_further {K} {g} budget plan before mid after same none goes = at after.job goes.on
+pub begun_further : {K : Type 0} {g : _} (budget : ℕ) (plan : JobPlan) (before mid after : Held K g) → mid.tables ≡ before.tables → MatchOption mid.job ⊥ (λ work. (work.merged ≡ 0) × (work.job.plan ≡ plan)) → MatchOption mid.job ⊥ (λ work. IsForLive work before) → GoesOn budget mid after
+    → MatchOption after.job (Replaces plan before.tables after.tables) (λ work. (work.job.plan ≡ plan) × (work.merged ≡ shown (max budget 1)) × IsForLive work before × (after.tables ≡ before.tables))
+begun_further {K} {g} budget plan before mid after same none live goes = at after.job goes.on
   where
+    for_live : IsForLive goes.work before
+    for_live = subst (λ (o : Option (OpenJob K g)). MatchOption o ⊥ (λ work. IsForLive work before)) goes.was live
+
     empty : (goes.work.merged ≡ 0) × (goes.work.job.plan ≡ plan)
     empty = subst (λ (o : Option (OpenJob K g)). MatchOption o ⊥ (λ work. (work.merged ≡ 0) × (work.job.plan ≡ plan))) goes.was none
 
     at : (o : Option (OpenJob K g)) → MatchOption o (Replaces goes.work.job.plan mid.tables after.tables) (λ more. IsFurther goes.work (max budget 1) more × (after.tables ≡ mid.tables))
-        → MatchOption o (Replaces plan before.tables after.tables) (λ work. (work.job.plan ≡ plan) × (work.merged ≡ shown (max budget 1)) × (after.tables ≡ before.tables))
+        → MatchOption o (Replaces plan before.tables after.tables) (λ work. (work.job.plan ≡ plan) × (work.merged ≡ shown (max budget 1)) × IsForLive work before × (after.tables ≡ before.tables))
     at None h = subst (λ (p : JobPlan). Replaces p before.tables after.tables) empty.1 (subst (λ (ts : List PlacedTable). Replaces goes.work.job.plan ts after.tables) same h)
-    at (Some more) h = (h.0.0 ∙ empty.1, (let is = h.0.1 in let first = empty.0 in omega (arith, is, first)), h.1 ∙ same)
+    at (Some more) h = (h.0.0 ∙ empty.1, (let is = h.0.1 in let first = empty.0 in omega (arith, is, first)), still_live goes.work more before before h.0.2 refl for_live, h.1 ∙ same)
 
 -- ---- which plan is begun
 

@@ -26,8 +26,9 @@ use Rattle.engine.specs.declared.work.Progress.{Progress}
 use Rattle.engine.specs.declared.work.Progress.TheVariants.{Idle}
 use Rattle.engine.specs.declared.work.Progress.TheVariants as progress
 use Rattle.engine.specs.OptionValues.{OptionValues}
-use Rattle.engine.specs.Finishing.{CompactOutcome, IsAllCompacted, IsLevelEmpty}
+use Rattle.engine.specs.Finishing.{CompactOutcome, IsAllCompacted, IsLevelEmpty, MovesLevel}
 use Rattle.engine.specs.WithinBudget.{EndsWithin}
+use Rattle.engine.specs.WrittenTables.{FlushesSealed, MergesLevel}
 use Rattle.engine.specs.Working.{WantsCompaction, DoesWork, HasLiveOnly, LosesDead, HasNoWork}
 use Rattle.engine.specs.declared.session.Session.{Session}
 use Rattle.engine.specs.declared.db.Db.{Db}
@@ -95,11 +96,13 @@ Shuts _ state = Unit {0}
 abbrev pub write_causes : {K : Type 0} {g : _} → List Operation → Option (Held K g) → Ids → Option DbError
 write_causes operations state ids = option_or (first_refusal [] operations) (where_open (λ s. write_refusal s operations) state)
 
--- What a call of work promises beside its step: which piece of work it was, and within which budget; where there was none, that the files
+-- What a call of work promises beside its step: which piece of work it was, how far it brought a compaction, and what a table has that it
+-- wrote of a memory table; where there was none, that the files
 -- are exactly the live ones, unless one couldn't be removed, and that no memory table is kept that is of no use.
 pub record DoneWork {K : Type 0} {g : _} (order : Order) (options : OptionValues) (budget : ℕ) (old new : Seen) (before after : Held K g) (result : Result Progress DbError) : Type 0 where
   pub does : DoesWork order.cmp options budget before after result
   pub within : EndsWithin order options budget old new before after result
+  pub flushes : FlushesSealed order old new before after result
   pub tidy : result ≡ Ok Idle → IsTrue new.facts.faithful → new.facts.failures ≡ old.facts.failures → HasLiveOnly new.facts.files after
   pub removes : result ≡ Ok Idle → IsTrue new.facts.faithful → LosesDead old.facts new.facts after
   pub exact : LeavesExactlyLive order old new before after result
@@ -113,8 +116,21 @@ WorksIn order options budget old new (Some before) (Some after) answer.Idle = Do
 WorksIn order options budget old new (Some before) (Some after) (Refused error) = DoneWork order options budget old new before after (Err error)
 WorksIn order options budget old new (Some before) state _ = ⊥
 
+-- What a compaction of a level promises that is done: where its tables went, and which of their entries.
+pub record DoneLevel {K : Type 0} {g : _} (order : Order) (level : ℕ) (old new : Seen) (before after : Held K g) : Type 0 where
+  pub moves : MovesLevel order.cmp level before after
+  pub merges : MergesLevel order level old new before after
+
+-- so of the command
+abbrev pub LevelIn : {K : Type 0} {g : _} → Order → ℕ → Seen → Seen → Option (Held K g) → Option (Held K g) → Answer → Type 0
+LevelIn order level old new (Some before) (Some after) Done = DoneLevel order level old new before after
+LevelIn order level old new (Some before) None Done = ⊥
+LevelIn order level old new None state Done = ⊥
+LevelIn order level old new before after _ = Unit {0}
+
 abbrev pub WorksAs : {K : Type 0} {g : _} → Op → Order → OptionValues → Seen → Seen → Option (Held K g) → Option (Held K g) → Answer → Type 0
 WorksAs (Work budget) order options old new before after answer = WorksIn order options budget old new before after answer
+WorksAs (CompactLevel level) order options old new before after answer = LevelIn order level old new before after answer
 WorksAs _ order options old new before after answer = Unit {0}
 
 -- ---- of two sessions
@@ -145,6 +161,9 @@ WorkDone order facts budget old new answer = WorksIn order old.options budget (s
 
 abbrev pub WorkDoneBy : {S K : Type 0} {g : _} → Op → Order → (S → Facts) → Session S K g → Session S K g → Answer → Type 0
 WorkDoneBy op order facts old new answer = WorksAs op order old.options (seen_in facts old) (seen_in facts new) (held_in old) (held_in new) answer
+
+abbrev pub LevelDone : {S K : Type 0} {g : _} → Order → (S → Facts) → ℕ → Session S K g → Session S K g → Answer → Type 0
+LevelDone order facts level old new answer = LevelIn order level (seen_in facts old) (seen_in facts new) (held_in old) (held_in new) answer
 
 abbrev pub ShownBy : {S K : Type 0} {g : _} → Op → Session S K g → Answer → Type 0
 ShownBy op old answer = Shows old.options op (held_in old) answer
@@ -245,9 +264,13 @@ DbRemoves facts old new result = result ≡ Ok Idle → IsTrue (facts (db_store_
 abbrev pub DbExact : {S K : Type 0} {g : _} → Order → (S → Facts) → Db S K g → Db S K g → Result Progress DbError → Type 0
 DbExact order facts old new result = LeavesExactlyLive order (seen_by facts old) (seen_by facts new) (held_by old) (held_by new) result
 
--- A compaction that it brought to its end had no more entries left than the budget has.
+-- A compaction is at its end exactly where no more entries were left than the budget has.
 abbrev pub DbEndsWithin : {S K : Type 0} {g : _} → Order → (S → Facts) → ℕ → Db S K g → Db S K g → Result Progress DbError → Type 0
 DbEndsWithin order facts budget old new result = EndsWithin order old.options budget (seen_by facts old) (seen_by facts new) (held_by old) (held_by new) result
+
+-- The table that it wrote of a sealed memory table has exactly that one's entries.
+abbrev pub DbFlushes : {S K : Type 0} {g : _} → Order → (S → Facts) → Db S K g → Db S K g → Result Progress DbError → Type 0
+DbFlushes order facts old new result = FlushesSealed order (seen_by facts old) (seen_by facts new) (held_by old) (held_by new) result
 
 -- what a compaction of it leaves
 abbrev pub DbCompacts : {S K T : Type 0} {g : _} → (DbError → Type 0) → (S → Facts) → Db S K g → Db S K g → Result T DbError → Type 0

@@ -1,10 +1,15 @@
 -- Compactions that are brought to their end in one call.
-use Rattle.std.specs.Prelude.{◌≡◌, ◌⊎◌, ◌<◌, ◌≤◌, ◌+◌, ℕ, true, false, None, MatchOption, [], Result, Ok, Err, MatchResult, max}
+use Rattle.std.specs.Prelude.{◌≡◌, ◌⊎◌, ◌<◌, ◌≤◌, ◌+◌, ℕ, true, false, None, MatchOption, List, [], Result, Ok, Err, MatchResult, max}
 use Rattle.coding.specs.declared.error.DbError.{DbError}
 use Rattle.coding.specs.declared.error.DbError.TheVariants as error
+use Rattle.cursor.specs.Places.{Cmp}
+use Rattle.edits.specs.declared.field.PlacedTable.{PlacedTable}
 use Rattle.running_job.specs.Running.{shown}
 use Rattle.store.specs.Files.{Facts}
+use Rattle.directory_writes.specs.Install.{Replaces}
 use Rattle.versions.specs.Levels.{tables_at}
+use Rattle.versions.specs.Plans.{IsLevelPlan}
+use Rattle.versions.specs.declared.plan.JobPlan.{JobPlan}
 use Rattle.engine.specs.Held.{Held}
 use Rattle.machine.specs.Machine.{Machine, entry_count}
 use Rattle.engine.specs.Outcomes.{KeepsViews}
@@ -37,6 +42,14 @@ pub record CompactOutcome {T K : Type 0} {g : _} (may : DbError → Type 0) (old
 -- the level has none
 abbrev pub IsLevelEmpty : {K : Type 0} {g : _} → ℕ → Held K g → Type 0
 IsLevelEmpty level db = tables_at level db.tables ≡ []
+
+-- The compaction that was under way came to its end, if one was. Behind it the tables of the level, where it had some, were compacted
+-- into the next one, with what they bring along; its other tables stay.
+pub record MovesLevel {K : Type 0} {g : _} (cmp : Cmp) (level : ℕ) (before after : Held K g) : Type 0 where
+  pub between : List PlacedTable
+  pub ended : MatchOption before.job (between ≡ before.tables) (λ work. Replaces work.job.plan before.tables between)
+  pub moved : ((tables_at level between ≡ []) × (after.tables ≡ between)) ⊎ ((plan : JobPlan) × IsLevelPlan cmp between level plan × Replaces plan between after.tables)
+  pub idle : after.job ≡ None
 
 -- No entry is in memory alone, and no memory table is sealed.
 pub record HasNoMemory {K : Type 0} {g : _} (db : Held K g) : Type 0 where

@@ -18,6 +18,11 @@ use Rattle.engine.specs.Stands.{StandsOpen}
 abbrev pub live_sequences : {K : Type 0} {g : _} → Held K g → List ℕ
 live_sequences db = db.memory.last ∷ values_of db.snapshots.entries
 
+-- The compaction keeps the views of exactly those sequences.
+pub record IsForLive {K : Type 0} {g : _} (work : OpenJob K g) (db : Held K g) : Type 0 where
+  pub each : (sequence : ℕ) → Contains (live_sequences db) sequence → Contains work.job.selection.snapshots sequence
+  pub only : (sequence : ℕ) → Contains work.job.selection.snapshots sequence → Contains (live_sequences db) sequence
+
 -- no level lies below the last one
 abbrev pub none_below : List ℕ → Bool
 none_below key = false

@@ -22,6 +22,7 @@ use Rattle.engine.specs.declared.directory.DirectoryState.{DirectoryState}
 use Rattle.engine.specs.Durable.{LeavesFile}
 use Rattle.engine.specs.Held.{Held, version_of}
 use Rattle.engine.specs.InUse.{IsTableUsed}
+use Rattle.engine.specs.Needed.{IsForLive}
 use Rattle.engine.specs.OptionValues.{OptionValues}
 use Rattle.running_job.specs.Running.{shown}
 use Rattle.running_job.specs.declared.open_job.OpenJob.{OpenJob}
@@ -63,9 +64,9 @@ pub record IsSameMemory (old new : Memories) : Type 0 where
 
 -- ---- which piece it is
 
--- so many entries more of its inputs came to the same compaction
+-- so many entries more of its inputs came to the same compaction, which is for the same version and the same sequences
 abbrev pub IsFurther : {K : Type 0} {g : _} → OpenJob K g → ℕ → OpenJob K g → Type 0
-IsFurther work merged more = (more.job.plan ≡ work.job.plan) × (more.merged ≡ shown (work.merged + merged))
+IsFurther work merged more = (more.job.plan ≡ work.job.plan) × (more.merged ≡ shown (work.merged + merged)) × (more.job.selection.snapshots ≡ work.job.selection.snapshots) × (more.version ≡ work.version)
 
 -- A compaction was under way. As many entries more of its inputs came as the budget has, one for 0, and it is under way still, with the
 -- tables as they were; or all came, and its outputs are in the place of its inputs.
@@ -104,12 +105,12 @@ pub record IsAtEase {K : Type 0} {g : _} (options : OptionValues) (db : Held K g
 abbrev pub WantsCompaction : {K : Type 0} {g : _} → OptionValues → Held K g → ℕ → Type 0
 WantsCompaction options db level = (level < 6) × Needs options.level0_files options.base_bytes db.tables level
 
--- The compaction that is most wanted was begun. So many entries of its inputs came; or all, and its outputs are in the place of its
--- inputs.
+-- The compaction that is most wanted was begun. So many entries of its inputs came, and it keeps the views that are read at, and no
+-- others; or all came, and its outputs are in the place of its inputs.
 pub record BeginsJob {K : Type 0} {g : _} (cmp : Cmp) (options : OptionValues) (budget : ℕ) (before after : Held K g) : Type 0 where
   pub plan : JobPlan
   pub picked : IsPicked cmp options.level0_files options.base_bytes (version_of before) plan
-  pub begun : MatchOption after.job (Replaces plan before.tables after.tables) (λ work. (work.job.plan ≡ plan) × (work.merged ≡ shown (max budget 1)) × (after.tables ≡ before.tables))
+  pub begun : MatchOption after.job (Replaces plan before.tables after.tables) (λ work. (work.job.plan ≡ plan) × (work.merged ≡ shown (max budget 1)) × IsForLive work before × (after.tables ≡ before.tables))
 
 -- That is so where nothing else was to be done.
 pub record Begins {K : Type 0} {g : _} (cmp : Cmp) (options : OptionValues) (budget : ℕ) (before after : Held K g) : Type 0 where

@@ -17,7 +17,7 @@ use versions::{JobPlan, plans_of_tables};
 impl<K: KeyOrder> DbState<K> {
     ghost use Rattle.engine.specs.declared.ids.Ids.{Ids};
     ghost use Rattle.engine.specs.Causes.{IsCausedIn, broken_in, level_refusal};
-    ghost use Rattle.engine.specs.Finishing.{EndsJob, HasNoMemory, IsAllCompacted, IsLevelEmpty};
+    ghost use Rattle.engine.specs.Finishing.{EndsJob, HasNoMemory, IsAllCompacted, IsLevelEmpty, MovesLevel};
     ghost use Rattle.engine.specs.Needed.{EndsNeeded, IsTakingAll, LeavesNeeded};
     ghost use Rattle.engine.specs.Outcomes.{MayRefuseLevel, MayRefuseWork};
     ghost use Rattle.engine.specs.Follows.{unit_answer};
@@ -26,6 +26,7 @@ impl<K: KeyOrder> DbState<K> {
     ghost use Rattle.db_cursor.specs.Whole.{seen_of};
     ghost use Rattle.machine.specs.Upkeep.{CompactsAll, CompactsLevel, most_drawn};
     ghost use Rattle.engine.specs.Working.{IsPiece, MayRefusePiece};
+    ghost use Rattle.engine.specs.WrittenTables.{MergesLevel, MergesPlan, PutsMerged};
     ghost use Rattle.memtables.specs.Places.{LeavesMemories};
     ghost use Rattle.directory_writes.specs.Install.{Replaces};
     ghost use Rattle.versions.specs.Plans.{IsPlanOf, IsWholePlan};
@@ -45,6 +46,10 @@ impl<K: KeyOrder> DbState<K> {
         ensures caused { IsCausedIn (level_refusal
             (held source.old.memory self.old) level) source.old.tables.store source.new.tables.store result }
         ensures emptied { OnOk result (IsLevelEmpty level (held source.new.memory self.new)) }
+        ensures moves { OnOk result (MovesLevel K.cmp level (held source.old.memory self.old) (held source.new.memory self.new)) }
+        // While the store is faithful, each entry that must be kept is in what its tables have become, and no other.
+        ensures merges { OnOk result (MergesLevel (order_of K.name K.cmp) level (seen_of S.facts source.old) (seen_of S.facts source.new)
+            (held source.old.memory self.old) (held source.new.memory self.new)) }
     {
         if self.broken {
             return Err(DbError::Broken);
@@ -92,6 +97,9 @@ impl<K: KeyOrder> DbState<K> {
             (λ m n. IsPiece m (most_drawn m) result n) }
         ensures outcome { CompactLent MayRefusePiece S.facts source.old self.old source.new self.new result }
         ensures emptied { OnOk result (IsLevelEmpty level (held source.new.memory self.new)) }
+        ensures moves { OnOk result (MovesLevel K.cmp level (held source.old.memory self.old) (held source.new.memory self.new)) }
+        ensures merges { OnOk result (MergesLevel (order_of K.name K.cmp) level (seen_of S.facts source.old) (seen_of S.facts source.new)
+            (held source.old.memory self.old) (held source.new.memory self.new)) }
     {
         // Laws, for the proof alone.
         plans_of_tables();
@@ -185,9 +193,12 @@ impl<K: KeyOrder> DbState<K> {
         ensures step { LeadsLent (order_of K.name K.cmp) S.facts source.old self.old source.new self.new (λ m n. EndsJob m result n) }
         ensures outcome { CompactLent MayRefusePiece S.facts source.old self.old source.new self.new result }
         ensures memory { LeavesMemories source.old.memory source.new.memory }
+        ensures none { OnOk result (self.new.job ≡ None) }
         ensures done { OnOk result (Replaces plan self.old.version.value.tables self.new.version.value.tables) }
         ensures needed { OnOk result (IsWholePlan self.old.version.value.tables plan
             → EndsNeeded (order_of K.name K.cmp) (seen_of S.facts source.old) (seen_of S.facts source.new)
+            (held source.old.memory self.old) (held source.new.memory self.new)) }
+        ensures merges { OnOk result (MergesPlan (order_of K.name K.cmp) plan (seen_of S.facts source.old) (seen_of S.facts source.new)
             (held source.old.memory self.old) (held source.new.memory self.new)) }
     {
         self.begin_job(alloc, source, options, plan)?;
@@ -208,9 +219,12 @@ impl<K: KeyOrder> DbState<K> {
         ensures none { OnOk result (self.new.job ≡ None) }
         ensures done { OnOk result (MatchOption self.old.job (Unit {0})
             (λ work. Replaces work.job.plan self.old.version.value.tables self.new.version.value.tables)) }
+        ensures stays { OnOk result (self.old.job ≡ None → self.new.version.value.tables ≡ self.old.version.value.tables) }
         ensures needed { OnOk result (IsTakingAll (held source.old.memory self.old)
             → EndsNeeded (order_of K.name K.cmp) (seen_of S.facts source.old) (seen_of S.facts source.new)
             (held source.old.memory self.old) (held source.new.memory self.new)) }
+        ensures merges { OnOk result (IsSome self.old.job → PutsMerged (order_of K.name K.cmp) (seen_of S.facts source.old)
+            (seen_of S.facts source.new) (held source.old.memory self.old) (held source.new.memory self.new)) }
     {
         if self.job.is_none() {
             return Ok(());
@@ -236,6 +250,8 @@ impl<K: KeyOrder> DbState<K> {
         ensures needed { OnOk result (IsTakingAll (held source.old.memory self.old)
             → EndsNeeded (order_of K.name K.cmp) (seen_of S.facts source.old) (seen_of S.facts source.new)
             (held source.old.memory self.old) (held source.new.memory self.new)) }
+        ensures merges { OnOk result (PutsMerged (order_of K.name K.cmp) (seen_of S.facts source.old)
+            (seen_of S.facts source.new) (held source.old.memory self.old) (held source.new.memory self.new)) }
     {
         // A loop without a measure: as many turns as 64 bits count, and out of memory behind them, which no run reaches.
         for _ in 0..u64::MAX {

@@ -30,8 +30,9 @@ impl<K: KeyOrder> DbState<K> {
     ghost use Rattle.engine.specs.Outcomes.{IsSame};
     ghost use Rattle.engine.specs.declared.work.Progress.TheVariants.{Worked, Idle};
     ghost use Rattle.engine.specs.Finishing.{HasCome};
-    ghost use Rattle.engine.specs.Needed.{EndsNeeded, IsTakingAll};
-    ghost use Rattle.engine.specs.WithinBudget.{HasLeftUpTo, StepsUpTo};
+    ghost use Rattle.engine.specs.Needed.{EndsNeeded, IsForLive, IsTakingAll};
+    ghost use Rattle.engine.specs.WithinBudget.{HasLeftBy, StepsBy};
+    ghost use Rattle.engine.specs.WrittenTables.{KeepsTableFiles, PutsMerged};
     ghost use Rattle.engine.specs.Working.{BeginsJob, GoesOn, IsPiece, MayRefusePiece, WantsCompaction};
     ghost use Rattle.memtables.specs.Places.{LeavesMemories};
     ghost use Rattle.versions.specs.Plans.{IsPlanOf, IsWholePlan};
@@ -52,8 +53,9 @@ impl<K: KeyOrder> DbState<K> {
         ensures begins { result ≡ Ok Worked → BeginsJob K.cmp options.now budget (held source.old.memory self.old)
             (held source.new.memory self.new) }
         ensures unwanted { result ≡ Ok Idle → (level : ℕ) → WantsCompaction options.now (held source.old.memory self.old) level → ⊥ }
-        ensures few { result ≡ Ok Worked → self.new.job ≡ None → IsTrue (S.facts source.new.tables.store).faithful
-            → StepsUpTo (order_of K.name K.cmp) (seen_of S.facts source.old) (held source.old.memory self.old) (max budget 1) }
+        ensures few { result ≡ Ok Worked → IsTrue (S.facts source.new.tables.store).faithful
+            → StepsBy (order_of K.name K.cmp) options.now (seen_of S.facts source.old) (seen_of S.facts source.new)
+            (held source.old.memory self.old) (held source.new.memory self.new) (max budget 1) }
         ensures idle { result ≡ Ok Idle → (source.new ≡ source.old) × (self.new ≡ self.old) }
         ensures lock { (S.facts source.new.tables.store).locked ≡ (S.facts source.old.tables.store).locked }
     {
@@ -86,6 +88,7 @@ impl<K: KeyOrder> DbState<K> {
         ensures outcome { OutcomeLent MayRefusePiece S.facts source.old self.old source.new self.new result }
         ensures begun { OnOk result (IsSome self.new.job) }
         ensures none { OnOk result (MatchOption self.new.job ⊥ (λ work. (work.merged ≡ 0) × (work.job.plan ≡ plan))) }
+        ensures live { OnOk result (MatchOption self.new.job ⊥ (λ work. IsForLive work (held source.old.memory self.old))) }
         ensures all { OnOk result (IsWholePlan self.old.version.value.tables plan → IsTakingAll (held source.new.memory self.new)) }
         ensures files { IsTrue (S.facts source.new.tables.store).faithful
             → (S.facts source.new.tables.store).files ≡ (S.facts source.old.tables.store).files }
@@ -132,8 +135,14 @@ impl<K: KeyOrder> DbState<K> {
         ensures needed { result ≡ Ok true → IsTakingAll (held source.old.memory self.old)
             → EndsNeeded (order_of K.name K.cmp) (seen_of S.facts source.old) (seen_of S.facts source.new)
             (held source.old.memory self.old) (held source.new.memory self.new) }
-        ensures few { result ≡ Ok true → IsTrue (S.facts source.new.tables.store).faithful
-            → HasLeftUpTo (order_of K.name K.cmp) (seen_of S.facts source.old) (held source.old.memory self.old) (max budget 1) }
+        ensures few { OnOk result (IsTrue (S.facts source.new.tables.store).faithful
+            → HasLeftBy (order_of K.name K.cmp) (seen_of S.facts source.old) (held source.old.memory self.old)
+            (max budget 1) self.new.job) }
+        ensures beside { result ≡ Ok false → IsTrue (S.facts source.new.tables.store).faithful
+            → KeepsTableFiles (order_of K.name K.cmp) (seen_of S.facts source.old) (seen_of S.facts source.new)
+            (held source.old.memory self.old) }
+        ensures merges { OnOk result (self.new.job ≡ None → PutsMerged (order_of K.name K.cmp) (seen_of S.facts source.old)
+            (seen_of S.facts source.new) (held source.old.memory self.old) (held source.new.memory self.new)) }
         ensures come { result ≡ Ok true → LeadsLent (order_of K.name K.cmp) S.facts source.old self.old source.new self.new
             (λ m n. HasCome budget (held source.old.memory self.old) m result n) }
         ensures lock { (S.facts source.new.tables.store).locked ≡ (S.facts source.old.tables.store).locked }
@@ -188,6 +197,8 @@ impl<K: KeyOrder> DbState<K> {
             → Contains sequences.items sequence) }
         ensures only { IfOk result (λ sequences. (sequence : ℕ) → Contains sequences.items sequence
             → Contains (last ∷ values_of self.now.snapshots.entries) sequence) }
+        ensures each { IfOk result (λ sequences. (sequence : ℕ)
+            → Contains (last ∷ values_of self.now.snapshots.entries) sequence → Contains sequences.items sequence) }
     {
         let mut sequences = Vec::with_capacity(alloc, self.snapshots.len() + 1)?;
         for sequence in self.snapshots.values() {

@@ -41,6 +41,7 @@ impl<K: KeyOrder> DbState<K> {
     ghost use Rattle.engine.specs.Outcomes.{IsSame, MayRefuseWork};
     ghost use Rattle.machine.specs.Upkeep.{Works};
     ghost use Rattle.engine.specs.WithinBudget.{EndsWithin};
+    ghost use Rattle.engine.specs.WrittenTables.{FlushesSealed, PutsSealed};
     ghost use Rattle.engine.specs.Working.{DoesWork, HasLiveOnly, IsPiece, IsSameMemory, LosesDead, MayRefusePiece};
     ghost use Rattle.engine.specs.Working.{SealsMemory, WritesTable, broken_by, flush_answer, work_answer};
 
@@ -59,8 +60,11 @@ impl<K: KeyOrder> DbState<K> {
         ensures outcome { OutcomeLent MayRefuseWork S.facts source.old self.old source.new self.new result }
         ensures caused { IsCausedIn (broken_in (held source.old.memory self.old)) source.old.tables.store source.new.tables.store result }
         ensures does { DoesWork K.cmp options.now budget (held source.old.memory self.old) (held source.new.memory self.new) result }
-        // A compaction that it brought to its end had no more entries left than the budget has, while the store is faithful.
+        // While the store is faithful, a compaction is at its end exactly where no more entries were left than the budget has.
         ensures within { EndsWithin (order_of K.name K.cmp) options.now budget (seen_of S.facts source.old)
+            (seen_of S.facts source.new) (held source.old.memory self.old) (held source.new.memory self.new) result }
+        // The table that it wrote of a sealed memory table has exactly that one's entries then.
+        ensures flushes { FlushesSealed (order_of K.name K.cmp) (seen_of S.facts source.old)
             (seen_of S.facts source.new) (held source.old.memory self.old) (held source.new.memory self.new) result }
         // Where there is none, all files are live, unless one couldn't be removed.
         ensures tidy { result ≡ Ok Idle → IsTrue (S.facts source.new.tables.store).faithful
@@ -140,6 +144,8 @@ impl<K: KeyOrder> DbState<K> {
         ensures does { DoesWork K.cmp options.now budget (held source.old.memory self.old) (held source.new.memory self.new) result }
         ensures within { EndsWithin (order_of K.name K.cmp) options.now budget (seen_of S.facts source.old)
             (seen_of S.facts source.new) (held source.old.memory self.old) (held source.new.memory self.new) result }
+        ensures flushes { FlushesSealed (order_of K.name K.cmp) (seen_of S.facts source.old)
+            (seen_of S.facts source.new) (held source.old.memory self.old) (held source.new.memory self.new) result }
         ensures idle { result ≡ Ok Idle → (source.new ≡ source.old) × (self.new ≡ self.old) }
         ensures lock { (S.facts source.new.tables.store).locked ≡ (S.facts source.old.tables.store).locked }
     {
@@ -165,6 +171,8 @@ impl<K: KeyOrder> DbState<K> {
         ensures outcome { OutcomeLent MayRefusePiece S.facts source.old self.old source.new self.new result }
         ensures does { DoesWork K.cmp options.now budget (held source.old.memory self.old) (held source.new.memory self.new) result }
         ensures within { EndsWithin (order_of K.name K.cmp) options.now budget (seen_of S.facts source.old)
+            (seen_of S.facts source.new) (held source.old.memory self.old) (held source.new.memory self.new) result }
+        ensures flushes { FlushesSealed (order_of K.name K.cmp) (seen_of S.facts source.old)
             (seen_of S.facts source.new) (held source.old.memory self.old) (held source.new.memory self.new) result }
         ensures idle { result ≡ Ok Idle → (source.new ≡ source.old) × (self.new ≡ self.old) }
         ensures lock { (S.facts source.new.tables.store).locked ≡ (S.facts source.old.tables.store).locked }
@@ -194,6 +202,8 @@ impl<K: KeyOrder> DbState<K> {
         ensures step { LeadsLent (order_of K.name K.cmp) S.facts source.old self.old source.new self.new (λ m n. IsPiece m 1 result n) }
         ensures outcome { OutcomeLent MayRefusePiece S.facts source.old self.old source.new self.new result }
         ensures does { OnOk result (WritesTable (held source.old.memory self.old) (held source.new.memory self.new)) }
+        ensures puts { OnOk result (PutsSealed (order_of K.name K.cmp) (seen_of S.facts source.old) (seen_of S.facts source.new)
+            (held source.old.memory self.old) (held source.new.memory self.new)) }
         ensures serves { OnOk result (ServesLent S.facts source.old self.old source.new self.new) }
         ensures lock { (S.facts source.new.tables.store).locked ≡ (S.facts source.old.tables.store).locked }
     {

@@ -1,13 +1,17 @@
 use Rattle.ikey.specs.Orders.{order_of}
-use Rattle.std.proofs.Common.{Option, Result, ap, subst}
+use Rattle.std.proofs.Common.{Option, Some, Result, OnOk, sym, ap, subst}
 use Rattle.std.specs.Option.{option_map}
 use Rattle.coding.specs.declared.error.DbError.{DbError}
 use Rattle.engine.specs.declared.state.DbState.{DbState}
 use Rattle.engine.specs.Follows.{LeadsOpen, unit_answer}
-use Rattle.engine.specs.Held.{held}
+use Rattle.engine.specs.Applied.{LevelIn}
+use Rattle.engine.specs.Finishing.{MovesLevel}
+use Rattle.engine.specs.Held.{Held, held}
 use Rattle.db_cursor.specs.Whole.{seen_of}
 use Rattle.engine.specs.Stands.{StandsOver}
 use Rattle.machine.specs.Upkeep.{CompactsLevel}
+use Rattle.machine.specs.declared.command.Answer.TheVariants.{Done}
+use Rattle.engine.specs.WrittenTables.{MergesLevel}
 use Rattle.engine.proofs.Emptied.{level_closed}
 use Rattle.engine.proofs.Steps.{stays}
 use Rattle.engine.proofs.WriteSteps.{lifts}
@@ -47,3 +51,18 @@ returns-in-Err-clause-step g c =
     let after = held c.compact_level.new.source.memory c.compact_level.new.self in
     lifts order old new ids ids (option_map (held memory) c.args.self.now.state) before after _ (ap (option_map (held memory)) c.in-Some.is)
     (subst (λ (r : Result _ DbError). LeadsOpen order old new ids before after (λ m n. CompactsLevel m c.args.level (unit_answer r) n)) c.in-Err.is (c.compact_level.ensures.step ids))
+
+pub returns-in-Ok-clause-works : goal.returns-in-Ok-clause-works
+returns-in-Ok-clause-works g c =
+    let order = order_of g.K.KeyOrder.name g.K.KeyOrder.cmp in
+    let facts = g.S.Store.facts in
+    let old = seen_of facts c.args.self.now.source in
+    let new = seen_of facts c.compact_level.new.source in
+    let memory = c.args.self.now.source.memory in
+    let before = held memory c.in-Some.state in
+    let after = held c.compact_level.new.source.memory c.compact_level.new.self in
+    subst (λ (o : Option (Held _ _)). LevelIn order c.args.level old new o (Some after) Done) (sym (ap (option_map (held memory)) c.in-Some.is))
+    (record {
+      moves = subst (λ (r : Result _ DbError). OnOk r (MovesLevel order.cmp c.args.level before after)) c.in-Ok.is c.compact_level.ensures.moves;
+      merges = subst (λ (r : Result _ DbError). OnOk r (MergesLevel order c.args.level old new before after)) c.in-Ok.is c.compact_level.ensures.merges;
+    })

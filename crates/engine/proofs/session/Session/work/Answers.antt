@@ -73,7 +73,7 @@ returns-in-Ok-Worked-clause-works g c =
     let memory = c.args.self.now.source.memory in
     done_in order c.args.self.now.options c.args.budget (seen_of facts c.args.self.now.source) (seen_of facts c.work.new.source) (option_map (held memory) c.args.self.now.state)
     (held memory c.in-Some.state) (held c.work.new.source.memory c.work.new.self) Worked c.work.result (c.in-Ok-Worked.is ∙ ap Ok c.in-Ok-Worked.field-0-is) (ap (option_map (held memory)) c.in-Some.is)
-    (record { does = c.work.ensures.does; within = c.work.ensures.within; tidy = c.work.ensures.tidy; removes = c.work.ensures.removes; exact = c.work.ensures.exact; dropped = c.work.ensures.dropped }) (λ d. d)
+    (record { does = c.work.ensures.does; within = c.work.ensures.within; flushes = c.work.ensures.flushes; tidy = c.work.ensures.tidy; removes = c.work.ensures.removes; exact = c.work.ensures.exact; dropped = c.work.ensures.dropped }) (λ d. d)
 
 pub returns-in-Ok-Idle-clause-works : goal.returns-in-Ok-Idle-clause-works
 returns-in-Ok-Idle-clause-works g c =
@@ -82,7 +82,7 @@ returns-in-Ok-Idle-clause-works g c =
     let memory = c.args.self.now.source.memory in
     done_in order c.args.self.now.options c.args.budget (seen_of facts c.args.self.now.source) (seen_of facts c.work.new.source) (option_map (held memory) c.args.self.now.state)
     (held memory c.in-Some.state) (held c.work.new.source.memory c.work.new.self) answer.Idle c.work.result (c.in-Ok-Idle.is ∙ ap Ok c.in-Ok-Idle.field-0-is) (ap (option_map (held memory)) c.in-Some.is)
-    (record { does = c.work.ensures.does; within = c.work.ensures.within; tidy = c.work.ensures.tidy; removes = c.work.ensures.removes; exact = c.work.ensures.exact; dropped = c.work.ensures.dropped }) (λ d. d)
+    (record { does = c.work.ensures.does; within = c.work.ensures.within; flushes = c.work.ensures.flushes; tidy = c.work.ensures.tidy; removes = c.work.ensures.removes; exact = c.work.ensures.exact; dropped = c.work.ensures.dropped }) (λ d. d)
 
 pub returns-in-Err-clause-works : goal.returns-in-Err-clause-works
 returns-in-Err-clause-works g c =
@@ -91,4 +91,4 @@ returns-in-Err-clause-works g c =
     let memory = c.args.self.now.source.memory in
     done_in order c.args.self.now.options c.args.budget (seen_of facts c.args.self.now.source) (seen_of facts c.work.new.source) (option_map (held memory) c.args.self.now.state)
     (held memory c.in-Some.state) (held c.work.new.source.memory c.work.new.self) (Refused c.in-Err.error) c.work.result (c.in-Err.is) (ap (option_map (held memory)) c.in-Some.is)
-    (record { does = c.work.ensures.does; within = c.work.ensures.within; tidy = c.work.ensures.tidy; removes = c.work.ensures.removes; exact = c.work.ensures.exact; dropped = c.work.ensures.dropped }) (λ d. d)
+    (record { does = c.work.ensures.does; within = c.work.ensures.within; flushes = c.work.ensures.flushes; tidy = c.work.ensures.tidy; removes = c.work.ensures.removes; exact = c.work.ensures.exact; dropped = c.work.ensures.dropped }) (λ d. d)

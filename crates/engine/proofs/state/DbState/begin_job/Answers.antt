@@ -78,6 +78,17 @@ returns-clause-all g c planned =
     takes_begun state c.args.source.now.memory c.begin.new.source.memory c.args.plan work c.in_ok-snapshots.snapshots.items j.plan (ap (λ (p : Placement). p.tables) j.version) kept j.leaves.memory.last
     (λ sequence i. subst (λ (last : ℕ). Contains (last ∷ values_of state.snapshots.entries) sequence) c.last.ensures.is (c.in_ok-snapshots.ensures.only sequence i)) planned
 
+pub returns-clause-live : goal.returns-clause-live
+returns-clause-live g c =
+    let state = c.args.self.now in
+    let work = c.in_ok-job.job in
+    let kept : work.job.selection.snapshots ≡ c.in_ok-snapshots.snapshots.items = search rules in
+    let Live : List ℕ → ℕ → Type 0 = λ sequences sequence. Contains sequences sequence in
+    record {
+      each = λ sequence i. subst (λ (ss : List ℕ). Live ss sequence) (sym kept) (c.in_ok-snapshots.ensures.each sequence (subst (λ (last : ℕ). Live (last ∷ values_of state.snapshots.entries) sequence) (sym c.last.ensures.is) i));
+      only = λ sequence i. subst (λ (last : ℕ). Live (last ∷ values_of state.snapshots.entries) sequence) c.last.ensures.is (c.in_ok-snapshots.ensures.only sequence (subst (λ (ss : List ℕ). Live ss sequence) kept i));
+    }
+
 pub returns-in_err-snapshots-clause-files : goal.returns-in_err-snapshots-clause-files
 returns-in_err-snapshots-clause-files g c f = refl
 

@@ -16,7 +16,7 @@ use Rattle.engine.proofs.JobEnds.{outcome_behind}
 use Rattle.engine.proofs.WorkAnswers.{begun_further, of_some, picked_for, then_piece}
 use Rattle.engine.proofs.WorkEnds.{ends_full, ends_idle}
 use Rattle.engine.proofs.WorkSteps.{piece_done, piece_failed, piece_within}
-use Rattle.engine.proofs.WithinBudget.{ended_of, not_some, steps_begun}
+use Rattle.engine.proofs.WithinBudget.{steps_begun}
 use Rattle.engine.proofs.state.DbState.compact.Goals as goal
 
 pub returns-in_err-plan-clause-step : goal.returns-in_err-plan-clause-step
@@ -97,11 +97,11 @@ returns-clause-begins g c = λ done.
       picked = picked_for g.K.KeyOrder.cmp c.level0_files.result c.base_bytes.result c.args.options.now.level0_files c.args.options.now.base_bytes c.deref.result.now c.args.self.now.version.value c.in-Some.plan
           c.level0_files.ensures.is c.base_bytes.ensures.is c.deref.ensures
           (of_some _ (λ plan. IsPicked g.K.KeyOrder.cmp c.level0_files.result c.base_bytes.result c.deref.result.now plan) c.in_ok-plan.field-0 c.in-Some.plan c.in-Some.is c.in_ok-plan.ensures.picked);
-      begun = begun_further c.args.budget c.in-Some.plan (held c.args.source.now.memory c.args.self.now) (held c.begin_job.new.source.memory c.begin_job.new.self) (held c.step_job.new.source.memory c.step_job.new.self) b.same.tables b.none c.in_ok-step_job.ensures.on;
+      begun = begun_further c.args.budget c.in-Some.plan (held c.args.source.now.memory c.args.self.now) (held c.begin_job.new.source.memory c.begin_job.new.self) (held c.step_job.new.source.memory c.step_job.new.self) b.same.tables b.none b.live c.in_ok-step_job.ensures.on;
     }
 
 pub returns-clause-few : goal.returns-clause-few
-returns-clause-few g c worked gone f =
+returns-clause-few g c worked f =
     let order = order_of g.K.KeyOrder.name g.K.KeyOrder.cmp in
     let old = seen_of g.S.Store.facts c.args.source.now in
     let mid = seen_of g.S.Store.facts c.begin_job.new.source in
@@ -109,5 +109,7 @@ returns-clause-few g c worked gone f =
     let between = held c.begin_job.new.source.memory c.begin_job.new.self in
     let b = c.in_ok-begin_job.ensures in
     let a = c.in_ok-step_job.ensures in
-    let ended = ended_of _ _ c.in_ok-step_job.field-0 a.ended (λ some. not_some c.step_job.new.self.job gone some) in
-    steps_begun order old mid before between (max c.args.budget 1) (λ work. work.job.plan ≡ c.in-Some.plan) b.step ((a.step no_ids).faithful f) b.whole b.same.tables (b.files ((a.step no_ids).faithful f)) c.requires.none b.none (a.few (ap (λ (e : _). Ok e) ended) f)
+    let new = seen_of g.S.Store.facts c.step_job.new.source in
+    let after = held c.step_job.new.source.memory c.step_job.new.self in
+    let still = (a.step no_ids).faithful f in
+    steps_begun order c.args.options.now old mid new before between after (max c.args.budget 1) c.in-Some.plan b.step still b.whole b.same.tables (b.files still) c.requires.none b.none b.live (returns-clause-begins g c worked).picked (a.few f) a.merges

@@ -11,8 +11,9 @@ use Rattle.engine.specs.Held.{held}
 use Rattle.db_cursor.specs.Whole.{seen_of}
 use Rattle.machine.specs.Upkeep.{most_drawn}
 use Rattle.engine.specs.Working.{IsPiece, MayRefusePiece}
-use Rattle.engine.proofs.Emptied.{beyond_most, level_emptied, on_ok}
+use Rattle.engine.proofs.Emptied.{beyond_most, both_ok, level_emptied, level_moved, level_unmoved, on_ok}
 use Rattle.engine.proofs.Finishing.{outcome_all, outcome_done, outcome_then, stays_full, then_bound, within_bound}
+use Rattle.engine.proofs.NeededEnds.{merges_level, merges_none}
 use Rattle.engine.proofs.WorkAnswers.{of_none, of_some}
 use Rattle.engine.proofs.state.DbState.compact_tables_of.Goals as goal
 
@@ -120,6 +121,24 @@ returns-clause-emptied g c =
     let planned = of_some (tables_at level c.deref.result.now.tables ≡ []) (IsLevelPlan cmp c.deref.result.now.tables level) c.in_ok-plan.field-0 plan c.in-Some.is c.in_ok-plan.ensures in
     on_ok c.run_job.result (λ h. level_emptied cmp tables c.run_job.new.self.version.value.tables level plan (subst (λ (ts : List PlacedTable). IsLevelPlan cmp ts level plan) tables_are planned) h) c.run_job.ensures.done
 
+pub returns-in_default-clause-moves : goal.returns-in_default-clause-moves
+returns-in_default-clause-moves g c =
+    let r = c.in_ok-run_job_to_end.ensures in
+    level_unmoved g.K.KeyOrder.cmp c.args.level (held c.args.source.now.memory c.args.self.now) (held c.run_job_to_end.new.source.memory c.run_job_to_end.new.self) r.done r.stays r.none (returns-in_default-clause-emptied g c)
+
+pub returns-clause-moves : goal.returns-clause-moves
+returns-clause-moves g c =
+    let cmp = g.K.KeyOrder.cmp in
+    let level = c.args.level in
+    let plan = c.in-Some.plan in
+    let before = held c.args.source.now.memory c.args.self.now in
+    let after = held c.run_job.new.source.memory c.run_job.new.self in
+    let tables = c.run_job_to_end.new.self.version.value.tables in
+    let tables_are : c.deref.result.now.tables ≡ tables = ap (λ (p : Placement). p.tables) c.deref.ensures in
+    let planned = of_some (tables_at level c.deref.result.now.tables ≡ []) (IsLevelPlan cmp c.deref.result.now.tables level) c.in_ok-plan.field-0 plan c.in-Some.is c.in_ok-plan.ensures in
+    let r = c.in_ok-run_job_to_end.ensures in
+    both_ok c.run_job.result (λ idle done. level_moved cmp level before after tables plan r.done r.stays idle (subst (λ (ts : List PlacedTable). IsLevelPlan cmp ts level plan) tables_are planned) done) c.run_job.ensures.none c.run_job.ensures.done
+
 pub run_job-requires-clause-plan : goal.run_job-requires-clause-plan
 run_job-requires-clause-plan g c =
     let cmp = g.K.KeyOrder.cmp in
@@ -129,3 +148,30 @@ run_job-requires-clause-plan g c =
     let tables_are : c.deref.result.now.tables ≡ tables = ap (λ (p : Placement). p.tables) c.deref.ensures in
     let planned = of_some (tables_at level c.deref.result.now.tables ≡ []) (IsLevelPlan cmp c.deref.result.now.tables level) c.in_ok-plan.field-0 plan c.in-Some.is c.in_ok-plan.ensures in
     subst (λ (ts : List PlacedTable). IsPlanOf cmp ts plan) tables_are ((c.plans_of_tables.ensures cmp c.deref.result.now plan).1 level c.requires.level planned)
+
+pub returns-in_default-clause-merges : goal.returns-in_default-clause-merges
+returns-in_default-clause-merges g c =
+    let order = order_of g.K.KeyOrder.name g.K.KeyOrder.cmp in
+    let old = seen_of g.S.Store.facts c.args.source.now in
+    let mid = seen_of g.S.Store.facts c.run_job_to_end.new.source in
+    let before = held c.args.source.now.memory c.args.self.now in
+    let between = held c.run_job_to_end.new.source.memory c.run_job_to_end.new.self in
+    let r = c.in_ok-run_job_to_end.ensures in
+    merges_none order c.args.level old mid before between r.step r.merges (returns-in_default-clause-emptied g c)
+
+pub returns-clause-merges : goal.returns-clause-merges
+returns-clause-merges g c =
+    let order = order_of g.K.KeyOrder.name g.K.KeyOrder.cmp in
+    let cmp = g.K.KeyOrder.cmp in
+    let level = c.args.level in
+    let plan = c.in-Some.plan in
+    let old = seen_of g.S.Store.facts c.args.source.now in
+    let mid = seen_of g.S.Store.facts c.run_job_to_end.new.source in
+    let new = seen_of g.S.Store.facts c.run_job.new.source in
+    let before = held c.args.source.now.memory c.args.self.now in
+    let between = held c.run_job_to_end.new.source.memory c.run_job_to_end.new.self in
+    let after = held c.run_job.new.source.memory c.run_job.new.self in
+    let tables_are : c.deref.result.now.tables ≡ between.tables = ap (λ (p : Placement). p.tables) c.deref.ensures in
+    let planned = of_some (tables_at level c.deref.result.now.tables ≡ []) (IsLevelPlan cmp c.deref.result.now.tables level) c.in_ok-plan.field-0 plan c.in-Some.is c.in_ok-plan.ensures in
+    let r = c.in_ok-run_job_to_end.ensures in
+    on_ok c.run_job.result (λ merges. merges_level order level old mid new before between after plan r.step c.run_job.ensures.step r.merges (subst (λ (ts : List PlacedTable). IsLevelPlan cmp ts level plan) tables_are planned) merges) c.run_job.ensures.merges

@@ -8,7 +8,7 @@ use Rattle.engine.specs.Held.{held}
 use Rattle.db_cursor.specs.Whole.{seen_of}
 use Rattle.engine.specs.Working.{IsPiece}
 use Rattle.engine.proofs.WorkSteps.{piece_done, piece_failed}
-use Rattle.engine.proofs.WithinBudget.{ended_of, not_some, steps_itself}
+use Rattle.engine.proofs.WithinBudget.{not_some, steps_itself}
 use Rattle.engine.proofs.state.DbState.do_piece.Goals as goal
 
 pub returns-in_err-step_job-clause-step : goal.returns-in_err-step_job-clause-step
@@ -28,8 +28,13 @@ returns-then-is_some-clause-step g c ids =
     (max c.args.budget 1) c.in_ok-step_job.field-0 Worked (c.in_ok-step_job.ensures.step ids)
 
 pub returns-then-is_some-clause-within : goal.returns-then-is_some-clause-within
-returns-then-is_some-clause-within g c worked which gone f =
-    let order = order_of g.K.KeyOrder.name g.K.KeyOrder.cmp in
+returns-then-is_some-clause-within g c worked which f =
+    let old = seen_of g.S.Store.facts c.args.source.now in
+    let new = seen_of g.S.Store.facts c.step_job.new.source in
+    let before = held c.args.source.now.memory c.args.self.now in
+    let after = held c.step_job.new.source.memory c.step_job.new.self in
     let a = c.in_ok-step_job.ensures in
-    let ended = ended_of _ _ c.in_ok-step_job.field-0 a.ended (λ some. not_some c.step_job.new.self.job gone some) in
-    steps_itself order (seen_of g.S.Store.facts c.args.source.now) (held c.args.source.now.memory c.args.self.now) (max c.args.budget 1) c.requires.whole (a.few (ap (λ (e : _). Ok e) ended) f)
+    steps_itself (order_of g.K.KeyOrder.name g.K.KeyOrder.cmp) c.args.options.now old new before after (max c.args.budget 1) c.requires.whole (a.few f) a.merges
+
+pub returns-then-is_some-clause-flushes : goal.returns-then-is_some-clause-flushes
+returns-then-is_some-clause-flushes g c worked idle = absurd (not_some c.args.self.now.job idle (search rules))

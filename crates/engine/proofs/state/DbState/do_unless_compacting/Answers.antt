@@ -1,4 +1,4 @@
-use Rattle.std.proofs.Common.{◌≡◌, max, Result, Ok, Err, inl, inr, sym, subst, arith, rules}
+use Rattle.std.proofs.Common.{◌≡◌, None, max, Result, Ok, Err, inl, inr, sym, subst, arith, rules}
 use Rattle.coding.specs.declared.error.DbError.{DbError}
 use Rattle.ikey.specs.Orders.{order_of}
 use Rattle.engine.specs.declared.work.Progress.{Progress}
@@ -54,10 +54,21 @@ returns-clause-step g c ids =
     piece_done order old new ids before after (max c.args.budget 1) (tt {0}) Worked (piece_within order old new ids before after 1 (max c.args.budget 1) (Ok (tt {0})) (omega arith) (c.in_ok-seal.ensures.step ids))
 
 pub returns-then-is_some-clause-within : goal.returns-then-is_some-clause-within
-returns-then-is_some-clause-within g c worked which gone f = absurd (elim which [
+returns-then-is_some-clause-within g c worked which f = absurd (elim which [
   | inl some ↦ not_some c.args.self.now.job c.requires.idle some
   | inr ease ↦ not_some c.args.source.now.memory.sealed ease.none c.in_ok-flush.ensures.does.was
 ])
 
 pub returns-then-size-write_buffer-clause-within : goal.returns-then-size-write_buffer-clause-within
-returns-then-size-write_buffer-clause-within g c worked which gone f = c.compact.ensures.few worked gone f
+returns-then-size-write_buffer-clause-within g c worked which f = c.compact.ensures.few worked f
+
+pub returns-then-is_some-clause-flushes : goal.returns-then-is_some-clause-flushes
+returns-then-is_some-clause-flushes g c worked idle some = c.in_ok-flush.ensures.puts
+
+pub returns-then-size-write_buffer-clause-flushes : goal.returns-then-size-write_buffer-clause-flushes
+returns-then-size-write_buffer-clause-flushes g c worked idle some =
+    let none : c.args.source.now.memory.sealed ≡ None = search rules in
+    absurd (not_some c.args.source.now.memory.sealed none some)
+
+pub returns-clause-flushes : goal.returns-clause-flushes
+returns-clause-flushes g c worked idle some = absurd (not_some c.args.source.now.memory.sealed c.in_ok-seal.ensures.does.none some)

@@ -9,7 +9,7 @@ use Rattle.db_cursor.specs.Whole.{seen_of}
 use Rattle.engine.specs.Working.{MayRefusePiece}
 use Rattle.engine.proofs.Emptied.{done_of, on_ok}
 use Rattle.engine.proofs.Finishing.{outcome_of, outcome_then, serves_begun, then_bound, within_bound}
-use Rattle.engine.proofs.NeededEnds.{needed_behind}
+use Rattle.engine.proofs.NeededEnds.{merges_plan, needed_behind}
 use Rattle.engine.proofs.state.DbState.run_job.Goals as goal
 
 pub returns-in_err-begin_job-clause-step : goal.returns-in_err-begin_job-clause-step
@@ -80,3 +80,16 @@ returns-clause-needed g c =
     let after = held c.run_job_to_end.new.source.memory c.run_job_to_end.new.self in
     let b = c.in_ok-begin_job.ensures in
     on_ok c.run_job_to_end.result (λ ends whole. needed_behind order old mid new before between after b.step c.run_job_to_end.ensures.step (ends (b.all whole))) c.run_job_to_end.ensures.needed
+
+pub returns-clause-merges : goal.returns-clause-merges
+returns-clause-merges g c =
+    let order = order_of g.K.KeyOrder.name g.K.KeyOrder.cmp in
+    let old = seen_of g.S.Store.facts c.args.source.now in
+    let before = held c.args.source.now.memory c.args.self.now in
+    let mid = seen_of g.S.Store.facts c.begin_job.new.source in
+    let between = held c.begin_job.new.source.memory c.begin_job.new.self in
+    let new = seen_of g.S.Store.facts c.run_job_to_end.new.source in
+    let after = held c.run_job_to_end.new.source.memory c.run_job_to_end.new.self in
+    let b = c.in_ok-begin_job.ensures in
+    let r = c.run_job_to_end.ensures in
+    on_ok c.run_job_to_end.result (λ merges. merges_plan order c.args.plan old mid new before between after b.step r.step b.same.tables b.begun b.none b.live merges) r.merges

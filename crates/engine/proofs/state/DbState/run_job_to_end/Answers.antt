@@ -1,11 +1,13 @@
-use Rattle.std.proofs.Common.{◌≡◌, ◌+◌, None, rules}
+use Rattle.std.proofs.Common.{◌≡◌, ◌+◌, None, IsSome, refl, rules}
 use Rattle.ikey.specs.Orders.{order_of}
 use Rattle.memtables.specs.PlaceLaws.{left_there}
 use Rattle.engine.specs.Held.{held}
 use Rattle.db_cursor.specs.Whole.{seen_of}
 use Rattle.engine.specs.Working.{MayRefusePiece}
+use Rattle.engine.proofs.Emptied.{always_ok, on_ok}
 use Rattle.engine.proofs.Finishing.{outcome_done, serves_same, stays_done}
 use Rattle.engine.proofs.NeededEntries.{not_taking}
+use Rattle.engine.proofs.WithinBudget.{not_some}
 use Rattle.engine.proofs.state.DbState.run_job_to_end.Goals as goal
 
 pub returns-then-is_none-clause-step : goal.returns-then-is_none-clause-step
@@ -28,3 +30,17 @@ pub returns-then-is_none-clause-needed : goal.returns-then-is_none-clause-needed
 returns-then-is_none-clause-needed g c takes =
     let none : c.args.self.now.job ≡ None = search rules in
     absurd (not_taking (held c.args.source.now.memory c.args.self.now) none takes)
+
+pub returns-then-is_none-clause-stays : goal.returns-then-is_none-clause-stays
+returns-then-is_none-clause-stays g c none = refl
+
+pub returns-clause-stays : goal.returns-clause-stays
+returns-clause-stays g c =
+    let some : IsSome c.args.self.now.job = search rules in
+    always_ok c.take_steps.result (λ none. absurd (not_some c.args.self.now.job none some))
+
+pub returns-then-is_none-clause-merges : goal.returns-then-is_none-clause-merges
+returns-then-is_none-clause-merges g c some = absurd (not_some c.args.self.now.job (search rules) some)
+
+pub returns-clause-merges : goal.returns-clause-merges
+returns-clause-merges g c = on_ok c.take_steps.result (λ h some. h) c.take_steps.ensures.merges

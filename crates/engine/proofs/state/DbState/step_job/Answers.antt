@@ -16,10 +16,12 @@ use Rattle.db_cursor.specs.Whole.{seen_of, whole_in}
 use Rattle.engine.specs.Needed.{EndsNeeded}
 use Rattle.engine.specs.Outcomes.{DbOutcome}
 use Rattle.engine.specs.Stands.{no_ids}
+use Rattle.engine.specs.WithinBudget.{HasLeftBy}
 use Rattle.engine.specs.Working.{IsFurther, IsPiece, MayRefusePiece, broken_by, flush_answer}
-use Rattle.engine.proofs.JobEnds.{ends_counted, ends_gone_on, ends_installed, ends_needed, ends_stopped, ends_unended, stopped_outcome, unended_outcome}
+use Rattle.engine.specs.WrittenTables.{PutsMerged}
+use Rattle.engine.proofs.JobEnds.{ends_counted, ends_gone_on, ends_installed, ends_merged, ends_needed, ends_stopped, ends_unended, steps_beside, stopped_outcome, unended_outcome}
 use Rattle.engine.proofs.NeededEntries.{takes_on, taking}
-use Rattle.engine.proofs.WithinBudget.{few_left}
+use Rattle.engine.proofs.WithinBudget.{few_left, more_left, not_some}
 use Rattle.engine.proofs.state.DbState.step_job.Goals as goal
 
 pub returns-in_err-progress-clause-step : goal.returns-in_err-progress-clause-step
@@ -72,7 +74,7 @@ returns-then-not-progress-clause-on g c =
     let going : c.in_ok-progress.progress.ended ≡ false = search rules in
     let s = c.in_ok-progress.ensures in
     let exactly = s.going_on going in
-    record { work = c.in-Some.job; was = is; on = ((s.plan, omega (arith, s.merged, exactly)), refl) }
+    record { work = c.in-Some.job; was = is; on = ((s.plan, omega (arith, s.merged, exactly), s.snapshots, s.version), refl) }
 
 pub returns-then-not-progress-clause-serves : goal.returns-then-not-progress-clause-serves
 returns-then-not-progress-clause-serves g c =
@@ -93,6 +95,26 @@ returns-then-not-progress-clause-all g c said takes =
     let after : DbState g.row.K.Denot g.K.KeyOrder = record state { directory = record state.directory { numbers = c.step.new.numbers }; job = Some c.step.new.self } in
     takes_on (held c.args.source.now.memory state) (held c.step.new.source.memory after) c.in-Some.job c.step.new.self s.plan s.version s.snapshots refl (ap (λ (n : ℕ). n ∷ values_of state.snapshots.entries) s.touches.memory.last)
     (taking (held c.args.source.now.memory state) c.in-Some.job is takes)
+
+pub returns-then-not-progress-clause-few : goal.returns-then-not-progress-clause-few
+returns-then-not-progress-clause-few g c f =
+    let order = order_of g.K.KeyOrder.name g.K.KeyOrder.cmp in
+    let old = seen_of g.S.Store.facts c.args.source.now in
+    let progress = c.in_ok-progress.progress in
+    let is : c.args.self.now.job ≡ Some c.in-Some.job = search rules in
+    let going : progress.ended ≡ false = search rules in
+    more_left order old (whole_in g.S.Store.facts c.step.new.source) (held c.args.source.now.memory c.args.self.now) c.in-Some.job c.step.new.self c.step.new.numbers.next c.args.budget progress is going c.in_ok-progress.ensures.goes_on f
+
+pub returns-then-not-progress-clause-beside : goal.returns-then-not-progress-clause-beside
+returns-then-not-progress-clause-beside g c said f =
+    let order = order_of g.K.KeyOrder.name g.K.KeyOrder.cmp in
+    let old = seen_of g.S.Store.facts c.args.source.now in
+    let new = seen_of g.S.Store.facts c.step.new.source in
+    let state = c.args.self.now in
+    let s = c.in_ok-progress.ensures in
+    let is : state.job ≡ Some c.in-Some.job = search rules in
+    steps_beside order g.met.K.KeyOrder.total (λ scan. scan_kept order.cmp scan) c.one_directory.ensures c.sound_lasts.ensures old new no_ids state c.args.source.now.memory c.step.new.source.memory c.step.new.numbers (max c.args.budget 1) c.in-Some.job c.step.new.self is c.requires.whole
+    s.numbers s.drawn s.touches s.keeps f
 
 pub returns-in-Ok-clause-step : goal.returns-in-Ok-clause-step
 returns-in-Ok-clause-step g c ids =
@@ -208,14 +230,46 @@ returns-in-Ok-clause-needed g c said takes =
     i.call i.leaves installed refl s.plan s.version (taking (held memory state) c.in-Some.job is takes))
 
 pub returns-in-Ok-clause-few : goal.returns-in-Ok-clause-few
-returns-in-Ok-clause-few g c said f =
+returns-in-Ok-clause-few g c f =
     let order = order_of g.K.KeyOrder.name g.K.KeyOrder.cmp in
     let old = seen_of g.S.Store.facts c.args.source.now in
     let state = c.args.self.now in
+    let db = held c.args.source.now.memory state in
     let progress = c.in_ok-progress.progress in
     let is : state.job ≡ Some c.in-Some.job = search rules in
+    let none : c.take.new.self ≡ None = search rules in
     let ended : progress.ended ≡ true = search rules in
-    few_left order old (whole_in g.S.Store.facts c.step.new.source) (held c.args.source.now.memory state) c.in-Some.job c.step.new.self c.step.new.numbers.next c.args.budget progress is ended c.in_ok-progress.ensures.goes_on (c.in-Ok.ensures.call.faithful f)
+    let gone : c.take_installed.new.self.job ≡ None = ap (λ (t : DbState g.row.K.Denot g.K.KeyOrder). t.job) c.take_installed.ensures ∙ none in
+    subst (λ (o : Option (OpenJob g.row.K.Denot g.K.KeyOrder)). HasLeftBy order old db (max c.args.budget 1) o) (sym gone)
+    (few_left order old (whole_in g.S.Store.facts c.step.new.source) db c.in-Some.job c.step.new.self c.step.new.numbers.next c.args.budget progress is ended c.in_ok-progress.ensures.goes_on (c.in-Ok.ensures.call.faithful f))
+
+pub returns-then-not-progress-clause-merges : goal.returns-then-not-progress-clause-merges
+returns-then-not-progress-clause-merges g c none = absurd (not_some (Some c.step.new.self) none (tt {0}))
+
+pub returns-in-Ok-clause-merges : goal.returns-in-Ok-clause-merges
+returns-in-Ok-clause-merges g c gone =
+    let order = order_of g.K.KeyOrder.name g.K.KeyOrder.cmp in
+    let old = seen_of g.S.Store.facts c.args.source.now in
+    let new = seen_of g.S.Store.facts c.step.new.source in
+    let facts = g.S.Store.facts c.install.new.store in
+    let state = c.args.self.now in
+    let memory = c.args.source.now.memory in
+    let after_memory = c.step.new.source.memory in
+    let numbers = c.step.new.numbers in
+    let most = max c.args.budget 1 in
+    let s = c.in_ok-progress.ensures in
+    let i = c.in-Ok.ensures in
+    let installed = c.in-Ok.installed in
+    let is : state.job ≡ Some c.in-Some.job = search rules in
+    let none : c.take.new.self ≡ None = search rules in
+    let ended : c.in_ok-progress.progress.ended ≡ true = search rules in
+    let after : Option (OpenJob g.row.K.Denot g.K.KeyOrder) → DbState g.row.K.Denot g.K.KeyOrder =
+    λ o. record state { version = installed.version; directory = record state.directory { numbers = numbers; manifest = record state.directory.manifest { end = installed.manifest_end } }; job = o } in
+    let taken : c.take_installed.new.self ≡ after c.take.new.self = c.take_installed.ensures in
+    subst (λ (t : DbState g.row.K.Denot g.K.KeyOrder). PutsMerged order old (record new { facts = facts }) (held memory state) (held after_memory t)) (sym (taken ∙ ap after none))
+    (ends_merged order g.met.K.KeyOrder.total (λ scan. scan_kept order.cmp scan) c.one_directory.ensures c.sound_lasts.ensures old new no_ids state memory after_memory numbers most c.in-Some.job c.step.new.self is c.requires.whole
+    s.numbers s.drawn s.touches s.keeps c.args.budget c.in_ok-progress.progress s.goes_on s.snapshots s.owns facts ended c.last-last_sequence.result c.last-last_sequence.ensures.is c.deref.result.now.tables (ap (λ (p : Placement). p.tables) c.deref.ensures) (Ok installed)
+    i.call i.leaves installed refl s.plan s.version)
 
 pub returns-in-Err-clause-step : goal.returns-in-Err-clause-step
 returns-in-Err-clause-step g c ids =

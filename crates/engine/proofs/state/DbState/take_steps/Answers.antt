@@ -7,7 +7,7 @@ use Rattle.engine.specs.Follows.{LeadsOpen}
 use Rattle.engine.specs.Held.{held}
 use Rattle.db_cursor.specs.Whole.{seen_of}
 use Rattle.engine.specs.Working.{IsPiece, MayRefusePiece}
-use Rattle.engine.proofs.Finishing.{job_there, outcome_all, outcome_done, outcome_of, outcome_then, serves_then, taken_all, taken_done, taken_ended, taken_more, taken_none, taken_refused}
+use Rattle.engine.proofs.Finishing.{job_there, outcome_all, outcome_done, outcome_of, outcome_then, serves_then, taken_all, taken_done, taken_ended, taken_merged, taken_more, taken_none, taken_refused}
 use Rattle.engine.proofs.NeededEnds.{needed_behind}
 use Rattle.engine.proofs.state.DbState.take_steps.Goals as goal
 
@@ -28,7 +28,7 @@ loop-preserved g c =
     let a = c.in_ok-step_job.ensures in
     let going : c.in_ok-step_job.field-0 ≡ false = search rules in
     let some = subst (λ (b : Bool). MatchBool b (c.step_job.new.self.job ≡ None) (IsSome c.step_job.new.self.job)) going a.ended in
-    taken_more order old mid new before between after c.loop.counter c.loop.invariant a.on some a.serves a.memory (a.all (ap (λ (b : Bool). Ok b) going))
+    taken_more order old mid new before between after c.loop.counter c.loop.invariant a.on some a.serves a.memory (a.all (ap (λ (b : Bool). Ok b) going)) (a.beside (ap (λ (b : Bool). Ok b) going))
     (λ ids. subst (λ (b : Bool). LeadsOpen order mid new ids between after (λ m n. IsPiece m 1 (Ok b) n)) going (a.step ids))
 
 pub returns-in_err-step_job-clause-step : goal.returns-in_err-step_job-clause-step
@@ -149,3 +149,15 @@ returns-then-branch-clause-needed g c takes =
     let a = c.in_ok-step_job.ensures in
     let ended : c.in_ok-step_job.field-0 ≡ true = search rules in
     needed_behind order old mid new before between after c.loop.invariant.step a.step (a.needed (ap (λ (b : Bool). Ok b) ended) (c.loop.invariant.all takes))
+
+pub returns-then-branch-clause-merges : goal.returns-then-branch-clause-merges
+returns-then-branch-clause-merges g c =
+    let order = order_of g.K.KeyOrder.name g.K.KeyOrder.cmp in
+    let old = seen_of g.S.Store.facts c.args.source.now in
+    let mid = seen_of g.S.Store.facts c.loop.source in
+    let new = seen_of g.S.Store.facts c.step_job.new.source in
+    let before = held c.args.source.now.memory c.args.self.now in
+    let between = held c.loop.source.memory c.loop.self in
+    let after = held c.step_job.new.source.memory c.step_job.new.self in
+    let a = c.in_ok-step_job.ensures in
+    taken_merged order old mid new before between after c.loop.counter c.loop.invariant g.met.K.KeyOrder.total c.requires.whole a.step (a.merges (returns-then-branch-clause-none g c))

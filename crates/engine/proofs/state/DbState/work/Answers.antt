@@ -1,5 +1,6 @@
-use Rattle.std.proofs.Common.{◌≡◌, ◌+◌, ◌<◌, ◌∙◌, max, false, Result, Ok, Err, ap, inl, inr, refl, sym, subst, arith, rules}
+use Rattle.std.proofs.Common.{◌≡◌, ◌∷◌, ℕ, ◌+◌, ◌<◌, ◌∙◌, max, false, Result, Ok, Err, ap, inl, inr, refl, sym, subst, arith, rules}
 use Rattle.coding.specs.declared.error.DbError.{DbError}
+use Rattle.std.specs.Map.{values_of}
 use Rattle.ikey.specs.Orders.{order_of}
 use Rattle.engine.specs.declared.work.Progress.{Progress}
 use Rattle.engine.specs.Follows.{LeadsOpen}
@@ -11,6 +12,7 @@ use Rattle.engine.specs.Stands.{no_ids}
 use Rattle.machine.specs.Upkeep.{Works}
 use Rattle.engine.specs.Working.{refused_as, work_answer}
 use Rattle.engine.proofs.ExactFiles.{leaves_exactly}
+use Rattle.engine.proofs.FlushEnds.{flushes_behind}
 use Rattle.engine.proofs.WorkAnswers.{caused_met, does_on, failures_rose, then_piece, then_refused, works, works_broken}
 use Rattle.engine.proofs.WorkSteps.{piece_failed}
 use Rattle.engine.proofs.WithinBudget.{at_ease_on, steps_behind, tables_stay}
@@ -51,7 +53,7 @@ returns-in-Ok-clause-step g c ids =
 
 pub returns-in-Ok-clause-does : goal.returns-in-Ok-clause-does
 returns-in-Ok-clause-does g c =
-    does_on g.K.KeyOrder.cmp (held c.args.source.now.memory c.args.self.now) c.clean.new.source.memory (held c.do_piece.new.source.memory c.do_piece.new.self) c.args.options.now c.args.budget (Ok c.in-Ok.progress) c.in_ok-complete.ensures.memory c.in-Ok.ensures.does
+    does_on g.K.KeyOrder.cmp (held c.args.source.now.memory c.args.self.now) c.clean.new.source.memory (held c.do_piece.new.source.memory c.do_piece.new.self) c.args.options.now c.args.budget (Ok c.in-Ok.progress) c.in_ok-complete.ensures.memory c.in_ok-complete.ensures.same.sequence c.in-Ok.ensures.does
 
 pub returns-in-Err-clause-step : goal.returns-in-Err-clause-step
 returns-in-Err-clause-step g c ids =
@@ -84,7 +86,7 @@ returns-in-Ok-clause-exact g c =
     (returns-in-Ok-clause-tidy g c) (returns-in-Ok-clause-does g c)
 
 pub returns-in-Ok-clause-within : goal.returns-in-Ok-clause-within
-returns-in-Ok-clause-within g c worked which gone f =
+returns-in-Ok-clause-within g c worked which f =
     let order = order_of g.K.KeyOrder.name g.K.KeyOrder.cmp in
     let old = seen_of g.S.Store.facts c.args.source.now in
     let mid = seen_of g.S.Store.facts c.clean.new.source in
@@ -92,9 +94,12 @@ returns-in-Ok-clause-within g c worked which gone f =
     let between = held c.clean.new.source.memory c.args.self.now in
     let cleaned = c.in_ok-complete.ensures in
     let piece = c.in-Ok.ensures in
-    let inner = piece.within worked (elim which [ inl some ↦ inl some | inr ease ↦ inr (at_ease_on c.args.options.now before c.clean.new.source.memory cleaned.memory ease) ]) gone f in
+    let inner = piece.within worked (elim which [ inl some ↦ inl some | inr ease ↦ inr (at_ease_on c.args.options.now before c.clean.new.source.memory cleaned.memory ease) ]) f in
     let mid_faithful = (piece.step no_ids).faithful f in
-    steps_behind order old mid before between (max c.args.budget 1) cleaned.step mid_faithful refl refl
+    let new = seen_of g.S.Store.facts c.do_piece.new.source in
+    let after = held c.do_piece.new.source.memory c.do_piece.new.self in
+    let sequences = ap (λ (n : ℕ). n ∷ values_of c.args.self.now.snapshots.entries) (sym cleaned.same.sequence) in
+    steps_behind order c.args.options.now old mid new before between after (max c.args.budget 1) cleaned.step mid_faithful refl sequences refl
     (tables_stay order old mid before between refl refl refl c.if-self.false (cleaned.removes mid_faithful)) inner
 
 pub returns-in-Ok-clause-dropped : goal.returns-in-Ok-clause-dropped
@@ -106,3 +111,15 @@ returns-in-Ok-clause-dropped g c = λ idle.
       | inl sealed ↦ inl (ap (λ source. source.memory.sealed) same.0 ∙ sealed)
       | inr read ↦ inr (subst (λ state. IsMemoryUsed state.iterators generation) (sym same.1) read)
     ]))
+
+pub returns-in-Ok-clause-flushes : goal.returns-in-Ok-clause-flushes
+returns-in-Ok-clause-flushes g c =
+    let order = order_of g.K.KeyOrder.name g.K.KeyOrder.cmp in
+    let old = seen_of g.S.Store.facts c.args.source.now in
+    let mid = seen_of g.S.Store.facts c.clean.new.source in
+    let new = seen_of g.S.Store.facts c.do_piece.new.source in
+    let before = held c.args.source.now.memory c.args.self.now in
+    let after = held c.do_piece.new.source.memory c.do_piece.new.self in
+    let cleaned = c.in_ok-complete.ensures in
+    let piece = c.in-Ok.ensures in
+    flushes_behind order old mid new before c.clean.new.source.memory after (Ok c.in-Ok.progress) cleaned.step (piece.step no_ids).faithful cleaned.memory piece.flushes
