@@ -26,8 +26,8 @@ const MANIFEST: DbError = DbError::Corrupt(FileKind::Manifest, Damage::Checksum)
 
 const CURRENT: DbError = DbError::Corrupt(FileKind::Current, Damage::Length);
 
-// A log of exactly one piece, one of a byte more in its data, one of two pieces and a longer one; zeros behind one that ends in its second piece, behind
-// its first block, and nothing else; and so in the other files.
+// A log of exactly one piece, one of a byte more in its data, one of two pieces and a longer one; zeros behind a log that ends in its
+// second piece, and behind one of a single block; and behind the other files.
 #[rattlefmt::skip]
 const CASES: &[Case] = &[
     Case { value: 1_048_334, zeros: (0, 0, 0), wanted: Ok(true), most: 1_048_700 },
