@@ -3,7 +3,7 @@
 
 use crate::readings::{log_of, put};
 use crate::watching::WatchedStore;
-use coding::{Damage, DbError, FileKind, put_varint32};
+use coding::{Damage, DbError, FileKind, put_varint64};
 use ikey::Bytewise;
 use logfile::LogWriter;
 use recover::{list_directory, read_directory};
@@ -26,8 +26,8 @@ const MANIFEST: DbError = DbError::Corrupt(FileKind::Manifest, Damage::Checksum)
 
 const CURRENT: DbError = DbError::Corrupt(FileKind::Current, Damage::Length);
 
-// A log of exactly one piece, one of a byte more in its data, one of two pieces and a longer one; zeros behind one that ends in its second piece, behind
-// its first block, and nothing else; and so in the other files.
+// A log of exactly one piece, one of a byte more in its data, one of two pieces and a longer one; zeros behind a log that ends in its
+// second piece, and behind one of a single block; and behind the other files.
 #[rattlefmt::skip]
 const CASES: &[Case] = &[
     Case { value: 1_048_334, zeros: (0, 0, 0), wanted: Ok(true), most: 1_048_700 },
@@ -44,7 +44,7 @@ const CASES: &[Case] = &[
 fn value_of(alloc: Global, length: usize) -> Result<Vec<u8>, AllocError> {
     let mut value = Vec::new(alloc);
     for place in 0..length {
-        value.push((place / 1000) as u8)?;
+        value.push((place / 1000 % 256) as u8)?;
     }
     Ok(value)
 }
@@ -52,13 +52,18 @@ fn value_of(alloc: Global, length: usize) -> Result<Vec<u8>, AllocError> {
 // The log of the put of that value at the key 61.
 fn log_of_put(alloc: Global, value: &[u8]) -> Result<Vec<u8>, DbError> {
     let mut batch = Vec::from_slice(alloc, b"\x01\0\0\0\0\0\0\0\x01\0\0\0\x01\x01a")?;
-    put_varint32(&mut batch, value.len() as u32)?;
+    put_varint64(&mut batch, value.len() as u64)?;
     batch.extend_from_slice(value)?;
     LogWriter::encode(alloc, 0, &batch)
 }
 
 // A file of these bytes, and so many zeros.
-fn put_zeros(store: &mut MemStore, name: &str, bytes: Vec<u8>, zeros: usize) -> Result<(), DbError> {
+fn put_zeros(
+    store: &mut MemStore,
+    name: &str,
+    bytes: Vec<u8>,
+    zeros: usize,
+) -> Result<(), DbError> {
     let mut bytes = bytes;
     bytes.resize(bytes.len().saturating_add(zeros), 0)?;
     put(store, name, &bytes)

@@ -303,7 +303,7 @@ fn damaged_logs_are_corrupt(rt: HostRuntime) -> Result<(), Fail> {
     Ok(())
 }
 
-// What may be a block of a log, whole or cut off, by itself: records' beginnings and middles may stand in any order there. And what is none.
+// What may be a block of a log by itself, whole or cut off, where fragments stand in any order; and what is none.
 const BLOCKS: [(&[u8], Option<Damage>); 8] = [
     (b"", None),
     (ONE, None),

@@ -18,11 +18,12 @@ const BLOCK: usize = 32_768;
 /// How many bytes are read at once: those of 32 blocks.
 const PIECE: u64 = 1_048_576;
 
-/// All bytes of a file in the form of a log, or `None` where it isn't there. Corrupt, as its file, where it is none.
+/// All bytes of a file that is to be a log, or `None` where it isn't there. Corrupt, as of this kind, comes only where it is
+/// none, and not wherever it is none: `log_in` judges all of it.
 ///
-/// It is read by pieces, and the first block of each is judged before more is read. So what no log is costs what is sound
-/// of it and two pieces, however long it is; and a log is judged twice for one block of 32. Memory is taken for
-/// twice of what was read at most, and for no more than the store says are there. A file of one piece is copied nowhere.
+/// It is read by pieces, and the first block of each is judged before more is read. So rubbish that goes on costs what stands
+/// in front of it and two pieces, however long it is; and a log is judged twice for one block of 32. The room grows by
+/// doubling, and to no more than the store says are there; a file of one piece is not copied.
 pub fn read_log_file<S: Store>(
     alloc: Global,
     store: &mut S,
