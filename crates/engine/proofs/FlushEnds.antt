@@ -1,5 +1,5 @@
 -- What an open database is, and the machine, after a flush, however that ends.
-use Rattle.std.proofs.Common.{length, ◌≡◌, ℕ, ◌+◌, ◌≤◌, ◌<◌, ◌^◌, true, false, List, [], ◌∷◌, ◌++◌, Contains, Option, None, IsSome, Result, Ok, Err, IsTrue, inl, inr, refl, sym, ap, subst, ◌∙◌, arith, string_bytes}
+use Rattle.std.proofs.Common.{length, ◌≡◌, ℕ, ◌+◌, ◌≤◌, ◌<◌, ◌^◌, true, false, List, [], ◌∷◌, ◌++◌, Contains, None, IsSome, Result, Ok, Err, IsTrue, inl, inr, refl, sym, ap, subst, ◌∙◌, arith, string_bytes}
 use Rattle.std.specs.declared.alloc.Global.{Global}
 use Rattle.std.specs.declared.rc.Rc.{Rc}
 use Rattle.coding.specs.declared.error.DbError.{DbError}
@@ -251,21 +251,19 @@ module _ {K : Type 0} {g : _} (order : Order) (kept : (scan : Scan K g) → Scan
 
 -- ---- behind a removal
 
-module _ {K : Type 0} {g : _} (order : Order) (old mid new : Seen) (before : Held K g) (memory : Memories) (after : Held K g) (result : Result Progress DbError) {P : Machine → Machine → Type 0} where
-  abbrev cleaned : Held K g
-  cleaned = record before { memory = memory }
-
-  pub flushes_behind : ((ids : Ids) → LeadsOpen order old mid ids before cleaned P) → (IsTrue new.facts.faithful → IsTrue mid.facts.faithful) → IsSameMemory before.memory memory → FlushesSealed order mid new cleaned after result → FlushesSealed order old new before after result
-  flushes_behind leads still same flushes done idle some f ids m s =
-      let one = (leads ids).moved (still f) m s in
-      elim (flushes done idle (subst IsSome (sym same.sealed) some) f ids one.0 one.2) [
-        | inl none ↦ inl (sym same.sealed_are ∙ none)
-        | inr h ↦ inr (record {
-              content = h.content;
-              level = h.level;
-              number = h.number;
-              listed = h.listed;
-              has = h.has;
-              entries_are = subst (λ (es : List Entry). SameEntries h.content.entries es) same.sealed_are h.entries_are;
-            })
-      ]
+pub flushes_behind : {K : Type 0} {g : _} (order : Order) (old mid new : Seen) (before : Held K g) (memory : Memories) (after : Held K g) (result : Result Progress DbError) {P : Machine → Machine → Type 0}
+    → ((ids : Ids) → LeadsOpen order old mid ids before (record before { memory = memory }) P) → (IsTrue new.facts.faithful → IsTrue mid.facts.faithful) → IsSameMemory before.memory memory → FlushesSealed order mid new (record before { memory = memory }) after result
+    → FlushesSealed order old new before after result
+flushes_behind order old mid new before memory after result leads still same flushes done idle some f ids m s =
+    let one = (leads ids).moved (still f) m s in
+    elim (flushes done idle (subst IsSome (sym same.sealed) some) f ids one.0 one.2) [
+      | inl none ↦ inl (sym same.sealed_are ∙ none)
+      | inr h ↦ inr (record {
+            content = h.content;
+            level = h.level;
+            number = h.number;
+            listed = h.listed;
+            has = h.has;
+            entries_are = subst (λ (es : List Entry). SameEntries h.content.entries es) same.sealed_are h.entries_are;
+          })
+    ]
