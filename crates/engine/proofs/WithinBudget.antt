@@ -25,7 +25,6 @@ use Rattle.engine.specs.Follows.{LeadsOpen}
 use Rattle.engine.specs.Held.{Held, version_of, whole_of}
 use Rattle.machine.specs.Machine.{Machine}
 use Rattle.engine.specs.OptionValues.{OptionValues}
-use Rattle.engine.specs.Stands.{StandsOpen}
 use Rattle.engine.specs.Needed.{IsForLive, live_sequences}
 use Rattle.engine.specs.WithinBudget.{HasLeftAbove, HasLeftBy, HasLeftUpTo, IsNewJob, StepsBy}
 use Rattle.engine.specs.InUse.{IsTableUsed}

@@ -1,4 +1,4 @@
-use Rattle.std.proofs.Common.{◌≡◌, max, Result, Ok, Err, ap, sym, subst, rules}
+use Rattle.std.proofs.Common.{◌≡◌, max, Result, Err, sym, subst, rules}
 use Rattle.coding.specs.declared.error.DbError.{DbError}
 use Rattle.ikey.specs.Orders.{order_of}
 use Rattle.engine.specs.declared.work.Progress.{Progress}

@@ -244,7 +244,7 @@ returns-in-Ok-clause-few g c f =
     (few_left order old (whole_in g.S.Store.facts c.step.new.source) db c.in-Some.job c.step.new.self c.step.new.numbers.next c.args.budget progress is ended c.in_ok-progress.ensures.goes_on (c.in-Ok.ensures.call.faithful f))
 
 pub returns-then-not-progress-clause-merges : goal.returns-then-not-progress-clause-merges
-returns-then-not-progress-clause-merges g c none = absurd (not_some (Some c.step.new.self) none (tt {0}))
+returns-then-not-progress-clause-merges g c none = absurd (not_some (Some c.step.new.self) none refl)
 
 pub returns-in-Ok-clause-merges : goal.returns-in-Ok-clause-merges
 returns-in-Ok-clause-merges g c gone =
