@@ -48,9 +48,9 @@ level_emptied cmp old new level plan is done = none_at level new (λ placed ther
   | inr output ↦ (let to = is.0.output in omega (arith, at, output, to))
 ])
 
-either_ended : {X A : Type 0} {P : X → Type 0} (job : Option X) → MatchOption job (Unit {0}) P → (job ≡ None → A) → MatchOption job A P
-either_ended None done stays = stays refl
-either_ended (Some work) done stays = done
+either_ended : {X A : Type 0} (P : X → Type 0) (job : Option X) → MatchOption job (Unit {0}) P → (job ≡ None → A) → MatchOption job A P
+either_ended P None done stays = stays refl
+either_ended P (Some work) done stays = done
 
 pub all_last : (old new : List PlacedTable) (plan : JobPlan) → IsWholePlan old plan → Replaces plan old new → (level : ℕ) → level < 6 → tables_at level new ≡ []
 all_last old new plan is done level below = none_at level new (λ placed there at. elim (done.tables placed there) [
@@ -68,12 +68,12 @@ memory_left before after left h = record { current = left.inserts ∙ h.current;
 pub level_moved : {K : Type 0} {g : _} (cmp : Cmp) (level : ℕ) (before after : Held K g) (between : List PlacedTable) (plan : JobPlan) → MatchOption before.job (Unit {0}) (λ work. Replaces work.job.plan before.tables between) → (before.job ≡ None → between ≡ before.tables)
     → after.job ≡ None → IsLevelPlan cmp between level plan → Replaces plan between after.tables → MovesLevel cmp level before after
 level_moved cmp level before after between plan done stays idle is replaces =
-    record { between = between; ended = either_ended before.job done stays; moved = inr (plan, is, replaces); idle = idle }
+    record { between = between; ended = either_ended _ before.job done stays; moved = inr (plan, is, replaces); idle = idle }
 
 -- there was no table for a second one
 pub level_unmoved : {K : Type 0} {g : _} (cmp : Cmp) (level : ℕ) (before after : Held K g) → MatchOption before.job (Unit {0}) (λ work. Replaces work.job.plan before.tables after.tables) → (before.job ≡ None → after.tables ≡ before.tables)
     → after.job ≡ None → tables_at level after.tables ≡ [] → MovesLevel cmp level before after
-level_unmoved cmp level before after done stays idle none = record { between = after.tables; ended = either_ended before.job done stays; moved = inl (none, refl); idle = idle }
+level_unmoved cmp level before after done stays idle none = record { between = after.tables; ended = either_ended _ before.job done stays; moved = inl (none, refl); idle = idle }
 
 -- where it was answered
 pub on_ok : {T : Type 0} {P Q : Type 0} (result : Result T DbError) → (P → Q) → OnOk result P → OnOk result Q

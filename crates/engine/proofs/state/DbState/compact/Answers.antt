@@ -101,6 +101,7 @@ returns-clause-begins g c = λ done.
     }
 
 pub returns-clause-few : goal.returns-clause-few
+unfolding returns-clause-begins
 returns-clause-few g c worked f =
     let order = order_of g.K.KeyOrder.name g.K.KeyOrder.cmp in
     let old = seen_of g.S.Store.facts c.args.source.now in
