@@ -259,11 +259,11 @@ flushes_behind order old mid new before memory after result leads still same flu
     elim (flushes done idle (subst IsSome (sym same.sealed) some) f ids one.0 one.2) [
       | inl none ↦ inl (sym same.sealed_are ∙ none)
       | inr h ↦ inr (record {
-            content = h.content;
-            level = h.level;
-            number = h.number;
-            listed = h.listed;
-            has = h.has;
-            entries_are = subst (λ (es : List Entry). SameEntries h.content.entries es) same.sealed_are h.entries_are;
-          })
+        content = h.content;
+        level = h.level;
+        number = h.number;
+        listed = h.listed;
+        has = h.has;
+        entries_are = subst (λ (es : List Entry). SameEntries h.content.entries es) same.sealed_are h.entries_are;
+      })
     ]

@@ -444,7 +444,7 @@ module _ {K : Type 0} {g : _} (order : Order) (total : IsTotalOrder order.cmp) (
                 elim (in_part contents outputs rest content.0 has.has.compaction.new_tables content.1) [
                   | inl out ↦ inr (subst (λ (p : PlacedTable). Contains (placed_in outputs) p) content.2 (has_placed outputs content.0 out))
                   | inr beside ↦ inl (subst (λ (p : PlacedTable). Contains state.version.value.tables p) content.2
-                        (all_contains (Contains state.version.value.tables) (placed_in d.tables) content.0.placed can.served.listed.all (has_placed d.tables content.0 (from_rest d.tables inputs rest content.0 parted beside))))
+                      (all_contains (Contains state.version.value.tables) (placed_in d.tables) content.0.placed can.served.listed.all (has_placed d.tables content.0 (from_rest d.tables inputs rest content.0 parted beside))))
                 ];
             entries = map entry_of came;
             same = subst (λ (es : List InternalEntry). SameEntries (map entry_of es) (tabled inputs)) (append-nil came) can.running.entries;

@@ -156,9 +156,9 @@ pub given_back : {T : Type 0} (old mid new last : Facts) (e : DbError) (r : Resu
     → OpensStore {T = T} old last (Err e)
 given_back {T} old mid new last e r taken rise io back d spared counts files synced free missing memory =
     let left : IsTrue last.faithful → Spares mid last = λ f name is.
-        let first = spared (counts.faithful f) name is in
-        let after = spared_same new last (files f) (synced f) name is in
-        (after.0 ∙ first.0, after.1 ∙ first.1) in
+    let first = spared (counts.faithful f) name is in
+    let after = spared_same new last (files f) (synced f) name is in
+    (after.0 ∙ first.0, after.1 ∙ first.1) in
     let whole = behind_durable {T = T} {U = T} old mid new e back (λ f. left_by_lock {r = Ok tt} old mid taken f) d in
     record {
       locks = record { locked = tt; freed = λ h. inr (let fails : new.failures < last.failures = freed_by r new last counts free missing memory h in let told = told_most e mid new rise io in omega (arith, taken.failures, told, fails)) };
