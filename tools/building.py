@@ -77,14 +77,14 @@ def started(crate, copy, jobs):
         return subprocess.Popen([RT, "lib", "--jobs", str(jobs)], cwd=f"{copy}/crates/{crate}", stdin=subprocess.DEVNULL, stdout=words, stderr=words)
 
 
-def take(crate, copy):
-    """Takes the library that a copy has built, with what is kept of its proof, once no rt works in the crate's folder here."""
+def take(crate, copy, *parts):
+    """Takes parts of what a copy has made of a library, once no rt works in the crate's folder here."""
     folder = f"{ROOT}/crates/{crate}"
     os.makedirs(f"{folder}/out", exist_ok=True)
     held = os.open(folder, os.O_RDONLY)
     try:
         fcntl.flock(held, fcntl.LOCK_EX)
-        for part in ("rlib", "incremental"):
+        for part in parts:
             if os.path.isdir(f"{copy}/crates/{crate}/out/{part}"):
                 shutil.rmtree(f"{folder}/out/{part}", ignore_errors=True)
                 os.rename(f"{copy}/crates/{crate}/out/{part}", f"{folder}/out/{part}")
@@ -129,10 +129,12 @@ def build(named, at_once=None):
                 process, copy, since = running.pop(crate)
                 free.append(copy)
                 if process.returncode:
+                    # (what was proved of it is kept all the same)
+                    take(crate, copy, "incremental")
                     failed.append(crate)
                     print(f"libraries: {crate} isn't proved: build/libraries/{crate} says why", file=sys.stderr, flush=True)
                     continue
-                take(crate, copy)
+                take(crate, copy, "rlib", "incremental")
                 done.add(crate)
                 now = time.monotonic()
                 print(f"[{len(done)} of {len(wanted)}] {crate}, {now - since:.0f} s, after {now - begun:.0f} s", flush=True)
