@@ -196,6 +196,51 @@ fn a_writer_that_fails_has_a_beginning_of_the_text(rt: HostRuntime) -> Result<()
     Ok(())
 }
 
+// A writer that is interrupted at every second call, takes a byte at each other, and passes on what it has when it is told to.
+#[derive(Drop)]
+struct Hesitant {
+    taken: Vec<u8>,
+    passed_on: usize,
+    is_interrupted: bool,
+}
+
+impl Write for Hesitant {
+    fn write(&mut self, buf: &[u8]) -> io::Result<usize> {
+        self.is_interrupted = !self.is_interrupted;
+        if self.is_interrupted {
+            return Err(io::Error::from(ErrorKind::Interrupted));
+        }
+        let Some(first) = buf.first() else {
+            return Ok(0);
+        };
+        self.taken.push(*first)?;
+        Ok(1)
+    }
+
+    fn flush(&mut self) -> io::Result<()> {
+        self.passed_on = self.taken.len();
+        Ok(())
+    }
+}
+
+// Whether a writer that hesitates has the whole text, and has passed it on.
+fn is_passed_on(alloc: Global, session: &mut InMemory) -> bool {
+    let mut writer = Hesitant {
+        taken: Vec::new(alloc),
+        passed_on: 0,
+        is_interrupted: false,
+    };
+    let is_run = matches!(run(alloc, session, SCRIPT.as_bytes(), &mut writer), Ok(()));
+    is_run && writer.taken.as_slice() == TEXT.as_bytes() && writer.passed_on == TEXT.len()
+}
+
+#[test]
+fn a_writer_that_is_interrupted_passes_on_the_whole_text(rt: HostRuntime) -> Result<(), Fail> {
+    let mut session = in_memory(rt.alloc())?;
+    assert!(rt; is_passed_on(rt.alloc(), &mut session));
+    Ok(())
+}
+
 // A reader that gives so many bytes one by one, and then fails.
 #[derive(Drop)]
 struct Broken<'a> {
