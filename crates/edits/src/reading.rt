@@ -46,6 +46,7 @@ fn edit_of(alloc: Global, bytes: &[u8]) -> Result<Edit, ReadError>
         edit.push(field)?;
         rest = behind;
     }
+    edit.shrink();
     Ok(edit)
 }
 

@@ -45,6 +45,13 @@ impl Edit {
         Ok(())
     }
 
+    // Gives back the room that no field took: an edit of one table would keep room for four.
+    pub(crate) fn shrink(&mut self)
+        ensures { self.new ≡ self.old }
+    {
+        self.fields.shrink_to_fit();
+    }
+
     /// The fields, in order.
     pub fn fields(&self) -> &[Field]
         ensures { result.now ≡ self.now }
