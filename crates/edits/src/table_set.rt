@@ -80,7 +80,9 @@ impl TableSet {
     pub(crate) fn into_tables(self, alloc: Global) -> Result<Vec<PlacedTable>, AllocError>
         ensures { IfOk result (λ tables. tables.items ≡ self) }
     {
-        let TableSet { tables, numbers: _ } = self;
+        let TableSet { tables, numbers } = self;
+        // The list takes memory, which the numbers give back first.
+        drop(numbers);
         tables.into_values().collect(alloc)
     }
 }
