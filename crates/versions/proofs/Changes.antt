@@ -11,9 +11,9 @@ use Rattle.edits.specs.declared.field.Field.TheVariants.{NewFile}
 use Rattle.edits.specs.declared.field.PlacedTable.{PlacedTable}
 use Rattle.edits.specs.Layout.{inserted, with_table, is_used, after_deleted, after_new, after_edit}
 use Rattle.edits.proofs.Folds.{drop_item}
-use Rattle.versions.specs.Levels.{IsRange, IsBefore, AreInOrder, AreApart, pointers_after}
+use Rattle.versions.specs.Levels.{IsRange, StandsBefore, AreInOrder, AreTablesApart, pointers_after}
 use Rattle.versions.specs.Steps.{Fits, IsPut}
-use Rattle.versions.specs.Applying.{Change, Leads, LeadsNowhere, LeadsAstray, LeadsOn}
+use Rattle.versions.specs.Applying.{TableChange, LeadsLayout, LeadsNowhere, LeadsAstray, LeadsOn}
 use Rattle.versions.proofs.Pairs.{Among, among_contained, contained_among, all_contained}
 use Rattle.versions.proofs.Sets.{inside, no_some, fresh_in, lists_with, ins_stays, ins_new, insert_stays, insert_new, insert_was, used_in, contains_from}
 use Rattle.versions.proofs.Listed.{fits_fresh}
@@ -29,29 +29,29 @@ order_remove cmp tables i lt h =
       levels = all_remove (λ p. p.level < 7) tables i h.levels;
       ranges = all_remove (IsRange cmp) tables i h.ranges;
       numbers = all_pairs_remove (λ a b. a.table.number ≢ b.table.number) tables i lt h.numbers;
-      places = all_pairs_remove (IsBefore cmp) tables i lt h.places;
+      places = all_pairs_remove (StandsBefore cmp) tables i lt h.places;
     }
 
 -- ---- changes in turn
 
-pub on_start : (change : Change) (old : List PlacedTable) → LeadsOn change old change old
+pub on_start : (change : TableChange) (old : List PlacedTable) → LeadsOn change old change old
 on_start change old listed lists = (listed, refl, lists)
 
-pub on_trans : (a b d : Change) (old mid new : List PlacedTable) → LeadsOn a old b mid → LeadsOn b mid d new → LeadsOn a old d new
+pub on_trans : (a b d : TableChange) (old mid new : List PlacedTable) → LeadsOn a old b mid → LeadsOn b mid d new → LeadsOn a old d new
 on_trans a b d old mid new h k listed lists =
     let r = h listed lists in
     let s = k r.0 r.2 in
     (s.0, r.1 ∙ s.1, s.2)
 
-pub on_nowhere : (a b : Change) (old mid : List PlacedTable) → LeadsOn a old b mid → LeadsNowhere b mid → LeadsNowhere a old
+pub on_nowhere : (a b : TableChange) (old mid : List PlacedTable) → LeadsOn a old b mid → LeadsNowhere b mid → LeadsNowhere a old
 on_nowhere a b old mid h k listed lists = let r = h listed lists in r.1 ∙ k r.0 r.2
 
-pub on_astray : (cmp : List ℕ → List ℕ → Ordering) (a b : Change) (old mid : List PlacedTable) → LeadsOn a old b mid → LeadsAstray cmp b mid → LeadsAstray cmp a old
+pub on_astray : (cmp : List ℕ → List ℕ → Ordering) (a b : TableChange) (old mid : List PlacedTable) → LeadsOn a old b mid → LeadsAstray cmp b mid → LeadsAstray cmp a old
 on_astray cmp a b old mid h k listed left lists e = let r = h listed lists in k r.0 left r.2 (sym r.1 ∙ e)
 
 -- ---- one edit
 
-pub edit_leads : (edit : List Field) (old mid new : List PlacedTable) → Leads (after_deleted edit) old mid → Leads (after_new edit) mid new → Leads (after_edit edit) old new
+pub edit_leads : (edit : List Field) (old mid new : List PlacedTable) → LeadsLayout (after_deleted edit) old mid → LeadsLayout (after_new edit) mid new → LeadsLayout (after_edit edit) old new
 edit_leads edit old mid new h k listed lists =
     let r = h listed lists in
     let s = k r.0 r.2 in
@@ -60,14 +60,14 @@ edit_leads edit old mid new h k listed lists =
 pub edit_nowhere : (cmp : List ℕ → List ℕ → Ordering) (edit : List Field) (old : List PlacedTable) → LeadsNowhere (after_deleted edit) old → LeadsAstray cmp (after_edit edit) old
 edit_nowhere cmp edit old h listed left lists e = no_some left (sym (ap (option_and_then (after_new edit)) (h listed lists)) ∙ e)
 
-pub edit_astray : (cmp : List ℕ → List ℕ → Ordering) (edit : List Field) (old mid : List PlacedTable) → Leads (after_deleted edit) old mid → LeadsAstray cmp (after_new edit) mid → LeadsAstray cmp (after_edit edit) old
+pub edit_astray : (cmp : List ℕ → List ℕ → Ordering) (edit : List Field) (old mid : List PlacedTable) → LeadsLayout (after_deleted edit) old mid → LeadsAstray cmp (after_new edit) mid → LeadsAstray cmp (after_edit edit) old
 edit_astray cmp edit old mid h k listed left lists e =
     let r = h listed lists in
     k r.0 left r.2 (sym (ap (option_and_then (after_new edit)) r.1) ∙ e)
 
 -- ---- a table that is put in
 
-pub put_leads : (cmp : List ℕ → List ℕ → Ordering) (old tables : List PlacedTable) (x : PlacedTable) → IsPut cmp old x tables → Leads (with_table x) old tables
+pub put_leads : (cmp : List ℕ → List ℕ → Ordering) (old tables : List PlacedTable) (x : PlacedTable) → IsPut cmp old x tables → LeadsLayout (with_table x) old tables
 put_leads cmp old tables x put listed lists =
     lists_with x old tables listed (fits_fresh cmp old x put.fits)
     (λ p c. subst (λ ts. Contains ts p) (sym put.inserted) (insert_stays old put.place x p c))
@@ -83,16 +83,16 @@ new_keeps (NewFile placed ∷ fields) tables left p e0 a =
     e0
 new_keeps (f ∷ fields) tables left p e a = new_keeps fields tables left p e a
 
-two_places : (cmp : List ℕ → List ℕ → Ordering) (left : List PlacedTable) (p x : PlacedTable) → AreApart cmp left → Among p left → Among x left → (p.table.number ≡ x.table.number → ⊥) → IsBefore cmp p x ⊎ IsBefore cmp x p
+two_places : (cmp : List ℕ → List ℕ → Ordering) (left : List PlacedTable) (p x : PlacedTable) → AreTablesApart cmp left → Among p left → Among x left → (p.table.number ≡ x.table.number → ⊥) → StandsBefore cmp p x ⊎ StandsBefore cmp x p
 two_places cmp left p x apart a b other =
     let c = contained_among p left a in
     let d = contained_among x left b in
     let is_x : get_or left d.0 p ≡ x = get_or_default left d.0 p x d.1 ∙ d.2 in
     let is_p : get_or left c.0 x ≡ p = get_or_default left c.0 x p c.1 ∙ c.2 in
     elim (cases_lt c.0 d.0) [
-      | inl less ↦ subst (λ y. IsBefore cmp p y ⊎ IsBefore cmp y p) is_x (subst (λ q. IsBefore cmp q (get_or left d.0 p) ⊎ IsBefore cmp (get_or left d.0 p) q) c.2 (apart.places c.0 d.0 p less d.1))
+      | inl less ↦ subst (λ y. StandsBefore cmp p y ⊎ StandsBefore cmp y p) is_x (subst (λ q. StandsBefore cmp q (get_or left d.0 p) ⊎ StandsBefore cmp (get_or left d.0 p) q) c.2 (apart.places c.0 d.0 p less d.1))
       | inr more ↦ elim (cases_lt d.0 c.0) [
-        | inl less ↦ elim (subst (λ y. IsBefore cmp x y ⊎ IsBefore cmp y x) is_p (subst (λ q. IsBefore cmp q (get_or left c.0 x) ⊎ IsBefore cmp (get_or left c.0 x) q) d.2 (apart.places d.0 c.0 x less c.1))) [ inl h ↦ inr h | inr h ↦ inl h ]
+        | inl less ↦ elim (subst (λ y. StandsBefore cmp x y ⊎ StandsBefore cmp y x) is_p (subst (λ q. StandsBefore cmp q (get_or left c.0 x) ⊎ StandsBefore cmp (get_or left c.0 x) q) d.2 (apart.places d.0 c.0 x less c.1))) [ inl h ↦ inr h | inr h ↦ inl h ]
         | inr upto ↦ let same : c.0 ≡ d.0 = omega (arith, more, upto) in absurd (other (ap (λ q. q.table.number) (sym c.2 ∙ ap (λ j. get_or left j p) same ∙ is_x)))
       ]
     ]
@@ -110,7 +110,7 @@ new_astray cmp old x more unfit listed left lists e0 apart =
       level = All-contains (λ p. p.level < 7) left x apart.levels here;
       range = All-contains (IsRange cmp) left x apart.ranges here;
       number = λ used. let u = used_in x.table.number old used in fresh_in x.table.number listed fresh u.0 (contains_from old listed lists.only u.0 (among_contained u.0 old u.1.0 u.1.1 u.1.2)) (sym u.2);
-      place = all_contained (λ p. IsBefore cmp p x ⊎ IsBefore cmp x p) old (λ p c.
+      place = all_contained (λ p. StandsBefore cmp p x ⊎ StandsBefore cmp x p) old (λ p c.
           let a = contains_from old listed lists.only p (among_contained p old c.0 c.1 c.2) in
           two_places cmp left p x apart (keeps p (ins_stays x p listed a)) own (λ same. fresh_in x.table.number listed fresh p a (sym same)));
     }))
@@ -118,24 +118,24 @@ new_astray cmp old x more unfit listed left lists e0 apart =
 
 -- ---- the fields that are left
 
-pub rest_leads : (after : List Field → Change) (fields : List Field) (i : ℕ) (f : Field) (old mid new : List PlacedTable) → i < length fields → f ≡ get_or fields i f
+pub rest_leads : (after : List Field → TableChange) (fields : List Field) (i : ℕ) (f : Field) (old mid new : List PlacedTable) → i < length fields → f ≡ get_or fields i f
     → LeadsOn (after fields) old (after (drop i fields)) mid → LeadsOn (after (f ∷ drop (i + 1) fields)) mid (after (drop (i + 1) fields)) new → LeadsOn (after fields) old (after (drop (i + 1) fields)) new
 rest_leads after fields i f old mid new lt is h k =
     on_trans (after fields) (after (drop i fields)) (after (drop (i + 1) fields)) old mid new h (subst (λ fs. LeadsOn (after fs) mid (after (drop (i + 1) fields)) new) (sym (drop_item fields i f lt is)) k)
 
-pub rest_nowhere : (after : List Field → Change) (fields : List Field) (i : ℕ) (f : Field) (old mid : List PlacedTable) → i < length fields → f ≡ get_or fields i f
+pub rest_nowhere : (after : List Field → TableChange) (fields : List Field) (i : ℕ) (f : Field) (old mid : List PlacedTable) → i < length fields → f ≡ get_or fields i f
     → LeadsOn (after fields) old (after (drop i fields)) mid → LeadsNowhere (after (f ∷ drop (i + 1) fields)) mid → LeadsNowhere (after fields) old
 rest_nowhere after fields i f old mid lt is h k =
     on_nowhere (after fields) (after (drop i fields)) old mid h (subst (λ fs. LeadsNowhere (after fs) mid) (sym (drop_item fields i f lt is)) k)
 
-pub rest_astray : (cmp : List ℕ → List ℕ → Ordering) (after : List Field → Change) (fields : List Field) (i : ℕ) (f : Field) (old mid : List PlacedTable) → i < length fields → f ≡ get_or fields i f
+pub rest_astray : (cmp : List ℕ → List ℕ → Ordering) (after : List Field → TableChange) (fields : List Field) (i : ℕ) (f : Field) (old mid : List PlacedTable) → i < length fields → f ≡ get_or fields i f
     → LeadsOn (after fields) old (after (drop i fields)) mid → LeadsAstray cmp (after (f ∷ drop (i + 1) fields)) mid → LeadsAstray cmp (after fields) old
 rest_astray cmp after fields i f old mid lt is h k =
     on_astray cmp (after fields) (after (drop i fields)) old mid h (subst (λ fs. LeadsAstray cmp (after fs) mid) (sym (drop_item fields i f lt is)) k)
 
 -- none is left
-pub all_leads : (after : List Field → Change) → ((ts : List PlacedTable) → after [] ts ≡ Some ts) → (fields : List Field) (i : ℕ) (old new : List PlacedTable) → length fields ≤ i
-    → LeadsOn (after fields) old (after (drop i fields)) new → Leads (after fields) old new
+pub all_leads : (after : List Field → TableChange) → ((ts : List PlacedTable) → after [] ts ≡ Some ts) → (fields : List Field) (i : ℕ) (old new : List PlacedTable) → length fields ≤ i
+    → LeadsOn (after fields) old (after (drop i fields)) new → LeadsLayout (after fields) old new
 all_leads after last fields i old new le h listed lists =
     let r = h listed lists in
     (r.0, r.1 ∙ ap (λ fs. after fs r.0) (drop_all i fields le) ∙ last r.0, r.2)

@@ -10,9 +10,9 @@ use Rattle.std.specs.declared.cmp.Ordering.{Ordering}
 use Rattle.std.specs.Cmp.{IsTotalOrder}
 use Rattle.ikey.specs.Below.{IsBelowInternal}
 use Rattle.edits.specs.declared.field.PlacedTable.{PlacedTable}
-use Rattle.versions.specs.Levels.{tables_at, tables_before, tables_from, IsRange, IsBefore, AreInOrder}
+use Rattle.versions.specs.Levels.{tables_at, tables_before, tables_from, IsRange, StandsBefore, AreInOrder}
 use Rattle.versions.specs.Ranges.{covers, user_of}
-use Rattle.versions.specs.Searches.{IsFound, IsSearchedIn, IsSearchedFirst}
+use Rattle.versions.specs.Searches.{IsTableFor, IsSearchedIn, IsSearchedFirst}
 use Rattle.versions.proofs.Slices.{filter_all}
 use Rattle.versions.proofs.InLevels.{levels_rise, largest_rise, level_ranges, level_apart}
 
@@ -49,7 +49,7 @@ from_in_order cmp tables low o =
       levels = All-filter kept (λ p. p.level < 7) tables o.levels;
       ranges = All-filter kept (IsRange cmp) tables o.ranges;
       numbers = AllPairs-filter (λ a b. a.table.number ≢ b.table.number) kept tables o.numbers;
-      places = AllPairs-filter (IsBefore cmp) kept tables o.places;
+      places = AllPairs-filter (StandsBefore cmp) kept tables o.places;
     }
 
 -- ---- the first of the tables
@@ -83,7 +83,7 @@ own_is tables level up =
 -- ---- what is searched of them
 
 module _ (cmp : List ℕ → List ℕ → Ordering) (key : List ℕ) where
-  found_behind : (tables : List PlacedTable) (low level : ℕ) (placed : PlacedTable) → All (λ p. low ≤ p.level) tables → IsFound cmp key (tables_at level tables) placed → low ≤ level
+  found_behind : (tables : List PlacedTable) (low level : ℕ) (placed : PlacedTable) → All (λ p. low ≤ p.level) tables → IsTableFor cmp key (tables_at level tables) placed → low ≤ level
   found_behind tables low level placed up found =
       let own = tables_at level tables in
       let is = eqb-true (get_or own found.0 placed).level level (filter_passes (λ p. p.level == level) tables found.0 placed found.1) in
@@ -101,8 +101,8 @@ module _ (cmp : List ℕ → List ℕ → Ordering) (key : List ℕ) where
       record {
         order = from_in_order cmp tables from o;
         levels = from_levels tables from;
-        back = λ level placed h. (subst (λ ts. IsFound cmp key ts placed) (from_same tables from level (found_behind (tables_from from tables) from level placed (from_levels tables from) h.0)) h.0, h.1);
-        all = λ level placed le h. (subst (λ ts. IsFound cmp key ts placed) (sym (from_same tables from level le)) h.0, h.1);
+        back = λ level placed h. (subst (λ ts. IsTableFor cmp key ts placed) (from_same tables from level (found_behind (tables_from from tables) from level placed (from_levels tables from) h.0)) h.0, h.1);
+        all = λ level placed le h. (subst (λ ts. IsTableFor cmp key ts placed) (sym (from_same tables from level le)) h.0, h.1);
       }
 
   module _ (tables rest : List PlacedTable) (from : ℕ) (first : PlacedTable) (e : Some first ≡ slice_get rest 0) (is : IsRest tables from rest) where
@@ -121,30 +121,30 @@ module _ (cmp : List ℕ → List ℕ → Ordering) (key : List ℕ) where
         subst (λ ts. AllPairs (λ a b. IsBelowInternal cmp a.table.largest b.table.largest) ts) (sym (own_is rest first.level up))
         (largest_rise cmp o (tables_at first.level rest) (level_ranges cmp first.level rest is.order.ranges) (level_apart cmp first.level rest (omega (arith, low, behind)) is.order.places))
 
-    pub rest_found : (placed : PlacedTable) → IsFound cmp key (tables_before (first.level + 1) rest) placed → IsTrue (covers cmp placed (user_of key)) → IsSearchedFirst cmp key tables from first.level placed
+    pub rest_found : (placed : PlacedTable) → IsTableFor cmp key (tables_before (first.level + 1) rest) placed → IsTrue (covers cmp placed (user_of key)) → IsSearchedFirst cmp key tables from first.level placed
     rest_found placed found covered =
         record {
           behind = behind;
           within = rest_level;
-          here = is.back first.level placed (subst (λ ts. IsFound cmp key ts placed) (own_is rest first.level up) found, covered);
+          here = is.back first.level placed (subst (λ ts. IsTableFor cmp key ts placed) (own_is rest first.level up) found, covered);
           first = λ other passed low high h. absurd (omega (arith, high, found_behind rest first.level other passed up (is.all other passed low h).0));
         }
 
-    pub rest_goes_on : ((placed : PlacedTable) → IsFound cmp key (tables_before (first.level + 1) rest) placed → IsTrue (covers cmp placed (user_of key)) → ⊥) → IsRest tables from (tables_from (first.level + 1) rest)
+    pub rest_goes_on : ((placed : PlacedTable) → IsTableFor cmp key (tables_before (first.level + 1) rest) placed → IsTrue (covers cmp placed (user_of key)) → ⊥) → IsRest tables from (tables_from (first.level + 1) rest)
     rest_goes_on none =
         let next : ℕ = first.level + 1 in
         record {
           order = from_in_order cmp rest next is.order;
           levels = All-filter (λ p. nat_le next p.level) (λ p. from ≤ p.level) rest is.levels;
-          back = λ level placed h. is.back level placed (subst (λ ts. IsFound cmp key ts placed) (from_same rest next level (found_behind (tables_from next rest) next level placed (from_levels rest next) h.0)) h.0, h.1);
+          back = λ level placed h. is.back level placed (subst (λ ts. IsTableFor cmp key ts placed) (from_same rest next level (found_behind (tables_from next rest) next level placed (from_levels rest next) h.0)) h.0, h.1);
           all = λ level placed low h. let old = is.all level placed low h in
               elim (cases_eq level first.level) [
-                | inl same ↦ absurd (none placed (subst (λ ts. IsFound cmp key ts placed) (sym (own_is rest first.level up)) (subst (λ l. IsFound cmp key (tables_at l rest) placed) same old.0)) old.1)
-                | inr ne ↦ (subst (λ ts. IsFound cmp key ts placed) (sym (from_same rest next level (omega (arith, ne, found_behind rest first.level level placed up old.0)))) old.0, old.1)
+                | inl same ↦ absurd (none placed (subst (λ ts. IsTableFor cmp key ts placed) (sym (own_is rest first.level up)) (subst (λ l. IsTableFor cmp key (tables_at l rest) placed) same old.0)) old.1)
+                | inr ne ↦ (subst (λ ts. IsTableFor cmp key ts placed) (sym (from_same rest next level (omega (arith, ne, found_behind rest first.level level placed up old.0)))) old.0, old.1)
               ];
         }
 
   pub rest_ends : (tables rest : List PlacedTable) (from : ℕ) → IsRest tables from rest → rest ≡ [] → (level : ℕ) (placed : PlacedTable) → from ≤ level → IsSearchedIn cmp key tables level placed → ⊥
   rest_ends tables rest from is none level placed le h =
-      let found = subst (λ ts. IsFound cmp key (tables_at level ts) placed) none (is.all level placed le h).0 in
+      let found = subst (λ ts. IsTableFor cmp key (tables_at level ts) placed) none (is.all level placed le h).0 in
       omega (arith, found.1)

@@ -7,20 +7,20 @@ use Rattle.std.specs.Cmp.{IsTotalOrder}
 use Rattle.std.specs.declared.cmp.Ordering.{Ordering}
 use Rattle.ikey.specs.Below.{internal_irreflexive}
 use Rattle.edits.specs.declared.field.PlacedTable.{PlacedTable}
-use Rattle.versions.specs.Levels.{IsRange, IsFirstAt, IsBefore, AreInOrder, tables_at}
-use Rattle.versions.specs.Plans.{IsStart, PlansLaw, InputsLaw}
+use Rattle.versions.specs.Levels.{IsRange, IsFirstAt, StandsBefore, AreInOrder, tables_at}
+use Rattle.versions.specs.Plans.{IsPlanStart, PlansLaw, InputsLaw}
 use Rattle.versions.proofs.Pairs.{all_contained}
 use Rattle.versions.proofs.Positions.{below_range}
 
 -- ---- plans
 
-start_own : (cmp : List ℕ → List ℕ → Ordering) (tables : List PlacedTable) (pointer : Option (List ℕ)) (level : ℕ) (start : List PlacedTable) → IsStart cmp tables pointer level start → All (Contains (tables_at level tables)) start
+start_own : (cmp : List ℕ → List ℕ → Ordering) (tables : List PlacedTable) (pointer : Option (List ℕ)) (level : ℕ) (start : List PlacedTable) → IsPlanStart cmp tables pointer level start → All (Contains (tables_at level tables)) start
 start_own cmp tables pointer zero start h = subst (λ (ts : List PlacedTable). All (Contains (tables_at 0 tables)) ts) (sym h) (All-contains_itself (tables_at 0 tables))
 start_own cmp tables pointer (suc above) start (i, first, lt, at, behind, is) =
     let own = tables_at (suc above) tables in
     subst (λ (ts : List PlacedTable). All (Contains own) ts) (sym is) (All-cons (Contains own) first [] (Contains-from_at own first (i, lt, at)) (All-nil (Contains own)))
 
-start_whole : (cmp : List ℕ → List ℕ → Ordering) (tables : List PlacedTable) (pointer : Option (List ℕ)) (level : ℕ) (start : List PlacedTable) → IsStart cmp tables pointer level start → level ≡ 0 → start ≡ tables_at 0 tables
+start_whole : (cmp : List ℕ → List ℕ → Ordering) (tables : List PlacedTable) (pointer : Option (List ℕ)) (level : ℕ) (start : List PlacedTable) → IsPlanStart cmp tables pointer level start → level ≡ 0 → start ≡ tables_at 0 tables
 start_whole cmp tables pointer zero start h e = h
 start_whole cmp tables pointer (suc above) start h e = absurd (omega (arith, e))
 
@@ -65,12 +65,12 @@ not_first : (cmp : List ℕ → List ℕ → Ordering) (level : ℕ) (a : Placed
 not_first cmp zero a o range h = omega (arith, h)
 not_first cmp (suc level) a o range h = internal_irreflexive cmp o a.table.largest (below_range cmp o a.table.largest a range h)
 
-pub not_before_itself : (cmp : List ℕ → List ℕ → Ordering) (a : PlacedTable) → IsTotalOrder cmp → IsRange cmp a → IsBefore cmp a a → ⊥
+pub not_before_itself : (cmp : List ℕ → List ℕ → Ordering) (a : PlacedTable) → IsTotalOrder cmp → IsRange cmp a → StandsBefore cmp a a → ⊥
 not_before_itself cmp a o range (inl lt) = omega (arith, lt)
 not_before_itself cmp a o range (inr h) = not_first cmp a.level a o range h.1
 
 -- some of the tables, each once
-pub part_in_order : (cmp : List ℕ → List ℕ → Ordering) (tables part : List PlacedTable) → IsTotalOrder cmp → AreInOrder cmp tables → All (Contains tables) part → AllPairs (IsBefore cmp) part → AreInOrder cmp part
+pub part_in_order : (cmp : List ℕ → List ℕ → Ordering) (tables part : List PlacedTable) → IsTotalOrder cmp → AreInOrder cmp tables → All (Contains tables) part → AllPairs (StandsBefore cmp) part → AreInOrder cmp part
 part_in_order cmp tables part o h within places =
     let each : (P : PlacedTable → Type 0) → All P tables → All P part = λ P all. all_contained P part (λ p c. All-contains P tables p all (All-contains (Contains tables) part p within c)) in
     record {
@@ -83,7 +83,7 @@ part_in_order cmp tables part o h within places =
           let in_a = All-contains (Contains tables) part a within (Contains-get_or part i d first) in
           let in_b = All-contains (Contains tables) part b within (Contains-get_or part j d lt) in
           let e : a ≡ b = same_number tables a b h.numbers in_a in_b same in
-          not_before_itself cmp a o (All-contains (IsRange cmp) tables a h.ranges in_a) (subst (λ (p : PlacedTable). IsBefore cmp a p) (sym e) (places i j d less lt));
+          not_before_itself cmp a o (All-contains (IsRange cmp) tables a h.ranges in_a) (subst (λ (p : PlacedTable). StandsBefore cmp a p) (sym e) (places i j d less lt));
       places = places;
     }
 

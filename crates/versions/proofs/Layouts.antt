@@ -6,8 +6,8 @@ use Rattle.edits.specs.declared.field.PlacedTable.{PlacedTable}
 use Rattle.edits.specs.declared.layout.Layout.{Layout}
 use Rattle.edits.specs.Layout.{IsLayout, fields_of, last_said, compact_pointer_in, after_edit, after_edits, levels}
 use Rattle.edits.proofs.Folds.{last_said-append}
-use Rattle.versions.specs.Applying.{Leads}
-use Rattle.versions.specs.Levels.{Placement, HasLayout, Lists, pointers_after}
+use Rattle.versions.specs.Applying.{LeadsLayout}
+use Rattle.versions.specs.Levels.{Placement, HasLayout, ListsSameTables, pointers_after}
 use Rattle.versions.proofs.Sets.{inside}
 
 then_some : (o : Option (List PlacedTable)) → option_and_then (after_edits []) o ≡ o
@@ -30,7 +30,7 @@ fields_last (d ∷ es) e = ap (λ fs. d ++ fs) (fields_last es e) ∙ sym (appen
 pub one_more : (name : List ℕ) (edits : List (List Field)) (edit : List Field) (layout more : Layout) (version next : Placement)
     → IsLayout name edits layout → IsLayout name (edits ++ edit ∷ []) more
     → HasLayout layout.tables.items layout.compact_pointers.items version
-    → Leads (after_edit edit) version.tables next.tables → next.compact_pointers ≡ pointers_after edit 0 version.compact_pointers
+    → LeadsLayout (after_edit edit) version.tables next.tables → next.compact_pointers ≡ pointers_after edit 0 version.compact_pointers
     → HasLayout more.tables.items more.compact_pointers.items next
 one_more name edits edit layout more version next old new has leads pointers =
     let r = leads layout.tables.items has.tables in
@@ -40,6 +40,6 @@ one_more name edits edit layout more version next old new has leads pointers =
     let all : pointers_after edit 0 (map (λ level. last_said (compact_pointer_in level) (fields_of edits)) levels) ≡ map (λ level. last_said (compact_pointer_in level) (fields_of (edits ++ edit ∷ []))) levels =
     λ i. said 0 i ∷ said 1 i ∷ said 2 i ∷ said 3 i ∷ said 4 i ∷ said 5 i ∷ said 6 i ∷ [] in
     record {
-      tables = subst (λ ts. Lists ts next.tables) same r.2;
+      tables = subst (λ ts. ListsSameTables ts next.tables) same r.2;
       pointers = pointers ∙ ap (λ ps. pointers_after edit 0 ps) (has.pointers ∙ old.compact_pointers) ∙ all ∙ sym new.compact_pointers;
     }

@@ -7,7 +7,6 @@ pub mod Keys
 pub mod InLevels
 pub mod Positions
 pub mod Pairs
-pub mod Places
 pub mod Puts
 pub mod Runs
 pub mod Sets

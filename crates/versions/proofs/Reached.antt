@@ -13,7 +13,7 @@ use Rattle.ikey.specs.Keys.{Key, IsKey, key_cmp, tag_of}
 use Rattle.ikey.specs.Below.{IsBelowInternal, not_below_equal, not_below_greater}
 use Rattle.versions.specs.Levels.{IsRange, tables_at}
 use Rattle.versions.specs.Ranges.{covers, user_of, first_user, last_user, is_up_to}
-use Rattle.versions.specs.Searches.{EndsBelow, EndsAt, IsFound, SearchesReach}
+use Rattle.versions.specs.Searches.{EndsBelow, EndsAtUser, IsTableFor, SearchesReach}
 use Rattle.versions.proofs.Closures.{of_level}
 use Rattle.versions.proofs.Elements.{at_read, front_more}
 use Rattle.versions.proofs.InLevels.{Apart, level_ranges, level_apart, range_up}
@@ -67,7 +67,7 @@ module _ (cmp : List ℕ → List ℕ → Ordering) (o : IsTotalOrder cmp) (key 
       ]
 
   pub reached_in : (EndsBelow cmp key placed → ⊥) → covers cmp placed (user_of key) ≡ true
-      → (searched : PlacedTable) × IsFound cmp key own searched × (covers cmp searched (user_of key) ≡ true) × ((searched ≡ placed) ⊎ EndsAt cmp key searched placed)
+      → (searched : PlacedTable) × IsTableFor cmp key own searched × (covers cmp searched (user_of key) ≡ true) × ((searched ≡ placed) ⊎ EndsAtUser cmp key searched placed)
   reached_in stays covered =
       let user = user_of key in
       elim (first_of_them j (omega arith)) [
@@ -97,7 +97,7 @@ reached cmp o key k tables is order placed there covered stays =
           let above : ℕ = placed.level - 1 in
           let same : placed.level ≡ above + 1 = omega (arith, deep) in
           let within = All-contains (λ p. p.level < 7) tables placed order.levels there in
-          (length (tables_at 0 tables) + above, r.0, (inr (above, omega (arith, within, deep), refl, subst (λ l. IsFound cmp key (tables_at l tables) r.0) same r.1), r.2), r.3)
+          (length (tables_at 0 tables) + above, r.0, (inr (above, omega (arith, within, deep), refl, subst (λ l. IsTableFor cmp key (tables_at l tables) r.0) same r.1), r.2), r.3)
       | inr top ↦
           let none : placed.level ≡ 0 = omega (arith, top) in
           let newest = tables_at 0 tables in

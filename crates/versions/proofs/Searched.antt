@@ -5,14 +5,14 @@ use Rattle.std.specs.declared.cmp.Ordering.{Ordering}
 use Rattle.edits.specs.declared.field.PlacedTable.{PlacedTable}
 use Rattle.versions.specs.Levels.{tables_at, tables_before, tables_from}
 use Rattle.versions.specs.Ranges.{covers, user_of}
-use Rattle.versions.specs.Searches.{EndsBelow, IsFound, IsSearchedAt, IsSearchedIn, IsSearchedFirst, IsSearchedNext}
+use Rattle.versions.specs.Searches.{EndsBelow, IsTableFor, IsSearchedAt, IsSearchedIn, IsSearchedFirst, IsSearchedNext}
 use Rattle.versions.proofs.Deeper.{first_level, from_same}
 
-pub none_found : (cmp : List ℕ → List ℕ → Ordering) (key : List ℕ) (own : List PlacedTable) (placed : PlacedTable) → All (EndsBelow cmp key) own → IsFound cmp key own placed → ⊥
+pub none_found : (cmp : List ℕ → List ℕ → Ordering) (key : List ℕ) (own : List PlacedTable) (placed : PlacedTable) → All (EndsBelow cmp key) own → IsTableFor cmp key own placed → ⊥
 none_found cmp key own placed all found = found.3 (subst (EndsBelow cmp key) (found.2 placed) (all found.0 placed found.1))
 
 -- the one that is found is the only one
-pub one_found : (cmp : List ℕ → List ℕ → Ordering) (key : List ℕ) (own : List PlacedTable) (a b : PlacedTable) → IsFound cmp key own a → IsFound cmp key own b → a ≡ b
+pub one_found : (cmp : List ℕ → List ℕ → Ordering) (key : List ℕ) (own : List PlacedTable) (a b : PlacedTable) → IsTableFor cmp key own a → IsTableFor cmp key own b → a ≡ b
 one_found cmp key own a b f h =
     elim (cases_lt f.0 h.0) [
       | inl less ↦ absurd (f.3 (subst (EndsBelow cmp key) (f.2 a) (h.4 f.0 a (omega arith) less)))
@@ -22,7 +22,7 @@ one_found cmp key own a b f h =
       ]
     ]
 
-pub not_searched : (cmp : List ℕ → List ℕ → Ordering) (key user : List ℕ) (own : List PlacedTable) (a b : PlacedTable) → IsFound cmp key own a → covers cmp a user ≡ false → IsFound cmp key own b → IsTrue (covers cmp b user) → ⊥
+pub not_searched : (cmp : List ℕ → List ℕ → Ordering) (key user : List ℕ) (own : List PlacedTable) (a b : PlacedTable) → IsTableFor cmp key own a → covers cmp a user ≡ false → IsTableFor cmp key own b → IsTrue (covers cmp b user) → ⊥
 not_searched cmp key user own a b f no' h yes' = false≢true (sym no' ∙ ap (λ p. covers cmp p user) (one_found cmp key own a b f h) ∙ yes')
 
 -- ---- the places of level 0
@@ -37,7 +37,7 @@ module _ (cmp : List ℕ → List ℕ → Ordering) (key : List ℕ) (tables new
       record {
         behind = le;
         within = omega (arith, lt, ap length newest_is);
-        here = subst (λ ts. (((place < length ts) × HoldsAt (λ other. other ≡ placed) ts (length ts - 1 - place)) ⊎ ((above : ℕ) × (above < 6) × (place ≡ length ts + above) × IsFound cmp key (tables_at (above + 1) tables) placed)) × IsTrue (covers cmp placed (user_of key))) newest_is (inl (lt, here), covered);
+        here = subst (λ ts. (((place < length ts) × HoldsAt (λ other. other ≡ placed) ts (length ts - 1 - place)) ⊎ ((above : ℕ) × (above < 6) × (place ≡ length ts + above) × IsTableFor cmp key (tables_at (above + 1) tables) placed)) × IsTrue (covers cmp placed (user_of key))) newest_is (inl (lt, here), covered);
         first = first;
       }
 
@@ -55,7 +55,7 @@ module _ (cmp : List ℕ → List ℕ → Ordering) (key : List ℕ) (tables new
     passed_deeper : (other : ℕ) (passed : PlacedTable) → from ≤ other → IsSearchedAt cmp key tables other passed → (above : ℕ) × (above < 6) × (other ≡ length newest + above) × IsSearchedIn cmp key deeper (above + 1) passed
     passed_deeper other passed low (inl first, covered) = absurd (before other passed low (omega (arith, first.0, all, ap length newest_is)) (inl first, covered))
     passed_deeper other passed low (inr found, covered) =
-        (found.0, found.1, omega (arith, found.2, ap length newest_is), (subst (λ ts. IsFound cmp key ts passed) (sym (deeper_is found.0)) found.3, covered))
+        (found.0, found.1, omega (arith, found.2, ap length newest_is), (subst (λ ts. IsTableFor cmp key ts passed) (sym (deeper_is found.0)) found.3, covered))
 
     pub none_behind : (above : ℕ) → above ≡ from - length newest → 6 ≤ above → (place : ℕ) (placed : PlacedTable) → from ≤ place → IsSearchedAt cmp key tables place placed → ⊥
     none_behind above e le place placed low is = let h = passed_deeper place placed low is in omega (arith, e, le, h.1, h.2, low)
@@ -68,11 +68,11 @@ module _ (cmp : List ℕ → List ℕ → Ordering) (key : List ℕ) (tables new
     deeper_next start level placed e found =
         let above : ℕ = level - 1 in
         let one : level ≡ above + 1 = omega (arith, e, found.behind) in
-        let here = subst (λ l. IsFound cmp key (tables_at l deeper) placed) one found.here.0 in
+        let here = subst (λ l. IsTableFor cmp key (tables_at l deeper) placed) one found.here.0 in
         record {
           behind = omega (arith, e, found.behind);
           within = omega (arith, e, found.behind, found.within, ap length newest_is);
-          here = (inr (above, omega (arith, found.within, one), omega (arith, one, ap length newest_is), subst (λ ts. IsFound cmp key ts placed) (deeper_is above) here), found.here.1);
+          here = (inr (above, omega (arith, found.within, one), omega (arith, one, ap length newest_is), subst (λ ts. IsTableFor cmp key ts placed) (deeper_is above) here), found.here.1);
           first = λ other passed low high is. let h = passed_deeper other passed low is in found.first (h.0 + 1) passed (omega (arith, e, h.2, low)) (omega (arith, one, h.2, high)) h.3;
         }
 

@@ -9,7 +9,7 @@ use Rattle.std.proofs.lemmas.List.Kept.{AllPairs-cons}
 use Rattle.edits.specs.declared.field.PlacedTable.{PlacedTable}
 use Rattle.edits.specs.Layout.{without, inserted, with_table, is_at, is_before, is_used}
 use Rattle.edits.proofs.Orders.{unused, unused_from}
-use Rattle.versions.specs.Levels.{Lists}
+use Rattle.versions.specs.Levels.{ListsSameTables}
 use Rattle.versions.proofs.Pairs.{Among, among_contained, contained_among, all_contained}
 
 abbrev pub Other : PlacedTable → PlacedTable → Type 0
@@ -108,7 +108,7 @@ pub contains_from : (xs ys : List PlacedTable) → All (Contains ys) xs → (p :
 contains_from xs ys h p a = let c = All-contains (Contains ys) xs p h (contained_among p xs a) in among_contained p ys c.0 c.1 c.2
 
 -- where a layout lists the old tables, it lists the new ones after the same is taken out of it
-pub lists_without : (level number : ℕ) (old new listed : List PlacedTable) → AllPairs Other old → without level number old ≡ Some new → Lists listed old → (left : List PlacedTable) × (without level number listed ≡ Some left) × Lists left new
+pub lists_without : (level number : ℕ) (old new listed : List PlacedTable) → AllPairs Other old → without level number old ≡ Some new → ListsSameTables listed old → (left : List PlacedTable) × (without level number listed ≡ Some left) × ListsSameTables left new
 lists_without level number old new listed others e lists =
     let x = has_at level number old new e in
     let f = found level number x.0 listed (contains_from old listed lists.only x.0 x.1) x.2 in
@@ -123,7 +123,7 @@ lists_without level number old new listed others e lists =
       },
     )
 
-pub lists_without_none : (level number : ℕ) (old listed : List PlacedTable) → without level number old ≡ None → Lists listed old → without level number listed ≡ None
+pub lists_without_none : (level number : ℕ) (old listed : List PlacedTable) → without level number old ≡ None → ListsSameTables listed old → without level number listed ≡ None
 lists_without_none level number old listed e lists =
     elim (some_or_none (without level number listed)) [
       | inl none ↦ none
@@ -168,7 +168,7 @@ unused_listed number old listed h e =
     (λ p c same. fresh_in number old e p (contains_from listed old h p (among_contained p listed c.0 c.1 c.2)) (sym same))))
 
 pub lists_with : (new : PlacedTable) (old tables listed : List PlacedTable) → is_used new.table.number old ≡ false → ((p : PlacedTable) → Contains old p → Contains tables p) → Contains tables new
-    → ((p : PlacedTable) → Contains tables p → Contains old p ⊎ (new ≡ p)) → Lists listed old → (left : List PlacedTable) × (with_table new listed ≡ Some left) × Lists left tables
+    → ((p : PlacedTable) → Contains tables p → Contains old p ⊎ (new ≡ p)) → ListsSameTables listed old → (left : List PlacedTable) × (with_table new listed ≡ Some left) × ListsSameTables left tables
 lists_with new old tables listed fresh stays there was lists =
     let free' = unused_listed new.table.number old listed lists.all fresh in (
       inserted new listed,

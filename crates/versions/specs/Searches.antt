@@ -15,8 +15,8 @@ EndsBelow cmp key placed = IsBelowInternal cmp placed.table.largest key
 
 -- The table is the only one of these, which lie each below the next, that may hold the first key from this one
 -- on: those before it end below the key.
-abbrev pub IsFound : (List ℕ → List ℕ → Ordering) → List ℕ → List PlacedTable → PlacedTable → Type 0
-IsFound cmp key tables placed =
+abbrev pub IsTableFor : (List ℕ → List ℕ → Ordering) → List ℕ → List PlacedTable → PlacedTable → Type 0
+IsTableFor cmp key tables placed =
     (i : ℕ) × (i < length tables) × HoldsAt (λ other. other ≡ placed) tables i
     × (EndsBelow cmp key placed → ⊥) × AllWithin (EndsBelow cmp key) tables 0 i
 
@@ -30,7 +30,7 @@ search_length tables = length (tables_at 0 tables) + 6
 abbrev pub IsSearchedAt : (List ℕ → List ℕ → Ordering) → List ℕ → List PlacedTable → ℕ → PlacedTable → Type 0
 IsSearchedAt cmp key tables place placed =
     (((place < length (tables_at 0 tables)) × HoldsAt (λ other. other ≡ placed) (tables_at 0 tables) (length (tables_at 0 tables) - 1 - place))
-    ⊎ ((above : ℕ) × (above < 6) × (place ≡ length (tables_at 0 tables) + above) × IsFound cmp key (tables_at (above + 1) tables) placed))
+    ⊎ ((above : ℕ) × (above < 6) × (place ≡ length (tables_at 0 tables) + above) × IsTableFor cmp key (tables_at (above + 1) tables) placed))
     × IsTrue (covers cmp placed (user_of key))
 
 -- the table is the first that is searched from the one place on, and it is at the other
@@ -42,7 +42,7 @@ pub record IsSearchedNext (cmp : List ℕ → List ℕ → Ordering) (key : List
 
 -- the same at a deeper level
 abbrev pub IsSearchedIn : (List ℕ → List ℕ → Ordering) → List ℕ → List PlacedTable → ℕ → PlacedTable → Type 0
-IsSearchedIn cmp key tables level placed = IsFound cmp key (tables_at level tables) placed × IsTrue (covers cmp placed (user_of key))
+IsSearchedIn cmp key tables level placed = IsTableFor cmp key (tables_at level tables) placed × IsTrue (covers cmp placed (user_of key))
 
 -- the table is the first that is searched from the one level on, and it is at the other
 pub record IsSearchedFirst (cmp : List ℕ → List ℕ → Ordering) (key : List ℕ) (tables : List PlacedTable) (from level : ℕ) (placed : PlacedTable) : Type 0 where
@@ -52,8 +52,8 @@ pub record IsSearchedFirst (cmp : List ℕ → List ℕ → Ordering) (key : Lis
   pub first : (other : ℕ) (passed : PlacedTable) → from ≤ other → other < level → IsSearchedIn cmp key tables other passed → ⊥
 
 -- the table ends with the user key of the key, and not below the key; and all of it comes before the other table
-abbrev pub EndsAt : (List ℕ → List ℕ → Ordering) → List ℕ → PlacedTable → PlacedTable → Type 0
-EndsAt cmp key placed other =
+abbrev pub EndsAtUser : (List ℕ → List ℕ → Ordering) → List ℕ → PlacedTable → PlacedTable → Type 0
+EndsAtUser cmp key placed other =
     IsBelowInternal cmp placed.table.largest other.table.smallest × (EndsBelow cmp key placed → ⊥) × IsTrue (is_up_to cmp (last_user placed) (user_of key))
 
 -- Each table that covers the user key and doesn't end below the key is searched, or in its stead one of its level that
@@ -61,4 +61,4 @@ EndsAt cmp key placed other =
 abbrev pub SearchesReach : Type 0
 SearchesReach = (cmp : List ℕ → List ℕ → Ordering) → IsTotalOrder cmp → (key : List ℕ) (k : Key) (tables : List PlacedTable) → IsKey key k → AreInOrder cmp tables
     → (placed : PlacedTable) → Contains tables placed → IsTrue (covers cmp placed (user_of key)) → (EndsBelow cmp key placed → ⊥)
-    → (place : ℕ) × (searched : PlacedTable) × IsSearchedAt cmp key tables place searched × ((searched ≡ placed) ⊎ EndsAt cmp key searched placed)
+    → (place : ℕ) × (searched : PlacedTable) × IsSearchedAt cmp key tables place searched × ((searched ≡ placed) ⊎ EndsAtUser cmp key searched placed)

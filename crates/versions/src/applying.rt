@@ -6,7 +6,7 @@ ghost use Rattle.coding.specs.Errors.{RefusesOnly};
 ghost use Rattle.edits.specs.Layout.{without, is_at, after_deleted, after_new, after_edit};
 ghost use Rattle.edits.specs.declared.field.Field.{Field as FieldValue};
 ghost use Rattle.versions.specs.Levels.{AreInOrder, pointers_after};
-ghost use Rattle.versions.specs.Applying.{Leads, LeadsNowhere, LeadsAstray, LeadsOn};
+ghost use Rattle.versions.specs.Applying.{LeadsLayout, LeadsNowhere, LeadsAstray, LeadsOn};
 
 use crate::ordering::put_table;
 use coding::{Damage, ReadError};
@@ -23,7 +23,7 @@ pub fn apply_edit<K: KeyOrder>(
 ) -> Result<(), ReadError>
     requires { AreInOrder K.cmp tables.old.items }
     ensures order { OnOk result (AreInOrder K.cmp tables.new.items) }
-    ensures done { OnOk result (Leads (after_edit edit.now) tables.old.items tables.new.items) }
+    ensures done { OnOk result (LeadsLayout (after_edit edit.now) tables.old.items tables.new.items) }
     ensures refused { IfErr result (λ e. RefusesOnly e (LeadsAstray K.cmp (after_edit edit.now) tables.old.items)) }
 {
     take_away::<K>(tables, edit)?;
@@ -35,7 +35,7 @@ pub fn apply_edit<K: KeyOrder>(
 fn take_away<K: KeyOrder>(tables: &mut Vec<PlacedTable>, edit: &[Field]) -> Result<(), ReadError>
     requires { AreInOrder K.cmp tables.old.items }
     ensures order { OnOk result (AreInOrder K.cmp tables.new.items) }
-    ensures done { OnOk result (Leads (after_deleted edit.now) tables.old.items tables.new.items) }
+    ensures done { OnOk result (LeadsLayout (after_deleted edit.now) tables.old.items tables.new.items) }
     ensures refused { IfErr result (λ e. RefusesOnly e (LeadsNowhere (after_deleted edit.now) tables.old.items)) }
 {
     for field in edit {
@@ -73,7 +73,7 @@ fn take_one<K: KeyOrder>(
 ) -> Result<(), ReadError>
     requires { AreInOrder K.cmp tables.old.items }
     ensures order { OnOk result (AreInOrder K.cmp tables.new.items) }
-    ensures done { OnOk result (Leads (without level number) tables.old.items tables.new.items) }
+    ensures done { OnOk result (LeadsLayout (without level number) tables.old.items tables.new.items) }
     ensures refused { IfErr result (λ e. RefusesOnly e (LeadsNowhere (without level number) tables.old.items)) }
 {
     let Some(place) = place_of(tables, level, number) else {
@@ -111,7 +111,7 @@ fn put_in<K: KeyOrder>(
 ) -> Result<(), ReadError>
     requires { AreInOrder K.cmp tables.old.items }
     ensures order { OnOk result (AreInOrder K.cmp tables.new.items) }
-    ensures done { OnOk result (Leads (after_new edit.now) tables.old.items tables.new.items) }
+    ensures done { OnOk result (LeadsLayout (after_new edit.now) tables.old.items tables.new.items) }
     ensures refused { IfErr result (λ e. RefusesOnly e (LeadsAstray K.cmp (after_new edit.now) tables.old.items)) }
 {
     for field in edit {

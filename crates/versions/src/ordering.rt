@@ -4,7 +4,7 @@ ghost use Rattle.std.specs.Prelude.{◌≡◌, ◌<◌, ◌≤◌, length, IfErr
 ghost use Rattle.std.specs.List.{AllWithin};
 ghost use Rattle.coding.specs.Errors.{RefusesOnly};
 ghost use Rattle.edits.specs.Layout.{is_used};
-ghost use Rattle.versions.specs.Levels.{IsRange, IsBefore, AreInOrder, AreApart, Lists};
+ghost use Rattle.versions.specs.Levels.{IsRange, StandsBefore, AreInOrder, AreTablesApart, ListsSameTables};
 ghost use Rattle.versions.specs.Steps.{Fits, IsPut};
 
 use coding::{Damage, ReadError};
@@ -14,7 +14,7 @@ use std::alloc::Global;
 
 // Whether the table comes before the other.
 fn comes_before<K: KeyOrder>(a: &PlacedTable, b: &PlacedTable) -> bool
-    ensures { MatchBool result (IsBefore K.cmp a.now b.now) (IsBefore K.cmp a.now b.now → ⊥) }
+    ensures { MatchBool result (StandsBefore K.cmp a.now b.now) (StandsBefore K.cmp a.now b.now → ⊥) }
 {
     if a.level != b.level {
         return a.level < b.level;
@@ -53,8 +53,8 @@ fn is_number_used(tables: &[PlacedTable], number: u64) -> bool
 fn place_for<K: KeyOrder>(tables: &[PlacedTable], new: &PlacedTable) -> usize
     requires { AreInOrder K.cmp tables.now }
     ensures within { result ≤ length tables.now }
-    ensures front { AllWithin (λ placed. IsBefore K.cmp placed new.now) tables.now 0 result }
-    ensures back { result < length tables.now → HoldsAt (λ placed. IsBefore K.cmp placed new.now → ⊥) tables.now result }
+    ensures front { AllWithin (λ placed. StandsBefore K.cmp placed new.now) tables.now 0 result }
+    ensures back { result < length tables.now → HoldsAt (λ placed. StandsBefore K.cmp placed new.now → ⊥) tables.now result }
 {
     let mut low = 0;
     let mut high = tables.len();
@@ -71,8 +71,8 @@ fn place_for<K: KeyOrder>(tables: &[PlacedTable], new: &PlacedTable) -> usize
 
 // Whether the new table comes before that at the place, if there is one.
 fn ends_before<K: KeyOrder>(tables: &[PlacedTable], place: usize, new: &PlacedTable) -> bool
-    ensures { MatchBool result (place < length tables.now → HoldsAt (λ placed. IsBefore K.cmp new.now placed) tables.now place)
-        ((place < length tables.now) × HoldsAt (λ placed. IsBefore K.cmp new.now placed → ⊥) tables.now place) }
+    ensures { MatchBool result (place < length tables.now → HoldsAt (λ placed. StandsBefore K.cmp new.now placed) tables.now place)
+        ((place < length tables.now) × HoldsAt (λ placed. StandsBefore K.cmp new.now placed → ⊥) tables.now place) }
 {
     match tables.get(place) {
         Some(placed) => comes_before::<K>(new, placed),
@@ -112,9 +112,9 @@ pub fn put_tables<K: KeyOrder>(
 ) -> Result<(), ReadError>
     requires { tables.old.items ≡ [] }
     ensures order { OnOk result (AreInOrder K.cmp tables.new.items) }
-    ensures all { OnOk result (Lists listed.now tables.new.items) }
-    ensures apart { OnOk result (AreApart K.cmp listed.now) }
-    ensures refused { IfErr result (λ e. RefusesOnly e (AreApart K.cmp listed.now → ⊥)) }
+    ensures all { OnOk result (ListsSameTables listed.now tables.new.items) }
+    ensures apart { OnOk result (AreTablesApart K.cmp listed.now) }
+    ensures refused { IfErr result (λ e. RefusesOnly e (AreTablesApart K.cmp listed.now → ⊥)) }
 {
     for placed in listed {
         put_table::<K>(tables, copy_of(alloc, placed)?)?;

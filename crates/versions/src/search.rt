@@ -6,7 +6,7 @@ ghost use Rattle.ikey.specs.Below.{IsBelowInternal};
 ghost use Rattle.edits.specs.declared.field.PlacedTable.{PlacedTable as Placed};
 ghost use Rattle.versions.specs.Levels.{AreInOrder};
 ghost use Rattle.versions.specs.Ranges.{covers, user_of};
-ghost use Rattle.versions.specs.Searches.{IsFound, IsSearchedAt, IsSearchedFirst, IsSearchedIn, IsSearchedNext};
+ghost use Rattle.versions.specs.Searches.{IsTableFor, IsSearchedAt, IsSearchedFirst, IsSearchedIn, IsSearchedNext};
 
 use crate::searching::{covers, find_in, split_levels};
 use crate::user_key::user_of;
@@ -35,8 +35,8 @@ fn in_level_0<'a, K: KeyOrder>(
 fn in_level<'a, K: KeyOrder>(own: &'a [PlacedTable], key: &[u8]) -> Option<&'a PlacedTable>
     requires { AllPairs (λ a b. IsBelowInternal K.cmp a.table.largest b.table.largest) own.now }
     ensures { MatchOption result
-        ((placed : Placed) → IsFound K.cmp key.now own.now placed → IsTrue (covers K.cmp placed (user_of key.now)) → ⊥)
-        (λ placed. IsFound K.cmp key.now own.now placed.now × IsTrue (covers K.cmp placed.now (user_of key.now))) }
+        ((placed : Placed) → IsTableFor K.cmp key.now own.now placed → IsTrue (covers K.cmp placed (user_of key.now)) → ⊥)
+        (λ placed. IsTableFor K.cmp key.now own.now placed.now × IsTrue (covers K.cmp placed.now (user_of key.now))) }
 {
     let Some(found) = find_in::<K>(own, key) else {
         return None;

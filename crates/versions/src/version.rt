@@ -30,14 +30,13 @@ pub struct Version<K: KeyOrder> {
 
 impl<K: KeyOrder> Model for Version<K> {
     ghost use Rattle.std.specs.Prelude.{◌≡◌, length};
-    ghost use Rattle.versions.specs.Keeping.{HasNumber};
-    ghost use Rattle.versions.specs.Levels.{Placement, AreInOrder, IsKept};
+    ghost use Rattle.versions.specs.Levels.{HasNumber, Placement, AreInOrder, IsVersion};
 
     ghost Value = { Placement };
 
     ghost view = { λ v. record { tables = v.tables.items; compact_pointers = v.compact_pointers.items } };
 
-    ghost invariant = { λ v. IsKept K.cmp v.tables.items v.compact_pointers.items };
+    ghost invariant = { λ v. IsVersion K.cmp v.tables.items v.compact_pointers.items };
 }
 
 impl<K: KeyOrder> Version<K> {
@@ -45,21 +44,20 @@ impl<K: KeyOrder> Version<K> {
     ghost use Rattle.std.specs.Option.{option_copied};
     ghost use Rattle.coding.specs.Errors.{RefusesOnly};
     ghost use Rattle.edits.specs.Layout.{after_edit};
-    ghost use Rattle.versions.specs.Applying.{Leads, LeadsAstray};
-    ghost use Rattle.versions.specs.Keeping.{HasNumber};
-    ghost use Rattle.versions.specs.Levels.{Placement, AreInOrder, AreApart, HasLayout, IsKept, tables_at, pointer_at, pointers_after};
+    ghost use Rattle.versions.specs.Applying.{LeadsLayout, LeadsAstray};
+    ghost use Rattle.versions.specs.Levels.{Placement, AreInOrder, AreTablesApart, HasLayout, HasNumber, IsVersion, tables_at, pointer_at, pointers_after};
     ghost use Rattle.versions.specs.Plans.{Needs, IsPicked, IsLevelPlan, IsWholePlan};
     ghost use Rattle.versions.specs.Ranges.{covers};
     ghost use Rattle.edits.specs.declared.field.PlacedTable.{PlacedTable as Placed};
-    ghost use Rattle.versions.specs.Searches.{EndsBelow, IsFound, IsSearchedAt, IsSearchedNext};
+    ghost use Rattle.versions.specs.Searches.{EndsBelow, IsTableFor, IsSearchedAt, IsSearchedNext};
 
     /// The version that has the tables and compact pointers of a layout. Corrupt: tables of a level below 0
     /// overlap, or a table's smallest key is above its largest, or two tables have one number.
     pub fn new(alloc: Global, layout: &Layout) -> Result<Self, ReadError>
         requires { length layout.now.compact_pointers.items ≡ 7 }
         ensures found { IfOk result (λ version. HasLayout layout.now.tables.items layout.now.compact_pointers.items version) }
-        ensures apart { IfOk result (λ version. AreApart K.cmp layout.now.tables.items) }
-        ensures refused { IfErr result (λ e. RefusesOnly e (AreApart K.cmp layout.now.tables.items → ⊥)) }
+        ensures apart { IfOk result (λ version. AreTablesApart K.cmp layout.now.tables.items) }
+        ensures refused { IfErr result (λ e. RefusesOnly e (AreTablesApart K.cmp layout.now.tables.items → ⊥)) }
     {
         let mut tables = Vec::with_capacity(alloc, layout.tables.len())?;
         put_tables::<K>(alloc, &mut tables, &layout.tables)?;
@@ -73,7 +71,7 @@ impl<K: KeyOrder> Version<K> {
     /// The version after one more edit, which leaves this one as it is: deleted files go before new ones. Corrupt: a
     /// deleted file isn't at that level, or a new one's number is there, or it doesn't fit in as in `new`.
     pub fn after(&self, alloc: Global, edit: &[Field]) -> Result<Self, ReadError>
-        ensures tables { IfOk result (λ new. Leads (after_edit edit.now) self.now.tables new.tables) }
+        ensures tables { IfOk result (λ new. LeadsLayout (after_edit edit.now) self.now.tables new.tables) }
         ensures pointers { IfOk result (λ new. new.compact_pointers ≡ pointers_after edit.now 0 self.now.compact_pointers) }
         ensures refused { IfErr result (λ e. RefusesOnly e (LeadsAstray K.cmp (after_edit edit.now) self.now.tables)) }
     {
@@ -134,7 +132,7 @@ impl<K: KeyOrder> Version<K> {
         requires low { 0 < level }
         requires level { level < 7 }
         ensures { MatchOption result (All (EndsBelow K.cmp key.now) (tables_at level self.now.tables))
-            (λ placed. IsFound K.cmp key.now (tables_at level self.now.tables) placed.now) }
+            (λ placed. IsTableFor K.cmp key.now (tables_at level self.now.tables) placed.now) }
     {
         find_at::<K>(&self.tables, level, key)
     }
@@ -220,15 +218,5 @@ impl<K: KeyOrder> Version<K> {
             }
         }
         false
-    }
-
-    // Gives the memory of the tables and pointers back.
-    pub(crate) fn clear(&mut self)
-        ensures { self.new.tables ≡ [] }
-    {
-        self.tables.clear();
-        for pointer in self.compact_pointers.iter_mut() {
-            *pointer = None;
-        }
     }
 }

@@ -1,6 +1,6 @@
 use Rattle.std.proofs.Common.{◌<◌, List, length, sym, subst, arith}
 use Rattle.edits.specs.declared.field.PlacedTable.{PlacedTable}
-use Rattle.versions.specs.Searches.{IsFound}
+use Rattle.versions.specs.Searches.{IsTableFor}
 use Rattle.versions.proofs.InLevels.{levels_rise}
 use Rattle.versions.proofs.Deeper.{IsRest, rest_begins, rest_level, rest_found, rest_goes_on, rest_ends, own_rise, none_first, behind_shorter}
 use Rattle.versions.proofs.search.next_deeper.Goals as goal
@@ -28,7 +28,7 @@ returns-in-Some-in_level g c =
     let placed = c.in-Some-in_level.placed.now in
     let found = rw c.in-Some-in_level.is at c.in_level.ensures in
     rest_found cmp c.args.key.now c.args.tables.now c.loop-first.rest.now c.args.from c.in-Some.first.now c.in-Some.ensures.value c.loop-first.invariant placed
-    (subst (λ own. IsFound cmp c.args.key.now own placed) c.split_levels-in-Some.ensures.before found.0) found.1
+    (subst (λ own. IsTableFor cmp c.args.key.now own placed) c.split_levels-in-Some.ensures.before found.0) found.1
 
 pub loop-first-smaller : goal.loop-first-smaller
 loop-first-smaller g c =
@@ -40,7 +40,7 @@ loop-first-preserved g c =
     let none = rw c.in_default-in_level.is at c.in_level.ensures in
     subst (λ ts. IsRest cmp c.args.key.now c.args.tables.now c.args.from ts) (sym c.split_levels-in-Some.ensures.from)
     (rest_goes_on cmp c.args.key.now c.args.tables.now c.loop-first.rest.now c.args.from c.in-Some.first.now c.in-Some.ensures.value c.loop-first.invariant
-    (λ placed found covered. none placed (subst (λ own. IsFound cmp c.args.key.now own placed) (sym c.split_levels-in-Some.ensures.before) found) covered))
+    (λ placed found covered. none placed (subst (λ own. IsTableFor cmp c.args.key.now own placed) (sym c.split_levels-in-Some.ensures.before) found) covered))
 
 pub returns : goal.returns
 returns g c = rest_ends g.K.KeyOrder.cmp c.args.key.now c.args.tables.now c.loop-first.rest.now c.args.from c.loop-first.invariant (none_first c.loop-first.rest.now c.in_default.ensures.value)
