@@ -12,7 +12,7 @@ use Rattle.table.specs.Refusals.{IsDamaged, IsUnsupported}
 use Rattle.table.specs.Table.{HasBlock}
 use Rattle.table.specs.declared.handle.Handle.{Handle}
 use Rattle.cache.specs.Blocks.{KeptBlock, kept_at, begins_at, Hits, IsAnswered}
-use Rattle.cache.specs.Holding.{HoldsBlocks, IsContent, IsBlockOf}
+use Rattle.cache.specs.Holding.{HoldsBlocks, HasContent, IsBlockOf}
 use Rattle.cache.specs.Tables.{ReadsBlock}
 use Rattle.cache.proofs.Keeping.{same_slot}
 
@@ -36,7 +36,7 @@ Contains-kept_at (k ∷ ks) file handle pairs h = (elim (begins_at k file handle
 
 -- a block that is found in the file of a table's name is that table's
 found_in : (cmp : List ℕ → List ℕ → Ordering) (content : ℕ → Option (List ℕ)) (number : ℕ) (handle : Handle) (old new : Facts) (name : List ℕ) (pairs : List Pair)
-    → IsContent content number old name → IsTrue new.faithful → Finds old new name (λ file. HasBlock cmp file handle pairs) → IsBlockOf cmp content number handle pairs
+    → HasContent content number old name → IsTrue new.faithful → Finds old new name (λ file. HasBlock cmp file handle pairs) → IsBlockOf cmp content number handle pairs
 found_in cmp content number handle old new name pairs is t found file there =
     let at = found t in
     let same : Some at.0 ≡ Some file = sym at.1 ∙ is file there in
@@ -47,7 +47,7 @@ found_in cmp content number handle old new name pairs is t found file there =
 pub answered : (cmp : List ℕ → List ℕ → Ordering) (content : ℕ → Option (List ℕ)) (ks : List KeptBlock) (number : ℕ) (handle : Handle) (table : Opened) (old new : Facts) (answer : Result (List Pair) DbError)
     (X : Type 0) (o : Option (List Pair)) → kept_at ks number handle ≡ o
     → MatchOption o (ReadsBlock cmp table old new handle answer) (λ pairs. Hits pairs answer × X)
-    → HoldsBlocks cmp content ks → IsContent content number old table.name → IsTrue new.faithful
+    → HoldsBlocks cmp content ks → HasContent content number old table.name → IsTrue new.faithful
     → (pairs : List Pair) → answer ≡ Ok pairs → IsBlockOf cmp content number handle pairs
 answered cmp content ks number handle table old new answer X None e h holds is t pairs ok =
     let found = subst (λ a. IfOk a (λ pairs. Finds old new table.name (λ file. HasBlock cmp file handle pairs))) ok h.found in

@@ -9,7 +9,7 @@ use Rattle.store.specs.Files.{Facts}
 use Rattle.table.specs.Frame.{Frame, Opened, IsFrame, IsOversized}
 use Rattle.table.specs.Reading.{Reads}
 use Rattle.table.specs.Refusals.{IsFrameDamaged, IsFrameUnsupported}
-use Rattle.cache.specs.Holding.{HoldsTables, HasTable, IsOpenOf}
+use Rattle.cache.specs.Holding.{HoldsTables, HasTableInUse, IsOpenOf}
 use Rattle.cache.specs.Tables.{KeptTable, OpensTable, OpensFile, RefusesTable, IsNameOf, HitsTable, IsAnsweredTable, kept_table_at}
 use Rattle.cache.proofs.Holding.{reads_none}
 
@@ -69,7 +69,7 @@ module _ (cmp : List ℕ → List ℕ → Ordering) (number : ℕ) (old new : Fa
   refused_fetched (Some kept) h = refused_hit (λ file. (frame : Frame) → IsFrame cmp file frame → ⊥) (λ file. (frame : Frame) (is : IsFrame cmp file frame) → IsOversized cmp file frame is) kept h
 
   module _ (content : ℕ → Option (List ℕ)) (ks : List KeptTable) where
-    pub fetched : (o : Option Opened) → kept_table_at ks number ≡ o → Fetched o → HoldsTables cmp content old ks → HasTable content number old → IsTrue new.faithful
+    pub fetched : (o : Option Opened) → kept_table_at ks number ≡ o → Fetched o → HoldsTables cmp content old ks → HasTableInUse content number old → IsTrue new.faithful
         → (table : Opened) → answer ≡ Ok table → IsOpenOf cmp content new number table
     fetched None e h holds has t table ok = (
       subst (λ a. IfOk a (λ opened. IsNameOf number opened.name)) ok h.named,

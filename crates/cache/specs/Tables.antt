@@ -17,6 +17,7 @@ use Rattle.table.specs.Reading.{Reads, Finds, Refuses}
 use Rattle.table.specs.Refusals.{IsDamaged, IsUnsupported, IsFrameDamaged, IsFrameUnsupported}
 use Rattle.table.specs.Table.{HasBlock}
 use Rattle.table.specs.declared.handle.Handle.{Handle}
+use Rattle.cache.specs.Uses.{when_used, IsPutFirst}
 
 -- what a table that is open answers of the block at a handle, and what becomes of the store
 pub record ReadsBlock (cmp : List ℕ → List ℕ → Ordering) (table : Opened) (old new : Facts) (handle : Handle) (answer : Result (List Pair) DbError) : Type 0 where
@@ -63,6 +64,14 @@ unfoldable pub kept_table_at : List KeptTable → ℕ → Option Opened
 kept_table_at [] number = None
 kept_table_at (kept ∷ others) number = cond (number == kept.number) (Some kept.table) (kept_table_at others number)
 
+-- how the tables stand once that of this number is used
+abbrev pub tables_when_used : ℕ → List KeptTable → List KeptTable
+tables_when_used number tables = when_used (λ kept. number == kept.number) tables
+
+-- and how once it is put, where there may be so many
+abbrev pub IsTablePut : ℕ → Opened → ℕ → List KeptTable → List KeptTable → Type 0
+IsTablePut number table capacity old new = IsPutFirst (λ kept. number == kept.number) old new capacity (kept_table number table)
+
 -- ---- what is answered
 
 abbrev pub table_answer_of : Result (Rc Opened Global) DbError → Result Opened DbError
@@ -84,6 +93,11 @@ IsKeptOf kept number table = (kept.number ≡ number) × (kept.table ≡ table)
 -- it is what was answered for this number
 abbrev pub IsAnsweredTable : KeptTable → ℕ → Result Opened DbError → Type 0
 IsAnsweredTable kept number answer = (kept.number ≡ number) × (answer ≡ Ok kept.table)
+
+-- what was answered of a table that wasn't kept is put, and a refusal isn't
+abbrev pub IsTableAnswerPut : ℕ → Result Opened DbError → ℕ → List KeptTable → List KeptTable → Type 0
+IsTableAnswerPut number (Ok table) capacity old new = IsTablePut number table capacity old new
+IsTableAnswerPut number (Err e) capacity old new = new ≡ old
 
 -- ---- opening
 

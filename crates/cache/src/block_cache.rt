@@ -1,7 +1,7 @@
 //! Blocks that were read, up to a number of them.
 
 ghost use Rattle.std.specs.Prelude.{◌≡◌, ◌⊎◌, Contains, IfOk, IfErr, IsSome};
-ghost use Rattle.cache.specs.Blocks.{IsOf, KeptBlock, answer_if, kept_at};
+ghost use Rattle.cache.specs.Blocks.{IsBlockPut, IsOf, KeptBlock, answer_if, blocks_when_used, kept_at};
 ghost use Rattle.cache.specs.Holding.{BlocksLast};
 ghost use Rattle.cache.specs.Shared.{blocks_in};
 
@@ -42,8 +42,8 @@ impl<K: KeyOrder> BlockCache<K> {
     ghost use Rattle.ikey.specs.Entries.{Pair};
     ghost use Rattle.table.specs.Refusals.{IsDamaged, IsUnsupported};
     ghost use Rattle.table.specs.Reading.{Reads, Refuses};
-    ghost use Rattle.cache.specs.Holding.{HoldsBlocks, IsContent, IsBlockOf};
-    ghost use Rattle.cache.specs.Blocks.{KeptBlock, answer_of, answer_if, kept_at, Hits, IsAnswered, IsOf};
+    ghost use Rattle.cache.specs.Holding.{HoldsBlocks, HasContent, IsBlockOf};
+    ghost use Rattle.cache.specs.Blocks.{KeptBlock, answer_of, answer_if, blocks_when_used, kept_at, Hits, IsAnswered, IsAnswerPut, IsBlockPut, IsOf};
 
     /// A cache that keeps nothing, and takes no memory: what a database that isn't open has.
     pub fn none() -> Self
@@ -99,6 +99,10 @@ impl<K: KeyOrder> BlockCache<K> {
             (λ pairs. Hits pairs (answer_of result) × (source.new ≡ source.old)) }
         // What is kept was kept before, or is what was answered. So a refusal isn't kept.
         ensures kept { (kept : KeptBlock) → Contains self.new.blocks kept → Contains self.old.blocks kept ⊎ IsAnswered kept file handle (answer_of result) }
+        // The block goes first, so that the last one is let go where there are too many.
+        ensures order { MatchOption (kept_at self.old.blocks file handle)
+            (IsAnswerPut file handle (answer_of result) self.old.capacity (blocks_when_used file handle self.old.blocks) self.new.blocks)
+            (λ _. self.new.blocks ≡ blocks_when_used file handle self.old.blocks) }
         ensures capacity { self.new.capacity ≡ self.old.capacity }
     {
         if let Some(block) = self.find(file, handle)? {
@@ -121,9 +125,9 @@ impl<K: KeyOrder> BlockCache<K> {
     ) -> Result<Rc<Block<Internal<K>>>, DbError>
         ensures reads { Reads (S.facts store.old) (S.facts store.new) }
         // Where each kept block is that of its table, so is the one that is answered, and so are those kept afterwards.
-        ensures found { (content : ℕ → Option (List ℕ)) → HoldsBlocks K.cmp content self.old.blocks → IsContent content file (S.facts store.old) table.now.name
+        ensures found { (content : ℕ → Option (List ℕ)) → HoldsBlocks K.cmp content self.old.blocks → HasContent content file (S.facts store.old) table.now.name
             → IsTrue (S.facts store.new).faithful → IfOk (answer_of result) (λ pairs. IsBlockOf K.cmp content file handle pairs) }
-        ensures holds { (content : ℕ → Option (List ℕ)) → HoldsBlocks K.cmp content self.old.blocks → IsContent content file (S.facts store.old) table.now.name
+        ensures holds { (content : ℕ → Option (List ℕ)) → HoldsBlocks K.cmp content self.old.blocks → HasContent content file (S.facts store.old) table.now.name
             → IsTrue (S.facts store.new).faithful → HoldsBlocks K.cmp content self.new.blocks }
         // What is kept was kept before, or is of this table.
         ensures kept { (kept : KeptBlock) → Contains self.new.blocks kept → Contains self.old.blocks kept ⊎ (kept.file ≡ file) }
@@ -144,6 +148,7 @@ impl<K: KeyOrder> BlockCache<K> {
         ensures found { IfOk result (λ found. kept_at self.old.blocks file handle ≡ answer_if found) }
         ensures refused { IfErr result (λ _. IsSome (kept_at self.old.blocks file handle)) }
         ensures kept { (kept : KeptBlock) → Contains self.new.blocks kept → Contains self.old.blocks kept }
+        ensures order { self.new.blocks ≡ blocks_when_used file handle self.old.blocks }
         ensures capacity { self.new.capacity ≡ self.old.capacity }
     {
         let Some(blocks) = &mut self.blocks else {
@@ -155,6 +160,7 @@ impl<K: KeyOrder> BlockCache<K> {
     // Keeps the block, where there is memory for it.
     fn keep(&mut self, file: u64, handle: Handle, block: &Rc<Block<Internal<K>>>)
         ensures kept { (kept : KeptBlock) → Contains self.new.blocks kept → Contains self.old.blocks kept ⊎ IsOf kept file handle block.now.value.pairs }
+        ensures order { IsBlockPut file handle block.now.value.pairs self.old.capacity self.old.blocks self.new.blocks }
         ensures capacity { self.new.capacity ≡ self.old.capacity }
     {
         let Some(blocks) = &mut self.blocks else {
@@ -173,6 +179,7 @@ fn find_in<K: KeyOrder>(
     ensures found { IfOk result (λ found. kept_at (blocks_in blocks.old.entries) file handle ≡ answer_if found) }
     ensures refused { IfErr result (λ _. IsSome (kept_at (blocks_in blocks.old.entries) file handle)) }
     ensures kept { (kept : KeptBlock) → Contains (blocks_in blocks.new.entries) kept → Contains (blocks_in blocks.old.entries) kept }
+    ensures order { blocks_in blocks.new.entries ≡ blocks_when_used file handle (blocks_in blocks.old.entries) }
     ensures capacity { blocks.new.cap ≡ blocks.old.cap }
 {
     let slot = Slot {
@@ -197,6 +204,7 @@ fn keep_in<K: KeyOrder>(
     block: &Rc<Block<Internal<K>>>,
 )
     ensures kept { (kept : KeptBlock) → Contains (blocks_in blocks.new.entries) kept → Contains (blocks_in blocks.old.entries) kept ⊎ IsOf kept file handle block.now.value.pairs }
+    ensures order { IsBlockPut file handle block.now.value.pairs blocks.old.cap (blocks_in blocks.old.entries) (blocks_in blocks.new.entries) }
     ensures capacity { blocks.new.cap ≡ blocks.old.cap }
 {
     let slot = Slot {

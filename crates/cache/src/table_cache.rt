@@ -2,7 +2,7 @@
 
 ghost use Rattle.std.specs.Prelude.{◌≡◌, ◌⊎◌, None, Contains, IfOk, IfErr, IsSome};
 ghost use Rattle.cache.specs.Holding.{TablesLast};
-ghost use Rattle.cache.specs.Tables.{IsKeptOf, KeptTable, kept_table_at, table_if, tables_in};
+ghost use Rattle.cache.specs.Tables.{IsKeptOf, IsTablePut, KeptTable, kept_table_at, table_if, tables_in, tables_when_used};
 
 use crate::opening::open_table;
 use coding::DbError;
@@ -35,8 +35,8 @@ impl<K: KeyOrder> Model for TableCache<K> {
 impl<K: KeyOrder> TableCache<K> {
     ghost use Rattle.std.specs.Prelude.{◌≡◌, ◌==◌, ◌<◌, ◌≤◌, ◌⊎◌, ℕ, List, Option, None, [], IsTrue, length, Contains, IfOk, IfErr, OnOk, IsSome, MatchOption};
     ghost use Rattle.std.specs.NonZero.{non_zero_usize_get};
-    ghost use Rattle.cache.specs.Tables.{KeptTable, OpensTable, table_answer_of, table_if, kept_table_at, HitsTable, IsKeptOf, IsAnsweredTable, RefusesTable};
-    ghost use Rattle.cache.specs.Holding.{HoldsTables, HasTable, IsOpenOf};
+    ghost use Rattle.cache.specs.Tables.{KeptTable, OpensTable, table_answer_of, table_if, kept_table_at, HitsTable, IsKeptOf, IsAnsweredTable, IsTableAnswerPut, IsTablePut, RefusesTable, tables_when_used};
+    ghost use Rattle.cache.specs.Holding.{HoldsTables, HasTableInUse, IsOpenOf};
     ghost use Rattle.table.specs.Frame.{Frame, IsFrame, IsOversized};
     ghost use Rattle.table.specs.Reading.{Reads};
     ghost use Rattle.table.specs.Refusals.{IsFrameDamaged, IsFrameUnsupported};
@@ -94,11 +94,15 @@ impl<K: KeyOrder> TableCache<K> {
             (λ table. HitsTable table (table_answer_of result) × (store.new ≡ store.old)) }
         // What is kept was kept before, or is what was answered. So a refusal isn't kept.
         ensures kept { (kept : KeptTable) → Contains self.new.tables kept → Contains self.old.tables kept ⊎ IsAnsweredTable kept number (table_answer_of result) }
+        // The table goes first, so that the last one is let go where there are too many.
+        ensures order { MatchOption (kept_table_at self.old.tables number)
+            (IsTableAnswerPut number (table_answer_of result) self.old.capacity (tables_when_used number self.old.tables) self.new.tables)
+            (λ _. self.new.tables ≡ tables_when_used number self.old.tables) }
         ensures reads { Reads (S.facts store.old) (S.facts store.new) }
         // Where each kept table is that of its number, so is the one that is answered, and so are those kept afterwards.
-        ensures found { (content : ℕ → Option (List ℕ)) → HoldsTables K.cmp content (S.facts store.old) self.old.tables → HasTable content number (S.facts store.old)
+        ensures found { (content : ℕ → Option (List ℕ)) → HoldsTables K.cmp content (S.facts store.old) self.old.tables → HasTableInUse content number (S.facts store.old)
             → IsTrue (S.facts store.new).faithful → IfOk (table_answer_of result) (λ table. IsOpenOf K.cmp content (S.facts store.new) number table) }
-        ensures holds { (content : ℕ → Option (List ℕ)) → HoldsTables K.cmp content (S.facts store.old) self.old.tables → HasTable content number (S.facts store.old)
+        ensures holds { (content : ℕ → Option (List ℕ)) → HoldsTables K.cmp content (S.facts store.old) self.old.tables → HasTableInUse content number (S.facts store.old)
             → IsTrue (S.facts store.new).faithful → HoldsTables K.cmp content (S.facts store.new) self.new.tables }
         ensures stood { OnOk result ((S.facts store.new).failures ≡ (S.facts store.old).failures) }
         ensures told { IfErr (table_answer_of result) (λ e. RefusesTable e (S.facts store.old) (S.facts store.new) number (IsFrameDamaged K.cmp) IsFrameUnsupported) }
@@ -134,6 +138,9 @@ impl<K: KeyOrder> TableCache<K> {
             (OpensTable K.cmp (S.facts store.old) (S.facts store.new) number (table_answer_of result))
             (λ table. HitsTable table (table_answer_of result) × (store.new ≡ store.old)) }
         ensures kept { (kept : KeptTable) → Contains self.new.tables kept → Contains self.old.tables kept ⊎ IsAnsweredTable kept number (table_answer_of result) }
+        ensures order { MatchOption (kept_table_at self.old.tables number)
+            (IsTableAnswerPut number (table_answer_of result) self.old.capacity (tables_when_used number self.old.tables) self.new.tables)
+            (λ _. self.new.tables ≡ tables_when_used number self.old.tables) }
         ensures capacity { self.new.capacity ≡ self.old.capacity }
     {
         if let Some(table) = self.find(number)? {
@@ -149,6 +156,7 @@ impl<K: KeyOrder> TableCache<K> {
         ensures found { IfOk result (λ found. kept_table_at self.old.tables number ≡ table_if found) }
         ensures refused { IfErr result (λ _. IsSome (kept_table_at self.old.tables number)) }
         ensures kept { (kept : KeptTable) → Contains self.new.tables kept → Contains self.old.tables kept }
+        ensures order { self.new.tables ≡ tables_when_used number self.old.tables }
         ensures capacity { self.new.capacity ≡ self.old.capacity }
     {
         let Some(tables) = &mut self.tables else {
@@ -160,6 +168,7 @@ impl<K: KeyOrder> TableCache<K> {
     // Keeps the table, where there is memory for it.
     fn keep(&mut self, number: u64, table: &Rc<Table<K>>)
         ensures kept { (kept : KeptTable) → Contains self.new.tables kept → Contains self.old.tables kept ⊎ IsKeptOf kept number table.now.value }
+        ensures order { IsTablePut number table.now.value self.old.capacity self.old.tables self.new.tables }
         ensures capacity { self.new.capacity ≡ self.old.capacity }
     {
         let Some(tables) = &mut self.tables else {
@@ -177,6 +186,7 @@ fn find_in<K: KeyOrder>(
     ensures found { IfOk result (λ found. kept_table_at (tables_in tables.old.entries) number ≡ table_if found) }
     ensures refused { IfErr result (λ _. IsSome (kept_table_at (tables_in tables.old.entries) number)) }
     ensures kept { (kept : KeptTable) → Contains (tables_in tables.new.entries) kept → Contains (tables_in tables.old.entries) kept }
+    ensures order { tables_in tables.new.entries ≡ tables_when_used number (tables_in tables.old.entries) }
     ensures capacity { tables.new.cap ≡ tables.old.cap }
 {
     let Some(kept) = tables.get(&number) else {
@@ -189,6 +199,7 @@ fn find_in<K: KeyOrder>(
 // Keeps the table, where there is memory for it.
 fn keep_in<K: KeyOrder>(tables: &mut LruCache<u64, Rc<Table<K>>>, number: u64, table: &Rc<Table<K>>)
     ensures kept { (kept : KeptTable) → Contains (tables_in tables.new.entries) kept → Contains (tables_in tables.old.entries) kept ⊎ IsKeptOf kept number table.now.value }
+    ensures order { IsTablePut number table.now.value tables.old.cap (tables_in tables.old.entries) (tables_in tables.new.entries) }
     ensures capacity { tables.new.cap ≡ tables.old.cap }
 {
     let Ok(table) = table.clone() else {

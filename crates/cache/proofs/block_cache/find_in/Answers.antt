@@ -2,6 +2,9 @@ use Rattle.std.proofs.Common.{Contains, Some, refl, sym, ap, subst, ◌∙◌}
 use Rattle.std.specs.Option.{option_copied}
 use Rattle.lru.proofs.CallerLemmas.{Contains-promoted}
 use Rattle.std.proofs.lemmas.Result.{err_from_is_err_and}
+use Rattle.cache.specs.Blocks.{begins_at}
+use Rattle.cache.specs.Shared.{blocks_in}
+use Rattle.cache.proofs.Used.{used-map}
 use Rattle.cache.proofs.Keeping.{within, kept_none, kept_other, kept_some, kept_is}
 use Rattle.cache.proofs.block_cache.find_in.Goals as goal
 
@@ -46,3 +49,23 @@ pub returns-clause-kept : goal.returns-clause-kept
 returns-clause-kept g c =
     let order = ap (λ e. e.entries) c.get.follows.holds-at-none in
     within _ c.get.follows.lender-at-none.entries c.args.blocks.now.entries (λ x there. Contains-promoted _ c.args.blocks.now.entries x (subst (λ es. Contains es x) order there))
+
+pub returns-in_default-clause-order : goal.returns-in_default-clause-order
+returns-in_default-clause-order g c =
+    ap (λ e. blocks_in e.entries) c.get.follows.holds-at-none
+    ∙ used-map _ _ (λ kept. begins_at kept c.args.file c.args.handle) (λ e. refl) c.args.blocks.now.entries
+
+pub returns-then-shared-handle-clause-order : goal.returns-then-shared-handle-clause-order
+returns-then-shared-handle-clause-order g c =
+    ap (λ e. blocks_in e.entries) c.get.follows.holds-at-none
+    ∙ used-map _ _ (λ kept. begins_at kept c.args.file c.args.handle) (λ e. refl) c.args.blocks.now.entries
+
+pub returns-in_err-block-clause-order : goal.returns-in_err-block-clause-order
+returns-in_err-block-clause-order g c =
+    ap (λ e. blocks_in e.entries) c.get.follows.holds-at-none
+    ∙ used-map _ _ (λ kept. begins_at kept c.args.file c.args.handle) (λ e. refl) c.args.blocks.now.entries
+
+pub returns-clause-order : goal.returns-clause-order
+returns-clause-order g c =
+    ap (λ e. blocks_in e.entries) c.get.follows.holds-at-none
+    ∙ used-map _ _ (λ kept. begins_at kept c.args.file c.args.handle) (λ e. refl) c.args.blocks.now.entries

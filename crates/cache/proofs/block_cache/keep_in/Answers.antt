@@ -1,5 +1,6 @@
 use Rattle.std.proofs.Common.{◌==◌, ◌&&◌, ◌∙◌, Bool, refl, ap}
-use Rattle.cache.specs.Blocks.{IsOf}
+use Rattle.cache.specs.Blocks.{IsOf, begins_at, kept_block}
+use Rattle.cache.proofs.Used.{block_is, put-map}
 use Rattle.cache.specs.declared.slot.Slot.{Slot}
 use Rattle.cache.proofs.Keeping.{within_or, put_or, put_is}
 use Rattle.cache.proofs.block_cache.keep_in.Goals as goal
@@ -16,3 +17,14 @@ returns-clause-kept g c =
     (λ e put.
     let is = put_is (λ k. k.file) (λ k. k.offset) (λ v. v.size) (λ v. v.block.value.pairs) c.args.file c.args.handle same c.args.blocks.now slot _ (λ j. refl) refl refl refl e put in
     (is.0, is.1, is.2 ∙ ap (λ b. b.pairs) c.in-Ok.ensures.cases))
+
+pub returns-clause-order : goal.returns-clause-order
+unfolding same
+returns-clause-order g c =
+    let slot : Slot = record { file = c.args.file; offset = c.args.handle.offset } in
+    put-map _ (same slot) (λ kept. begins_at kept c.args.file c.args.handle) (λ e. refl) same c.args.blocks.now slot _
+    (kept_block c.args.file c.args.handle.offset c.args.handle.size c.args.block.now.value.pairs) (λ j. refl)
+    (λ e put.
+    let is = put_is (λ k. k.file) (λ k. k.offset) (λ v. v.size) (λ v. v.block.value.pairs) c.args.file c.args.handle same c.args.blocks.now slot _ (λ j. refl) refl refl refl e put in
+    block_is _ c.args.file c.args.handle c.args.block.now.value.pairs (is.0, is.1, is.2 ∙ ap (λ b. b.pairs) c.in-Ok.ensures.cases))
+    c.put.new.self c.put.result c.put.ensures.entries c.put.ensures.err

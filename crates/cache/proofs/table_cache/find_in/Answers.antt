@@ -1,7 +1,9 @@
-use Rattle.std.proofs.Common.{◌∙◌, Contains, Some, sym, ap, subst}
+use Rattle.std.proofs.Common.{◌==◌, ◌∙◌, Contains, Some, refl, sym, ap, subst}
 use Rattle.std.specs.Option.{option_copied}
 use Rattle.std.proofs.lemmas.Result.{err_from_is_err_and}
 use Rattle.lru.proofs.CallerLemmas.{Contains-promoted}
+use Rattle.cache.specs.Tables.{tables_in}
+use Rattle.cache.proofs.Used.{used-map}
 use Rattle.cache.proofs.Keeping.{within, kept_table_none, kept_table_some, kept_table_is}
 use Rattle.cache.proofs.table_cache.find_in.Goals as goal
 
@@ -32,3 +34,15 @@ pub returns-clause-kept : goal.returns-clause-kept
 returns-clause-kept g c =
     let order = ap (λ e. e.entries) c.get.follows.holds-at-none in
     within _ c.get.follows.lender-at-none.entries c.args.tables.now.entries (λ x there. Contains-promoted _ c.args.tables.now.entries x (subst (λ es. Contains es x) order there))
+
+pub returns-in_default-clause-order : goal.returns-in_default-clause-order
+returns-in_default-clause-order g c =
+    ap (λ e. tables_in e.entries) c.get.follows.holds-at-none ∙ used-map _ _ (λ kept. c.args.number == kept.number) (λ e. refl) c.args.tables.now.entries
+
+pub returns-in_err-table-clause-order : goal.returns-in_err-table-clause-order
+returns-in_err-table-clause-order g c =
+    ap (λ e. tables_in e.entries) c.get.follows.holds-at-none ∙ used-map _ _ (λ kept. c.args.number == kept.number) (λ e. refl) c.args.tables.now.entries
+
+pub returns-clause-order : goal.returns-clause-order
+returns-clause-order g c =
+    ap (λ e. tables_in e.entries) c.get.follows.holds-at-none ∙ used-map _ _ (λ kept. c.args.number == kept.number) (λ e. refl) c.args.tables.now.entries
