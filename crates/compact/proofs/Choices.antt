@@ -11,7 +11,7 @@ use Rattle.ikey.specs.declared.internal_key.Kind.TheVariants.{Delete, Put}
 use Rattle.ikey.specs.Entries.{kind_of}
 use Rattle.ikey.specs.Views.{Among, IsNewest}
 use Rattle.compact.specs.Lists.{IsPartWith}
-use Rattle.compact.specs.Needed.{IsVisible, IsOlderPut, IsNeeded}
+use Rattle.compact.specs.Needed.{IsSeenBySome, IsOlderPut, IsNeeded}
 use Rattle.compact.specs.Choosing.{Choosing, ComesBehind, delete_of, IsChosen, Chooses}
 use Rattle.compact.specs.Steps.{TurnsTo, Sees}
 use Rattle.compact.proofs.Parts.{Among-left, Among-right, Among-end, Among-push, part-along, part-append, part-none, part-nothing, part-one, part-not-one, part-has}
@@ -56,10 +56,10 @@ newest-less came entry p x member h = record {
   greatest = λ other m. h.greatest other (Among-left came (entry ∷ []) other m);
 }
 
-visible-more : (came : List Entry) (entry : Entry) (sequences : List ℕ) (x : Entry) → IsOldest came entry → IsVisible came sequences x → IsVisible (came ++ entry ∷ []) sequences x
+visible-more : (came : List Entry) (entry : Entry) (sequences : List ℕ) (x : Entry) → IsOldest came entry → IsSeenBySome came sequences x → IsSeenBySome (came ++ entry ∷ []) sequences x
 visible-more came entry sequences x oldest (p, has, h) = (p, has, newest-more came entry p x oldest h)
 
-visible-less : (came : List Entry) (entry : Entry) (sequences : List ℕ) (x : Entry) → Among came x → IsVisible (came ++ entry ∷ []) sequences x → IsVisible came sequences x
+visible-less : (came : List Entry) (entry : Entry) (sequences : List ℕ) (x : Entry) → Among came x → IsSeenBySome (came ++ entry ∷ []) sequences x → IsSeenBySome came sequences x
 visible-less came entry sequences x member (p, has, h) = (p, has, newest-less came entry p x member h)
 
 older-more : (came : List Entry) (entry : Entry) (sequences : List ℕ) (x put : Entry) → IsOldest came entry → IsOlderPut came sequences x put → IsOlderPut (came ++ entry ∷ []) sequences x put
@@ -89,7 +89,7 @@ needed-more came entry sequences deep x oldest h = record {
 
 -- And it is needed as before, or the entry is a put of its key.
 needed-less : (came : List Entry) (entry : Entry) (sequences : List ℕ) (deep : List ℕ → Bool) (x : Entry) → Among came x
-    → (entry.key ≡ x.key → IsSome entry.value → IsVisible (came ++ entry ∷ []) sequences entry → IsNeeded came sequences deep x)
+    → (entry.key ≡ x.key → IsSome entry.value → IsSeenBySome (came ++ entry ∷ []) sequences entry → IsNeeded came sequences deep x)
     → IsNeeded (came ++ entry ∷ []) sequences deep x → IsNeeded came sequences deep x
 needed-less came entry sequences deep x member put h = record {
   visible = visible-less came entry sequences x member h.visible;
@@ -110,7 +110,7 @@ module _ (came : List Entry) (entry : Entry) (c : Choosing) (unseen : ℕ) (same
     (below : (k : ℕ) → k < c.unseen → (other : Entry) → Among came other → other.key ≡ c.key → slice_index c.snapshots k < other.sequence)
     (above : (k : ℕ) → c.unseen ≤ k → k < length c.snapshots → (other : Entry) × Among came other × (other.key ≡ c.key) × (other.sequence ≤ slice_index c.snapshots k))
     (within : c.unseen ≤ length c.snapshots) where
-  seen-visible : ((k : ℕ) → unseen ≤ k → k < c.unseen → entry.sequence ≤ slice_index c.snapshots k) → unseen < c.unseen → IsVisible (came ++ entry ∷ []) c.snapshots entry
+  seen-visible : ((k : ℕ) → unseen ≤ k → k < c.unseen → entry.sequence ≤ slice_index c.snapshots k) → unseen < c.unseen → IsSeenBySome (came ++ entry ∷ []) c.snapshots entry
   seen-visible sees less = (
     slice_index c.snapshots unseen,
     (unseen, omega (arith, less, within), get_or_default c.snapshots unseen (slice_index c.snapshots unseen) 0 (omega (arith, less, within))),
@@ -124,7 +124,7 @@ module _ (came : List Entry) (entry : Entry) (c : Choosing) (unseen : ℕ) (same
     },
   )
 
-  unseen-not : ((k : ℕ) → k < unseen → slice_index c.snapshots k < entry.sequence) → unseen ≡ c.unseen → IsVisible (came ++ entry ∷ []) c.snapshots entry → ⊥
+  unseen-not : ((k : ℕ) → k < unseen → slice_index c.snapshots k < entry.sequence) → unseen ≡ c.unseen → IsSeenBySome (came ++ entry ∷ []) c.snapshots entry → ⊥
   unseen-not hides equal (p, (k, lt, is), h) =
       let at : slice_index c.snapshots k ≡ p = get_or_default c.snapshots k 0 p lt ∙ is in
       elim (cases_lt k unseen) [
@@ -267,19 +267,19 @@ module _ (cmp : List ℕ → List ℕ → Ordering) (deep : List ℕ → Bool) (
   parts-next : came ++ entry ∷ [] ≡ h.settled ++ (h.others ++ entry ∷ [])
   parts-next = ap (λ (l : List Entry). l ++ entry ∷ []) h.parts ∙ append_assoc h.settled h.others (entry ∷ [])
 
-  waits-key : (x : Entry) → Among h.others x → IsVisible came c.snapshots x → x.key ≡ c.key
-  waits-key x m v = value-of c.key c.waiting x (part-has (IsVisible came c.snapshots) h.others (map (delete_of c.key) c.waiting) x h.others_waiting m v)
+  waits-key : (x : Entry) → Among h.others x → IsSeenBySome came c.snapshots x → x.key ≡ c.key
+  waits-key x m v = value-of c.key c.waiting x (part-has (IsSeenBySome came c.snapshots) h.others (map (delete_of c.key) c.waiting) x h.others_waiting m v)
 
-  visible-along : (xs ys : List Entry) → ((x : Entry) → Among xs x → Among came x) → IsPartWith (IsVisible came c.snapshots) xs ys → IsPartWith (IsVisible (came ++ entry ∷ []) c.snapshots) xs ys
+  visible-along : (xs ys : List Entry) → ((x : Entry) → Among xs x → Among came x) → IsPartWith (IsSeenBySome came c.snapshots) xs ys → IsPartWith (IsSeenBySome (came ++ entry ∷ []) c.snapshots) xs ys
   visible-along xs ys inside part =
-      part-along (IsVisible came c.snapshots) (IsVisible (came ++ entry ∷ []) c.snapshots) xs ys
+      part-along (IsSeenBySome came c.snapshots) (IsSeenBySome (came ++ entry ∷ []) c.snapshots) xs ys
       (λ x m n. visible-more came entry c.snapshots x oldest n) (λ x m n. visible-less came entry c.snapshots x (inside x m) n) part
 
   -- ---- nothing is written: the entry isn't needed, and it waits or isn't seen
 
   module _ (waits : List ℕ) (needless : IsNeeded (came ++ entry ∷ []) c.snapshots deep entry → ⊥)
-      (no_put : IsSome entry.value → IsVisible (came ++ entry ∷ []) c.snapshots entry → ⊥)
-      (waiting : IsPartWith (IsVisible (came ++ entry ∷ []) c.snapshots) (entry ∷ []) (map (delete_of c.key) waits)) where
+      (no_put : IsSome entry.value → IsSeenBySome (came ++ entry ∷ []) c.snapshots entry → ⊥)
+      (waiting : IsPartWith (IsSeenBySome (came ++ entry ∷ []) c.snapshots) (entry ∷ []) (map (delete_of c.key) waits)) where
     same-needed : (x : Entry) → Among came x → IsNeeded (came ++ entry ∷ []) c.snapshots deep x → IsNeeded came c.snapshots deep x
     same-needed x m n = needed-less came entry c.snapshots deep x m (λ key some seen. absurd (no_put some seen)) n
 
@@ -292,9 +292,9 @@ module _ (cmp : List ℕ → List ℕ → Ordering) (deep : List ℕ → Bool) (
         let settled_part : IsPartWith (IsNeeded (came ++ entry ∷ []) c.snapshots deep) h.settled (chosen ++ []) =
         subst (IsPartWith (IsNeeded (came ++ entry ∷ []) c.snapshots deep) h.settled) (sym (append-nil chosen))
         (needed-along same-needed h.settled chosen in-settled h.settled_chosen) in
-        let others_part : IsPartWith (IsVisible (came ++ entry ∷ []) c.snapshots) (h.others ++ entry ∷ []) (map (delete_of c.key) (c.waiting ++ waits)) =
-        subst (IsPartWith (IsVisible (came ++ entry ∷ []) c.snapshots) (h.others ++ entry ∷ [])) (sym (map-append (delete_of c.key) c.waiting waits))
-        (part-append (IsVisible (came ++ entry ∷ []) c.snapshots) h.others (map (delete_of c.key) c.waiting) (entry ∷ []) (map (delete_of c.key) waits)
+        let others_part : IsPartWith (IsSeenBySome (came ++ entry ∷ []) c.snapshots) (h.others ++ entry ∷ []) (map (delete_of c.key) (c.waiting ++ waits)) =
+        subst (IsPartWith (IsSeenBySome (came ++ entry ∷ []) c.snapshots) (h.others ++ entry ∷ [])) (sym (map-append (delete_of c.key) c.waiting waits))
+        (part-append (IsSeenBySome (came ++ entry ∷ []) c.snapshots) h.others (map (delete_of c.key) c.waiting) (entry ∷ []) (map (delete_of c.key) waits)
         (visible-along h.others (map (delete_of c.key) c.waiting) in-others h.others_waiting) waiting) in
         record {
           chosen_is = record {
@@ -322,7 +322,7 @@ module _ (cmp : List ℕ → List ℕ → Ordering) (deep : List ℕ → Bool) (
 
   module _ (released : List ℕ) (is_needed : IsNeeded (came ++ entry ∷ []) c.snapshots deep entry)
       (others_part : IsPartWith (IsNeeded (came ++ entry ∷ []) c.snapshots deep) h.others (map (delete_of entry.key) released))
-      (now_needed : (x : Entry) → Among came x → x.key ≡ c.key → IsVisible came c.snapshots x → IsNeeded (came ++ entry ∷ []) c.snapshots deep x)
+      (now_needed : (x : Entry) → Among came x → x.key ≡ c.key → IsSeenBySome came c.snapshots x → IsNeeded (came ++ entry ∷ []) c.snapshots deep x)
       (before : (x : Entry) → Among h.settled x → IsNeeded (came ++ entry ∷ []) c.snapshots deep x → IsNeeded came c.snapshots deep x) where
     step-write : Chooses cmp deep (record c { unseen = unseen; waiting = []; released = released }) (came ++ entry ∷ []) (chosen ++ (map (delete_of entry.key) released ++ entry ∷ []))
     step-write =
@@ -372,16 +372,16 @@ module _ (cmp : List ℕ → List ℕ → Ordering) (o : IsTotalOrder cmp) (deep
   sees-above : (k : ℕ) → seen.unseen ≤ k → k < now.unseen → entry.sequence ≤ slice_index now.snapshots k
   sees-above k ge lt = omega (arith, sees.above k ge lt, sequence_is)
 
-  visible : seen.unseen < now.unseen → IsVisible (came ++ entry ∷ []) now.snapshots entry
+  visible : seen.unseen < now.unseen → IsSeenBySome (came ++ entry ∷ []) now.snapshots entry
   visible = seen-visible came entry now seen.unseen ready.1 oldest ready.0.below ready.0.above ready.0.within sees-above
 
   pub take-leave : seen.unseen ≡ now.unseen → Chooses cmp deep seen (came ++ entry ∷ []) (chosen ++ [])
   take-leave equal =
-      let unseen : IsVisible (came ++ entry ∷ []) now.snapshots entry → ⊥ =
+      let unseen : IsSeenBySome (came ++ entry ∷ []) now.snapshots entry → ⊥ =
       unseen-not came entry now seen.unseen ready.1 oldest ready.0.below ready.0.above ready.0.within sees-below equal in
       let step : Chooses cmp deep (record now { unseen = seen.unseen; waiting = now.waiting ++ [] }) (came ++ entry ∷ []) (chosen ++ []) =
       step-nothing cmp deep now came chosen entry seen.unseen ready.0 ready.1 oldest behind sees-below sees-above (omega (arith, equal)) []
-      (λ n. unseen n.visible) (λ some v. unseen v) (part-not-one (IsVisible (came ++ entry ∷ []) now.snapshots) entry unseen) in
+      (λ n. unseen n.visible) (λ some v. unseen v) (part-not-one (IsSeenBySome (came ++ entry ∷ []) now.snapshots) entry unseen) in
       let is : record now { unseen = seen.unseen; waiting = now.waiting ++ [] } ≡ seen =
       (λ i. record now { unseen = seen.unseen; waiting = append-nil now.waiting i }) ∙ sym sees.kept in
       subst (λ (c : Choosing). Chooses cmp deep c (came ++ entry ∷ []) (chosen ++ [])) is step
@@ -398,9 +398,9 @@ module _ (cmp : List ℕ → List ℕ → Ordering) (o : IsTotalOrder cmp) (deep
         ]
       ] in
       let is_delete_of : entry ≡ delete_of now.key sequence = is_delete now.key entry ready.1 none ∙ ap (delete_of now.key) sequence_is in
-      let one : IsPartWith (IsVisible (came ++ entry ∷ []) now.snapshots) (entry ∷ []) (map (delete_of now.key) (sequence ∷ [])) =
-      subst (λ (x : Entry). IsPartWith (IsVisible (came ++ entry ∷ []) now.snapshots) (entry ∷ []) (x ∷ [])) is_delete_of
-      (part-one (IsVisible (came ++ entry ∷ []) now.snapshots) entry v) in
+      let one : IsPartWith (IsSeenBySome (came ++ entry ∷ []) now.snapshots) (entry ∷ []) (map (delete_of now.key) (sequence ∷ [])) =
+      subst (λ (x : Entry). IsPartWith (IsSeenBySome (came ++ entry ∷ []) now.snapshots) (entry ∷ []) (x ∷ [])) is_delete_of
+      (part-one (IsSeenBySome (came ++ entry ∷ []) now.snapshots) entry v) in
       let step : Chooses cmp deep (record now { unseen = seen.unseen; waiting = now.waiting ++ sequence ∷ [] }) (came ++ entry ∷ []) (chosen ++ []) =
       step-nothing cmp deep now came chosen entry seen.unseen ready.0 ready.1 oldest behind sees-below sees-above (omega (arith, less)) (sequence ∷ [])
       needless (λ some w. not_both entry.value some none) one in
@@ -414,17 +414,17 @@ module _ (cmp : List ℕ → List ℕ → Ordering) (o : IsTotalOrder cmp) (deep
       let v = visible less in
       let P = IsNeeded (came ++ entry ∷ []) now.snapshots deep in
       let is_needed : P entry = record { visible = v; hides = λ none. absurd (not_both entry.value some none) } in
-      let put_of : (x : Entry) → Among came x → x.key ≡ now.key → IsVisible came now.snapshots x → P x = λ x m at w. record {
+      let put_of : (x : Entry) → Among came x → x.key ≡ now.key → IsSeenBySome came now.snapshots x → P x = λ x m at w. record {
         visible = visible-more came entry now.snapshots x oldest w;
         hides = λ none. inr (entry, record { same_key = ready.1 ∙ sym at; older = oldest x m (at ∙ sym ready.1); is_put = some; visible = v });
       } in
       let inside : (x : Entry) → Among ready.0.others x → Among came x = λ x m. subst (λ (l : List Entry). Among l x) (sym ready.0.parts) (Among-right ready.0.settled ready.0.others x m) in
       let settled : (x : Entry) → Among ready.0.settled x → Among came x = λ x m. subst (λ (l : List Entry). Among l x) (sym ready.0.parts) (Among-left ready.0.settled ready.0.others x m) in
-      let at : (x : Entry) → Among ready.0.others x → IsVisible came now.snapshots x → x.key ≡ now.key = λ x m w.
-      value-of now.key now.waiting x (part-has (IsVisible came now.snapshots) ready.0.others (map (delete_of now.key) now.waiting) x ready.0.others_waiting m w) in
+      let at : (x : Entry) → Among ready.0.others x → IsSeenBySome came now.snapshots x → x.key ≡ now.key = λ x m w.
+      value-of now.key now.waiting x (part-has (IsSeenBySome came now.snapshots) ready.0.others (map (delete_of now.key) now.waiting) x ready.0.others_waiting m w) in
       let waits : IsPartWith P ready.0.others (map (delete_of entry.key) now.waiting) =
       subst (λ (k : List ℕ). IsPartWith P ready.0.others (map (delete_of k) now.waiting)) (sym ready.1)
-      (part-along (IsVisible came now.snapshots) P ready.0.others (map (delete_of now.key) now.waiting)
+      (part-along (IsSeenBySome came now.snapshots) P ready.0.others (map (delete_of now.key) now.waiting)
       (λ x m w. put_of x (inside x m) (at x m w) w) (λ x m n. visible-less came entry now.snapshots x (inside x m) n.visible) ready.0.others_waiting) in
       let before : (x : Entry) → Among ready.0.settled x → P x → IsNeeded came now.snapshots deep x = λ x m n.
       needed-less came entry now.snapshots deep x (settled x m)
@@ -450,17 +450,17 @@ module _ (cmp : List ℕ → List ℕ → Ordering) (o : IsTotalOrder cmp) (deep
       let P = IsNeeded (came ++ entry ∷ []) now.snapshots deep in
       let covers : (x : Entry) → x.key ≡ now.key → IsTrue (deep x.key) = λ x at. subst (λ (k : List ℕ). IsTrue (deep k)) (ready.1 ∙ sym at) covered in
       let is_needed : P entry = record { visible = v; hides = λ no. inl covered } in
-      let now_needed : (x : Entry) → Among came x → x.key ≡ now.key → IsVisible came now.snapshots x → P x = λ x m at w. record {
+      let now_needed : (x : Entry) → Among came x → x.key ≡ now.key → IsSeenBySome came now.snapshots x → P x = λ x m at w. record {
         visible = visible-more came entry now.snapshots x oldest w;
         hides = λ no. inl (covers x at);
       } in
       let inside : (x : Entry) → Among ready.0.others x → Among came x = λ x m. subst (λ (l : List Entry). Among l x) (sym ready.0.parts) (Among-right ready.0.settled ready.0.others x m) in
       let settled : (x : Entry) → Among ready.0.settled x → Among came x = λ x m. subst (λ (l : List Entry). Among l x) (sym ready.0.parts) (Among-left ready.0.settled ready.0.others x m) in
-      let hidden : (x : Entry) → Among ready.0.others x → IsVisible came now.snapshots x → ⊥ = λ x m w.
-      let at = value-of now.key now.waiting x (part-has (IsVisible came now.snapshots) ready.0.others (map (delete_of now.key) now.waiting) x ready.0.others_waiting m w) in
+      let hidden : (x : Entry) → Among ready.0.others x → IsSeenBySome came now.snapshots x → ⊥ = λ x m w.
+      let at = value-of now.key now.waiting x (part-has (IsSeenBySome came now.snapshots) ready.0.others (map (delete_of now.key) now.waiting) x ready.0.others_waiting m w) in
       ready.0.others_open x m (record { visible = w; hides = λ no. inl (covers x at) }) in
       let waits : map (delete_of now.key) now.waiting ≡ [] =
-      part-nothing (IsVisible came now.snapshots) ready.0.others (map (delete_of now.key) now.waiting) hidden ready.0.others_waiting in
+      part-nothing (IsSeenBySome came now.snapshots) ready.0.others (map (delete_of now.key) now.waiting) hidden ready.0.others_waiting in
       let others : IsPartWith P ready.0.others [] = part-none P ready.0.others (λ x m n. hidden x m (visible-less came entry now.snapshots x (inside x m) n.visible)) in
       let before : (x : Entry) → Among ready.0.settled x → P x → IsNeeded came now.snapshots deep x = λ x m n.
       needed-less came entry now.snapshots deep x (settled x m) (λ key some w. absurd (not_both entry.value some none)) n in

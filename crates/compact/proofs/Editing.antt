@@ -15,7 +15,7 @@ use Rattle.edits.proofs.Folds.{all_append}
 use Rattle.edits.proofs.Snapshots.{all_from}
 use Rattle.versions.specs.declared.plan.JobPlan.{JobPlan}
 use Rattle.compact.specs.JobEdits.{IsEditOf, IsPlanProper, IsOwnIn, AreOnce, gone, placed_at, pointer_fields, rank_of}
-use Rattle.compact.specs.Outputs.{Written, IsOwn, NumbersRise}
+use Rattle.compact.specs.Outputs.{TablesWritten, IsOwn, TableNumbersRise}
 
 -- ---- no number twice
 
@@ -73,7 +73,7 @@ gone_order (y ∷ z ∷ ys) h range once =
           (λ m. let all = sum_by-cons (one_if m) y (z ∷ ys) in let most = once m in omega (arith, all, most)),
     )
 
-new_order : (level : ℕ) (tables : List TableFile) → NumbersRise tables → IsInOrder (map (placed_at level) tables)
+new_order : (level : ℕ) (tables : List TableFile) → TableNumbersRise tables → IsInOrder (map (placed_at level) tables)
 new_order level [] h = tt
 new_order level (t ∷ []) h = tt
 new_order level (t ∷ u ∷ tables) h = (inr (refl, inr (refl, h.0.0)), new_order level (u ∷ tables) h.1)
@@ -95,7 +95,7 @@ front_order level next last None ys tables h = (inl (omega arith), behind level 
 front_order level next last (Some key) ys tables h = (inl (omega arith), (inl (omega arith), behind level (CompactPointer (level - 1) key) ys tables (omega arith) h))
 
 pub in_order : (plan : JobPlan) (tables : List TableFile) (next last : ℕ) (edit : List Field) → IsEditOf plan.output_level plan.inputs.items plan.compact_pointer tables next last edit
-    → IsPlanProper plan → NumbersRise tables → IsInOrder edit
+    → IsPlanProper plan → TableNumbersRise tables → IsInOrder edit
 in_order plan tables next last edit is planned rise =
     let range : All InRange is.sorted = All-permutation InRange plan.inputs.items is.sorted is.inputs_are planned.inputs in
     let once : (n : ℕ) → sum_by (one_if n) is.sorted ≤ 1 = λ n.
@@ -133,19 +133,19 @@ proper plan tables next last edit is planned said fits small =
 
 -- ---- whose tables it puts in
 
-each_own : (w : Written) (level : ℕ) (tables : List TableFile) → ((n : ℕ) → Any (λ (table : TableFile). table.number ≡ n) tables → IsOwn w n) → AllByRecursion (IsOwnIn w) (map (placed_at level) tables)
+each_own : (w : TablesWritten) (level : ℕ) (tables : List TableFile) → ((n : ℕ) → Any (λ (table : TableFile). table.number ≡ n) tables → IsOwn w n) → AllByRecursion (IsOwnIn w) (map (placed_at level) tables)
 each_own w level [] h = tt
 each_own w level (t ∷ tables) h = (h t.number (zero, t, omega arith, refl, refl), each_own w level tables (λ n any. h n (suc any.0, any.1, omega (arith, any.2), any.3, any.4)))
 
-gone_own : (w : Written) (ys : List PlacedTable) → AllByRecursion (IsOwnIn w) (map gone ys)
+gone_own : (w : TablesWritten) (ys : List PlacedTable) → AllByRecursion (IsOwnIn w) (map gone ys)
 gone_own w [] = tt
 gone_own w (y ∷ ys) = (tt, gone_own w ys)
 
-front_own : (w : Written) (level next last : ℕ) (pointer : Option (List ℕ)) → AllByRecursion (IsOwnIn w) (NextFileNumber next ∷ LastSequence last ∷ pointer_fields level pointer)
+front_own : (w : TablesWritten) (level next last : ℕ) (pointer : Option (List ℕ)) → AllByRecursion (IsOwnIn w) (NextFileNumber next ∷ LastSequence last ∷ pointer_fields level pointer)
 front_own w level next last None = (tt, (tt, tt))
 front_own w level next last (Some key) = (tt, (tt, (tt, tt)))
 
-pub own : (w : Written) (level next last : ℕ) (inputs : List PlacedTable) (pointer : Option (List ℕ)) (tables : List TableFile) (edit : List Field) → IsEditOf level inputs pointer tables next last edit
+pub own : (w : TablesWritten) (level next last : ℕ) (inputs : List PlacedTable) (pointer : Option (List ℕ)) (tables : List TableFile) (edit : List Field) → IsEditOf level inputs pointer tables next last edit
     → ((n : ℕ) → Any (λ (table : TableFile). table.number ≡ n) tables → IsOwn w n) → AllByRecursion (IsOwnIn w) edit
 own w level next last inputs pointer tables edit is h =
     subst (AllByRecursion (IsOwnIn w)) (sym is.fields_are)

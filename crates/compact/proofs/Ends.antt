@@ -9,7 +9,7 @@ use Rattle.edits.specs.declared.field.TableFile.{TableFile}
 use Rattle.ikey.specs.Entries.{Pair}
 use Rattle.ikey.specs.Keys.{Key, IsKey}
 use Rattle.store.specs.Files.{Facts}
-use Rattle.compact.specs.Outputs.{first_key, Filling, AreClosed, IsAtHand, Written, HasWritten, EndsBefore, EndAtUserKeys, HandsOther, IsOpen}
+use Rattle.compact.specs.Outputs.{first_key, Filling, AreClosed, IsAtHand, TablesWritten, HasWritten, EndsWithOtherUser, EndAtUserKeys, HandsOther, IsOpen}
 use Rattle.compact.proofs.Tables.{last-behind}
 
 abbrev joined : List (List Pair) → List Pair
@@ -43,7 +43,7 @@ some-first [] more key is e = absurd (no-key key is)
 some-first (first ∷ pairs) more key is e = cc
 
 pub ends-begun : (cmp : List ℕ → List ℕ → Ordering) (facts : Facts) (cs : List TableFile) (tables : List (List Pair)) (pair : Pair) → AreClosed cmp facts cs tables
-    → ((key : Key) → IsKey pair.key key → EndsBefore (joined tables) key.user) → EndAtUserKeys tables [] → EndAtUserKeys tables (pair ∷ [])
+    → ((key : Key) → IsKey pair.key key → EndsWithOtherUser (joined tables) key.user) → EndAtUserKeys tables [] → EndAtUserKeys tables (pair ∷ [])
 ends-begun cmp facts cs [] pair closed before h = tt
 ends-begun cmp facts [] (pairs ∷ tables) pair closed before h = absurd closed
 ends-begun cmp facts (c ∷ cs) (pairs ∷ []) pair closed before h = (
@@ -68,16 +68,16 @@ no-tables : (cmp : List ℕ → List ℕ → Ordering) (facts : Facts) (tables :
 no-tables cmp facts [] h = refl
 no-tables cmp facts (pairs ∷ tables) h = absurd h
 
-none-before : (cmp : List ℕ → List ℕ → Ordering) (w : Written) (facts : Facts) (next : ℕ) (pairs : List Pair) → w.at_hand ≡ None → w.closed ≡ [] → HasWritten cmp w facts next pairs → pairs ≡ []
+none-before : (cmp : List ℕ → List ℕ → Ordering) (w : TablesWritten) (facts : Facts) (next : ℕ) (pairs : List Pair) → w.at_hand ≡ None → w.closed ≡ [] → HasWritten cmp w facts next pairs → pairs ≡ []
 none-before cmp w facts next pairs none closed h =
     let tables : h.tables ≡ [] = no-tables cmp facts h.tables (subst (λ (cs : List TableFile). AreClosed cmp facts cs h.tables) closed h.closed_are) in
     let rest : h.rest ≡ [] = subst (λ (o : Option Filling). IsAtHand cmp facts o h.rest) none h.rest_is in
     h.all ∙ (λ i. joined (tables i) ++ rest i)
 
-pub ends-before : (cmp : List ℕ → List ℕ → Ordering) (old new : Written) (facts : Facts) (next : ℕ) (pairs : List Pair) (user : List ℕ) → (new ≡ old) ⊎ HandsOther old user → new.at_hand ≡ None → IsOpen old
-    → HasWritten cmp old facts next pairs → EndsBefore pairs user
+pub ends-before : (cmp : List ℕ → List ℕ → Ordering) (old new : TablesWritten) (facts : Facts) (next : ℕ) (pairs : List Pair) (user : List ℕ) → (new ≡ old) ⊎ HandsOther old user → new.at_hand ≡ None → IsOpen old
+    → HasWritten cmp old facts next pairs → EndsWithOtherUser pairs user
 ends-before cmp old new facts next pairs user (inl same) none further h = λ last key is of.
-    let old_none : old.at_hand ≡ None = ap (λ (w : Written). w.at_hand) (sym same) ∙ none in
+    let old_none : old.at_hand ≡ None = ap (λ (w : TablesWritten). w.at_hand) (sym same) ∙ none in
     absurd (no-key last (sym (ap last_key (none-before cmp old facts next pairs old_none (further old_none) h)) ∙ is))
 ends-before cmp old new facts next pairs user (inr (t, at, other)) none further h = λ last key is of.
     let rest = subst (λ (o : Option Filling). IsAtHand cmp facts o h.rest) at h.rest_is in
@@ -92,7 +92,7 @@ ends-before cmp old new facts next pairs user (inr (t, at, other)) none further 
     same-some : (a b : List ℕ) → Some a ≡ Some b → a ≡ b
     same-some a b e = cc
 
-pub some-open : (w : Written) (t : Filling) → w.at_hand ≡ Some t → IsOpen w
+pub some-open : (w : TablesWritten) (t : Filling) → w.at_hand ≡ Some t → IsOpen w
 some-open w t at none = (let e : Some t ≡ None = sym at ∙ none in absurd cc)
 
 pub none-is : (o : Option Filling) → is_some o ≡ false → o ≡ None

@@ -19,7 +19,7 @@ use Rattle.compact.specs.Choosing.{Choosing, Chooses, Precedes, ComesBehind, wri
 use Rattle.compact.specs.declared.job.Job.{Job}
 use Rattle.std.specs.List.{AllByRecursion}
 use Rattle.compact.specs.Merging.{AreDisjoint, IsWellKept, IsMerging, IsUpTo, HasPassed, ReadsApart, IsJob, IsBetween, KeepsMine}
-use Rattle.compact.specs.Outputs.{Written, IsWriting, IsMine, IsNumberAtHand, IsToCome, RefusesEntry, WritesTables}
+use Rattle.compact.specs.Outputs.{TablesWritten, IsWriting, IsMine, IsNumberAtHand, IsToCome, RefusesEntry, WritesTables}
 use Rattle.compact.proofs.Merges.{merge-step, merging-none, mine-before}
 use Rattle.compact.proofs.Passing.{passed-more}
 use Rattle.compact.proofs.Writing.{refuses-as, writes-more}
@@ -98,7 +98,7 @@ module _ {C H S : Type 0} (cmp : Cmp) (deep : List ℕ → Bool) (facts : S → 
       let failures : Facts → ℕ = λ f. f.failures in
       ap failures (sym (are after)) ∙ moved ∙ ap failures (are (with_store source store)) ∙ ap (λ (s : S). (facts s).failures) (replaced source store) ∙ wrote ∙ ap (λ (s : S). (facts s).failures) is
 
-  pub job-step : (last over : List ℕ) (cursor moved : C) (c e : Choosing) (w u : Written) (source : H) (held store : S) (after : H) (next more : ℕ) (came : List InternalEntry) (entry : InternalEntry) (rest : List InternalEntry) (choice : Choice)
+  pub job-step : (last over : List ℕ) (cursor moved : C) (c e : Choosing) (w u : TablesWritten) (source : H) (held store : S) (after : H) (next more : ℕ) (came : List InternalEntry) (entry : InternalEntry) (rest : List InternalEntry) (choice : Choice)
       → held ≡ store_of source → WritesTables (facts held) (facts store) (IsMine w next) → next ≤ more → more < 2 ^ 64 → KeepsMine w next u more
       → Moves facts_of lists cursor moved (with_store source store) after moved_on to_next
       → Stays facts_of keeps limited leaves goes_over cursor moved (with_store source store) after
@@ -141,7 +141,7 @@ module _ {K C H S : Type 0} (cmp : Cmp) (deep : List ℕ → Bool) (of_store : O
 -- ---- a job begins
 
 pub starts : {C H S : Type 0} (cmp : Cmp) (deep : List ℕ → Bool) (facts : S → Facts) (store_of : H → S) (with_store : H → S → H) (gathers : H → ℕ → Type 0) (facts_of : H → Facts) (lists : C → H → Listed → Type 0) (keeps : C → H → H → Type 0) (limited : C → H → Type 0) (leaves : (ℕ → Type 0) → H → H → Type 0) (goes_over : C → ℕ → Type 0)
-    → ((h : H) → facts_of h ≡ facts (store_of h)) → ((cursor : C) (h i : H) → leaves (goes_over cursor) h i → (n : ℕ) → gathers i n → gathers h n ⊎ goes_over cursor n) → (last : List ℕ) (cursor moved : C) (c : Choosing) (w : Written) (source after : H) (next : ℕ) (at : Listed)
+    → ((h : H) → facts_of h ≡ facts (store_of h)) → ((cursor : C) (h i : H) → leaves (goes_over cursor) h i → (n : ℕ) → gathers i n → gathers h n ⊎ goes_over cursor n) → (last : List ℕ) (cursor moved : C) (c : Choosing) (w : TablesWritten) (source after : H) (next : ℕ) (at : Listed)
     → w ≡ record { closed = []; at_hand = None } → last ≡ []
     → Chooses cmp deep c [] [] → IsWriting cmp w (facts (store_of after)) next []
     → Moves facts_of lists cursor moved source after moved_on to_first → Stays facts_of keeps limited leaves goes_over cursor moved source after
@@ -160,6 +160,6 @@ starts cmp deep facts store_of with_store gathers facts_of lists keeps limited l
   outside = λ n read is. outside n (stays.within n read) (mine-next w next n none is);
 }
   where
-    mine-next : (w : Written) (next n : ℕ) → w ≡ record { closed = []; at_hand = None } → IsMine w next n → IsToCome next n
-    mine-next w next n none (inl at) = absurd (subst (λ (v : Written). IsNumberAtHand v n) none at)
+    mine-next : (w : TablesWritten) (next n : ℕ) → w ≡ record { closed = []; at_hand = None } → IsMine w next n → IsToCome next n
+    mine-next w next n none (inl at) = absurd (subst (λ (v : TablesWritten). IsNumberAtHand v n) none at)
     mine-next w next n none (inr le) = le

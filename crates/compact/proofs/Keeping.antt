@@ -8,8 +8,8 @@ use Rattle.std.proofs.lemmas.Bool.{cases_lt}
 use Rattle.ikey.specs.declared.entry.Entry.{Entry}
 use Rattle.ikey.specs.Views.{Among, Contents, IsNewest, IsUnseen, IsView}
 use Rattle.compact.specs.Lists.{IsPartWith}
-use Rattle.compact.specs.Needed.{IsVisible, IsNeeded, AreNeeded}
-use Rattle.compact.specs.Laws.{AreApart, SeesAsOne, KeepsViews, KeepsNeeded, LeavesPairs, ViewsAreOfSets}
+use Rattle.compact.specs.Needed.{IsSeenBySome, IsNeeded, AreNeeded}
+use Rattle.compact.specs.Laws.{AreNewerOrDeep, SeesAsOne, KeepsViews, KeepsNeeded, LeavesPairs, ViewsAreOfSets}
 use Rattle.compact.proofs.Parts.{Among-left, Among-right, Among-parts, part-members, part-has, part-all}
 
 -- ---- cases
@@ -119,15 +119,15 @@ newest_or_unseen (first ∷ entries) p key =
 
 -- ---- what isn't needed
 
-put-needed : (entries : List Entry) (sequences : List ℕ) (deep : List ℕ → Bool) (entry : Entry) → IsVisible entries sequences entry → IsSome entry.value → IsNeeded entries sequences deep entry
+put-needed : (entries : List Entry) (sequences : List ℕ) (deep : List ℕ → Bool) (entry : Entry) → IsSeenBySome entries sequences entry → IsSome entry.value → IsNeeded entries sequences deep entry
 put-needed entries sequences deep entry visible some = record { visible = visible; hides = λ none. absurd (not_both entry.value some none) }
 
-needless-delete : (entries : List Entry) (sequences : List ℕ) (deep : List ℕ → Bool) (entry : Entry) → IsVisible entries sequences entry → (IsNeeded entries sequences deep entry → ⊥) → entry.value ≡ None
+needless-delete : (entries : List Entry) (sequences : List ℕ) (deep : List ℕ → Bool) (entry : Entry) → IsSeenBySome entries sequences entry → (IsNeeded entries sequences deep entry → ⊥) → entry.value ≡ None
 needless-delete entries sequences deep entry visible needless =
     elim (none_or_some entry.value) [ inl none ↦ none | inr some ↦ absurd (needless (put-needed entries sequences deep entry visible some)) ]
 
 -- an older one of its key that is needed would make it needed
-needless-below : (entries : List Entry) (sequences : List ℕ) (deep : List ℕ → Bool) (entry older : Entry) → IsVisible entries sequences entry → (IsNeeded entries sequences deep entry → ⊥)
+needless-below : (entries : List Entry) (sequences : List ℕ) (deep : List ℕ → Bool) (entry older : Entry) → IsSeenBySome entries sequences entry → (IsNeeded entries sequences deep entry → ⊥)
     → IsNeeded entries sequences deep older → older.key ≡ entry.key → older.sequence < entry.sequence → ⊥
 needless-below entries sequences deep entry older visible needless needed same less =
     needless (record {
@@ -144,8 +144,8 @@ needless-below entries sequences deep entry older visible needless needed same l
 -- ---- views
 
 module _ (entries needed others : List Entry) (sequences : List ℕ) (deep : List ℕ → Bool) (p : ℕ)
-    (part : AreNeeded entries sequences deep needed) (apart : AreApart entries others deep) (sees : SeesAsOne entries sequences p) where
-  newest-visible : (m : Entry) → IsNewest entries p m → IsVisible entries sequences m
+    (part : AreNeeded entries sequences deep needed) (apart : AreNewerOrDeep entries others deep) (sees : SeesAsOne entries sequences p) where
+  newest-visible : (m : Entry) → IsNewest entries p m → IsSeenBySome entries sequences m
   newest-visible m newest = (
     sees.0,
     sees.1,
@@ -256,7 +256,7 @@ contains-one : (last q : ℕ) → Contains (last ∷ []) q → q ≡ last
 contains-one last q (zero, lt, e) = sym e
 contains-one last q (suc k, lt, e) = absurd (omega (arith, lt))
 
-one-newest : (entries : List Entry) (last : ℕ) (x : Entry) → IsVisible entries (last ∷ []) x → IsNewest entries last x
+one-newest : (entries : List Entry) (last : ℕ) (x : Entry) → IsSeenBySome entries (last ∷ []) x → IsNewest entries last x
 one-newest entries last x (q, has, newest) = subst (λ (n : ℕ). IsNewest entries n x) (contains-one last q has) newest
 
 pub leaves_pairs : LeavesPairs
@@ -279,7 +279,7 @@ leaves_pairs entries needed deep last map shallow distinct view part =
         | inr unseen ↦ absurd (let t : None ≡ Some v = sym (view.missing key unseen) ∙ is in cc)
         | inl found ↦
             let holds : found.0.value ≡ Some v = sym (view.found found.0 found.1) ∙ ap (get map) found.2 ∙ is in
-            let visible : IsVisible entries (last ∷ []) found.0 = (last, (0, omega arith, refl), found.1) in
+            let visible : IsSeenBySome entries (last ∷ []) found.0 = (last, (0, omega arith, refl), found.1) in
             let some : IsSome found.0.value = subst IsSome (sym holds) refl in
             (found.0, part-has N entries needed found.0 part found.1.member (put-needed entries (last ∷ []) deep found.0 visible some), found.2, holds)
       ];

@@ -4,7 +4,7 @@ use Rattle.cursor.specs.Moves.{Stays}
 use Rattle.store.specs.Files.{Facts}
 use Rattle.compact.specs.Leaving.{AreTurns, IsTurn, LeavesOthers}
 use Rattle.compact.specs.Merging.{KeepsMine}
-use Rattle.compact.specs.Outputs.{Written, IsMineUpTo, WritesTables}
+use Rattle.compact.specs.Outputs.{TablesWritten, IsMineUpTo, WritesTables}
 use Rattle.compact.proofs.Merges.{mine-then}
 use Rattle.compact.proofs.Writing.{mine-up, writes-more}
 
@@ -50,7 +50,7 @@ module _ {C H S : Type 0} (facts : S → Facts) (store_of : H → S) (with_store
   }
 
   pub leaves-on : ((fewer more : ℕ → Type 0) (s t : H) → ((n : ℕ) → fewer n → more n) → leaves fewer s t → leaves more s t)
-      → (o u : Written) (n m e : ℕ) (first second third : C) (a b d : H) → n ≤ m → m ≤ e → KeepsMine o n u m
+      → (o u : TablesWritten) (n m e : ℕ) (first second third : C) (a b d : H) → n ≤ m → m ≤ e → KeepsMine o n u m
       → LeavesOthers facts store_of with_store keeps leaves over (IsMineUpTo o n m) first second a b → LeavesOthers facts store_of with_store keeps leaves over (IsMineUpTo u m e) second third b d
       → LeavesOthers facts store_of with_store keeps leaves over (IsMineUpTo o n e) first third a d
   leaves-on more_left o u n m e first second third a b d le more keeps_mine h k = record {

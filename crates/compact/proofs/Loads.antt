@@ -20,7 +20,7 @@ use Rattle.compact.specs.Lists.{IsPartWith}
 use Rattle.compact.specs.Merging.{IsWellKept, kept_delete}
 use Rattle.compact.specs.Needed.{IsNeeded}
 use Rattle.compact.specs.Rooms.{room_of, load, AreTooMany, AreLarge}
-use Rattle.compact.specs.Outputs.{Filling, Written, HasWritten, IsAtHand}
+use Rattle.compact.specs.Outputs.{Filling, TablesWritten, HasWritten, IsAtHand}
 use Rattle.compact.proofs.Sizes.{load-append, long_block, long_ends}
 
 -- ---- entries
@@ -101,7 +101,7 @@ too-many-alone pairs pair h = (let all = load-append 56 pairs (pair ∷ []) in o
 -- ---- a block of the table at hand
 
 -- A block of a table of these pairs is too long only where they are too many.
-pub long-block : (cmp : List ℕ → List ℕ → Ordering) (w : Written) (t : Filling) (facts : Facts) (next : ℕ) (pairs : List Pair) (pair : Pair) → w.at_hand ≡ Some t → HasWritten cmp w facts next pairs
+pub long-block : (cmp : List ℕ → List ℕ → Ordering) (w : TablesWritten) (t : Filling) (facts : Facts) (next : ℕ) (pairs : List Pair) (pair : Pair) → w.at_hand ≡ Some t → HasWritten cmp w facts next pairs
     → NeedsLongBlock t.building pair → AreTooMany (pairs ++ pair ∷ []) []
 long-block cmp w t facts next pairs pair is h long =
     let at = subst (λ (o : Option Filling). IsAtHand cmp facts o h.rest) is h.rest_is in
@@ -114,7 +114,7 @@ long-block cmp w t facts next pairs pair is h long =
 pub long-new : (cmp : List ℕ → List ℕ → Ordering) (b : Building) (facts : Facts) (pair : Pair) → Builds cmp b facts [] → NeedsLongBlock b pair → AreTooMany (pair ∷ []) []
 long-new cmp b facts pair builds long = (let most = long_block cmp b facts [] builds pair long in omega (arith, most))
 
-pub long-ends : (cmp : List ℕ → List ℕ → Ordering) (w : Written) (t : Filling) (facts : Facts) (next : ℕ) (pairs : List Pair) → w.at_hand ≡ Some t → HasWritten cmp w facts next pairs
+pub long-ends : (cmp : List ℕ → List ℕ → Ordering) (w : TablesWritten) (t : Filling) (facts : Facts) (next : ℕ) (pairs : List Pair) → w.at_hand ≡ Some t → HasWritten cmp w facts next pairs
     → NeedsLongEnds t.building → AreTooMany pairs []
 long-ends cmp w t facts next pairs is h long =
     let at = subst (λ (o : Option Filling). IsAtHand cmp facts o h.rest) is h.rest_is in

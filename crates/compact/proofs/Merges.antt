@@ -25,25 +25,25 @@ use Rattle.compact.specs.Choosing.{Choosing, Chooses, Precedes, ComesBehind, del
 use Rattle.ikey.specs.Entries.{InternalEntry, Pair, IsPair, entry_of, kind_of, value_of}
 use Rattle.store.specs.Files.{Facts}
 use Rattle.table.specs.Table.{ArePairs}
-use Rattle.compact.specs.Outputs.{table_name, Filling, AreClosed, IsAtHand, Written, HasWritten, IsWriting, IsOpen, IsMine, IsMineUpTo, WritesTables}
+use Rattle.compact.specs.Outputs.{table_name, Filling, AreClosed, IsAtHand, TablesWritten, HasWritten, IsWriting, IsOpen, IsMine, IsMineUpTo, WritesTables}
 use Rattle.compact.specs.Merging.{IsWellKept, KeepsMine, kept_delete, IsUpTo, IsMerging}
 use Rattle.compact.proofs.Loads.{well-append}
 use Rattle.compact.proofs.Parts.{Among-push}
 use Rattle.compact.proofs.Writing.{mine-in, mine-up, writes-then}
 
-pub mine-then : (o u : Written) (n m e k : ℕ) → n ≤ m → m ≤ e → KeepsMine o n u m → IsMineUpTo u m e k → IsMineUpTo o n e k
+pub mine-then : (o u : TablesWritten) (n m e k : ℕ) → n ≤ m → m ≤ e → KeepsMine o n u m → IsMineUpTo u m e k → IsMineUpTo o n e k
 mine-then o u n m e k le more keeps (inl at) = mine-up o n m e k more (keeps k at)
 mine-then o u n m e k le more keeps (inr h) = inr (omega (arith, le, h.0), h.1)
 
-pub mine-on : (o u v : Written) (n m e : ℕ) → n ≤ m → m ≤ e → KeepsMine o n u m → KeepsMine u m v e → KeepsMine o n v e
+pub mine-on : (o u v : TablesWritten) (n m e : ℕ) → n ≤ m → m ≤ e → KeepsMine o n u m → KeepsMine u m v e → KeepsMine o n v e
 mine-on o u v n m e le more keeps last = λ k at. mine-then o u n m e k le more keeps (last k at)
 
 -- what is to be written was to be written before
-pub mine-before : (o u : Written) (n m k : ℕ) → n ≤ m → m < 2 ^ 64 → KeepsMine o n u m → IsMine u m k → IsMine o n k
+pub mine-before : (o u : TablesWritten) (n m k : ℕ) → n ≤ m → m < 2 ^ 64 → KeepsMine o n u m → IsMine u m k → IsMine o n k
 mine-before o u n m k le fits keeps (inl at) = mine-in o n m k fits (keeps k at)
 mine-before o u n m k le fits keeps (inr more) = inr (omega (arith, le, more.0), more.1)
 
-pub writes-on : (a b d : Facts) (o u : Written) (n m e : ℕ) → n ≤ m → m ≤ e → KeepsMine o n u m → WritesTables a b (IsMineUpTo o n m) → WritesTables b d (IsMineUpTo u m e) → WritesTables a d (IsMineUpTo o n e)
+pub writes-on : (a b d : Facts) (o u : TablesWritten) (n m e : ℕ) → n ≤ m → m ≤ e → KeepsMine o n u m → WritesTables a b (IsMineUpTo o n m) → WritesTables b d (IsMineUpTo u m e) → WritesTables a d (IsMineUpTo o n e)
 writes-on a b d o u n m e le more keeps w v = writes-then a b d (IsMineUpTo o n m) (IsMineUpTo u m e) (IsMineUpTo o n e) (λ k h. mine-up o n m e k more h) (λ k h. mine-then o u n m e k le more keeps h) w v
 
 pub pairs-push : (pairs : List Pair) (entries : List InternalEntry) (pair : Pair) (entry : InternalEntry) → ArePairs pairs entries → IsPair pair entry → ArePairs (pairs ++ pair ∷ []) (entries ++ entry ∷ [])
@@ -123,7 +123,7 @@ at-hand-same : (cmp : List ℕ → List ℕ → Ordering) (a b : Facts) → b.fi
 at-hand-same cmp a b same None pairs h = h
 at-hand-same cmp a b same (Some t) pairs h = (record { builds = builds-same cmp a b same t.building pairs h.0.builds; smallest = h.0.smallest; largest = h.0.largest }, h.1)
 
-pub written-same : (cmp : List ℕ → List ℕ → Ordering) (w : Written) (a b : Facts) (next : ℕ) (pairs : List Pair) → b.files ≡ a.files → HasWritten cmp w a next pairs → HasWritten cmp w b next pairs
+pub written-same : (cmp : List ℕ → List ℕ → Ordering) (w : TablesWritten) (a b : Facts) (next : ℕ) (pairs : List Pair) → b.files ≡ a.files → HasWritten cmp w a next pairs → HasWritten cmp w b next pairs
 written-same cmp w a b next pairs same h = record {
   tables = h.tables;
   rest = h.rest;
@@ -155,7 +155,7 @@ sorted-push order (y ∷ xs) x h behind = (
   sorted-push order xs x h.1 (λ entry m. behind entry (inr m)),
 )
 
-pub merge-step : (cmp : List ℕ → List ℕ → Ordering) (deep : List ℕ → Bool) (a b d : Facts) (last over : List ℕ) (c e : Choosing) (w u : Written) (next more : ℕ) (came : List InternalEntry) (entry : InternalEntry) (choice : Choice)
+pub merge-step : (cmp : List ℕ → List ℕ → Ordering) (deep : List ℕ → Bool) (a b d : Facts) (last over : List ℕ) (c e : Choosing) (w u : TablesWritten) (next more : ℕ) (came : List InternalEntry) (entry : InternalEntry) (choice : Choice)
     → IsKey over entry.key → d.files ≡ b.files
     → ((last_key : Key) (x : Entry) → IsKey last last_key → IsUpTo cmp x last_key → Precedes cmp x (entry_of entry))
     → ((xs ys : List Entry) → ComesBehind cmp xs (entry_of entry) → Chooses cmp deep c xs ys → Chooses cmp deep e (xs ++ entry_of entry ∷ []) (ys ++ written_for choice e.released (entry_of entry)))
@@ -192,7 +192,7 @@ merge-step cmp deep a b d last over c e w u next more came entry choice over_is 
 
 -- ---- before the first entry, and behind the last
 
-pub merging-none : (cmp : List ℕ → List ℕ → Ordering) (deep : List ℕ → Bool) (last : List ℕ) (c : Choosing) (w : Written) (facts : Facts) (next : ℕ)
+pub merging-none : (cmp : List ℕ → List ℕ → Ordering) (deep : List ℕ → Bool) (last : List ℕ) (c : Choosing) (w : TablesWritten) (facts : Facts) (next : ℕ)
     → last ≡ [] → Chooses cmp deep c [] [] → HasWritten cmp w facts next [] → IsMerging cmp deep last c w facts next []
 merging-none cmp deep last c w facts next empty chooses written = record {
   written = [];
@@ -206,7 +206,7 @@ merging-none cmp deep last c w facts next empty chooses written = record {
   sorted = λ name. tt;
 }
 
-pub merging-closed : (cmp : List ℕ → List ℕ → Ordering) (deep : List ℕ → Bool) (last : List ℕ) (c : Choosing) (w u : Written) (a b : Facts) (next : ℕ) (came : List InternalEntry)
+pub merging-closed : (cmp : List ℕ → List ℕ → Ordering) (deep : List ℕ → Bool) (last : List ℕ) (c : Choosing) (w u : TablesWritten) (a b : Facts) (next : ℕ) (came : List InternalEntry)
     → ((pairs : List Pair) → HasWritten cmp w a next pairs → HasWritten cmp u b next pairs) → IsMerging cmp deep last c w a next came → IsMerging cmp deep last c u b next came
 merging-closed cmp deep last c w u a b next came closes h = record {
   written = h.written;

@@ -6,12 +6,12 @@ use Rattle.std.specs.List.{AllByRecursion}
 use Rattle.std.specs.Option.{option_to_list}
 use Rattle.edits.specs.declared.field.TableFile.{TableFile}
 use Rattle.edits.specs.Edit.{IsTableProper}
-use Rattle.compact.specs.Outputs.{Filling, Written, IsNumber, NumbersRise, IsNext, AreNumbered, NumbersOn, IsSaidOf, table_name}
+use Rattle.compact.specs.Outputs.{Filling, TablesWritten, IsDrawnNumber, TableNumbersRise, IsNext, AreNumbered, NumbersOn, IsSaidOf, table_name}
 
-pub numbers-same : (w : Written) (next : ℕ) → NumbersOn w next w next
+pub numbers-same : (w : TablesWritten) (next : ℕ) → NumbersOn w next w next
 numbers-same w next = record { keeps = λ h. h; owns = λ n is. inl is }
 
-pub numbers-then : (w u v : Written) (a b e : ℕ) → a ≤ b → NumbersOn w a u b → NumbersOn u b v e → NumbersOn w a v e
+pub numbers-then : (w u v : TablesWritten) (a b e : ℕ) → a ≤ b → NumbersOn w a u b → NumbersOn u b v e → NumbersOn w a v e
 numbers-then w u v a b e le first second = record {
   keeps = λ h. second.keeps (first.keeps h);
   owns = λ n is. elim (second.owns n is) [
@@ -30,7 +30,7 @@ all-weaker : (P Q : TableFile → Type 0) → ((table : TableFile) → P table �
 all-weaker P Q f [] h = tt
 all-weaker P Q f (table ∷ cs) h = (f table h.0, all-weaker P Q f cs h.1)
 
-rise-push : (cs : List TableFile) (table : TableFile) → NumbersRise cs → AllByRecursion (λ (other : TableFile). other.number < table.number) cs → NumbersRise (cs ++ table ∷ [])
+rise-push : (cs : List TableFile) (table : TableFile) → TableNumbersRise cs → AllByRecursion (λ (other : TableFile). other.number < table.number) cs → TableNumbersRise (cs ++ table ∷ [])
 rise-push [] table h above = (tt, tt)
 rise-push (first ∷ cs) table h above = (all-push (λ (other : TableFile). first.number < other.number) cs table h.0 above.0, rise-push cs table h.1 above.1)
 
@@ -73,7 +73,7 @@ numbers-closed cs t (Some table) next said = record {
 
 -- ---- a table is begun
 
-pub numbers-begun : (w : Written) (u : Filling) (next : ℕ) (key : List ℕ) → w.at_hand ≡ None → 0 < next → u.number ≡ next → u.building.name ≡ table_name u.number → u.smallest ≡ key → u.largest ≡ key → length key < 2 ^ 32
+pub numbers-begun : (w : TablesWritten) (u : Filling) (next : ℕ) (key : List ℕ) → w.at_hand ≡ None → 0 < next → u.number ≡ next → u.building.name ≡ table_name u.number → u.smallest ≡ key → u.largest ≡ key → length key < 2 ^ 32
     → NumbersOn w next (record { closed = w.closed; at_hand = Some u }) (next + 1)
 numbers-begun w u next key none some number named smallest largest short = record {
   keeps = λ h. record {
@@ -104,7 +104,7 @@ numbers-added cs t u next key number named smallest largest short = record {
     rise = h.rise;
     below = h.below;
     at_hand = record {
-      number = subst (IsNumber next) (sym number) h.at_hand.number;
+      number = subst (IsDrawnNumber next) (sym number) h.at_hand.number;
       named = named;
       above = subst (λ (n : ℕ). AllByRecursion (λ (other : TableFile). other.number < n) cs) (sym number) h.at_hand.above;
       smallest = subst (λ (k : List ℕ). length k < 2 ^ 32) (sym smallest) h.at_hand.smallest;
@@ -123,7 +123,7 @@ next-later : (closed : List TableFile) (next more : ℕ) (o : Option Filling) �
 next-later closed next more None le h = tt
 next-later closed next more (Some t) le h = record { number = (h.number.0, omega (arith, h.number.1, le)); named = h.named; above = h.above; smallest = h.smallest; largest = h.largest }
 
-pub numbered-later : (w : Written) (next more : ℕ) → next ≤ more → AreNumbered w next → AreNumbered w more
+pub numbered-later : (w : TablesWritten) (next more : ℕ) → next ≤ more → AreNumbered w next → AreNumbered w more
 numbered-later w next more le h = record {
   proper = h.proper;
   rise = h.rise;

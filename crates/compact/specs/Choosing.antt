@@ -7,7 +7,7 @@ use Rattle.compact.specs.declared.selection.Choice.{Choice}
 use Rattle.compact.specs.declared.selection.Choice.TheVariants.{Leave, Write}
 use Rattle.ikey.specs.Views.{Among}
 use Rattle.compact.specs.Lists.{IsPartWith}
-use Rattle.compact.specs.Needed.{IsVisible, IsNeeded, AreNeeded}
+use Rattle.compact.specs.Needed.{IsSeenBySome, IsNeeded, AreNeeded}
 
 -- ---- the order in which entries come
 
@@ -53,8 +53,8 @@ pub record IsChosen (deep : List ℕ → Bool) (c : Choosing) (came chosen : Lis
   pub others : List Entry
   pub parts : came ≡ settled ++ others
   pub settled_chosen : IsPartWith (IsNeeded came c.snapshots deep) settled chosen
-  pub settled_needed : (entry : Entry) → Among settled entry → entry.key ≡ c.key → IsVisible came c.snapshots entry → IsNeeded came c.snapshots deep entry
-  pub others_waiting : IsPartWith (IsVisible came c.snapshots) others (map (delete_of c.key) c.waiting)
+  pub settled_needed : (entry : Entry) → Among settled entry → entry.key ≡ c.key → IsSeenBySome came c.snapshots entry → IsNeeded came c.snapshots deep entry
+  pub others_waiting : IsPartWith (IsSeenBySome came c.snapshots) others (map (delete_of c.key) c.waiting)
   pub others_open : (entry : Entry) → Among others entry → IsNeeded came c.snapshots deep entry → ⊥
 
 -- And they came in order: the key at hand is that of the last.

@@ -6,8 +6,8 @@ use Rattle.compact.specs.Needed.{AreNeeded}
 use Rattle.ikey.specs.Views.{Among, Contents, IsView}
 
 -- Of a key of these entries the others are newer, or the key is one that files below the output level cover.
-abbrev pub AreApart : List Entry → List Entry → (List ℕ → Bool) → Type 0
-AreApart entries others deep =
+abbrev pub AreNewerOrDeep : List Entry → List Entry → (List ℕ → Bool) → Type 0
+AreNewerOrDeep entries others deep =
     (entry other : Entry) → Among entries entry → Among others other → other.key ≡ entry.key → (entry.sequence < other.sequence) ⊎ IsTrue (deep entry.key)
 
 -- Of these entries a reader at this sequence sees what one of the sequences sees: it is one of them, or above the last of
@@ -20,7 +20,7 @@ SeesAsOne entries sequences p =
 abbrev pub KeepsViews : Type 0
 KeepsViews =
     (entries needed others : List Entry) (sequences : List ℕ) (deep : List ℕ → Bool) (p : ℕ) (map : Contents)
-    → AreNeeded entries sequences deep needed → AreApart entries others deep → SeesAsOne entries sequences p
+    → AreNeeded entries sequences deep needed → AreNewerOrDeep entries others deep → SeesAsOne entries sequences p
     → IsView (entries ++ others) p map → IsView (needed ++ others) p map
 
 -- All that is needed is needed once more.

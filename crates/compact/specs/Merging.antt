@@ -23,7 +23,7 @@ use Rattle.store.specs.Files.{Facts}
 use Rattle.table.specs.Table.{ArePairs}
 use Rattle.ikey.specs.Views.{Among}
 use Rattle.compact.specs.Choosing.{Choosing, Chooses}
-use Rattle.compact.specs.Outputs.{Written, HasWritten, IsOpen, IsNumberAtHand, IsMine, IsMineUpTo, WritesTables}
+use Rattle.compact.specs.Outputs.{TablesWritten, HasWritten, IsOpen, IsNumberAtHand, IsMine, IsMineUpTo, WritesTables}
 
 -- ---- what came
 
@@ -41,7 +41,7 @@ IsWellKept entry = entry.value ≡ value_kept (value_of entry.key.kind entry.val
 
 -- These entries of the inputs came, and of them those were written that are needed. The last has this key, and none comes
 -- behind it. Each came before all that came later, whatever the name of the order is.
-pub record IsMerging (cmp : Cmp) (deep : List ℕ → Bool) (last : List ℕ) (c : Choosing) (w : Written) (facts : Facts) (next : ℕ) (came : List InternalEntry) : Type 0 where
+pub record IsMerging (cmp : Cmp) (deep : List ℕ → Bool) (last : List ℕ) (c : Choosing) (w : TablesWritten) (facts : Facts) (next : ℕ) (came : List InternalEntry) : Type 0 where
   pub written : List Pair
   pub kept : List InternalEntry
   pub written_are : ArePairs written kept
@@ -78,7 +78,7 @@ ReadsApart {C} {H} {S} facts store_of with_store gathers keeps cursor mine =
 -- These entries came to the job, and those are left: what is needed of the former is written, and what is to be written
 -- is nothing that is read, or that is kept of a table beside the store.
 pub record IsJob {C H S : Type 0} (cmp : Cmp) (deep : List ℕ → Bool) (facts : S → Facts) (store_of : H → S) (with_store : H → S → H) (gathers : H → ℕ → Type 0) (lists : C → H → Listed → Type 0) (keeps : C → H → H → Type 0) (over : C → ℕ → Type 0)
-    (last : List ℕ) (cursor : C) (c : Choosing) (w : Written) (source : H) (next : ℕ) (came rest : List InternalEntry) : Type 0 where
+    (last : List ℕ) (cursor : C) (c : Choosing) (w : TablesWritten) (source : H) (next : ℕ) (came rest : List InternalEntry) : Type 0 where
   pub merging : IsMerging cmp deep last c w (facts (store_of source)) next came
   pub goes_on : IsOpen w
   pub left : HasPassed lists cursor source came rest
@@ -93,7 +93,7 @@ IsBetween cmp deep of_store of_source of_cursor job source next came rest =
     job.last.items job.cursor job.selection job.outputs source next came rest
 
 -- the table at hand was so before, or has a number that was drawn since
-abbrev pub KeepsMine : Written → ℕ → Written → ℕ → Type 0
+abbrev pub KeepsMine : TablesWritten → ℕ → TablesWritten → ℕ → Type 0
 KeepsMine old next new more = (number : ℕ) → IsNumberAtHand new number → IsMineUpTo old next more number
 
 -- A step with this budget has taken the front of what was left: as many entries as the budget has, one for 0, or all.

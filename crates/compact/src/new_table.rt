@@ -7,7 +7,7 @@ ghost use Rattle.ikey.specs.Entries.{Pair};
 ghost use Rattle.table.specs.Building.{Builds, last_added};
 ghost use Rattle.table.specs.Reading.{HasFile};
 ghost use Rattle.table.specs.Writing.{Writes, IsTableOf, NeedsLongEnds};
-ghost use Rattle.compact.specs.Outputs.{table_name, RefusesEntry};
+ghost use Rattle.compact.specs.Outputs.{table_name, IsSynced, RefusesEntry};
 
 use coding::{Bytes, Damage, DbError, FileKind};
 use cursor::copy_to;
@@ -50,7 +50,7 @@ impl<K: KeyOrder> NewTable<K> {
     ghost use Rattle.store.specs.Files.{Facts};
     ghost use Rattle.table.specs.Building.{MayFollow, Builds, data_size};
     ghost use Rattle.table.specs.Writing.{Writes, NeedsLongBlock, NeedsLongEnds};
-    ghost use Rattle.compact.specs.Outputs.{table_name, IsFilling, IsSaidOf, Closes, RefusesEntry};
+    ghost use Rattle.compact.specs.Outputs.{table_name, IsFilling, IsSaidOf, IsSynced, ClosesTable, RefusesEntry};
 
     /// A table of this number without entries, of which nothing is written yet. The first entry is to have the smallest
     /// key.
@@ -129,8 +129,9 @@ impl<K: KeyOrder> NewTable<K> {
         ensures writes { Writes (S.facts store.old) (S.facts store.new) (table_name self.number) }
         ensures closed { IfOk result (λ closed. (pairs : List Pair) → IsTrue (S.facts store.new).faithful
             → IsFilling K.cmp self (S.facts store.old) pairs
-            → Closes K.cmp (S.facts store.new) self.number pairs closed) }
+            → ClosesTable K.cmp (S.facts store.new) self.number pairs closed) }
         ensures said { IfOk result (λ closed. IfSome closed (IsSaidOf self)) }
+        ensures synced { IfOk result (λ closed. IfSome closed (λ table. IsSynced (S.facts store.new) table.number)) }
         ensures stood { OnOk result ((S.facts store.new).failures ≡ (S.facts store.old).failures) }
         ensures refused { IfErr result (λ e. RefusesEntry e (S.facts store.old) (S.facts store.new)
             ⊥ (NeedsLongEnds self.building) ⊥) }
@@ -168,6 +169,7 @@ fn finish_file<K: KeyOrder, S: Store>(
     ensures written { IfOk result (λ size. (pairs : List Pair) → IsTrue (S.facts store.new).faithful
         → Builds K.cmp builder (S.facts store.old) pairs
         → (file : List ℕ) × HasFile (S.facts store.new) (table_name number) file × (size ≡ length file) × IsTableOf K.cmp file pairs) }
+    ensures synced { OnOk result (IsSynced (S.facts store.new) number) }
     ensures stood { OnOk result ((S.facts store.new).failures ≡ (S.facts store.old).failures) }
     ensures refused { IfErr result (λ e. RefusesEntry e (S.facts store.old) (S.facts store.new)
         ⊥ (NeedsLongEnds builder) ⊥) }

@@ -6,7 +6,7 @@ use Rattle.edits.specs.Edit.{IsTableProper}
 use Rattle.store.specs.Files.{Facts}
 use Rattle.std.proofs.lemmas.Result.{err_from_is_err_and}
 use Rattle.ikey.specs.Entries.{InternalEntry, Pair, entry_of}
-use Rattle.compact.specs.Outputs.{HasWritten, Written, NumbersRise}
+use Rattle.compact.specs.Outputs.{HasWritten, TablesWritten, TableNumbersRise}
 use Rattle.compact.specs.Rooms.{AreLarge, AreTooMany}
 use Rattle.compact.proofs.Loads.{large-merged}
 use Rattle.compact.proofs.Writing.{refuses-as}
@@ -24,7 +24,7 @@ returns-clause-finished g c = λ deep came t h.
     λ i. record { closed = sym c.into_closed.ensures i; at_hand = c.in_ok-close.ensures.none i } in (
       c.into_closed.result.items,
       c.in_ok-edit.ensures,
-      subst (λ (w : Written). IsMerging cmp deep c.args.self.last.items c.args.self.selection w b c.args.numbers.now.next came) new_is
+      subst (λ (w : TablesWritten). IsMerging cmp deep c.args.self.last.items c.args.self.selection w b c.args.numbers.now.next came) new_is
           (merging-closed cmp deep c.args.self.last.items c.args.self.selection c.args.self.outputs c.close.new.self a b c.args.numbers.now.next came
           (λ pairs written. c.in_ok-close.ensures.closed c.args.numbers.now.next pairs c.args.numbers.now.in_range.1 t written) h),
     )
@@ -44,7 +44,7 @@ returns-clause-order g c = λ planned numbered.
     let next : ℕ = c.args.numbers.now.next in
     let rise = ((c.in_ok-close.ensures.numbered next).keeps numbered).rise in
     in_order c.args.self.plan c.into_closed.result.items next c.args.last_sequence c.in_ok-edit.edit c.in_ok-edit.ensures planned
-    (subst NumbersRise (sym c.into_closed.ensures) rise)
+    (subst TableNumbersRise (sym c.into_closed.ensures) rise)
 
 pub returns-clause-own : goal.returns-clause-own
 returns-clause-own g c =
