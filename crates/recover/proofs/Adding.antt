@@ -22,8 +22,8 @@ use Rattle.ikey.specs.Views.{Among}
 use Rattle.recover.specs.Tables.{table_at, TableContent, HasTables, InTables, tabled}
 use Rattle.recover.specs.Logs.{Batch, LogContent, AreBatches, HasLog, HasLogs, IsLive, AreLive, InLogs, NumbersRise, batch_entries, logged}
 use Rattle.recover.specs.Directory.{Directory, IsConsistent, EndsAt, IsAppendable, IsDirectory, entries_in, used_in}
-use Rattle.recover.specs.Laws.{AppendLaw, FailedAppendLaw}
-use Rattle.recover.specs.Changes.{IsExtended, ExtendLaw, FailedExtendLaw}
+use Rattle.recover.specs.internal.Laws.{AppendLaw, FailedAppendLaw}
+use Rattle.recover.specs.internal.Changes.{IsExtended, ExtendLaw, FailedExtendLaw}
 use Rattle.recover.proofs.NamedFiles.{get_other, get_same}
 use Rattle.recover.proofs.Keeping.{keep_tables, keep_logs}
 

@@ -13,12 +13,12 @@ use Rattle.recover.specs.declared.listing.Listing.{Listing}
 use Rattle.recover.specs.declared.reading.Recovered.{Recovered}
 use Rattle.recover.specs.declared.report.Summary.{Summary}
 use Rattle.recover.specs.declared.report.TableSummary.{TableSummary}
-use Rattle.recover.specs.Checks.{Never, IsOlder, AreGood, AreOnly}
+use Rattle.recover.specs.internal.Checks.{Never, IsOlder, AreGood, AreOnly}
 use Rattle.recover.specs.Directory.{Directory, IsConsistent, IsEmpty, used_in}
 use Rattle.ikey.specs.Views.{Among}
 use Rattle.recover.specs.Logs.{LogContent}
-use Rattle.recover.specs.Parts.{IsUnchanged, RefusesBytes}
-use Rattle.recover.specs.Reading.{Reads, IsListing, Recovers, RefusesDirectory, IsInconsistent, IsBeyondReading}
+use Rattle.recover.specs.internal.Parts.{IsUnchanged, RefusesBytes}
+use Rattle.recover.specs.Reading.{ReadsDirectory, IsListing, Recovers, RefusesDirectory, IsInconsistent, IsBeyondReading}
 use Rattle.recover.specs.Limits.{PassesLimit}
 use Rattle.recover.specs.Report.{IsSummary, IsLongTable, AnyHasBytes, table_summary, log_summary}
 use Rattle.recover.specs.Tables.{TableContent, HasTables, InTables, AreTables}
@@ -139,10 +139,10 @@ IsRefused order files = (IsEmpty files → ⊥) × PassesLimit order files
 pub current_there : (files : Files) (listing : Listing) → IsListing files listing → listing.has_current ≡ true → IsEmpty files → ⊥
 current_there files listing l there e = let t : is_some {T = List ℕ} None ≡ true = ap is_some (sym e.current) ∙ sym l.current ∙ there in cc
 
-pub unchanged_of : {T : Type 0} (a b : Facts) (result : Result T DbError) → Reads a b result → IsUnchanged a b
+pub unchanged_of : {T : Type 0} (a b : Facts) (result : Result T DbError) → ReadsDirectory a b result → IsUnchanged a b
 unchanged_of a b result h = record { faithful = h.faithful; failures = h.failures; denials = h.denials; locked = h.locked; same = h.same; synced = h.synced }
 
-pub not_listed : {T : Type 0} (order : Order) (e : DbError) (a b : Facts) (result : Result T DbError) → Reads a b result → result ≡ Err e → (e ≡ OutOfMemory) ⊎ (e ≡ Io) → RefusesDirectory e a b (IsDamagedAll order a.files) (IsRefused order a.files)
+pub not_listed : {T : Type 0} (order : Order) (e : DbError) (a b : Facts) (result : Result T DbError) → ReadsDirectory a b result → result ≡ Err e → (e ≡ OutOfMemory) ⊎ (e ≡ Io) → RefusesDirectory e a b (IsDamagedAll order a.files) (IsRefused order a.files)
 not_listed order e a b result h is (inl memory) = subst (λ (x : DbError). RefusesDirectory x a b (IsDamagedAll order a.files) (IsRefused order a.files)) (sym memory) tt
 not_listed order e a b result h is (inr io) =
     subst (λ (x : DbError). RefusesDirectory x a b (IsDamagedAll order a.files) (IsRefused order a.files)) (sym io) (h.io (is ∙ ap (λ (x : DbError). Err x) io))

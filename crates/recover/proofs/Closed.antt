@@ -18,7 +18,8 @@ use Rattle.ikey.specs.Views.{Among}
 use Rattle.ikey.specs.Sources.{ComesBefore}
 use Rattle.recover.specs.Tables.{TableContent, HasTable, InTables, tabled, internal_key, AreNewer, AreTables}
 use Rattle.recover.specs.Directory.{Directory, IsConsistent}
-use Rattle.recover.specs.Changes.{AreParted, LiesBelow, LiesAbove, HasLowerKeys, IsClosed, ClosedLaw}
+use Rattle.recover.specs.Replacing.{AreParted, LiesBelow, LiesAbove}
+use Rattle.recover.specs.internal.Changes.{HasLowerKeys, AreClosedInputs, ClosedLaw}
 use Rattle.recover.proofs.Memberships.{from_tabled, one_of_tables, from_chosen, from_rest}
 use Rattle.recover.proofs.Flushing.{kept_by}
 
@@ -87,7 +88,7 @@ newer_apart order files a b o h g (inr low) e f i j key = absurd (no_same order 
 -- ---- all of it
 
 module _ (order : Order) (files : Files) (d : Directory) (inputs rest : List TableContent) (level : ℕ) (o : IsTotalOrder order.cmp)
-    (h : IsConsistent order files d) (p : AreParted d.tables inputs rest) (c : IsClosed order inputs rest level) where
+    (h : IsConsistent order files d) (p : AreParted d.tables inputs rest) (c : AreClosedInputs order inputs rest level) where
   stays_there : (t : TableContent) → InTables rest t → InTables d.tables t
   stays_there t i = from_rest d.tables inputs rest t p i
 

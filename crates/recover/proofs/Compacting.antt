@@ -10,7 +10,8 @@ use Rattle.ikey.specs.Sources.{ComesBefore, AreSorted, SameEntries}
 use Rattle.recover.specs.Tables.{TableContent, HasTable, HasTables, InTables, tabled, LieApart, AreNewer, AreTwoTables, AreTables}
 use Rattle.recover.specs.Logs.{IsLive, logged}
 use Rattle.recover.specs.Directory.{HasManifest, Directory, IsConsistent}
-use Rattle.recover.specs.Changes.{AgreeBeside, AreParted, IsCompaction, compacted, CompactionLaw}
+use Rattle.recover.specs.internal.Changes.{AgreeBeside, IsCompaction, compacted, CompactionLaw}
+use Rattle.recover.specs.Replacing.{AreParted}
 use Rattle.recover.proofs.Keeping.{keep_tables, keep_logs, live_of, same_live, all_live}
 use Rattle.recover.proofs.Adding.{among_split}
 use Rattle.recover.proofs.Memberships.{among_front, among_back, from_tabled, to_tabled, each_table, one_of_tables, in_part, from_rest, among_contents, among_chosen, among_rest}

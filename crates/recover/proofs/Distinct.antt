@@ -12,7 +12,8 @@ use Rattle.recover.specs.Entries.{RiseAbove}
 use Rattle.ikey.specs.Sources.{ComesBefore, AreSorted}
 use Rattle.recover.specs.Tables.{TableContent, HasTables, tabled, AreTwoTables, AreTables}
 use Rattle.recover.specs.Logs.{logged}
-use Rattle.recover.specs.Changes.{AreDistinct, DistinctLaw}
+use Rattle.recover.specs.Replacing.{AreDistinct}
+use Rattle.recover.specs.internal.Changes.{DistinctLaw}
 use Rattle.recover.proofs.Adding.{above, among_split}
 use Rattle.recover.proofs.Memberships.{from_tabled}
 use Rattle.recover.proofs.Flushing.{kept_by}

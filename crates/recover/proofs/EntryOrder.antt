@@ -11,7 +11,7 @@ use Rattle.ikey.specs.Orders.{Order}
 use Rattle.ikey.specs.declared.entry.Entry.{Entry}
 use Rattle.ikey.specs.Views.{Among}
 use Rattle.ikey.specs.Sources.{ComesBefore, AreSorted}
-use Rattle.recover.specs.Checks.{IsNewerThan, StartsBefore}
+use Rattle.recover.specs.internal.Checks.{IsNewerThanAll, StartsBefore}
 use Rattle.recover.proofs.Closed.{below_by, above_by, no_same}
 use Rattle.recover.proofs.KeyRanges.{parts_of}
 
@@ -88,7 +88,7 @@ from_drop [] (suc at) f i = absurd i
 from_drop (x ∷ others) (suc at) f i = inr (from_drop others at f i)
 
 pub newer_none : (order : Order) → IsTotalOrder order.cmp → (entry : Entry) (others : List Entry) (at : ℕ) → AreSorted order others → at ≤ length others
-    → ((i : ℕ) (d : Entry) → at ≡ i + 1 → order.cmp (get_or others i d).key entry.key ≡ Less) → length others ≤ at → IsNewerThan entry others
+    → ((i : ℕ) (d : Entry) → at ≡ i + 1 → order.cmp (get_or others i d).key entry.key ≡ Less) → length others ≤ at → IsNewerThanAll entry others
 newer_none order o entry others at h le low end f i key =
     elim (split_at others at f i) [
       | inl j ↦ absurd (no_same order f entry o (front_lower order o entry.key others at h le low f j) (sym key))
@@ -113,14 +113,14 @@ module _ (order : Order) (o : IsTotalOrder order.cmp) (entry : Entry) (others : 
       let P : List Entry → Type 0 = λ es. Among es other in
       from_drop others at other (subst P (sym parts) (inl refl))
 
-  pub newer_less : order.cmp entry.key other.key ≡ Less → IsNewerThan entry others
+  pub newer_less : order.cmp entry.key other.key ≡ Less → IsNewerThanAll entry others
   newer_less less f i key =
       elim (split_at others at f i) [
         | inl j ↦ absurd (no_same order f entry o (front_lower order o entry.key others at h le low f j) (sym key))
         | inr j ↦ absurd (no_same order entry f o (above_by order f other entry.key (at_place order others at other f h lt is j) o less) key)
       ]
 
-  pub newer_equal : IsAntisymmetric order.cmp → order.cmp entry.key other.key ≡ Equal → other.sequence < entry.sequence → IsNewerThan entry others
+  pub newer_equal : IsAntisymmetric order.cmp → order.cmp entry.key other.key ≡ Equal → other.sequence < entry.sequence → IsNewerThanAll entry others
   newer_equal exact equal newer f i key =
       let same : entry.key ≡ other.key = exact entry.key other.key equal in
       elim (split_at others at f i) [
@@ -132,7 +132,7 @@ module _ (order : Order) (o : IsTotalOrder order.cmp) (entry : Entry) (others : 
         ]
       ]
 
-  pub older_equal : IsAntisymmetric order.cmp → order.cmp entry.key other.key ≡ Equal → entry.sequence ≤ other.sequence → IsNewerThan entry others → ⊥
+  pub older_equal : IsAntisymmetric order.cmp → order.cmp entry.key other.key ≡ Equal → entry.sequence ≤ other.sequence → IsNewerThanAll entry others → ⊥
   older_equal exact equal older newer =
       let above : other.sequence < entry.sequence = newer other there (exact entry.key other.key equal) in
       omega (arith, older, above)
@@ -146,9 +146,9 @@ module _ (order : Order) (o : IsTotalOrder order.cmp) (entry : Entry) (others : 
 -- by the test
 pub newer_by_test : (order : Order) → IsTotalOrder order.cmp → IsAntisymmetric order.cmp → (entry : Entry) (others : List Entry) (at : ℕ) (other : Entry) → AreSorted order others → at ≤ length others
     → ((i : ℕ) (d : Entry) → at ≡ i + 1 → order.cmp (get_or others i d).key entry.key ≡ Less) → at < length others → other ≡ get_or others at other → order.cmp entry.key other.key ≡ Equal
-    → MatchBool (nat_lt other.sequence entry.sequence) (IsNewerThan entry others) (IsNewerThan entry others → ⊥)
+    → MatchBool (nat_lt other.sequence entry.sequence) (IsNewerThanAll entry others) (IsNewerThanAll entry others → ⊥)
 newer_by_test order o exact entry others at other h le low lt is equal = by (nat_lt other.sequence entry.sequence) refl
   where
-    by : (b : Bool) → nat_lt other.sequence entry.sequence ≡ b → MatchBool b (IsNewerThan entry others) (IsNewerThan entry others → ⊥)
+    by : (b : Bool) → nat_lt other.sequence entry.sequence ≡ b → MatchBool b (IsNewerThanAll entry others) (IsNewerThanAll entry others → ⊥)
     by true e = newer_equal order o entry others at other h le low lt is exact equal (grind (arith, nat_tests))
     by false e = older_equal order o entry others at other h le low lt is exact equal (grind (arith, nat_tests))

@@ -19,7 +19,7 @@ use Rattle.ikey.specs.Views.{Among}
 use Rattle.recover.specs.Tables.{TableContent, HasTable, HasTables, InTables, tabled, AreNewer, AreTwoTables, AreTables}
 use Rattle.recover.specs.Logs.{LogContent, HasLogs, IsLive, InLogs, NumbersRise, logged}
 use Rattle.recover.specs.Directory.{AreEdits, HasManifest, Directory, IsConsistent, entries_in, used_in}
-use Rattle.recover.specs.Changes.{AgreeBeside, with_content, IsFlush, flushed, FlushLaw}
+use Rattle.recover.specs.internal.Changes.{AgreeBeside, with_content, IsFlush, flushed, FlushLaw}
 use Rattle.recover.proofs.Keeping.{keep_tables, keep_logs, live_of}
 use Rattle.recover.proofs.Adding.{among_split, above, below_last, above_low, logged-append, greatest-append, logs_back}
 use Rattle.recover.proofs.Memberships.{among_front, among_back, up_to_greatest, from_tabled, to_tabled, each_table, one_of_tables, in_with, new_in_with, old_in_with, placed_with}

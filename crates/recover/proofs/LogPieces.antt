@@ -11,7 +11,7 @@ use Rattle.coding.specs.declared.error.ReadError.{ReadError}
 use Rattle.store.specs.Files.{Facts, Files}
 use Rattle.logfile.specs.Log.{Fragment, AreBlocks, IsLog}
 use Rattle.logfile.specs.declared.record.Tail.{Tail}
-use Rattle.recover.specs.Parts.{IsUnchanged, RefusesBytes, HoldsNoLog, in_file}
+use Rattle.recover.specs.internal.Parts.{IsUnchanged, RefusesBytes, HoldsNoLog, in_file}
 use Rattle.recover.specs.Reading.{RefusesDirectory}
 use Rattle.recover.proofs.Refused.{refuses_only, refuses_bytes, refuses_later}
 

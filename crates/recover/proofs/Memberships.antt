@@ -8,7 +8,8 @@ use Rattle.ikey.specs.declared.entry.Entry.{Entry}
 use Rattle.recover.specs.Entries.{greatest}
 use Rattle.ikey.specs.Views.{Among}
 use Rattle.recover.specs.Tables.{TableContent, HasTable, HasTables, InTables, tabled}
-use Rattle.recover.specs.Changes.{with_content, AreParted}
+use Rattle.recover.specs.internal.Changes.{with_content}
+use Rattle.recover.specs.Replacing.{AreParted}
 use Rattle.recover.proofs.Adding.{among_split}
 
 -- ---- entries

@@ -11,7 +11,7 @@ use Rattle.table.specs.Frame.{IsFrame, Opened}
 use Rattle.table.specs.Reading.{Reads, Finds, Refuses}
 use Rattle.table.specs.Refusals.{IsUnsupported, IsOfOne, IsFrameUnsupported}
 use Rattle.recover.specs.Limits.{IsUnsupportedTable, IsUnsupportedFile, AnyIsUnsupported, TellsUnsupported, IsBeyondChecking}
-use Rattle.recover.specs.Parts.{IsUnchanged, RefusesBytes}
+use Rattle.recover.specs.internal.Parts.{IsUnchanged, RefusesBytes}
 use Rattle.recover.specs.Ranges.{IsTableName}
 use Rattle.recover.specs.Reading.{RefusesDirectory, IsBeyondReading, Recovers}
 use Rattle.recover.specs.declared.reading.Recovered.{Recovered}

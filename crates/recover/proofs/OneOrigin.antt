@@ -9,13 +9,13 @@ use Rattle.edits.specs.declared.layout.Layout.{Layout}
 use Rattle.recover.specs.declared.manifest.Manifest.{Manifest}
 use Rattle.recover.specs.declared.origins.Origin.{Origin}
 use Rattle.recover.specs.declared.origins.Origin.TheVariants.{Table, Log}
-use Rattle.recover.specs.Checks.{Never, IsOnly, content_of}
+use Rattle.recover.specs.internal.Checks.{Never, IsOnly, content_of}
 use Rattle.recover.specs.Directory.{Directory, IsConsistent}
 use Rattle.recover.specs.Entries.{RiseAbove, greatest}
 use Rattle.recover.specs.Limits.{TellsUnsupported}
 use Rattle.recover.specs.Logs.{LogContent, HasLog, HasLogs, InLogs, IsLive, batch_entries, logged}
-use Rattle.recover.specs.Origins.{HasEntries, HasNoEntries, PassesLimitAt, IsPlacedAt, IsRead, IsUnreadable, IsUnsupportedAt, IsBeyondOrigin}
-use Rattle.recover.specs.Parts.{IsUnchanged, HasNoManifest, SaysManifest}
+use Rattle.recover.specs.Origins.{HasEntries, HasNoEntries, PassesLimitAt, IsPlacedAt, IsOriginRead, IsUnreadable, IsUnsupportedAt, IsBeyondOrigin}
+use Rattle.recover.specs.internal.Parts.{IsUnchanged, HasNoManifest, SaysManifest}
 use Rattle.recover.specs.Reading.{RefusesDirectory, IsBeyondReading}
 use Rattle.recover.specs.Report.{IsLongTable, HasBytes, AnyHasBytes}
 use Rattle.recover.specs.Tables.{TableContent, HasTable, HasTables, InTables}
@@ -87,7 +87,7 @@ rise_in low (c ∷ logs) log h i =
 
 -- ---- what was read is what the directory has
 
-pub read_of : (order : Order) (files : Files) (manifest : Manifest) (origin : Origin) (entries : List Entry) → SaysManifest order files manifest → IsRead order files manifest.layout origin entries
+pub read_of : (order : Order) (files : Files) (manifest : Manifest) (origin : Origin) (entries : List Entry) → SaysManifest order files manifest → IsOriginRead order files manifest.layout origin entries
     → (d : Directory) → IsConsistent order files d → HasEntries d origin entries
 read_of order files manifest (Table level number) entries says r d h =
     let s = (same_manifest order files d.manifest says.0 d.edits says.1 d.layout manifest.layout h.manifest says.2).2 in

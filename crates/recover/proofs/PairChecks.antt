@@ -9,10 +9,10 @@ use Rattle.ikey.specs.Entries.{internal_key_of}
 use Rattle.ikey.specs.declared.entry.Entry.{Entry}
 use Rattle.store.specs.Files.{Files}
 use Rattle.edits.specs.declared.field.PlacedTable.{PlacedTable}
-use Rattle.recover.specs.Changes.{HasLowerKeys}
-use Rattle.recover.specs.Checks.{AreNewerThan, NeedsNewer, content_of, MayFollow, DoesFollow}
+use Rattle.recover.specs.internal.Changes.{HasLowerKeys}
+use Rattle.recover.specs.internal.Checks.{AreNewerThan, NeedsNewer, content_of, MayStandBehind, DoesFollow}
 use Rattle.ikey.specs.Views.{Among}
-use Rattle.recover.specs.Ranges.{IsKeyBefore, IsBefore, DoNotOverlap}
+use Rattle.recover.specs.Ranges.{IsKeyBefore, IsBeforeInternal, RangesDoNotOverlap}
 use Rattle.ikey.specs.Sources.{ComesBefore}
 use Rattle.recover.specs.Tables.{TableContent, HasTable, internal_key, LieApart}
 use Rattle.recover.proofs.Closed.{newer_apart}
@@ -33,7 +33,7 @@ lower_by order a b k l false p q h = λ low.
     h ((λ i. order.cmp (x i).user (y i).user) ∙ low.4)
 
 -- the entries come as their keys do
-comes_of : (order : Order) (e f : Entry) (a b : List ℕ) → internal_key e ≡ a → internal_key f ≡ b → e.sequence < 2 ^ 56 → f.sequence < 2 ^ 56 → IsBefore order a b → ComesBefore order e f
+comes_of : (order : Order) (e f : Entry) (a b : List ℕ) → internal_key e ≡ a → internal_key f ≡ b → e.sequence < 2 ^ 56 → f.sequence < 2 ^ 56 → IsBeforeInternal order a b → ComesBefore order e f
 comes_of order e f a b p q x y h =
     let first : h.0 ≡ internal_key_of e = same_key a h.0 (internal_key_of e) h.2 (subst (λ (k : List ℕ). IsKey k (internal_key_of e)) p (key_is e x)) in
     let second : h.1 ≡ internal_key_of f = same_key b h.1 (internal_key_of f) h.3 (subst (λ (k : List ℕ). IsKey k (internal_key_of f)) q (key_is f y)) in
@@ -44,7 +44,7 @@ through order o e last first f left middle right =
     let half : ComesBefore order e first = elim left [ inl same ↦ subst (λ (x : Entry). ComesBefore order x first) (sym same) middle | inr before ↦ before_trans order o e last first before middle ] in
     elim right [ inl same ↦ subst (λ (x : Entry). ComesBefore order e x) (sym same) half | inr before ↦ before_trans order o e first f half before ]
 
-all_before : (order : Order) → IsTotalOrder order.cmp → (files : Files) (a b : TableContent) → HasTable order files a → HasTable order files b → IsBefore order a.placed.table.largest b.placed.table.smallest
+all_before : (order : Order) → IsTotalOrder order.cmp → (files : Files) (a b : TableContent) → HasTable order files a → HasTable order files b → IsBeforeInternal order a.placed.table.largest b.placed.table.smallest
     → (e f : Entry) → Among a.entries e → Among b.entries f → ComesBefore order e f
 all_before order o files a b h g before e f i j =
     let last = h.largest.0 in
@@ -54,7 +54,7 @@ all_before order o files a b h g before e f i j =
     through order o e last first f (h.largest.3 e i) middle (g.smallest.3 f j)
 
 apart_by : (order : Order) → IsTotalOrder order.cmp → (files : Files) (a b : TableContent) → HasTable order files a → HasTable order files b
-    → IsBefore order a.placed.table.largest b.placed.table.smallest ⊎ IsBefore order b.placed.table.largest a.placed.table.smallest → LieApart order a b
+    → IsBeforeInternal order a.placed.table.largest b.placed.table.smallest ⊎ IsBeforeInternal order b.placed.table.largest a.placed.table.smallest → LieApart order a b
 apart_by order o files a b h g (inl before) = inl (all_before order o files a b h g before)
 apart_by order o files a b h g (inr before) = inr (λ e f i j. all_before order o files b a g h before f e j i)
 
@@ -72,8 +72,8 @@ newer_to (x ∷ xs) ys h = ((λ f j key. h x f (inl refl) j key), newer_to xs ys
 -- ---- two tables
 
 -- of one level, from 1 on
-pub beside_follow : (order : Order) → IsTotalOrder order.cmp → (files : Files) (first other : PlacedTable) (entries : List Entry) → DoNotOverlap order first other → (first.level ≡ other.level) × (0 < first.level)
-    → HasTable order files (content_of first entries) → MayFollow order files (content_of first entries) other
+pub beside_follow : (order : Order) → IsTotalOrder order.cmp → (files : Files) (first other : PlacedTable) (entries : List Entry) → RangesDoNotOverlap order first other → (first.level ≡ other.level) × (0 < first.level)
+    → HasTable order files (content_of first entries) → MayStandBehind order files (content_of first entries) other
 beside_follow order o files first other entries apart level h others g = (
   λ lt. absurd (omega (arith, lt, level.0)),
   λ same some. apart_by order o files (content_of first entries) (content_of other others) h g (apart same some),
@@ -82,7 +82,7 @@ beside_follow order o files first other entries apart level h others g = (
 
 -- that share no user key
 pub apart_follow : (order : Order) → IsTotalOrder order.cmp → (files : Files) (first other : PlacedTable) (entries : List Entry) → HasLowerKeys order first other ⊎ HasLowerKeys order other first
-    → ((first.level ≡ other.level) × (0 < first.level) → ⊥) → HasTable order files (content_of first entries) → MayFollow order files (content_of first entries) other
+    → ((first.level ≡ other.level) × (0 < first.level) → ⊥) → HasTable order files (content_of first entries) → MayStandBehind order files (content_of first entries) other
 apart_follow order o files first other entries low none h others g = (
   λ lt. newer_apart order files (content_of first entries) (content_of other others) o h g low,
   λ same some. absurd (none (same, some)),
@@ -91,7 +91,7 @@ apart_follow order o files first other entries low none h others g = (
 
 -- that were read
 pub read_follow : (order : Order) (files : Files) (first other : PlacedTable) (entries read : List Entry) → HasTable order files (content_of other read) → NeedsNewer first.level entries other.level read
-    → ((first.level ≡ other.level) × (0 < first.level) → ⊥) → MayFollow order files (content_of first entries) other
+    → ((first.level ≡ other.level) × (0 < first.level) → ⊥) → MayStandBehind order files (content_of first entries) other
 read_follow order files first other entries read r needs none others g =
     let same : others ≡ read = ap (λ (c : TableContent). c.entries) (same_table_content order files (content_of other others) (content_of other read) refl g r) in
     let n : NeedsNewer first.level entries other.level others = subst (λ (es : List Entry). NeedsNewer first.level entries other.level es) (sym same) needs in (

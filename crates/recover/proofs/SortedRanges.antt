@@ -15,8 +15,8 @@ use Rattle.ikey.specs.Keys.{Key, IsKey}
 use Rattle.ikey.specs.KeyViews.{key_of}
 use Rattle.ikey.specs.Below.{same_key}
 use Rattle.edits.specs.declared.field.PlacedTable.{PlacedTable}
-use Rattle.recover.specs.Ranges.{IsKeyBefore, IsBefore, HasRange, DoNotOverlap, HaveRanges}
-use Rattle.recover.specs.RangeOrder.{IsRangeOf, AreRangesOf, EndsBefore, range_cmp}
+use Rattle.recover.specs.Ranges.{IsKeyBefore, IsBeforeInternal, HasRange, RangesDoNotOverlap, HaveRanges}
+use Rattle.recover.specs.internal.RangeOrder.{IsRangeOf, AreRangesOf, EndsBefore, range_cmp}
 use Rattle.recover.specs.declared.ranges.KeyRange.{KeyRange}
 
 -- ---- each two of a list, in whichever order it stands
@@ -198,7 +198,7 @@ module _ (order : Order) (total : IsTotalOrder order.cmp) where
 
   -- ---- the tables
 
-  before_keys : (a b : List ℕ) (k l : Key) → IsKey a k → IsKey b l → IsBefore order a b → IsKeyBefore order k l
+  before_keys : (a b : List ℕ) (k l : Key) → IsKey a k → IsKey b l → IsBeforeInternal order a b → IsKeyBefore order k l
   before_keys a b k l p q before =
       let first : before.0 ≡ k = same_key a before.0 k before.2 p in
       let second : before.1 ≡ l = same_key b before.1 l before.3 q in
@@ -213,13 +213,13 @@ module _ (order : Order) (total : IsTotalOrder order.cmp) where
       by (inl one) = inl (same_key placed.table.largest (key_of range.smallest) (key_of range.largest) (subst (λ bytes. IsKey bytes (key_of range.smallest)) one.2 h.1) h.2)
       by (inr before) = inr (before_keys placed.table.smallest placed.table.largest (key_of range.smallest) (key_of range.largest) h.1 h.2 before)
 
-  apart_of : (p q : PlacedTable) (r s : KeyRange) → IsRangeOf order p r → IsRangeOf order q s → DoNotOverlap order p q → Apart r s
+  apart_of : (p q : PlacedTable) (r s : KeyRange) → IsRangeOf order p r → IsRangeOf order q s → RangesDoNotOverlap order p q → Apart r s
   apart_of p q r s h k apart e deep = elim (apart (sym h.0 ∙ e ∙ k.0) (omega (arith, deep, h.0))) [
     | inl before ↦ inl (before_keys p.table.largest q.table.smallest (key_of r.largest) (key_of s.smallest) h.2 k.1 before)
     | inr behind ↦ inr (before_keys q.table.largest p.table.smallest (key_of s.largest) (key_of r.smallest) k.2 h.1 behind)
   ]
 
-  tables_apart : (p q : PlacedTable) (r s : KeyRange) → IsRangeOf order p r → IsRangeOf order q s → Apart r s → DoNotOverlap order p q
+  tables_apart : (p q : PlacedTable) (r s : KeyRange) → IsRangeOf order p r → IsRangeOf order q s → Apart r s → RangesDoNotOverlap order p q
   tables_apart p q r s h k apart e deep = elim (apart (h.0 ∙ e ∙ sym k.0) (omega (arith, deep, h.0))) [
     | inl before ↦ inl (key_of r.largest, key_of s.smallest, h.2, k.1, before)
     | inr behind ↦ inr (key_of s.largest, key_of r.smallest, k.2, h.1, behind)
@@ -232,14 +232,14 @@ module _ (order : Order) (total : IsTotalOrder order.cmp) where
   ranges_in_order (p ∷ tables) (r ∷ ranges) h = (in_order_of p r h.0, ranges_in_order tables ranges h.1)
 
   all_apart : (p : PlacedTable) (r : KeyRange) (tables : List PlacedTable) (ranges : List KeyRange) → IsRangeOf order p r → AreRangesOf order tables ranges
-      → AllByRecursion (DoNotOverlap order p) tables → AllByRecursion (Apart r) ranges
+      → AllByRecursion (RangesDoNotOverlap order p) tables → AllByRecursion (Apart r) ranges
   all_apart p r [] [] here h g = tt
   all_apart p r [] (s ∷ ranges) here h g = absurd h
   all_apart p r (q ∷ tables) [] here h g = absurd h
   all_apart p r (q ∷ tables) (s ∷ ranges) here h g = (apart_of p q r s here h.0 g.0, all_apart p r tables ranges here h.1 g.1)
 
   none_overlap : (p : PlacedTable) (r : KeyRange) (tables : List PlacedTable) (ranges : List KeyRange) → IsRangeOf order p r → AreRangesOf order tables ranges
-      → AllByRecursion (Apart r) ranges → AllByRecursion (DoNotOverlap order p) tables
+      → AllByRecursion (Apart r) ranges → AllByRecursion (RangesDoNotOverlap order p) tables
   none_overlap p r [] [] here h g = tt
   none_overlap p r [] (s ∷ ranges) here h g = absurd h
   none_overlap p r (q ∷ tables) [] here h g = absurd h

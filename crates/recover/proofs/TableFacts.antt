@@ -11,7 +11,7 @@ use Rattle.edits.specs.declared.field.PlacedTable.{PlacedTable}
 use Rattle.ikey.specs.Views.{Among}
 use Rattle.ikey.specs.Sources.{ComesBefore}
 use Rattle.recover.specs.Tables.{IsTableFile, TableContent, HasTable, HasTables, InTables, internal_key, AreTwoTables, AreTables}
-use Rattle.recover.specs.Ranges.{IsBefore, HasRange, DoNotOverlap, HaveRanges, HaveTableFiles}
+use Rattle.recover.specs.Ranges.{IsBeforeInternal, HasRange, RangesDoNotOverlap, HaveRanges, HaveTableFiles}
 use Rattle.recover.specs.Directory.{Directory, IsConsistent}
 
 -- ---- internal keys
@@ -34,7 +34,7 @@ fits_of order bytes entries entry h i =
 -- ---- ranges
 
 -- the bytes are the internal keys of two entries, one before the other
-before_of : (order : Order) (e f : Entry) (a b : List ℕ) → internal_key e ≡ a → internal_key f ≡ b → e.sequence < 2 ^ 56 → f.sequence < 2 ^ 56 → ComesBefore order e f → IsBefore order a b
+before_of : (order : Order) (e f : Entry) (a b : List ℕ) → internal_key e ≡ a → internal_key f ≡ b → e.sequence < 2 ^ 56 → f.sequence < 2 ^ 56 → ComesBefore order e f → IsBeforeInternal order a b
 before_of order e f a b p q x y h =
     let P : List ℕ → Type 0 = λ k. IsKey k (internal_key_of e) in
     let Q : List ℕ → Type 0 = λ k. IsKey k (internal_key_of f) in
@@ -53,20 +53,20 @@ pub has_range : (order : Order) (files : Files) (t : TableContent) → HasTable 
 has_range order files t h = range_by order files t h (h.smallest.3 h.largest.0 h.largest.1)
 
 ends_before : (order : Order) (files : Files) (a b : TableContent) → HasTable order files a → HasTable order files b → ((e f : Entry) → Among a.entries e → Among b.entries f → ComesBefore order e f)
-    → IsBefore order a.placed.table.largest b.placed.table.smallest
+    → IsBeforeInternal order a.placed.table.largest b.placed.table.smallest
 ends_before order files a b h g all =
     before_of order h.largest.0 g.smallest.0 a.placed.table.largest b.placed.table.smallest h.largest.2 g.smallest.2
     (fits_of order h.bytes a.entries h.largest.0 h.spelled h.largest.1) (fits_of order g.bytes b.entries g.smallest.0 g.spelled g.smallest.1)
     (all h.largest.0 g.smallest.0 h.largest.1 g.smallest.1)
 
-apart_of : (order : Order) (files : Files) (a b : TableContent) → HasTable order files a → HasTable order files b → AreTwoTables order a b → DoNotOverlap order a.placed b.placed
+apart_of : (order : Order) (files : Files) (a b : TableContent) → HasTable order files a → HasTable order files b → AreTwoTables order a b → RangesDoNotOverlap order a.placed b.placed
 apart_of order files a b h g two = λ same some. elim (two.1 same some) [
   | inl all ↦ inl (ends_before order files a b h g all)
   | inr all ↦ inr (ends_before order files b a g h (λ f e j i. all e f i j))
 ]
 
 apart_from : (order : Order) (files : Files) (a : TableContent) (contents : List TableContent) → HasTable order files a → HasTables order files contents → ((other : TableContent) → InTables contents other → AreTwoTables order a other)
-    → AllByRecursion (DoNotOverlap order a.placed) (map (λ (t : TableContent). t.placed) contents)
+    → AllByRecursion (RangesDoNotOverlap order a.placed) (map (λ (t : TableContent). t.placed) contents)
 apart_from order files a [] h g two = tt
 apart_from order files a (c ∷ contents) h g two = (apart_of order files a c h g.0 (two c (inl refl)), apart_from order files a contents h g.1 (λ o i. two o (inr i)))
 

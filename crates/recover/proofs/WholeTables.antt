@@ -20,10 +20,10 @@ use Rattle.edits.specs.declared.field.PlacedTable.{PlacedTable}
 use Rattle.ikey.specs.Views.{Among}
 use Rattle.ikey.specs.Sources.{ComesBefore, AreSorted}
 use Rattle.recover.specs.Tables.{table_at, HasTable, internal_key}
-use Rattle.recover.specs.Checks.{content_of, first_key, IsSpanned, Never, IsOnly}
-use Rattle.recover.specs.Parts.{IsUnchanged, RefusesBytes}
+use Rattle.recover.specs.internal.Checks.{content_of, first_key, IsSpanned, Never, IsOnly}
+use Rattle.recover.specs.internal.Parts.{IsUnchanged, RefusesBytes}
 use Rattle.recover.specs.Report.{IsLongTable}
-use Rattle.recover.specs.Ranges.{HasTableFile, IsTableName}
+use Rattle.recover.specs.Ranges.{HasFileOfTable, IsTableName}
 use Rattle.recover.specs.Reading.{RefusesDirectory}
 use Rattle.recover.proofs.EntryOrder.{before_trans}
 use Rattle.recover.proofs.OneMeaning.{same_spelled}
@@ -154,7 +154,7 @@ spanned_of order o files placed pairs entries others r h =
 -- ---- refusals
 
 -- the file isn't there
-pub unnamed : (order : Order) (e : DbError) (a b : Facts) (placed : PlacedTable) → RefusesDirectory e a b (HasTableFile a.files placed → ⊥) ⊥ → RefusesDirectory e a b (IsOnly Never order a.files placed) (IsOnly (IsLongTable order) order a.files placed)
+pub unnamed : (order : Order) (e : DbError) (a b : Facts) (placed : PlacedTable) → RefusesDirectory e a b (HasFileOfTable a.files placed → ⊥) ⊥ → RefusesDirectory e a b (IsOnly Never order a.files placed) (IsOnly (IsLongTable order) order a.files placed)
 unnamed order OutOfMemory a b placed r = tt
 unnamed order Io a b placed r = r
 unnamed order (Corrupt kind what) a b placed r = λ t entries h. absurd (r t (h.numbered, (h.bytes, h.there, h.size)))

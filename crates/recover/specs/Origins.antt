@@ -8,7 +8,7 @@ use Rattle.edits.specs.Layout.{fields_of}
 use Rattle.edits.specs.declared.field.Field.{Field}
 use Rattle.edits.specs.declared.field.PlacedTable.{PlacedTable}
 use Rattle.edits.specs.declared.layout.Layout.{Layout}
-use Rattle.recover.specs.Checks.{IsOnly, content_of}
+use Rattle.recover.specs.internal.Checks.{IsOnly, content_of}
 use Rattle.recover.specs.Directory.{Directory, IsConsistent, HasManifest}
 use Rattle.recover.specs.Entries.{RiseAbove}
 use Rattle.recover.specs.Limits.{IsUnsupportedFile}
@@ -43,9 +43,9 @@ abbrev pub IsPlacedAt : Layout → ℕ → ℕ → PlacedTable → Type 0
 IsPlacedAt layout level number placed = Contains layout.tables.items placed × (placed.level ≡ level) × (placed.table.number ≡ number)
 
 -- the file of this origin, which the layout has, holds these entries
-abbrev pub IsRead : Order → Files → Layout → Origin → List Entry → Type 0
-IsRead order files layout (Table level number) entries = (placed : PlacedTable) × IsPlacedAt layout level number placed × HasTable order files (content_of placed entries)
-IsRead order files layout (Log number) entries = IsLive layout number × ((log : LogContent) × (log.number ≡ number) × HasLog files log × (entries ≡ batch_entries log.batches))
+abbrev pub IsOriginRead : Order → Files → Layout → Origin → List Entry → Type 0
+IsOriginRead order files layout (Table level number) entries = (placed : PlacedTable) × IsPlacedAt layout level number placed × HasTable order files (content_of placed entries)
+IsOriginRead order files layout (Log number) entries = IsLive layout number × ((log : LogContent) × (log.number ≡ number) × HasLog files log × (entries ≡ batch_entries log.batches))
 
 -- Where the layout has a table of this origin, the file of one such table has such bytes, if it is whole. Where it has
 -- the log live, there is none of this number whose sequences rise.

@@ -24,7 +24,7 @@ use Rattle.recover.specs.Numbers.{number_of, IsNextNumber}
 use Rattle.recover.specs.Directory.{Directory, IsConsistent, AreEdits, HasManifest}
 
 -- A call that only reads: what holds of any store, and that the files and what of them is synced stay while it is faithful.
-pub record Reads {T : Type 0} (old new : Facts) (result : Result T DbError) : Type 0 where
+pub record ReadsDirectory {T : Type 0} (old new : Facts) (result : Result T DbError) : Type 0 where
   pub faithful : IsTrue new.faithful → IsTrue old.faithful
   pub failures : old.failures ≤ new.failures
   pub denials : new.denials ≡ old.denials

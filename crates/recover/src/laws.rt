@@ -1,7 +1,7 @@
 //! What calls of the store do to the meaning of a directory.
 
-ghost use Rattle.recover.specs.Laws.{AppendLaw, FailedAppendLaw, FreeChangeLaw, ReopenLaw, NewLogLaw, EmptyLaw, NumberLaw, AppendableLaw, OneManifestLaw, OneDirectoryLaw};
-ghost use Rattle.recover.specs.Changes.{ExtendLaw, FailedExtendLaw, BeginLogLaw, EditLaw, FailedEditLaw, SameManifestLaw, FlushLaw, CompactionLaw, ClosedLaw, UnreadLaw, DistinctLaw, BeyondLaw, RecoveredLaw};
+ghost use Rattle.recover.specs.internal.Laws.{AppendLaw, FailedAppendLaw, FreeChangeLaw, ReopenLaw, NewLogLaw, EmptyLaw, NumberLaw, AppendableLaw, OneManifestLaw, OneDirectoryLaw};
+ghost use Rattle.recover.specs.internal.Changes.{ExtendLaw, FailedExtendLaw, BeginLogLaw, EditLaw, FailedEditLaw, SameManifestLaw, FlushLaw, CompactionLaw, ClosedLaw, UnreadLaw, DistinctLaw, BeyondLaw, RecoveredLaw};
 
 /// Law: a record for the next batch behind the last log adds the batch's entries.
 pub fn append_law()

@@ -4,7 +4,7 @@ ghost use Rattle.std.specs.Prelude.{◌≡◌, ◌<◌, ◌≤◌, ◌*◌, ◌-
 ghost use Rattle.std.specs.FinMap.{get};
 ghost use Rattle.logfile.specs.Log.{Fragment, AreBlocks};
 ghost use Rattle.recover.specs.Reading.{IsCounted, RefusesDirectory};
-ghost use Rattle.recover.specs.Parts.{IsUnchanged, RefusesBytes, HoldsNoLog};
+ghost use Rattle.recover.specs.internal.Parts.{IsUnchanged, RefusesBytes, HoldsNoLog};
 
 use crate::files::{file_length, read_part, refusal_in};
 use coding::{DbError, FileKind};

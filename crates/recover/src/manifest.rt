@@ -10,7 +10,7 @@ ghost use Rattle.edits.specs.Snapshot.{IsKept};
 ghost use Rattle.edits.specs.declared.field.Field.{Field as FieldValue};
 ghost use Rattle.recover.specs.Directory.{AreEdits};
 ghost use Rattle.recover.specs.Reading.{IsCounted, RefusesDirectory, SpellsBeyond, IsBeyondReading};
-ghost use Rattle.recover.specs.Parts.{IsUnchanged, RefusesBytes, number_in, highest_in, SpellsManifest, SpellsNone, ArePastLimit, SaysManifest, HasNoManifest};
+ghost use Rattle.recover.specs.internal.Parts.{IsUnchanged, RefusesBytes, number_in, highest_in, SpellsManifest, SpellsNone, ArePastLimit, SaysManifest, HasNoManifest};
 
 use crate::files::{read_short_file, refusal_in};
 use crate::log_files::read_log_file;
@@ -99,6 +99,8 @@ fn decode_manifest<K: KeyOrder>(alloc: Global, bytes: &[u8]) -> Result<Manifest,
     layouts_are_kept();
     let records = records_in(alloc, FileKind::Manifest, bytes)?;
     let edits = edits_in(alloc, &records)?;
+    // (a hundred thousand edits of one table take 55 MB, and 64 beside their records)
+    drop(records);
     let highest = highest_in_edits(&edits);
     match fold_edits(alloc, K::name().as_bytes(), &edits) {
         Ok(layout) => Ok(Manifest { layout, highest }),

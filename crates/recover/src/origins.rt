@@ -3,14 +3,14 @@
 ghost use Rattle.std.specs.Prelude.{◌≡◌, List, Contains, IfOk, IfErr, IsTrue, MatchOption};
 ghost use Rattle.ikey.specs.Orders.{order_of};
 ghost use Rattle.edits.specs.declared.field.PlacedTable.{PlacedTable as PlacedTableValue};
-ghost use Rattle.recover.specs.Checks.{Never};
+ghost use Rattle.recover.specs.internal.Checks.{Never};
 ghost use Rattle.recover.specs.Directory.{Directory, IsConsistent};
 ghost use Rattle.recover.specs.Limits.{TellsUnsupported};
 ghost use Rattle.recover.specs.Entries.{RiseAbove};
 ghost use Rattle.recover.specs.Logs.{IsLive, LogContent, HasLog, batch_entries};
-ghost use Rattle.recover.specs.Origins.{HasEntries, HasNoEntries, PassesLimitAt, IsPlacedAt, IsRead, IsUnreadable, IsUnsupportedAt, IsBeyondOrigin};
-ghost use Rattle.recover.specs.Parts.{IsUnchanged};
-ghost use Rattle.recover.specs.Reading.{Reads, IsStill, IsCounted, RefusesDirectory};
+ghost use Rattle.recover.specs.Origins.{HasEntries, HasNoEntries, PassesLimitAt, IsPlacedAt, IsOriginRead, IsUnreadable, IsUnsupportedAt, IsBeyondOrigin};
+ghost use Rattle.recover.specs.internal.Parts.{IsUnchanged};
+ghost use Rattle.recover.specs.Reading.{ReadsDirectory, IsStill, IsCounted, RefusesDirectory};
 ghost use Rattle.recover.specs.Report.{IsLongTable};
 ghost use Rattle.recover.specs.declared.origins.Origin.TheVariants as origin;
 
@@ -42,7 +42,7 @@ pub fn file_entries<K: KeyOrder, S: Store>(
     store: &mut S,
     origin: Origin,
 ) -> Result<Vec<Entry>, DbError>
-    ensures store { Reads (S.facts store.old) (S.facts store.new) result }
+    ensures store { ReadsDirectory (S.facts store.old) (S.facts store.new) result }
     ensures still { IsStill (S.facts store.old) (S.facts store.new) result }
     ensures told { IfErr result (λ error. TellsUnsupported error (S.facts store.new) (IsBeyondOrigin (order_of K.name K.cmp) (S.facts store.old).files origin)) }
     ensures found { IfOk result (λ entries. IsTrue (S.facts store.new).faithful → (d : Directory)
@@ -66,7 +66,7 @@ fn read_origin<K: KeyOrder, S: Store>(
     ensures store { IsUnchanged (S.facts store.old) (S.facts store.new) }
     ensures still { IsStill (S.facts store.old) (S.facts store.new) result }
     ensures told { IfErr result (λ error. TellsUnsupported error (S.facts store.new) (IsUnsupportedAt (order_of K.name K.cmp) (S.facts store.old).files layout.now origin)) }
-    ensures found { IfOk result (λ entries. IsTrue (S.facts store.new).faithful → IsRead (order_of K.name K.cmp) (S.facts store.old).files layout.now origin entries.items) }
+    ensures found { IfOk result (λ entries. IsTrue (S.facts store.new).faithful → IsOriginRead (order_of K.name K.cmp) (S.facts store.old).files layout.now origin entries.items) }
     ensures refused { IfErr result (λ error. RefusesDirectory error (S.facts store.old) (S.facts store.new)
         (IsUnreadable Never (order_of K.name K.cmp) (S.facts store.old).files layout.now origin)
         (IsUnreadable (IsLongTable (order_of K.name K.cmp)) (order_of K.name K.cmp) (S.facts store.old).files layout.now origin)) }
@@ -94,7 +94,7 @@ fn table_entries<K: KeyOrder, S: Store>(
     ensures store { IsUnchanged (S.facts store.old) (S.facts store.new) }
     ensures still { IsStill (S.facts store.old) (S.facts store.new) result }
     ensures told { IfErr result (λ error. TellsUnsupported error (S.facts store.new) (IsUnsupportedAt (order_of K.name K.cmp) (S.facts store.old).files layout.now (origin.Table level number))) }
-    ensures found { IfOk result (λ entries. IsTrue (S.facts store.new).faithful → IsRead (order_of K.name K.cmp) (S.facts store.old).files layout.now (origin.Table level number) entries.items) }
+    ensures found { IfOk result (λ entries. IsTrue (S.facts store.new).faithful → IsOriginRead (order_of K.name K.cmp) (S.facts store.old).files layout.now (origin.Table level number) entries.items) }
     ensures refused { IfErr result (λ error. RefusesDirectory error (S.facts store.old) (S.facts store.new)
         (IsUnreadable Never (order_of K.name K.cmp) (S.facts store.old).files layout.now (origin.Table level number))
         (IsUnreadable (IsLongTable (order_of K.name K.cmp)) (order_of K.name K.cmp) (S.facts store.old).files layout.now (origin.Table level number))) }

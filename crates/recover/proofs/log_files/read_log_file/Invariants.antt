@@ -1,5 +1,5 @@
 use Rattle.std.proofs.Common.{◌≡◌, ◌*◌}
-use Rattle.recover.specs.Parts.{IsUnchanged}
+use Rattle.recover.specs.internal.Parts.{IsUnchanged}
 use Rattle.recover.proofs.LogPieces.{ReadsFirst}
 use Rattle.recover.proofs.log_files.read_log_file.Given as goal
 

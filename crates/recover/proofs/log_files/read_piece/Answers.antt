@@ -1,7 +1,7 @@
 use Rattle.std.proofs.Common.{ℕ, List, take, ◌*◌, Option, Vec, option_map, sym, ap, ◌∙◌, subst, arith}
 use Rattle.std.specs.declared.alloc.Global.{Global}
 use Rattle.std.proofs.lemmas.Result.{err_from_is_err_and}
-use Rattle.recover.specs.Parts.{RefusesBytes}
+use Rattle.recover.specs.internal.Parts.{RefusesBytes}
 use Rattle.recover.proofs.LogPieces.{NoBlocks, piece_refused}
 use Rattle.recover.proofs.log_files.read_piece.Goals as goal
 

@@ -2,7 +2,7 @@ use Rattle.std.proofs.Common.{IsTrue, subst}
 use Rattle.std.proofs.lemmas.Result.{err_from_is_err_and}
 use Rattle.ikey.specs.Orders.{order_of}
 use Rattle.store.specs.Files.{Files}
-use Rattle.recover.specs.Origins.{IsRead}
+use Rattle.recover.specs.Origins.{IsOriginRead}
 use Rattle.recover.proofs.OneOrigin.{no_manifest, not_read, told_origin, read_of}
 use Rattle.recover.proofs.origins.file_entries.Goals as goal
 
@@ -30,5 +30,5 @@ returns-clause-found g c = λ t d h.
     let b = g.S.Store.facts c.read_manifest.new.store in
     let manifest = c.in_ok-layout.field-0 in
     let t' : IsTrue b.faithful = c.in_ok-entries.ensures.store.faithful t in
-    let F : Files → Type 0 = λ fs. IsRead order fs manifest.layout c.args.origin c.in_ok-entries.entries.items in
+    let F : Files → Type 0 = λ fs. IsOriginRead order fs manifest.layout c.args.origin c.in_ok-entries.entries.items in
     read_of order a.files manifest c.args.origin c.in_ok-entries.entries.items (c.in_ok-layout.ensures.found t') (subst F (c.in_ok-layout.ensures.store.same t') (c.in_ok-entries.ensures.found t)) d h

@@ -1,7 +1,7 @@
 use Rattle.std.proofs.Common.{◌<◌}
 use Rattle.std.specs.List.{AllAdjacentBelow}
 use Rattle.ikey.specs.Orders.{order_of}
-use Rattle.recover.specs.RangeOrder.{EndsBefore}
+use Rattle.recover.specs.internal.RangeOrder.{EndsBefore}
 use Rattle.recover.proofs.ranges.are_apart.Given as goal
 
 abbrev pub invariant-loop-place : goal.invariant-loop-place

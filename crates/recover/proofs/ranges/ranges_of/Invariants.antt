@@ -1,6 +1,6 @@
 use Rattle.std.proofs.Common.{take}
 use Rattle.ikey.specs.Orders.{order_of}
-use Rattle.recover.specs.RangeOrder.{AreRangesOf}
+use Rattle.recover.specs.internal.RangeOrder.{AreRangesOf}
 use Rattle.recover.proofs.ranges.ranges_of.Given as goal
 
 abbrev pub invariant-loop-placed : goal.invariant-loop-placed

@@ -20,13 +20,15 @@ use Rattle.batch.specs.declared.operation.Operation.{Operation}
 use Rattle.table.specs.Writing.{KeepsOthers}
 use Rattle.recover.specs.Entries.{entries_of}
 use Rattle.ikey.specs.Views.{Among}
-use Rattle.ikey.specs.Sources.{ComesBefore, AreSorted, SameEntries}
-use Rattle.recover.specs.Tables.{table_at, TableContent, HasTable, InTables, tabled, AreNewer}
+use Rattle.ikey.specs.Sources.{AreSorted, SameEntries}
+use Rattle.recover.specs.Tables.{table_at, TableContent, HasTable, InTables, tabled}
 use Rattle.recover.specs.Logs.{LogContent, IsLive, batch_entries, logged}
 use Rattle.recover.specs.Directory.{Directory, IsConsistent, HasManifest, EndsAt, entries_in, used_in}
-use Rattle.recover.specs.Laws.{AddsRecord, AddsAllOrNothing, IsSameLayout}
+use Rattle.recover.specs.internal.Laws.{AddsRecord, AddsAllOrNothing, IsSameLayout}
 use Rattle.recover.specs.Reading.{Recovers, IsBeyondReading}
 use Rattle.recover.specs.declared.reading.Recovered.{Recovered}
+use Rattle.recover.specs.Replacing.{AreDistinct, AreParted, MayReplace}
+use Rattle.recover.specs.internal.Scan.{log_number}
 
 -- ---- the last log
 
@@ -140,27 +142,6 @@ FlushLaw = (order : Order) (old new : Files) (d : Directory) (edits : List (List
 
 -- ---- a compaction
 
--- the first are the second and the third, each in their order
-abbrev pub AreParted : List TableContent → List TableContent → List TableContent → Type 0
-AreParted [] chosen rest = (chosen ≡ []) × (rest ≡ [])
-AreParted (content ∷ contents) chosen rest =
-    ((others : List TableContent) × (chosen ≡ content ∷ others) × AreParted contents others rest)
-    ⊎ ((others : List TableContent) × (rest ≡ content ∷ others) × AreParted contents chosen others)
-
--- all entries of the table come before all of these
-abbrev pub LiesBelow : Order → TableContent → List Entry → Type 0
-LiesBelow order content entries = (e f : Entry) → Among content.entries e → Among entries f → ComesBefore order e f
-
-abbrev pub LiesAbove : Order → TableContent → List Entry → Type 0
-LiesAbove order content entries = (e f : Entry) → Among content.entries e → Among entries f → ComesBefore order f e
-
--- The inputs may be replaced by tables of this level: of the tables that stay, those above it are newer than the inputs,
--- those below it are older, and those of the level itself lie beside all of the inputs.
-pub record MayReplace (order : Order) (inputs rest : List TableContent) (level : ℕ) : Type 0 where
-  pub newer : (stays input : TableContent) → InTables rest stays → InTables inputs input → stays.placed.level < level → AreNewer stays input
-  pub older : (stays input : TableContent) → InTables rest stays → InTables inputs input → level < stays.placed.level → AreNewer input stays
-  pub beside : (stays : TableContent) → InTables rest stays → stays.placed.level ≡ level → LiesBelow order stays (tabled inputs) ⊎ LiesAbove order stays (tabled inputs)
-
 -- The layout is that of a compaction: in place of the inputs are outputs of a level from 1 on, in order, with none but
 -- entries of the inputs. All used sequences are recorded.
 pub record IsCompaction (order : Order) (d : Directory) (next : Layout) (inputs rest outputs contents : List TableContent) (level : ℕ) : Type 0 where
@@ -198,7 +179,7 @@ HasLowerKeys order a b = (k l : Key) × IsKey a.table.largest k × IsKey b.table
 
 -- The inputs are tables of a level and of the next one. No table that stays shares a user key with an input of the same
 -- level; in level 0 none stays. Those of the next level lie wholly below or above all inputs.
-pub record IsClosed (order : Order) (inputs rest : List TableContent) (level : ℕ) : Type 0 where
+pub record AreClosedInputs (order : Order) (inputs rest : List TableContent) (level : ℕ) : Type 0 where
   pub levels : (input : TableContent) → InTables inputs input → (input.placed.level ≡ level) ⊎ (input.placed.level ≡ level + 1)
   pub whole : (stays : TableContent) → InTables rest stays → stays.placed.level ≡ level → 0 < level
   pub same : (stays input : TableContent) → InTables rest stays → InTables inputs input → stays.placed.level ≡ level → input.placed.level ≡ level
@@ -210,7 +191,7 @@ pub record IsClosed (order : Order) (inputs rest : List TableContent) (level : �
 -- Such inputs may be replaced by tables of the next level.
 abbrev pub ClosedLaw : Type 0
 ClosedLaw = (order : Order) (files : Files) (d : Directory) (inputs rest : List TableContent) (level : ℕ) → IsTotalOrder order.cmp
-    → IsConsistent order files d → AreParted d.tables inputs rest → IsClosed order inputs rest level → MayReplace order inputs rest (level + 1)
+    → IsConsistent order files d → AreParted d.tables inputs rest → AreClosedInputs order inputs rest level → MayReplace order inputs rest (level + 1)
 
 -- ---- files that aren't live
 
@@ -230,11 +211,6 @@ UnreadLaw = (order : Order) (old new : Files) (d : Directory) (name : List ℕ)
     → IsConsistent order old d → IsUnread old d name → KeepsOthers old new name → IsConsistent order new d
 
 -- ---- which entries there are
-
--- no two of them have the same key and the same sequence
-abbrev pub AreDistinct : List Entry → Type 0
-AreDistinct [] = Unit {0}
-AreDistinct (entry ∷ entries) = ((other : Entry) → Among entries other → entry.key ≡ other.key → entry.sequence ≢ other.sequence) × AreDistinct entries
 
 -- Nor have two entries of a consistent directory, in whichever files they are.
 abbrev pub DistinctLaw : Type 0

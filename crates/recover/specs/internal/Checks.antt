@@ -21,12 +21,12 @@ StartsBefore order entry [] = Unit {0}
 StartsBefore order entry (first ∷ rest) = ComesBefore order entry first
 
 -- the entry is newer than those of its key
-abbrev pub IsNewerThan : Entry → List Entry → Type 0
-IsNewerThan entry others = (other : Entry) → Among others other → entry.key ≡ other.key → other.sequence < entry.sequence
+abbrev pub IsNewerThanAll : Entry → List Entry → Type 0
+IsNewerThanAll entry others = (other : Entry) → Among others other → entry.key ≡ other.key → other.sequence < entry.sequence
 
 -- and so is each of these
 abbrev pub AreNewerThan : List Entry → List Entry → Type 0
-AreNewerThan entries others = AllByRecursion (λ entry. IsNewerThan entry others) entries
+AreNewerThan entries others = AllByRecursion (λ entry. IsNewerThanAll entry others) entries
 
 -- the entries of the shallower level are newer, or in level 0 those of the second
 pub record NeedsNewer (level : ℕ) (entries : List Entry) (other_level : ℕ) (others : List Entry) : Type 0 where
@@ -60,8 +60,8 @@ pub record IsOlder (logged : List Entry) (recorded : ℕ) (content : TableConten
   pub sequences : AllByRecursion (λ (entry : Entry). entry.sequence ≤ recorded) content.entries
 
 -- whatever entries the other table has, they may stand behind this one
-abbrev pub MayFollow : Order → Files → TableContent → PlacedTable → Type 0
-MayFollow order files content other = (others : List Entry) → HasTable order files (content_of other others) → AreTwoTables order content (content_of other others)
+abbrev pub MayStandBehind : Order → Files → TableContent → PlacedTable → Type 0
+MayStandBehind order files content other = (others : List Entry) → HasTable order files (content_of other others) → AreTwoTables order content (content_of other others)
 
 -- it has entries that may stand there
 abbrev pub DoesFollow : Order → Files → TableContent → PlacedTable → Type 0
