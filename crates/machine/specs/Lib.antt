@@ -1,4 +1,5 @@
 pub mod Machine
+pub mod Causes
 pub mod Serving
 pub mod Access
 pub mod Lifetime
