@@ -1,0 +1,10 @@
+pub mod VersionTables
+pub mod StoreCalls
+pub mod FoundSteps
+pub mod Reopening
+pub mod Syncing
+pub mod NewManifests
+pub mod OpenSteps
+pub mod BegunSteps
+pub mod AfterReading
+pub mod Telling

@@ -1,0 +1,92 @@
+use Rattle.ikey.specs.Orders.{order_of}
+use Rattle.std.proofs.Common.{◌≡◌, ℕ, List, length, string_bytes, Result, Err, refl, sym, subst, arith, rules}
+use Rattle.coding.specs.declared.error.DbError.{DbError}
+use Rattle.ikey.specs.declared.entry.Entry.{Entry}
+use Rattle.opening.specs.Looking.{IsSealedOf}
+use Rattle.opening.specs.internal.Durable.{HasDurable}
+use Rattle.opening.specs.Durable.{LeavesDurable}
+use Rattle.opening.specs.declared.beginning.Begun.{Begun}
+use Rattle.opening.proofs.BegunSteps.{continued_same, continued_behind, begins}
+use Rattle.opening.proofs.Telling.{found_openable}
+use Rattle.opening.proofs.AfterReading.{behind_read, spared_behind, spared_same}
+use Rattle.opening.proofs.beginning.begin.Goals as goal
+
+pub returns-in_err-found-clause-continued : goal.returns-in_err-found-clause-continued
+returns-in_err-found-clause-continued g c = λ f.
+    continued_same (order_of g.K.KeyOrder.name g.K.KeyOrder.cmp) (g.S.Store.facts c.args.store.now).files (g.S.Store.facts c.find.new.store).files (c.in_err-found.ensures.store.same f)
+
+pub returns-in_err-version-clause-continued : goal.returns-in_err-version-clause-continued
+returns-in_err-version-clause-continued g c = λ f.
+    continued_same (order_of g.K.KeyOrder.name g.K.KeyOrder.cmp) (g.S.Store.facts c.args.store.now).files (g.S.Store.facts c.find.new.store).files (c.in_ok-found.ensures.store.same f)
+
+pub returns-in_err-rewrite-clause-continued : goal.returns-in_err-rewrite-clause-continued
+returns-in_err-rewrite-clause-continued g c = λ f.
+    continued_same (order_of g.K.KeyOrder.name g.K.KeyOrder.cmp) (g.S.Store.facts c.args.store.now).files (g.S.Store.facts c.find.new.store).files (c.in_ok-found.ensures.store.same f)
+
+pub returns-in_err-memory-clause-continued : goal.returns-in_err-memory-clause-continued
+returns-in_err-memory-clause-continued g c = λ f.
+    continued_same (order_of g.K.KeyOrder.name g.K.KeyOrder.cmp) (g.S.Store.facts c.args.store.now).files (g.S.Store.facts c.find.new.store).files (c.in_ok-found.ensures.store.same f)
+
+pub returns-in_err-rewrite_directory-clause-durable : goal.returns-in_err-rewrite_directory-clause-durable
+returns-in_err-rewrite_directory-clause-durable g c =
+    let old = g.S.Store.facts c.args.store.now in
+    let mid = g.S.Store.facts c.find.new.store in
+    let new = g.S.Store.facts c.rewrite_directory.new.store in
+    let e = c.in_err-rewrite_directory.field-0.0 in
+    let is : c.from_residual-in_err-rewrite_directory.result ≡ Err e = search rules in
+    subst (λ (r : Result (Begun _) DbError). LeavesDurable old new r) (sym is)
+    (behind_read {T = Unit {0}} {U = Begun _} old mid new e c.in_err-rewrite_directory.ensures.files.call.faithful c.in_ok-found.ensures.store.same c.in_ok-found.ensures.store.synced c.in_err-rewrite_directory.ensures.durable)
+
+pub returns-in_err-rewrite_directory-clause-continued : goal.returns-in_err-rewrite_directory-clause-continued
+returns-in_err-rewrite_directory-clause-continued g c =
+    continued_behind (order_of g.K.KeyOrder.name g.K.KeyOrder.cmp) (g.S.Store.facts c.args.store.now) (g.S.Store.facts c.find.new.store) (g.S.Store.facts c.rewrite_directory.new.store) c.in_ok-found.found (length c.in_ok-rewrite.rewrite.manifest.items) _
+    c.in_ok-found.ensures.store.same c.in_ok-found.ensures.found c.in_err-rewrite_directory.ensures.files
+
+pub returns-clause-begun : goal.returns-clause-begun
+returns-clause-begun g c =
+    begins (order_of g.K.KeyOrder.name g.K.KeyOrder.cmp) c.args.mode (g.S.Store.facts c.args.store.now) (g.S.Store.facts c.find.new.store) (g.S.Store.facts c.rewrite_directory.new.store) c.in_ok-found.found
+    (string_bytes c.in_ok-rewrite.rewrite.manifest_name) (length c.in_ok-rewrite.rewrite.manifest.items) _
+    c.recovered_law.ensures c.in_ok-found.ensures.store.same c.in_ok-found.ensures.found c.in_ok-found.ensures.allowed c.in_ok-rewrite_directory.ensures.files (record {
+      memory = subst (λ (es : List Entry). IsSealedOf c.in_ok-memory.memory es c.in_ok-found.found.used) c.deref.ensures.value c.in_ok-memory.ensures;
+      lists = c.in_ok-version.ensures.found.tables;
+      number = refl;
+      empty = refl;
+      named = c.in_ok-rewrite.ensures.planned.manifest_name;
+      known = let k = c.known_after.ensures in record { number = k.number; named = k.named; ends = omega (arith, k.ends, c.len-end.ensures, c.in_ok-rewrite.rewrite.manifest.ok.0); next = k.next; logs = k.logs };
+    })
+
+pub returns-clause-continued : goal.returns-clause-continued
+returns-clause-continued g c =
+    continued_behind (order_of g.K.KeyOrder.name g.K.KeyOrder.cmp) (g.S.Store.facts c.args.store.now) (g.S.Store.facts c.find.new.store) (g.S.Store.facts c.rewrite_directory.new.store) c.in_ok-found.found (length c.in_ok-rewrite.rewrite.manifest.items) _
+    c.in_ok-found.ensures.store.same c.in_ok-found.ensures.found c.in_ok-rewrite_directory.ensures.files
+
+pub returns-clause-tells : goal.returns-clause-tells
+returns-clause-tells g c = λ f.
+    found_openable (order_of g.K.KeyOrder.name g.K.KeyOrder.cmp) (g.S.Store.facts c.args.store.now).files c.in_ok-found.found (c.in_ok-found.ensures.found (c.in_ok-rewrite_directory.ensures.files.call.faithful f))
+
+pub returns-clause-current : goal.returns-clause-current
+returns-clause-current g c = λ f. subst (λ (n : ℕ). HasDurable n (g.S.Store.facts c.rewrite_directory.new.store)) (sym c.known_after.ensures.number) (c.in_ok-rewrite_directory.ensures.current f)
+
+-- ---- which files are spared
+
+pub returns-in_err-found-clause-spared : goal.returns-in_err-found-clause-spared
+returns-in_err-found-clause-spared g c = λ f. spared_same (g.S.Store.facts c.args.store.now) (g.S.Store.facts c.find.new.store) (c.in_err-found.ensures.store.same f) (c.in_err-found.ensures.store.synced f)
+
+pub returns-in_err-version-clause-spared : goal.returns-in_err-version-clause-spared
+returns-in_err-version-clause-spared g c = λ f. spared_same (g.S.Store.facts c.args.store.now) (g.S.Store.facts c.find.new.store) (c.in_ok-found.ensures.store.same f) (c.in_ok-found.ensures.store.synced f)
+
+pub returns-in_err-rewrite-clause-spared : goal.returns-in_err-rewrite-clause-spared
+returns-in_err-rewrite-clause-spared g c = λ f. spared_same (g.S.Store.facts c.args.store.now) (g.S.Store.facts c.find.new.store) (c.in_ok-found.ensures.store.same f) (c.in_ok-found.ensures.store.synced f)
+
+pub returns-in_err-memory-clause-spared : goal.returns-in_err-memory-clause-spared
+returns-in_err-memory-clause-spared g c = λ f. spared_same (g.S.Store.facts c.args.store.now) (g.S.Store.facts c.find.new.store) (c.in_ok-found.ensures.store.same f) (c.in_ok-found.ensures.store.synced f)
+
+pub returns-in_err-rewrite_directory-clause-spared : goal.returns-in_err-rewrite_directory-clause-spared
+returns-in_err-rewrite_directory-clause-spared g c = λ f.
+    let back = c.in_err-rewrite_directory.ensures.files.call.faithful f in
+    spared_behind (g.S.Store.facts c.args.store.now) (g.S.Store.facts c.find.new.store) (g.S.Store.facts c.rewrite_directory.new.store) (c.in_ok-found.ensures.store.same back) (c.in_ok-found.ensures.store.synced back) (c.in_err-rewrite_directory.ensures.spared f)
+
+pub returns-clause-spared : goal.returns-clause-spared
+returns-clause-spared g c = λ f.
+    let back = c.in_ok-rewrite_directory.ensures.files.call.faithful f in
+    spared_behind (g.S.Store.facts c.args.store.now) (g.S.Store.facts c.find.new.store) (g.S.Store.facts c.rewrite_directory.new.store) (c.in_ok-found.ensures.store.same back) (c.in_ok-found.ensures.store.synced back) (c.in_ok-rewrite_directory.ensures.spared f)

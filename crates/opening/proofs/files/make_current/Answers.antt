@@ -1,0 +1,42 @@
+use Rattle.std.proofs.Common.{◌≡◌, Result, Err, sym, subst, rules}
+use Rattle.coding.specs.declared.error.DbError.{DbError}
+use Rattle.opening.specs.internal.Calls.{MakesCurrent}
+use Rattle.opening.specs.internal.Durable.{MakesSynced}
+use Rattle.opening.proofs.Syncing.{current_unwritten, current_unset, current_set}
+use Rattle.opening.proofs.StoreCalls.{current_not_written, not_renamed, current_made}
+use Rattle.opening.proofs.files.make_current.Goals as goal
+
+pub returns-in_err-write_file-clause-files : goal.returns-in_err-write_file-clause-files
+returns-in_err-write_file-clause-files g c =
+    let old = g.S.Store.facts c.args.store.now in
+    let new = g.S.Store.facts c.write_file.new.store in
+    let is : c.from_residual.result ≡ Err c.in_err-write_file.field-0.0 = search rules in
+    subst (λ (r : Result _ DbError). MakesCurrent old new c.args.temporary.now c.args.bytes.now r) (sym is) (current_not_written old new c.args.temporary.now c.args.bytes.now c.in_err-write_file.field-0.0 c.in_err-write_file.ensures.files)
+
+pub returns-in-Err-clause-files : goal.returns-in-Err-clause-files
+returns-in-Err-clause-files g c =
+    not_renamed (g.S.Store.facts c.args.store.now) (g.S.Store.facts c.write_file.new.store) (g.S.Store.facts c.rename.new.self) c.args.temporary.now c.args.bytes.now c.in-Err.error c.refusal_of.result
+    c.in_ok-write_file.ensures.files c.in-Err.ensures.counts (c.in-Err.ensures.undenied, c.in-Err.ensures.lock) c.in-Err.ensures.files (λ e. c.in-Err.ensures.missing (λ i. Err (e i))) c.refusal_of.ensures
+
+pub returns-clause-files : goal.returns-clause-files
+returns-clause-files g c =
+    current_made (g.S.Store.facts c.args.store.now) (g.S.Store.facts c.write_file.new.store) (g.S.Store.facts c.rename.new.self) c.args.temporary.now c.args.bytes.now
+    c.in_ok-write_file.ensures.files c.in_default.ensures.counts (c.in_default.ensures.undenied, c.in_default.ensures.lock) c.in_default.ensures.files.ok
+
+pub returns-in_err-write_file-clause-synced : goal.returns-in_err-write_file-clause-synced
+returns-in_err-write_file-clause-synced g c =
+    let old = g.S.Store.facts c.args.store.now in
+    let new = g.S.Store.facts c.write_file.new.store in
+    let is : c.from_residual.result ≡ Err c.in_err-write_file.field-0.0 = search rules in
+    subst (λ (r : Result _ DbError). MakesSynced old new c.args.temporary.now c.args.bytes.now r) (sym is)
+    (current_unwritten old new c.args.temporary.now c.args.bytes.now c.in_err-write_file.field-0.0 c.in_err-write_file.ensures.files c.in_err-write_file.ensures.synced)
+
+pub returns-in-Err-clause-synced : goal.returns-in-Err-clause-synced
+returns-in-Err-clause-synced g c =
+    current_unset (g.S.Store.facts c.args.store.now) (g.S.Store.facts c.write_file.new.store) (g.S.Store.facts c.rename.new.self) c.args.temporary.now c.args.bytes.now c.in-Err.error c.refusal_of.result
+    c.in-Err.ensures.counts.faithful c.in_ok-write_file.ensures.files c.in_ok-write_file.ensures.synced c.in-Err.ensures.files c.in-Err.ensures.synced (λ e. c.in-Err.ensures.missing (λ i. Err (e i)))
+
+pub returns-clause-synced : goal.returns-clause-synced
+returns-clause-synced g c =
+    current_set (g.S.Store.facts c.args.store.now) (g.S.Store.facts c.write_file.new.store) (g.S.Store.facts c.rename.new.self) c.args.temporary.now c.args.bytes.now
+    c.in_default.ensures.counts.faithful c.in_ok-write_file.ensures.files c.in_ok-write_file.ensures.synced c.in_default.ensures.files.ok c.in_default.ensures.synced.ok

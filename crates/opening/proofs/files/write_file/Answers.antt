@@ -1,0 +1,52 @@
+use Rattle.std.proofs.Common.{◌≡◌, Result, Ok, Err, sym, ◌∙◌, subst, rules}
+use Rattle.coding.specs.declared.error.DbError.{DbError}
+use Rattle.opening.specs.internal.Calls.{Writes}
+use Rattle.opening.specs.internal.Durable.{WritesSynced}
+use Rattle.opening.proofs.Syncing.{unwritten, unwritten_behind, written}
+use Rattle.opening.proofs.StoreCalls.{created, not_created, not_appended, not_synced, file_written}
+use Rattle.opening.proofs.files.write_file.Goals as goal
+
+pub returns-in_err-create_file-clause-files : goal.returns-in_err-create_file-clause-files
+returns-in_err-create_file-clause-files g c =
+    let old = g.S.Store.facts c.args.store.now in
+    let new = g.S.Store.facts c.create_file.new.store in
+    let is : c.from_residual.result ≡ Err c.in_err-create_file.field-0.0 = search rules in
+    subst (λ (r : Result _ DbError). Writes old new c.args.name.now c.args.bytes.now r) (sym is) (not_created old new c.args.name.now c.args.bytes.now c.in_err-create_file.field-0.0 (created old new c.args.name.now (Err c.in_err-create_file.field-0.0) c.in_err-create_file.ensures.call c.in_err-create_file.ensures.counted c.in_err-create_file.ensures.refused c.in_err-create_file.ensures.creates))
+
+pub returns-in-Err-clause-files : goal.returns-in-Err-clause-files
+returns-in-Err-clause-files g c =
+    not_appended (g.S.Store.facts c.args.store.now) (g.S.Store.facts c.create_file.new.store) (g.S.Store.facts c.append.new.self) c.args.name.now c.args.bytes.now c.in-Err.error c.refusal_of.result
+    (created (g.S.Store.facts c.args.store.now) (g.S.Store.facts c.create_file.new.store) c.args.name.now (Ok c.in_ok-create_file.field-0) c.in_ok-create_file.ensures.call c.in_ok-create_file.ensures.counted c.in_ok-create_file.ensures.refused c.in_ok-create_file.ensures.creates) c.in-Err.ensures.counts (c.in-Err.ensures.undenied, c.in-Err.ensures.lock) c.in-Err.ensures.files (λ e. c.in-Err.ensures.missing (λ i. Err (e i))) c.refusal_of.ensures
+
+pub returns-in-Err-sync-clause-files : goal.returns-in-Err-sync-clause-files
+returns-in-Err-sync-clause-files g c =
+    not_synced (g.S.Store.facts c.args.store.now) (g.S.Store.facts c.create_file.new.store) (g.S.Store.facts c.append.new.self) (g.S.Store.facts c.sync.new.self) c.args.name.now c.args.bytes.now c.in-Err-sync.error c.refusal_of-in-Err-sync.result
+    (created (g.S.Store.facts c.args.store.now) (g.S.Store.facts c.create_file.new.store) c.args.name.now (Ok c.in_ok-create_file.field-0) c.in_ok-create_file.ensures.call c.in_ok-create_file.ensures.counted c.in_ok-create_file.ensures.refused c.in_ok-create_file.ensures.creates) c.in_default.ensures.counts (c.in_default.ensures.undenied, c.in_default.ensures.lock) c.in_default.ensures.files.ok c.in-Err-sync.ensures.counts (c.sync.ensures.undenied, c.sync.ensures.lock) c.sync.ensures.same (λ e. c.in-Err-sync.ensures.missing (λ i. Err (e i))) c.refusal_of-in-Err-sync.ensures
+
+pub returns-clause-files : goal.returns-clause-files
+returns-clause-files g c =
+    file_written (g.S.Store.facts c.args.store.now) (g.S.Store.facts c.create_file.new.store) (g.S.Store.facts c.append.new.self) (g.S.Store.facts c.sync.new.self) c.args.name.now c.args.bytes.now
+    (created (g.S.Store.facts c.args.store.now) (g.S.Store.facts c.create_file.new.store) c.args.name.now (Ok c.in_ok-create_file.field-0) c.in_ok-create_file.ensures.call c.in_ok-create_file.ensures.counted c.in_ok-create_file.ensures.refused c.in_ok-create_file.ensures.creates) c.in_default.ensures.counts (c.in_default.ensures.undenied, c.in_default.ensures.lock) c.in_default.ensures.files.ok c.in_default-sync.ensures.counts (c.sync.ensures.undenied, c.sync.ensures.lock) c.sync.ensures.same
+
+pub returns-in_err-create_file-clause-synced : goal.returns-in_err-create_file-clause-synced
+returns-in_err-create_file-clause-synced g c =
+    let old = g.S.Store.facts c.args.store.now in
+    let new = g.S.Store.facts c.create_file.new.store in
+    let is : c.from_residual.result ≡ Err c.in_err-create_file.field-0.0 = search rules in
+    subst (λ (r : Result _ DbError). WritesSynced old new c.args.name.now c.args.bytes.now r) (sym is) (unwritten old new c.args.name.now c.args.bytes.now c.in_err-create_file.field-0.0 c.in_err-create_file.ensures.creates.synced)
+
+pub returns-in-Err-clause-synced : goal.returns-in-Err-clause-synced
+returns-in-Err-clause-synced g c =
+    unwritten_behind (g.S.Store.facts c.args.store.now) (g.S.Store.facts c.create_file.new.store) (g.S.Store.facts c.append.new.self) c.args.name.now c.args.bytes.now c.refusal_of.result
+    c.in-Err.ensures.counts.faithful c.in_ok-create_file.ensures.creates.synced c.append.ensures.synced
+
+pub returns-in-Err-sync-clause-synced : goal.returns-in-Err-sync-clause-synced
+returns-in-Err-sync-clause-synced g c =
+    let back = c.in-Err-sync.ensures.counts.faithful in
+    unwritten_behind (g.S.Store.facts c.args.store.now) (g.S.Store.facts c.create_file.new.store) (g.S.Store.facts c.sync.new.self) c.args.name.now c.args.bytes.now c.refusal_of-in-Err-sync.result
+    (λ f. c.in_default.ensures.counts.faithful (back f)) c.in_ok-create_file.ensures.creates.synced (λ f. c.in-Err-sync.ensures.unsynced f ∙ c.append.ensures.synced (back f))
+
+pub returns-clause-synced : goal.returns-clause-synced
+returns-clause-synced g c =
+    written (g.S.Store.facts c.args.store.now) (g.S.Store.facts c.create_file.new.store) (g.S.Store.facts c.append.new.self) (g.S.Store.facts c.sync.new.self) c.args.name.now c.args.bytes.now
+    c.in_default-sync.ensures.counts.faithful c.in_default.ensures.counts.faithful c.in_ok-create_file.ensures.creates.synced c.append.ensures.synced c.in_default-sync.ensures.synced c.sync.ensures.same (returns-clause-files g c).ok

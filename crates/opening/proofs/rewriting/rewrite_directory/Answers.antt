@@ -1,0 +1,154 @@
+use Rattle.ikey.specs.Orders.{order_of}
+use Rattle.std.proofs.Common.{◌≡◌, List, [], ◌∷◌, ◌++◌, length, ℕ, Result, Ok, Err, IsTrue, OnOk, sym, subst, ◌∙◌, rules}
+use Rattle.coding.specs.declared.error.DbError.{DbError}
+use Rattle.opening.proofs.StoreCalls.{created, Creates}
+use Rattle.opening.specs.internal.Calls.{Writes, MakesCurrent}
+use Rattle.edits.specs.Names.{name_of}
+use Rattle.edits.specs.declared.names.FileName.TheVariants.{Manifest}
+use Rattle.opening.specs.internal.Opening.{Rewrites}
+use Rattle.opening.specs.Durable.{SyncsOnly, LeavesDurable}
+use Rattle.opening.specs.internal.Durable.{WritesSynced, MakesSynced, HasDurable, Spares}
+use Rattle.opening.proofs.Reopening.{OpenLaws, numbered_of, next_of}
+use Rattle.opening.proofs.Syncing.{manifest_spared, manifest_unwritten, current_spared, current_interrupted, log_durable_named, log_spared}
+use Rattle.opening.proofs.OpenSteps.{manifest_failed, current_failed, log_created}
+use Rattle.opening.proofs.rewriting.rewrite_directory.Goals as goal
+
+pub returns-in_err-write_file-clause-files : goal.returns-in_err-write_file-clause-files
+returns-in_err-write_file-clause-files g c =
+    let order = order_of g.K.KeyOrder.name g.K.KeyOrder.cmp in
+    let old = g.S.Store.facts c.args.store.now in
+    let new = g.S.Store.facts c.write_file.new.store in
+    let e = c.in_err-write_file.field-0.0 in
+    let is : c.from_residual.result ≡ Err e = search rules in
+    let N : List ℕ → Type 0 = λ name. Writes old new name c.args.rewrite.now.manifest.items (Err e) in
+    let B : List ℕ → Type 0 = λ bytes. Writes old new c.as_str.result.now bytes (Err e) in
+    let written = subst N (c.as_str.ensures.value ∙ c.requires.planned.manifest_name) (subst B c.deref.ensures.value c.in_err-write_file.ensures.files) in
+    let laws : OpenLaws = record { free = c.free_change_law.ensures; reopen = c.reopen_law.ensures; log = c.begin_log_law.ensures; manifest = c.one_manifest.ensures; directory = c.one_directory.ensures; recovered = c.recovered_law.ensures } in
+    subst (λ (r : Result _ DbError). Rewrites order old new c.args.found.now (length c.args.rewrite.now.manifest.items) r) (sym is)
+    (manifest_failed order laws old c.args.found.now c.requires.usable c.args.rewrite.now.manifest.items c.requires.planned.manifest new e written)
+
+pub returns-in_err-make_current-clause-files : goal.returns-in_err-make_current-clause-files
+returns-in_err-make_current-clause-files g c =
+    let order = order_of g.K.KeyOrder.name g.K.KeyOrder.cmp in
+    let old = g.S.Store.facts c.args.store.now in
+    let mid = g.S.Store.facts c.write_file.new.store in
+    let new = g.S.Store.facts c.make_current.new.store in
+    let e = c.in_err-make_current.field-0.0 in
+    let is : c.from_residual-in_err-make_current.result ≡ Err e = search rules in
+    let done = Ok c.in_ok-write_file.field-0 in
+    let N : List ℕ → Type 0 = λ name. Writes old mid name c.args.rewrite.now.manifest.items done in
+    let B : List ℕ → Type 0 = λ bytes. Writes old mid c.as_str.result.now bytes done in
+    let written = subst N (c.as_str.ensures.value ∙ c.requires.planned.manifest_name) (subst B c.deref.ensures.value c.in_ok-write_file.ensures.files) in
+    let M : List ℕ → Type 0 = λ name. MakesCurrent mid new name c.args.rewrite.now.current.items (Err e) in
+    let C : List ℕ → Type 0 = λ bytes. MakesCurrent mid new c.as_str-2.result.now bytes (Err e) in
+    let made = subst M (c.as_str-2.ensures.value ∙ c.requires.planned.temporary_name) (subst C c.deref-2.ensures.value c.in_err-make_current.ensures.files) in
+    let laws : OpenLaws = record { free = c.free_change_law.ensures; reopen = c.reopen_law.ensures; log = c.begin_log_law.ensures; manifest = c.one_manifest.ensures; directory = c.one_directory.ensures; recovered = c.recovered_law.ensures } in
+    subst (λ (r : Result _ DbError). Rewrites order old new c.args.found.now (length c.args.rewrite.now.manifest.items) r) (sym is)
+    (current_failed order laws old c.args.found.now c.requires.usable c.args.rewrite.now.manifest.items c.requires.planned.manifest mid new c.args.rewrite.now.current.items e written c.requires.planned.current made)
+
+pub returns-clause-files : goal.returns-clause-files
+returns-clause-files g c =
+    let order = order_of g.K.KeyOrder.name g.K.KeyOrder.cmp in
+    let old = g.S.Store.facts c.args.store.now in
+    let mid = g.S.Store.facts c.write_file.new.store in
+    let most = g.S.Store.facts c.make_current.new.store in
+    let new = g.S.Store.facts c.create_file.new.store in
+    let done = Ok c.in_ok-write_file.field-0 in
+    let set = Ok c.in_ok-make_current.field-0 in
+    let N : List ℕ → Type 0 = λ name. Writes old mid name c.args.rewrite.now.manifest.items done in
+    let B : List ℕ → Type 0 = λ bytes. Writes old mid c.as_str.result.now bytes done in
+    let written = subst N (c.as_str.ensures.value ∙ c.requires.planned.manifest_name) (subst B c.deref.ensures.value c.in_ok-write_file.ensures.files) in
+    let M : List ℕ → Type 0 = λ name. MakesCurrent mid most name c.args.rewrite.now.current.items set in
+    let C : List ℕ → Type 0 = λ bytes. MakesCurrent mid most c.as_str-2.result.now bytes set in
+    let made = subst M (c.as_str-2.ensures.value ∙ c.requires.planned.temporary_name) (subst C c.deref-2.ensures.value c.in_ok-make_current.ensures.files) in
+    let L : List ℕ → Type 0 = λ name. Creates most new name c.create_file.result in
+    let created = subst L (c.as_str-3.ensures.value ∙ c.requires.planned.log_name) (created most new c.as_str-3.result.now c.create_file.result c.create_file.ensures.call c.create_file.ensures.counted c.create_file.ensures.refused c.create_file.ensures.creates) in
+    let laws : OpenLaws = record { free = c.free_change_law.ensures; reopen = c.reopen_law.ensures; log = c.begin_log_law.ensures; manifest = c.one_manifest.ensures; directory = c.one_directory.ensures; recovered = c.recovered_law.ensures } in
+    log_created order laws old c.args.found.now c.requires.usable c.args.rewrite.now.manifest.items c.requires.planned.manifest mid most new c.args.rewrite.now.current.items c.create_file.result written c.requires.planned.current made created
+
+-- ---- what is synced, and which files are spared
+
+pub returns-in_err-write_file-clause-durable : goal.returns-in_err-write_file-clause-durable
+returns-in_err-write_file-clause-durable g c =
+    let old = g.S.Store.facts c.args.store.now in
+    let new = g.S.Store.facts c.write_file.new.store in
+    let e = c.in_err-write_file.field-0.0 in
+    let is : c.from_residual.result ≡ Err e = search rules in
+    let found = c.args.found.now in
+    let P : List ℕ → List ℕ → Type 0 = λ name bytes. Writes old new name bytes (Err e) × WritesSynced old new name bytes (Err e) in
+    let both = subst (λ name. P name c.args.rewrite.now.manifest.items) (c.as_str.ensures.value ∙ c.requires.planned.manifest_name) (subst (λ bytes. P c.as_str.result.now bytes) c.deref.ensures.value (c.in_err-write_file.ensures.files, c.in_err-write_file.ensures.synced)) in
+    subst (λ (r : Result _ DbError). LeavesDurable old new r) (sym is)
+    (manifest_unwritten found.number (numbered_of found c.requires.usable) c.args.rewrite.now.manifest.items old new new e both.0 both.1)
+
+pub returns-in_err-write_file-clause-spared : goal.returns-in_err-write_file-clause-spared
+returns-in_err-write_file-clause-spared g c =
+    let old = g.S.Store.facts c.args.store.now in
+    let new = g.S.Store.facts c.write_file.new.store in
+    let failed = Err c.in_err-write_file.field-0.0 in
+    let found = c.args.found.now in
+    let P : List ℕ → List ℕ → Type 0 = λ name bytes. Writes old new name bytes failed × WritesSynced old new name bytes failed in
+    let both = subst (λ name. P name c.args.rewrite.now.manifest.items) (c.as_str.ensures.value ∙ c.requires.planned.manifest_name) (subst (λ bytes. P c.as_str.result.now bytes) c.deref.ensures.value (c.in_err-write_file.ensures.files, c.in_err-write_file.ensures.synced)) in
+    manifest_spared found.number (numbered_of found c.requires.usable) c.args.rewrite.now.manifest.items old new new both.0 both.1
+
+pub returns-in_err-make_current-clause-durable : goal.returns-in_err-make_current-clause-durable
+returns-in_err-make_current-clause-durable g c =
+    let old = g.S.Store.facts c.args.store.now in
+    let mid = g.S.Store.facts c.write_file.new.store in
+    let new = g.S.Store.facts c.make_current.new.store in
+    let e = c.in_err-make_current.field-0.0 in
+    let is : c.from_residual-in_err-make_current.result ≡ Err e = search rules in
+    let found = c.args.found.now in
+    let done = Ok c.in_ok-write_file.field-0 in
+    let P : List ℕ → List ℕ → Type 0 = λ name bytes. Writes old mid name bytes done × WritesSynced old mid name bytes done in
+    let wrote = subst (λ name. P name c.args.rewrite.now.manifest.items) (c.as_str.ensures.value ∙ c.requires.planned.manifest_name) (subst (λ bytes. P c.as_str.result.now bytes) c.deref.ensures.value (c.in_ok-write_file.ensures.files, c.in_ok-write_file.ensures.synced)) in
+    let Q : List ℕ → List ℕ → Type 0 = λ name bytes. MakesCurrent mid new name bytes (Err e) × MakesSynced mid new name bytes (Err e) in
+    let made = subst (λ name. Q name (name_of (Manifest found.number) ++ 10 ∷ [])) (c.as_str-2.ensures.value ∙ c.requires.planned.temporary_name) (subst (λ bytes. Q c.as_str-2.result.now bytes) (c.deref-2.ensures.value ∙ c.requires.planned.current) (c.in_err-make_current.ensures.files, c.in_err-make_current.ensures.synced)) in
+    subst (λ (r : Result _ DbError). LeavesDurable old new r) (sym is)
+    (current_interrupted found.number (numbered_of found c.requires.usable) c.args.rewrite.now.manifest.items old mid wrote.0 wrote.1 new e made.0 made.1)
+
+pub returns-in_err-make_current-clause-spared : goal.returns-in_err-make_current-clause-spared
+returns-in_err-make_current-clause-spared g c =
+    let old = g.S.Store.facts c.args.store.now in
+    let mid = g.S.Store.facts c.write_file.new.store in
+    let new = g.S.Store.facts c.make_current.new.store in
+    let e = c.in_err-make_current.field-0.0 in
+    let found = c.args.found.now in
+    let done = Ok c.in_ok-write_file.field-0 in
+    let P : List ℕ → List ℕ → Type 0 = λ name bytes. Writes old mid name bytes done × WritesSynced old mid name bytes done in
+    let wrote = subst (λ name. P name c.args.rewrite.now.manifest.items) (c.as_str.ensures.value ∙ c.requires.planned.manifest_name) (subst (λ bytes. P c.as_str.result.now bytes) c.deref.ensures.value (c.in_ok-write_file.ensures.files, c.in_ok-write_file.ensures.synced)) in
+    let Q : List ℕ → List ℕ → Type 0 = λ name bytes. MakesCurrent mid new name bytes (Err e) × MakesSynced mid new name bytes (Err e) in
+    let made = subst (λ name. Q name (name_of (Manifest found.number) ++ 10 ∷ [])) (c.as_str-2.ensures.value ∙ c.requires.planned.temporary_name) (subst (λ bytes. Q c.as_str-2.result.now bytes) (c.deref-2.ensures.value ∙ c.requires.planned.current) (c.in_err-make_current.ensures.files, c.in_err-make_current.ensures.synced)) in
+    current_spared found.number (numbered_of found c.requires.usable) c.args.rewrite.now.manifest.items old mid wrote.0 wrote.1 new e made.0 made.1
+
+-- once all is written
+done_durable : (g : _) (c : goal.After-create_file g)
+    → LeavesDurable (g.S.Store.facts c.args.store.now) (g.S.Store.facts c.create_file.new.store) c.create_file.result × (IsTrue (g.S.Store.facts c.create_file.new.store).faithful → OnOk c.create_file.result (HasDurable c.args.found.now.number (g.S.Store.facts c.create_file.new.store)))
+    × (IsTrue (g.S.Store.facts c.create_file.new.store).faithful → Spares (g.S.Store.facts c.args.store.now) (g.S.Store.facts c.create_file.new.store))
+done_durable g c =
+    let old = g.S.Store.facts c.args.store.now in
+    let mid = g.S.Store.facts c.write_file.new.store in
+    let most = g.S.Store.facts c.make_current.new.store in
+    let new = g.S.Store.facts c.create_file.new.store in
+    let found = c.args.found.now in
+    let done = Ok c.in_ok-write_file.field-0 in
+    let set = Ok c.in_ok-make_current.field-0 in
+    let P : List ℕ → List ℕ → Type 0 = λ name bytes. Writes old mid name bytes done × WritesSynced old mid name bytes done in
+    let wrote = subst (λ name. P name c.args.rewrite.now.manifest.items) (c.as_str.ensures.value ∙ c.requires.planned.manifest_name) (subst (λ bytes. P c.as_str.result.now bytes) c.deref.ensures.value (c.in_ok-write_file.ensures.files, c.in_ok-write_file.ensures.synced)) in
+    let Q : List ℕ → List ℕ → Type 0 = λ name bytes. MakesCurrent mid most name bytes set × MakesSynced mid most name bytes set in
+    let made = subst (λ name. Q name (name_of (Manifest found.number) ++ 10 ∷ [])) (c.as_str-2.ensures.value ∙ c.requires.planned.temporary_name) (subst (λ bytes. Q c.as_str-2.result.now bytes) (c.deref-2.ensures.value ∙ c.requires.planned.current) (c.in_ok-make_current.ensures.files, c.in_ok-make_current.ensures.synced)) in
+    let L : List ℕ → Type 0 = λ name. Creates most new name c.create_file.result × (IsTrue new.faithful → SyncsOnly most.synced new.synced name) in
+    let created = subst L (c.as_str-3.ensures.value ∙ c.requires.planned.log_name) ((created most new c.as_str-3.result.now c.create_file.result c.create_file.ensures.call c.create_file.ensures.counted c.create_file.ensures.refused c.create_file.ensures.creates), c.create_file.ensures.creates.synced) in
+    let num = numbered_of found c.requires.usable in
+    let next = next_of found c.requires.usable in
+    let manifest = c.args.rewrite.now.manifest.items in
+    let durable = log_durable_named found.number num manifest old mid wrote.0 wrote.1 most made.0 made.1 next new c.create_file.result created.0 created.1 in
+    (durable.0, durable.1, log_spared found.number num manifest old mid wrote.0 wrote.1 most made.0 made.1 next new c.create_file.result created.0 created.1)
+
+pub returns-clause-durable : goal.returns-clause-durable
+returns-clause-durable g c = (done_durable g c).0
+
+pub returns-clause-current : goal.returns-clause-current
+returns-clause-current g c = (done_durable g c).1
+
+pub returns-clause-spared : goal.returns-clause-spared
+returns-clause-spared g c = (done_durable g c).2

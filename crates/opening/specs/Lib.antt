@@ -1,0 +1,5 @@
+pub mod Durable
+pub mod Looking
+pub mod Refusals
+pub mod Telling
+pub mod internal

@@ -1,0 +1,49 @@
+-- What an open has before its database is made, and what it leaves of the directory (LevelDB's db/db_impl.cc, DB::Open).
+use Rattle.std.specs.Prelude.{◌≡◌, ◌⊎◌, ◌<◌, ◌≤◌, ◌+◌, ◌^◌, ℕ, true, IsTrue, None, List, [], map, string_bytes}
+use Rattle.std.specs.FinMap.{contains_key}
+use Rattle.coding.specs.declared.error.DbError.{DbError}
+use Rattle.coding.specs.declared.error.DbError.TheVariants.{OutOfMemory, Io}
+use Rattle.store.specs.Files.{Facts, Files}
+use Rattle.ikey.specs.Orders.{Order}
+use Rattle.ikey.specs.declared.entry.Entry.{Entry}
+use Rattle.edits.specs.Names.{name_of}
+use Rattle.edits.specs.declared.names.FileName.TheVariants.{Current, Log}
+use Rattle.memtables.specs.Memories.{Memories, logged_in, sealed_inserts}
+use Rattle.recover.specs.Numbers.{IsFree}
+use Rattle.recover.specs.Tables.{TableContent}
+use Rattle.versions.specs.Levels.{ListsSameTables, AreInOrder}
+use Rattle.machine.specs.declared.command.Mode.{Mode}
+use Rattle.opening.specs.declared.beginning.Begun.{Begun}
+use Rattle.opening.specs.internal.Directories.{IsDirectoryOf, CanAppend}
+use Rattle.opening.specs.internal.Knowing.{HasLogs, KnowsDirectory}
+use Rattle.opening.specs.internal.Opening.{AllowsFiles}
+
+-- Over any store: the log is an empty one under its name, the tables are in order, and the sequences fit.
+pub record IsBegun {K : Type 0} (order : Order) (begun : Begun K) : Type 0 where
+  pub named : string_bytes begun.log.name ≡ name_of (Log begun.log.number)
+  pub empty : begun.log.end ≡ 0
+  pub in_order : AreInOrder order.cmp begun.version.value.tables
+  pub fits : begun.memory.last < 2 ^ 56
+  -- nothing is read beside what the logs have
+  pub written : begun.memory.current.inserts ≡ []
+
+-- What a directory says is in memory: the entries of its logs, the last sequence and the tables. A record can be put behind
+-- the new log.
+pub record HasBegun {K : Type 0} (order : Order) (files : Files) (begun : Begun K) (tables : List TableContent) (entries : List Entry) (used : ℕ) : Type 0 where
+  pub inserts : logged_in begun.memory ≡ entries
+  pub last : begun.memory.last ≡ used
+  pub version : ListsSameTables (map (λ (content : TableContent). content.placed) tables) begun.version.value.tables
+  pub log : CanAppend order files begun.log.number begun.log.end tables entries used
+  pub logs : HasLogs log.directory begun.log.number begun.memory
+  pub knows : KnowsDirectory order files log.directory begun.log.number begun.directory
+
+-- So it is for what the directory says, wherever it is empty or consistent.
+pub record Begins {K : Type 0} (order : Order) (mode : Mode) (old new : Files) (begun : Begun K) : Type 0 where
+  pub allowed : AllowsFiles mode old
+  pub made : contains_key new (name_of Current) ≡ true
+  pub has : (tables : List TableContent) (entries : List Entry) (used : ℕ) → IsDirectoryOf order old tables entries used → HasBegun order new begun tables entries used
+  pub least : (n : ℕ) → IsFree order old n → begun.directory.numbers.next ≤ n + 2
+
+-- A refusal came before anything was written, or for want of memory, or since the store failed.
+abbrev pub IsUnwritten : DbError → Facts → Facts → Type 0
+IsUnwritten error old new = (IsTrue new.faithful → new.files ≡ old.files) ⊎ ((error ≡ OutOfMemory) ⊎ (error ≡ Io))

@@ -1,0 +1,32 @@
+-- What the calls of an open leave of what is synced.
+use Rattle.std.specs.Prelude.{◌≡◌, ◌≢◌, ◌⊎◌, ℕ, Some, IsTrue, List, Result, OnOk, OnErr}
+use Rattle.coding.specs.declared.error.DbError.{DbError}
+use Rattle.store.specs.Files.{Facts}
+use Rattle.edits.specs.Names.{name_of, IsFileName, IsNumbered}
+use Rattle.edits.specs.declared.names.FileName.{FileName}
+use Rattle.edits.specs.declared.names.FileName.TheVariants.{Current, Lock}
+use Rattle.opening.specs.Durable.{HasSyncedCurrent, IsDurableAt, LeavesFile, SyncsOnly}
+
+-- The name of a file that an open neither writes nor removes: another program's, or the lock's.
+abbrev pub IsSpared : List ℕ → Type 0
+IsSpared name = (file : FileName) → IsFileName file → file ≢ Lock → name ≢ name_of file
+
+-- Such files, and what of them is synced, are as before.
+abbrev pub Spares : Facts → Facts → Type 0
+Spares old new = (name : List ℕ) → IsSpared name → LeavesFile old new name
+
+-- A file that was written anew is synced whole.
+pub record WritesSynced (old new : Facts) (name bytes : List ℕ) (result : Result (Unit {0}) DbError) : Type 0 where
+  pub ok : IsTrue new.faithful → OnOk result (new.synced name ≡ Some bytes)
+  pub others : IsTrue new.faithful → SyncsOnly old.synced new.synced name
+
+-- It is so wherever `CURRENT` has changed, since what takes its name was synced before.
+pub record MakesSynced (old new : Facts) (temporary bytes : List ℕ) (result : Result (Unit {0}) DbError) : Type 0 where
+  pub ok : IsTrue new.faithful → OnOk result (HasSyncedCurrent new bytes)
+  pub err : IsTrue new.faithful → OnErr result (temporary ≢ name_of Current → LeavesFile old new (name_of Current) ⊎ HasSyncedCurrent new bytes)
+  pub others : IsTrue new.faithful → (q : List ℕ) → q ≢ temporary → q ≢ name_of Current → new.synced q ≡ old.synced q
+
+-- So of this one, whose number fits.
+pub record HasDurable (n : ℕ) (facts : Facts) : Type 0 where
+  pub numbered : IsNumbered n
+  pub durable : IsDurableAt n facts

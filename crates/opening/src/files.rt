@@ -1,0 +1,37 @@
+//! The store's calls by which an open writes, with the database's refusals.
+
+ghost use Rattle.std.specs.Prelude.{IsTrue};
+ghost use Rattle.opening.specs.internal.Calls.{Writes, MakesCurrent};
+ghost use Rattle.opening.specs.Durable.{SyncsOnly};
+ghost use Rattle.opening.specs.internal.Durable.{WritesSynced, MakesSynced};
+
+use coding::DbError;
+use directory_writes::{create_file, refusal_of};
+use store::Store;
+
+/// Writes a file anew, and has the device keep it.
+pub fn write_file<S: Store>(store: &mut S, name: &str, bytes: &[u8]) -> Result<(), DbError>
+    ensures files { Writes (S.facts store.old) (S.facts store.new) name.now bytes.now result }
+    ensures synced { WritesSynced (S.facts store.old) (S.facts store.new) name.now bytes.now result }
+{
+    create_file(store, name)?;
+    if let Err(error) = store.append(name, bytes) {
+        return Err(refusal_of(error));
+    }
+    if let Err(error) = store.sync(name) {
+        return Err(refusal_of(error));
+    }
+    Ok(())
+}
+
+/// Writes `CURRENT`, by way of a temporary file that takes its name.
+pub fn make_current<S: Store>(store: &mut S, temporary: &str, bytes: &[u8]) -> Result<(), DbError>
+    ensures files { MakesCurrent (S.facts store.old) (S.facts store.new) temporary.now bytes.now result }
+    ensures synced { MakesSynced (S.facts store.old) (S.facts store.new) temporary.now bytes.now result }
+{
+    write_file(store, temporary, bytes)?;
+    if let Err(error) = store.rename(temporary, "CURRENT") {
+        return Err(refusal_of(error));
+    }
+    Ok(())
+}
