@@ -1,0 +1,5 @@
+pub mod Walking
+pub mod Iterations
+pub mod Shown
+pub mod Beginnings
+pub mod Starting

@@ -1,0 +1,7 @@
+use Rattle.reader.proofs.reader.Reader.open.Goals as goal
+
+pub returns-in-Ok-clause-shows : goal.returns-in-Ok-clause-shows
+returns-in-Ok-clause-shows g c = rw c.sources_over-source.ensures at c.in-Ok.ensures.shows
+
+pub returns-in-Ok-clause-found : goal.returns-in-Ok-clause-found
+returns-in-Ok-clause-found g c = rw c.sources_over-source.ensures at c.in-Ok.ensures.found

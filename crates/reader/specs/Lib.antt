@@ -1,0 +1,5 @@
+pub mod ReadOnly
+pub mod Refusals
+pub mod Moving
+pub mod Readers
+pub mod internal

@@ -1,0 +1,163 @@
+//! A store that can't be changed.
+
+ghost use Rattle.std.specs.Prelude.{◌≡◌};
+ghost use Rattle.store.specs.Files.{Facts};
+ghost use Rattle.reader.specs.ReadOnly.{looked_at, IsKeptOut};
+
+use std::alloc::Global;
+use store::{Store, StoreError};
+
+/// A store of which only the reading calls are used, `list`, `len` and `read_at`. Each call that changes files or asks for the
+/// lock fails here, and never comes to the store within: so whoever is given one can't change a file, whatever that store is.
+#[derive(Drop)]
+pub struct ReadOnly<S> {
+    inner: S,
+    failures: u64,
+}
+
+impl<S: Store> ReadOnly<S> {
+    ghost use Rattle.std.specs.Prelude.{◌<◌, ◌≤◌, ◌+◌, ◌^◌, ◌≢◌, false, Err, IfErr, IsTrue};
+    ghost use Rattle.store.specs.declared.error.StoreError.TheVariants.{Device, Missing};
+
+    /// This store, of which no call has failed here yet. It isn't called.
+    pub fn over(inner: S) -> Self
+        ensures { looked_at S.facts result ≡ record (S.facts inner) { locked = false; failures = 0 } }
+    {
+        ReadOnly { inner, failures: 0 }
+    }
+
+    /// The store within.
+    pub fn into_inner(self) -> S
+        ensures files { (S.facts result).files ≡ (looked_at S.facts self).files }
+        ensures synced { (S.facts result).synced ≡ (looked_at S.facts self).synced }
+        ensures faithful { IsTrue (looked_at S.facts self).faithful → IsTrue (S.facts result).faithful }
+    {
+        self.inner
+    }
+
+    // Answers Device for a call that isn't made, and counts it; or Ok, where no further failure can be counted.
+    fn refuse(&mut self) -> Result<(), StoreError>
+        ensures kept { IsKeptOut self.old self.new result }
+        ensures device { IfErr result (λ error. error ≡ Device) }
+    {
+        if self.failures == u64::MAX {
+            return Ok(());
+        }
+        self.failures += 1;
+        Err(StoreError::Device)
+    }
+
+    // The error of a call that isn't made: Device, which is counted, or Memory, where no further failure can be counted.
+    fn refusal(&mut self) -> StoreError
+        ensures kept { IsKeptOut {T = Unit {0}} self.old self.new (Err result) }
+        ensures missing { result ≢ Missing }
+    {
+        match self.refuse() {
+            Ok(()) => StoreError::Memory,
+            Err(error) => error,
+        }
+    }
+
+    // The error of a reading call. A failure of the store within is counted here too.
+    fn told(&mut self, error: StoreError) -> StoreError
+        ensures inner { self.new.inner ≡ self.old.inner }
+        ensures device { result ≡ Device → self.old.failures < self.new.failures }
+        ensures others { result ≢ Device → self.new.failures ≡ self.old.failures }
+        ensures missing { result ≡ Missing → error ≡ Missing }
+        // It is handed on, unless no further failure can be counted.
+        ensures same { result ≢ error → 2 ^ 64 ≤ self.new.failures + 1 }
+    {
+        match error {
+            StoreError::Device => self.refusal(),
+            other => other,
+        }
+    }
+}
+
+impl<S: Store> Store for ReadOnly<S> {
+    ghost use Rattle.std.specs.Prelude.{◌≡◌, ◌≢◌, Ok, Err, IsErr, IfErr};
+    ghost use Rattle.store.specs.declared.error.StoreError.TheVariants.{Device, Missing};
+
+    ghost facts = { λ store. looked_at S.facts store };
+
+    fn failures(&self) -> u64 {
+        self.failures
+    }
+
+    fn list(&mut self, alloc: Global) -> Result<Vec<String>, StoreError> {
+        match self.inner.list(alloc) {
+            Ok(names) => Ok(names),
+            Err(error) => Err(self.told(error)),
+        }
+    }
+
+    fn len(&mut self, name: &str) -> Result<u64, StoreError> {
+        match self.inner.len(name) {
+            Ok(len) => Ok(len),
+            Err(error) => Err(self.told(error)),
+        }
+    }
+
+    fn read_at(
+        &mut self,
+        alloc: Global,
+        name: &str,
+        offset: u64,
+        count: usize,
+    ) -> Result<Vec<u8>, StoreError> {
+        match self.inner.read_at(alloc, name, offset, count) {
+            Ok(bytes) => Ok(bytes),
+            Err(error) => Err(self.told(error)),
+        }
+    }
+
+    fn create(&mut self, _name: &str) -> Result<(), StoreError>
+        ensures kept { IsKeptOut self.old self.new result }
+        ensures missing { result ≢ Err Missing }
+    {
+        Err(self.refusal())
+    }
+
+    fn append(&mut self, _name: &str, _bytes: &[u8]) -> Result<(), StoreError>
+        ensures kept { IsKeptOut self.old self.new result }
+        ensures missing { result ≢ Err Missing }
+    {
+        Err(self.refusal())
+    }
+
+    fn sync(&mut self, _name: &str) -> Result<(), StoreError>
+        ensures kept { IsKeptOut self.old self.new result }
+        ensures device { IfErr result (λ error. error ≡ Device) }
+    {
+        self.refuse()
+    }
+
+    fn rename(&mut self, _from: &str, _to: &str) -> Result<(), StoreError>
+        ensures kept { IsKeptOut self.old self.new result }
+        ensures missing { result ≢ Err Missing }
+    {
+        Err(self.refusal())
+    }
+
+    fn remove(&mut self, _name: &str) -> Result<(), StoreError>
+        ensures kept { IsKeptOut self.old self.new result }
+        ensures device { IfErr result (λ error. error ≡ Device) }
+    {
+        self.refuse()
+    }
+
+    fn lock(&mut self) -> Result<bool, StoreError>
+        ensures kept { IsKeptOut self.old self.new result }
+        ensures refused { IsErr result }
+        ensures missing { result ≢ Err Missing }
+    {
+        Err(self.refusal())
+    }
+
+    fn unlock(&mut self) -> Result<(), StoreError>
+        ensures kept { self.new ≡ self.old }
+        ensures done { result ≡ Ok tt }
+    {
+        Ok(())
+    }
+}
