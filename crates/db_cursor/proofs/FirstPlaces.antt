@@ -23,7 +23,8 @@ use Rattle.db_cursor.specs.Places.{ListsSource}
 use Rattle.memtables.specs.Memories.{AreMemories, logged_in, sealed_inserts, table_in}
 use Rattle.memtables.specs.Places.{ListsMemories}
 use Rattle.memtable.specs.Contents.{Contents as MemoryContents}
-use Rattle.db_cursor.specs.Rows.{IsOneOf, memory_spots, place_in, spot_of, spots_of}
+use Rattle.db_cursor.specs.Rows.{IsGenerationOf}
+use Rattle.db_cursor.specs.internal.Rows.{memory_spots, place_in, spot_of, spots_of}
 use Rattle.db_cursor.specs.Scans.{BeginsScan, IsOnePastLimit, ListsMerged, reads_memory, reads_table, tables_of}
 use Rattle.db_cursor.specs.Whole.{Whole}
 use Rattle.db_cursor.proofs.Joining.{all_entries, entries_of, seen_from, seen_has, union_from, union_has, view_up_to}
@@ -59,7 +60,7 @@ module _ {K : Type 0} {g : _} (order : Order) (total : IsTotalOrder order.cmp)
     (generation : scan.generation ≡ whole.memory.generation) (sealed : scan.sealed ≡ whole.memory.sealed) (version : tables_of scan ≡ tables)
     (spots : map spot_of (map (λ (child : Child (SourceCursor K g)). child.cursor) scan.walk.cursor.children.items) ≡ memory_spots up_to whole.memory.generation whole.memory.sealed ++ spots_of tables (all_ranges tables))
     (are : AreMemories whole.memory)
-    (memory : (generation : ℕ) (table : MemoryContents) → IsOneOf whole.memory.generation whole.memory.sealed generation → table_in whole.memory generation ≡ Some table
+    (memory : (generation : ℕ) (table : MemoryContents) → IsGenerationOf whole.memory.generation whole.memory.sealed generation → table_in whole.memory generation ≡ Some table
     → ListsMemories order.cmp (place_in up_to generation) whole.memory (listed (seen_entries order.cmp table.inserts up_to) None)) where
   abbrev children : List (Child (SourceCursor K g))
   children = scan.walk.cursor.children.items
@@ -176,6 +177,6 @@ module _ {K : Type 0} {g : _} (order : Order) (total : IsTotalOrder order.cmp)
         | inr older ↦ newer a b (sources.among_back (sealed_inserts whole.memory) whole.memory.current.inserts a i) older key
       ]
 
-      one_of : (named : ℕ) → reads_memory scan named → IsOneOf whole.memory.generation whole.memory.sealed named
+      one_of : (named : ℕ) → reads_memory scan named → IsGenerationOf whole.memory.generation whole.memory.sealed named
       one_of named (inl e) = inl (e ∙ generation)
       one_of named (inr e) = inr (sym sealed ∙ e)

@@ -10,9 +10,10 @@ use Rattle.level_cursor.specs.Rows.{rows_tables}
 use Rattle.level_cursor.specs.RowLaws.{row_still}
 use Rattle.db_cursor.specs.declared.source_cursor.SourceCursor.{SourceCursor}
 use Rattle.db_cursor.specs.declared.source_cursor.SourceCursor.TheVariants.{Memory, Row}
-use Rattle.db_cursor.specs.Inputs.{MergeIsKept, ReadsNoMemory}
+use Rattle.db_cursor.specs.internal.Inputs.{MergeIsKept}
+use Rattle.db_cursor.specs.Inputs.{ReadsNoMemory}
 use Rattle.db_cursor.specs.Places.{KeepsSource, LimitedSource, ListsSource, OneGoesOver}
-use Rattle.db_cursor.specs.SourceLaws.{source_kept, source_limits}
+use Rattle.db_cursor.specs.internal.SourceLaws.{source_kept, source_limits}
 use Rattle.db_cursor.specs.Whole.{Whole}
 use Rattle.db_cursor.proofs.ReadTables.{source_stays}
 use Rattle.db_cursor.proofs.Sights.{merged_as}

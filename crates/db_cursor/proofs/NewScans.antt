@@ -20,7 +20,7 @@ use Rattle.ikey.proofs.SearchedSources as sources
 use Rattle.recover.specs.Tables.{TableContent, HasTables}
 use Rattle.recover.proofs.NameScan.{in_cons, in_none}
 use Rattle.level_cursor.specs.declared.row_cursor.RowCursor.{RowCursor}
-use Rattle.level_cursor.specs.InRows.{HasNumber, HaveLists, IsOpenLimited, IsOpenNumber}
+use Rattle.level_cursor.specs.InRows.{ListsNumber, HaveLists, IsOpenLimited, IsOpenNumber}
 use Rattle.level_cursor.specs.Rows.{ListsRow, rows_tables}
 use Rattle.db_cursor.specs.declared.source_cursor.SourceCursor.{SourceCursor}
 use Rattle.db_cursor.specs.declared.source_cursor.SourceCursor.TheVariants.{Memory, Row}
@@ -28,9 +28,10 @@ use Rattle.db_cursor.specs.Places.{GoesOver, ListsSource, KeepsSource, LimitedSo
 use Rattle.memtables.specs.Memories.{AreMemories, Memories, sealed_inserts, table_in}
 use Rattle.memtables.specs.Places.{ListsMemories, MemoriesPlace}
 use Rattle.memtable.specs.Contents.{Contents as MemoryContents}
-use Rattle.db_cursor.specs.Rows.{IsOneOf, OfMemory, OfRow, memory_spots, place_in, spot_of, spots_of}
+use Rattle.db_cursor.specs.Rows.{IsGenerationOf}
+use Rattle.db_cursor.specs.internal.Rows.{OfMemory, OfRow, memory_spots, place_in, spot_of, spots_of}
 use Rattle.db_cursor.specs.Scans.{IsOnePastLimit, KeepsWhole}
-use Rattle.db_cursor.specs.SourceLaws.{source_rises}
+use Rattle.db_cursor.specs.internal.SourceLaws.{source_rises}
 use Rattle.db_cursor.specs.Whole.{Whole}
 use Rattle.db_cursor.proofs.Joining.{all_entries, entries_of, share_none}
 use Rattle.db_cursor.proofs.Slices.{IsRow, Kept, LevelsRise, all_ranges, all_rows, entries_in, kept_joined, kept_searched, kept_sources, placed_of, slice}
@@ -38,10 +39,10 @@ use Rattle.version_laws.specs.Places.{HasVersion, lists_of, table_sources}
 use Rattle.version_laws.proofs.Orders.{ForTwo, for_two}
 use Rattle.db_cursor.proofs.ReadTables.{current_there, files_kept, row_kept, sealed_there}
 use Rattle.table_access.specs.Memory.{seen_entries}
-use Rattle.table_access.specs.Tables.{Seen, HasTable, IsSound}
+use Rattle.table_access.specs.Tables.{Seen, HasSoundTable, IsSound}
 use Rattle.std.proofs.lemmas.Option.{slice_get-map}
 use Rattle.store.specs.Files.{Files}
-use Rattle.versions.specs.Levels.{AreInOrder, IsBefore}
+use Rattle.versions.specs.Levels.{AreInOrder, StandsBefore}
 
 -- ---- two lists, side by side
 
@@ -83,14 +84,14 @@ none_of (Some x) e = absurd (cc)
 
 -- ---- tables of a version
 
-levels_behind : (cmp : Cmp) (c : TableContent) (contents : List TableContent) → AllByRecursion (IsBefore cmp c.placed) (placed_of contents) → AllByRecursion (λ (other : TableContent). c.placed.level ≤ other.placed.level) contents
+levels_behind : (cmp : Cmp) (c : TableContent) (contents : List TableContent) → AllByRecursion (StandsBefore cmp c.placed) (placed_of contents) → AllByRecursion (λ (other : TableContent). c.placed.level ≤ other.placed.level) contents
 levels_behind cmp c [] h = tt
 levels_behind cmp c (d ∷ contents) h = (
   elim h.0 [ inl less ↦ omega (arith, less) | inr same ↦ (let e = same.0 in omega (arith, e)) ],
   levels_behind cmp c contents h.1,
 )
 
-pub levels_rise : (cmp : Cmp) (contents : List TableContent) → ForTwo (IsBefore cmp) (placed_of contents) → LevelsRise contents
+pub levels_rise : (cmp : Cmp) (contents : List TableContent) → ForTwo (StandsBefore cmp) (placed_of contents) → LevelsRise contents
 levels_rise cmp [] h = tt
 levels_rise cmp (c ∷ contents) h = (levels_behind cmp c contents h.0, levels_rise cmp contents h.1)
 
@@ -118,11 +119,11 @@ row_within cursor placed i =
     contains_rest cursor.from cursor.version.value.tables placed (contains_front (cursor.end - cursor.from) (drop cursor.from cursor.version.value.tables) placed i)
 
 -- a table of a row has its file
-has_file : (cmp : Cmp) (source : Seen) (tables : List PlacedTable) (lists : List (List InternalEntry)) (placed : PlacedTable) → HaveLists cmp source tables lists → Contains tables placed → (file : List ℕ) × HasTable cmp source placed.table.number file
+has_file : (cmp : Cmp) (source : Seen) (tables : List PlacedTable) (lists : List (List InternalEntry)) (placed : PlacedTable) → HaveLists cmp source tables lists → Contains tables placed → (file : List ℕ) × HasSoundTable cmp source placed.table.number file
 has_file cmp source [] lists placed h i = absurd (in_none placed i)
 has_file cmp source (t ∷ tables) [] placed h i = absurd h
 has_file cmp source (t ∷ tables) (list ∷ lists) placed h i = elim (in_cons t tables placed i) [
-  | inl e ↦ (h.0.file, subst (λ (p : PlacedTable). HasTable cmp source p.table.number h.0.file) e h.0.there)
+  | inl e ↦ (h.0.file, subst (λ (p : PlacedTable). HasSoundTable cmp source p.table.number h.0.file) e h.0.there)
   | inr j ↦ has_file cmp source tables lists placed h.1 j
 ]
 
@@ -164,7 +165,7 @@ module _ {K : Type 0} {g : _} (reads : ℕ → Type 0) (sequence : ℕ) (tables 
   keeps_new cmp numbers (Memory cursor) old new over h k = k.memory cursor h.0 h.1
   keeps_new cmp numbers (Row cursor) old new over h k = row_kept cmp numbers old.seen new.seen cursor over (files_kept cmp reads numbers sequence old new k)
 
-  over_new : (cursor : SourceCursor K g) (number : ℕ) → New cursor → GoesOver cursor number → HasNumber tables number
+  over_new : (cursor : SourceCursor K g) (number : ℕ) → New cursor → GoesOver cursor number → ListsNumber tables number
   over_new (Memory cursor) number h over = absurd over
   over_new (Row cursor) number h (inl has) = (has.0, subst (λ (ts : List PlacedTable). Contains ts has.0) h.1 (row_within cursor has.0 has.1), has.2)
   over_new (Row cursor) number h (inr is) = absurd (subst (λ o. IsOpenNumber o number) h.0 is)
@@ -181,7 +182,7 @@ module _ {K : Type 0} {g : _} (reads : ℕ → Type 0) (sequence : ℕ) (tables 
     new_at i child is = all_at New (cursors_of children) i child.cursor news (cursor_at children i child is)
 
     -- new cursors go over no other tables than these
-    pub all_over : (number : ℕ) → OneGoesOver children number → HasNumber tables number
+    pub all_over : (number : ℕ) → OneGoesOver children number → ListsNumber tables number
     all_over number over = over_new over.1.cursor number (new_at over.0 over.1 over.2) over.3
 
     -- and pass a limit only where the file of one of these does
@@ -193,27 +194,27 @@ module _ {K : Type 0} {g : _} (reads : ℕ → Type 0) (sequence : ℕ) (tables 
 
 module _ {K : Type 0} {g : _} (generation : ℕ) (sealed : Option ℕ) (sequence : ℕ) (tables : List PlacedTable) where
   abbrev NewOver : SourceCursor K g → Type 0
-  NewOver cursor = IsNew (IsOneOf generation sealed) sequence tables cursor
+  NewOver cursor = IsNew (IsGenerationOf generation sealed) sequence tables cursor
 
-  new_memory : (cursor : SourceCursor K g) (named : ℕ) → IsOneOf generation sealed named → spot_of cursor ≡ OfMemory (place_in sequence named) → NewOver cursor
+  new_memory : (cursor : SourceCursor K g) (named : ℕ) → IsGenerationOf generation sealed named → spot_of cursor ≡ OfMemory (place_in sequence named) → NewOver cursor
   new_memory (Row cursor) named is e = absurd (cc)
   new_memory (Memory cursor) named is e =
       let same : place_in sequence named ≡ cursor = cc in
-      subst (λ (p : MemoriesPlace). IsOneOf generation sealed p.generation × (p.place.sequence ≤ sequence)) same (is, omega arith)
+      subst (λ (p : MemoriesPlace). IsGenerationOf generation sealed p.generation × (p.place.sequence ≤ sequence)) same (is, omega arith)
 
   new_all : (o : Option ℕ) (ranges : List (ℕ × ℕ)) (cursors : List (SourceCursor K g)) → sealed ≡ o → map spot_of cursors ≡ memory_spots sequence generation o ++ spots_of tables ranges → AllByRecursion NewOver cursors
   new_all None ranges [] is e = absurd (cc)
   new_all None ranges (c ∷ cursors) is e =
       let first : spot_of c ≡ OfMemory (place_in sequence generation) = cc in
       let rest : map spot_of cursors ≡ spots_of tables ranges = cc in
-      (new_memory c generation (inl refl) first, new_rows (IsOneOf generation sealed) sequence tables ranges cursors rest)
+      (new_memory c generation (inl refl) first, new_rows (IsGenerationOf generation sealed) sequence tables ranges cursors rest)
   new_all (Some named) ranges [] is e = absurd (cc)
   new_all (Some named) ranges (c ∷ []) is e = absurd (cc)
   new_all (Some named) ranges (c ∷ d ∷ cursors) is e =
       let first : spot_of c ≡ OfMemory (place_in sequence generation) = cc in
       let second : spot_of d ≡ OfMemory (place_in sequence named) = cc in
       let rest : map spot_of cursors ≡ spots_of tables ranges = cc in
-      (new_memory c generation (inl refl) first, (new_memory d named (inr is) second, new_rows (IsOneOf generation sealed) sequence tables ranges cursors rest))
+      (new_memory c generation (inl refl) first, (new_memory d named (inr is) second, new_rows (IsGenerationOf generation sealed) sequence tables ranges cursors rest))
 
   pub all_new : (ranges : List (ℕ × ℕ)) (cursors : List (SourceCursor K g)) → map spot_of cursors ≡ memory_spots sequence generation sealed ++ spots_of tables ranges → AllByRecursion NewOver cursors
   all_new ranges cursors e = new_all sealed ranges cursors refl e
@@ -283,7 +284,7 @@ module _ {K : Type 0} {g : _} (order : Order) (whole : Whole) (tables : List Pla
   pub all_rows_listed : (cursors : List (SourceCursor K g)) → map spot_of cursors ≡ spots_of tables (all_ranges tables) → Rows cursors
   all_rows_listed cursors e =
       let files = whole.seen.facts.files in
-      let rise = levels_rise order.cmp contents (subst (λ (ts : List PlacedTable). ForTwo (IsBefore order.cmp) ts) (sym has.placed) (for_two (IsBefore order.cmp) tables in_order.places)) in
+      let rise = levels_rise order.cmp contents (subst (λ (ts : List PlacedTable). ForTwo (StandsBefore order.cmp) ts) (sym has.placed) (for_two (StandsBefore order.cmp) tables in_order.places)) in
       let rows = subst (λ (ts : List PlacedTable). AllByRecursion (IsRow order files contents) (all_ranges ts)) has.placed (all_rows order files contents rise has.are has.rows) in
       let kept = subst (λ (ts : List PlacedTable). Kept (map (entries_in contents) (all_ranges ts)) (table_sources contents)) has.placed (kept_sources contents rise) in
       let listing = rows_listed (all_ranges tables) cursors e rows in (
@@ -295,9 +296,9 @@ module _ {K : Type 0} {g : _} (order : Order) (whole : Whole) (tables : List Pla
       )
 
   module _ (sequence : ℕ) (are : AreMemories whole.memory)
-      (memory : (generation : ℕ) (table : MemoryContents) → IsOneOf whole.memory.generation whole.memory.sealed generation → table_in whole.memory generation ≡ Some table
+      (memory : (generation : ℕ) (table : MemoryContents) → IsGenerationOf whole.memory.generation whole.memory.sealed generation → table_in whole.memory generation ≡ Some table
       → ListsMemories order.cmp (place_in sequence generation) whole.memory (listed (seen_entries order.cmp table.inserts sequence) None)) where
-    memory_listed : (cursor : SourceCursor K g) (named : ℕ) (table : MemoryContents) (inserts : List Entry) → table.inserts ≡ inserts → IsOneOf whole.memory.generation whole.memory.sealed named → table_in whole.memory named ≡ Some table
+    memory_listed : (cursor : SourceCursor K g) (named : ℕ) (table : MemoryContents) (inserts : List Entry) → table.inserts ≡ inserts → IsGenerationOf whole.memory.generation whole.memory.sealed named → table_in whole.memory named ≡ Some table
         → spot_of cursor ≡ OfMemory (place_in sequence named) → Lists cursor (seen_entries order.cmp inserts sequence)
     memory_listed (Row cursor) named table inserts equal is there e = absurd (cc)
     memory_listed (Memory cursor) named table inserts equal is there e =

@@ -4,7 +4,7 @@ use Rattle.std.specs.Prelude.{nat_lt}
 use Rattle.std.proofs.lemmas.Bool.Decides.{nat_tests}
 use Rattle.std.proofs.lemmas.List.{map-append}
 use Rattle.edits.specs.declared.field.PlacedTable.{PlacedTable}
-use Rattle.db_cursor.specs.Rows.{Spot, OfRow, below, deeper_ranges, newest_ranges, range_kept, spots_of}
+use Rattle.db_cursor.specs.internal.Rows.{Spot, below, deeper_ranges, newest_ranges, range_kept, spots_of, OfRow}
 use Rattle.versions.specs.Levels.{tables_at}
 
 pub level_fits : (level : ℕ) (tables : List PlacedTable) → length (tables_at level tables) ≤ length tables

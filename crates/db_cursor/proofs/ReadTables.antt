@@ -9,16 +9,17 @@ use Rattle.memtable.specs.Contents.{Contents}
 use Rattle.memtables.specs.Memories.{AreMemories, Memories, inserts_of, older_at, sealed_inserts, table_in}
 use Rattle.memtables.specs.Places.{LeavesMemories, seen_by}
 use Rattle.db_cursor.specs.declared.scan.Scan.{Scan}
-use Rattle.db_cursor.specs.Inputs.{KeepsFiles}
+use Rattle.db_cursor.specs.internal.Inputs.{KeepsFiles}
 use Rattle.db_cursor.specs.Places.{GoesOver, KeepsSource, OneGoesOver}
-use Rattle.db_cursor.specs.Rows.{IsOneOf, place_in}
-use Rattle.db_cursor.specs.Scanning.{ReadsAs}
+use Rattle.db_cursor.specs.Rows.{IsGenerationOf}
+use Rattle.db_cursor.specs.internal.Rows.{place_in}
+use Rattle.db_cursor.specs.internal.Scanning.{ReadsAs}
 use Rattle.db_cursor.specs.Scans.{KeepsWhole, reads_memory, reads_table, tables_of}
 use Rattle.db_cursor.specs.declared.source_cursor.SourceCursor.{SourceCursor}
 use Rattle.db_cursor.specs.declared.source_cursor.SourceCursor.TheVariants.{Memory, Row}
 use Rattle.level_cursor.specs.declared.in_table.InTable.{InTable}
 use Rattle.level_cursor.specs.declared.row_cursor.RowCursor.{RowCursor}
-use Rattle.level_cursor.specs.InRows.{HasNumber, IsOpenNumber, KeepsOpen}
+use Rattle.level_cursor.specs.InRows.{ListsNumber, IsOpenNumber, KeepsOpen}
 use Rattle.level_cursor.specs.Rows.{KeepsRow}
 use Rattle.db_cursor.specs.Whole.{Whole}
 use Rattle.table_access.specs.Tables.{Seen}
@@ -40,7 +41,7 @@ tables_as old new same = ap (λ (v : _). v.value.tables) same.version
 pub table_before : {K : Type 0} {g : _} (old new : Scan K g) → ReadsAs old new
     → ((number : ℕ) → OneGoesOver new.walk.cursor.children.items number → OneGoesOver old.walk.cursor.children.items number)
     → (number : ℕ) → reads_table new number → reads_table old number
-table_before old new same within number (inl has) = inl (subst (λ (tables : List PlacedTable). HasNumber tables number) (tables_as old new same) has)
+table_before old new same within number (inl has) = inl (subst (λ (tables : List PlacedTable). ListsNumber tables number) (tables_as old new same) has)
 table_before old new same within number (inr over) = inr (within number over)
 
 -- ---- rows
@@ -125,6 +126,6 @@ pub sealed_none : (m : Memories) → m.sealed ≡ None → sealed_inserts m ≡ 
 sealed_none m is = ap (λ (o : Option ℕ). inserts_of (option_and_then (older_at m.older) o)) is
 
 -- those that a new scan reads are there
-pub new_there : (m : Memories) → AreMemories m → (generation : ℕ) → IsOneOf m.generation m.sealed generation → IsSome (table_in m generation)
+pub new_there : (m : Memories) → AreMemories m → (generation : ℕ) → IsGenerationOf m.generation m.sealed generation → IsSome (table_in m generation)
 new_there m are generation (inl e) = subst (λ (n : ℕ). IsSome (table_in m n)) (sym e) (subst IsSome (sym (current_there m)) refl)
 new_there m are generation (inr e) = let has = sealed_there m generation are e in subst IsSome (sym has.there) refl

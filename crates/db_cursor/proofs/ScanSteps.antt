@@ -17,9 +17,9 @@ use Rattle.memtables.specs.Places.{MemoriesPlace, KeepsMemories, LeavesMemories}
 use Rattle.db_cursor.specs.declared.scan.Scan.{Scan}
 use Rattle.db_cursor.specs.declared.source_cursor.SourceCursor.{SourceCursor}
 use Rattle.db_cursor.specs.Places.{KeepsSource, LeavesSource, LimitedSource, ListsSource, OneGoesOver}
-use Rattle.db_cursor.specs.Scanning.{IsScanned, ReadsAs, ScanIsKept, ScanPastLimit, has_pair}
+use Rattle.db_cursor.specs.internal.Scanning.{IsScanned, ReadsAs, ScanIsKept, ScanPastLimit, has_pair}
 use Rattle.db_cursor.specs.Scans.{IsOnePastLimit, KeepsScan, ListsMerged, reads_memory, reads_table, tables_of}
-use Rattle.db_cursor.specs.SourceLaws.{source_kept, source_limits}
+use Rattle.db_cursor.specs.internal.SourceLaws.{source_kept, source_limits}
 use Rattle.db_cursor.specs.Whole.{Whole}
 use Rattle.store.specs.Files.{Facts}
 use Rattle.db_cursor.proofs.KeptMerges.{memory_as}

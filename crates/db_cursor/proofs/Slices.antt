@@ -10,7 +10,7 @@ use Rattle.ikey.specs.declared.entry.Entry.{Entry}
 use Rattle.ikey.specs.Orders.{Order}
 use Rattle.ikey.specs.Sources.{AreInRow, AreSearched, IsNewerThan, joined}
 use Rattle.recover.specs.Tables.{TableContent, HasTables}
-use Rattle.db_cursor.specs.Rows.{OfRow, Spot, below, deeper_ranges, newest_ranges, range_kept, spots_of}
+use Rattle.db_cursor.specs.internal.Rows.{OfRow, Spot, below, deeper_ranges, newest_ranges, range_kept, spots_of}
 use Rattle.db_cursor.proofs.Ranges.{level_fits}
 use Rattle.version_laws.specs.Places.{contents_at, lists_of, table_sources}
 use Rattle.store.specs.Files.{Files}

@@ -13,14 +13,15 @@ use Rattle.ikey.specs.Entries.{entry_of}
 use Rattle.ikey.specs.Orders.{Order}
 use Rattle.ikey.specs.Sources.{SameEntries, joined}
 use Rattle.ikey.specs.Views.{Among}
-use Rattle.level_cursor.specs.InRows.{HasNumber}
+use Rattle.level_cursor.specs.InRows.{ListsNumber}
 use Rattle.level_cursor.specs.RowLaws.{row_still}
 use Rattle.level_cursor.specs.Rows.{rows_tables}
 use Rattle.db_cursor.specs.declared.source_cursor.SourceCursor.{SourceCursor}
 use Rattle.db_cursor.specs.declared.source_cursor.SourceCursor.TheVariants.{Memory, Row}
-use Rattle.db_cursor.specs.Inputs.{BeginsMerge, ReadsNoMemory}
+use Rattle.db_cursor.specs.internal.Inputs.{BeginsMerge}
+use Rattle.db_cursor.specs.Inputs.{ReadsNoMemory}
 use Rattle.db_cursor.specs.Places.{KeepsSource, ListsSource, OneGoesOver}
-use Rattle.db_cursor.specs.Rows.{spot_of, spots_of}
+use Rattle.db_cursor.specs.internal.Rows.{spot_of, spots_of}
 use Rattle.db_cursor.specs.Whole.{Whole}
 use Rattle.db_cursor.proofs.Joining.{all_entries, union_from, union_has}
 use Rattle.db_cursor.proofs.NewScans.{HaveUnions, IsNew, RowsBegin, all_limited, all_over, all_rows_listed, cursors_of, merge_begun, new_at, new_rows}
@@ -43,7 +44,7 @@ module _ {K : Type 0} {g : Ghosts K} (order : Order) (tables : List PlacedTable)
   news : AllByRecursion (IsNew (λ generation. ⊥) 0 tables) (cursors_of children)
   news = new_rows (λ generation. ⊥) 0 tables (all_ranges tables) (cursors_of children) spots
 
-  pub merge_over : (number : ℕ) → OneGoesOver children number → HasNumber tables number
+  pub merge_over : (number : ℕ) → OneGoesOver children number → ListsNumber tables number
   merge_over number over = all_over (λ generation. ⊥) 0 tables children news number over
 
   pub merge_reads_none : ReadsNoMemory order.cmp merge

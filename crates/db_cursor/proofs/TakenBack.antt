@@ -9,12 +9,11 @@ use Rattle.cursor.specs.Places.{Cmp}
 use Rattle.cursor.specs.Views.{IsViewList}
 use Rattle.cursor.specs.Walks.{IsPlacedWalk, key_before, walked}
 use Rattle.ikey.specs.declared.key_order.KeyOrder.{Ghosts}
-use Rattle.level_cursor.specs.InRows.{HasNumber}
+use Rattle.level_cursor.specs.InRows.{ListsNumber}
 use Rattle.db_cursor.specs.declared.scan.Scan.{Scan}
 use Rattle.db_cursor.specs.declared.source_cursor.SourceCursor.{SourceCursor}
 use Rattle.db_cursor.specs.Places.{KeepsSource, OneGoesOver}
-use Rattle.db_cursor.specs.Scanning.{TakesBack}
-use Rattle.db_cursor.specs.Scanning.{ReadsAs}
+use Rattle.db_cursor.specs.internal.Scanning.{TakesBack, ReadsAs}
 use Rattle.db_cursor.specs.Scans.{IsOnePastLimit, KeepsScan, ListsMerged, reads_table}
 use Rattle.db_cursor.specs.Whole.{Whole}
 use Rattle.db_cursor.proofs.ReadTables.{read_after, read_before, table_before}
@@ -44,7 +43,7 @@ taken_back {K} {g} cmp stood old new cursor sequence stands position key reads f
     }
   where
     used : (number : ℕ) → reads_table old number → reads_table new number
-    used number (inl h) = inl (subst (λ (v : _). HasNumber v.value.tables number) (sym reads.version) h)
+    used number (inl h) = inl (subst (λ (v : _). ListsNumber v.value.tables number) (sym reads.version) h)
     used number (inr h) = inr (h.0, h.1, ap (λ (m : Merge K (SourceCursor K g)). slice_get m.children.items h.0) cursor ∙ h.2, h.3)
 
     keeps_before : {s t : Whole} → KeepsScan cmp new s t → KeepsScan cmp old s t

@@ -6,7 +6,7 @@ use Rattle.compact.specs.Outputs.{WritesTables}
 use Rattle.cursor.specs.Places.{Cmp}
 use Rattle.edits.specs.declared.names.FileName.TheVariants.{OldTable, Table}
 use Rattle.edits.specs.Names.{name_of}
-use Rattle.db_cursor.specs.Inputs.{KeepsFiles}
+use Rattle.db_cursor.specs.internal.Inputs.{KeepsFiles}
 use Rattle.db_cursor.proofs.TableNames.{no_old_table, one_table}
 use Rattle.table_access.specs.Tables.{KeepsOf, Seen, SoundLasts}
 use Rattle.table_access.proofs.Sounding.{same_file, same_table}

@@ -15,16 +15,16 @@ use Rattle.memtables.specs.Memories.{logged_in, table_in}
 use Rattle.memtables.specs.Places.{MemoriesPlace, KeepsMemories}
 use Rattle.recover.specs.Tables.{TableContent}
 use Rattle.db_cursor.specs.declared.scan.Scan.{Scan}
-use Rattle.level_cursor.specs.InRows.{HasNumber}
+use Rattle.level_cursor.specs.InRows.{ListsNumber}
 use Rattle.db_cursor.specs.declared.source_cursor.SourceCursor.{SourceCursor}
 use Rattle.db_cursor.specs.Pairs.{listed_pair}
 use Rattle.machine.specs.Views.{AreSortedPairs}
 use Rattle.db_cursor.specs.Places.{ListsSource, KeepsSource, LimitedSource, OneGoesOver}
-use Rattle.db_cursor.specs.Rows.{IsOneOf}
+use Rattle.db_cursor.specs.Rows.{IsGenerationOf}
 use Rattle.db_cursor.specs.Whole.{Whole}
 use Rattle.version_laws.specs.Places.{table_sources, HasVersion}
 use Rattle.table_access.specs.Tables.{IsSound}
-use Rattle.table_access.specs.Values.{IsPastLimit}
+use Rattle.table_access.specs.Values.{IsTablePastLimit}
 
 -- merged cursors and source are this list and this place
 abbrev pub ListsMerged : {K : Type 0} {g : _} → Cmp → Merge K (SourceCursor K g) → Whole → Listed → Type 0
@@ -34,7 +34,7 @@ ListsMerged cmp merge whole at = IsMerge cmp (ListsSource cmp) merge.children.it
 
 -- it reads the memory table of this generation
 abbrev pub reads_memory : {K : Type 0} {g : _} → Scan K g → ℕ → Type 0
-reads_memory scan generation = IsOneOf scan.generation scan.sealed generation
+reads_memory scan generation = IsGenerationOf scan.generation scan.sealed generation
 
 -- the tables of its version
 abbrev pub tables_of : {K : Type 0} {g : _} → Scan K g → List PlacedTable
@@ -42,7 +42,7 @@ tables_of scan = scan.version.value.tables
 
 -- the table of this number is one of its version, or of those that its cursors go over
 abbrev pub reads_table : {K : Type 0} {g : _} → Scan K g → ℕ → Type 0
-reads_table scan number = HasNumber (tables_of scan) number ⊎ OneGoesOver scan.walk.cursor.children.items number
+reads_table scan number = ListsNumber (tables_of scan) number ⊎ OneGoesOver scan.walk.cursor.children.items number
 
 -- What a scan at the sequence, over memory tables of these generations and tables of these numbers, reads of the first source is the
 -- same in the second.
@@ -66,7 +66,7 @@ KeepsScan cmp scan old new = KeepsWhole cmp (reads_memory scan) (reads_table sca
 -- the file of one of these tables passes a limit of reading
 abbrev pub IsOnePastLimit : Cmp → List PlacedTable → Whole → Type 0
 IsOnePastLimit cmp tables whole =
-    (placed : PlacedTable) × Contains tables placed × (file : List ℕ) × (table_at whole.seen.facts.files placed.table.number ≡ Some file) × IsPastLimit cmp file
+    (placed : PlacedTable) × Contains tables placed × (file : List ℕ) × (table_at whole.seen.facts.files placed.table.number ≡ Some file) × IsTablePastLimit cmp file
 
 -- one of its cursors reads something that passes a limit of reading
 abbrev pub IsScanLimited : {K : Type 0} {g : _} → Cmp → Scan K g → Whole → Type 0

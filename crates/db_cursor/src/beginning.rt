@@ -5,8 +5,10 @@ ghost use Rattle.cursor.specs.Merging.{listed};
 ghost use Rattle.memtables.specs.Memories.{table_in};
 ghost use Rattle.memtables.specs.Places.{ListsMemories};
 ghost use Rattle.memtable.specs.Contents.{Contents};
-ghost use Rattle.db_cursor.specs.Rows.{OfMemory, IsOneOf, below, deeper_ranges, memory_spots};
-ghost use Rattle.db_cursor.specs.Rows.{newest_ranges, place_in, range_kept, spot_of, spots_of};
+ghost use Rattle.db_cursor.specs.Rows.{IsGenerationOf};
+ghost use Rattle.db_cursor.specs.internal.Rows.{OfMemory};
+ghost use Rattle.db_cursor.specs.internal.Rows.{below, deeper_ranges, memory_spots};
+ghost use Rattle.db_cursor.specs.internal.Rows.{newest_ranges, place_in, range_kept, spot_of, spots_of};
 ghost use Rattle.table_access.specs.Memory.{seen_entries};
 ghost use Rattle.versions.specs.Levels.{tables_at};
 
@@ -29,7 +31,7 @@ pub fn add_memory<K: KeyOrder>(
     requires { sequence < 2 ^ 56 }
     ensures spots { OnOk result
         (map spot_of cursors.new.items ≡ map spot_of cursors.old.items ++ memory_spots sequence memory.now.generation memory.now.sealed) }
-    ensures lists { OnOk result ((generation : ℕ) (table : Contents) → IsOneOf memory.now.generation memory.now.sealed generation
+    ensures lists { OnOk result ((generation : ℕ) (table : Contents) → IsGenerationOf memory.now.generation memory.now.sealed generation
         → table_in memory.now generation ≡ Some table
         → ListsMemories K.cmp (place_in sequence generation) memory.now (listed (seen_entries K.cmp table.inserts sequence) None)) }
 {

@@ -5,8 +5,9 @@ ghost use Rattle.compact.specs.Merging.{AreDisjoint, ReadsApart};
 ghost use Rattle.compact.specs.Outputs.{IsToCome};
 ghost use Rattle.cursor.specs.declared.merge.Merge.{Merge};
 ghost use Rattle.ikey.specs.Orders.{order_of};
-ghost use Rattle.level_cursor.specs.InRows.{HasNumber};
-ghost use Rattle.db_cursor.specs.Inputs.{BeginsMerge, KeepsMerge, MergeIsKept, ReadsNoMemory};
+ghost use Rattle.level_cursor.specs.InRows.{ListsNumber};
+ghost use Rattle.db_cursor.specs.internal.Inputs.{BeginsMerge, MergeIsKept};
+ghost use Rattle.db_cursor.specs.Inputs.{KeepsMerge, ReadsNoMemory};
 ghost use Rattle.db_cursor.specs.Places.{OneGoesOver};
 ghost use Rattle.db_cursor.specs.Whole.{whole_in};
 ghost use Rattle.db_cursor.specs.declared.source.Sources.{Sources};
@@ -32,7 +33,7 @@ pub fn merge_tables<K: KeyOrder>(
 ) -> Result<Merge<K, SourceCursor<K>>, AllocError>
     ensures nowhere { IfOk result (λ merge. merge.current ≡ None) }
     ensures over { IfOk result (λ merge. (number : ℕ) → OneGoesOver merge.children.items number
-        → HasNumber version.now.value.tables number) }
+        → ListsNumber version.now.value.tables number) }
     ensures no_memory { IfOk result (λ merge. ReadsNoMemory K.cmp merge) }
     ensures begins { IfOk result (λ merge. BeginsMerge (order_of K.name K.cmp) version.now.value.tables merge) }
 {

@@ -1,6 +1,6 @@
 //! Laws of scans.
 
-ghost use Rattle.db_cursor.specs.Scanning.{WritesAreKept};
+ghost use Rattle.db_cursor.specs.internal.Scanning.{WritesAreKept};
 
 use ikey::KeyOrder;
 use memtables::changes_are_kept;

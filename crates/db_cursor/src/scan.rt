@@ -28,12 +28,12 @@ impl<K: KeyOrder> Scan<K> {
     ghost use Rattle.cursor.specs.Views.{Walked, walk_first, walk_last, walk_next, walk_prev, walk_to};
     ghost use Rattle.cursor.specs.Walks.{key_before};
     ghost use Rattle.ikey.specs.Orders.{order_of};
-    ghost use Rattle.level_cursor.specs.InRows.{HasNumber};
+    ghost use Rattle.level_cursor.specs.InRows.{ListsNumber};
     ghost use Rattle.db_cursor.specs.Pairs.{pair_on};
-    ghost use Rattle.db_cursor.specs.Scanning.{IsScanned, ReadsAs, ScanIsKept, ScanPastLimit, TakesBack, has_pair};
+    ghost use Rattle.db_cursor.specs.internal.Scanning.{IsScanned, ReadsAs, ScanIsKept, ScanPastLimit, TakesBack, has_pair};
     ghost use Rattle.db_cursor.specs.Scans.{BeginsScan, IsScan, reads_memory, reads_table, tables_of};
     ghost use Rattle.db_cursor.specs.Whole.{whole_in};
-    ghost use Rattle.versions.specs.Keeping as versions;
+    ghost use Rattle.versions.specs.Levels as versions;
 
     /// A scan over what the entries of the memory tables and of a version's tables put up to a sequence, up to the last one
     /// that is used. It stands nowhere; nothing is read, and no table is opened. It reads no other tables than the version's.
@@ -46,7 +46,7 @@ impl<K: KeyOrder> Scan<K> {
         ensures nowhere { IfOk result (λ scan. scan.walk.stands ≡ false) }
         ensures sequence { IfOk result (λ scan. scan.walk.sequence ≡ min sequence source.now.memory.last) }
         ensures tables { IfOk result (λ scan. tables_of scan ≡ version.now.value.tables) }
-        ensures within { IfOk result (λ scan. (number : ℕ) → reads_table scan number → HasNumber version.now.value.tables number) }
+        ensures within { IfOk result (λ scan. (number : ℕ) → reads_table scan number → ListsNumber version.now.value.tables number) }
         ensures begins { IfOk result (λ scan. BeginsScan (order_of K.name K.cmp) version.now.value.tables sequence
             (whole_in S.facts source.now) scan) }
     {

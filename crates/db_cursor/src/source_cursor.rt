@@ -19,8 +19,8 @@ pub enum SourceCursor<K: KeyOrder> {
 
 impl<K: KeyOrder, S: Store> Cursor<K, Sources<K, S>> for SourceCursor<K> {
     ghost use Rattle.db_cursor.specs.Places.{GoesOver, ListsSource, KeepsSource, LimitedSource, LeavesSource, source_stands};
-    ghost use Rattle.db_cursor.specs.SourceLaws.{source_rises, source_placed, source_inside, source_kept, source_still};
-    ghost use Rattle.db_cursor.specs.SourceLaws.{source_onward, source_limits, source_left, source_left_more, source_left_on};
+    ghost use Rattle.db_cursor.specs.internal.SourceLaws.{source_rises, source_placed, source_inside, source_kept, source_still};
+    ghost use Rattle.db_cursor.specs.internal.SourceLaws.{source_onward, source_limits, source_left, source_left_more, source_left_on};
     ghost use Rattle.db_cursor.specs.Whole.{whole_in};
 
     ghost facts = { λ source. S.facts source.tables.store };

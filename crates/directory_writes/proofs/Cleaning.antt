@@ -23,9 +23,10 @@ use Rattle.edits.proofs.FileNames.{one_file}
 use Rattle.versions.specs.declared.live.LiveNumbers.{LiveNumbers}
 use Rattle.recover.proofs.NameScan.{name_listed, first_in, in_cons, in_none}
 use Rattle.recover.proofs.NamedFiles.{same_name}
-use Rattle.directory_writes.specs.Calls.{Touches, LeavesFile}
+use Rattle.directory_writes.specs.internal.Calls.{Touches, LeavesFile}
 use Rattle.recover.specs.Tables.{table_at}
-use Rattle.directory_writes.specs.Removal.{AreOlder, AreUnused, HasOtherTurn, HasTwo, IsDead, IsLeft, IsListed, IsLiveFile, KeepsTable, ListsUnused, Removes, RemovesDead, older_number, table_number}
+use Rattle.directory_writes.specs.internal.Removal.{AreOlder, AreUnused, HasOtherTurn, HasTwo, IsLeft, IsListed, KeepsTable, ListsUnused, RemovesNamed, RemovesDead, older_number, table_number}
+use Rattle.directory_writes.specs.Removal.{IsDead, IsLiveFile}
 use Rattle.directory_writes.specs.declared.removal.Removal.{Removal}
 
 -- ---- one file
@@ -68,7 +69,7 @@ module _ (old new : Facts) (live : FileName → Type 0) (name : List ℕ) where
   pub asked : (r : Result (Unit {0}) StoreError) → IsDead live name → Counts old new r
       → Changes old new r (λ o n. StoreRemoves o n name) (λ o n. (n ≡ o) ⊎ StoreRemoves o n name)
       → ChangesSynced old new r (λ s. with_synced s name None) (λ o n. StoreRemoves o n name)
-      → r ≢ Err store_error.Missing → r ≢ Err store_error.Memory → Removes old new live (name ∷ []) (is_ok r)
+      → r ≢ Err store_error.Missing → r ≢ Err store_error.Memory → RemovesNamed old new live (name ∷ []) (is_ok r)
   asked (Ok x) dead counts files synced missing memory = record {
     files = λ f q. dead_or_same dead (files.ok f).1 (synced.ok f) q;
     all = λ f whole file is i. inr (ap (get new.files) (sym (named_here file i)) ∙ ap (λ (fs : Files). get fs name) (files.ok f).1 ∙ gone_from old.files name);
@@ -91,7 +92,7 @@ module _ (facts : Facts) (live : FileName → Type 0) (name : List ℕ) where
   same_all : (q : List ℕ) → LeavesFile facts facts q ⊎ (IsDead live q × (get facts.files q ≡ None))
   same_all q = inl (refl, refl)
 
-  pub live_stays : (file : FileName) → IsFileName file → name ≡ name_of file → live file → Removes facts facts live (name ∷ []) true
+  pub live_stays : (file : FileName) → IsFileName file → name ≡ name_of file → live file → RemovesNamed facts facts live (name ∷ []) true
   live_stays file is e alive = record {
     files = λ f. same_all;
     all = λ f whole other num i. inl (subst live (one_file file other is num (sym e ∙ named_here facts facts live name other i)) alive);
@@ -101,7 +102,7 @@ module _ (facts : Facts) (live : FileName → Type 0) (name : List ℕ) where
 
 -- ---- one name after another
 
-pub removes_none : (facts : Facts) (live : FileName → Type 0) → Removes facts facts live [] true
+pub removes_none : (facts : Facts) (live : FileName → Type 0) → RemovesNamed facts facts live [] true
 removes_none facts live = record {
   files = λ f q. inl (refl, refl);
   all = λ f whole file is i. absurd (in_none (name_of file) i);
@@ -117,12 +118,12 @@ are_both : (a b : Bool) → a ≡ true → b ≡ true → (a && b) ≡ true
 are_both true b e h = h
 are_both false b e h = absurd (let clash : false ≡ true = e in cc)
 
-gone_later : (mid new : Facts) (live : FileName → Type 0) (q : List ℕ) → LeavesFile mid new q ⊎ (IsDead live q × (get new.files q ≡ None)) → get mid.files q ≡ None → get new.files q ≡ None
+pub gone_later : (mid new : Facts) (live : FileName → Type 0) (q : List ℕ) → LeavesFile mid new q ⊎ (IsDead live q × (get new.files q ≡ None)) → get mid.files q ≡ None → get new.files q ≡ None
 gone_later mid new live q (inl same) gone = same.0 ∙ gone
 gone_later mid new live q (inr dead) gone = dead.1
 
 module _ (old mid new : Facts) (live : FileName → Type 0) (before : Touches old mid) (behind : Touches mid new) where
-  pub removes_more : (names : List (List ℕ)) (name : List ℕ) (a b : Bool) → Removes old mid live names a → Removes mid new live (name ∷ []) b → Removes old new live (names ++ name ∷ []) (a && b)
+  pub removes_more : (names : List (List ℕ)) (name : List ℕ) (a b : Bool) → RemovesNamed old mid live names a → RemovesNamed mid new live (name ∷ []) b → RemovesNamed old new live (names ++ name ∷ []) (a && b)
   removes_more names name a b first next = record {
     files = λ f q. elim (first.files (behind.faithful f) q) [
       | inl same ↦ elim (next.files f q) [
@@ -170,7 +171,7 @@ module _ (live : FileName → Type 0) (has_older : ℕ → Type 0) where
   gone_of old new last q (inl same) = inl same
   gone_of old new last q (inr dead) = inr (dead_of last q dead.0, dead.1)
 
-  pub first_turn : (old new : Facts) (names : List (List ℕ)) (c : Bool) → c ≡ false → Removes old new (IsLeft live has_older false) names c → Removes old new live names false
+  pub first_turn : (old new : Facts) (names : List (List ℕ)) (c : Bool) → c ≡ false → RemovesNamed old new (IsLeft live has_older false) names c → RemovesNamed old new live names false
   first_turn old new names c failed r = record {
     files = λ f q. gone_of old new false q (r.files f q);
     all = λ f whole. absurd (let clash : false ≡ true = whole in cc);
@@ -179,7 +180,7 @@ module _ (live : FileName → Type 0) (has_older : ℕ → Type 0) where
   }
 
   module _ (old mid new : Facts) (names : List (List ℕ)) (before : Touches old mid) (behind : Touches mid new) (a b : Bool) (whole : a ≡ true)
-      (first : Removes old mid (IsLeft live has_older false) names a) (next : Removes mid new (IsLeft live has_older true) names b) where
+      (first : RemovesNamed old mid (IsLeft live has_older false) names a) (next : RemovesNamed mid new (IsLeft live has_older true) names b) where
     pub after_both : IsTrue new.faithful → (q : List ℕ) → LeavesFile old new q ⊎ (IsDead live q × (get new.files q ≡ None))
     after_both f q = elim (first.files (behind.faithful f) q) [
       | inl same ↦ elim (gone_of mid new true q (next.files f q)) [
@@ -189,7 +190,7 @@ module _ (live : FileName → Type 0) (has_older : ℕ → Type 0) where
       | inr dead ↦ inr (dead_of false q dead.0, gone_later mid new (IsLeft live has_older true) q (next.files f q) dead.1)
     ]
 
-    pub both_turns : Removes old new live names b
+    pub both_turns : RemovesNamed old new live names b
     both_turns = record {
       files = after_both;
       all = λ f done file is i. elim (first.all (behind.faithful f) whole file is i) [
@@ -244,7 +245,7 @@ module _ (numbers : LiveNumbers) (in_use : ℕ → Type 0) (names : List (List �
   older_state old new (inl same) = inl same
   older_state old new (inr dead) = inr (named_dead lives (OldTable n) num dead.0, dead.1)
 
-  pub table_first : (old new : Facts) (c : Bool) → Removes old new (IsLeft lives has false) names c → AreOlder names older → Lists old.files names → IsTrue new.faithful → KeepsTable old new in_use n
+  pub table_first : (old new : Facts) (c : Bool) → RemovesNamed old new (IsLeft lives has false) names c → AreOlder names older → Lists old.files names → IsTrue new.faithful → KeepsTable old new in_use n
   table_first old new c r are lists f =
       by_files in_use old new n
       (elim (r.files f (name_of (Table n))) [
@@ -256,7 +257,7 @@ module _ (numbers : LiveNumbers) (in_use : ℕ → Type 0) (names : List (List �
       ])
       (older_state old new (gone_of lives has old new false (name_of (OldTable n)) (r.files f (name_of (OldTable n)))))
 
-  module _ (old mid new : Facts) (behind : Touches mid new) (a b : Bool) (whole : a ≡ true) (first : Removes old mid (IsLeft lives has false) names a) (next : Removes mid new (IsLeft lives has true) names b)
+  module _ (old mid new : Facts) (behind : Touches mid new) (a b : Bool) (whole : a ≡ true) (first : RemovesNamed old mid (IsLeft lives has false) names a) (next : RemovesNamed mid new (IsLeft lives has true) names b)
       (both : IsTrue new.faithful → (q : List ℕ) → LeavesFile old new q ⊎ (IsDead lives q × (get new.files q ≡ None))) (lists : Lists old.files names) (f : IsTrue new.faithful) where
     older_gone : (in_use n → ⊥) → get new.files (name_of (OldTable n)) ≡ None
     older_gone unused = gone_later mid new (IsLeft lives has true) (name_of (OldTable n)) (next.files f (name_of (OldTable n))) (by (contains_key old.files (name_of (OldTable n))) refl)
@@ -431,7 +432,7 @@ there_still old new live q (inr dead) there = (let clash : false ≡ true = ap i
 
 module _ (live : FileName → Type 0) (old mid new : Facts) (names : List (List ℕ)) (removal : Removal) (lists : IsTrue mid.faithful → Lists old.files names)
     (files : IsTrue mid.faithful → mid.files ≡ old.files) (synced : IsTrue mid.faithful → mid.synced ≡ old.synced) (unfailed : mid.failures ≡ old.failures)
-    (call : Touches mid new) (r : Removes mid new live names removal.complete) where
+    (call : Touches mid new) (r : RemovesNamed mid new live names removal.complete) where
   from_old : IsTrue new.faithful → (q : List ℕ) → LeavesFile old new q ⊎ (IsDead live q × (get new.files q ≡ None))
   from_old f q = elim (r.files f q) [
     | inl still ↦ inl (leaves_both old mid new q (leaves old mid q (files (call.faithful f)) (synced (call.faithful f))) still)

@@ -21,12 +21,12 @@ use Rattle.edits.specs.declared.layout.Layout.{Layout}
 use Rattle.edits.specs.declared.names.FileName.TheVariants.{Manifest}
 use Rattle.table.specs.Writing.{KeepsOthers}
 use Rattle.recover.specs.Directory.{HasManifest}
-use Rattle.recover.specs.Laws.{AddsRecord, AddsAllOrNothing, OneManifestLaw}
-use Rattle.recover.specs.Changes.{ManifestEndsAt, EditLaw, FailedEditLaw}
+use Rattle.recover.specs.internal.Laws.{AddsRecord, AddsAllOrNothing, OneManifestLaw}
+use Rattle.recover.specs.internal.Changes.{ManifestEndsAt, EditLaw, FailedEditLaw}
 use Rattle.recover.specs.Numbers.{NamesBelow, IsFree}
 use Rattle.recover.proofs.NamedFiles.{get_other, same_name}
-use Rattle.directory_writes.specs.Calls.{AppendsSynced}
-use Rattle.directory_writes.specs.Manifest.{CanAddEdit, IsRecordedBelow, AppendsEdit}
+use Rattle.directory_writes.specs.internal.Calls.{AppendsSynced}
+use Rattle.directory_writes.specs.internal.Manifest.{CanAddEdit, IsRecordedBelow, AppendsEdit}
 
 -- ---- names
 

@@ -25,7 +25,7 @@ use Rattle.table.specs.Writing.{Writes, NeedsLongBlock}
 use Rattle.table.proofs.Storing.{writes_none, writes_then}
 use Rattle.compact.specs.Rooms.{AreLarge}
 use Rattle.compact.proofs.Sizes.{long_block}
-use Rattle.directory_writes.specs.Level0.{HaveSequences, pair_of, pairs_of}
+use Rattle.directory_writes.specs.internal.Level0.{HaveSequences, pair_of, pairs_of}
 use Rattle.directory_writes.proofs.Made.{is_key}
 use Rattle.directory_writes.proofs.Ranks.{each_placed}
 use Rattle.directory_writes.proofs.Sizes.{front_room}

@@ -11,7 +11,7 @@ use Rattle.edits.specs.declared.layout.Layout.{Layout}
 use Rattle.edits.specs.Edit.{IsInOrder}
 use Rattle.edits.specs.Layout.{IsLayout, IsComparator, AreOfOrder, names_none, fields_of, last_said, log_number_in, next_file_number_in, last_sequence_in, previous_log_number_in, compact_pointer_in, is_used, inserted, with_table, after_deleted, after_new, after_edit, after_edits}
 use Rattle.edits.proofs.Folds.{last_said-append}
-use Rattle.directory_writes.specs.FlushEdits.{IsAfterFlush, flush_fields, previous_gone}
+use Rattle.directory_writes.specs.internal.FlushEdits.{IsAfterFlush, flush_fields, previous_gone}
 
 -- ---- one edit more
 

@@ -13,11 +13,11 @@ use Rattle.table.specs.Writing.{KeepsOthers, SyncsOnly, Writes}
 use Rattle.versions.specs.Levels.{Placement}
 use Rattle.recover.specs.Logs.{LogContent}
 use Rattle.recover.specs.Directory.{Directory}
-use Rattle.recover.specs.Changes.{FlushLaw, SameManifestLaw, UnreadLaw}
-use Rattle.directory_writes.specs.Calls.{Touches}
-use Rattle.directory_writes.specs.Flush.{CanFlush, DrawsTable, FlushTouches, FlushLeaves, FlushMeans, HasPrepared, IsUnflushed, RefusesTable, SyncsFlush, edit_refusal}
-use Rattle.directory_writes.specs.Level0.{IsLevel0}
-use Rattle.directory_writes.specs.Manifest.{AppendsEdit, SyncsEdit}
+use Rattle.recover.specs.internal.Changes.{FlushLaw, SameManifestLaw, UnreadLaw}
+use Rattle.directory_writes.specs.internal.Calls.{Touches}
+use Rattle.directory_writes.specs.internal.Flush.{CanFlush, DrawsTable, FlushTouches, FlushLeaves, FlushMeans, HasPrepared, IsUnflushed, RefusesNewTable, SyncsFlush, edit_refusal}
+use Rattle.directory_writes.specs.internal.Level0.{IsLevel0}
+use Rattle.directory_writes.specs.internal.Manifest.{AppendsEdit, SyncsEdit}
 use Rattle.directory_writes.specs.declared.flush.FlushError.TheVariants.{Before}
 use Rattle.directory_writes.specs.declared.flush.FlushPlan.{FlushPlan}
 use Rattle.directory_writes.specs.declared.flush.Prepared.{Prepared}
@@ -65,7 +65,7 @@ numbered_by n some few = (some, omega (arith, few))
 
 module _ (K : Type 0) (order : Order) (old : Facts) (next after : ℕ) (plan : FlushPlan) (manifest : CurrentManifest) (entries : List Entry) where
   -- the table isn't ready
-  pub leaves_none : UnreadLaw → (new : Facts) (tables : List PlacedTable) (e : DbError) → Writes old new (name_of (Table next)) → DrawsTable old new next after → RefusesTable e old new entries tables next after
+  pub leaves_none : UnreadLaw → (new : Facts) (tables : List PlacedTable) (e : DbError) → Writes old new (name_of (Table next)) → DrawsTable old new next after → RefusesNewTable e old new entries tables next after
       → FlushLeaves {K = K} order old new next after plan manifest entries tables (Err (Before e))
   leaves_none law new tables e w (inl none) why f d sealed current can =
       let P : Files → Type 0 = λ fs. IsUnflushed order old.files fs after plan manifest entries tables d sealed current in

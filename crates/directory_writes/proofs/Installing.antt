@@ -15,20 +15,20 @@ use Rattle.edits.specs.Layout.{after_edit}
 use Rattle.edits.specs.declared.field.Field.{Field}
 use Rattle.edits.specs.declared.field.PlacedTable.{PlacedTable}
 use Rattle.table.specs.Writing.{KeepsOthers, SyncsOnly}
-use Rattle.versions.specs.Applying.{Leads, LeadsAstray}
+use Rattle.versions.specs.Applying.{LeadsLayout, LeadsAstray}
 use Rattle.versions.specs.Levels.{Placement, AreInOrder}
 use Rattle.recover.specs.Tables.{TableContent, HasTable, InTables}
 use Rattle.recover.specs.Directory.{Directory}
-use Rattle.recover.specs.Changes.{SameManifestLaw}
+use Rattle.recover.specs.internal.Changes.{SameManifestLaw}
 use Rattle.recover.proofs.Memberships.{from_rest, in_part, one_of_tables}
-use Rattle.compact.specs.Outputs.{Written, AreNumbered, IsNumberAtHand, IsOwn, WritesTables}
+use Rattle.compact.specs.Outputs.{TablesWritten, AreNumbered, IsNumberAtHand, IsOwn, WritesTables}
 use Rattle.compact.specs.JobEdits.{IsOwnIn}
 use Rattle.compact.specs.declared.job.Job.{Job}
-use Rattle.directory_writes.specs.Calls.{Touches}
-use Rattle.directory_writes.specs.Compactions.{placed_in}
-use Rattle.directory_writes.specs.Flush.{IsCorrupt, RefusesVersion, edit_refusal}
-use Rattle.directory_writes.specs.Install.{AreOldOrOwn, CanInstall, HasPreparedJob, InstallLeaves, InstallMeans, InstallTouches, IsJobEdit, RefusesEdit}
-use Rattle.directory_writes.specs.Manifest.{AppendsEdit}
+use Rattle.directory_writes.specs.internal.Calls.{Touches}
+use Rattle.directory_writes.specs.Replacing.{placed_in}
+use Rattle.directory_writes.specs.internal.Flush.{IsCorrupt, RefusesVersion, edit_refusal}
+use Rattle.directory_writes.specs.internal.Install.{AreOldOrOwn, CanInstall, HasPreparedJob, InstallLeaves, InstallMeans, InstallTouches, IsJobEdit, RefusesEdit}
+use Rattle.directory_writes.specs.internal.Manifest.{AppendsEdit}
 use Rattle.directory_writes.specs.declared.flush.FlushError.TheVariants.{Before}
 use Rattle.directory_writes.specs.declared.install.PreparedJob.{PreparedJob}
 use Rattle.directory_writes.specs.declared.manifest.CurrentManifest.{CurrentManifest}
@@ -38,7 +38,7 @@ use Rattle.directory_writes.proofs.Rooms.{are_apart, lie_apart}
 
 -- ---- which files change
 
-pub touches_job : (old mid new : Facts) (w : Written) (manifest : List ℕ) → WritesTables old mid (IsNumberAtHand w) → Touches mid new → (IsTrue new.faithful → KeepsOthers mid.files new.files manifest)
+pub touches_job : (old mid new : Facts) (w : TablesWritten) (manifest : List ℕ) → WritesTables old mid (IsNumberAtHand w) → Touches mid new → (IsTrue new.faithful → KeepsOthers mid.files new.files manifest)
     → (IsTrue new.faithful → SyncsOnly mid.synced new.synced manifest) → InstallTouches old new w manifest
 touches_job old mid new w manifest h t others synced = record {
   faithful = λ f. h.faithful (t.faithful f);
@@ -51,7 +51,7 @@ touches_job old mid new w manifest h t others synced = record {
 
 -- ---- whose tables a version has
 
-puts_own : (w : Written) (old : List PlacedTable) (edit : List Field) → AllByRecursion (IsOwnIn w) edit → AllByRecursion (PutsIn (λ (p : PlacedTable). Contains old p ⊎ IsOwn w p.table.number)) edit
+puts_own : (w : TablesWritten) (old : List PlacedTable) (edit : List Field) → AllByRecursion (IsOwnIn w) edit → AllByRecursion (PutsIn (λ (p : PlacedTable). Contains old p ⊎ IsOwn w p.table.number)) edit
 puts_own w old [] h = tt
 puts_own w old (field.NewFile placed ∷ edit) h = (inr h.0, puts_own w old edit h.1)
 puts_own w old (field.DeletedFile level number ∷ edit) h = (tt, puts_own w old edit h.1)
@@ -62,7 +62,7 @@ puts_own w old (field.LastSequence k ∷ edit) h = (tt, puts_own w old edit h.1)
 puts_own w old (field.CompactPointer level key ∷ edit) h = (tt, puts_own w old edit h.1)
 puts_own w old (field.PreviousLogNumber k ∷ edit) h = (tt, puts_own w old edit h.1)
 
-pub old_or_own : (cmp : List ℕ → List ℕ → Ordering) (w : Written) (old new : List PlacedTable) (edit : List Field) → AreInOrder cmp old → AllByRecursion (IsOwnIn w) edit → Leads (after_edit edit) old new → AreOldOrOwn w old new
+pub old_or_own : (cmp : List ℕ → List ℕ → Ordering) (w : TablesWritten) (old new : List PlacedTable) (edit : List Field) → AreInOrder cmp old → AllByRecursion (IsOwnIn w) edit → LeadsLayout (after_edit edit) old new → AreOldOrOwn w old new
 old_or_own cmp w old new edit order own leads placed there =
     let P : PlacedTable → Type 0 = λ p. Contains old p ⊎ IsOwn w p.table.number in
     let r = leads old (record { numbers = order.numbers; all = all_contained (Contains old) old (λ p c. c); only = all_contained (Contains old) old (λ p c. c) }) in

@@ -20,23 +20,24 @@ use Rattle.edits.specs.declared.field.TableFile.{TableFile}
 use Rattle.edits.specs.declared.layout.Layout.{Layout}
 use Rattle.edits.specs.declared.names.FileName.TheVariants.{Manifest}
 use Rattle.table.specs.Writing.{KeepsOthers}
-use Rattle.versions.specs.Applying.{Leads}
-use Rattle.versions.specs.Levels.{Lists, pointers_after}
+use Rattle.versions.specs.Applying.{LeadsLayout}
+use Rattle.versions.specs.Levels.{ListsSameTables, pointers_after}
 use Rattle.versions.proofs.Sets.{inside}
 use Rattle.recover.specs.Tables.{TableContent, InTables}
 use Rattle.recover.specs.Directory.{Directory, IsConsistent, HasManifest, EndsAt, used_in}
-use Rattle.recover.specs.Changes.{ManifestEndsAt, AgreeBeside, SameManifestLaw, IsCompaction, compacted}
+use Rattle.recover.specs.internal.Changes.{ManifestEndsAt, AgreeBeside, SameManifestLaw, IsCompaction, compacted}
 use Rattle.recover.specs.Numbers.{NamesBelow}
 use Rattle.recover.proofs.Flushing.{kept_by}
 use Rattle.recover.proofs.Memberships.{from_chosen, from_rest, in_part}
 use Rattle.compact.specs.JobEdits.{IsEditOf, gone, placed_at}
-use Rattle.compact.specs.Outputs.{AreNumbered, IsNumber, IsNumberAtHand, WritesTables}
+use Rattle.compact.specs.Outputs.{AreNumbered, IsDrawnNumber, IsNumberAtHand, WritesTables}
 use Rattle.compact.specs.declared.job.Job.{Job}
-use Rattle.directory_writes.specs.Compactions.{placed_in, IsJobDone, IsJobPut}
-use Rattle.directory_writes.specs.Flush.{KeepsParts, PassesNoLimit}
-use Rattle.directory_writes.specs.Install.{CanInstall, HasInstalled, IsInstalled, IsJobEdit, IsServed, IsUninstalled, MayBeInstalled}
-use Rattle.directory_writes.specs.JobWrites.{KeepsOtherTables}
-use Rattle.directory_writes.specs.Manifest.{CanAddEdit, IsRecordedBelow, AppendsEdit}
+use Rattle.directory_writes.specs.Replacing.{placed_in}
+use Rattle.directory_writes.specs.internal.Compactions.{IsJobDone, IsJobPut}
+use Rattle.directory_writes.specs.internal.Flush.{KeepsLogsAndTables, PassesNoLimit}
+use Rattle.directory_writes.specs.internal.Install.{CanInstall, HasInstalled, IsInstalled, IsJobEdit, IsServed, IsUninstalled, MayBeInstalled}
+use Rattle.directory_writes.specs.internal.JobWrites.{KeepsOtherTables}
+use Rattle.directory_writes.specs.internal.Manifest.{CanAddEdit, IsRecordedBelow, AppendsEdit}
 use Rattle.directory_writes.specs.declared.manifest.CurrentManifest.{CurrentManifest}
 use Rattle.directory_writes.proofs.AfterEdits.{PutsIn, AreKept, kept_edit, distinct}
 use Rattle.directory_writes.proofs.FlushEdits.{all_fields, fields_last}
@@ -53,7 +54,7 @@ all_gone : (n : ℕ) (ts : List PlacedTable) → All (λ (p : PlacedTable). p.ta
 all_gone n [] h = tt
 all_gone n (t ∷ ts) h = (h 0 t (omega arith), all_gone n ts (λ k d lt. h (suc k) d (omega (arith, lt))))
 
-all_new : (n level : ℕ) (tables : List TableFile) → AllByRecursion (λ (table : TableFile). IsNumber n table.number) tables → AllByRecursion (NamesBelow n) (map (placed_at level) tables)
+all_new : (n level : ℕ) (tables : List TableFile) → AllByRecursion (λ (table : TableFile). IsDrawnNumber n table.number) tables → AllByRecursion (NamesBelow n) (map (placed_at level) tables)
 all_new n level [] h = tt
 all_new n level (t ∷ tables) h = (h.0.1, all_new n level tables h.1)
 
@@ -63,7 +64,7 @@ all_placed P (c ∷ contents) h = All-cons P c.placed (placed_in contents) (h c 
 
 -- its numbers are below the next one
 named_below : (n level last : ℕ) (planned : List PlacedTable) (pointer : Option (List ℕ)) (tables : List TableFile) (edit : List Field) (inputs : List TableContent) → IsEditOf level planned pointer tables n last edit
-    → IsPermutation planned (placed_in inputs) → ((content : TableContent) → InTables inputs content → content.placed.table.number < n) → AllByRecursion (λ (table : TableFile). IsNumber n table.number) tables
+    → IsPermutation planned (placed_in inputs) → ((content : TableContent) → InTables inputs content → content.placed.table.number < n) → AllByRecursion (λ (table : TableFile). IsDrawnNumber n table.number) tables
     → AllByRecursion (NamesBelow n) edit
 named_below n level last planned pointer tables edit inputs is permuted below new =
     let P : PlacedTable → Type 0 = λ p. p.table.number < n in
@@ -308,23 +309,23 @@ module _ {K C : Type 0} (order : Order) (job : Job K C) (next last_sequence : �
           }
 
       -- where it hasn't
-      pub has_kept : SameManifestLaw → HasManifest order new d.manifest d.edits d.layout → IsConsistent order new d × KeepsParts old.files new d d
+      pub has_kept : SameManifestLaw → HasManifest order new d.manifest d.edits d.layout → IsConsistent order new d × KeepsLogsAndTables old.files new d d
       has_kept law has = (
         law order mid.files new d served_mid.consistent has (agree order mid.files new d.manifest can.served.consistent.manifest.numbered others_named d served_mid.consistent),
         record { beside = beside_all; ends = end_kept order old.files new d can.served.consistent beside_all },
       )
 
-    listed_behind : (left : List PlacedTable) → Leads (after_edit edit) tables left → Lists (placed_in contents) left
+    listed_behind : (left : List PlacedTable) → LeadsLayout (after_edit edit) tables left → ListsSameTables (placed_in contents) left
     listed_behind left leads =
         let r = leads (placed_in d.tables) can.served.listed in
         let A : List PlacedTable → Type 0 = λ ts. after_edit edit ts ≡ Some (placed_in contents) in
         let same : r.0 ≡ placed_in contents = inside r.0 (placed_in contents) (sym r.1 ∙ subst A (sym can.served.consistent.placed) put.after) in
-        subst (λ (ts : List PlacedTable). Lists ts left) same r.2
+        subst (λ (ts : List PlacedTable). ListsSameTables ts left) same r.2
 
     -- ---- how the call may end
 
     pub installed_ok : (new : Facts) (end : ℕ) (left : List PlacedTable) → IsTrue new.faithful → AppendsEdit order mid new manifest.number (string_bytes manifest.name) manifest.end edit (Ok end)
-        → Leads (after_edit edit) tables left → IsInstalled order deep job.plan.output_level job.selection.snapshots old.files new.files next end left came d inputs rest
+        → LeadsLayout (after_edit edit) tables left → IsInstalled order deep job.plan.output_level job.selection.snapshots old.files new.files next end left came d inputs rest
     unfolding has_installed
     installed_ok new end left g r leads =
         let ends : ManifestEndsAt order new.files d.manifest end (d.edits ++ edit ∷ []) after =

@@ -11,7 +11,7 @@ use Rattle.edits.specs.Layout.{IsLayout, IsComparator, AreOfOrder, fields_of, la
 use Rattle.edits.proofs.Folds.{last_said-append}
 use Rattle.versions.specs.Levels.{pointers_after}
 use Rattle.compact.specs.JobEdits.{gone, placed_at, pointer_fields}
-use Rattle.directory_writes.specs.Compactions.{IsAfterJob, JobFoldsLaw}
+use Rattle.directory_writes.specs.internal.Compactions.{IsAfterJob, JobFoldsLaw}
 use Rattle.directory_writes.proofs.FlushEdits.{after_last, order_more, all_fields, said_last}
 
 -- ---- the fields of the edit

@@ -25,8 +25,8 @@ use Rattle.table.specs.Table.{ArePairs}
 use Rattle.recover.specs.Report.{IsLongTable, HasBytes}
 use Rattle.recover.specs.Tables.{TableContent, HasTable, table_at, internal_key}
 use Rattle.recover.proofs.Memberships.{among_front}
-use Rattle.compact.specs.Outputs.{IsClosed, AreClosed, IsNumber, first_key}
-use Rattle.directory_writes.specs.Compactions.{at_level, AreOutputs, OutputsLaw}
+use Rattle.compact.specs.Outputs.{IsClosedTable, AreClosed, IsDrawnNumber, first_key}
+use Rattle.directory_writes.specs.internal.Compactions.{at_level, AreOutputs, OutputsLaw}
 use Rattle.directory_writes.proofs.Made.{not_long}
 
 -- ---- pairs and entries
@@ -113,7 +113,7 @@ sorted_back order (x ∷ xs) ys h = sorted_back order xs ys h.1
 
 -- ---- one table
 
-output_of : (order : Order) (facts : Facts) (level next : ℕ) (table : TableFile) (pairs : List Pair) → next < 2 ^ 64 → IsNumber next table.number → (is : IsClosed order.cmp facts table pairs)
+output_of : (order : Order) (facts : Facts) (level next : ℕ) (table : TableFile) (pairs : List Pair) → next < 2 ^ 64 → IsDrawnNumber next table.number → (is : IsClosedTable order.cmp facts table pairs)
     → AreSorted order (map entry_of is.table_of.entries)
     → HasTable order facts.files (record { placed = at_level level table; entries = map entry_of is.table_of.entries })
 output_of order facts level next table pairs fits number is sorted =
@@ -129,7 +129,7 @@ output_of order facts level next table pairs fits number is sorted =
       largest = last_is order pairs t.entries table.largest t.pairs_are sorted is.largest;
     }
 
-output_short : (order : Order) (facts : Facts) (level : ℕ) (table : TableFile) (pairs : List Pair) (entries : List Entry) → IsClosed order.cmp facts table pairs
+output_short : (order : Order) (facts : Facts) (level : ℕ) (table : TableFile) (pairs : List Pair) (entries : List Entry) → IsClosedTable order.cmp facts table pairs
     → HasBytes (IsLongTable order) facts.files (record { placed = at_level level table; entries = entries }) → ⊥
 output_short order facts level table pairs entries is long =
     let there : table_at facts.files table.number ≡ Some is.file = ap (λ (o : Option (List ℕ)). option_or o (get facts.files (name_of (OldTable table.number)))) is.has in
@@ -152,7 +152,7 @@ entries_are cmp facts (table ∷ tables) [] h = absurd h
 entries_are cmp facts (table ∷ tables) (pairs ∷ lists) h =
     join_pairs pairs (flat_map (λ (l : List Pair). l) lists) h.0.table_of.entries (entries_of cmp facts tables lists h.1) h.0.table_of.pairs_are (entries_are cmp facts tables lists h.1)
 
-outputs_of : (order : Order) (facts : Facts) (level next : ℕ) (tables : List TableFile) (lists : List (List Pair)) → next < 2 ^ 64 → AllByRecursion (λ (table : TableFile). IsNumber next table.number) tables
+outputs_of : (order : Order) (facts : Facts) (level next : ℕ) (tables : List TableFile) (lists : List (List Pair)) → next < 2 ^ 64 → AllByRecursion (λ (table : TableFile). IsDrawnNumber next table.number) tables
     → (h : AreClosed order.cmp facts tables lists) → AreSorted order (map entry_of (entries_of order.cmp facts tables lists h))
     → (outputs : List TableContent) × AreOutputs order facts.files level tables (entries_of order.cmp facts tables lists h) outputs
 outputs_of order facts level next [] [] fits numbers h sorted = ([], record { placed = refl; entries = refl; has = λ o i. absurd i; short = λ o i. absurd i })

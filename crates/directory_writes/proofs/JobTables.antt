@@ -14,10 +14,12 @@ use Rattle.edits.specs.Snapshot.{IsFollowedBy, AreInPlace}
 use Rattle.edits.proofs.Orders.{before_true, before_false, before_trans, unused, unused_from}
 use Rattle.ikey.specs.Views.{Among}
 use Rattle.recover.specs.Tables.{TableContent, InTables}
-use Rattle.recover.specs.Changes.{AreParted, with_content}
+use Rattle.recover.specs.Replacing.{AreParted}
+use Rattle.recover.specs.internal.Changes.{with_content}
 use Rattle.recover.proofs.Memberships.{in_with, from_chosen, from_rest, placed_with}
 use Rattle.compact.specs.JobEdits.{gone, placed_at}
-use Rattle.directory_writes.specs.Compactions.{at_level, placed_in, IsUnused, ReplacesLaw}
+use Rattle.directory_writes.specs.internal.Compactions.{at_level, IsUnused, ReplacesLaw}
+use Rattle.directory_writes.specs.Replacing.{placed_in}
 use Rattle.directory_writes.proofs.JobFolds.{front_of, files_of}
 
 -- ---- fields in order

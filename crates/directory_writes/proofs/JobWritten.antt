@@ -20,13 +20,14 @@ use Rattle.versions.proofs.Pairs.{among_contained}
 use Rattle.versions.proofs.Sets.{used_in}
 use Rattle.recover.specs.Tables.{TableContent, table_at}
 use Rattle.recover.specs.Directory.{Directory, IsConsistent}
-use Rattle.recover.specs.Changes.{AgreeBeside, ManifestEndsAt}
+use Rattle.recover.specs.internal.Changes.{AgreeBeside, ManifestEndsAt}
 use Rattle.recover.specs.Numbers.{IsFree, NamesBelow, number_of}
-use Rattle.recover.specs.Laws.{Agree}
+use Rattle.recover.specs.internal.Laws.{Agree}
 use Rattle.recover.proofs.Adding.{table_of}
 use Rattle.recover.proofs.Keeping.{keep_manifest, free_change}
-use Rattle.compact.specs.Outputs.{Filling, Written, AreNumbered, IsMineUpTo, IsNext, IsNumberAtHand, WritesTables}
-use Rattle.directory_writes.specs.JobWrites.{OwnsNone, KeepsOtherTables, JobWritesLaw, FreeNumberLaw}
+use Rattle.compact.specs.Outputs.{Filling, TablesWritten, AreNumbered, IsMineUpTo, IsNext, IsNumberAtHand, WritesTables}
+use Rattle.directory_writes.specs.Replacing.{OwnsNone}
+use Rattle.directory_writes.specs.internal.JobWrites.{KeepsOtherTables, JobWritesLaw, FreeNumberLaw}
 use Rattle.directory_writes.proofs.JobTables.{number_apart}
 use Rattle.directory_writes.proofs.TableFiles.{below_placed, end_kept}
 
@@ -141,14 +142,14 @@ module _ (order : Order) (old new : Facts) (mine : ℕ → Type 0) (f : IsTrue n
 -- ---- what a job writes
 
 -- the number at hand is one below the next
-pub hand_below : (w : Written) (next number : ℕ) → AreNumbered w next → IsNumberAtHand w number → (0 < number) × (number < next)
+pub hand_below : (w : TablesWritten) (next number : ℕ) → AreNumbered w next → IsNumberAtHand w number → (0 < number) × (number < next)
 hand_below w next number h at = by w.at_hand h.at_hand at
   where
     by : (o : Option Filling) → MatchOption o (Unit {0}) (IsNext w.closed next) → MatchOption o ⊥ (λ t. number ≡ t.number) → (0 < number) × (number < next)
     by None k e = absurd e
     by (Some t) k e = (omega (arith, k.number.0, e), omega (arith, k.number.1, e))
 
-module _ (order : Order) (files : Files) (w : Written) (next more : ℕ) (d : Directory) (le : next ≤ more) (fits : more < 2 ^ 64) (h : IsConsistent order files d) (free : IsFree order files next)
+module _ (order : Order) (files : Files) (w : TablesWritten) (next more : ℕ) (d : Directory) (le : next ≤ more) (fits : more < 2 ^ 64) (h : IsConsistent order files d) (free : IsFree order files next)
     (are : AreNumbered w next) (none : OwnsNone w d.layout.tables.items) where
   pub mine_numbered : (number : ℕ) → IsMineUpTo w next more number → IsNumbered number
   mine_numbered number (inl at) = let b = hand_below w next number are at in (b.0, omega (arith, b.1, le, fits))

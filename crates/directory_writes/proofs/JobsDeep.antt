@@ -15,7 +15,7 @@ use Rattle.ikey.specs.Orders.{Order}
 use Rattle.ikey.specs.Sources.{ComesBefore}
 use Rattle.versions.specs.Ranges.{user_of, covers}
 use Rattle.recover.specs.Tables.{internal_key}
-use Rattle.directory_writes.specs.Compactions.{DeepLaw}
+use Rattle.directory_writes.specs.internal.Compactions.{DeepLaw}
 
 user_back : (entry : Entry) → user_of (internal_key entry) ≡ entry.key
 user_back entry =

@@ -20,7 +20,8 @@ use Rattle.compact.specs.Choosing.{Choosing}
 use Rattle.compact.specs.Lists.{IsPartWith}
 use Rattle.compact.specs.Needed.{IsNeeded, AreNeeded}
 use Rattle.compact.proofs.Parts.{part-members}
-use Rattle.directory_writes.specs.Compactions.{at_level, placed_in, IsUnused, IsJobDone, IsJobPut}
+use Rattle.directory_writes.specs.internal.Compactions.{at_level, IsUnused, IsJobDone, IsJobPut}
+use Rattle.directory_writes.specs.Replacing.{placed_in}
 use Rattle.directory_writes.proofs.JobFolds.{job_folds}
 use Rattle.directory_writes.proofs.JobOutputs.{outputs_are}
 use Rattle.directory_writes.proofs.JobTables.{among_placed, table_of, replaces}

@@ -22,21 +22,22 @@ use Rattle.table.specs.Writing.{KeepsOthers}
 use Rattle.recover.specs.Tables.{TableContent, HasTable, InTables, table_at, tabled}
 use Rattle.recover.specs.Logs.{logged}
 use Rattle.recover.specs.Directory.{Directory, IsConsistent, entries_in}
-use Rattle.recover.specs.Changes.{AgreeBeside, AreParted, IsClosed, compacted}
+use Rattle.recover.specs.internal.Changes.{AgreeBeside, AreClosedInputs, compacted}
+use Rattle.recover.specs.Replacing.{AreParted}
 use Rattle.recover.proofs.Adding.{among_split}
 use Rattle.recover.proofs.Keeping.{keep_tables}
 use Rattle.recover.proofs.Memberships.{from_tabled, among_chosen, among_front, among_back, from_chosen, from_rest, one_of_tables}
 use Rattle.recover.proofs.Compacting.{compact}
 use Rattle.recover.proofs.Closed.{all_lower, no_same, closed}
 use Rattle.compact.specs.JobEdits.{IsOwnIn}
-use Rattle.compact.specs.Laws.{AreApart, SeesAsOne}
-use Rattle.compact.specs.Outputs.{Written, IsOwn}
+use Rattle.compact.specs.Laws.{AreNewerOrDeep, SeesAsOne}
+use Rattle.compact.specs.Outputs.{TablesWritten, IsOwn}
 use Rattle.compact.proofs.Keeping.{keeps_views, views_are_of_sets}
-use Rattle.directory_writes.specs.Compactions.{IsUnused, UnusedLaw, JobPutLaw}
+use Rattle.directory_writes.specs.internal.Compactions.{IsUnused, UnusedLaw, JobPutLaw}
 
 -- ---- numbers that are the job's
 
-unused_field : (w : Written) (f : Field) (tables : List PlacedTable) → ((number : ℕ) → IsOwn w number → is_used number tables ≡ false) → IsOwnIn w f → IsUnused tables f
+unused_field : (w : TablesWritten) (f : Field) (tables : List PlacedTable) → ((number : ℕ) → IsOwn w number → is_used number tables ≡ false) → IsOwnIn w f → IsUnused tables f
 unused_field w (NewFile placed) tables h own = h placed.table.number own
 unused_field w f tables h own = tt
 
@@ -76,9 +77,9 @@ front_along xs ys others h e i = elim (among_split xs others e i) [
 ]
 
 seen_alike : (deep : List ℕ → Bool) (snapshots : List ℕ) (merged inputs outputs others before after : List Entry) (p : ℕ) (map : Contents)
-    → ((sequences : List ℕ) (map : Contents) → AreApart merged others deep → SeesAsOne merged sequences p → sequences ≡ snapshots → IsView (merged ++ others) p map → IsView (outputs ++ others) p map)
+    → ((sequences : List ℕ) (map : Contents) → AreNewerOrDeep merged others deep → SeesAsOne merged sequences p → sequences ≡ snapshots → IsView (merged ++ others) p map → IsView (outputs ++ others) p map)
     → SameEntries merged inputs → SameEntries before (inputs ++ others) → SameEntries after (outputs ++ others)
-    → AreApart inputs others deep → SeesAsOne inputs snapshots p → IsView before p map → IsView after p map
+    → AreNewerOrDeep inputs others deep → SeesAsOne inputs snapshots p → IsView before p map → IsView after p map
 seen_alike deep snapshots merged inputs outputs others before after p map keeps same was is apart sees view =
     let all : IsView (inputs ++ others) p map = views_are_of_sets before (inputs ++ others) p map (λ e. (was e).0) (λ e. (was e).1) view in
     let came : IsView (merged ++ others) p map =
@@ -108,7 +109,7 @@ job_put order deep level snapshots old new came edit d next inputs rest outputs 
 -- ---- what lies beside the inputs
 
 module _ (order : Order) (files : Files) (d : Directory) (inputs rest : List TableContent) (level : ℕ) (deep : List ℕ → Bool) (o : IsTotalOrder order.cmp)
-    (h : IsConsistent order files d) (parted : AreParted d.tables inputs rest) (c : IsClosed order inputs rest level)
+    (h : IsConsistent order files d) (parted : AreParted d.tables inputs rest) (c : AreClosedInputs order inputs rest level)
     (covered : (stays : TableContent) (entry : Entry) → InTables rest stays → level + 1 < stays.placed.level → Among stays.entries entry → IsTrue (deep entry.key)) where
   has : (t : TableContent) → InTables d.tables t → HasTable order files t
   has t i = one_of_tables order files d.tables t h.tables i
@@ -134,7 +135,7 @@ module _ (order : Order) (files : Files) (d : Directory) (inputs rest : List Tab
         ]
       ]
 
-  pub job_apart : AreApart (tabled inputs) (tabled rest ++ logged d.logs) deep
+  pub job_apart : AreNewerOrDeep (tabled inputs) (tabled rest ++ logged d.logs) deep
   job_apart entry other i j same =
       let input = from_tabled inputs entry i in
       elim (among_split (tabled rest) (logged d.logs) other j) [

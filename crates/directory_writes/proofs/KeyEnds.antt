@@ -13,7 +13,7 @@ use Rattle.memtable.specs.Order.{Placed, ordered, RisesInternally}
 use Rattle.memtable.specs.Places.{first_of, last_of}
 use Rattle.memtable.proofs.Orders.{all-back, stands-insert}
 use Rattle.recover.specs.Tables.{internal_key}
-use Rattle.directory_writes.specs.Level0.{HaveSequences}
+use Rattle.directory_writes.specs.internal.Level0.{HaveSequences}
 use Rattle.directory_writes.proofs.Made.{is_key}
 use Rattle.directory_writes.proofs.Ranks.{each_placed, last_split}
 

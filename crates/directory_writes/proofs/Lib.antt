@@ -1,6 +1,7 @@
 pub mod AfterEdits
 pub mod Cleaning
 pub mod EditSteps
+pub mod FewLeft
 pub mod Filled
 pub mod FlushEdits
 pub mod Flushes

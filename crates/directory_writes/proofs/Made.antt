@@ -23,7 +23,7 @@ use Rattle.table.specs.Table.{ArePairs}
 use Rattle.table.specs.Writing.{IsTableOf}
 use Rattle.table.proofs.Footers.{one_footer}
 use Rattle.table.proofs.FrameParts.{one_frame, one_metaindex}
-use Rattle.directory_writes.specs.Level0.{HaveSequences, IsLevel0, pairs_of}
+use Rattle.directory_writes.specs.internal.Level0.{HaveSequences, IsLevel0, pairs_of}
 use Rattle.directory_writes.proofs.Ranks.{entries_in, same_entries, each_placed, sorted_entries, first_entry, last_entry}
 
 -- ---- the entries of the pairs

@@ -15,14 +15,15 @@ use Rattle.versions.specs.declared.live.LiveNumbers.{LiveNumbers}
 use Rattle.recover.specs.Tables.{table_at}
 use Rattle.recover.specs.Logs.{LogContent, InLogs, IsLive}
 use Rattle.recover.specs.Directory.{Directory, IsConsistent, HasManifest, EndsAt}
-use Rattle.recover.specs.Laws.{Agree, FreeChangeLaw}
-use Rattle.recover.specs.Changes.{ManifestEndsAt}
+use Rattle.recover.specs.internal.Laws.{Agree, FreeChangeLaw}
+use Rattle.recover.specs.internal.Changes.{ManifestEndsAt}
 use Rattle.recover.specs.Numbers.{IsFree}
 use Rattle.recover.proofs.Adding.{last_in, table_of}
 use Rattle.recover.proofs.Keeping.{keep_manifest, live_of}
 use Rattle.recover.proofs.NewLogs.{log_there}
-use Rattle.directory_writes.specs.Calls.{LeavesFile}
-use Rattle.directory_writes.specs.Removal.{IsLiveFile, IsDead, RemovesDead, AreNumbersOf, KeepsParts}
+use Rattle.directory_writes.specs.internal.Calls.{LeavesFile}
+use Rattle.directory_writes.specs.Removal.{IsLiveFile, IsDead}
+use Rattle.directory_writes.specs.internal.Removal.{RemovesDead, AreOfDirectory, KeepsParts}
 use Rattle.directory_writes.specs.declared.removal.Removal.{Removal}
 
 -- each file is as before, or isn't live and is gone
@@ -63,7 +64,7 @@ module _ (order : Order) (numbers : LiveNumbers) (in_use : ℕ → Type 0) (old 
     recorded = λ m edits layout has. free.recorded m edits layout (manifest_before m edits layout has);
   }
 
-  module _ (d : Directory) (h : IsConsistent order old d) (are : AreNumbersOf numbers in_use d) where
+  module _ (d : Directory) (h : IsConsistent order old d) (are : AreOfDirectory numbers in_use d) where
     log_kept : (n : ℕ) → IsNumbered n → IsLive d.layout n → get new (name_of (Log n)) ≡ get old (name_of (Log n))
     log_kept n num (inl le) = live_kept (Log n) num (inl (omega (arith, are.log_number, le)))
     log_kept n num (inr previous) = live_kept (Log n) num (inr (previous.0 ∙ sym are.previous_log_number))
@@ -113,6 +114,6 @@ stays_or_goes old new live files q = elim (files q) [
 
 -- what is left of the files keeps the parts
 pub keeps_meaning : (numbers : LiveNumbers) (in_use : ℕ → Type 0) (old new : Facts) (r : Result Removal DbError) → RemovesDead old new (IsLiveFile numbers in_use) r → FreeChangeLaw → IsTrue new.faithful
-    → (order : Order) (d : Directory) → IsConsistent order old.files d → AreNumbersOf numbers in_use d → KeepsParts order old.files new.files in_use d
+    → (order : Order) (d : Directory) → IsConsistent order old.files d → AreOfDirectory numbers in_use d → KeepsParts order old.files new.files in_use d
 keeps_meaning numbers in_use old new r removes law f order d h are =
     keeps_parts order numbers in_use old.files new.files (stays_or_goes old new (IsLiveFile numbers in_use) (removes.files f)) d h are law

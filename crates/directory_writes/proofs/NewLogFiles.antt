@@ -17,13 +17,13 @@ use Rattle.edits.specs.declared.names.FileName.TheVariants.{Current, Log, Manife
 use Rattle.edits.proofs.FileNames.{one_file}
 use Rattle.table.specs.Writing.{KeepsOthers}
 use Rattle.recover.specs.Directory.{Directory, IsConsistent, HasManifest}
-use Rattle.recover.specs.Changes.{ManifestEndsAt, BeginLogLaw}
+use Rattle.recover.specs.internal.Changes.{ManifestEndsAt, BeginLogLaw}
 use Rattle.recover.specs.Numbers.{NamesBelow, IsFree, number_of}
 use Rattle.recover.proofs.NamedFiles.{get_other, same_name}
 use Rattle.recover.proofs.Adding.{current_apart, manifest_apart}
 use Rattle.recover.proofs.Keeping.{keep_manifest}
-use Rattle.directory_writes.specs.Calls.{Creates}
-use Rattle.directory_writes.specs.LogFile.{HasNewLog, BeginsLog}
+use Rattle.directory_writes.specs.internal.Calls.{Creates}
+use Rattle.directory_writes.specs.internal.LogFile.{HasNewLog, BeginsLog}
 
 -- ---- the MANIFEST stays
 

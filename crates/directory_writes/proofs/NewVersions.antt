@@ -14,13 +14,12 @@ use Rattle.edits.specs.declared.field.PlacedTable.{PlacedTable}
 use Rattle.edits.specs.declared.field.TableFile.{TableFile}
 use Rattle.edits.specs.Layout.{is_used, is_before, inserted, after_edit, last_said, compact_pointer_in}
 use Rattle.edits.proofs.Orders.{unused}
-use Rattle.versions.specs.Applying.{Leads, LeadsAstray}
-use Rattle.versions.specs.Keeping.{HasNumber}
-use Rattle.versions.specs.Levels.{Placement, Lists, IsRange, IsBefore, AreInOrder, AreApart, pointers_after}
+use Rattle.versions.specs.Applying.{LeadsLayout, LeadsAstray}
+use Rattle.versions.specs.Levels.{HasNumber, Placement, ListsSameTables, IsRange, StandsBefore, AreInOrder, AreTablesApart, pointers_after}
 use Rattle.versions.proofs.Sets.{inside, no_some, used_in}
 use Rattle.versions.proofs.Pairs.{all_contained}
-use Rattle.directory_writes.specs.Flush.{HasNewVersion, RefusesTable, RefusesVersion}
-use Rattle.directory_writes.specs.FlushEdits.{flush_fields}
+use Rattle.directory_writes.specs.internal.Flush.{HasNewVersion, RefusesNewTable, RefusesVersion}
+use Rattle.directory_writes.specs.internal.FlushEdits.{flush_fields}
 use Rattle.directory_writes.proofs.FlushEdits.{new_one, none_edit, pointer_said}
 
 -- ---- one more in its place
@@ -52,10 +51,10 @@ module _ (cmp : List ℕ → List ℕ → Ordering) (table : TableFile) where
   new = record { level = 0; table = table }
 
   -- at level 0 the numbers alone count
-  beside : (c : PlacedTable) → table.number ≢ c.table.number → IsBefore cmp c new ⊎ IsBefore cmp new c
+  beside : (c : PlacedTable) → table.number ≢ c.table.number → StandsBefore cmp c new ⊎ StandsBefore cmp new c
   beside c other = by c.level refl
     where
-      by : (level : ℕ) → level ≡ c.level → IsBefore cmp c new ⊎ IsBefore cmp new c
+      by : (level : ℕ) → level ≡ c.level → StandsBefore cmp c new ⊎ StandsBefore cmp new c
       by zero is =
           let F : ℕ → Type 0 = λ n. Rattle.versions.specs.Levels.IsFirstAt cmp n c new in
           elim (cases_lt c.table.number table.number) [
@@ -67,20 +66,20 @@ module _ (cmp : List ℕ → List ℕ → Ordering) (table : TableFile) where
           ]
       by (suc n) is = inr (inl (omega (arith, is)))
 
-  apart_with : (tables : List PlacedTable) → AreInOrder cmp tables → IsRange cmp new → is_used table.number tables ≡ false → AreApart cmp (inserted new tables)
+  apart_with : (tables : List PlacedTable) → AreInOrder cmp tables → IsRange cmp new → is_used table.number tables ≡ false → AreTablesApart cmp (inserted new tables)
   apart_with tables order range fresh =
       let others = All-from_recursion (λ (p : PlacedTable). table.number ≢ p.table.number) tables (unused table.number tables fresh) in
       record {
         levels = all_inserted (λ p. p.level < 7) new tables (omega arith) order.levels;
         ranges = all_inserted (IsRange cmp) new tables range order.ranges;
         numbers = pairs_inserted (λ a b. a.table.number ≢ b.table.number) new tables order.numbers others (λ k d lt e. others k d lt (sym e));
-        places = pairs_inserted (λ a b. IsBefore cmp a b ⊎ IsBefore cmp b a) new tables
+        places = pairs_inserted (λ a b. StandsBefore cmp a b ⊎ StandsBefore cmp b a) new tables
             (λ a b d lt le. inl (order.places a b d lt le))
             (λ k d lt. elim (beside (get_or tables k d) (others k d lt)) [ inl p ↦ inr p | inr p ↦ inl p ])
             (λ k d lt. beside (get_or tables k d) (others k d lt));
       }
 
-  lists_itself : (tables : List PlacedTable) → AreInOrder cmp tables → Lists tables tables
+  lists_itself : (tables : List PlacedTable) → AreInOrder cmp tables → ListsSameTables tables tables
   lists_itself tables order = record { numbers = order.numbers; all = all_contained (Contains tables) tables (λ p c. c); only = all_contained (Contains tables) tables (λ p c. c) }
 
   used_number : (tables : List PlacedTable) → is_used table.number tables ≡ true → HasNumber table.number tables
@@ -106,16 +105,16 @@ module _ (cmp : List ℕ → List ℕ → Ordering) (table : TableFile) where
         (λ fresh. absurd (astray tables (inserted new tables) (lists_itself tables order) (new_one log previous next last table tables fresh) (apart_with tables order range fresh)))
 
     -- where there is a version, none is
-    fresh_by : (after : List PlacedTable) → Leads change tables after → is_used table.number tables ≡ false
+    fresh_by : (after : List PlacedTable) → LeadsLayout change tables after → is_used table.number tables ≡ false
     fresh_by after leads = by_used tables
         (λ used. let r = leads tables (lists_itself tables order) in no_some r.0 (sym (none_edit log previous next last table tables used) ∙ r.1))
         (λ fresh. fresh)
 
-    lists_new : (after : List PlacedTable) → Leads change tables after → Lists (inserted new tables) after
+    lists_new : (after : List PlacedTable) → LeadsLayout change tables after → ListsSameTables (inserted new tables) after
     lists_new after leads =
         let r = leads tables (lists_itself tables order) in
         let same : r.0 ≡ inserted new tables = inside r.0 (inserted new tables) (sym r.1 ∙ new_one log previous next last table tables (fresh_by after leads)) in
-        subst (λ (ts : List PlacedTable). Lists ts after) same r.2
+        subst (λ (ts : List PlacedTable). ListsSameTables ts after) same r.2
 
     same_pointers : (level : ℕ) (pointers : List (Option (List ℕ))) → pointers_after (flush_fields log previous next last table) level pointers ≡ pointers
     same_pointers level [] = refl
@@ -125,7 +124,7 @@ module _ (cmp : List ℕ → List ℕ → Ordering) (table : TableFile) where
         let rest = same_pointers (suc level) pointers in
         λ i. here i ∷ rest i
 
-    pub new_version : (number : ℕ) (pointers : List (Option (List ℕ))) (after : Placement) → table.number ≡ number → Leads change tables after.tables → AreInOrder cmp after.tables
+    pub new_version : (number : ℕ) (pointers : List (Option (List ℕ))) (after : Placement) → table.number ≡ number → LeadsLayout change tables after.tables → AreInOrder cmp after.tables
         → after.compact_pointers ≡ pointers_after (flush_fields log previous next last table) 0 pointers → HasNewVersion cmp number (record { tables = tables; compact_pointers = pointers }) after
     new_version number pointers after is leads in_order said = record {
       table = table;
@@ -138,7 +137,7 @@ module _ (cmp : List ℕ → List ℕ → Ordering) (table : TableFile) where
 -- ---- why there is none
 
 refused_by : (e : DbError) (old now : Facts) (entries : List Entry) (tables : List PlacedTable) (next after : ℕ) (astray : Type 0) → (astray → HasNumber next tables) → now.failures ≡ old.failures
-    → RefusesVersion e astray → RefusesTable e old now entries tables next after
+    → RefusesVersion e astray → RefusesNewTable e old now entries tables next after
 refused_by OutOfMemory old now entries tables next after astray to stood h = stood
 refused_by (Corrupt file what) old now entries tables next after astray to stood h = to h
 refused_by Io old now entries tables next after astray to stood h = absurd h
@@ -149,15 +148,15 @@ refused_by e old now entries tables next after astray to stood h = absurd h
 module _ (cmp : List ℕ → List ℕ → Ordering) (table : TableFile) (log previous next_file last : ℕ) (tables : List PlacedTable) (order : AreInOrder cmp tables) (edit : List Field)
     (is : edit ≡ flush_fields log previous next_file last table) (number : ℕ) (number_is : table.number ≡ number) where
   pub version_refused : (e : DbError) (old new : Facts) (entries : List Entry) (after : ℕ) → IsRange cmp (record { level = 0; table = table }) → new.failures ≡ old.failures
-      → RefusesVersion e (LeadsAstray cmp (after_edit edit) tables) → RefusesTable e old new entries tables number after
+      → RefusesVersion e (LeadsAstray cmp (after_edit edit) tables) → RefusesNewTable e old new entries tables number after
   version_refused e old new entries after range stood h =
       refused_by e old new entries tables number after (LeadsAstray cmp (after_edit edit) tables)
       (λ astray. subst (λ (n : ℕ). HasNumber n tables) number_is
       (number_used cmp table log previous next_file last tables order range (subst (λ (fields : List Field). LeadsAstray cmp (after_edit fields) tables) is astray)))
       stood h
 
-  pub version_made : (pointers : List (Option (List ℕ))) (after : Placement) → Leads (after_edit edit) tables after.tables → AreInOrder cmp after.tables → after.compact_pointers ≡ pointers_after edit 0 pointers
+  pub version_made : (pointers : List (Option (List ℕ))) (after : Placement) → LeadsLayout (after_edit edit) tables after.tables → AreInOrder cmp after.tables → after.compact_pointers ≡ pointers_after edit 0 pointers
       → HasNewVersion cmp number (record { tables = tables; compact_pointers = pointers }) after
   version_made pointers after leads in_order said =
       new_version cmp table log previous next_file last tables order number pointers after number_is
-      (subst (λ (fields : List Field). Leads (after_edit fields) tables after.tables) is leads) in_order (said ∙ ap (λ (fields : List Field). pointers_after fields 0 pointers) is)
+      (subst (λ (fields : List Field). LeadsLayout (after_edit fields) tables after.tables) is leads) in_order (said ∙ ap (λ (fields : List Field). pointers_after fields 0 pointers) is)

@@ -10,12 +10,12 @@ use Rattle.ikey.specs.declared.internal_key.Kind.TheVariants.{Delete, Put}
 use Rattle.ikey.specs.Entries.{InternalEntry, entry_of, value_of}
 use Rattle.ikey.specs.Views.{Among}
 use Rattle.recover.specs.Tables.{TableContent, InTables, tabled}
-use Rattle.recover.specs.Changes.{AreParted, AreDistinct}
+use Rattle.recover.specs.Replacing.{AreParted, AreDistinct}
 use Rattle.recover.proofs.Adding.{among_split}
 use Rattle.recover.proofs.Memberships.{from_chosen, from_rest, among_front, among_back, among_chosen}
 use Rattle.compact.specs.JobEdits.{AreOnce}
-use Rattle.directory_writes.specs.Compactions.{placed_in}
-use Rattle.directory_writes.specs.Planned.{OwnSequencesLaw}
+use Rattle.directory_writes.specs.Replacing.{placed_in}
+use Rattle.directory_writes.specs.internal.Planned.{OwnSequencesLaw}
 use Rattle.directory_writes.proofs.JobTables.{InRow}
 
 -- ---- the tables that pass a test, and the others

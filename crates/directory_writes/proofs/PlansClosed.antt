@@ -20,21 +20,22 @@ use Rattle.ikey.specs.Orders.{Order}
 use Rattle.store.specs.Files.{Files}
 use Rattle.recover.specs.Tables.{TableContent, HasTable, InTables}
 use Rattle.recover.specs.Directory.{Directory, IsConsistent}
-use Rattle.recover.specs.Changes.{AreParted, HasLowerKeys}
+use Rattle.recover.specs.Replacing.{AreParted}
+use Rattle.recover.specs.internal.Changes.{HasLowerKeys}
 use Rattle.recover.proofs.Flushing.{kept_by}
 use Rattle.recover.proofs.Memberships.{from_chosen, from_rest, one_of_tables}
 use Rattle.recover.proofs.TableFacts.{key_is, fits_of}
 use Rattle.versions.specs.declared.plan.JobPlan.{JobPlan}
-use Rattle.versions.specs.Levels.{Lists, AreInOrder, IsBefore, IsFirstAt, tables_at}
-use Rattle.versions.specs.Plans.{CompactsLevel, IsBrought, IsLeastClosed}
+use Rattle.versions.specs.Levels.{ListsSameTables, AreInOrder, StandsBefore, IsFirstAt, tables_at}
+use Rattle.versions.specs.Plans.{IsPlanFromLevel, IsBrought, IsLeastClosed}
 use Rattle.versions.specs.Plans as plans
 use Rattle.versions.specs.Ranges.{first_user, last_user, is_up_to, SharesBoundary}
 use Rattle.ikey.specs.Below.{IsBelowInternal}
 use Rattle.versions.proofs.Closures.{of_level}
 use Rattle.versions.proofs.Keys.{true_or_false, up_both, user_of_key, below_up}
 use Rattle.versions.proofs.Pairs.{filtered, unfiltered, all_contained}
-use Rattle.directory_writes.specs.Compactions.{placed_in}
-use Rattle.directory_writes.specs.Planned.{ClosedPlanLaw}
+use Rattle.directory_writes.specs.Replacing.{placed_in}
+use Rattle.directory_writes.specs.internal.Planned.{ClosedPlanLaw}
 use Rattle.directory_writes.proofs.JobTables.{InRow, row_of, among_placed, content_at, among_contains, contains_among, same_among}
 use Rattle.directory_writes.proofs.PlanParts.{parts_apart}
 
@@ -109,19 +110,19 @@ module _ (cmp : List ℕ → List ℕ → Ordering) (level : ℕ) (tables start 
 -- ---- two tables of a version
 
 -- of two tables one comes first, or they are the same
-one_first : (cmp : List ℕ → List ℕ → Ordering) (tables : List PlacedTable) (a b : PlacedTable) → AllPairs (IsBefore cmp) tables → Contains tables a → Contains tables b
-    → (a ≡ b) ⊎ (IsBefore cmp a b ⊎ IsBefore cmp b a)
+one_first : (cmp : List ℕ → List ℕ → Ordering) (tables : List PlacedTable) (a b : PlacedTable) → AllPairs (StandsBefore cmp) tables → Contains tables a → Contains tables b
+    → (a ≡ b) ⊎ (StandsBefore cmp a b ⊎ StandsBefore cmp b a)
 one_first cmp tables a b places (k, lt, e) (m, less, f) =
     let f' : get_or tables m a ≡ b = get_or_default tables m a b less ∙ f in
     elim (cases_lt k m) [
-      | inl before ↦ inr (inl (subst (λ (p : PlacedTable). IsBefore cmp p b) e (subst (λ (p : PlacedTable). IsBefore cmp (get_or tables k a) p) f' (places k m a before less))))
+      | inl before ↦ inr (inl (subst (λ (p : PlacedTable). StandsBefore cmp p b) e (subst (λ (p : PlacedTable). StandsBefore cmp (get_or tables k a) p) f' (places k m a before less))))
       | inr rest ↦ elim (cases_lt m k) [
-        | inl behind ↦ inr (inr (subst (λ (p : PlacedTable). IsBefore cmp b p) e (subst (λ (p : PlacedTable). IsBefore cmp p (get_or tables k a)) f' (places m k a behind lt))))
+        | inl behind ↦ inr (inr (subst (λ (p : PlacedTable). StandsBefore cmp b p) e (subst (λ (p : PlacedTable). StandsBefore cmp p (get_or tables k a)) f' (places m k a behind lt))))
         | inr last ↦ let at : k ≡ m = omega (arith, rest, last) in inl (sym e ∙ ap (λ (n : ℕ). get_or tables n a) at ∙ f')
       ]
     ]
 
-below_first : (cmp : List ℕ → List ℕ → Ordering) (level : ℕ) (a b : PlacedTable) → 0 < level → a.level ≡ level → b.level ≡ level → IsBefore cmp a b → IsBelowInternal cmp a.table.largest b.table.smallest
+below_first : (cmp : List ℕ → List ℕ → Ordering) (level : ℕ) (a b : PlacedTable) → 0 < level → a.level ≡ level → b.level ≡ level → StandsBefore cmp a b → IsBelowInternal cmp a.table.largest b.table.smallest
 below_first cmp zero a b some x y h = absurd (omega (arith, some))
 below_first cmp (suc n) a b some x y (inl lt) = absurd (omega (arith, x, y, lt))
 below_first cmp (suc n) a b some x y (inr h) = subst (λ (l : ℕ). IsFirstAt cmp l a b) x h.1
@@ -129,7 +130,7 @@ below_first cmp (suc n) a b some x y (inr h) = subst (λ (l : ℕ). IsFirstAt cm
 -- ---- closed inputs
 
 module _ (order : Order) (files : Files) (d : Directory) (o : IsTotalOrder order.cmp) (exact : IsAntisymmetric order.cmp) (h : IsConsistent order files d)
-    (tables : List PlacedTable) (lists : Lists (placed_in d.tables) tables) (in_order : AreInOrder order.cmp tables) (plan : JobPlan) (c : CompactsLevel order.cmp tables plan)
+    (tables : List PlacedTable) (lists : ListsSameTables (placed_in d.tables) tables) (in_order : AreInOrder order.cmp tables) (plan : JobPlan) (c : IsPlanFromLevel order.cmp tables plan)
     (inputs rest : List TableContent) (parted : AreParted d.tables inputs rest) (planned : IsPermutation plan.inputs.items (placed_in inputs)) where
   abbrev chosen : List PlacedTable
   chosen = plan.inputs.items
@@ -176,7 +177,7 @@ module _ (order : Order) (files : Files) (d : Directory) (o : IsTotalOrder order
 
   -- the first ends before the other begins, since they share no user key
   wholly_lower : (a b : TableContent) → HasTable order files a → HasTable order files b → 0 < c.level → a.placed.level ≡ c.level → b.placed.level ≡ c.level
-      → IsBefore order.cmp a.placed b.placed → (last_user a.placed ≡ first_user b.placed → ⊥) → HasLowerKeys order a.placed b.placed
+      → StandsBefore order.cmp a.placed b.placed → (last_user a.placed ≡ first_user b.placed → ⊥) → HasLowerKeys order a.placed b.placed
   wholly_lower a b has there some x y before shared =
       let up = below_up order.cmp a.placed.table.largest b.placed.table.smallest (below_first order.cmp c.level a.placed b.placed some x y before) in
       lower_of order files a b o has there (elim (true_or_false (is_up_to order.cmp (first_user b.placed) (last_user a.placed))) [

@@ -13,14 +13,16 @@ use Rattle.ikey.specs.Views.{Among}
 use Rattle.store.specs.Files.{Files}
 use Rattle.recover.specs.Tables.{TableContent, InTables, AreNewer, tabled}
 use Rattle.recover.specs.Directory.{Directory, IsConsistent}
-use Rattle.recover.specs.Changes.{AreParted, MayReplace, IsFlush, with_content}
+use Rattle.recover.specs.Replacing.{AreParted, MayReplace}
+use Rattle.recover.specs.internal.Changes.{IsFlush, with_content}
 use Rattle.recover.specs.Logs.{LogContent, logged}
 use Rattle.recover.proofs.Adding.{logged-append}
 use Rattle.recover.proofs.Flushing.{kept_by}
 use Rattle.recover.proofs.Memberships.{in_with, from_rest, from_chosen, from_tabled, to_tabled, among_front}
-use Rattle.compact.specs.Laws.{AreApart}
+use Rattle.compact.specs.Laws.{AreNewerOrDeep}
 use Rattle.versions.specs.declared.plan.JobPlan.{JobPlan}
-use Rattle.directory_writes.specs.Planned.{IsPlanned, FlushedPlanLaw}
+use Rattle.directory_writes.specs.Replacing.{IsPlanned}
+use Rattle.directory_writes.specs.internal.Planned.{FlushedPlanLaw}
 use Rattle.directory_writes.proofs.JobTables.{InRow, row_of}
 
 -- ---- one more table is one of the rest
@@ -86,7 +88,7 @@ module _ (order : Order) (files : Files) (deep : List ℕ → Bool) (plan : JobP
     ];
   }
 
-  apart : AreApart (tabled inputs) (tabled (with_content content rest)) deep
+  apart : AreNewerOrDeep (tabled inputs) (tabled (with_content content rest)) deep
   apart entry other i j same =
       let t = from_tabled (with_content content rest) other j in
       let input = from_tabled inputs entry i in

@@ -15,7 +15,7 @@ use Rattle.ikey.specs.Views.{Among}
 use Rattle.store.specs.Files.{Files}
 use Rattle.recover.specs.Tables.{TableContent, InTables, tabled}
 use Rattle.recover.specs.Directory.{Directory, IsConsistent}
-use Rattle.recover.specs.Changes.{AreParted, MayReplace}
+use Rattle.recover.specs.Replacing.{AreParted, MayReplace}
 use Rattle.recover.specs.Logs.{logged}
 use Rattle.recover.proofs.Adding.{among_split}
 use Rattle.recover.proofs.Closed.{closed}
@@ -24,16 +24,16 @@ use Rattle.recover.proofs.Flushing.{kept_by}
 use Rattle.recover.proofs.Memberships.{from_tabled, from_chosen, from_rest, among_front, among_chosen, one_of_tables}
 use Rattle.compact.specs.Deeper.{is_covered_below}
 use Rattle.compact.specs.JobEdits.{IsPlanProper}
-use Rattle.compact.specs.Laws.{AreApart}
+use Rattle.compact.specs.Laws.{AreNewerOrDeep}
 use Rattle.versions.specs.declared.plan.JobPlan.{JobPlan}
-use Rattle.versions.specs.Levels.{Lists, AreInOrder}
-use Rattle.versions.specs.Plans.{CompactsLevel, IsWholePlan, IsPlanOf, MovesPointer}
+use Rattle.versions.specs.Levels.{ListsSameTables, AreInOrder}
+use Rattle.versions.specs.Plans.{IsPlanFromLevel, IsWholePlan, IsPlanOf, MovesPointer}
 use Rattle.versions.proofs.Inputs.{inputs, same_number}
 use Rattle.versions.proofs.Keys.{true_or_false}
 use Rattle.versions.proofs.Pairs.{all_contained}
 use Rattle.versions.proofs.Sets.{used_in}
-use Rattle.directory_writes.specs.Compactions.{placed_in}
-use Rattle.directory_writes.specs.Planned.{IsPlanned, PlannedLaw, PlannedApartLaw}
+use Rattle.directory_writes.specs.Replacing.{placed_in, IsPlanned}
+use Rattle.directory_writes.specs.internal.Planned.{PlannedLaw, PlannedApartLaw}
 use Rattle.directory_writes.proofs.JobTables.{InRow, row_of, among_placed, content_at, among_contains, contains_among}
 use Rattle.directory_writes.proofs.JobsDeep.{deep}
 use Rattle.directory_writes.proofs.JobsPut.{job_apart}
@@ -62,7 +62,7 @@ each_at P (y ∷ xs) x h (inr i) = each_at P xs x h.1 i
 -- ---- the tables that a plan takes
 
 module _ (order : Order) (files : Files) (d : Directory) (tables : List PlacedTable) (plan : JobPlan) (o : IsTotalOrder order.cmp) (exact : IsAntisymmetric order.cmp)
-    (h : IsConsistent order files d) (lists : Lists (placed_in d.tables) tables) (in_order : AreInOrder order.cmp tables) (of : IsPlanOf order.cmp tables plan) where
+    (h : IsConsistent order files d) (lists : ListsSameTables (placed_in d.tables) tables) (in_order : AreInOrder order.cmp tables) (of : IsPlanOf order.cmp tables plan) where
   abbrev chosen : List PlacedTable
   chosen = plan.inputs.items
 
@@ -152,16 +152,16 @@ module _ (order : Order) (files : Files) (d : Directory) (tables : List PlacedTa
   -- ---- what it leaves
 
   abbrev May : Type 0
-  May = MayReplace order taken left plan.output_level × AreApart (tabled taken) (tabled left) deep_keys
+  May = MayReplace order taken left plan.output_level × AreNewerOrDeep (tabled taken) (tabled left) deep_keys
 
-  level_may : (c : CompactsLevel order.cmp tables plan) → May
+  level_may : (c : IsPlanFromLevel order.cmp tables plan) → May
   level_may c =
       let shut = closed_plan order files d tables plan taken left o exact h lists in_order c parted planned in
       let may = closed order files d taken left c.level o h parted shut in
       let all = job_apart order files d taken left c.level (is_covered_below order.cmp (c.level + 1) tables) o h parted shut
       (λ stays entry i lt a. let here = from_rest d.tables taken left stays parted i in
       deep order files stays entry (c.level + 1) tables o (one_of_tables order files d.tables stays h.tables here) a lt (there stays here)) in
-      subst (λ (level : ℕ). MayReplace order taken left level × AreApart (tabled taken) (tabled left) (is_covered_below order.cmp level tables)) (sym c.chosen.output)
+      subst (λ (level : ℕ). MayReplace order taken left level × AreNewerOrDeep (tabled taken) (tabled left) (is_covered_below order.cmp level tables)) (sym c.chosen.output)
       (may, λ entry other i j same. all entry other i (among_front (tabled left) (logged d.logs) other j) same)
 
   none_left : IsWholePlan tables plan → (x : TableContent) → InTables left x → ⊥

@@ -14,11 +14,11 @@ use Rattle.edits.specs.declared.field.PlacedTable.{PlacedTable}
 use Rattle.edits.specs.declared.field.TableFile.{TableFile}
 use Rattle.versions.proofs.Pairs.{Among, all_contained, among_contained, contained_among}
 use Rattle.versions.proofs.Sets.{Other, ins_stays}
-use Rattle.versions.specs.Applying.{Leads}
-use Rattle.versions.specs.Levels.{AreInOrder, Lists}
+use Rattle.versions.specs.Applying.{LeadsLayout}
+use Rattle.versions.specs.Levels.{AreInOrder, ListsSameTables}
 use Rattle.versions.specs.declared.plan.JobPlan.{JobPlan}
 use Rattle.compact.specs.JobEdits.{IsEditOfPlan, gone, placed_at, pointer_fields}
-use Rattle.directory_writes.specs.Install.{Replaces}
+use Rattle.directory_writes.specs.Replacing.{ReplacesInputs}
 use Rattle.directory_writes.proofs.AfterEdits.{ForTwo, PutsIn, all_deleted, all_put, all_without, if_both, if_map, if_then}
 
 -- ---- lists
@@ -207,8 +207,8 @@ module _ (plan : JobPlan) (edit : List Field) (of : IsEditOfPlan plan edit) wher
         (all_append (λ (f : Field). Spares f t) (map gone sorted) (map (placed_at level) of.tables)
         (spares_gone sorted (recursion_from_All (λ (x : PlacedTable). Other x t) sorted (all_contained (λ (x : PlacedTable). Other x t) sorted each))) (spares_placed of.tables)))
 
-  module _ (cmp : List ℕ → List ℕ → Ordering) (old new : List PlacedTable) (order : AreInOrder cmp old) (leads : Leads (after_edit edit) old new) where
-    reached : (left : List PlacedTable) × (after_edit edit old ≡ Some left) × Lists left new
+  module _ (cmp : List ℕ → List ℕ → Ordering) (old new : List PlacedTable) (order : AreInOrder cmp old) (leads : LeadsLayout (after_edit edit) old new) where
+    reached : (left : List PlacedTable) × (after_edit edit old ≡ Some left) × ListsSameTables left new
     reached = leads old (record { numbers = order.numbers; all = all_contained (Contains old) old (λ p c. c); only = all_contained (Contains old) old (λ p c. c) })
 
     abbrev Was : PlacedTable → Type 0
@@ -238,5 +238,5 @@ module _ (plan : JobPlan) (edit : List Field) (of : IsEditOfPlan plan edit) wher
         (if_then (after_new edit) (Among placed) (Among placed) (after_deleted edit old) (stays_deleted placed edit old (among_contained placed old there.0 there.1 there.2) (spares_other placed apart)) (λ others k. stays_put placed edit others k)) in
         All-contains (Contains new) reached.0 placed reached.2.all (contained_among placed reached.0 in_left)
 
-    pub replaced : Replaces plan old new
+    pub replaced : ReplacesInputs plan old new
     replaced = record { tables = λ placed there. each placed there; stays = λ placed there apart. still placed there apart }

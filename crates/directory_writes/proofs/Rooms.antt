@@ -19,14 +19,14 @@ use Rattle.ikey.specs.declared.internal_key.Kind.TheVariants.{Delete, Put}
 use Rattle.edits.specs.Snapshot.{IsFollowedBy, AreInPlace}
 use Rattle.edits.specs.declared.field.PlacedTable.{PlacedTable}
 use Rattle.edits.specs.declared.layout.Layout.{Layout}
-use Rattle.versions.specs.Levels.{IsRange, IsFirstAt, IsBefore}
+use Rattle.versions.specs.Levels.{IsRange, IsFirstAt, StandsBefore}
 use Rattle.versions.specs.Levels as levels
 use Rattle.recover.specs.Tables.{TableContent, HasTable, InTables, tabled, internal_key, LieApart, AreTwoTables, AreTables}
 use Rattle.recover.specs.Directory.{Directory}
-use Rattle.recover.specs.Changes.{IsCompaction}
+use Rattle.recover.specs.internal.Changes.{IsCompaction}
 use Rattle.recover.proofs.Memberships.{among_back, from_rest, in_part, to_tabled}
 use Rattle.recover.proofs.TableFacts.{key_is, fits_of}
-use Rattle.directory_writes.specs.Compactions.{placed_in}
+use Rattle.directory_writes.specs.Replacing.{placed_in}
 use Rattle.directory_writes.proofs.AfterEdits.{ForTwo, all_at, two_at, distinct}
 use Rattle.directory_writes.proofs.JobOutputs.{sorted_back}
 
@@ -124,7 +124,7 @@ module _ (order : Order) (total : IsTotalOrder order.cmp) where
     number_at (suc level) a b none h = absurd (omega (arith, none))
 
     abbrev AreTwo : PlacedTable → PlacedTable → Type 0
-    AreTwo a b = IsBefore order.cmp a b ⊎ IsBefore order.cmp b a
+    AreTwo a b = StandsBefore order.cmp a b ⊎ StandsBefore order.cmp b a
 
     module _ (contents : List TableContent) (has : (t : TableContent) → InTables contents t → HasTable order files t)
         (lap : (a b : TableContent) → InTables contents a → InTables contents b → a.placed.table.number ≢ b.placed.table.number → a.placed.level ≡ b.placed.level → 0 < a.placed.level → LieApart order a b) where
@@ -153,7 +153,7 @@ module _ (order : Order) (total : IsTotalOrder order.cmp) where
           let h = has a (within a (inl refl)) in
           (range_by a h (h.smallest.3 h.largest.0 h.largest.1), ranges_of others (λ t k. within t (inr k)))
 
-      pub are_apart : AllByRecursion (λ (p : PlacedTable). p.level < 7) (placed_in contents) → AreInPlace (placed_in contents) → levels.AreApart order.cmp (placed_in contents)
+      pub are_apart : AllByRecursion (λ (p : PlacedTable). p.level < 7) (placed_in contents) → AreInPlace (placed_in contents) → levels.AreTablesApart order.cmp (placed_in contents)
       are_apart low in_place = record {
         levels = all_at (λ (p : PlacedTable). p.level < 7) (placed_in contents) low;
         ranges = all_at (IsRange order.cmp) (placed_in contents) (ranges_of contents (λ t i. i));

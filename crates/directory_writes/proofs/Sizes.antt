@@ -12,7 +12,7 @@ use Rattle.memtable.specs.Order.{Placed, is_before, put_in, put_all, ordered}
 use Rattle.recover.specs.Tables.{internal_key}
 use Rattle.compact.specs.Rooms.{load, room_of, AreLarge}
 use Rattle.compact.proofs.Sizes.{load-append}
-use Rattle.directory_writes.specs.Level0.{pair_of, pairs_of}
+use Rattle.directory_writes.specs.internal.Level0.{pair_of, pairs_of}
 
 room_listed : List Placed → ℕ
 room_listed [] = 0

@@ -12,7 +12,7 @@ use Rattle.store.specs.declared.error.StoreError.{StoreError}
 use Rattle.store.specs.declared.error.StoreError.TheVariants as store_error
 use Rattle.recover.proofs.NamedFiles.{same_name}
 use Rattle.table.specs.Writing.{SyncsOnly}
-use Rattle.directory_writes.specs.Calls.{Touches, IsRefusalOf, Creates, AppendsSynced}
+use Rattle.directory_writes.specs.internal.Calls.{Touches, IsRefusalOf, Creates, AppendsSynced}
 
 -- ---- what is known of any store
 

@@ -18,22 +18,22 @@ use Rattle.edits.specs.declared.field.TableFile.{TableFile}
 use Rattle.edits.specs.declared.layout.Layout.{Layout}
 use Rattle.edits.specs.declared.names.FileName.TheVariants.{Log, Table, OldTable, Manifest}
 use Rattle.table.specs.Writing.{KeepsOthers}
-use Rattle.versions.specs.Applying.{Leads}
-use Rattle.versions.specs.Levels.{Lists}
+use Rattle.versions.specs.Applying.{LeadsLayout}
+use Rattle.versions.specs.Levels.{ListsSameTables}
 use Rattle.versions.proofs.Pairs.{Among, among_contained}
 use Rattle.versions.proofs.Sets.{inside, used_in}
 use Rattle.recover.specs.Tables.{TableContent, HasTable, table_at}
 use Rattle.recover.specs.Logs.{LogContent, HasLogs}
 use Rattle.recover.specs.Directory.{Directory, IsConsistent, HasManifest, EndsAt, used_in as used_of}
-use Rattle.recover.specs.Changes.{ManifestEndsAt, AgreeBeside, IsFlush, flushed, with_content, FlushLaw, SameManifestLaw}
+use Rattle.recover.specs.internal.Changes.{ManifestEndsAt, AgreeBeside, IsFlush, flushed, with_content, FlushLaw, SameManifestLaw}
 use Rattle.recover.specs.Numbers.{NamesBelow}
 use Rattle.recover.specs.Report.{IsLongTable, HasBytes}
 use Rattle.recover.proofs.Adding.{logs_back}
 use Rattle.recover.proofs.Memberships.{in_with, placed_with}
-use Rattle.directory_writes.specs.Flush.{CanFlush, PassesNoLimit, KeepsParts, HasFlushed, IsFlushed, IsUnflushed, MayBeFlushed}
-use Rattle.directory_writes.specs.FlushEdits.{IsAfterFlush, flush_fields}
-use Rattle.directory_writes.specs.Level0.{IsLevel0}
-use Rattle.directory_writes.specs.Manifest.{CanAddEdit, IsRecordedBelow, AppendsEdit}
+use Rattle.directory_writes.specs.internal.Flush.{CanFlush, PassesNoLimit, KeepsLogsAndTables, HasFlushed, IsFlushed, IsUnflushed, MayBeFlushed}
+use Rattle.directory_writes.specs.internal.FlushEdits.{IsAfterFlush, flush_fields}
+use Rattle.directory_writes.specs.internal.Level0.{IsLevel0}
+use Rattle.directory_writes.specs.internal.Manifest.{CanAddEdit, IsRecordedBelow, AppendsEdit}
 use Rattle.directory_writes.specs.declared.flush.FlushPlan.{FlushPlan}
 use Rattle.directory_writes.specs.declared.manifest.CurrentManifest.{CurrentManifest}
 use Rattle.directory_writes.proofs.FlushEdits.{after_flush, all_said, fields_last, new_one}
@@ -300,21 +300,21 @@ module _ (order : Order) (old : Files) (m : Facts) (n after : ℕ) (few : n < 2 
         }
 
     -- where it hasn't
-    pub has_kept : SameManifestLaw → HasManifest order new d.manifest d.edits d.layout → IsConsistent order new d × KeepsParts old new d d
+    pub has_kept : SameManifestLaw → HasManifest order new d.manifest d.edits d.layout → IsConsistent order new d × KeepsLogsAndTables old new d d
     has_kept law has = (law order mid new d now.can.consistent has beside_edit, record { beside = beside_all; ends = end_kept order old new d can.consistent beside_all })
 
-  listed_behind : (left : List PlacedTable) → Leads (after_edit edit) tables left → Lists (placed_of (with_content level0.content d.tables)) left
+  listed_behind : (left : List PlacedTable) → LeadsLayout (after_edit edit) tables left → ListsSameTables (placed_of (with_content level0.content d.tables)) left
   listed_behind left leads =
       let r = leads items can.listed in
       let made : after_edit edit items ≡ Some (inserted placed items) = ap (λ (e : List Field). after_edit e items) is ∙ new_one plan.log_number plan.previous_log_number after plan.last_sequence table items fresh in
       let same : r.0 ≡ inserted placed items = inside r.0 (inserted placed items) (sym r.1 ∙ made) in
       let all : r.0 ≡ placed_of (with_content level0.content d.tables) = same ∙ ap (λ (p : PlacedTable). inserted p items) (sym level0.placed) ∙ sym (placed_with level0.content d.tables) in
-      subst (λ (ts : List PlacedTable). Lists ts left) all r.2
+      subst (λ (ts : List PlacedTable). ListsSameTables ts left) all r.2
 
   -- ---- how the call may end
 
   pub flushed_ok : FlushLaw → (new : Facts) (end : ℕ) (left : List PlacedTable) → IsTrue new.faithful → AppendsEdit order m new manifest.number (string_bytes manifest.name) manifest.end edit (Ok end)
-      → Leads (after_edit edit) tables left → IsFlushed order old new.files n after end entries left d sealed current
+      → LeadsLayout (after_edit edit) tables left → IsFlushed order old new.files n after end entries left d sealed current
   unfolding has_flushed
   flushed_ok law new end left f r leads =
       let ends : ManifestEndsAt order new.files d.manifest end (d.edits ++ edit ∷ []) next =

@@ -20,14 +20,14 @@ use Rattle.table.specs.Writing.{KeepsOthers}
 use Rattle.recover.specs.Tables.{TableContent, InTables}
 use Rattle.recover.specs.Logs.{LogContent, HasLogs, IsLive, InLogs}
 use Rattle.recover.specs.Directory.{Directory, IsConsistent, EndsAt}
-use Rattle.recover.specs.Changes.{ManifestEndsAt, AgreeBeside, IsUnread, UnreadLaw}
+use Rattle.recover.specs.internal.Changes.{ManifestEndsAt, AgreeBeside, IsUnread, UnreadLaw}
 use Rattle.recover.specs.Numbers.{IsFree, number_of}
 use Rattle.recover.proofs.Adding.{last_in, logs_back}
 use Rattle.recover.proofs.Keeping.{keep_manifest, live_of}
 use Rattle.recover.proofs.Memberships.{one_of_tables}
 use Rattle.recover.proofs.NamedFiles.{same_name}
 use Rattle.versions.proofs.Pairs.{Among, among_contained}
-use Rattle.directory_writes.specs.Flush.{CanFlush, IsCorrupt, IsUnflushed, RefusesTable}
+use Rattle.directory_writes.specs.internal.Flush.{CanFlush, IsCorrupt, IsUnflushed, RefusesNewTable}
 use Rattle.directory_writes.specs.declared.flush.FlushPlan.{FlushPlan}
 use Rattle.directory_writes.specs.declared.manifest.CurrentManifest.{CurrentManifest}
 use Rattle.directory_writes.proofs.NewLogFiles.{recorded_more}
@@ -221,7 +221,7 @@ below_placed order files d n h free p a =
     omega (arith, below, ap (λ (q : PlacedTable). q.table.number) r.2)
 
 pub not_corrupt : (order : Order) (files : Files) (n after : ℕ) (plan : FlushPlan) (manifest : CurrentManifest) (entries : List Entry) (tables : List PlacedTable) (d : Directory) (sealed : List LogContent) (current : LogContent)
-    (old new : Facts) (e : DbError) → CanFlush order files n plan manifest entries tables d sealed current → RefusesTable e old new entries tables n after → IsCorrupt e → ⊥
+    (old new : Facts) (e : DbError) → CanFlush order files n plan manifest entries tables d sealed current → RefusesNewTable e old new entries tables n after → IsCorrupt e → ⊥
 not_corrupt order files n after plan manifest entries tables d sealed current old new (Corrupt file what) can (i, p, lt, here, is) c =
     let items = map (λ (content : TableContent). content.placed) d.tables in
     let there = All-contains (Contains items) tables p can.listed.only (i, lt, here) in

@@ -1,11 +1,3 @@
-pub mod Calls
-pub mod Compactions
-pub mod Flush
-pub mod FlushEdits
-pub mod Install
-pub mod JobWrites
-pub mod Level0
-pub mod LogFile
-pub mod Manifest
-pub mod Planned
 pub mod Removal
+pub mod Replacing
+pub mod internal

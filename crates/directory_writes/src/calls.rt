@@ -3,7 +3,7 @@
 ghost use Rattle.std.specs.Prelude.{◌≡◌, ◌⊎◌, IfErr};
 ghost use Rattle.coding.specs.declared.error.DbError.TheVariants.{OutOfMemory, Io};
 ghost use Rattle.recover.specs.Reading.{IsCounted};
-ghost use Rattle.directory_writes.specs.Calls.{Touches, IsRefusalOf, Creates, AppendsSynced};
+ghost use Rattle.directory_writes.specs.internal.Calls.{Touches, IsRefusalOf, Creates, AppendsSynced};
 
 use coding::DbError;
 use store::{Store, StoreError};

@@ -1,7 +1,7 @@
 //! What the edit of a finished compaction leaves of a directory (LevelDB's db/db_impl.cc, InstallCompactionResults).
 
-ghost use Rattle.directory_writes.specs.Compactions.{OutputsLaw, ReplacesLaw, JobFoldsLaw, JobDoneLaw};
-ghost use Rattle.directory_writes.specs.Compactions.{UnusedLaw, JobPutLaw, JobApartLaw, DeepLaw};
+ghost use Rattle.directory_writes.specs.internal.Compactions.{OutputsLaw, ReplacesLaw, JobFoldsLaw, JobDoneLaw};
+ghost use Rattle.directory_writes.specs.internal.Compactions.{UnusedLaw, JobPutLaw, JobApartLaw, DeepLaw};
 
 /// Law: what a job has written are tables of its level, which have what it kept.
 pub fn outputs_law()

@@ -7,11 +7,11 @@ ghost use Rattle.edits.specs.Names.{name_of};
 ghost use Rattle.edits.specs.declared.names.FileName.TheVariants.{Table};
 ghost use Rattle.ikey.specs.Orders.{order_of};
 ghost use Rattle.table.specs.Writing.{Writes};
-ghost use Rattle.versions.specs.Applying.{Leads, LeadsAstray};
+ghost use Rattle.versions.specs.Applying.{LeadsLayout, LeadsAstray};
 ghost use Rattle.versions.specs.Levels.{AreInOrder, pointers_after};
-ghost use Rattle.directory_writes.specs.Flush.{DrawsTable, Prepares, RefusesTable, RefusesVersion, edit_refusal};
-ghost use Rattle.directory_writes.specs.Flush.{FlushTouches, RefusesFlush, SyncsFlush, HasVersion, FlushLeaves};
-ghost use Rattle.directory_writes.specs.Level0.{HaveSequences};
+ghost use Rattle.directory_writes.specs.internal.Flush.{DrawsTable, Prepares, RefusesNewTable, RefusesVersion, edit_refusal};
+ghost use Rattle.directory_writes.specs.internal.Flush.{FlushTouches, RefusesFlush, SyncsFlush, AnswersVersion, FlushLeaves};
+ghost use Rattle.directory_writes.specs.internal.Level0.{HaveSequences};
 
 use crate::flush_edits::flush_edit;
 use crate::level0::write_level0;
@@ -92,7 +92,7 @@ pub fn flush_memory<K: KeyOrder, S: Store>(
     ensures refused { IfErr result (λ error. RefusesFlush error (S.facts store.old)
         (S.facts store.new) memory.now.inserts version.now.tables numbers.old.next numbers.new.next) }
     ensures drawn { DrawsTable (S.facts store.old) (S.facts store.new) numbers.old.next numbers.new.next }
-    ensures version { HasVersion K.cmp version.now numbers.old.next numbers.new.next result }
+    ensures version { AnswersVersion K.cmp version.now numbers.old.next numbers.new.next result }
     ensures syncs { SyncsFlush (S.facts store.new) (name_of (Table numbers.old.next)) (string_bytes manifest.now.name) result }
     ensures leaves { FlushLeaves (order_of K.name K.cmp) (S.facts store.old)
         (S.facts store.new) numbers.old.next numbers.new.next plan manifest.now memory.now.inserts version.now.tables result }
@@ -129,7 +129,7 @@ fn prepare<K: KeyOrder, S: Store>(
     requires sequence { plan.last_sequence < 2 ^ 56 }
     ensures writes { Writes (S.facts store.old) (S.facts store.new) (name_of (Table numbers.old.next)) }
     ensures stood { OnOk result ((S.facts store.new).failures ≡ (S.facts store.old).failures) }
-    ensures refused { IfErr result (λ error. RefusesTable error (S.facts store.old)
+    ensures refused { IfErr result (λ error. RefusesNewTable error (S.facts store.old)
         (S.facts store.new) memory.now.inserts version.now.tables numbers.old.next numbers.new.next) }
     ensures drawn { DrawsTable (S.facts store.old) (S.facts store.new) numbers.old.next numbers.new.next }
     ensures prepares { Prepares (order_of K.name K.cmp)
@@ -159,7 +159,7 @@ pub(crate) fn version_after<K: KeyOrder>(
     version: &Version<K>,
     edit: &Edit,
 ) -> Result<Rc<Version<K>>, DbError>
-    ensures tables { IfOk result (λ new. Leads (after_edit edit.now) version.now.tables new.value.tables) }
+    ensures tables { IfOk result (λ new. LeadsLayout (after_edit edit.now) version.now.tables new.value.tables) }
     ensures pointers { IfOk result (λ new. new.value.compact_pointers ≡ pointers_after edit.now 0 version.now.compact_pointers) }
     ensures order { IfOk result (λ new. AreInOrder K.cmp new.value.tables) }
     ensures old { AreInOrder K.cmp version.now.tables }

@@ -5,7 +5,7 @@ ghost use Rattle.edits.specs.Edit.{IsProper, IsInOrder, IsTableProper, HasPastLi
 ghost use Rattle.edits.specs.Layout.{IsLayout, is_used};
 ghost use Rattle.edits.specs.declared.field.Field.{Field as FieldValue};
 ghost use Rattle.edits.specs.declared.layout.Layout.{Layout as LayoutValue};
-ghost use Rattle.directory_writes.specs.FlushEdits.{IsAfterFlush, flush_fields, previous_gone};
+ghost use Rattle.directory_writes.specs.internal.FlushEdits.{IsAfterFlush, flush_fields, previous_gone};
 
 use edits::{Edit, Field, PlacedTable, TableFile};
 use std::alloc::{AllocError, Global};

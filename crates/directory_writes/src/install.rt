@@ -5,7 +5,7 @@ ghost use Rattle.std.specs.FinMap.{get};
 ghost use Rattle.ikey.specs.Orders.{order_of};
 ghost use Rattle.compact.specs.JobEdits.{IsPlanProper};
 ghost use Rattle.compact.specs.Outputs.{AreNumbered, IsNumberAtHand, WritesTables};
-ghost use Rattle.directory_writes.specs.Install.{HasJobVersion, HasPreparedJob, InstallLeaves, InstallTouches, RefusesEdit, RefusesInstall};
+ghost use Rattle.directory_writes.specs.internal.Install.{HasJobVersion, HasPreparedJob, InstallLeaves, InstallTouches, RefusesEdit, RefusesInstall};
 
 use crate::flush::{FlushError, edit_refusal, version_after};
 use crate::manifest::{CurrentManifest, append_edit};

@@ -1,6 +1,6 @@
 //! What the steps of a job leave of a directory (LevelDB's db/db_impl.cc, DoCompactionWork).
 
-ghost use Rattle.directory_writes.specs.JobWrites.{FreeNumberLaw, JobWritesLaw};
+ghost use Rattle.directory_writes.specs.internal.JobWrites.{FreeNumberLaw, JobWritesLaw};
 
 /// Law: tables that a directory hasn't may be written: its other parts stay.
 pub fn job_writes_law()

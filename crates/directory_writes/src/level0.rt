@@ -20,7 +20,7 @@ ghost use Rattle.versions.specs.Levels.{IsRange};
 ghost use Rattle.table.specs.Building.{Builds, MayFollow, last_added};
 ghost use Rattle.table.specs.Reading.{HasFile};
 ghost use Rattle.table.specs.Writing.{Writes, WriteRefuses, IsTableOf, NeedsLongBlock};
-ghost use Rattle.directory_writes.specs.Level0.{HaveSequences, IsLevel0, IsTooLarge, pair_of, pairs_of};
+ghost use Rattle.directory_writes.specs.internal.Level0.{HaveSequences, IsLevel0, IsTooLarge, pair_of, pairs_of};
 
 use block::MAX_BLOCK_LENGTH;
 use coding::{Bytes, DbError, Feature, put_fixed64};

@@ -14,7 +14,7 @@ mod manifest;
 mod planned;
 mod removal;
 
-pub use calls::refusal_of;
+pub use calls::{create_file, refusal_of};
 pub use compaction_edits::{
     deep_law, job_apart_law, job_done_law, job_folds_law, job_put_law, outputs_law, replaces_law,
     unused_law,

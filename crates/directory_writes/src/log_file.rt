@@ -6,8 +6,8 @@ ghost use Rattle.edits.specs.Names.{name_of};
 ghost use Rattle.edits.specs.declared.names.FileName.TheVariants.{Log};
 ghost use Rattle.recover.specs.Reading.{IsCounted};
 ghost use Rattle.table.specs.Writing.{SyncsOnly};
-ghost use Rattle.directory_writes.specs.Calls.{Touches};
-ghost use Rattle.directory_writes.specs.LogFile.{DrawsLog, RefusesLog, BeginsLog};
+ghost use Rattle.directory_writes.specs.internal.Calls.{Touches};
+ghost use Rattle.directory_writes.specs.internal.LogFile.{DrawsLog, RefusesLog, BeginsLog};
 
 use crate::calls::create_file;
 use coding::DbError;

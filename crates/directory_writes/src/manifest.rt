@@ -5,8 +5,8 @@ ghost use Rattle.coding.specs.declared.error.DbError.TheVariants.{OutOfMemory, I
 ghost use Rattle.ikey.specs.Orders.{Order};
 ghost use Rattle.edits.specs.Edit.{IsProper, IsInOrder};
 ghost use Rattle.recover.specs.Reading.{IsCounted};
-ghost use Rattle.directory_writes.specs.Calls.{Touches};
-ghost use Rattle.directory_writes.specs.Manifest.{AppendsEdit, SyncsEdit};
+ghost use Rattle.directory_writes.specs.internal.Calls.{Touches};
+ghost use Rattle.directory_writes.specs.internal.Manifest.{AppendsEdit, SyncsEdit};
 
 use crate::calls::append_synced;
 use coding::DbError;

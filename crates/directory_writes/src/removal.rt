@@ -1,16 +1,18 @@
 //! The removal of files that aren't live.
 
-ghost use Rattle.std.specs.Prelude.{◌≡◌, ◌⊎◌, ◌≤◌, ◌∷◌, ◌++◌, [], ℕ, List};
+ghost use Rattle.std.specs.Prelude.{◌≡◌, ◌⊎◌, ◌≤◌, ◌∷◌, ◌++◌, [], ℕ, List, true};
+ghost use Rattle.std.specs.FinMap.{contains_key};
 ghost use Rattle.std.specs.Prelude.{Contains, IfOk, IfErr, IsTrue, MatchBool, OnOk, map, string_bytes};
 ghost use Rattle.ikey.specs.Orders.{Order};
 ghost use Rattle.store.specs.Files.{Lists};
 ghost use Rattle.edits.specs.Names.{IsNumbered};
 ghost use Rattle.recover.specs.Directory.{Directory, IsConsistent};
-ghost use Rattle.recover.specs.Reading.{Reads, IsCounted};
-ghost use Rattle.directory_writes.specs.Calls.{Touches};
-ghost use Rattle.directory_writes.specs.Removal as removal;
-ghost use Rattle.directory_writes.specs.Removal.{AreNumbersOf, AreOlder, AreUnused, HasTwo, IsLeft, IsLiveFile};
-ghost use Rattle.directory_writes.specs.Removal.{KeepsParts, KeepsTable, ListsUnused, RefusesList, Removes, RemovesDead};
+ghost use Rattle.recover.specs.Reading.{ReadsDirectory, IsCounted};
+ghost use Rattle.directory_writes.specs.internal.Calls.{Touches};
+ghost use Rattle.directory_writes.specs.internal.Removal as removal;
+ghost use Rattle.directory_writes.specs.internal.Removal.{AreOfDirectory, AreOlder, AreUnused, HasOlderToo, HasTwo, IsLeft};
+ghost use Rattle.directory_writes.specs.Removal.{IsLiveFile};
+ghost use Rattle.directory_writes.specs.internal.Removal.{KeepsParts, KeepsTable, LeavesFew, ListsUnused, RefusesList, RemovesNamed, RemovesDead};
 
 use coding::DbError;
 use edits::{FileName, parse_name};
@@ -51,11 +53,14 @@ pub fn remove_files<S: Store, L: LiveTables>(
     ensures call { Touches (S.facts store.old) (S.facts store.new) }
     ensures refused { IfErr result (λ error. RefusesList error (S.facts store.old) (S.facts store.new)) }
     ensures removes { RemovesDead (S.facts store.old) (S.facts store.new) (IsLiveFile numbers.now (L.has live.now)) result }
+    // Newer files wait where an older one couldn't be removed.
+    ensures few { OnOk result (LeavesFew (S.facts store.old) (S.facts store.new) (IsLiveFile numbers.now (L.has live.now))
+        (HasOlderToo (S.facts store.old).files) (λ name. contains_key (S.facts store.old).files name ≡ true)) }
     ensures unused { IfOk result (λ removal. ListsUnused (S.facts store.old) (S.facts store.new) (L.has live.now) removal.tables.items) }
     ensures tables { IsTrue (S.facts store.new).faithful → (n : ℕ) → IsNumbered n
         → KeepsTable (S.facts store.old) (S.facts store.new) (L.has live.now) n }
     ensures meaning { IsTrue (S.facts store.new).faithful → (order : Order) (d : Directory)
-        → IsConsistent order (S.facts store.old).files d → AreNumbersOf numbers.now (L.has live.now) d
+        → IsConsistent order (S.facts store.old).files d → AreOfDirectory numbers.now (L.has live.now) d
         → KeepsParts order (S.facts store.old).files (S.facts store.new).files (L.has live.now) d }
 {
     // Laws, for the proof alone.
@@ -69,7 +74,7 @@ pub fn remove_files<S: Store, L: LiveTables>(
 
 // The names of all files.
 fn list_names<S: Store>(alloc: Global, store: &mut S) -> Result<Vec<String>, DbError>
-    ensures store { Reads (S.facts store.old) (S.facts store.new) result }
+    ensures store { ReadsDirectory (S.facts store.old) (S.facts store.new) result }
     ensures counted { IsCounted (S.facts store.old) (S.facts store.new) result }
     ensures names { IfOk result (λ names. IsTrue (S.facts store.new).faithful
         → Lists (S.facts store.old).files (map string_bytes names.items)) }
@@ -186,8 +191,10 @@ fn remove_listed<S: Store, L: LiveTables>(
     older: &[u64],
 ) -> bool
     ensures call { Touches (S.facts store.old) (S.facts store.new) }
-    ensures removes { Removes (S.facts store.old) (S.facts store.new) (IsLiveFile numbers.now (L.has live.now))
+    ensures removes { RemovesNamed (S.facts store.old) (S.facts store.new) (IsLiveFile numbers.now (L.has live.now))
         (map string_bytes names.now) result }
+    ensures few { LeavesFew (S.facts store.old) (S.facts store.new) (IsLiveFile numbers.now (L.has live.now))
+        (HasTwo (λ n. Contains older.now n)) (λ name. Contains (map string_bytes names.now) name) }
     ensures tables { AreOlder (map string_bytes names.now) older.now → Lists (S.facts store.old).files (map string_bytes names.now)
         → IsTrue (S.facts store.new).faithful → (n : ℕ) → IsNumbered n
         → KeepsTable (S.facts store.old) (S.facts store.new) (L.has live.now) n }
@@ -208,8 +215,10 @@ fn remove_turn<S: Store, L: LiveTables>(
     last: bool,
 ) -> bool
     ensures call { Touches (S.facts store.old) (S.facts store.new) }
-    ensures removes { Removes (S.facts store.old) (S.facts store.new)
+    ensures removes { RemovesNamed (S.facts store.old) (S.facts store.new)
         (IsLeft (IsLiveFile numbers.now (L.has live.now)) (λ n. Contains older.now n) last) (map string_bytes names.now) result }
+    ensures few { LeavesFew (S.facts store.old) (S.facts store.new)
+        (IsLeft (IsLiveFile numbers.now (L.has live.now)) (λ n. Contains older.now n) last) (λ _. ⊥) (λ name. Contains (map string_bytes names.now) name) }
 {
     let mut gone = true;
     for name in names {
@@ -229,8 +238,10 @@ fn remove_dead<S: Store, L: LiveTables>(
     last: bool,
 ) -> bool
     ensures call { Touches (S.facts store.old) (S.facts store.new) }
-    ensures removes { Removes (S.facts store.old) (S.facts store.new)
+    ensures removes { RemovesNamed (S.facts store.old) (S.facts store.new)
         (IsLeft (IsLiveFile numbers.now (L.has live.now)) (λ n. Contains older.now n) last) (name.now ∷ []) result }
+    ensures few { LeavesFew (S.facts store.old) (S.facts store.new)
+        (IsLeft (IsLiveFile numbers.now (L.has live.now)) (λ n. Contains older.now n) last) (λ _. ⊥) (λ other. Contains (name.now ∷ []) other) }
 {
     let Some(file) = parse_name(name.as_bytes()) else {
         return true;

@@ -7,7 +7,7 @@ use Rattle.cursor.specs.Places.{Cmp, Listed}
 use Rattle.edits.specs.declared.field.PlacedTable.{PlacedTable}
 use Rattle.level_cursor.specs.declared.in_table.InTable.{InTable}
 use Rattle.ikey.specs.Entries.{InternalEntry}
-use Rattle.level_cursor.specs.InRows.{HasNumber, HaveLists, IsOneLimited, IsOpenLimited, IsOpenNumber, KeepsTables, ListsTables}
+use Rattle.level_cursor.specs.InRows.{ListsNumber, HaveLists, IsOneLimited, IsOpenLimited, IsOpenNumber, KeepsTables, ListsTables}
 use Rattle.level_cursor.specs.RowLaws.{lists_kept}
 use Rattle.level_cursor.specs.Searches.{IsOneOf, IsSameTable}
 use Rattle.level_cursor.proofs.Having.{have_length}
@@ -31,10 +31,10 @@ module _ {K : Type 0} {g : _} (cmp : Cmp) (row : List PlacedTable) where
 
   -- ---- what is kept anew: of the tables of the row, and of the one that is open
 
-  pub searched : (now : List PlacedTable) (here : Option (InTable K g)) (old new : Seen) → now ≡ row → Carries cmp (HasNumber now) old new → Carries cmp (λ number. HasNumber row number ⊎ IsOpenNumber here number) old new
-  searched now here old new same carries = carries_more cmp old new (λ number has. inl (subst (λ (tables : List PlacedTable). HasNumber tables number) same has)) carries
+  pub searched : (now : List PlacedTable) (here : Option (InTable K g)) (old new : Seen) → now ≡ row → Carries cmp (ListsNumber now) old new → Carries cmp (λ number. ListsNumber row number ⊎ IsOpenNumber here number) old new
+  searched now here old new same carries = carries_more cmp old new (λ number has. inl (subst (λ (tables : List PlacedTable). ListsNumber tables number) same has)) carries
 
-  pub stepped : (here : Option (InTable K g)) (old new : Seen) → Carries cmp (λ number. IsOpenNumber here number) old new → Carries cmp (λ number. HasNumber row number ⊎ IsOpenNumber here number) old new
+  pub stepped : (here : Option (InTable K g)) (old new : Seen) → Carries cmp (λ number. IsOpenNumber here number) old new → Carries cmp (λ number. ListsNumber row number ⊎ IsOpenNumber here number) old new
   stepped here old new carries = carries_more cmp old new (λ number is. inr is) carries
 
   -- ---- a search
@@ -51,7 +51,7 @@ module _ {K : Type 0} {g : _} (cmp : Cmp) (row : List PlacedTable) where
   found_limited old new here (Some one) opened carries t (inr long) = inl (opened_limited cmp old new row one.cursor.number one.cursor.table.value.frame opened t long)
 
   pub found_within : (old new : Seen) (here found : Option (InTable K g)) → IfSome found (λ (one : InTable K g). IsOneOf cmp old new row one.cursor.number one.cursor.table.value.frame) → (number : ℕ)
-      → HasNumber row number ⊎ IsOpenNumber found number → HasNumber row number ⊎ IsOpenNumber here number
+      → ListsNumber row number ⊎ IsOpenNumber found number → ListsNumber row number ⊎ IsOpenNumber here number
   found_within old new here found opened number (inl has) = inl has
   found_within old new here None opened number (inr is) = absurd is
   found_within old new here (Some one) opened number (inr is) = inl (opened.placed, opened.there, sym opened.number_is ∙ is)
@@ -66,7 +66,7 @@ module _ {K : Type 0} {g : _} (cmp : Cmp) (row : List PlacedTable) where
   step_limited old new here stepped same carries t (inl one) = inl (limited_before cmp old new row carries t one)
   step_limited old new here stepped same carries t (inr long) = inr (same_limited here stepped same long)
 
-  pub step_within : (here stepped : Option (InTable K g)) → IsSameTable here stepped → (number : ℕ) → HasNumber row number ⊎ IsOpenNumber stepped number → HasNumber row number ⊎ IsOpenNumber here number
+  pub step_within : (here stepped : Option (InTable K g)) → IsSameTable here stepped → (number : ℕ) → ListsNumber row number ⊎ IsOpenNumber stepped number → ListsNumber row number ⊎ IsOpenNumber here number
   step_within here stepped same number (inl has) = inl has
   step_within None None same number (inr is) = absurd is
   step_within None (Some new) same number (inr is) = absurd same

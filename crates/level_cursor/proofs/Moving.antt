@@ -20,7 +20,7 @@ use Rattle.level_cursor.proofs.Lists.{before_end, before_inside as list_inside, 
 use Rattle.level_cursor.proofs.Reaching.{reaches}
 use Rattle.level_cursor.proofs.Searching.{none_leading}
 use Rattle.table_access.specs.declared.in_block.InBlock.{InBlock}
-use Rattle.table_access.specs.TablePlaces.{KeepsTable, ListsTable, StepsTo}
+use Rattle.table_access.specs.TablePlaces.{KeepsSeenTable, ListsTable, StepsTo}
 use Rattle.table_access.specs.Tables.{Seen, Carries}
 use Rattle.table_access.proofs.Carrying.{same_table_at}
 use Rattle.table.specs.Frame.{AnyLong, Frame, handles}
@@ -44,7 +44,7 @@ pub opened_kept : {K : Type 0} {g : _} (cmp : Cmp) (row : List PlacedTable) (her
 opened_kept cmp row here found old new first second one k = record {
   same = k.same;
   sound = k.sound;
-  here = subst (λ (n : ℕ). KeepsTable cmp n first second) (sym one.number_is) (record { same = k.same one.placed one.there; sound = k.sound });
+  here = subst (λ (n : ℕ). KeepsSeenTable cmp n first second) (sym one.number_is) (record { same = k.same one.placed one.there; sound = k.sound });
 }
 
 pub nothing_kept : {K : Type 0} {g : _} (cmp : Cmp) (row : List PlacedTable) (here : Option (InTable K g)) (first second : Seen) → KeepsTables cmp row here first second → KeepsTables {K = K} {g = g} cmp row None first second
@@ -55,7 +55,7 @@ pub same_kept : {K : Type 0} {g : _} (cmp : Cmp) (old : Option (InTable K g)) (n
 same_kept cmp None None first second same k = tt
 same_kept cmp None (Some new) first second same k = absurd same
 same_kept cmp (Some old) None first second same k = absurd same
-same_kept cmp (Some old) (Some new) first second same k = subst (λ (n : ℕ). KeepsTable cmp n first second) (sym same.0) k
+same_kept cmp (Some old) (Some new) first second same k = subst (λ (n : ℕ). KeepsSeenTable cmp n first second) (sym same.0) k
 
 pub same_limited : {K : Type 0} {g : _} (old new : Option (InTable K g)) → IsSameTable old new → IsOpenLimited new → IsOpenLimited old
 same_limited None None same l = l

@@ -10,8 +10,8 @@ use Rattle.edits.specs.declared.field.PlacedTable.{PlacedTable}
 use Rattle.ikey.specs.Entries.{InternalEntry}
 use Rattle.level_cursor.specs.InRows.{HasList, IsOneLimited}
 use Rattle.level_cursor.specs.Searches.{IsOneOf}
-use Rattle.table_access.specs.Tables.{Seen, Carries, HasTable, IsOpen, SaysOf}
-use Rattle.table_access.specs.Values.{IsPastLimit}
+use Rattle.table_access.specs.Tables.{Seen, Carries, HasSoundTable, IsOpenFrame, SaysOf}
+use Rattle.table_access.specs.Values.{IsTablePastLimit}
 use Rattle.table_access.proofs.Carrying.{still_has}
 use Rattle.store.specs.Files.{Facts}
 use Rattle.table.specs.Frame.{AnyLong, Frame, handles}
@@ -40,7 +40,7 @@ refused_so e old new a b limited f h = absurd h
 module _ (cmp : Cmp) (old new : Seen) (placed : PlacedTable) where
   -- the file of the table is past a limit
   abbrev pub IsLimited : Type 0
-  IsLimited = (file : List ℕ) → HasTable cmp old placed.table.number file → IsPastLimit cmp file
+  IsLimited = (file : List ℕ) → HasSoundTable cmp old placed.table.number file → IsTablePastLimit cmp file
 
   -- it isn't opened
   pub not_opened : (e : DbError) → RefusesTable e old.facts new.facts placed.table.number (IsFrameDamaged cmp) IsFrameUnsupported → Refuses e old.facts new.facts ((list : List InternalEntry) → HasList cmp old placed list → ⊥) IsLimited
@@ -55,7 +55,7 @@ module _ (cmp : Cmp) (old new : Seen) (placed : PlacedTable) where
   no_number same list has = let some = has.positive in omega (arith, some, same)
 
   -- it is open, and one of its blocks is too long
-  pub long_one : (frame : Frame) → IsTrue new.facts.faithful → SaysOf cmp old new placed.table.number (λ file. IsOpen cmp file frame) → AnyLong (handles frame) → IsLimited
+  pub long_one : (frame : Frame) → IsTrue new.facts.faithful → SaysOf cmp old new placed.table.number (λ file. IsOpenFrame cmp file frame) → AnyLong (handles frame) → IsLimited
   long_one frame t says long = λ file has. inr (frame, (says t file has).0, long)
 
 -- a table that is past a limit was so before calls that only read
@@ -67,17 +67,17 @@ pub opened_limited : (cmp : Cmp) (old new : Seen) (row : List PlacedTable) (numb
 opened_limited cmp old new row number frame one t long = (
   one.placed,
   one.there,
-  λ file has. inr (frame, (one.open_is t file (subst (λ (n : ℕ). HasTable cmp old n file) (sym one.number_is) has)).0, long),
+  λ file has. inr (frame, (one.open_is t file (subst (λ (n : ℕ). HasSoundTable cmp old n file) (sym one.number_is) has)).0, long),
 )
 
 -- a cursor that was opened in one of them behind other reads
 pub one_opened : {numbers others : ℕ → Type 0} (cmp : Cmp) (old now new : Seen) (row : List PlacedTable) (placed : PlacedTable) (number : ℕ) (frame : Frame) → Carries cmp numbers old now → Carries cmp others now new → Contains row placed → number ≡ placed.table.number
-    → SaysOf cmp now new placed.table.number (λ file. IsOpen cmp file frame) → IsOneOf cmp old new row number frame
+    → SaysOf cmp now new placed.table.number (λ file. IsOpenFrame cmp file frame) → IsOneOf cmp old new row number frame
 one_opened cmp old now new row placed number frame first second there same says = record {
   placed = placed;
   there = there;
   number_is = same;
-  open_is = λ t file has. says t file (still_has cmp old now placed.table.number file first (second.reads.faithful t) (subst (λ (n : ℕ). HasTable cmp old n file) same has));
+  open_is = λ t file has. says t file (still_has cmp old now placed.table.number file first (second.reads.faithful t) (subst (λ (n : ℕ). HasSoundTable cmp old n file) same has));
 }
 
 -- one of them isn't read

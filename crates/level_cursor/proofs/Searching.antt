@@ -9,7 +9,7 @@ use Rattle.cursor.proofs.Leading.{within_cases, within_none, within_some}
 use Rattle.edits.specs.declared.field.PlacedTable.{PlacedTable}
 use Rattle.ikey.specs.Entries.{InternalEntry}
 use Rattle.ikey.specs.Keys.{Key, IsKey}
-use Rattle.level_cursor.specs.InRows.{HasList, HasNumber, HaveLists, IsInTable, entries_before, joined}
+use Rattle.level_cursor.specs.InRows.{HasList, ListsNumber, HaveLists, IsInTable, entries_before, joined}
 use Rattle.level_cursor.specs.Searches.{IsAimed, passes}
 use Rattle.level_cursor.specs.declared.row_search.Aim.{Aim}
 use Rattle.level_cursor.specs.declared.row_search.Aim.TheVariants.{First, From}
@@ -25,7 +25,7 @@ use Rattle.table.specs.Frame.{Frame}
 -- ---- what is kept anew
 
 -- behind tables of the row, one of them is read
-pub read_one : (cmp : Cmp) (old now new : Seen) (row : List PlacedTable) (placed : PlacedTable) → Contains row placed → Carries cmp (HasNumber row) old now → Carries cmp (Only placed.table.number) now new → Carries cmp (HasNumber row) old new
+pub read_one : (cmp : Cmp) (old now new : Seen) (row : List PlacedTable) (placed : PlacedTable) → Contains row placed → Carries cmp (ListsNumber row) old now → Carries cmp (Only placed.table.number) now new → Carries cmp (ListsNumber row) old new
 read_one cmp old now new row placed there first second = carries_both cmp old now new first (carries_more cmp now new (λ number same. (placed, there, sym same)) second)
 
 -- a table is opened, and then read
@@ -87,7 +87,7 @@ key_refused target (Some key) aimed f = f key aimed
 module _ (cmp : Cmp) (aim : Aim) (old now : Seen) (row : List PlacedTable) (start index : ℕ) where
   -- what is sought stands from this table on where it stands from the start on
   pub record IsSearching : Type 0 where
-    pub carries : Carries cmp (HasNumber row) old now
+    pub carries : Carries cmp (ListsNumber row) old now
     pub still : now.facts.failures ≡ old.facts.failures
     pub reached : IsTrue now.facts.faithful → (lists : List (List InternalEntry)) → HaveLists cmp old row lists → (goal : Option Key) → IsAimed aim goal
         → entries_before lists start + leading (passes cmp goal) (joined (drop start lists)) ≡ entries_before lists index + leading (passes cmp goal) (joined (drop index lists))
@@ -163,7 +163,7 @@ before_of m n e = ap index_before e
 module _ (cmp : Cmp) (old now : Seen) (row : List PlacedTable) (end step : ℕ) where
   -- the tables that were read have no entry
   pub record IsSearchingBack : Type 0 where
-    pub carries : Carries cmp (HasNumber row) old now
+    pub carries : Carries cmp (ListsNumber row) old now
     pub still : now.facts.failures ≡ old.facts.failures
     pub same : IsTrue now.facts.faithful → (lists : List (List InternalEntry)) → HaveLists cmp old row lists → end ≤ length lists → entries_before lists (end - step) ≡ entries_before lists end
 

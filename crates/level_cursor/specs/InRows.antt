@@ -11,9 +11,9 @@ use Rattle.ikey.specs.Entries.{InternalEntry}
 use Rattle.ikey.specs.Keys.{IsKey}
 use Rattle.level_cursor.specs.declared.in_table.InTable.{InTable}
 use Rattle.table_access.specs.declared.in_block.InBlock.{InBlock}
-use Rattle.table_access.specs.TablePlaces.{KeepsTable, ListsTable, block_stands}
-use Rattle.table_access.specs.Tables.{Seen, IsSound, HasTable}
-use Rattle.table_access.specs.Values.{IsPastLimit}
+use Rattle.table_access.specs.TablePlaces.{KeepsSeenTable, ListsTable, block_stands}
+use Rattle.table_access.specs.Tables.{Seen, IsSound, HasSoundTable}
+use Rattle.table_access.specs.Values.{IsTablePastLimit}
 use Rattle.table.specs.Frame.{AnyLong, Frame, handles}
 use Rattle.table.specs.Table.{IsTable}
 
@@ -37,7 +37,7 @@ EndsBy cmp key entries = AllByRecursion (λ (entry : InternalEntry). (bytes : Li
 pub record HasList (cmp : Cmp) (source : Seen) (placed : PlacedTable) (entries : List InternalEntry) : Type 0 where
   pub positive : 0 < placed.table.number
   pub file : List ℕ
-  pub there : HasTable cmp source placed.table.number file
+  pub there : HasSoundTable cmp source placed.table.number file
   pub spelled : IsTable cmp file entries
   pub ends : EndsBy cmp placed.table.largest entries
 
@@ -80,7 +80,7 @@ pub record ListsTables {K : Type 0} {g : _} (cmp : Cmp) (source : Seen) (row : L
 -- the second source has the same table where one is open
 abbrev pub KeepsOpen : {K : Type 0} {g : _} → Cmp → Option (InTable K g) → Seen → Seen → Type 0
 KeepsOpen cmp None old new = Unit {0}
-KeepsOpen cmp (Some here) old new = KeepsTable cmp here.cursor.number old new
+KeepsOpen cmp (Some here) old new = KeepsSeenTable cmp here.cursor.number old new
 
 -- The second source has the same tables, and what it keeps is right where that of the first is.
 pub record KeepsTables {K : Type 0} {g : _} (cmp : Cmp) (row : List PlacedTable) (open_one : Option (InTable K g)) (old new : Seen) : Type 0 where
@@ -90,11 +90,11 @@ pub record KeepsTables {K : Type 0} {g : _} (cmp : Cmp) (row : List PlacedTable)
 
 -- One of the tables passes a limit of reading, whatever file it is.
 abbrev pub IsOneLimited : Cmp → Seen → List PlacedTable → Type 0
-IsOneLimited cmp source row = (placed : PlacedTable) × Contains row placed × ((file : List ℕ) → HasTable cmp source placed.table.number file → IsPastLimit cmp file)
+IsOneLimited cmp source row = (placed : PlacedTable) × Contains row placed × ((file : List ℕ) → HasSoundTable cmp source placed.table.number file → IsTablePastLimit cmp file)
 
 -- one of these tables has this number
-abbrev pub HasNumber : List PlacedTable → ℕ → Type 0
-HasNumber tables number = (placed : PlacedTable) × Contains tables placed × (placed.table.number ≡ number)
+abbrev pub ListsNumber : List PlacedTable → ℕ → Type 0
+ListsNumber tables number = (placed : PlacedTable) × Contains tables placed × (placed.table.number ≡ number)
 
 -- the table that is open has it
 abbrev pub IsOpenNumber : {K : Type 0} {g : _} → Option (InTable K g) → ℕ → Type 0

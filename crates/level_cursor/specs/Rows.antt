@@ -3,7 +3,7 @@ use Rattle.std.specs.Prelude.{◌⊎◌, ◌-◌, ℕ, Bool, List, take, drop}
 use Rattle.cursor.specs.Places.{Cmp, Listed}
 use Rattle.edits.specs.declared.field.PlacedTable.{PlacedTable}
 use Rattle.level_cursor.specs.declared.row_cursor.RowCursor.{RowCursor}
-use Rattle.level_cursor.specs.InRows.{HasNumber, IsOneLimited, IsOpenLimited, IsOpenNumber, KeepsTables, ListsTables, table_stands}
+use Rattle.level_cursor.specs.InRows.{ListsNumber, IsOneLimited, IsOpenLimited, IsOpenNumber, KeepsTables, ListsTables, table_stands}
 use Rattle.table_access.specs.Tables.{Seen}
 
 -- the tables of a row: those of the version from one index on, up to another
@@ -27,4 +27,4 @@ IsRowLimited cmp source cursor = IsOneLimited cmp source (rows_tables cursor) �
 
 -- it goes over a table of this number, or has it open
 abbrev pub GoesOverRow : {K : Type 0} {g : _} → RowCursor K g → ℕ → Type 0
-GoesOverRow cursor number = HasNumber (rows_tables cursor) number ⊎ IsOpenNumber cursor.here number
+GoesOverRow cursor number = ListsNumber (rows_tables cursor) number ⊎ IsOpenNumber cursor.here number

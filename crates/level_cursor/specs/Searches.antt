@@ -10,7 +10,7 @@ use Rattle.level_cursor.specs.declared.row_search.Aim.{Aim}
 use Rattle.level_cursor.specs.declared.row_search.Aim.TheVariants.{First, From}
 use Rattle.coding.specs.declared.error.DbError.{DbError}
 use Rattle.level_cursor.specs.InRows.{IsPlacedRow, entries_before, joined}
-use Rattle.table_access.specs.Tables.{Seen, IsOpen, SaysOf}
+use Rattle.table_access.specs.Tables.{Seen, IsOpenFrame, SaysOf}
 use Rattle.table.specs.Frame.{Frame}
 
 -- what a search looks for: the first entry, or the first that doesn't come before a key
@@ -28,7 +28,7 @@ pub record IsOneOf (cmp : Cmp) (old new : Seen) (row : List PlacedTable) (number
   pub placed : PlacedTable
   pub there : Contains row placed
   pub number_is : number ≡ placed.table.number
-  pub open_is : SaysOf cmp old new number (λ file. IsOpen cmp file frame)
+  pub open_is : SaysOf cmp old new number (λ file. IsOpenFrame cmp file frame)
 
 -- all tables in front of this index end below the target, and the one there doesn't
 pub record IsFirstTable (cmp : Cmp) (target : List ℕ) (row : List PlacedTable) (start : ℕ) : Type 0 where
@@ -45,16 +45,16 @@ IsSameTable (Some old) (Some new) = (new.cursor.number ≡ old.cursor.number) ×
 IsSameTable old new = ⊥
 
 -- It has gone on to the entry behind; or it stays, and the entry behind is the first from this table on, or it was refused.
-abbrev pub StepsOn : {K : Type 0} {g : _} → Cmp → Seen → List (List InternalEntry) → Option (InTable K g) → Option ℕ → Result (Option ℕ) DbError → Type 0
-StepsOn cmp source lists new place (Ok None) = IsPlacedRow cmp source lists new (option_and_then (index_behind (joined lists)) place)
-StepsOn cmp source lists new place (Ok (Some start)) =
+abbrev pub RowStepsOn : {K : Type 0} {g : _} → Cmp → Seen → List (List InternalEntry) → Option (InTable K g) → Option ℕ → Result (Option ℕ) DbError → Type 0
+RowStepsOn cmp source lists new place (Ok None) = IsPlacedRow cmp source lists new (option_and_then (index_behind (joined lists)) place)
+RowStepsOn cmp source lists new place (Ok (Some start)) =
     IsPlacedRow cmp source lists new place × (start ≤ length lists) × (within (joined lists) (entries_before lists start) ≡ option_and_then (index_behind (joined lists)) place)
-StepsOn cmp source lists new place (Err error) = IsPlacedRow cmp source lists new place
+RowStepsOn cmp source lists new place (Err error) = IsPlacedRow cmp source lists new place
 
 -- It has gone back to the entry in front; or it stays, and the entry in front is the last of the tables in front of this
 -- one, or it was refused.
-abbrev pub StepsBack : {K : Type 0} {g : _} → Cmp → Seen → List (List InternalEntry) → Option (InTable K g) → Option ℕ → Result (Option ℕ) DbError → Type 0
-StepsBack cmp source lists new place (Ok None) = IsPlacedRow cmp source lists new (option_and_then index_before place)
-StepsBack cmp source lists new place (Ok (Some end)) =
+abbrev pub RowStepsBack : {K : Type 0} {g : _} → Cmp → Seen → List (List InternalEntry) → Option (InTable K g) → Option ℕ → Result (Option ℕ) DbError → Type 0
+RowStepsBack cmp source lists new place (Ok None) = IsPlacedRow cmp source lists new (option_and_then index_before place)
+RowStepsBack cmp source lists new place (Ok (Some end)) =
     IsPlacedRow cmp source lists new place × (end ≤ length lists) × (index_before (entries_before lists end) ≡ option_and_then index_before place)
-StepsBack cmp source lists new place (Err error) = IsPlacedRow cmp source lists new place
+RowStepsBack cmp source lists new place (Err error) = IsPlacedRow cmp source lists new place

@@ -4,7 +4,7 @@ ghost use Rattle.std.specs.Prelude.{◌≤◌, ℕ, List, Option, length, IsTrue
 ghost use Rattle.cursor.specs.Moves.{Refuses};
 ghost use Rattle.ikey.specs.Entries.{InternalEntry};
 ghost use Rattle.level_cursor.specs.InRows.{IsOpenLimited, IsOpenNumber, IsPlacedRow, table_stands};
-ghost use Rattle.level_cursor.specs.Searches.{IsSameTable, StepsBack, StepsOn};
+ghost use Rattle.level_cursor.specs.Searches.{IsSameTable, RowStepsBack, RowStepsOn};
 ghost use Rattle.table_access.specs.Tables.{Carries, seen_through};
 ghost use Rattle.table.specs.Reading.{IsStill};
 
@@ -174,7 +174,7 @@ fn step_on<K: KeyOrder, S: Store>(
     ensures same { IsSameTable here.old here.new }
     ensures steps { IsTrue (S.facts source.new.store).faithful → (lists : List (List InternalEntry)) (place : Option ℕ)
         → IsPlacedRow K.cmp (seen_through S.facts source.old) lists here.old place
-        → StepsOn K.cmp (seen_through S.facts source.new) lists here.new place result }
+        → RowStepsOn K.cmp (seen_through S.facts source.new) lists here.new place result }
     ensures still { IsStill (S.facts source.old.store) (S.facts source.new.store) result }
     ensures refused { IfErr result (λ e. Refuses e (S.facts source.old.store) (S.facts source.new.store)
         ((lists : List (List InternalEntry)) (place : Option ℕ) → IsPlacedRow K.cmp (seen_through S.facts source.old) lists here.old place
@@ -200,7 +200,7 @@ fn step_back<K: KeyOrder, S: Store>(
     ensures same { IsSameTable here.old here.new }
     ensures steps { IsTrue (S.facts source.new.store).faithful → (lists : List (List InternalEntry)) (place : Option ℕ)
         → IsPlacedRow K.cmp (seen_through S.facts source.old) lists here.old place
-        → StepsBack K.cmp (seen_through S.facts source.new) lists here.new place result }
+        → RowStepsBack K.cmp (seen_through S.facts source.new) lists here.new place result }
     ensures still { IsStill (S.facts source.old.store) (S.facts source.new.store) result }
     ensures refused { IfErr result (λ e. Refuses e (S.facts source.old.store) (S.facts source.new.store)
         ((lists : List (List InternalEntry)) (place : Option ℕ) → IsPlacedRow K.cmp (seen_through S.facts source.old) lists here.old place

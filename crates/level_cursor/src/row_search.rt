@@ -7,11 +7,11 @@ ghost use Rattle.cursor.specs.Moves.{Refuses};
 ghost use Rattle.cursor.specs.Places.{index_before, leading, within};
 ghost use Rattle.ikey.specs.Entries.{InternalEntry};
 ghost use Rattle.ikey.specs.Keys.{Key};
-ghost use Rattle.level_cursor.specs.InRows.{HasList, HasNumber, HaveLists, IsOneLimited, IsPlacedRow, entries_before, joined};
+ghost use Rattle.level_cursor.specs.InRows.{HasList, ListsNumber, HaveLists, IsOneLimited, IsPlacedRow, entries_before, joined};
 ghost use Rattle.level_cursor.specs.Searches.{IsAimed, IsFirstTable, IsOneOf, passes};
 ghost use Rattle.table_access.specs.TablePlaces.{ListsTable};
-ghost use Rattle.table_access.specs.Tables.{Carries, HasTable, IsOpen, Only, SaysOf, seen_through};
-ghost use Rattle.table_access.specs.Values.{IsPastLimit};
+ghost use Rattle.table_access.specs.Tables.{Carries, HasSoundTable, IsOpenFrame, Only, SaysOf, seen_through};
+ghost use Rattle.table_access.specs.Values.{IsTablePastLimit};
 ghost use Rattle.table.specs.Reading.{IsStill};
 
 use crate::in_table::InTable;
@@ -41,7 +41,7 @@ pub fn search_on<K: KeyOrder, S: Store>(
     start: usize,
     aim: Aim<'_>,
 ) -> Result<Option<InTable<K>>, DbError>
-    ensures carries { Carries K.cmp (HasNumber row.now) (seen_through S.facts source.old) (seen_through S.facts source.new) }
+    ensures carries { Carries K.cmp (ListsNumber row.now) (seen_through S.facts source.old) (seen_through S.facts source.new) }
     ensures found { IfOk result (λ here. IsTrue (S.facts source.new.store).faithful → (lists : List (List InternalEntry))
         → HaveLists K.cmp (seen_through S.facts source.old) row.now lists
         → (goal : Option Key) → IsAimed aim.entry goal
@@ -71,7 +71,7 @@ pub fn search_back<K: KeyOrder, S: Store>(
     row: &[PlacedTable],
     end: usize,
 ) -> Result<Option<InTable<K>>, DbError>
-    ensures carries { Carries K.cmp (HasNumber row.now) (seen_through S.facts source.old) (seen_through S.facts source.new) }
+    ensures carries { Carries K.cmp (ListsNumber row.now) (seen_through S.facts source.old) (seen_through S.facts source.new) }
     ensures found { IfOk result (λ here. IsTrue (S.facts source.new.store).faithful → (lists : List (List InternalEntry))
         → HaveLists K.cmp (seen_through S.facts source.old) row.now lists
         → end ≤ length lists → IsPlacedRow K.cmp (seen_through S.facts source.new) lists here (index_before (entries_before lists end))) }
@@ -123,7 +123,7 @@ fn enter<K: KeyOrder, S: Store>(
     ensures carries { Carries K.cmp (Only placed.now.table.number) (seen_through S.facts source.old) (seen_through S.facts source.new) }
     ensures number { IfOk result (λ cursor. cursor.number ≡ placed.now.table.number) }
     ensures opened { IfOk result (λ cursor. SaysOf K.cmp (seen_through S.facts source.old)
-        (seen_through S.facts source.new) placed.now.table.number (λ file. IsOpen K.cmp file cursor.table.value.frame)) }
+        (seen_through S.facts source.new) placed.now.table.number (λ file. IsOpenFrame K.cmp file cursor.table.value.frame)) }
     ensures found { IfOk result (λ cursor. IsTrue (S.facts source.new.store).faithful → (list : List InternalEntry)
         → HasList K.cmp (seen_through S.facts source.old) placed.now list → (goal : Option Key) → IsAimed aim.entry goal
         → ListsTable K.cmp (seen_through S.facts source.new) cursor.number cursor.table.value.frame cursor.here
@@ -132,7 +132,7 @@ fn enter<K: KeyOrder, S: Store>(
     ensures refused { IfErr result (λ e. Refuses e (S.facts source.old.store) (S.facts source.new.store)
         ((list : List InternalEntry) (goal : Option Key) → HasList K.cmp (seen_through S.facts source.old) placed.now list
         → IsAimed aim.entry goal → ⊥)
-        ((file : List ℕ) → HasTable K.cmp (seen_through S.facts source.old) placed.now.table.number file → IsPastLimit K.cmp file)) }
+        ((file : List ℕ) → HasSoundTable K.cmp (seen_through S.facts source.old) placed.now.table.number file → IsTablePastLimit K.cmp file)) }
 {
     let mut cursor = open(alloc, source, placed)?;
     match aim {
@@ -156,7 +156,7 @@ fn leave<K: KeyOrder, S: Store>(
     ensures carries { Carries K.cmp (Only placed.now.table.number) (seen_through S.facts source.old) (seen_through S.facts source.new) }
     ensures number { IfOk result (λ cursor. cursor.number ≡ placed.now.table.number) }
     ensures opened { IfOk result (λ cursor. SaysOf K.cmp (seen_through S.facts source.old)
-        (seen_through S.facts source.new) placed.now.table.number (λ file. IsOpen K.cmp file cursor.table.value.frame)) }
+        (seen_through S.facts source.new) placed.now.table.number (λ file. IsOpenFrame K.cmp file cursor.table.value.frame)) }
     ensures found { IfOk result (λ cursor. IsTrue (S.facts source.new.store).faithful → (list : List InternalEntry)
         → HasList K.cmp (seen_through S.facts source.old) placed.now list
         → ListsTable K.cmp (seen_through S.facts source.new) cursor.number cursor.table.value.frame cursor.here
@@ -164,7 +164,7 @@ fn leave<K: KeyOrder, S: Store>(
     ensures still { IsStill (S.facts source.old.store) (S.facts source.new.store) result }
     ensures refused { IfErr result (λ e. Refuses e (S.facts source.old.store) (S.facts source.new.store)
         ((list : List InternalEntry) → HasList K.cmp (seen_through S.facts source.old) placed.now list → ⊥)
-        ((file : List ℕ) → HasTable K.cmp (seen_through S.facts source.old) placed.now.table.number file → IsPastLimit K.cmp file)) }
+        ((file : List ℕ) → HasSoundTable K.cmp (seen_through S.facts source.old) placed.now.table.number file → IsTablePastLimit K.cmp file)) }
 {
     let mut cursor = open(alloc, source, placed)?;
     cursor.to_last(alloc, source)?;
@@ -180,14 +180,14 @@ fn open<K: KeyOrder, S: Store>(
     ensures carries { Carries K.cmp (Only placed.now.table.number) (seen_through S.facts source.old) (seen_through S.facts source.new) }
     ensures number { IfOk result (λ cursor. cursor.number ≡ placed.now.table.number) }
     ensures opened { IfOk result (λ cursor. SaysOf K.cmp (seen_through S.facts source.old)
-        (seen_through S.facts source.new) placed.now.table.number (λ file. IsOpen K.cmp file cursor.table.value.frame)) }
+        (seen_through S.facts source.new) placed.now.table.number (λ file. IsOpenFrame K.cmp file cursor.table.value.frame)) }
     ensures found { IfOk result (λ cursor. IsTrue (S.facts source.new.store).faithful → (list : List InternalEntry)
         → HasList K.cmp (seen_through S.facts source.old) placed.now list
         → ListsTable K.cmp (seen_through S.facts source.new) cursor.number cursor.table.value.frame cursor.here (listed list None)) }
     ensures still { IsStill (S.facts source.old.store) (S.facts source.new.store) result }
     ensures refused { IfErr result (λ e. Refuses e (S.facts source.old.store) (S.facts source.new.store)
         ((list : List InternalEntry) → HasList K.cmp (seen_through S.facts source.old) placed.now list → ⊥)
-        ((file : List ℕ) → HasTable K.cmp (seen_through S.facts source.old) placed.now.table.number file → IsPastLimit K.cmp file)) }
+        ((file : List ℕ) → HasSoundTable K.cmp (seen_through S.facts source.old) placed.now.table.number file → IsTablePastLimit K.cmp file)) }
 {
     let number = placed.table.number;
     // No file has the number 0, and the caches aren't asked for it.

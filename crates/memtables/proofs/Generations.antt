@@ -12,7 +12,7 @@ use Rattle.ikey.specs.declared.entry.Entry.{Entry}
 use Rattle.ikey.specs.Sources.{IsNewerThan}
 use Rattle.ikey.specs.Views.{AllUpTo, Among}
 use Rattle.memtable.specs.Contents.{Contents}
-use Rattle.memtables.specs.Changes.{IsWritten, KeepsUsed}
+use Rattle.memtables.specs.Changes.{HasMoreEntries, KeepsUsed}
 use Rattle.memtables.specs.Memories.{AreMemories, Memories, inserts_of, older_at, sealed_inserts}
 use Rattle.memtables.proofs.Batches.{bounded_more}
 use Rattle.memtables.proofs.Searching.{among_split}
@@ -173,7 +173,7 @@ invariant_used names m older h are = invariant_dropped m older (λ q is. (h q).0
 
 -- ---- writing
 
-pub written_more : (first second third : Memories) (xs ys : List Entry) → IsWritten first second xs → IsWritten second third ys → IsWritten first third (xs ++ ys)
+pub written_more : (first second third : Memories) (xs ys : List Entry) → HasMoreEntries first second xs → HasMoreEntries second third ys → HasMoreEntries first third (xs ++ ys)
 written_more first second third xs ys one two = record {
   inserts = two.inserts ∙ ap (λ (es : List Entry). es ++ ys) one.inserts ∙ append_assoc first.current.inserts xs ys;
   others = two.others ∙ ap (λ (m : Memories). record m { current = third.current; last = third.last }) one.others;

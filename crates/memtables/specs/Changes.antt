@@ -4,7 +4,7 @@ use Rattle.ikey.specs.declared.entry.Entry.{Entry}
 use Rattle.memtables.specs.Memories.{Memories, older_at, table_in}
 
 -- These entries were added to the current table, and the last sequence may have risen.
-pub record IsWritten (old new : Memories) (more : List Entry) : Type 0 where
+pub record HasMoreEntries (old new : Memories) (more : List Entry) : Type 0 where
   pub inserts : new.current.inserts ≡ old.current.inserts ++ more
   pub others : new ≡ record old { current = new.current; last = new.last }
 
@@ -21,8 +21,8 @@ pub record IsSealed (old new : Memories) : Type 0 where
   pub fresh : table_in old new.generation ≡ None
 
 -- no table is sealed any more, and the one that was stays
-abbrev pub IsFlushed : Memories → Memories → Type 0
-IsFlushed old new = new ≡ record old { sealed = None }
+abbrev pub DropsSealed : Memories → Memories → Type 0
+DropsSealed old new = new ≡ record old { sealed = None }
 
 -- The older tables that aren't of use are gone, and nothing else is changed.
 pub record KeepsUsed (used : ℕ → Type 0) (old new : Memories) : Type 0 where

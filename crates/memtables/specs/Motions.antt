@@ -14,12 +14,12 @@ MayGo Next stands = IsTrue stands
 MayGo Prev stands = IsTrue stands
 
 -- it is so of the place where the motion leads, whichever key its target is
-abbrev pub Leads : Cmp → Motion → ((Listed → Option ℕ) → Type 0) → Type 0
-Leads cmp First is = is to_first
-Leads cmp Last is = is to_last
-Leads cmp (Seek target) is = (key : Key) → IsKey target.now key → is (to_key cmp key)
-Leads cmp Next is = is to_next
-Leads cmp Prev is = is to_prev
+abbrev pub LeadsMotion : Cmp → Motion → ((Listed → Option ℕ) → Type 0) → Type 0
+LeadsMotion cmp First is = is to_first
+LeadsMotion cmp Last is = is to_last
+LeadsMotion cmp (Seek target) is = (key : Key) → IsKey target.now key → is (to_key cmp key)
+LeadsMotion cmp Next is = is to_next
+LeadsMotion cmp Prev is = is to_prev
 
 -- it is so where the motion's target, if it has one, is a key
 abbrev pub Aimed : Motion → Type 0 → Type 0

@@ -7,7 +7,7 @@ use Rattle.memtable.specs.Order.{ordered}
 use Rattle.memtable.specs.Places.{up_to}
 use Rattle.cursor.specs.Places.{Cmp, Listed, Rises}
 use Rattle.memtable.specs.Contents.{Contents}
-use Rattle.memtables.specs.Changes.{IsWritten}
+use Rattle.memtables.specs.Changes.{HasMoreEntries}
 use Rattle.memtables.specs.Memories.{IsAlone, Memories, inserts_of, logged_in, older_at, sealed_inserts, table_in}
 use Rattle.memtables.specs.Places.{MemoriesPlace, ListsMemories, KeepsMemories, LeavesMemories, older_inserts, seen_by}
 use Rattle.table_access.specs.Memory.{MemoryPlace, ListsMemory}
@@ -83,7 +83,7 @@ pub left_logged : (old new : Memories) → LeavesMemories old new → logged_in 
 left_logged old new left = λ i. left_sealed old new left i ++ left.inserts i
 
 -- A batch is added behind them.
-pub written_logged : (old new : Memories) (more : List Entry) → IsWritten old new more → logged_in new ≡ logged_in old ++ more
+pub written_logged : (old new : Memories) (more : List Entry) → HasMoreEntries old new more → logged_in new ≡ logged_in old ++ more
 written_logged old new more written =
     let sealed : sealed_inserts new ≡ sealed_inserts old = ap sealed_inserts written.others in
     (λ i. sealed i ++ written.inserts i) ∙ sym (append_assoc (sealed_inserts old) old.current.inserts more)

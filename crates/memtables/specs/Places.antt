@@ -15,12 +15,12 @@ pub record MemoriesPlace : Type 0 where
   pub place : MemoryPlace
 
 -- the table of this generation is there, and cursor and table are this list and this place
-abbrev pub ListsTable : Cmp → ℕ → MemoryPlace → Memories → Listed → Type 0
-ListsTable cmp generation place memories at = IsSomeAnd (table_in memories generation) (λ (table : Contents). ListsMemory cmp place table at)
+abbrev pub ListsMemoryTable : Cmp → ℕ → MemoryPlace → Memories → Listed → Type 0
+ListsMemoryTable cmp generation place memories at = IsSomeAnd (table_in memories generation) (λ (table : Contents). ListsMemory cmp place table at)
 
 -- cursor and memory tables are this list and this place
 abbrev pub ListsMemories : Cmp → MemoriesPlace → Memories → Listed → Type 0
-ListsMemories cmp cursor memories at = ListsTable cmp cursor.generation cursor.place memories at
+ListsMemories cmp cursor memories at = ListsMemoryTable cmp cursor.generation cursor.place memories at
 
 -- the entries that the cursor lists of a table, with their nodes
 abbrev pub seen_by : Cmp → MemoryPlace → Contents → List Placed

@@ -58,11 +58,11 @@ impl<K: KeyOrder> MemoryTables<K> {
     ghost use Rattle.std.specs.Option.{option_copied};
     ghost use Rattle.cursor.specs.Moves.{ListsNone, Moves, Refuses};
     ghost use Rattle.ikey.specs.Sources.{IsAnswer};
-    ghost use Rattle.memtables.specs.Changes.{IsFlushed, IsRemembered, IsSealed, IsUsed, IsWritten, KeepsUsed};
+    ghost use Rattle.memtables.specs.Changes.{DropsSealed, IsRemembered, IsSealed, IsUsed, HasMoreEntries, KeepsUsed};
     ghost use Rattle.memtables.specs.Memories.{AreMemories, HasRoom, IsAlone, Memories, logged_in};
     ghost use Rattle.memtables.specs.Memories.{operation_bytes, sealed_in, sealed_inserts, table_in};
-    ghost use Rattle.memtables.specs.Motions.{Aimed, Leads, MayGo};
-    ghost use Rattle.memtables.specs.Places.{LeavesMemories, ListsTable, StaysInMemories};
+    ghost use Rattle.memtables.specs.Motions.{Aimed, LeadsMotion, MayGo};
+    ghost use Rattle.memtables.specs.Places.{LeavesMemories, ListsMemoryTable, StaysInMemories};
     ghost use Rattle.memtable.specs.Contents.{size_of};
     ghost use Rattle.recover.specs.Entries.{RiseAbove, greatest, made_entry, entries_of};
     ghost use Rattle.table_access.specs.Memory.{memory_facts};
@@ -189,7 +189,7 @@ impl<K: KeyOrder> MemoryTables<K> {
     pub fn add_batch(&mut self, operations: &[Operation])
         requires room { HasRoom self.old operations.now }
         requires fits { self.old.last + length operations.now < 2 ^ 56 }
-        ensures written { IsWritten self.old self.new (entries_of (self.old.last + 1) operations.now) }
+        ensures written { HasMoreEntries self.old self.new (entries_of (self.old.last + 1) operations.now) }
         ensures last { self.new.last ≡ self.old.last + length operations.now }
     {
         for operation in operations {
@@ -257,7 +257,7 @@ impl<K: KeyOrder> MemoryTables<K> {
     /// No table is sealed any more: a table file has the entries of the one that was. It stays for its readers, until it is
     /// dropped or forgotten.
     pub fn flushed(&mut self)
-        ensures { IsFlushed self.old self.new }
+        ensures { DropsSealed self.old self.new }
     {
         self.sealed = None;
     }
@@ -299,11 +299,11 @@ impl<K: KeyOrder> MemoryTables<K> {
         motion: Motion<'_>,
     ) -> Result<(), DbError>
         requires { MayGo motion (is_some cursor.old.node) }
-        ensures moves { Leads K.cmp motion.entry (Moves (λ memories. memory_facts)
-            (λ place memories at. ListsTable K.cmp generation place memories at) cursor.old cursor.new self.old self.new result) }
+        ensures moves { LeadsMotion K.cmp motion.entry (Moves (λ memories. memory_facts)
+            (λ place memories at. ListsMemoryTable K.cmp generation place memories at) cursor.old cursor.new self.old self.new result) }
         ensures stays { StaysInMemories K.cmp cursor.old cursor.new self.old self.new }
         ensures refused { IfErr result (λ e. Refuses e memory_facts memory_facts (Aimed motion.entry
-            (ListsNone (λ place memories at. ListsTable K.cmp generation place memories at) cursor.old self.old)) ⊥) }
+            (ListsNone (λ place memories at. ListsMemoryTable K.cmp generation place memories at) cursor.old self.old)) ⊥) }
     {
         if generation == self.generation {
             return go(cursor, alloc, &mut self.current, motion);
@@ -319,7 +319,7 @@ impl<K: KeyOrder> MemoryTables<K> {
         requires entry_room { 0 < self.old.current.entry_room }
         requires byte_room { operation_bytes operation.now ≤ self.old.current.byte_room }
         requires fits { self.old.last + 1 < 2 ^ 56 }
-        ensures written { IsWritten self.old self.new (made_entry (self.old.last + 1) operation.now ∷ []) }
+        ensures written { HasMoreEntries self.old self.new (made_entry (self.old.last + 1) operation.now ∷ []) }
         ensures last { self.new.last ≡ self.old.last + 1 }
         ensures entry_room { self.new.current.entry_room ≡ self.old.current.entry_room - 1 }
         ensures byte_room { self.new.current.byte_room ≡ self.old.current.byte_room - operation_bytes operation.now }

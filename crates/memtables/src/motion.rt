@@ -2,7 +2,7 @@
 
 ghost use Rattle.std.specs.Prelude.{IfErr};
 ghost use Rattle.cursor.specs.Moves.{ListsNone, Moves, Refuses, Stays};
-ghost use Rattle.memtables.specs.Motions.{Aimed, Leads, MayGo};
+ghost use Rattle.memtables.specs.Motions.{Aimed, LeadsMotion, MayGo};
 
 use coding::DbError;
 use cursor::Cursor;
@@ -28,7 +28,7 @@ pub fn go<K: KeyOrder, S, C: Cursor<K, S>>(
     motion: Motion<'_>,
 ) -> Result<(), DbError>
     requires { MayGo motion (C.stands cursor.old) }
-    ensures moves { Leads K.cmp motion.entry (Moves C.facts C.lists cursor.old cursor.new source.old source.new result) }
+    ensures moves { LeadsMotion K.cmp motion.entry (Moves C.facts C.lists cursor.old cursor.new source.old source.new result) }
     ensures stays { Stays C.facts C.keeps C.limited C.leaves C.over cursor.old cursor.new source.old source.new }
     ensures refused { IfErr result (λ e. Refuses e (C.facts source.old) (C.facts source.new)
         (Aimed motion.entry (ListsNone C.lists cursor.old source.old)) (C.limited cursor.old source.old)) }

@@ -7,7 +7,7 @@ use Rattle.std.specs.List.Sorted.{IsPermutation}
 use Rattle.coding.specs.declared.error.DbError.{DbError}
 use Rattle.compact.specs.JobEdits.{IsPlanProper}
 use Rattle.compact.specs.Merging.{AreDisjoint, HaveOwnSequences, ReadsApart}
-use Rattle.compact.specs.Outputs.{AreNumbered, IsMine, IsOwn, IsToCome, RefusesEntry, Written}
+use Rattle.compact.specs.Outputs.{AreNumbered, IsMine, IsOwn, IsToCome, RefusesEntry, TablesWritten}
 use Rattle.compact.proofs.Writing.{refuses-as}
 use Rattle.cursor.specs.declared.merge.Merge.{Merge}
 use Rattle.cursor.specs.Merging.{listed}
@@ -19,18 +19,19 @@ use Rattle.ikey.specs.Entries.{InternalEntry, entry_of}
 use Rattle.ikey.specs.Orders.{Order}
 use Rattle.ikey.specs.Sources.{SameEntries}
 use Rattle.running_job.specs.declared.open_job.OpenJob.{OpenJob}
-use Rattle.running_job.specs.Beginning.{CanBegin}
+use Rattle.running_job.specs.internal.Beginning.{CanBegin}
 use Rattle.running_job.specs.Running.{IsRunning, deep_of}
 use Rattle.running_job.proofs.Read.{Gathers, IsView, Keeps, Limited, Lists, Over, View, read_lists, reads_apart, seen_lists, whole_of}
 use Rattle.running_job.proofs.Stepped.{IsJobOver, planned_as}
 use Rattle.recover.specs.Directory.{Directory, IsConsistent}
-use Rattle.recover.specs.Changes.{AreParted}
+use Rattle.recover.specs.Replacing.{AreParted}
 use Rattle.recover.specs.Numbers.{IsFree}
 use Rattle.recover.specs.Tables.{TableContent, tabled, table_at}
 use Rattle.recover.proofs.Memberships.{from_chosen}
-use Rattle.level_cursor.specs.InRows.{HasNumber}
+use Rattle.level_cursor.specs.InRows.{ListsNumber}
 use Rattle.db_cursor.specs.declared.source_cursor.SourceCursor.{SourceCursor}
-use Rattle.db_cursor.specs.Inputs.{BeginsMerge, IsMergeLimited, ReadsNoMemory}
+use Rattle.db_cursor.specs.internal.Inputs.{BeginsMerge}
+use Rattle.db_cursor.specs.Inputs.{IsMergeLimited, ReadsNoMemory}
 use Rattle.db_cursor.specs.Places.{OneGoesOver}
 use Rattle.db_cursor.specs.Scans.{IsOnePastLimit, ListsMerged}
 use Rattle.db_cursor.specs.Whole.{Whole}
@@ -40,9 +41,8 @@ use Rattle.version_laws.proofs.Version.{tabled_again}
 use Rattle.table_access.specs.Tables.{SoundLasts}
 use Rattle.store.specs.Files.{Facts, Files}
 use Rattle.table.specs.Reading.{Reads}
-use Rattle.directory_writes.specs.Compactions.{placed_in}
-use Rattle.directory_writes.specs.JobWrites.{OwnsNone}
-use Rattle.directory_writes.specs.Planned.{IsPlanned, PlannedLaw}
+use Rattle.directory_writes.specs.Replacing.{placed_in, OwnsNone, IsPlanned}
+use Rattle.directory_writes.specs.internal.Planned.{PlannedLaw}
 use Rattle.directory_writes.proofs.JobTables.{among_contains, among_placed, contains_among, content_at}
 use Rattle.directory_writes.proofs.TableFiles.{below_placed}
 use Rattle.compact.specs.Deeper.{is_covered_below}
@@ -53,7 +53,7 @@ use Rattle.versions.specs.Plans.{IsPlanOf}
 
 -- an input is a table of the directory, and has a number that is taken
 input_below : (order : Order) (files : Files) (d : Directory) (next : ℕ) (tables : List PlacedTable) (inputs rest : List TableContent) → IsConsistent order files d → IsFree order files next → AreParted d.tables inputs rest → IsPermutation tables (placed_in inputs)
-    → (number : ℕ) → HasNumber tables number → number < next
+    → (number : ℕ) → ListsNumber tables number → number < next
 input_below order files d next tables inputs rest consistent free parted permuted number is =
     let content = content_at inputs is.0 (contains_among (placed_in inputs) is.0 (Contains-permutation tables (placed_in inputs) is.0 permuted is.1)) in
     let there = among_contains (placed_in d.tables) content.0.placed (among_placed d.tables content.0 (from_chosen d.tables inputs rest content.0 parted content.1)) in
@@ -74,7 +74,7 @@ pub record IsReady {K : Type 0} {g : Ghosts K} (order : Order) (a : Whole) (next
   pub own : HaveOwnSequences entries
   pub lists : ListsMerged order.cmp merge a (listed entries None)
   pub limits : IsMergeLimited order.cmp merge a → IsOnePastLimit order.cmp plan.inputs.items a
-  pub below : (number : ℕ) → HasNumber plan.inputs.items number → number < next
+  pub below : (number : ℕ) → ListsNumber plan.inputs.items number → number < next
 
 pub ready : {K : Type 0} {g : Ghosts K} (order : Order) (a : Whole) (next : ℕ) (tables : List PlacedTable) (plan : JobPlan) (d : Directory) (merge : Merge K (SourceCursor K g))
     → PlannedLaw → PartLaw → IsTotalOrder order.cmp → IsAntisymmetric order.cmp → AreInOrder order.cmp tables → AreInOrder order.cmp plan.inputs.items → IsPlanOf order.cmp tables plan
@@ -101,33 +101,33 @@ pub nameable : (order : Order) (a : Whole) (next : ℕ) (tables : List PlacedTab
     → PlannedLaw → IsTotalOrder order.cmp → IsAntisymmetric order.cmp → AreInOrder order.cmp tables → IsPlanOf order.cmp tables plan → CanBegin order a next tables d → IsPlanProper plan
 nameable order a next tables plan d law total exact in_order is can = (law order a.seen.facts.files d tables plan total exact can.consistent can.listed in_order is).2.proper
 
-mine_none : (w : Written) (next number : ℕ) → w ≡ record { closed = []; at_hand = None } → IsMine w next number → IsToCome next number
-mine_none w next number none mine = elim (subst (λ (u : Written). IsMine u next number) none mine) [
+mine_none : (w : TablesWritten) (next number : ℕ) → w ≡ record { closed = []; at_hand = None } → IsMine w next number → IsToCome next number
+mine_none w next number none mine = elim (subst (λ (u : TablesWritten). IsMine u next number) none mine) [
   | inl at ↦ absurd at
   | inr come ↦ come
 ]
 
-numbered_none : (w : Written) (next : ℕ) → w ≡ record { closed = []; at_hand = None } → AreNumbered w next
-numbered_none w next none = subst (λ (u : Written). AreNumbered u next) (sym none) (record { proper = tt; rise = tt; below = tt; at_hand = tt })
+numbered_none : (w : TablesWritten) (next : ℕ) → w ≡ record { closed = []; at_hand = None } → AreNumbered w next
+numbered_none w next none = subst (λ (u : TablesWritten). AreNumbered u next) (sym none) (record { proper = tt; rise = tt; below = tt; at_hand = tt })
 
-owns_none : (w : Written) (tables : List PlacedTable) → w ≡ record { closed = []; at_hand = None } → OwnsNone w tables
-owns_none w tables none number own = elim (subst (λ (u : Written). IsOwn u number) none own) [
+owns_none : (w : TablesWritten) (tables : List PlacedTable) → w ≡ record { closed = []; at_hand = None } → OwnsNone w tables
+owns_none w tables none number own = elim (subst (λ (u : TablesWritten). IsOwn u number) none own) [
   | inl at ↦ absurd at
   | inr o ↦ absurd (omega (arith, o.2))
 ]
 
 -- what a cursor over the inputs reads is apart from what is to come
-pub none_over : {K : Type 0} {g : Ghosts K} (plan : JobPlan) (merge : Merge K (SourceCursor K g)) (next : ℕ) → ((number : ℕ) → OneGoesOver merge.children.items number → HasNumber plan.inputs.items number) → ((number : ℕ) → HasNumber plan.inputs.items number → number < next)
+pub none_over : {K : Type 0} {g : Ghosts K} (plan : JobPlan) (merge : Merge K (SourceCursor K g)) (next : ℕ) → ((number : ℕ) → OneGoesOver merge.children.items number → ListsNumber plan.inputs.items number) → ((number : ℕ) → ListsNumber plan.inputs.items number → number < next)
     → AreDisjoint (Over merge) (IsToCome next)
 none_over plan merge next over below n read come = let lt = below n (over n read) in absurd (omega (arith, lt, come.0))
 
 module _ {K : Type 0} {g : Ghosts K} {H S : Type 0} (order : Order) (v : View H S) (view : IsView v) where
-  pub apart_before : SoundLasts → (plan : JobPlan) (merge : Merge K (SourceCursor K g)) (next : ℕ) → ReadsNoMemory order.cmp merge → ((number : ℕ) → OneGoesOver merge.children.items number → HasNumber plan.inputs.items number) → ((number : ℕ) → HasNumber plan.inputs.items number → number < next)
+  pub apart_before : SoundLasts → (plan : JobPlan) (merge : Merge K (SourceCursor K g)) (next : ℕ) → ReadsNoMemory order.cmp merge → ((number : ℕ) → OneGoesOver merge.children.items number → ListsNumber plan.inputs.items number) → ((number : ℕ) → ListsNumber plan.inputs.items number → number < next)
       → ReadsApart v.facts v.store_of v.with_store (Gathers v) (Keeps order.cmp v) merge (IsToCome next)
   apart_before lasts plan merge next none over below = reads_apart order.cmp v view merge lasts (IsToCome next) (λ n come. come.1) none (none_over plan merge next over below)
 
   pub begun : (a b : H) (next : ℕ) (tables : List PlacedTable) (plan : JobPlan) (d : Directory) (merge : Merge K (SourceCursor K g)) (work : OpenJob K g) → (r : IsReady order (whole_of v a) next tables plan d merge)
-      → ReadsNoMemory order.cmp merge → ((number : ℕ) → OneGoesOver merge.children.items number → HasNumber plan.inputs.items number)
+      → ReadsNoMemory order.cmp merge → ((number : ℕ) → OneGoesOver merge.children.items number → ListsNumber plan.inputs.items number)
       → work.job.plan ≡ plan → work.version.value.tables ≡ tables → work.job.outputs ≡ record { closed = []; at_hand = None } → work.next ≡ 0 → work.merged ≡ 0
       → ((number : ℕ) → Over work.job.cursor number → Over merge number) → ((s t : H) → Keeps order.cmp v merge s t → Keeps order.cmp v work.job.cursor s t)
       → IsTrue (v.facts (v.store_of b)).faithful → Reads (v.facts (v.store_of a)) (v.facts (v.store_of b))
@@ -144,9 +144,9 @@ module _ {K : Type 0} {g : Ghosts K} {H S : Type 0} (order : Order) (v : View H 
     goes_on = j.goes_on;
     stands = seen_lists order.cmp v view work.job.cursor b _ j.left;
     no_memory = moved_read_none order.cmp (whole_of v) v.with_memory view.remembered a merge work.job.cursor same none;
-    over = λ n read. subst (λ (q : JobPlan). HasNumber q.inputs.items n) (sym plan_is) (over n (within n read));
+    over = λ n read. subst (λ (q : JobPlan). ListsNumber q.inputs.items n) (sym plan_is) (over n (within n read));
     outside = λ n is mine.
-        let lt = r.below n (subst (λ (q : JobPlan). HasNumber q.inputs.items n) plan_is is) in
+        let lt = r.below n (subst (λ (q : JobPlan). ListsNumber q.inputs.items n) plan_is is) in
         let come = mine_none work.job.outputs next n outputs mine in
         absurd (omega (arith, lt, come.0));
     unkept = j.ungathered;

@@ -9,7 +9,7 @@ use Rattle.ikey.specs.Entries.{InternalEntry, entry_of}
 use Rattle.ikey.specs.Orders.{Order}
 use Rattle.ikey.specs.Sources.{SameEntries}
 use Rattle.running_job.specs.declared.open_job.OpenJob.{OpenJob}
-use Rattle.running_job.specs.Ending.{CanEnd, EndLeaves, RefusesEnd}
+use Rattle.running_job.specs.internal.Ending.{CanEnd, EndLeaves, RefusesEnd}
 use Rattle.running_job.specs.Running.{deep_of}
 use Rattle.recover.specs.Directory.{Directory}
 use Rattle.recover.specs.Tables.{tabled}
@@ -19,7 +19,7 @@ use Rattle.directory_writes.specs.declared.flush.FlushError.{FlushError}
 use Rattle.directory_writes.specs.declared.flush.FlushError.TheVariants.{Before, Edit}
 use Rattle.directory_writes.specs.declared.install.Installed.{Installed}
 use Rattle.directory_writes.specs.declared.manifest.CurrentManifest.{CurrentManifest}
-use Rattle.directory_writes.specs.Install.{CanInstall, InstallLeaves, IsServed, RefusesInstall}
+use Rattle.directory_writes.specs.internal.Install.{CanInstall, InstallLeaves, IsServed, RefusesInstall}
 
 module _ {K : Type 0} {g : Ghosts K} (order : Order) (work : OpenJob K g) (old : Facts) (next last_sequence : ℕ) (manifest : CurrentManifest) (tables : List PlacedTable) where
   -- a job that can be ended can be installed

@@ -4,7 +4,7 @@ use Rattle.cache.specs.Blocks.{KeptBlock}
 use Rattle.cache.specs.Tables.{KeptTable}
 use Rattle.compact.specs.Leaving.{AreTurns, IsTurn}
 use Rattle.compact.specs.Merging.{AreDisjoint, ReadsApart}
-use Rattle.compact.specs.Outputs.{AreNumbered, Filling, IsMine, IsNext, Written, WritesTables}
+use Rattle.compact.specs.Outputs.{AreNumbered, Filling, IsMine, IsNext, TablesWritten, WritesTables}
 use Rattle.cursor.specs.declared.merge.Merge.{Merge}
 use Rattle.cursor.specs.Merging.{AnyLimited, IsMerge, KeepsAll}
 use Rattle.cursor.specs.Places.{Cmp, Listed}
@@ -31,7 +31,7 @@ at_hand_below None closed next number n is = absurd is
 at_hand_below (Some t) closed next number n is = omega (arith, n.number.1, is)
 
 -- the numbers of a job's tables have 64 bits
-pub mine_small : (w : Written) (next number : ℕ) → next < 2 ^ 64 → AreNumbered w next → IsMine w next number → number < 2 ^ 64
+pub mine_small : (w : TablesWritten) (next number : ℕ) → next < 2 ^ 64 → AreNumbered w next → IsMine w next number → number < 2 ^ 64
 mine_small w next number fits n (inl at) = let below = at_hand_below w.at_hand w.closed next number n.at_hand at in omega (arith, below, fits)
 mine_small w next number fits n (inr come) = come.1
 

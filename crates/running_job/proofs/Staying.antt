@@ -2,7 +2,7 @@
 use Rattle.std.proofs.Common.{◌≡◌, ◌≤◌, ℕ, suc, Option, Some, None, MatchBool, MatchOption, List, [], ◌∷◌, Any, inl, inr, refl, sym, ap, subst, ◌∙◌, arith}
 use Rattle.std.specs.FinMap.{get}
 use Rattle.std.specs.List.{AllByRecursion}
-use Rattle.compact.specs.Outputs.{AreClosed, AreNumbered, Filling, HasWritten, IsAtHand, IsMine, IsNext, IsNumber, IsNumberedApart, Written, table_name}
+use Rattle.compact.specs.Outputs.{AreClosed, AreNumbered, Filling, HasWritten, IsAtHand, IsMine, IsNext, IsDrawnNumber, IsNumberedApart, TablesWritten, table_name}
 use Rattle.compact.proofs.Numbered.{numbered-later}
 use Rattle.cursor.specs.Places.{Cmp}
 use Rattle.edits.specs.declared.field.TableFile.{TableFile}
@@ -11,12 +11,11 @@ use Rattle.ikey.specs.Entries.{Pair}
 use Rattle.ikey.specs.Orders.{Order}
 use Rattle.running_job.specs.declared.open_job.OpenJob.{OpenJob}
 use Rattle.running_job.specs.Running.{deep_of}
-use Rattle.running_job.specs.Staying.{KeepsOutputs, RunningStays, RunningStaysBeside}
+use Rattle.running_job.specs.internal.Staying.{KeepsOutputs, RunningStays, RunningStaysBeside}
 use Rattle.db_cursor.proofs.KeptMerges.{merge_is_kept}
 use Rattle.store.specs.Files.{Facts}
 use Rattle.table.specs.Building.{last_added}
-use Rattle.directory_writes.specs.Planned.{IsPlanned}
-use Rattle.directory_writes.specs.JobWrites.{OwnsNone}
+use Rattle.directory_writes.specs.Replacing.{IsPlanned, OwnsNone}
 use Rattle.edits.specs.declared.field.PlacedTable.{PlacedTable}
 use Rattle.recover.specs.Tables.{TableContent}
 
@@ -47,10 +46,10 @@ at_hand_on cmp a b (Some t) cs next pairs n k h =
       h.1,
     )
 
-number_on : (next more number : ℕ) → next ≤ more → IsNumber next number → IsNumber more number
+number_on : (next more number : ℕ) → next ≤ more → IsDrawnNumber next number → IsDrawnNumber more number
 number_on next more number le h = (h.0, omega (arith, le, h.1))
 
-numbers_on : (next more : ℕ) (cs : List TableFile) → next ≤ more → AllByRecursion (λ (table : TableFile). IsNumber next table.number) cs → AllByRecursion (λ (table : TableFile). IsNumber more table.number) cs
+numbers_on : (next more : ℕ) (cs : List TableFile) → next ≤ more → AllByRecursion (λ (table : TableFile). IsDrawnNumber next table.number) cs → AllByRecursion (λ (table : TableFile). IsDrawnNumber more table.number) cs
 numbers_on next more [] le h = tt
 numbers_on next more (table ∷ cs) le h = (number_on next more table.number le h.0, numbers_on next more cs le h.1)
 
@@ -58,7 +57,7 @@ apart_on : (o : Option Filling) (cs : List TableFile) (next more : ℕ) → next
 apart_on None cs next more le h = tt
 apart_on (Some t) cs next more le h = (number_on next more t.number le h.0, h.1)
 
-written_on : (cmp : Cmp) (w : Written) (a b : Facts) (next more : ℕ) (pairs : List Pair) → next ≤ more → AreNumbered w next → KeepsOutputs w a.files b.files → HasWritten cmp w a next pairs → HasWritten cmp w b more pairs
+written_on : (cmp : Cmp) (w : TablesWritten) (a b : Facts) (next more : ℕ) (pairs : List Pair) → next ≤ more → AreNumbered w next → KeepsOutputs w a.files b.files → HasWritten cmp w a next pairs → HasWritten cmp w b more pairs
 written_on cmp w a b next more pairs le n k h = record {
   tables = h.tables;
   rest = h.rest;
@@ -70,7 +69,7 @@ written_on cmp w a b next more pairs le n k h = record {
   number = apart_on w.at_hand w.closed next more le h.number;
 }
 
-mine_later : (w : Written) (next more number : ℕ) → next ≤ more → IsMine w more number → IsMine w next number
+mine_later : (w : TablesWritten) (next more number : ℕ) → next ≤ more → IsMine w more number → IsMine w next number
 mine_later w next more number le (inl at) = inl at
 mine_later w next more number le (inr come) = inr (omega (arith, le, come.0), come.1)
 

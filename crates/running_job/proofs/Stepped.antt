@@ -16,21 +16,21 @@ use Rattle.ikey.specs.Entries.{InternalEntry, entry_of}
 use Rattle.ikey.specs.Orders.{Order}
 use Rattle.ikey.specs.Sources.{SameEntries}
 use Rattle.running_job.specs.declared.open_job.OpenJob.{OpenJob}
-use Rattle.running_job.specs.Running.{IsRunning, deep_of, goes_over, is_input, is_to_write, shown}
-use Rattle.running_job.specs.Stepping.{CanStep, StepKeeps, StepTouches}
+use Rattle.running_job.specs.Running.{IsRunning, deep_of, goes_over, is_input, is_to_write, shown, CanStep}
+use Rattle.running_job.specs.internal.Stepping.{StepKeeps, StepTouches}
 use Rattle.running_job.proofs.Read.{Gathers, IsView, Keeps, Leaves, Limited, Lists, Over, View, led, mine_small, read_lists, reads_apart, seen_lists, whole_of}
 use Rattle.memtables.specs.PlaceLaws.{left_there}
 use Rattle.recover.specs.Directory.{Directory}
 use Rattle.recover.specs.Tables.{TableContent, tabled}
-use Rattle.level_cursor.specs.InRows.{HasNumber}
+use Rattle.level_cursor.specs.InRows.{ListsNumber}
 use Rattle.db_cursor.specs.declared.source_cursor.SourceCursor.{SourceCursor}
 use Rattle.db_cursor.specs.Scans.{IsOnePastLimit}
 use Rattle.db_cursor.proofs.KeptMerges.{moved_read_none}
 use Rattle.db_cursor.proofs.WritesBeside.{beside}
 use Rattle.table_access.specs.Tables.{SoundLasts}
 use Rattle.store.specs.Files.{Facts}
-use Rattle.directory_writes.specs.JobWrites.{FreeNumberLaw, JobWritesLaw}
-use Rattle.directory_writes.specs.Planned.{IsPlanned}
+use Rattle.directory_writes.specs.internal.JobWrites.{FreeNumberLaw, JobWritesLaw}
+use Rattle.directory_writes.specs.Replacing.{IsPlanned}
 use Rattle.versions.specs.declared.plan.JobPlan.{JobPlan}
 
 -- what a plan takes, where plan and version are the same
@@ -140,8 +140,8 @@ module _ {K : Type 0} {g : Ghosts K} {H S : Type 0} (order : Order) (v : View H 
         goes_on = j.goes_on;
         stands = seen_lists order.cmp v view after.job.cursor b _ j.left;
         no_memory = moved_read_none order.cmp (whole_of v) v.with_memory view.remembered a before.job.cursor after.job.cursor leaves.same r.no_memory;
-        over = λ n over. subst (λ (q : JobPlan). HasNumber q.inputs.items n) (sym plan) (r.over n (leaves.within n over));
-        outside = λ n is mine. r.outside n (subst (λ (q : JobPlan). HasNumber q.inputs.items n) plan is) (mine-before before.job.outputs after.job.outputs next more n le fits mine_kept mine);
+        over = λ n over. subst (λ (q : JobPlan). ListsNumber q.inputs.items n) (sym plan) (r.over n (leaves.within n over));
+        outside = λ n is mine. r.outside n (subst (λ (q : JobPlan). ListsNumber q.inputs.items n) plan is) (mine-before before.job.outputs after.job.outputs next more n le fits mine_kept mine);
         unkept = j.ungathered;
         numbered = numbers.keeps r.numbered;
         drawn = drawn;

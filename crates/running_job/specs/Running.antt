@@ -8,20 +8,20 @@ use Rattle.ikey.specs.Entries.{InternalEntry, entry_of}
 use Rattle.ikey.specs.Orders.{Order}
 use Rattle.ikey.specs.Sources.{SameEntries}
 use Rattle.running_job.specs.declared.open_job.OpenJob.{OpenJob}
-use Rattle.recover.specs.Directory.{Directory}
+use Rattle.recover.specs.Directory.{Directory, IsConsistent}
 use Rattle.recover.specs.Tables.{TableContent, tabled}
-use Rattle.level_cursor.specs.InRows.{HasNumber}
+use Rattle.level_cursor.specs.InRows.{ListsNumber}
 use Rattle.db_cursor.specs.Inputs.{IsMergeLimited, ReadsNoMemory}
 use Rattle.db_cursor.specs.Places.{OneGoesOver}
 use Rattle.db_cursor.specs.Scans.{IsOnePastLimit, ListsMerged}
 use Rattle.db_cursor.specs.Whole.{Whole}
-use Rattle.table_access.specs.Tables.{KeepsOf}
-use Rattle.directory_writes.specs.JobWrites.{OwnsNone}
-use Rattle.directory_writes.specs.Planned.{IsPlanned}
+use Rattle.table_access.specs.Tables.{KeepsOf, IsSound}
+use Rattle.directory_writes.specs.Replacing.{OwnsNone, IsPlanned}
+use Rattle.recover.specs.Numbers.{IsFree}
 
 -- the table of this number is one of the inputs
 abbrev pub is_input : {K : Type 0} {g : _} → OpenJob K g → ℕ → Type 0
-is_input work number = HasNumber work.job.plan.inputs.items number
+is_input work number = ListsNumber work.job.plan.inputs.items number
 
 -- its cursor goes over the table of this number
 abbrev pub goes_over : {K : Type 0} {g : _} → OpenJob K g → ℕ → Type 0
@@ -61,3 +61,10 @@ pub record IsRunning {K : Type 0} {g : _} (order : Order) (whole : Whole) (next 
   pub unused : OwnsNone work.job.outputs d.layout.tables.items
   -- it passes a limit of reading only where the file of an input does
   pub limits : IsMergeLimited order.cmp work.job.cursor whole → IsOnePastLimit order.cmp work.job.plan.inputs.items whole
+
+-- The job is under way over a directory of these parts.
+pub record CanStep {K : Type 0} {g : _} (order : Order) (whole : Whole) (next : ℕ) (d : Directory) (work : OpenJob K g) (came left : List InternalEntry) : Type 0 where
+  pub consistent : IsConsistent order whole.seen.facts.files d
+  pub sound : IsSound order.cmp whole.seen
+  pub free : IsFree order whole.seen.facts.files next
+  pub running : IsRunning order whole next d work came left

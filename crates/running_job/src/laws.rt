@@ -2,7 +2,7 @@
 
 ghost use Rattle.ikey.specs.Orders.{order_of};
 ghost use Rattle.running_job.specs.declared.open_job.OpenJob.{OpenJob};
-ghost use Rattle.running_job.specs.Staying.{RunningStays, RunningStaysBeside};
+ghost use Rattle.running_job.specs.internal.Staying.{RunningStays, RunningStaysBeside};
 
 use ikey::KeyOrder;
 

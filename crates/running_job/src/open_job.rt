@@ -4,12 +4,12 @@ ghost use Rattle.std.specs.Prelude.{◌<◌, ◌≤◌, ◌^◌, ℕ, IfOk, Matc
 ghost use Rattle.compact.specs.JobEdits.{IsPlanProper};
 ghost use Rattle.compact.specs.Outputs.{AreNumbered};
 ghost use Rattle.ikey.specs.Orders.{order_of};
-ghost use Rattle.running_job.specs.Unique.{IsPlanProper-prop, numbered-prop};
-ghost use Rattle.level_cursor.specs.InRows.{HasNumber};
-ghost use Rattle.db_cursor.specs.Inputs.{BeginsMerge, ReadsNoMemory};
+ghost use Rattle.running_job.specs.internal.Unique.{IsPlanProper-prop, numbered-prop};
+ghost use Rattle.level_cursor.specs.InRows.{ListsNumber};
+ghost use Rattle.db_cursor.specs.internal.Inputs.{BeginsMerge};
+ghost use Rattle.db_cursor.specs.Inputs.{ReadsNoMemory};
 ghost use Rattle.db_cursor.specs.Places.{OneGoesOver};
-ghost use Rattle.versions.specs.Keeping.{HasNumber as HasTable};
-ghost use Rattle.versions.specs.Levels.{AreInOrder};
+ghost use Rattle.versions.specs.Levels.{AreInOrder, HasNumber as HasTable};
 
 use crate::naming::can_be_named;
 use coding::{Damage, DbError, FileKind};
@@ -55,15 +55,15 @@ impl<K: KeyOrder> OpenJob<K> {
     ghost use Rattle.compact.specs.Outputs.{IsOwn};
     ghost use Rattle.std.specs.List.Sorted.{IsNonDecreasing};
     ghost use Rattle.ikey.specs.Orders.{order_of};
-    ghost use Rattle.running_job.specs.Beginning.{BeginsJob, RefusesBegin};
-    ghost use Rattle.running_job.specs.Ending.{EndLeaves, RefusesEnd};
+    ghost use Rattle.running_job.specs.internal.Beginning.{BeginsJob, RefusesBegin};
+    ghost use Rattle.running_job.specs.internal.Ending.{EndLeaves, RefusesEnd};
     ghost use Rattle.running_job.specs.Running.{goes_over, is_input, shown};
-    ghost use Rattle.running_job.specs.Stepping.{GoesOn, KeepsDirectory, RefusesStep, StepTouches};
-    ghost use Rattle.level_cursor.specs.InRows.{HasNumber};
+    ghost use Rattle.running_job.specs.internal.Stepping.{GoesOn, KeepsDirectory, RefusesStep, StepTouches};
+    ghost use Rattle.level_cursor.specs.InRows.{ListsNumber};
     ghost use Rattle.db_cursor.specs.Places.{LeavesSource};
     ghost use Rattle.db_cursor.specs.Whole.{whole_in};
-    ghost use Rattle.directory_writes.specs.Install.{HasJobVersion, InstallTouches};
-    ghost use Rattle.versions.specs.Keeping.{HasNumber as HasTable};
+    ghost use Rattle.directory_writes.specs.internal.Install.{HasJobVersion, InstallTouches};
+    ghost use Rattle.versions.specs.Levels.{HasNumber as HasTable};
     ghost use Rattle.versions.specs.Plans.{IsPlanOf};
 
     /// Begins the job of a plan for a version's tables: its cursor stands on the first entry of the inputs, and no table is begun.
@@ -86,7 +86,7 @@ impl<K: KeyOrder> OpenJob<K> {
         ensures none { IfOk result (λ work. work.merged ≡ 0) }
         ensures written { IfOk result (λ work. work.job.outputs ≡ record { closed = []; at_hand = None }) }
         ensures over { IfOk result (λ work. (number : ℕ) → goes_over work number → is_input work number) }
-        ensures leaves { LeavesSource K.cmp (HasNumber plan.inputs.items)
+        ensures leaves { LeavesSource K.cmp (ListsNumber plan.inputs.items)
             (whole_in S.facts source.old)
             (whole_in S.facts source.new) }
         ensures stood { OnOk result ((S.facts source.new.tables.store).failures ≡ (S.facts source.old.tables.store).failures) }
@@ -246,7 +246,7 @@ fn cursor_over<K: KeyOrder>(
     plan: &JobPlan,
 ) -> Result<Merge<K, SourceCursor<K>>, AllocError>
     requires { AreInOrder K.cmp plan.now.inputs.items }
-    ensures over { IfOk result (λ merge. (number : ℕ) → OneGoesOver merge.children.items number → HasNumber plan.now.inputs.items number) }
+    ensures over { IfOk result (λ merge. (number : ℕ) → OneGoesOver merge.children.items number → ListsNumber plan.now.inputs.items number) }
     ensures no_memory { IfOk result (λ merge. ReadsNoMemory K.cmp merge) }
     ensures begins { IfOk result (λ merge. BeginsMerge (order_of K.name K.cmp) plan.now.inputs.items merge) }
 {

@@ -4,7 +4,7 @@ use Rattle.cache.specs.Tables.{table_at}
 use Rattle.cursor.specs.Places.{Cmp}
 use Rattle.edits.specs.Names.{IsNumbered}
 use Rattle.ikey.specs.Entries.{Pair}
-use Rattle.table_access.specs.Tables.{Seen, Carries, HasTable, HasData, KeepsOf, Knows}
+use Rattle.table_access.specs.Tables.{Seen, Carries, HasSoundTable, HasData, KeepsOf, Knows}
 use Rattle.store.specs.Files.{Facts}
 use Rattle.table.specs.Frame.{Frame}
 use Rattle.table.specs.Reading.{Reads}
@@ -31,7 +31,7 @@ kept_anew cmp old new number carries t kept = carries.kept t number (inl kept)
 pub same_table_at : {numbers : ℕ → Type 0} (cmp : Cmp) (old new : Seen) (number : ℕ) → Carries cmp numbers old new → IsTrue new.facts.faithful → table_at new.facts.files number ≡ table_at old.facts.files number
 same_table_at cmp old new number carries t = ap (λ files. table_at files number) (carries.reads.files t)
 
-pub still_has : {numbers : ℕ → Type 0} (cmp : Cmp) (old new : Seen) (number : ℕ) (file : List ℕ) → Carries cmp numbers old new → IsTrue new.facts.faithful → HasTable cmp old number file → HasTable cmp new number file
+pub still_has : {numbers : ℕ → Type 0} (cmp : Cmp) (old new : Seen) (number : ℕ) (file : List ℕ) → Carries cmp numbers old new → IsTrue new.facts.faithful → HasSoundTable cmp old number file → HasSoundTable cmp new number file
 still_has cmp old new number file carries t h = record { sound = carries.sound t h.sound; file_is = same_table_at cmp old new number carries t ∙ h.file_is }
 
 pub still_data : {numbers : ℕ → Type 0} (cmp : Cmp) (old new : Seen) (number : ℕ) (frame : Frame) (groups : List (List Pair)) → Carries cmp numbers old new → IsTrue new.facts.faithful → HasData cmp old number frame groups

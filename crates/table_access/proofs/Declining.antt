@@ -6,8 +6,8 @@ use Rattle.coding.specs.declared.error.DbError.TheVariants.{OutOfMemory, Io, Cor
 use Rattle.cursor.specs.Moves.{Refuses}
 use Rattle.cursor.specs.Places.{Cmp}
 use Rattle.ikey.specs.Entries.{InternalEntry}
-use Rattle.table_access.specs.Tables.{Seen, Carries, HasData, HasTable, IsOpen}
-use Rattle.table_access.specs.Values.{IsNoTable, IsPastLimit}
+use Rattle.table_access.specs.Tables.{Seen, Carries, HasData, HasSoundTable, IsOpenFrame}
+use Rattle.table_access.specs.Values.{IsNoTable, IsTablePastLimit}
 use Rattle.table_access.proofs.Carrying.{still_has}
 use Rattle.table_access.proofs.Placing.{data_length}
 use Rattle.table_access.proofs.Searching.{Lacks}
@@ -20,7 +20,7 @@ use Rattle.table.specs.Table.{IsFilled, IsTable}
 pub filled_of : (cmp : Cmp) (file : List ℕ) (frame : Frame) (entries : List InternalEntry) → IsFrame cmp file frame → IsTable cmp file entries → IsFilled cmp file frame entries
 filled_of cmp file frame entries is table = subst (λ (f : Frame). IsFilled cmp file f entries) (one_frame cmp file table.0 frame table.1 is) table.2
 
-pub data_of : {numbers : ℕ → Type 0} (cmp : Cmp) (old mid : Seen) (number : ℕ) (file : List ℕ) (frame : Frame) (entries : List InternalEntry) → Carries cmp numbers old mid → IsTrue mid.facts.faithful → HasTable cmp old number file → IsOpen cmp file frame
+pub data_of : {numbers : ℕ → Type 0} (cmp : Cmp) (old mid : Seen) (number : ℕ) (file : List ℕ) (frame : Frame) (entries : List InternalEntry) → Carries cmp numbers old mid → IsTrue mid.facts.faithful → HasSoundTable cmp old number file → IsOpenFrame cmp file frame
     → (filled : IsFilled cmp file frame entries) → HasData cmp mid number frame filled.blocks
 data_of cmp old mid number file frame entries carries m has open_is filled = record {
   file = file;
@@ -35,10 +35,10 @@ starts_inside cmp file target frame entries start first filled =
 
 module _ (cmp : Cmp) (old : Seen) (number : ℕ) where
   abbrev pub NoTableThere : Type 0
-  NoTableThere = (file : List ℕ) → HasTable cmp old number file → IsNoTable cmp file
+  NoTableThere = (file : List ℕ) → HasSoundTable cmp old number file → IsNoTable cmp file
 
   abbrev pub LimitThere : Type 0
-  LimitThere = (file : List ℕ) → HasTable cmp old number file → IsPastLimit cmp file
+  LimitThere = (file : List ℕ) → HasSoundTable cmp old number file → IsTablePastLimit cmp file
 
   pub not_opened : (e : DbError) (new : Seen) → RefusesTable e old.facts new.facts number (IsFrameDamaged cmp) IsFrameUnsupported → Refuses e old.facts new.facts NoTableThere LimitThere
   not_opened OutOfMemory new h = tt
@@ -48,7 +48,7 @@ module _ (cmp : Cmp) (old : Seen) (number : ℕ) where
   not_opened e new h = absurd h
 
   module _ {numbers : ℕ → Type 0} (mid new : Seen) (first_reads : Carries cmp numbers old mid) (second : Carries cmp numbers mid new) (target : List ℕ) (frame : Frame) (start : ℕ) (first : IsFirstPlace cmp target frame.places start)
-      (says : IsTrue mid.facts.faithful → (file : List ℕ) → HasTable cmp old number file → IsOpen cmp file frame) where
+      (says : IsTrue mid.facts.faithful → (file : List ℕ) → HasSoundTable cmp old number file → IsOpenFrame cmp file frame) where
     lacks_table : IsTrue new.facts.faithful → Lacks cmp mid number frame start → NoTableThere
     lacks_table t lacks file has entries table =
         let m = second.reads.faithful t in

@@ -8,7 +8,7 @@ use Rattle.coding.specs.declared.error.DbError.TheVariants.{OutOfMemory, Io, Cor
 use Rattle.cursor.specs.Moves.{Refuses}
 use Rattle.cursor.specs.Places.{Cmp}
 use Rattle.ikey.specs.Entries.{Pair}
-use Rattle.table_access.specs.Tables.{Seen, HasTable, HasData, SaysOf, IsBlockDamaged, IsBlockUnsupported}
+use Rattle.table_access.specs.Tables.{Seen, HasSoundTable, HasData, SaysOf, IsBlockDamaged, IsBlockUnsupported}
 use Rattle.table_access.proofs.Placing.{data_at, data_length}
 use Rattle.table.specs.Frame.{Frame, AnyLong, handles}
 use Rattle.table.specs.Table.{HasBlock}
@@ -37,7 +37,7 @@ pub no_such_block : (cmp : Cmp) (old : Seen) (number : ℕ) (frame : Frame) (ind
 no_such_block cmp old number frame index end groups has less = let l = data_length cmp has.file frame.places groups has.data_is in absurd (omega (arith, end, less, l))
 
 pub refused_block : (cmp : Cmp) (old new : Seen) (number : ℕ) (frame : Frame) (index : ℕ) (place : Place) → slice_get frame.places index ≡ Some place → (e : DbError)
-    → RefusesTable e old.facts new.facts number (λ file. HasTable cmp old number file → IsBlockDamaged cmp place.handle file) (λ file. HasTable cmp old number file → IsBlockUnsupported place.handle file)
+    → RefusesTable e old.facts new.facts number (λ file. HasSoundTable cmp old number file → IsBlockDamaged cmp place.handle file) (λ file. HasSoundTable cmp old number file → IsBlockUnsupported place.handle file)
     → Refuses e old.facts new.facts (LacksBlock cmp old number frame index) (AnyLong (handles frame))
 refused_block cmp old new number frame index place there OutOfMemory h = tt
 refused_block cmp old new number frame index place there Io h = h

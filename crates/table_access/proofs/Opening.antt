@@ -10,7 +10,7 @@ use Rattle.ikey.specs.Below.{IsBelowInternal, key_total, same_key}
 use Rattle.ikey.specs.Entries.{InternalEntry, Pair, IsPair}
 use Rattle.ikey.specs.Keys.{key_cmp}
 use Rattle.table_access.specs.TablePlaces.{ListsTable, joined}
-use Rattle.table_access.specs.Tables.{Seen, Carries, HasTable, IsOpen}
+use Rattle.table_access.specs.Tables.{Seen, Carries, HasSoundTable, IsOpenFrame}
 use Rattle.table_access.proofs.Carrying.{still_has}
 use Rattle.table.specs.Frame.{Frame}
 use Rattle.table.specs.Table.{ArePairs, IsFilled, IsTable}
@@ -41,7 +41,7 @@ module _ (cmp : Cmp) (total : IsTotalOrder cmp) where
   entries_rise (x ∷ pairs) [] up are = absurd are
   entries_rise (x ∷ pairs) (y ∷ entries) up are = rises_behind x y pairs entries are.0 up are.1
 
-  pub begins : {numbers : ℕ → Type 0} (old new : Seen) (number : ℕ) (frame : Frame) (file : List ℕ) (entries : List InternalEntry) → Carries cmp numbers old new → IsTrue new.facts.faithful → HasTable cmp old number file → IsOpen cmp file frame
+  pub begins : {numbers : ℕ → Type 0} (old new : Seen) (number : ℕ) (frame : Frame) (file : List ℕ) (entries : List InternalEntry) → Carries cmp numbers old new → IsTrue new.facts.faithful → HasSoundTable cmp old number file → IsOpenFrame cmp file frame
       → IsTable cmp file entries → ListsTable cmp new number frame None (listed entries None)
   begins old new number frame file entries carries t has open_is table =
       let filled = subst (λ (f : Frame). IsFilled cmp file f entries) (one_frame cmp file table.0 frame table.1 open_is.0) table.2 in

@@ -3,7 +3,7 @@ use Rattle.std.proofs.Common.{◌≡◌, ℕ, List, Option, Result, Ok, Err, IfO
 use Rattle.std.specs.FinMap.{get}
 use Rattle.std.specs.Option.{option_or}
 use Rattle.cache.specs.Blocks.{KeptBlock}
-use Rattle.cache.specs.Holding.{HoldsBlocks, HoldsTables, IsBlockOf, IsContent, IsOpenOf}
+use Rattle.cache.specs.Holding.{HoldsBlocks, HoldsTables, IsBlockOf, HasContent, IsOpenOf}
 use Rattle.cache.specs.Tables.{IsNameOf, KeptTable, RefusesTable, table_at}
 use Rattle.cache.proofs.HoldingTables.{still_open}
 use Rattle.coding.specs.declared.error.DbError.{DbError}
@@ -12,7 +12,7 @@ use Rattle.cursor.specs.Places.{Cmp}
 use Rattle.edits.specs.Names.{name_of}
 use Rattle.edits.specs.declared.names.FileName.TheVariants.{Table, OldTable}
 use Rattle.ikey.specs.Entries.{Pair}
-use Rattle.table_access.specs.Tables.{Seen, IsSound, Carries, HasTable, SaysOf, IsOpen, IsBlockDamaged, IsBlockUnsupported}
+use Rattle.table_access.specs.Tables.{Seen, IsSound, Carries, HasSoundTable, SaysOf, IsOpenFrame, IsBlockDamaged, IsBlockUnsupported}
 use Rattle.store.specs.Files.{Facts, Files}
 use Rattle.table.specs.Frame.{Opened}
 use Rattle.table.specs.Reading.{Reads, HasFile, Refuses}
@@ -33,7 +33,7 @@ sound_opened cmp old facts tables reads t holds sound =
 
 pub says_open : (cmp : Cmp) (old new : Seen) (number : ℕ) (answer : Result Opened DbError)
     → (IsSound cmp old → IsTrue new.facts.faithful → IfOk answer (λ table. IsOpenOf cmp (table_at old.facts.files) new.facts number table))
-    → IfOk answer (λ table. SaysOf cmp old new number (λ file. HasFile new.facts table.name file × IsOpen cmp file table.frame))
+    → IfOk answer (λ table. SaysOf cmp old new number (λ file. HasFile new.facts table.name file × IsOpenFrame cmp file table.frame))
 says_open cmp old new number (Ok table) h = λ t file has. let p = (h has.sound t).1 file has.file_is in (p.0, (p.1, p.2))
 says_open cmp old new number (Err e) h = tt
 
@@ -56,7 +56,7 @@ same_file old new number name is table old_table = elim is [
 
 -- the file of the table is that of its name
 pub content_of : {numbers : ℕ → Type 0} (cmp : Cmp) (old mid : Seen) (number : ℕ) (table : Opened) → IsTrue mid.facts.faithful → IsSound cmp old → Carries cmp numbers old mid
-    → SaysOf cmp old mid number (λ file. HasFile mid.facts table.name file × IsOpen cmp file table.frame) → IsContent (table_at mid.facts.files) number mid.facts table.name
+    → SaysOf cmp old mid number (λ file. HasFile mid.facts table.name file × IsOpenFrame cmp file table.frame) → HasContent (table_at mid.facts.files) number mid.facts table.name
 content_of cmp old mid number table t sound carries says file there =
     (says t file (record { sound = sound; file_is = ap (λ (files : Files). table_at files number) (sym (carries.reads.files t)) ∙ there })).0
 
@@ -71,8 +71,8 @@ sound_read cmp mid facts blocks reads t holds sound =
     }
 
 pub says_block : {numbers : ℕ → Type 0} (cmp : Cmp) (old mid new : Seen) (number : ℕ) (handle : Handle) (table : Opened) (answer : Result (List Pair) DbError) → Carries cmp numbers old mid → Reads mid.facts new.facts
-    → SaysOf cmp old mid number (λ file. HasFile mid.facts table.name file × IsOpen cmp file table.frame)
-    → ((content : ℕ → Option (List ℕ)) → HoldsBlocks cmp content mid.blocks → IsContent content number mid.facts table.name → IsTrue new.facts.faithful → IfOk answer (λ pairs. IsBlockOf cmp content number handle pairs))
+    → SaysOf cmp old mid number (λ file. HasFile mid.facts table.name file × IsOpenFrame cmp file table.frame)
+    → ((content : ℕ → Option (List ℕ)) → HoldsBlocks cmp content mid.blocks → HasContent content number mid.facts table.name → IsTrue new.facts.faithful → IfOk answer (λ pairs. IsBlockOf cmp content number handle pairs))
     → IfOk answer (λ pairs. SaysOf cmp old new number (λ file. HasBlock cmp file handle pairs))
 says_block cmp old mid new number handle table (Err e) carries reads says found = tt
 says_block cmp old mid new number handle table (Ok pairs) carries reads says found = λ t file has.
@@ -92,15 +92,15 @@ refuses_as e old new number a b c d f k h = absurd h
 
 -- the table isn't opened
 pub no_table : (cmp : Cmp) (e : DbError) (old new : Seen) (number : ℕ) (handle : Handle) → RefusesTable e old.facts new.facts number (IsFrameDamaged cmp) IsFrameUnsupported
-    → RefusesTable e old.facts new.facts number (λ file. HasTable cmp old number file → IsBlockDamaged cmp handle file) (λ file. HasTable cmp old number file → IsBlockUnsupported handle file)
+    → RefusesTable e old.facts new.facts number (λ file. HasSoundTable cmp old number file → IsBlockDamaged cmp handle file) (λ file. HasSoundTable cmp old number file → IsBlockUnsupported handle file)
 no_table cmp e old new number handle h =
-    refuses_as e old.facts new.facts number (IsFrameDamaged cmp) IsFrameUnsupported (λ file. HasTable cmp old number file → IsBlockDamaged cmp handle file) (λ file. HasTable cmp old number file → IsBlockUnsupported handle file)
+    refuses_as e old.facts new.facts number (IsFrameDamaged cmp) IsFrameUnsupported (λ file. HasSoundTable cmp old number file → IsBlockDamaged cmp handle file) (λ file. HasSoundTable cmp old number file → IsBlockUnsupported handle file)
     (λ file d has. inl d) (λ file d has. inl d) h
 
 module _ {numbers : ℕ → Type 0} (cmp : Cmp) (old mid new : Seen) (number : ℕ) (handle : Handle) (table : Opened) (carries : Carries cmp numbers old mid) (stood : mid.facts.failures ≡ old.facts.failures) (reads : Reads mid.facts new.facts)
-    (says : SaysOf cmp old mid number (λ file. HasFile mid.facts table.name file × IsOpen cmp file table.frame)) where
+    (says : SaysOf cmp old mid number (λ file. HasFile mid.facts table.name file × IsOpenFrame cmp file table.frame)) where
   pub no_block : (e : DbError) → Refuses e mid.facts new.facts table.name (λ file. IsDamaged cmp file handle) (λ file. IsUnsupported file handle)
-      → RefusesTable e old.facts new.facts number (λ file. HasTable cmp old number file → IsBlockDamaged cmp handle file) (λ file. HasTable cmp old number file → IsBlockUnsupported handle file)
+      → RefusesTable e old.facts new.facts number (λ file. HasSoundTable cmp old number file → IsBlockDamaged cmp handle file) (λ file. HasSoundTable cmp old number file → IsBlockUnsupported handle file)
   no_block OutOfMemory h = h ∙ stood
   no_block Io h = omega (arith, h, stood)
   no_block (Corrupt kind what) h = λ t file there has. inr (h t file (says (reads.faithful t) file has).0)
@@ -108,12 +108,12 @@ module _ {numbers : ℕ → Type 0} (cmp : Cmp) (old mid new : Seen) (number : �
   no_block e h = absurd h
 
   pub no_block_of : (answer : Result (List Pair) DbError) → IfErr answer (λ e. Refuses e mid.facts new.facts table.name (λ file. IsDamaged cmp file handle) (λ file. IsUnsupported file handle))
-      → IfErr answer (λ e. RefusesTable e old.facts new.facts number (λ file. HasTable cmp old number file → IsBlockDamaged cmp handle file) (λ file. HasTable cmp old number file → IsBlockUnsupported handle file))
+      → IfErr answer (λ e. RefusesTable e old.facts new.facts number (λ file. HasSoundTable cmp old number file → IsBlockDamaged cmp handle file) (λ file. HasSoundTable cmp old number file → IsBlockUnsupported handle file))
   no_block_of (Ok pairs) h = tt
   no_block_of (Err e) h = no_block e h
 
   pub carries_block : (blocks : List KeptBlock) → new ≡ record { facts = new.facts; tables = mid.tables; blocks = blocks }
-      → ((content : ℕ → Option (List ℕ)) → HoldsBlocks cmp content mid.blocks → IsContent content number mid.facts table.name → IsTrue new.facts.faithful → HoldsBlocks cmp content blocks) → IsTrue new.facts.faithful
+      → ((content : ℕ → Option (List ℕ)) → HoldsBlocks cmp content mid.blocks → HasContent content number mid.facts table.name → IsTrue new.facts.faithful → HoldsBlocks cmp content blocks) → IsTrue new.facts.faithful
       → IsSound cmp old → IsSound cmp (record { facts = new.facts; tables = mid.tables; blocks = blocks })
   carries_block blocks is holds t sound =
       let m = reads.faithful t in

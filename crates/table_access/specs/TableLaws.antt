@@ -6,7 +6,7 @@ use Rattle.cursor.specs.Places.{Cmp, Listed}
 use Rattle.ikey.specs.Entries.{Pair}
 use Rattle.table_access.specs.declared.in_block.InBlock.{InBlock}
 use Rattle.table_access.specs.Tables.{Seen, Carries}
-use Rattle.table_access.specs.TablePlaces.{IsPlacedIn, ListsTable, KeepsTable, block_stands}
+use Rattle.table_access.specs.TablePlaces.{IsPlacedIn, ListsTable, KeepsSeenTable, block_stands}
 use Rattle.store.specs.Files.{Facts}
 use Rattle.table.proofs.Steps.{reads_then}
 use Rattle.table.specs.Frame.{Frame}
@@ -17,7 +17,7 @@ placed_in groups None place h = sym (ap is_some h)
 placed_in groups (Some here) place h = ap is_some h.stands ∙ sym (ap is_some h.place_is)
 
 pub lists_kept : (cmp : Cmp) (number : ℕ) (frame : Frame) (here : Option (InBlock Placed)) (old new : Seen) (at : Listed)
-    → KeepsTable cmp number old new → ListsTable cmp old number frame here at → ListsTable cmp new number frame here at
+    → KeepsSeenTable cmp number old new → ListsTable cmp old number frame here at → ListsTable cmp new number frame here at
 lists_kept cmp number frame here old new at keeps lists = record {
   groups = lists.groups;
   has = record {
@@ -33,10 +33,10 @@ lists_kept cmp number frame here old new at keeps lists = record {
   place = lists.place;
 }
 
-pub table_still : (cmp : Cmp) (number : ℕ) (source : Seen) → KeepsTable cmp number source source
+pub table_still : (cmp : Cmp) (number : ℕ) (source : Seen) → KeepsSeenTable cmp number source source
 table_still cmp number source = record { same = refl; sound = λ h. h }
 
-pub table_onward : (cmp : Cmp) (number : ℕ) (first second third : Seen) → KeepsTable cmp number first second → KeepsTable cmp number second third → KeepsTable cmp number first third
+pub table_onward : (cmp : Cmp) (number : ℕ) (first second third : Seen) → KeepsSeenTable cmp number first second → KeepsSeenTable cmp number second third → KeepsSeenTable cmp number first third
 table_onward cmp number first second third k l = record { same = l.same ∙ k.same; sound = λ h. l.sound (k.sound h) }
 
 -- ---- calls that only read tables

@@ -52,7 +52,7 @@ pub record ListsTable (cmp : Cmp) (source : Seen) (number : ℕ) (frame : Frame)
   pub place : IsPlacedIn groups here at.place
 
 -- the second source has the same table of this number, and what it keeps is right where that of the first is
-pub record KeepsTable (cmp : Cmp) (number : ℕ) (old new : Seen) : Type 0 where
+pub record KeepsSeenTable (cmp : Cmp) (number : ℕ) (old new : Seen) : Type 0 where
   pub same : table_at new.facts.files number ≡ table_at old.facts.files number
   pub sound : IsSound cmp old → IsSound cmp new
 

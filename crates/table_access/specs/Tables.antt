@@ -61,17 +61,17 @@ pub record Carries (cmp : Cmp) (numbers : ℕ → Type 0) (old new : Seen) : Typ
   pub gathered : (number : ℕ) → KeepsOf new number → KeepsOf old number ⊎ numbers number
 
 -- the store has this file as the table of this number, and what is kept is right
-pub record HasTable (cmp : Cmp) (source : Seen) (number : ℕ) (file : List ℕ) : Type 0 where
+pub record HasSoundTable (cmp : Cmp) (source : Seen) (number : ℕ) (file : List ℕ) : Type 0 where
   pub sound : IsSound cmp source
   pub file_is : table_at source.facts.files number ≡ Some file
 
 -- of a faithful store, this is so of the table of this number, where there is one
 abbrev pub SaysOf : Cmp → Seen → Seen → ℕ → (List ℕ → Type 0) → Type 0
-SaysOf cmp old new number is = IsTrue new.facts.faithful → (file : List ℕ) → HasTable cmp old number file → is file
+SaysOf cmp old new number is = IsTrue new.facts.faithful → (file : List ℕ) → HasSoundTable cmp old number file → is file
 
 -- what is open of the file is its frame, of which nothing wasn't supported
-abbrev pub IsOpen : Cmp → List ℕ → Frame → Type 0
-IsOpen cmp file frame = IsFrame cmp file frame × (IsFrameUnsupported file → ⊥)
+abbrev pub IsOpenFrame : Cmp → List ℕ → Frame → Type 0
+IsOpenFrame cmp file frame = IsFrame cmp file frame × (IsFrameUnsupported file → ⊥)
 
 -- frame or block are damaged
 abbrev pub IsBlockDamaged : Cmp → Handle → List ℕ → Type 0
@@ -84,8 +84,8 @@ IsBlockUnsupported handle file = IsFrameUnsupported file ⊎ IsUnsupported file 
 -- The store has, as the table of this number, a file of this frame with the data blocks of these pairs.
 pub record HasData (cmp : Cmp) (source : Seen) (number : ℕ) (frame : Frame) (groups : List (List Pair)) : Type 0 where
   pub file : List ℕ
-  pub table : HasTable cmp source number file
-  pub open_is : IsOpen cmp file frame
+  pub table : HasSoundTable cmp source number file
+  pub open_is : IsOpenFrame cmp file frame
   pub data_is : AreData cmp file frame.places groups
 
 -- ---- laws

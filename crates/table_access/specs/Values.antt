@@ -51,5 +51,5 @@ abbrev pub IsNoTable : Cmp → List ℕ → Type 0
 IsNoTable cmp file = (entries : List InternalEntry) → IsTable cmp file entries → ⊥
 
 -- a block of the frame isn't supported, or a data block has more bytes than those that are read
-abbrev pub IsPastLimit : Cmp → List ℕ → Type 0
-IsPastLimit cmp file = IsFrameUnsupported file ⊎ ((frame : Frame) × IsFrame cmp file frame × AnyLong (handles frame))
+abbrev pub IsTablePastLimit : Cmp → List ℕ → Type 0
+IsTablePastLimit cmp file = IsFrameUnsupported file ⊎ ((frame : Frame) × IsFrame cmp file frame × AnyLong (handles frame))

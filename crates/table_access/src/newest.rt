@@ -4,8 +4,8 @@ ghost use Rattle.std.specs.Prelude.{◌≡◌, ◌<◌, ◌^◌, ℕ, List, Some
 ghost use Rattle.cache.specs.Tables.{kept_table_at};
 ghost use Rattle.cursor.specs.Moves.{Refuses};
 ghost use Rattle.ikey.specs.Entries.{InternalEntry, Pair, IsPair};
-ghost use Rattle.table_access.specs.Tables.{Carries, HasTable, Only, SaysOf, seen_through};
-ghost use Rattle.table_access.specs.Values.{DeniesKey, HasValue, IsDenied, IsNoTable, IsPastLimit, SaysOfEntry};
+ghost use Rattle.table_access.specs.Tables.{Carries, HasSoundTable, Only, SaysOf, seen_through};
+ghost use Rattle.table_access.specs.Values.{DeniesKey, HasValue, IsDenied, IsNoTable, IsTablePastLimit, SaysOfEntry};
 ghost use Rattle.table.specs.Frame.{IsFrame, Opened};
 ghost use Rattle.table.specs.Reading.{IsStill};
 
@@ -40,8 +40,8 @@ pub fn table_value<K: KeyOrder, S: Store>(
         → IsFrame K.cmp file table.frame → IsDenied K.cmp table.frame key.now sequence
         → (source.new.store ≡ source.old.store) × (source.new.blocks ≡ source.old.blocks) }
     ensures refused { IfErr result (λ e. Refuses e (S.facts source.old.store) (S.facts source.new.store)
-        ((file : List ℕ) → HasTable K.cmp (seen_through S.facts source.old) number file → IsNoTable K.cmp file)
-        ((file : List ℕ) → HasTable K.cmp (seen_through S.facts source.old) number file → IsPastLimit K.cmp file)) }
+        ((file : List ℕ) → HasSoundTable K.cmp (seen_through S.facts source.old) number file → IsNoTable K.cmp file)
+        ((file : List ℕ) → HasSoundTable K.cmp (seen_through S.facts source.old) number file → IsTablePastLimit K.cmp file)) }
 {
     let table = source.get_table(alloc, number)?;
     let target = seek_key(alloc, key, sequence)?;

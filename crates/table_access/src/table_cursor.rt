@@ -35,7 +35,7 @@ impl<K: KeyOrder> TableCursor<K> {
     ghost use Rattle.ikey.specs.Entries.{InternalEntry};
     ghost use Rattle.ikey.specs.Keys.{Key, IsKey};
     ghost use Rattle.table_access.specs.TablePlaces.{ListsTable, StepsTo, block_stands};
-    ghost use Rattle.table_access.specs.Tables.{Carries, HasTable, IsOpen, Only, SaysOf, seen_through};
+    ghost use Rattle.table_access.specs.Tables.{Carries, HasSoundTable, IsOpenFrame, Only, SaysOf, seen_through};
     ghost use Rattle.table.specs.Frame.{AnyLong, handles};
     ghost use Rattle.table.specs.Reading.{IsStill};
     ghost use Rattle.table.specs.Refusals.{IsFrameDamaged, IsFrameUnsupported};
@@ -56,7 +56,7 @@ impl<K: KeyOrder> TableCursor<K> {
             (λ file. (entries : List InternalEntry) → IsTable K.cmp file entries
             → ListsTable K.cmp (seen_through S.facts source.new) number cursor.table.value.frame None (listed entries None))) }
         ensures open { IfOk result (λ cursor. SaysOf K.cmp (seen_through S.facts source.old) (seen_through S.facts source.new) number
-            (λ file. IsOpen K.cmp file cursor.table.value.frame)) }
+            (λ file. IsOpenFrame K.cmp file cursor.table.value.frame)) }
         ensures stood { OnOk result ((S.facts source.new.store).failures ≡ (S.facts source.old.store).failures) }
         ensures still { IsStill (S.facts source.old.store) (S.facts source.new.store) result }
         ensures refused { IfErr result (λ e. RefusesTable e (S.facts source.old.store) (S.facts source.new.store) number
@@ -210,7 +210,7 @@ impl<K: KeyOrder, S: Store> Cursor<K, Tables<K, S>> for TableCursor<K> {
     ghost use Rattle.std.specs.Prelude.{◌≡◌};
     ghost use Rattle.table_access.specs.TableLaws.{carries_both, carries_itself, carries_more, lists_kept};
     ghost use Rattle.table_access.specs.TableLaws.{placed_in, table_onward, table_still};
-    ghost use Rattle.table_access.specs.TablePlaces.{KeepsTable, ListsTable};
+    ghost use Rattle.table_access.specs.TablePlaces.{KeepsSeenTable, ListsTable};
     ghost use Rattle.table_access.specs.Tables.{Carries, seen_through};
     ghost use Rattle.table.specs.Frame.{AnyLong, handles};
 
@@ -218,7 +218,7 @@ impl<K: KeyOrder, S: Store> Cursor<K, Tables<K, S>> for TableCursor<K> {
 
     ghost lists = { λ cursor source at. ListsTable K.cmp (seen_through S.facts source) cursor.number cursor.table.value.frame cursor.here at };
 
-    ghost keeps = { λ cursor old new. KeepsTable K.cmp cursor.number (seen_through S.facts old) (seen_through S.facts new) };
+    ghost keeps = { λ cursor old new. KeepsSeenTable K.cmp cursor.number (seen_through S.facts old) (seen_through S.facts new) };
 
     ghost stands = { λ cursor. block_stands cursor.here };
 

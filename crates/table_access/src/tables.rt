@@ -29,7 +29,7 @@ impl<K: KeyOrder, S: Store> Tables<K, S> {
     ghost use Rattle.std.specs.NonZero.{non_zero_usize_get};
     ghost use Rattle.cache.specs.Blocks.{answer_of};
     ghost use Rattle.cache.specs.Tables.{HitsTable, RefusesTable, kept_table_at, table_answer_of};
-    ghost use Rattle.table_access.specs.Tables.{Carries, HasTable, IsBlockDamaged, IsBlockUnsupported, IsOpen};
+    ghost use Rattle.table_access.specs.Tables.{Carries, HasSoundTable, IsBlockDamaged, IsBlockUnsupported, IsOpenFrame};
     ghost use Rattle.table_access.specs.Tables.{Knows, Only, SaysOf, open_tables, seen_through};
     ghost use Rattle.table.specs.Reading.{HasFile};
     ghost use Rattle.table.specs.Refusals.{IsFrameDamaged, IsFrameUnsupported};
@@ -83,7 +83,7 @@ impl<K: KeyOrder, S: Store> Tables<K, S> {
         requires { 0 < number }
         ensures carries { Carries K.cmp (Only number) (seen_through S.facts self.old) (seen_through S.facts self.new) }
         ensures found { IfOk (table_answer_of result) (λ table. SaysOf K.cmp (seen_through S.facts self.old) (seen_through S.facts self.new)
-            number (λ file. HasFile (S.facts self.new.store) table.name file × IsOpen K.cmp file table.frame)) }
+            number (λ file. HasFile (S.facts self.new.store) table.name file × IsOpenFrame K.cmp file table.frame)) }
         // Where the table is kept it is answered, and the store isn't asked.
         ensures hit { IfSome (kept_table_at self.old.tables.tables number)
             (λ table. HitsTable table (table_answer_of result) × (self.new.store ≡ self.old.store)) }
@@ -110,8 +110,8 @@ impl<K: KeyOrder, S: Store> Tables<K, S> {
         ensures stood { OnOk result ((S.facts self.new.store).failures ≡ (S.facts self.old.store).failures) }
         // What it says of a table that the store has, it says where what is kept is right.
         ensures refused { IfErr (answer_of result) (λ e. RefusesTable e (S.facts self.old.store) (S.facts self.new.store) number
-            (λ file. HasTable K.cmp (seen_through S.facts self.old) number file → IsBlockDamaged K.cmp handle file)
-            (λ file. HasTable K.cmp (seen_through S.facts self.old) number file → IsBlockUnsupported handle file)) }
+            (λ file. HasSoundTable K.cmp (seen_through S.facts self.old) number file → IsBlockDamaged K.cmp handle file)
+            (λ file. HasSoundTable K.cmp (seen_through S.facts self.old) number file → IsBlockUnsupported handle file)) }
     {
         let table = self.get_table(alloc, number)?;
         self.blocks

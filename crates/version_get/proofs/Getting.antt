@@ -12,19 +12,19 @@ use Rattle.ikey.specs.Entries.{entry_of}
 use Rattle.ikey.specs.Keys.{IsFirstKey}
 use Rattle.ikey.specs.Orders.{Order}
 use Rattle.ikey.specs.Sources.{IsAnswer}
-use Rattle.recover.specs.Checks.{content_of}
+use Rattle.recover.specs.internal.Checks.{content_of}
 use Rattle.recover.specs.Tables.{TableContent, HasTable, InTables}
 use Rattle.recover.proofs.Memberships.{one_of_tables}
 use Rattle.recover.proofs.NameScan.{in_cons, in_none}
-use Rattle.version_get.specs.Gets.{HasEntries, HasNoEntries, SaysOfTable, IsTooLong, IsOnlyTooLong, HasTablesOf, HasNoTablesOf, SaysOfAll, IsOneTooLong}
+use Rattle.version_get.specs.Gets.{TableHasEntries, TableHasNoEntries, SaysOfTable, IsTooLong, IsOnlyTooLong, HasTablesOf, HasNoTablesOf, SaysOfAll, IsOneTooLong}
 use Rattle.version_laws.specs.Laws.{IsSearchedUpTo, IsStep}
 use Rattle.version_laws.specs.Places.{HasVersion}
 use Rattle.version_laws.proofs.Walking.{step, found, ended}
-use Rattle.table_access.specs.Tables.{Seen, Carries, HasTable as HasFileOf, Only, SaysOf}
-use Rattle.table_access.specs.Values.{HasValue, IsLookUp, IsNoTable, IsPastLimit}
+use Rattle.table_access.specs.Tables.{Seen, Carries, HasSoundTable as HasFileOf, Only, SaysOf}
+use Rattle.table_access.specs.Values.{HasValue, IsLookUp, IsNoTable, IsTablePastLimit}
 use Rattle.table_access.specs.TableLaws.{carries_both, carries_itself, carries_more}
 use Rattle.cache.specs.Tables.{table_at}
-use Rattle.versions.specs.Keeping.{HasNumber}
+use Rattle.versions.specs.Levels.{HasNumber}
 use Rattle.versions.specs.Levels.{tables_at}
 use Rattle.versions.specs.Searches.{IsSearchedAt, IsSearchedNext, search_length}
 
@@ -35,7 +35,7 @@ answer_is entries key sequence None h = h
 answer_is entries key sequence (Some value) h = h
 
 module _ (order : Order) (old new : Seen) (placed : PlacedTable) where
-  file_of : (entries : List Entry) (has : HasEntries order old placed entries) → HasFileOf order.cmp old placed.table.number has.1.bytes
+  file_of : (entries : List Entry) (has : TableHasEntries order old placed entries) → HasFileOf order.cmp old placed.table.number has.1.bytes
   file_of entries has = record { sound = has.0; file_is = has.1.there }
 
   pub value_is : (key : List ℕ) (sequence : ℕ) (value : Option (Option (List ℕ))) → SaysOf order.cmp old new placed.table.number (λ file. HasValue order.cmp file key sequence value) → SaysOfTable order old new placed key sequence value
@@ -43,8 +43,8 @@ module _ (order : Order) (old new : Seen) (placed : PlacedTable) where
       let kept = has.1.spelled in
       subst (λ (es : List Entry). IsAnswer es sequence key value) (sym kept.2) (answer_is (map entry_of kept.0) key sequence value (says t has.1.bytes (file_of entries has) kept.0 kept.1))
 
-  pub not_table : (e : DbError) → Refuses e old.facts new.facts ((file : List ℕ) → HasFileOf order.cmp old placed.table.number file → IsNoTable order.cmp file) ((file : List ℕ) → HasFileOf order.cmp old placed.table.number file → IsPastLimit order.cmp file)
-      → Refuses e old.facts new.facts (HasNoEntries order old placed) (IsOnlyTooLong order old placed)
+  pub not_table : (e : DbError) → Refuses e old.facts new.facts ((file : List ℕ) → HasFileOf order.cmp old placed.table.number file → IsNoTable order.cmp file) ((file : List ℕ) → HasFileOf order.cmp old placed.table.number file → IsTablePastLimit order.cmp file)
+      → Refuses e old.facts new.facts (TableHasNoEntries order old placed) (IsOnlyTooLong order old placed)
   not_table OutOfMemory h = h
   not_table Io h = h
   not_table (Corrupt kind what) h = λ t entries has. h t has.1.bytes (file_of entries has) has.1.spelled.0 has.1.spelled.1
@@ -54,7 +54,7 @@ module _ (order : Order) (old new : Seen) (placed : PlacedTable) where
   ]
   not_table e h = absurd h
 
-  pub no_number : placed.table.number ≡ 0 → HasNoEntries order old placed
+  pub no_number : placed.table.number ≡ 0 → TableHasNoEntries order old placed
   no_number same entries has = let some = has.1.numbered.0 in omega (arith, some, same)
 
 -- ---- the tables of a version
@@ -137,7 +137,7 @@ module _ (order : Order) (o : IsTotalOrder order.cmp) (exact : IsAntisymmetric o
         let P : PlacedTable → Type 0 = λ p. HasTable order old.facts.files (content_of p c.0.entries) in
         subst P c.2 (one_of_tables order old.facts.files contents c.0 version.are c.1)
 
-    has_now : IsTrue now.facts.faithful → (contents : List TableContent) (has : HasTablesOf order old tables contents) → HasEntries order now placed (content_at contents has.1).0.entries
+    has_now : IsTrue now.facts.faithful → (contents : List TableContent) (has : HasTablesOf order old tables contents) → TableHasEntries order now placed (content_at contents has.1).0.entries
     has_now t contents has =
         let entries = (content_at contents has.1).0.entries in
         (sought.carries.sound t has.0, subst (λ files. HasTable order files (content_of placed entries)) (sym (sought.carries.reads.files t)) (has_old contents has.1))
@@ -180,7 +180,7 @@ module _ (order : Order) (o : IsTotalOrder order.cmp) (exact : IsAntisymmetric o
       is_none (Some value) stood e says = absurd (let t : false ≡ true = e in cc)
 
       -- the table isn't read
-      pub not_read : (e : DbError) → Refuses e now.facts new.facts (HasNoEntries order now placed) (IsOnlyTooLong order now placed) → Refuses e old.facts new.facts (HasNoTablesOf order old tables) (IsOneTooLong order old tables)
+      pub not_read : (e : DbError) → Refuses e now.facts new.facts (TableHasNoEntries order now placed) (IsOnlyTooLong order now placed) → Refuses e old.facts new.facts (HasNoTablesOf order old tables) (IsOneTooLong order old tables)
       not_read OutOfMemory h = tt
       not_read Io h = let f = sought.carries.reads.failures in omega (arith, f, h)
       not_read (Corrupt kind what) h = λ t contents has. let before = carries.reads.faithful t in h t (content_at contents has.1).0.entries (has_now before contents has)

@@ -5,33 +5,33 @@ use Rattle.edits.specs.declared.field.PlacedTable.{PlacedTable}
 use Rattle.ikey.specs.declared.entry.Entry.{Entry}
 use Rattle.ikey.specs.Orders.{Order}
 use Rattle.ikey.specs.Sources.{IsAnswer, joined}
-use Rattle.recover.specs.Checks.{content_of}
+use Rattle.recover.specs.internal.Checks.{content_of}
 use Rattle.recover.specs.Tables.{TableContent, HasTable, InTables}
 use Rattle.version_laws.specs.Places.{table_sources, HasVersion}
 use Rattle.table_access.specs.Tables.{Seen, IsSound}
-use Rattle.table_access.specs.Values.{IsPastLimit}
+use Rattle.table_access.specs.Values.{IsTablePastLimit}
 
 -- ---- one table
 
 -- what is kept is right, and the file of the table has these entries
-abbrev pub HasEntries : Order → Seen → PlacedTable → List Entry → Type 0
-HasEntries order source placed entries = IsSound order.cmp source × HasTable order source.facts.files (content_of placed entries)
+abbrev pub TableHasEntries : Order → Seen → PlacedTable → List Entry → Type 0
+TableHasEntries order source placed entries = IsSound order.cmp source × HasTable order source.facts.files (content_of placed entries)
 
 -- no entries are those of the table
-abbrev pub HasNoEntries : Order → Seen → PlacedTable → Type 0
-HasNoEntries order source placed = (entries : List Entry) → HasEntries order source placed entries → ⊥
+abbrev pub TableHasNoEntries : Order → Seen → PlacedTable → Type 0
+TableHasNoEntries order source placed = (entries : List Entry) → TableHasEntries order source placed entries → ⊥
 
 -- of a faithful store, this is what the table says of the key
 abbrev pub SaysOfTable : Order → Seen → Seen → PlacedTable → List ℕ → ℕ → Option (Option (List ℕ)) → Type 0
-SaysOfTable order old new placed key sequence value = IsTrue new.facts.faithful → (entries : List Entry) → HasEntries order old placed entries → IsAnswer entries sequence key value
+SaysOfTable order old new placed key sequence value = IsTrue new.facts.faithful → (entries : List Entry) → TableHasEntries order old placed entries → IsAnswer entries sequence key value
 
 -- the file of the table is past a limit of reading
 abbrev pub IsTooLong : Order → Seen → PlacedTable → Type 0
-IsTooLong order source placed = (file : List ℕ) × (table_at source.facts.files placed.table.number ≡ Some file) × IsPastLimit order.cmp file
+IsTooLong order source placed = (file : List ℕ) × (table_at source.facts.files placed.table.number ≡ Some file) × IsTablePastLimit order.cmp file
 
 -- it is, whatever entries the table has
 abbrev pub IsOnlyTooLong : Order → Seen → PlacedTable → Type 0
-IsOnlyTooLong order source placed = (entries : List Entry) → HasEntries order source placed entries → IsTooLong order source placed
+IsOnlyTooLong order source placed = (entries : List Entry) → TableHasEntries order source placed entries → IsTooLong order source placed
 
 -- ---- all tables of a version
 

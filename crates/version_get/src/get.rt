@@ -3,10 +3,10 @@
 ghost use Rattle.std.specs.Prelude.{◌≡◌, ◌<◌, ◌^◌, ◌+◌, length, IfOk, IfErr};
 ghost use Rattle.cursor.specs.Moves.{Refuses};
 ghost use Rattle.ikey.specs.Orders.{order_of};
-ghost use Rattle.version_get.specs.Gets.{HasNoEntries, HasNoTablesOf, IsOneTooLong, IsOnlyTooLong, SaysOfAll, SaysOfTable};
+ghost use Rattle.version_get.specs.Gets.{TableHasNoEntries, HasNoTablesOf, IsOneTooLong, IsOnlyTooLong, SaysOfAll, SaysOfTable};
 ghost use Rattle.table_access.specs.Tables.{Carries, Only, seen_through};
 ghost use Rattle.table.specs.Reading.{IsStill};
-ghost use Rattle.versions.specs.Keeping.{HasNumber};
+ghost use Rattle.versions.specs.Levels.{HasNumber};
 
 use coding::{Bytes, Damage, DbError, FileKind};
 use edits::{LEVELS, PlacedTable};
@@ -75,7 +75,7 @@ fn value_in_table<K: KeyOrder, S: Store>(
         placed.now key.now sequence value) }
     ensures still { IsStill (S.facts source.old.store) (S.facts source.new.store) result }
     ensures refused { IfErr result (λ e. Refuses e (S.facts source.old.store) (S.facts source.new.store)
-        (HasNoEntries (order_of K.name K.cmp) (seen_through S.facts source.old) placed.now)
+        (TableHasNoEntries (order_of K.name K.cmp) (seen_through S.facts source.old) placed.now)
         (IsOnlyTooLong (order_of K.name K.cmp) (seen_through S.facts source.old) placed.now)) }
 {
     let number = placed.table.number;

@@ -15,13 +15,13 @@ use Rattle.ikey.specs.Views.{Among, IsUnseen}
 use Rattle.ikey.proofs.SearchedSources as sources
 use Rattle.store.specs.Files.{Files}
 use Rattle.edits.specs.declared.field.PlacedTable.{PlacedTable}
-use Rattle.recover.specs.Checks.{content_of}
+use Rattle.recover.specs.internal.Checks.{content_of}
 use Rattle.recover.specs.Tables.{TableContent, HasTable, HasTables, internal_key}
 use Rattle.recover.proofs.OneMeaning.{same_table_content}
 use Rattle.recover.proofs.TableFacts.{key_is, fits_of}
 use Rattle.versions.specs.Levels.{tables_at}
 use Rattle.versions.specs.Ranges.{covers, is_up_to, user_of, first_user, last_user}
-use Rattle.versions.specs.Searches.{EndsBelow, IsFound, IsSearchedAt}
+use Rattle.versions.specs.Searches.{EndsBelow, IsTableFor, IsSearchedAt}
 use Rattle.versions.proofs.Keys.{user_of_key, up_refl, true_or_false}
 use Rattle.version_laws.specs.Laws.{SearchedLaw, AnsweredLaw, PassedLaw}
 use Rattle.version_laws.specs.Places.{contents_at, lists_of, table_sources, HasVersion}
@@ -222,7 +222,7 @@ answered order files tables contents user sequence key place placed entries answ
     let level = above + 1 in
     let own = contents_at level contents in
     let same : placed_of own ≡ tables_at level tables = placed_at level contents ∙ ap (λ (ps : List PlacedTable). tables_at level ps) v.placed in
-    let f = subst (λ (ps : List PlacedTable). IsFound order.cmp key ps placed) (sym same) h.3 in
+    let f = subst (λ (ps : List PlacedTable). IsTableFor order.cmp key ps placed) (sym same) h.3 in
     let one = split_at (EndsBelow order.cmp key) own f.0 f.1 f.4 in
     let c = one.1 in
     let here : c.placed ≡ placed = sym (one.4 placed) ∙ f.2 placed in
@@ -301,8 +301,8 @@ passed_level order files tables contents user sequence key place above o exact v
           let row = subst (λ (ts : List TableContent). AreInRow order (lists_of ts)) parted (v.rows level (omega arith)) in
           let mine = (has_front order files before c behind whole).1 in
           let here : placed_of (before ++ c ∷ behind) ≡ tables_at level tables = ap placed_of (sym parted) ∙ same in
-          let found : IsFound order.cmp key (tables_at level tables) c.placed =
-          subst (λ (ps : List PlacedTable). IsFound order.cmp key ps c.placed) here
+          let found : IsTableFor order.cmp key (tables_at level tables) c.placed =
+          subst (λ (ps : List PlacedTable). IsTableFor order.cmp key ps c.placed) here
           (length before, front_length before c behind, holds_front before c behind, f.5, within_front (EndsBelow order.cmp key) before c behind f.4) in
           let unseen : IsUnseen c.entries sequence user = elim (true_or_false (covers order.cmp c.placed (user_of key))) [
             | inl cover ↦ absurd (none c.placed (inr (above, few, e, found), cover))

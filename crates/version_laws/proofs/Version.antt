@@ -22,7 +22,7 @@ use Rattle.recover.proofs.Flushing.{kept_by}
 use Rattle.recover.proofs.Keeping.{keep_tables}
 use Rattle.recover.proofs.Memberships.{from_chosen, from_tabled, to_tabled, each_table, one_of_tables}
 use Rattle.recover.proofs.OneMeaning.{same_table_content}
-use Rattle.versions.specs.Levels.{IsBefore, IsFirstAt, AreInOrder}
+use Rattle.versions.specs.Levels.{StandsBefore, IsFirstAt, AreInOrder}
 use Rattle.version_laws.specs.Places.{contents_at, lists_of, table_sources, HasVersion}
 use Rattle.version_laws.specs.Laws.{VersionLaw, PartLaw, KeptLaw}
 use Rattle.version_laws.proofs.Orders.{placed_of, ForTwo, all_rec, for_two, two_placed, newer_levels, newer_numbers, apart_in, wholly_before}
@@ -150,14 +150,14 @@ module _ (order : Order) (files : Files) (d : Directory) (o : IsTotalOrder order
   first_below zero a b some is = absurd (omega (arith, some))
   first_below (suc n) a b some is = is
 
-  comes_before : (a b : TableContent) (level : ℕ) → InTables d.tables a → InTables d.tables b → 0 < level → a.placed.level ≡ level → b.placed.level ≡ level → IsBefore order.cmp a.placed b.placed → a.placed.table.number ≢ b.placed.table.number → ComesAllBefore order a.entries b.entries
+  comes_before : (a b : TableContent) (level : ℕ) → InTables d.tables a → InTables d.tables b → 0 < level → a.placed.level ≡ level → b.placed.level ≡ level → StandsBefore order.cmp a.placed b.placed → a.placed.table.number ≢ b.placed.table.number → ComesAllBefore order a.entries b.entries
   comes_before a b level i j some x y (inl lt) other = absurd (omega (arith, x, y, lt))
   comes_before a b level i j some x y (inr k) other =
       wholly_before order files a b o exact (has a i) (has b j) (apart_in order d.tables a b h.apart i j (x ∙ sym y) (omega (arith, some, x)) other)
       (first_below level a.placed b.placed some (subst (λ (n : ℕ). IsFirstAt order.cmp n a.placed b.placed) x k.1))
 
   front_row : (level : ℕ) (c : TableContent) (contents : List TableContent) → 0 < level → InTables d.tables c → c.placed.level ≡ level → ((x : TableContent) → InTables contents x → InTables d.tables x)
-      → AllByRecursion (λ (x : TableContent). IsBefore order.cmp c.placed x.placed) contents → AllByRecursion (λ (x : TableContent). c.placed.table.number ≢ x.placed.table.number) contents
+      → AllByRecursion (λ (x : TableContent). StandsBefore order.cmp c.placed x.placed) contents → AllByRecursion (λ (x : TableContent). c.placed.table.number ≢ x.placed.table.number) contents
       → AllByRecursion (ComesAllBefore order c.entries) (lists_of (contents_at level contents))
   front_row level c [] some i is all before other = tt
   front_row level c (x ∷ contents) some i is all before other = by (x.placed.level == level) refl (front_row level c contents some i is (λ y j. all y (inr j)) before.1 other.1)
@@ -167,7 +167,7 @@ module _ (order : Order) (files : Files) (d : Directory) (o : IsTotalOrder order
       by false at rest = rest
 
   rows_of : (level : ℕ) (contents : List TableContent) → 0 < level → ((x : TableContent) → InTables contents x → InTables d.tables x)
-      → ForTwo (λ (a b : TableContent). IsBefore order.cmp a.placed b.placed) contents → ForTwo (λ (a b : TableContent). a.placed.table.number ≢ b.placed.table.number) contents
+      → ForTwo (λ (a b : TableContent). StandsBefore order.cmp a.placed b.placed) contents → ForTwo (λ (a b : TableContent). a.placed.table.number ≢ b.placed.table.number) contents
       → AreInRow order (lists_of (contents_at level contents))
   rows_of level [] some all before other = tt
   rows_of level (c ∷ contents) some all before other = by (c.placed.level == level) refl (rows_of level contents some (λ y j. all y (inr j)) before.1 other.1)
@@ -178,16 +178,16 @@ module _ (order : Order) (files : Files) (d : Directory) (o : IsTotalOrder order
 
   -- ---- searched
 
-  newest_two : (contents : List TableContent) → ((x : TableContent) → InTables contents x → InTables d.tables x) → ForTwo (λ (a b : TableContent). IsBefore order.cmp a.placed b.placed) contents
+  newest_two : (contents : List TableContent) → ((x : TableContent) → InTables contents x → InTables d.tables x) → ForTwo (λ (a b : TableContent). StandsBefore order.cmp a.placed b.placed) contents
       → ForTwo (λ (a b : List Entry). IsNewerThan b a) (lists_of (contents_at 0 contents))
   newest_two [] all before = tt
   newest_two (c ∷ contents) all before = by (c.placed.level == 0) refl (newest_two contents (λ y j. all y (inr j)) before.1)
     where
-      front : (xs : List TableContent) → c.placed.level ≡ 0 → ((x : TableContent) → InTables xs x → InTables d.tables x) → AllByRecursion (λ (x : TableContent). IsBefore order.cmp c.placed x.placed) xs → AllByRecursion (λ (b : List Entry). IsNewerThan b c.entries) (lists_of (contents_at 0 xs))
+      front : (xs : List TableContent) → c.placed.level ≡ 0 → ((x : TableContent) → InTables xs x → InTables d.tables x) → AllByRecursion (λ (x : TableContent). StandsBefore order.cmp c.placed x.placed) xs → AllByRecursion (λ (b : List Entry). IsNewerThan b c.entries) (lists_of (contents_at 0 xs))
       front [] is all' g = tt
       front (x ∷ xs) is all' g = at_x (x.placed.level == 0) refl (front xs is (λ y j. all' y (inr j)) g.1)
         where
-          newer : x.placed.level ≡ 0 → IsBefore order.cmp c.placed x.placed → IsNewerThan x.entries c.entries
+          newer : x.placed.level ≡ 0 → StandsBefore order.cmp c.placed x.placed → IsNewerThan x.entries c.entries
           newer zero_x (inl lt) = absurd (omega (arith, lt, zero_x, is))
           newer zero_x (inr k) = newer_numbers order d.tables c x in_place h.apart (all c (inl refl)) (all' x (inl refl)) is zero_x (subst (λ (n : ℕ). IsFirstAt order.cmp n c.placed x.placed) is k.1)
 
@@ -262,7 +262,7 @@ version_of order files d some tables o exact h mine only every in_order =
     let g = gather some tables members in
     let contents = g.0 in
     let known : (c : TableContent) → InTables contents c → InTables d.tables c = λ c i. mine c (g.2 c i) in
-    let before = two_placed (λ (a b : PlacedTable). IsBefore order.cmp a b) contents (subst (λ (ps : List PlacedTable). ForTwo (λ (a b : PlacedTable). IsBefore order.cmp a b) ps) (sym g.1) (for_two (IsBefore order.cmp) tables in_order.places)) in
+    let before = two_placed (λ (a b : PlacedTable). StandsBefore order.cmp a b) contents (subst (λ (ps : List PlacedTable). ForTwo (λ (a b : PlacedTable). StandsBefore order.cmp a b) ps) (sym g.1) (for_two (StandsBefore order.cmp) tables in_order.places)) in
     let other = two_placed (λ (a b : PlacedTable). a.table.number ≢ b.table.number) contents
     (subst (λ (ps : List PlacedTable). ForTwo (λ (a b : PlacedTable). a.table.number ≢ b.table.number) ps) (sym g.1) (for_two (λ (a b : PlacedTable). a.table.number ≢ b.table.number) tables in_order.numbers)) in
     let again = tabled_again tables contents g.1 in_order.levels in (

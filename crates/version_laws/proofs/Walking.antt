@@ -10,7 +10,7 @@ use Rattle.ikey.proofs.SearchedSources as sources
 use Rattle.edits.specs.declared.field.PlacedTable.{PlacedTable}
 use Rattle.recover.specs.Tables.{TableContent}
 use Rattle.version_laws.specs.Places.{table_sources}
-use Rattle.version_laws.specs.Laws.{IsSearchedUpTo, IsStep, StepLaw, FoundLaw, EndLaw}
+use Rattle.version_laws.specs.Laws.{IsSearchedUpTo, IsStep, StepLaw, TableFoundLaw, EndLaw}
 use Rattle.version_laws.proofs.Levels.{answered, passed}
 
 -- ---- sources, of which those in front have nothing
@@ -48,7 +48,7 @@ step order files tables contents user sequence key from place placed entries s u
       (answered order files tables contents user sequence key place placed entries None s.total s.exact s.version s.sought s.next.here s.has unseen)
 ]
 
-pub found : FoundLaw
+pub found : TableFoundLaw
 found order files tables contents user sequence key from place placed entries value s h =
     answer_at (table_sources contents) place sequence user value s.version.searched (before_place order files tables contents user sequence key from place placed entries s)
     (answered order files tables contents user sequence key place placed entries (Some value) s.total s.exact s.version s.sought s.next.here s.has h)

@@ -10,13 +10,13 @@ use Rattle.ikey.specs.Sources.{joined, AreSearched, SameEntries, IsAnswer}
 use Rattle.ikey.specs.Views.{IsUnseen}
 use Rattle.store.specs.Files.{Files}
 use Rattle.edits.specs.declared.field.PlacedTable.{PlacedTable}
-use Rattle.versions.specs.Levels.{Lists, AreInOrder}
+use Rattle.versions.specs.Levels.{ListsSameTables, AreInOrder}
 use Rattle.versions.specs.Searches.{IsSearchedAt, IsSearchedNext}
-use Rattle.recover.specs.Changes.{AreParted}
+use Rattle.recover.specs.Replacing.{AreParted}
 use Rattle.recover.specs.Directory.{Directory, IsConsistent, entries_in}
 use Rattle.recover.specs.Logs.{LogContent, batch_entries, logged}
 use Rattle.recover.specs.Tables.{TableContent, HasTable, InTables, tabled, table_at}
-use Rattle.recover.specs.Checks.{content_of}
+use Rattle.recover.specs.internal.Checks.{content_of}
 use Rattle.version_laws.specs.Places.{table_sources, HasVersion}
 
 -- A table that is searched at a place is one of the version's.
@@ -60,8 +60,8 @@ StepLaw = (order : Order) (files : Files) (tables : List PlacedTable) (contents 
     → IsStep order files tables contents user sequence key from place placed entries → IsUnseen entries sequence user → IsSearchedUpTo contents user sequence (place + 1)
 
 -- Where it is seen, that is what all tables answer.
-abbrev pub FoundLaw : Type 0
-FoundLaw = (order : Order) (files : Files) (tables : List PlacedTable) (contents : List TableContent) (user : List ℕ) (sequence : ℕ) (key : List ℕ) (from place : ℕ) (placed : PlacedTable) (entries : List Entry) (value : Option (List ℕ))
+abbrev pub TableFoundLaw : Type 0
+TableFoundLaw = (order : Order) (files : Files) (tables : List PlacedTable) (contents : List TableContent) (user : List ℕ) (sequence : ℕ) (key : List ℕ) (from place : ℕ) (placed : PlacedTable) (entries : List Entry) (value : Option (List ℕ))
     → IsStep order files tables contents user sequence key from place placed entries → IsAnswer entries sequence user (Some value) → IsAnswer (joined (table_sources contents)) sequence user (Some value)
 
 -- Where no table is searched from a place on, the key is seen in none.
@@ -83,7 +83,7 @@ MemoryLaw = (order : Order) (files : Files) (d : Directory) (before : List LogCo
 -- A version that lists the tables of a consistent directory has them, with all their entries.
 abbrev pub VersionLaw : Type 0
 VersionLaw = (order : Order) (files : Files) (d : Directory) (tables : List PlacedTable) → IsTotalOrder order.cmp → IsAntisymmetric order.cmp
-    → IsConsistent order files d → Lists d.layout.tables.items tables → AreInOrder order.cmp tables
+    → IsConsistent order files d → ListsSameTables d.layout.tables.items tables → AreInOrder order.cmp tables
     → (contents : List TableContent) × HasVersion order files tables contents × SameEntries (joined (table_sources contents)) (tabled d.tables)
 
 -- So it is with a version of some of them alone, as the inputs of a compaction.

@@ -1,6 +1,6 @@
 //! What a search by places tells of the sources.
 
-ghost use Rattle.version_laws.specs.Laws.{SearchedLaw, AnsweredLaw, PassedLaw, StepLaw, FoundLaw, EndLaw, MemoryLaw, VersionLaw, PartLaw, KeptLaw};
+ghost use Rattle.version_laws.specs.Laws.{SearchedLaw, AnsweredLaw, PassedLaw, StepLaw, TableFoundLaw, EndLaw, MemoryLaw, VersionLaw, PartLaw, KeptLaw};
 
 /// Law: a table that is searched at a place is one of the version's.
 pub fn searched_table()
@@ -24,7 +24,7 @@ pub fn goes_on()
 
 /// Law: the first table in which the key is seen answers for all.
 pub fn is_found()
-    ensures { FoundLaw }
+    ensures { TableFoundLaw }
 {}
 
 /// Law: a search that ends has seen the key in none.

@@ -1,5 +1,5 @@
 use Rattle.std.proofs.Common.{◌≡◌, ◌+◌, ◌++◌, suc, length, map, refl, sym, ap, ◌∙◌, arith, append-nil}
-use Rattle.db_cursor.specs.Rows.{below, range_kept, spot_of, spots_of}
+use Rattle.db_cursor.specs.internal.Rows.{below, range_kept, spot_of, spots_of}
 use Rattle.versions.specs.Levels.{Placement, tables_at}
 use Rattle.db_cursor.proofs.Ranges.{below_first, below_next, level_added, level_within}
 use Rattle.db_cursor.proofs.beginning.add_levels.Goals as goal

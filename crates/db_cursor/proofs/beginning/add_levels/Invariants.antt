@@ -1,5 +1,5 @@
 use Rattle.std.proofs.Common.{◌≡◌, ◌≤◌, ◌++◌, ◌-◌, ℕ, suc, map}
-use Rattle.db_cursor.specs.Rows.{below, deeper_ranges, spot_of, spots_of}
+use Rattle.db_cursor.specs.internal.Rows.{below, deeper_ranges, spot_of, spots_of}
 use Rattle.db_cursor.proofs.beginning.add_levels.Given as goal
 
 abbrev pub invariant-loop-level : goal.invariant-loop-level

@@ -1,5 +1,5 @@
 use Rattle.std.proofs.Common.{◌≡◌, ◌-◌, ◌++◌, ℕ, suc, List, map, ap, ◌∙◌, arith}
-use Rattle.db_cursor.specs.Rows.{newest_ranges, spot_of, spots_of, Spot}
+use Rattle.db_cursor.specs.internal.Rows.{newest_ranges, spot_of, spots_of, Spot}
 use Rattle.db_cursor.proofs.Ranges.{level_fits, newest_left}
 use Rattle.db_cursor.proofs.beginning.add_newest.Goals as goal
 

@@ -1,5 +1,5 @@
 use Rattle.std.proofs.Common.{◌≡◌, ◌≤◌, ◌++◌, length, map}
-use Rattle.db_cursor.specs.Rows.{newest_ranges, spot_of, spots_of}
+use Rattle.db_cursor.specs.internal.Rows.{newest_ranges, spot_of, spots_of}
 use Rattle.versions.specs.Levels.{tables_at}
 use Rattle.db_cursor.proofs.beginning.add_newest.Given as goal
 

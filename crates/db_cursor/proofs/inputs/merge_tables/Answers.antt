@@ -1,6 +1,6 @@
 use Rattle.std.proofs.Common.{◌≡◌, [], map, ap, ◌∙◌, subst}
 use Rattle.ikey.specs.Orders.{order_of}
-use Rattle.db_cursor.specs.Rows.{spot_of, spots_of}
+use Rattle.db_cursor.specs.internal.Rows.{spot_of, spots_of}
 use Rattle.db_cursor.proofs.NewScans.{cursors_of}
 use Rattle.db_cursor.proofs.Slices.{all_ranges, spots_together}
 use Rattle.db_cursor.proofs.TableMerges.{begins_merge, merge_over, merge_reads_none}

@@ -1,12 +1,11 @@
-use Rattle.std.proofs.Common.{Err, sym, subst}
+use Rattle.std.proofs.Common.{Err, sym, subst, string_bytes}
 use Rattle.ikey.specs.Orders.{order_of}
 use Rattle.edits.specs.Names.{name_of}
 use Rattle.edits.specs.declared.names.FileName.TheVariants.{Table}
-use Rattle.directory_writes.specs.Flush.{FlushLeaves}
+use Rattle.directory_writes.specs.internal.Flush.{FlushLeaves}
 use Rattle.directory_writes.specs.declared.flush.FlushError.{FlushError}
 use Rattle.directory_writes.proofs.Flushes.{touches_table, touches_both, syncs_both, leaves_none, leaves_ok, leaves_maybe}
 use Rattle.directory_writes.proofs.flush.flush_memory.Goals as goal
-use Rattle.std.proofs.Common.{string_bytes}
 
 pub returns-in-Err-clause-call : goal.returns-in-Err-clause-call
 returns-in-Err-clause-call g c =

@@ -2,7 +2,7 @@ use Rattle.std.proofs.Common.{rules, ◌≡◌, List, ◌++◌, ◌∷◌, [], s
 use Rattle.edits.specs.Edit.{IsInOrder}
 use Rattle.edits.specs.Layout.{IsLayout}
 use Rattle.edits.specs.declared.field.Field.{Field}
-use Rattle.directory_writes.specs.FlushEdits.{flush_fields}
+use Rattle.directory_writes.specs.internal.FlushEdits.{flush_fields}
 use Rattle.directory_writes.proofs.FlushEdits.{is_in_order, after_flush}
 use Rattle.directory_writes.proofs.flush_edits.flush_edit.Goals as goal
 

@@ -1,6 +1,6 @@
 use Rattle.std.proofs.Common.{Err, string_bytes, sym, subst}
 use Rattle.ikey.specs.Orders.{order_of}
-use Rattle.directory_writes.specs.Install.{InstallLeaves}
+use Rattle.directory_writes.specs.internal.Install.{InstallLeaves}
 use Rattle.directory_writes.specs.declared.flush.FlushError.{FlushError}
 use Rattle.directory_writes.proofs.Installing.{touches_job, leaves_none, leaves_ok, leaves_maybe}
 use Rattle.directory_writes.proofs.install.install_job.Goals as goal

@@ -1,6 +1,6 @@
 use Rattle.std.proofs.Common.{◌≡◌, Err, Result, IfErr, sym, subst, rules}
 use Rattle.coding.specs.declared.error.DbError.{DbError}
-use Rattle.directory_writes.specs.Install.{RefusesEdit}
+use Rattle.directory_writes.specs.internal.Install.{RefusesEdit}
 use Rattle.directory_writes.proofs.Installing.{old_or_own, unversioned}
 use Rattle.directory_writes.proofs.Replacing.{replaced}
 use Rattle.directory_writes.proofs.install.prepare_job.Goals as goal

@@ -8,7 +8,7 @@ use Rattle.store.specs.Files.{Facts}
 use Rattle.table.proofs.Storing.{refuses_later}
 use Rattle.table.specs.Building.{Builds}
 use Rattle.table.specs.Writing.{NeedsLongBlock}
-use Rattle.directory_writes.specs.Level0.{IsTooLarge, pair_of}
+use Rattle.directory_writes.specs.internal.Level0.{IsTooLarge, pair_of}
 use Rattle.directory_writes.proofs.Filled.{none_added, among_at, may_follow, one_added, all_added, some_added, too_large, writes_by}
 use Rattle.directory_writes.proofs.level0.add_entries.Goals as goal
 

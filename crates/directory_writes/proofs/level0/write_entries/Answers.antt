@@ -5,7 +5,7 @@ use Rattle.memtable.specs.Order.{ordered}
 use Rattle.store.specs.Files.{Facts, Files}
 use Rattle.table.proofs.Storing.{refuses_later}
 use Rattle.table.specs.Writing.{NeedsLongEnds}
-use Rattle.directory_writes.specs.Level0.{IsTooLarge, pairs_of}
+use Rattle.directory_writes.specs.internal.Level0.{IsTooLarge, pairs_of}
 use Rattle.directory_writes.proofs.Filled.{writes_by, some_pairs}
 use Rattle.compact.proofs.Sizes.{long_ends}
 use Rattle.directory_writes.proofs.Sizes.{whole_room}

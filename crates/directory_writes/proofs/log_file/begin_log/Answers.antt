@@ -4,8 +4,8 @@ use Rattle.coding.specs.declared.error.DbError.{DbError}
 use Rattle.coding.specs.declared.error.DbError.TheVariants.{OutOfMemory}
 use Rattle.edits.specs.Names.{name_of, IsNumbered}
 use Rattle.edits.specs.declared.names.FileName.TheVariants.{Log}
-use Rattle.directory_writes.specs.Calls.{Creates}
-use Rattle.directory_writes.specs.LogFile.{BeginsLog}
+use Rattle.directory_writes.specs.internal.Calls.{Creates}
+use Rattle.directory_writes.specs.internal.LogFile.{BeginsLog}
 use Rattle.directory_writes.proofs.NewLogFiles.{begins, maybe_made}
 use Rattle.directory_writes.proofs.log_file.begin_log.Goals as goal
 

@@ -1,8 +1,8 @@
 use Rattle.std.proofs.Common.{◌≡◌, ◌+◌, ℕ, List, length, Result, Ok, Err, sym, subst, string_bytes, arith, rules}
 use Rattle.coding.specs.declared.error.DbError.{DbError}
 use Rattle.edits.specs.Edit.{IsEdit}
-use Rattle.directory_writes.specs.Calls.{AppendsSynced}
-use Rattle.directory_writes.specs.Manifest.{AppendsEdit}
+use Rattle.directory_writes.specs.internal.Calls.{AppendsSynced}
+use Rattle.directory_writes.specs.internal.Manifest.{AppendsEdit}
 use Rattle.directory_writes.proofs.EditSteps.{edit_done, edit_refused}
 use Rattle.directory_writes.proofs.manifest.append_edit.Goals as goal
 

@@ -1,6 +1,6 @@
 use Rattle.std.proofs.Common.{◌∷◌, ◌++◌, [], ℕ, List, sym, subst, ◌∙◌}
 use Rattle.edits.specs.declared.names.FileName.TheVariants.{OldTable}
-use Rattle.directory_writes.specs.Removal.{AreOlder}
+use Rattle.directory_writes.specs.internal.Removal.{AreOlder}
 use Rattle.directory_writes.proofs.Cleaning.{other_name, no_older, older_name}
 use Rattle.directory_writes.proofs.removal.push_older.Goals as goal
 

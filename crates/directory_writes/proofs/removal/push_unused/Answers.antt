@@ -1,6 +1,6 @@
 use Rattle.std.proofs.Common.{◌∷◌, ◌++◌, [], ℕ, List, inl, inr, sym, subst, ◌∙◌}
 use Rattle.edits.specs.declared.names.FileName.TheVariants.{Table, OldTable}
-use Rattle.directory_writes.specs.Removal.{AreUnused}
+use Rattle.directory_writes.specs.internal.Removal.{AreUnused}
 use Rattle.directory_writes.proofs.Cleaning.{no_table, unused_more, unused_same, used_table}
 use Rattle.directory_writes.proofs.removal.push_unused.Goals as goal
 

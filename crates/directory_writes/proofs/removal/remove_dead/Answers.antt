@@ -1,8 +1,10 @@
 use Rattle.std.proofs.Common.{ℕ, inl, inr, sym, ◌∙◌}
 use Rattle.std.specs.Prelude.{Contains}
 use Rattle.edits.specs.declared.names.FileName.{FileName}
-use Rattle.directory_writes.specs.Removal.{IsLeft, IsLiveFile}
+use Rattle.directory_writes.specs.internal.Removal.{IsLeft}
+use Rattle.directory_writes.specs.Removal.{IsLiveFile}
 use Rattle.directory_writes.proofs.Cleaning.{asked, live_stays, other_turn, this_turn}
+use Rattle.directory_writes.proofs.FewLeft.{few_asked, few_live, few_other}
 use Rattle.directory_writes.proofs.removal.remove_dead.Goals as goal
 
 pub returns-then-is_live-clause-removes : goal.returns-then-is_live-clause-removes
@@ -37,3 +39,28 @@ returns-clause-removes g c =
       ],
     )
     c.remove.ensures.counts c.remove.ensures.files c.remove.ensures.synced c.remove.ensures.missing c.remove.ensures.memory)
+
+pub returns-then-is_live-clause-few : goal.returns-then-is_live-clause-few
+returns-then-is_live-clause-few g c =
+    let live : FileName → Type 0 = IsLiveFile c.args.numbers.now (g.L.LiveTables.has c.args.live.now) in
+    let has : ℕ → Type 0 = λ n. Contains c.args.older.now n in
+    few_live (g.S.Store.facts c.args.store.now) (IsLeft live has c.args.last) c.args.name.now (returns-then-is_live-clause-removes g c)
+
+pub returns-then-has_two-last-clause-few : goal.returns-then-has_two-last-clause-few
+returns-then-has_two-last-clause-few g c =
+    let live : FileName → Type 0 = IsLiveFile c.args.numbers.now (g.L.LiveTables.has c.args.live.now) in
+    let has : ℕ → Type 0 = λ n. Contains c.args.older.now n in
+    few_live (g.S.Store.facts c.args.store.now) (IsLeft live has c.args.last) c.args.name.now (returns-then-has_two-last-clause-removes g c)
+
+pub returns-clause-few : goal.returns-clause-few
+returns-clause-few g c =
+    let live : FileName → Type 0 = IsLiveFile c.args.numbers.now (g.L.LiveTables.has c.args.live.now) in
+    let has : ℕ → Type 0 = λ n. Contains c.args.older.now n in
+    few_asked (g.S.Store.facts c.args.store.now) (g.S.Store.facts c.remove.new.self) (IsLeft live has c.args.last) c.args.name.now
+    c.is_ok.result c.remove.result c.remove.ensures.counts c.is_ok.ensures.value c.remove.ensures.missing c.remove.ensures.memory (returns-clause-removes g c)
+
+pub returns-in_default-clause-few : goal.returns-in_default-clause-few
+returns-in_default-clause-few g c =
+    let live : FileName → Type 0 = IsLiveFile c.args.numbers.now (g.L.LiveTables.has c.args.live.now) in
+    let has : ℕ → Type 0 = λ n. Contains c.args.older.now n in
+    few_other (g.S.Store.facts c.args.store.now) (IsLeft live has c.args.last) c.args.name.now (λ file is e. c.in_default.ensures.none file is (c.as_bytes.ensures.value ∙ e))

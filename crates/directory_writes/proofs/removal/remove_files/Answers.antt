@@ -1,11 +1,14 @@
 use Rattle.std.proofs.Common.{ℕ, List, String, IsTrue, map, subst, sym, string_bytes}
+use Rattle.std.specs.Prelude.{Contains}
 use Rattle.std.specs.declared.alloc.Global.{Global}
 use Rattle.coding.specs.declared.error.DbError.TheVariants.{OutOfMemory}
 use Rattle.store.specs.Files.{Files, Lists}
 use Rattle.edits.specs.Names.{IsNumbered}
 use Rattle.edits.specs.declared.names.FileName.{FileName}
-use Rattle.directory_writes.specs.Removal.{AreOlder, AreUnused, IsLiveFile, KeepsTable, Removes}
+use Rattle.directory_writes.specs.internal.Removal.{AreOlder, AreUnused, HasTwo, KeepsTable, LeavesFew, RemovesNamed}
+use Rattle.directory_writes.specs.Removal.{IsLiveFile}
 use Rattle.directory_writes.proofs.Cleaning.{lists_unused, removes_all, removes_refused, table_from, table_kept}
+use Rattle.directory_writes.proofs.FewLeft.{Among, few_all}
 use Rattle.directory_writes.proofs.Meaning.{keeps_meaning}
 use Rattle.directory_writes.proofs.removal.remove_files.Goals as goal
 
@@ -51,7 +54,7 @@ returns-clause-removes g c =
     let old = g.S.Store.facts c.args.store.now in
     let mid = g.S.Store.facts c.list_names.new.store in
     let new = g.S.Store.facts c.remove_listed-complete.new.store in
-    let N : List (String Global) → Type 0 = λ ns. Removes mid new live (map string_bytes ns) c.remove_listed-complete.result in
+    let N : List (String Global) → Type 0 = λ ns. RemovesNamed mid new live (map string_bytes ns) c.remove_listed-complete.result in
     removes_all live old mid new (map string_bytes c.in_ok-names.names.items) (record { complete = c.remove_listed-complete.result; tables = c.in_ok-tables.tables })
     c.in_ok-names.ensures.names c.in_ok-names.ensures.store.same c.in_ok-names.ensures.store.synced c.in_ok-names.ensures.counted
     c.remove_listed-complete.ensures.call (subst N c.deref-3.ensures.value c.remove_listed-complete.ensures.removes)
@@ -84,3 +87,18 @@ returns-clause-tables g c f n num =
 pub returns-clause-meaning : goal.returns-clause-meaning
 returns-clause-meaning g c =
     keeps_meaning c.args.numbers.now (g.L.LiveTables.has c.args.live.now) (g.S.Store.facts c.args.store.now) (g.S.Store.facts c.remove_listed-complete.new.store) _ (returns-clause-removes g c) c.free_change_law.ensures
+
+pub returns-clause-few : goal.returns-clause-few
+returns-clause-few g c =
+    let live : FileName → Type 0 = IsLiveFile c.args.numbers.now (g.L.LiveTables.has c.args.live.now) in
+    let old = g.S.Store.facts c.args.store.now in
+    let mid = g.S.Store.facts c.list_names.new.store in
+    let new = g.S.Store.facts c.remove_listed-complete.new.store in
+    let names = c.in_ok-names.names.items in
+    let older = c.in_ok-older.older.items in
+    let O : List (String Global) → Type 0 = λ ns. AreOlder (map string_bytes ns) older in
+    let W : List ℕ → Type 0 = λ ws. LeavesFew mid new live (HasTwo (λ n. Contains ws n)) (Among (map string_bytes names)) in
+    let N : List (String Global) → Type 0 = λ ns. LeavesFew mid new live (HasTwo (λ n. Contains c.deref-4.result.now n)) (Among (map string_bytes ns)) in
+    few_all live old mid new (map string_bytes names) older c.in_ok-names.ensures.names c.in_ok-names.ensures.counted
+    (subst O c.deref.ensures.value c.in_ok-older.ensures) c.remove_listed-complete.ensures.call
+    (subst W c.deref-4.ensures.value (subst N c.deref-3.ensures.value c.remove_listed-complete.ensures.few))

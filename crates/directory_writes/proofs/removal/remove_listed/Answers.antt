@@ -3,6 +3,7 @@ use Rattle.std.specs.Prelude.{Contains}
 use Rattle.edits.specs.declared.names.FileName.{FileName}
 use Rattle.directory_writes.specs.Removal.{IsLiveFile}
 use Rattle.directory_writes.proofs.Cleaning.{both_turns, first_turn, table_both, table_first}
+use Rattle.directory_writes.proofs.FewLeft.{few_both, few_first}
 use Rattle.directory_writes.proofs.removal.remove_listed.Goals as goal
 
 pub returns-then-not-remove_turn-clause-removes : goal.returns-then-not-remove_turn-clause-removes
@@ -30,3 +31,15 @@ returns-clause-tables g c are lists f n num =
     let removes = returns-clause-removes g c in
     table_both c.args.numbers.now (g.L.LiveTables.has c.args.live.now) (map string_bytes c.args.names.now) c.args.older.now n num old mid new
     c.remove_turn-2.ensures.call c.remove_turn.result c.remove_turn-2.result c.if-not-remove_turn.false c.remove_turn.ensures.removes c.remove_turn-2.ensures.removes removes.files lists f
+
+pub returns-then-not-remove_turn-clause-few : goal.returns-then-not-remove_turn-clause-few
+returns-then-not-remove_turn-clause-few g c =
+    let live : FileName → Type 0 = IsLiveFile c.args.numbers.now (g.L.LiveTables.has c.args.live.now) in
+    few_first live (λ n. Contains c.args.older.now n) (g.S.Store.facts c.args.store.now) (g.S.Store.facts c.remove_turn.new.store) (map string_bytes c.args.names.now) c.remove_turn.result
+    c.if-not-remove_turn.true c.remove_turn.ensures.call c.remove_turn.ensures.removes c.remove_turn.ensures.few
+
+pub returns-clause-few : goal.returns-clause-few
+returns-clause-few g c =
+    let live : FileName → Type 0 = IsLiveFile c.args.numbers.now (g.L.LiveTables.has c.args.live.now) in
+    few_both live (λ n. Contains c.args.older.now n) (g.S.Store.facts c.args.store.now) (g.S.Store.facts c.remove_turn.new.store) (g.S.Store.facts c.remove_turn-2.new.store) (map string_bytes c.args.names.now)
+    c.remove_turn-2.result c.remove_turn.ensures.call c.remove_turn-2.ensures.call c.remove_turn.ensures.few c.remove_turn-2.ensures.few c.remove_turn-2.ensures.removes

@@ -1,11 +1,14 @@
 use Rattle.std.proofs.Common.{take, map, string_bytes}
 use Rattle.std.specs.Prelude.{Contains}
-use Rattle.directory_writes.specs.Calls.{Touches}
-use Rattle.directory_writes.specs.Removal.{IsLeft, IsLiveFile, Removes}
+use Rattle.directory_writes.specs.internal.Calls.{Touches}
+use Rattle.directory_writes.specs.internal.Removal.{IsLeft, LeavesFew, RemovesNamed}
+use Rattle.directory_writes.specs.Removal.{IsLiveFile}
+use Rattle.directory_writes.proofs.FewLeft.{Among, NoneWaits}
 use Rattle.directory_writes.proofs.removal.remove_turn.Given as goal
 
 abbrev pub invariant-loop-name : goal.invariant-loop-name
 invariant-loop-name g l = record {
   call : Touches (g.S.Store.facts l.fn.store) (g.S.Store.facts l.store);
-  removes : Removes (g.S.Store.facts l.fn.store) (g.S.Store.facts l.store) (IsLeft (IsLiveFile l.numbers (g.L.LiveTables.has l.live)) (λ n. Contains l.older n) l.last) (map string_bytes (take l.name-index l.names)) l.gone;
+  removes : RemovesNamed (g.S.Store.facts l.fn.store) (g.S.Store.facts l.store) (IsLeft (IsLiveFile l.numbers (g.L.LiveTables.has l.live)) (λ n. Contains l.older n) l.last) (map string_bytes (take l.name-index l.names)) l.gone;
+  few : LeavesFew (g.S.Store.facts l.fn.store) (g.S.Store.facts l.store) (IsLeft (IsLiveFile l.numbers (g.L.LiveTables.has l.live)) (λ n. Contains l.older n) l.last) NoneWaits (Among (map string_bytes (take l.name-index l.names)));
 }

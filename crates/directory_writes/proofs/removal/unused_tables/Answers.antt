@@ -1,7 +1,7 @@
 use Rattle.std.proofs.Common.{ℕ, List, [], String, map, take, sym, subst, string_bytes}
 use Rattle.std.specs.declared.alloc.Global.{Global}
 use Rattle.std.proofs.lemmas.List.{take_all}
-use Rattle.directory_writes.specs.Removal.{AreUnused}
+use Rattle.directory_writes.specs.internal.Removal.{AreUnused}
 use Rattle.directory_writes.proofs.Cleaning.{none_unused, names_more}
 use Rattle.directory_writes.proofs.removal.unused_tables.Goals as goal
 

@@ -1,5 +1,5 @@
 use Rattle.std.proofs.Common.{take, map, string_bytes}
-use Rattle.directory_writes.specs.Removal.{AreUnused}
+use Rattle.directory_writes.specs.internal.Removal.{AreUnused}
 use Rattle.directory_writes.proofs.removal.unused_tables.Given as goal
 
 abbrev pub invariant-loop-name : goal.invariant-loop-name

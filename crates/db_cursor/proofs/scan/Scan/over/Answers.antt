@@ -3,8 +3,9 @@ use Rattle.std.specs.List.{AllByRecursion}
 use Rattle.cursor.specs.declared.child.Side.TheVariants.{Astray}
 use Rattle.edits.specs.declared.field.PlacedTable.{PlacedTable}
 use Rattle.ikey.specs.Orders.{order_of}
-use Rattle.level_cursor.specs.InRows.{HasNumber}
-use Rattle.db_cursor.specs.Rows.{IsOneOf, memory_spots, spot_of, spots_of}
+use Rattle.level_cursor.specs.InRows.{ListsNumber}
+use Rattle.db_cursor.specs.Rows.{IsGenerationOf}
+use Rattle.db_cursor.specs.internal.Rows.{memory_spots, spot_of, spots_of}
 use Rattle.db_cursor.specs.Whole.{whole}
 use Rattle.db_cursor.proofs.FirstPlaces.{begins_scan}
 use Rattle.db_cursor.proofs.NewScans.{all_new, all_over, cursors_of}
@@ -51,10 +52,10 @@ returns-clause-within g c = λ number reads.
     let tables = c.args.version.now.value.tables in
     let same : c.in_ok-clone.field-0.value.tables ≡ tables = ap (λ (v : Placement). v.tables) c.in_ok-clone.ensures.cases in
     elim reads [
-      | inl has ↦ subst (λ (ts : List PlacedTable). HasNumber ts number) same has
+      | inl has ↦ subst (λ (ts : List PlacedTable). ListsNumber ts number) same has
       | inr over ↦
           let memory = c.args.source.now.memory in
           let children = c.new-2.result.cursor.children.items in
-          all_over (IsOneOf memory.generation memory.sealed) c.min-sequence.result tables children
+          all_over (IsGenerationOf memory.generation memory.sealed) c.min-sequence.result tables children
           (all_new memory.generation memory.sealed c.min-sequence.result tables (all_ranges tables) (cursors_of children) (spots_are g c)) number over
     ]

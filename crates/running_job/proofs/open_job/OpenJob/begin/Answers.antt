@@ -1,4 +1,4 @@
-use Rattle.std.proofs.Common.{refl, sym, ap, subst}
+use Rattle.std.proofs.Common.{refl, sym, ap, subst, None}
 use Rattle.std.proofs.lemmas.Result.{err_from_is_err_and}
 use Rattle.compact.specs.Deeper.{is_covered_below}
 use Rattle.cursor.specs.Merging.{listed}
@@ -6,10 +6,9 @@ use Rattle.ikey.specs.Orders.{order_of}
 use Rattle.running_job.proofs.Begun.{apart_before, begun, nameable, none_over, ready, refuses_begin}
 use Rattle.running_job.proofs.Read.{read_lists}
 use Rattle.running_job.proofs.open_job.OpenJob.begin.Goals as goal
-use Rattle.level_cursor.specs.InRows.{HasNumber}
-use Rattle.db_cursor.specs.SourceLaws.{source_left_more}
+use Rattle.level_cursor.specs.InRows.{ListsNumber}
+use Rattle.db_cursor.specs.internal.SourceLaws.{source_left_more}
 use Rattle.db_cursor.specs.Whole.{whole}
-use Rattle.std.proofs.Common.{None}
 use Rattle.versions.specs.declared.plan.JobPlan.{JobPlan}
 use Rattle.versions.specs.Levels.{AreInOrder, Placement}
 
@@ -28,7 +27,7 @@ pub returns-clause-version : goal.returns-clause-version
 returns-clause-version g c = c.in_ok-version.ensures.cases
 
 pub returns-clause-over : goal.returns-clause-over
-returns-clause-over g c = λ n over. subst (λ (q : JobPlan). HasNumber q.inputs.items n) (sym c.in_ok-job.ensures.plan) (c.in_ok-cursor.ensures.over n (c.in_ok-job.ensures.within n over))
+returns-clause-over g c = λ n over. subst (λ (q : JobPlan). ListsNumber q.inputs.items n) (sym c.in_ok-job.ensures.plan) (c.in_ok-cursor.ensures.over n (c.in_ok-job.ensures.within n over))
 
 pub returns-clause-begins : goal.returns-clause-begins
 returns-clause-begins g c = λ t next d can.

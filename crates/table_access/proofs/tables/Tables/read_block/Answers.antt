@@ -1,6 +1,6 @@
 use Rattle.std.proofs.Common.{refl, sym, subst}
 use Rattle.std.proofs.lemmas.Result.{err_from_is_err_and}
-use Rattle.table_access.specs.Tables.{seen, SaysOf, IsOpen}
+use Rattle.table_access.specs.Tables.{seen, SaysOf, IsOpenFrame}
 use Rattle.table.specs.Frame.{Opened}
 use Rattle.table.specs.Reading.{HasFile}
 use Rattle.table_access.proofs.Carrying.{reads_both}
@@ -20,7 +20,7 @@ returns-clause-carries g c =
     let old = seen (g.S.Store.facts c.args.self.now.store) c.args.self.now.tables c.args.self.now.blocks in
     let mid = seen (g.S.Store.facts c.get_table.new.self.store) c.get_table.new.self.tables c.get_table.new.self.blocks in
     let new = seen (g.S.Store.facts c.read_block.new.store) c.get_table.new.self.tables c.read_block.new.self in
-    let says = subst (λ (table : Opened). SaysOf g.K.KeyOrder.cmp old mid c.args.number (λ file. HasFile mid.facts table.name file × IsOpen g.K.KeyOrder.cmp file table.frame)) (sym c.deref.ensures) c.in_ok-table.ensures.found in
+    let says = subst (λ (table : Opened). SaysOf g.K.KeyOrder.cmp old mid c.args.number (λ file. HasFile mid.facts table.name file × IsOpenFrame g.K.KeyOrder.cmp file table.frame)) (sym c.deref.ensures) c.in_ok-table.ensures.found in
     record {
       reads = reads_both old.facts mid.facts new.facts c.get_table.ensures.carries.reads c.read_block.ensures.reads;
       sound = λ t h. carries_block g.K.KeyOrder.cmp old mid new c.args.number c.args.handle c.deref.result.now c.get_table.ensures.carries c.in_ok-table.ensures.stood c.read_block.ensures.reads says
@@ -35,7 +35,7 @@ returns-clause-found g c =
     let old = seen (g.S.Store.facts c.args.self.now.store) c.args.self.now.tables c.args.self.now.blocks in
     let mid = seen (g.S.Store.facts c.get_table.new.self.store) c.get_table.new.self.tables c.get_table.new.self.blocks in
     let new = seen (g.S.Store.facts c.read_block.new.store) c.get_table.new.self.tables c.read_block.new.self in
-    let says = subst (λ (table : Opened). SaysOf g.K.KeyOrder.cmp old mid c.args.number (λ file. HasFile mid.facts table.name file × IsOpen g.K.KeyOrder.cmp file table.frame)) (sym c.deref.ensures) c.in_ok-table.ensures.found in
+    let says = subst (λ (table : Opened). SaysOf g.K.KeyOrder.cmp old mid c.args.number (λ file. HasFile mid.facts table.name file × IsOpenFrame g.K.KeyOrder.cmp file table.frame)) (sym c.deref.ensures) c.in_ok-table.ensures.found in
     says_block g.K.KeyOrder.cmp old mid new c.args.number c.args.handle c.deref.result.now _ c.get_table.ensures.carries c.read_block.ensures.reads says c.read_block.ensures.found
 
 pub returns-clause-refused : goal.returns-clause-refused
@@ -43,5 +43,5 @@ returns-clause-refused g c =
     let old = seen (g.S.Store.facts c.args.self.now.store) c.args.self.now.tables c.args.self.now.blocks in
     let mid = seen (g.S.Store.facts c.get_table.new.self.store) c.get_table.new.self.tables c.get_table.new.self.blocks in
     let new = seen (g.S.Store.facts c.read_block.new.store) c.get_table.new.self.tables c.read_block.new.self in
-    let says = subst (λ (table : Opened). SaysOf g.K.KeyOrder.cmp old mid c.args.number (λ file. HasFile mid.facts table.name file × IsOpen g.K.KeyOrder.cmp file table.frame)) (sym c.deref.ensures) c.in_ok-table.ensures.found in
+    let says = subst (λ (table : Opened). SaysOf g.K.KeyOrder.cmp old mid c.args.number (λ file. HasFile mid.facts table.name file × IsOpenFrame g.K.KeyOrder.cmp file table.frame)) (sym c.deref.ensures) c.in_ok-table.ensures.found in
     no_block_of g.K.KeyOrder.cmp old mid new c.args.number c.args.handle c.deref.result.now c.get_table.ensures.carries c.in_ok-table.ensures.stood c.read_block.ensures.reads says _ c.read_block.ensures.refused

@@ -5,17 +5,13 @@ use Rattle.store.specs.Files.{Files, Facts}
 use Rattle.edits.specs.Layout.{is_used}
 use Rattle.edits.specs.Names.{IsNumbered}
 use Rattle.edits.specs.declared.field.Field.{Field}
-use Rattle.edits.specs.declared.field.PlacedTable.{PlacedTable}
 use Rattle.edits.specs.declared.layout.Layout.{Layout}
 use Rattle.recover.specs.Tables.{table_at}
 use Rattle.recover.specs.Directory.{Directory, IsConsistent, EndsAt}
-use Rattle.recover.specs.Changes.{ManifestEndsAt}
+use Rattle.recover.specs.internal.Changes.{ManifestEndsAt}
 use Rattle.recover.specs.Numbers.{IsFree}
-use Rattle.compact.specs.Outputs.{Written, AreNumbered, IsMineUpTo, IsOwn, WritesTables}
-
--- none of these tables has a number that is the job's
-abbrev pub OwnsNone : Written → List PlacedTable → Type 0
-OwnsNone w tables = (number : ℕ) → IsOwn w number → is_used number tables ≡ false
+use Rattle.compact.specs.Outputs.{TablesWritten, AreNumbered, IsMineUpTo, WritesTables}
+use Rattle.directory_writes.specs.Replacing.{OwnsNone}
 
 -- A directory of these parts stays one, its MANIFEST and its last log end where they did, tables of other numbers are as
 -- they were, and no number from `more` on is taken.
@@ -28,7 +24,7 @@ pub record KeepsOtherTables (order : Order) (old new : Files) (mine : ℕ → Ty
 
 -- That is what a job leaves that writes the table at hand, and tables of numbers that it draws.
 abbrev pub JobWritesLaw : Type 0
-JobWritesLaw = (order : Order) (old new : Facts) (w : Written) (next more : ℕ) (d : Directory)
+JobWritesLaw = (order : Order) (old new : Facts) (w : TablesWritten) (next more : ℕ) (d : Directory)
     → IsTrue new.faithful → WritesTables old new (IsMineUpTo w next more) → next ≤ more → more < 2 ^ 64
     → IsConsistent order old.files d → IsFree order old.files next → AreNumbered w next → OwnsNone w d.layout.tables.items
     → KeepsOtherTables order old.files new.files (IsMineUpTo w next more) more d

@@ -8,14 +8,13 @@ use Rattle.compact.specs.Rooms.{AreLarge}
 use Rattle.ikey.specs.Entries.{InternalEntry, entry_of}
 use Rattle.ikey.specs.Orders.{Order}
 use Rattle.running_job.specs.declared.open_job.OpenJob.{OpenJob}
-use Rattle.running_job.specs.Running.{IsRunning, goes_over}
+use Rattle.running_job.specs.Running.{IsRunning, goes_over, CanStep}
 use Rattle.memtables.specs.Places.{LeavesMemories}
-use Rattle.recover.specs.Directory.{Directory, IsConsistent}
-use Rattle.recover.specs.Numbers.{IsFree}
+use Rattle.recover.specs.Directory.{Directory}
 use Rattle.db_cursor.specs.Scans.{IsOnePastLimit}
 use Rattle.db_cursor.specs.Whole.{Whole}
 use Rattle.table_access.specs.Tables.{IsSound, KeepsOf}
-use Rattle.directory_writes.specs.JobWrites.{KeepsOtherTables}
+use Rattle.directory_writes.specs.internal.JobWrites.{KeepsOtherTables}
 
 -- ---- over any store
 
@@ -28,13 +27,6 @@ pub record StepTouches {K : Type 0} {g : _} (old new : Whole) (next more : ℕ) 
   pub within : (number : ℕ) → goes_over after number → goes_over before number
 
 -- ---- while it is faithful
-
--- The job is under way over a directory of these parts.
-pub record CanStep {K : Type 0} {g : _} (order : Order) (whole : Whole) (next : ℕ) (d : Directory) (work : OpenJob K g) (came left : List InternalEntry) : Type 0 where
-  pub consistent : IsConsistent order whole.seen.facts.files d
-  pub sound : IsSound order.cmp whole.seen
-  pub free : IsFree order whole.seen.facts.files next
-  pub running : IsRunning order whole next d work came left
 
 -- Whatever the answer, the directory stays, and so do its other tables; what is kept of tables stays right.
 pub record StepKeeps {K : Type 0} {g : _} (order : Order) (old new : Whole) (next more : ℕ) (before : OpenJob K g) (d : Directory) : Type 0 where

@@ -13,7 +13,7 @@ use Rattle.edits.specs.declared.layout.Layout.{Layout}
 use Rattle.edits.specs.declared.names.FileName.TheVariants.{Manifest}
 use Rattle.table.specs.Writing.{KeepsOthers, SyncsOnly}
 use Rattle.recover.specs.Directory.{HasManifest}
-use Rattle.recover.specs.Changes.{ManifestEndsAt}
+use Rattle.recover.specs.internal.Changes.{ManifestEndsAt}
 use Rattle.recover.specs.Numbers.{NamesBelow, IsFree}
 
 -- The file of this name is the current MANIFEST, and ends at this position behind these edits. With one more they leave

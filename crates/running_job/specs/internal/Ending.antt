@@ -14,7 +14,7 @@ use Rattle.directory_writes.specs.declared.flush.FlushError.{FlushError}
 use Rattle.directory_writes.specs.declared.flush.FlushError.TheVariants.{Before, Edit}
 use Rattle.directory_writes.specs.declared.install.Installed.{Installed}
 use Rattle.directory_writes.specs.declared.manifest.CurrentManifest.{CurrentManifest}
-use Rattle.directory_writes.specs.Install.{InstallMeans, IsServed}
+use Rattle.directory_writes.specs.internal.Install.{InstallMeans, IsServed}
 
 -- The directory is served by these parts, and all entries of the inputs came to the job that is under way over it.
 pub record CanEnd {K : Type 0} {g : _} (order : Order) (whole : Whole) (next last_sequence : ℕ) (manifest : CurrentManifest) (tables : List PlacedTable) (d : Directory) (work : OpenJob K g) (came : List InternalEntry) : Type 0 where

@@ -17,23 +17,24 @@ use Rattle.edits.specs.declared.field.Field.{Field}
 use Rattle.edits.specs.declared.field.PlacedTable.{PlacedTable}
 use Rattle.edits.specs.declared.layout.Layout.{Layout}
 use Rattle.edits.specs.declared.names.FileName.TheVariants.{Manifest}
-use Rattle.versions.specs.Applying.{Leads, LeadsAstray}
+use Rattle.versions.specs.Applying.{LeadsLayout, LeadsAstray}
 use Rattle.versions.specs.declared.plan.JobPlan.{JobPlan}
-use Rattle.versions.specs.Levels.{Placement, Lists, AreInOrder, pointers_after}
+use Rattle.versions.specs.Levels.{Placement, ListsSameTables, AreInOrder, pointers_after}
 use Rattle.recover.specs.Tables.{TableContent, tabled}
 use Rattle.recover.specs.Logs.{logged}
 use Rattle.recover.specs.Directory.{Directory, IsConsistent, used_in}
-use Rattle.recover.specs.Changes.{ManifestEndsAt, AreParted, MayReplace, IsCompaction, compacted}
+use Rattle.recover.specs.internal.Changes.{ManifestEndsAt, IsCompaction, compacted}
+use Rattle.recover.specs.Replacing.{AreParted, MayReplace}
 use Rattle.recover.specs.Numbers.{IsFree}
 use Rattle.compact.specs.JobEdits.{IsEditOfPlan, IsOwnIn}
-use Rattle.compact.specs.Laws.{AreApart}
+use Rattle.compact.specs.Laws.{AreNewerOrDeep}
 use Rattle.compact.specs.Merging.{IsMerging, IsFinished}
-use Rattle.compact.specs.Outputs.{Written, IsNumberAtHand, IsOwn, RefusesEntry, table_name}
+use Rattle.compact.specs.Outputs.{TablesWritten, IsNumberAtHand, IsOwn, RefusesEntry, table_name}
 use Rattle.compact.specs.Rooms.{AreLarge}
 use Rattle.compact.specs.declared.job.Job.{Job}
-use Rattle.directory_writes.specs.Compactions.{placed_in, IsJobPut, AreSeenAlike}
-use Rattle.directory_writes.specs.Flush.{IsCorrupt, KeepsParts, PassesNoLimit}
-use Rattle.directory_writes.specs.JobWrites.{OwnsNone}
+use Rattle.directory_writes.specs.Replacing.{placed_in, OwnsNone, ReplacesInputs}
+use Rattle.directory_writes.specs.internal.Compactions.{IsJobPut, AreSeenAlike}
+use Rattle.directory_writes.specs.internal.Flush.{IsCorrupt, KeepsLogsAndTables, PassesNoLimit}
 use Rattle.directory_writes.specs.declared.flush.FlushError.{FlushError}
 use Rattle.directory_writes.specs.declared.flush.FlushError.TheVariants.{Before, Edit}
 use Rattle.directory_writes.specs.declared.install.Installed.{Installed}
@@ -44,7 +45,7 @@ use Rattle.directory_writes.specs.declared.manifest.CurrentManifest.{CurrentMani
 
 -- Once a store has returned something else than what was written, that is so for good. The failures don't fall, and the
 -- lock is left alone. But for the table at hand and the MANIFEST all files are as before, and what is synced of them.
-pub record InstallTouches (old new : Facts) (w : Written) (manifest : List ℕ) : Type 0 where
+pub record InstallTouches (old new : Facts) (w : TablesWritten) (manifest : List ℕ) : Type 0 where
   pub faithful : IsTrue new.faithful → IsTrue old.faithful
   pub failures : old.failures ≤ new.failures
   pub denials : new.denials ≡ old.denials
@@ -80,24 +81,18 @@ RefusesInstall (Before e) cmp job old new next last_sequence tables = RefusesEdi
 RefusesInstall Edit cmp job old new next last_sequence tables = old.failures < new.failures
 
 -- each of these tables is an old one, or has a number that is the job's
-abbrev pub AreOldOrOwn : Written → List PlacedTable → List PlacedTable → Type 0
+abbrev pub AreOldOrOwn : TablesWritten → List PlacedTable → List PlacedTable → Type 0
 AreOldOrOwn w old new = (placed : PlacedTable) → Contains new placed → Contains old placed ⊎ IsOwn w placed.table.number
-
--- The inputs of the plan are gone, and tables of its output level are in their place: each table was there and is no input, or is of that
--- level. Each of another number than theirs stays.
-pub record Replaces (plan : JobPlan) (old new : List PlacedTable) : Type 0 where
-  pub tables : (placed : PlacedTable) → Contains new placed → (Contains old placed × (Contains plan.inputs.items placed → ⊥)) ⊎ (placed.level ≡ plan.output_level)
-  pub stays : (placed : PlacedTable) → Contains old placed → ((input : PlacedTable) → Contains plan.inputs.items input → input.table.number ≢ placed.table.number) → Contains new placed
 
 -- The new version is in order, and is the old one after an edit that can be written: that of the plan, which takes its inputs away
 -- and puts tables into its output level that the job wrote.
-pub record HasJobVersion (cmp : List ℕ → List ℕ → Ordering) (plan : JobPlan) (w : Written) (old new : Placement) : Type 0 where
+pub record HasJobVersion (cmp : List ℕ → List ℕ → Ordering) (plan : JobPlan) (w : TablesWritten) (old new : Placement) : Type 0 where
   pub edit : List Field
   pub proper : All IsProper edit
   pub own : AllByRecursion (IsOwnIn w) edit
   pub of_plan : IsEditOfPlan plan edit
-  pub replaces : Replaces plan old.tables new.tables
-  pub leads : Leads (after_edit edit) old.tables new.tables
+  pub replaces : ReplacesInputs plan old.tables new.tables
+  pub leads : LeadsLayout (after_edit edit) old.tables new.tables
   pub tables : AreOldOrOwn w old.tables new.tables
   pub in_order : AreInOrder cmp new.tables
   pub pointers : new.compact_pointers ≡ pointers_after edit 0 old.compact_pointers
@@ -107,8 +102,8 @@ pub record HasJobVersion (cmp : List ℕ → List ℕ → Ordering) (plan : JobP
 -- The edit is that of the job, and the version is the one after it.
 pub record HasPreparedJob {K C : Type 0} (cmp : List ℕ → List ℕ → Ordering) (job : Job K C) (old new : Facts) (next last_sequence : ℕ) (version : Placement) (prepared : PreparedJob K) : Type 0 where
   pub edit : IsJobEdit cmp job old new next last_sequence prepared.edit
-  pub leads : Leads (after_edit prepared.edit) version.tables prepared.version.value.tables
-  pub replaces : Replaces job.plan version.tables prepared.version.value.tables
+  pub leads : LeadsLayout (after_edit prepared.edit) version.tables prepared.version.value.tables
+  pub replaces : ReplacesInputs job.plan version.tables prepared.version.value.tables
   pub tables : AreOldOrOwn job.outputs version.tables prepared.version.value.tables
   pub in_order : AreInOrder cmp prepared.version.value.tables
   pub pointers : prepared.version.value.compact_pointers ≡ pointers_after prepared.edit 0 version.compact_pointers
@@ -123,7 +118,7 @@ pub record IsServed (order : Order) (files : Files) (next : ℕ) (manifest : Cur
   pub named : string_bytes manifest.name ≡ name_of (Manifest d.manifest)
   pub ends : ManifestEndsAt order files d.manifest manifest.end d.edits d.layout
   pub free : IsFree order files next
-  pub listed : Lists (placed_in d.tables) tables
+  pub listed : ListsSameTables (placed_in d.tables) tables
 
 -- All entries of its inputs have come to the job, which may be replaced by tables of its level; no table of the directory has
 -- a number that is the job's. Numbers are drawn below 2^62.
@@ -151,8 +146,8 @@ pub record HasInstalled (order : Order) (deep : List ℕ → Bool) (level : ℕ)
   pub compaction : IsCompaction order d next inputs rest outputs contents level
   pub consistent : IsConsistent order new (compacted d (d.edits ++ edit ∷ []) next contents)
   pub used : used_in (compacted d (d.edits ++ edit ∷ []) next contents) ≡ used_in d
-  pub alike : AreApart (tabled inputs) (tabled rest ++ logged d.logs) deep → AreSeenAlike (tabled inputs) snapshots d (compacted d (d.edits ++ edit ∷ []) next contents)
-  pub kept : KeepsParts old new d (compacted d (d.edits ++ edit ∷ []) next contents)
+  pub alike : AreNewerOrDeep (tabled inputs) (tabled rest ++ logged d.logs) deep → AreSeenAlike (tabled inputs) snapshots d (compacted d (d.edits ++ edit ∷ []) next contents)
+  pub kept : KeepsLogsAndTables old new d (compacted d (d.edits ++ edit ∷ []) next contents)
   pub limits : PassesNoLimit order old d → PassesNoLimit order new (compacted d (d.edits ++ edit ∷ []) next contents)
 
 -- Then the MANIFEST ends here, no number from `next` on is taken, and the tables are the directory's.
@@ -160,16 +155,16 @@ pub record IsInstalled (order : Order) (deep : List ℕ → Bool) (level : ℕ) 
   pub has : HasInstalled order deep level snapshots old new came d inputs rest
   pub ends : ManifestEndsAt order new d.manifest end (d.edits ++ has.edit ∷ []) has.next
   pub free : IsFree order new next
-  pub listed : Lists (placed_in has.contents) tables
+  pub listed : ListsSameTables (placed_in has.contents) tables
 
 -- The same directory; the job is given up.
 pub record IsUninstalled (order : Order) (old new : Files) (next : ℕ) (manifest : CurrentManifest) (tables : List PlacedTable) (d : Directory) : Type 0 where
   pub served : IsServed order new next manifest tables d
-  pub kept : KeepsParts old new d d
+  pub kept : KeepsLogsAndTables old new d d
 
 -- The one or the other, however the MANIFEST ends.
 pub record MayBeInstalled (order : Order) (deep : List ℕ → Bool) (level : ℕ) (snapshots : List ℕ) (old new : Files) (next : ℕ) (came : List InternalEntry) (d : Directory) (inputs rest : List TableContent) : Type 0 where
-  pub either : (IsConsistent order new d × KeepsParts old new d d) ⊎ HasInstalled order deep level snapshots old new came d inputs rest
+  pub either : (IsConsistent order new d × KeepsLogsAndTables old new d d) ⊎ HasInstalled order deep level snapshots old new came d inputs rest
   pub free : IsFree order new next
 
 -- What it leaves, by its answer. A directory's own version always has room for the outputs.

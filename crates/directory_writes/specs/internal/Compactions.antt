@@ -26,24 +26,22 @@ use Rattle.versions.specs.Levels.{pointers_after}
 use Rattle.recover.specs.Tables.{TableContent, HasTable, InTables, tabled}
 use Rattle.recover.specs.Report.{IsLongTable, HasBytes}
 use Rattle.recover.specs.Directory.{Directory, IsConsistent, HasManifest, entries_in, used_in}
-use Rattle.recover.specs.Changes.{AreParted, MayReplace, IsClosed, IsCompaction, compacted}
+use Rattle.recover.specs.Replacing.{AreParted, MayReplace}
+use Rattle.recover.specs.internal.Changes.{AreClosedInputs, IsCompaction, compacted}
 use Rattle.recover.specs.Logs.{logged}
 use Rattle.compact.specs.Choosing.{Choosing}
 use Rattle.compact.specs.Deeper.{is_covered_below}
 use Rattle.compact.specs.JobEdits.{IsEditOf, IsOwnIn}
-use Rattle.compact.specs.Laws.{AreApart, SeesAsOne}
+use Rattle.compact.specs.Laws.{AreNewerOrDeep, SeesAsOne}
 use Rattle.compact.specs.Merging.{IsFinished}
 use Rattle.compact.specs.Needed.{AreNeeded}
-use Rattle.compact.specs.Outputs.{Written, HasWritten, IsOwn}
+use Rattle.compact.specs.Outputs.{TablesWritten, HasWritten, IsOwn}
+use Rattle.directory_writes.specs.Replacing.{placed_in}
 
 -- ---- the tables that were written
 
 abbrev pub at_level : ℕ → TableFile → PlacedTable
 at_level level table = record { level = level; table = table }
-
--- the tables as the layout places them
-abbrev pub placed_in : List TableContent → List PlacedTable
-placed_in contents = map (λ (content : TableContent). content.placed) contents
 
 -- The files have these tables at the level, one for each that was written, and together they have what was kept, in
 -- order. No block of them is too long to be read.
@@ -122,7 +120,7 @@ JobDoneLaw = (order : Order) (deep : List ℕ → Bool) (plan : JobPlan) (last :
 
 -- Tables that a job wrote are unused where no table has a number that is the job's.
 abbrev pub UnusedLaw : Type 0
-UnusedLaw = (w : Written) (edit : List Field) (tables : List PlacedTable)
+UnusedLaw = (w : TablesWritten) (edit : List Field) (tables : List PlacedTable)
     → AllByRecursion (IsOwnIn w) edit → ((number : ℕ) → IsOwn w number → is_used number tables ≡ false) → AllByRecursion (IsUnused tables) edit
 
 -- ---- behind the MANIFEST
@@ -140,14 +138,14 @@ JobPutLaw = (order : Order) (deep : List ℕ → Bool) (level : ℕ) (snapshots 
     → HasManifest order new d.manifest (d.edits ++ edit ∷ []) next → KeepsOthers old new (name_of (Manifest d.manifest))
     → IsConsistent order new (compacted d (d.edits ++ edit ∷ []) next contents)
     × (used_in (compacted d (d.edits ++ edit ∷ []) next contents) ≡ used_in d)
-    × (AreApart (tabled inputs) (tabled rest ++ logged d.logs) deep → AreSeenAlike (tabled inputs) snapshots d (compacted d (d.edits ++ edit ∷ []) next contents))
+    × (AreNewerOrDeep (tabled inputs) (tabled rest ++ logged d.logs) deep → AreSeenAlike (tabled inputs) snapshots d (compacted d (d.edits ++ edit ∷ []) next contents))
 
 -- So it is where the inputs are closed, and `deep` has the keys of all tables below the level that is written.
 abbrev pub JobApartLaw : Type 0
 JobApartLaw = (order : Order) (files : Files) (d : Directory) (inputs rest : List TableContent) (level : ℕ) (deep : List ℕ → Bool) → IsTotalOrder order.cmp
-    → IsConsistent order files d → AreParted d.tables inputs rest → IsClosed order inputs rest level
+    → IsConsistent order files d → AreParted d.tables inputs rest → AreClosedInputs order inputs rest level
     → ((stays : TableContent) (entry : Entry) → InTables rest stays → level + 1 < stays.placed.level → Among stays.entries entry → IsTrue (deep entry.key))
-    → AreApart (tabled inputs) (tabled rest ++ logged d.logs) deep
+    → AreNewerOrDeep (tabled inputs) (tabled rest ++ logged d.logs) deep
 
 -- A table of a version that lies below the level covers the keys of its entries.
 abbrev pub DeepLaw : Type 0

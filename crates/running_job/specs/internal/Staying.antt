@@ -3,7 +3,7 @@ use Rattle.std.specs.Prelude.{◌≡◌, ◌≤◌, ℕ, List}
 use Rattle.std.specs.FinMap.{get}
 use Rattle.cache.specs.Tables.{table_at}
 use Rattle.compact.specs.Merging.{AreDisjoint}
-use Rattle.compact.specs.Outputs.{IsOwn, Written, table_name}
+use Rattle.compact.specs.Outputs.{IsOwn, TablesWritten, table_name}
 use Rattle.ikey.specs.Entries.{InternalEntry}
 use Rattle.ikey.specs.Orders.{Order}
 use Rattle.running_job.specs.declared.open_job.OpenJob.{OpenJob}
@@ -13,11 +13,10 @@ use Rattle.recover.specs.Tables.{TableContent}
 use Rattle.db_cursor.specs.Whole.{Whole}
 use Rattle.table_access.specs.Tables.{IsSound, KeepsOf}
 use Rattle.store.specs.Files.{Files}
-use Rattle.directory_writes.specs.JobWrites.{OwnsNone}
-use Rattle.directory_writes.specs.Planned.{IsPlanned}
+use Rattle.directory_writes.specs.Replacing.{OwnsNone, IsPlanned}
 
 -- the files of the tables that the job has written, ended or at hand, are as they were
-abbrev pub KeepsOutputs : Written → Files → Files → Type 0
+abbrev pub KeepsOutputs : TablesWritten → Files → Files → Type 0
 KeepsOutputs w old new = (number : ℕ) → IsOwn w number → get new (table_name number) ≡ get old (table_name number)
 
 -- The files of the job's tables are as they were, of inputs and outputs; what is kept of tables is right where it was, and nothing is

@@ -3,12 +3,12 @@ use Rattle.std.specs.Prelude.{◌≤◌, ◌^◌, ℕ, List, [], ◌∷◌}
 use Rattle.std.specs.Coded.{×_prop, Unit-prop}
 use Rattle.std.proofs.Props.{props}
 use Rattle.compact.specs.JobEdits.{AreOnce, IsPlanProper}
-use Rattle.compact.specs.Outputs.{AreNumbered, NumbersRise, Written}
+use Rattle.compact.specs.Outputs.{AreNumbered, TableNumbersRise, TablesWritten}
 use Rattle.edits.specs.declared.field.PlacedTable.{PlacedTable}
 use Rattle.edits.specs.declared.field.TableFile.{TableFile}
 use Rattle.versions.specs.declared.plan.JobPlan.{JobPlan}
 
-NumbersRise-prop : (tables : List TableFile) → IsProp (NumbersRise tables)
+NumbersRise-prop : (tables : List TableFile) → IsProp (TableNumbersRise tables)
 NumbersRise-prop [] = Unit-prop
 NumbersRise-prop (table ∷ tables) = ×_prop (hlevel props) (NumbersRise-prop tables)
 
@@ -17,7 +17,7 @@ AreOnce-prop [] = Unit-prop
 AreOnce-prop (placed ∷ others) = ×_prop (hlevel props) (AreOnce-prop others)
 
 -- that tables are numbered below 2^62
-pub numbered-prop : (w : Written) (next : ℕ) → IsProp (next ≤ 2 ^ 62 → AreNumbered w next)
+pub numbered-prop : (w : TablesWritten) (next : ℕ) → IsProp (next ≤ 2 ^ 62 → AreNumbered w next)
 numbered-prop w next = hlevel (props, NumbersRise-prop)
 
 pub IsPlanProper-prop : (plan : JobPlan) → IsProp (IsPlanProper plan)

@@ -12,7 +12,7 @@ use Rattle.edits.specs.declared.names.FileName.TheVariants.{Log}
 use Rattle.table.specs.Writing.{KeepsOthers}
 use Rattle.recover.specs.Logs.{logged}
 use Rattle.recover.specs.Directory.{Directory, IsConsistent, EndsAt}
-use Rattle.recover.specs.Changes.{ManifestEndsAt, with_log}
+use Rattle.recover.specs.internal.Changes.{ManifestEndsAt, with_log}
 use Rattle.recover.specs.Numbers.{IsFree}
 
 -- The log has the number that is next, and its name. However it ends, at most that number is drawn, or nothing was done.

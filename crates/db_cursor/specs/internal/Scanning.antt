@@ -10,7 +10,7 @@ use Rattle.cursor.specs.Views.{Walked}
 use Rattle.cursor.specs.Walks.{key_before, value_at_hand, walk_after, walked}
 use Rattle.ikey.specs.declared.entry.Entry.{Entry}
 use Rattle.ikey.specs.Entries.{Pair}
-use Rattle.memtables.specs.Changes.{IsWritten}
+use Rattle.memtables.specs.Changes.{HasMoreEntries}
 use Rattle.memtables.specs.Places.{LeavesMemories}
 use Rattle.db_cursor.specs.declared.scan.Scan.{Scan}
 use Rattle.db_cursor.specs.Places.{source_stands}
@@ -66,7 +66,7 @@ ScanIsKept cmp scan = (old new : Whole) (at : Walked) → KeepsScan cmp scan old
 -- What is written above a scan's sequence leaves what it reads, where files and what is kept of them do.
 abbrev pub WritesAreKept : Cmp → Type 0
 WritesAreKept cmp = (sequence : ℕ) (old new : Whole) (more : List Entry) → sequence ≤ old.memory.last
-    → IsWritten old.memory new.memory more → AllByRecursion (λ (entry : Entry). old.memory.last < entry.sequence) more
+    → HasMoreEntries old.memory new.memory more → AllByRecursion (λ (entry : Entry). old.memory.last < entry.sequence) more
     → ((number : ℕ) → table_at new.seen.facts.files number ≡ table_at old.seen.facts.files number) → (IsSound cmp old.seen → IsSound cmp new.seen)
     → KeepsUpTo cmp sequence old new
 

@@ -16,17 +16,16 @@ use Rattle.edits.specs.declared.field.PlacedTable.{PlacedTable}
 use Rattle.edits.specs.declared.field.TableFile.{TableFile}
 use Rattle.edits.specs.declared.layout.Layout.{Layout}
 use Rattle.edits.specs.declared.names.FileName.TheVariants.{Manifest, Table}
-use Rattle.versions.specs.Applying.{Leads}
-use Rattle.versions.specs.Keeping.{HasNumber}
-use Rattle.versions.specs.Levels.{Placement, Lists, AreInOrder}
+use Rattle.versions.specs.Applying.{LeadsLayout}
+use Rattle.versions.specs.Levels.{HasNumber, Placement, ListsSameTables, AreInOrder}
 use Rattle.recover.specs.Tables.{TableContent}
 use Rattle.recover.specs.Logs.{LogContent, logged}
 use Rattle.recover.specs.Directory.{Directory, IsConsistent, EndsAt, entries_in, used_in}
-use Rattle.recover.specs.Changes.{ManifestEndsAt, AgreeBeside, IsFlush, flushed, with_content}
+use Rattle.recover.specs.internal.Changes.{ManifestEndsAt, AgreeBeside, IsFlush, flushed, with_content}
 use Rattle.recover.specs.Numbers.{IsFree}
 use Rattle.recover.specs.Report.{IsLongTable, AnyHasBytes}
-use Rattle.directory_writes.specs.FlushEdits.{IsAfterFlush, flush_fields}
-use Rattle.directory_writes.specs.Level0.{IsLevel0, IsTooLarge}
+use Rattle.directory_writes.specs.internal.FlushEdits.{IsAfterFlush, flush_fields}
+use Rattle.directory_writes.specs.internal.Level0.{IsLevel0, IsTooLarge}
 use Rattle.directory_writes.specs.declared.flush.FlushError.{FlushError}
 use Rattle.directory_writes.specs.declared.flush.FlushError.TheVariants.{Before, Edit}
 use Rattle.directory_writes.specs.declared.flush.FlushPlan.{FlushPlan}
@@ -58,17 +57,17 @@ RefusesVersion e astray = ⊥
 
 -- Why a table wasn't made ready: Corrupt only where the version has a table of the number that is drawn, and Unsupported only where a
 -- block would be too long.
-abbrev pub RefusesTable : DbError → Facts → Facts → List Entry → List PlacedTable → ℕ → ℕ → Type 0
-RefusesTable OutOfMemory old new entries tables next after = new.failures ≡ old.failures
-RefusesTable Io old new entries tables next after = old.failures < new.failures
-RefusesTable (Unsupported what) old new entries tables next after = IsTooLarge new entries
-RefusesTable (Corrupt file what) old new entries tables next after = HasNumber next tables
-RefusesTable NumbersSpent old new entries tables next after = (2 ^ 62 ≤ next) × (after ≡ next) × (new ≡ old)
-RefusesTable e old new entries tables next after = ⊥
+abbrev pub RefusesNewTable : DbError → Facts → Facts → List Entry → List PlacedTable → ℕ → ℕ → Type 0
+RefusesNewTable OutOfMemory old new entries tables next after = new.failures ≡ old.failures
+RefusesNewTable Io old new entries tables next after = old.failures < new.failures
+RefusesNewTable (Unsupported what) old new entries tables next after = IsTooLarge new entries
+RefusesNewTable (Corrupt file what) old new entries tables next after = HasNumber next tables
+RefusesNewTable NumbersSpent old new entries tables next after = (2 ^ 62 ≤ next) × (after ≡ next) × (new ≡ old)
+RefusesNewTable e old new entries tables next after = ⊥
 
 -- Why it wasn't flushed: for one of these reasons, or since the device failed at the edit.
 abbrev pub RefusesFlush : FlushError → Facts → Facts → List Entry → List PlacedTable → ℕ → ℕ → Type 0
-RefusesFlush (Before e) old new entries tables next after = RefusesTable e old new entries tables next after
+RefusesFlush (Before e) old new entries tables next after = RefusesNewTable e old new entries tables next after
 RefusesFlush Edit old new entries tables next after = old.failures < new.failures
 
 -- how a refusal at the edit is answered
@@ -80,13 +79,13 @@ edit_refusal e = Before e
 pub record HasNewVersion (cmp : List ℕ → List ℕ → Ordering) (number : ℕ) (old new : Placement) : Type 0 where
   pub table : TableFile
   pub number_is : table.number ≡ number
-  pub lists : Lists (inserted (record { level = 0; table = table }) old.tables) new.tables
+  pub lists : ListsSameTables (inserted (record { level = 0; table = table }) old.tables) new.tables
   pub in_order : AreInOrder cmp new.tables
   pub pointers : new.compact_pointers ≡ old.compact_pointers
 
 -- The answer is the number that was next, and such a version.
-abbrev pub HasVersion : {K : Type 0} → (List ℕ → List ℕ → Ordering) → Placement → ℕ → ℕ → Result (Flushed K) FlushError → Type 0
-HasVersion cmp old next after result = IfOk result (λ flushed. (flushed.number ≡ next) × (after ≡ next + 1) × HasNewVersion cmp next old flushed.version.value)
+abbrev pub AnswersVersion : {K : Type 0} → (List ℕ → List ℕ → Ordering) → Placement → ℕ → ℕ → Result (Flushed K) FlushError → Type 0
+AnswersVersion cmp old next after result = IfOk result (λ flushed. (flushed.number ≡ next) × (after ≡ next + 1) × HasNewVersion cmp next old flushed.version.value)
 
 -- Behind a flush the device keeps the whole table and the whole MANIFEST.
 pub record SyncsFlush {T E : Type 0} (new : Facts) (name manifest_name : List ℕ) (result : Result T E) : Type 0 where
@@ -103,7 +102,7 @@ pub record HasPrepared {K : Type 0} (order : Order) (new : Facts) (after : ℕ) 
   pub proper : All IsProper prepared.edit
   pub spelled : IsInOrder prepared.edit
   pub limit : HasPastLimit prepared.edit → ⊥
-  pub leads : Leads (after_edit prepared.edit) old.tables prepared.version.value.tables
+  pub leads : LeadsLayout (after_edit prepared.edit) old.tables prepared.version.value.tables
   pub version : HasNewVersion order.cmp prepared.number old prepared.version.value
   pub written : IsTrue new.faithful → IsLevel0 order new.files prepared.number entries table
   pub synced : IsTrue new.faithful → new.synced (name_of (Table prepared.number)) ≡ get new.files (name_of (Table prepared.number))
@@ -129,14 +128,14 @@ pub record CanFlush (order : Order) (files : Files) (next : ℕ) (plan : FlushPl
   pub named : string_bytes manifest.name ≡ name_of (Manifest d.manifest)
   pub ends : ManifestEndsAt order files d.manifest manifest.end d.edits d.layout
   pub free : IsFree order files next
-  pub listed : Lists (map (λ (content : TableContent). content.placed) d.tables) tables
+  pub listed : ListsSameTables (map (λ (content : TableContent). content.placed) d.tables) tables
 
 -- no table's number is past the limit of reading, and no block is
 abbrev pub PassesNoLimit : Order → Files → Directory → Type 0
 PassesNoLimit order files d = HasPastLimit (fields_of d.edits) ⊎ AnyHasBytes (IsLongTable order) files d.tables → ⊥
 
 -- What is the same in the files after a call: the logs and the tables of the directory, and where the last log ends.
-pub record KeepsParts (old new : Files) (d e : Directory) : Type 0 where
+pub record KeepsLogsAndTables (old new : Files) (d e : Directory) : Type 0 where
   pub beside : AgreeBeside old new d
   pub ends : (log position : ℕ) → EndsAt old d log position → EndsAt new e log position
 
@@ -153,7 +152,7 @@ pub record HasFlushed (order : Order) (old new : Files) (number after : ℕ) (en
   pub consistent : IsConsistent order new (flushed d (d.edits ++ edit ∷ []) next content current)
   pub same : SameEntries (entries_in (flushed d (d.edits ++ edit ∷ []) next content current)) (entries_in d)
   pub used : used_in (flushed d (d.edits ++ edit ∷ []) next content current) ≡ used_in d
-  pub kept : KeepsParts old new d (flushed d (d.edits ++ edit ∷ []) next content current)
+  pub kept : KeepsLogsAndTables old new d (flushed d (d.edits ++ edit ∷ []) next content current)
   pub limits : PassesNoLimit order old d → PassesNoLimit order new (flushed d (d.edits ++ edit ∷ []) next content current)
 
 -- Then the MANIFEST ends here, and the tables are the directory's.
@@ -161,17 +160,17 @@ pub record IsFlushed (order : Order) (old new : Files) (number after end : ℕ) 
   pub has : HasFlushed order old new number after entries d sealed current
   pub ends : ManifestEndsAt order new d.manifest end (d.edits ++ has.edit ∷ []) has.next
   pub free : IsFree order new after
-  pub listed : Lists (map (λ (content : TableContent). content.placed) (with_content has.content d.tables)) tables
+  pub listed : ListsSameTables (map (λ (content : TableContent). content.placed) (with_content has.content d.tables)) tables
 
 -- The same directory, of which the same can be flushed.
 pub record IsUnflushed (order : Order) (old new : Files) (after : ℕ) (plan : FlushPlan) (manifest : CurrentManifest) (entries : List Entry) (tables : List PlacedTable)
     (d : Directory) (sealed : List LogContent) (current : LogContent) : Type 0 where
   pub can : CanFlush order new after plan manifest entries tables d sealed current
-  pub kept : KeepsParts old new d d
+  pub kept : KeepsLogsAndTables old new d d
 
 -- The one or the other, however the MANIFEST ends.
 pub record MayBeFlushed (order : Order) (old new : Files) (number after : ℕ) (entries : List Entry) (d : Directory) (sealed : List LogContent) (current : LogContent) : Type 0 where
-  pub either : (IsConsistent order new d × KeepsParts old new d d) ⊎ HasFlushed order old new number after entries d sealed current
+  pub either : (IsConsistent order new d × KeepsLogsAndTables old new d d) ⊎ HasFlushed order old new number after entries d sealed current
   pub free : IsFree order new after
 
 -- a version that has no room for the table

@@ -13,15 +13,15 @@ use Rattle.recover.specs.Numbers.{IsFree}
 use Rattle.db_cursor.specs.Scans.{IsOnePastLimit}
 use Rattle.db_cursor.specs.Whole.{Whole}
 use Rattle.table_access.specs.Tables.{IsSound, KeepsOf}
-use Rattle.directory_writes.specs.Compactions.{placed_in}
+use Rattle.directory_writes.specs.Replacing.{placed_in}
 use Rattle.versions.specs.declared.plan.JobPlan.{JobPlan}
-use Rattle.versions.specs.Levels.{Lists}
+use Rattle.versions.specs.Levels.{ListsSameTables}
 
 -- The files are this directory, whose tables the version lists; what is kept of tables is right, and nothing is kept of one that is
 -- still to come; no number from `next` on is taken.
 pub record CanBegin (order : Order) (whole : Whole) (next : ℕ) (tables : List PlacedTable) (d : Directory) : Type 0 where
   pub consistent : IsConsistent order whole.seen.facts.files d
-  pub listed : Lists (placed_in d.tables) tables
+  pub listed : ListsSameTables (placed_in d.tables) tables
   pub sound : IsSound order.cmp whole.seen
   pub unkept : AreDisjoint (KeepsOf whole.seen) (IsToCome next)
   pub free : IsFree order whole.seen.facts.files next
