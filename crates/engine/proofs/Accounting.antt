@@ -7,9 +7,8 @@ use Rattle.batch.specs.declared.operation.Operation.TheVariants.{Put, Delete}
 use Rattle.ikey.specs.declared.entry.Entry.{Entry}
 use Rattle.ikey.proofs.SearchedSources.{among_split, among_front, among_back}
 use Rattle.recover.specs.Entries.{made_entry, entries_of}
-use Rattle.engine.specs.Accounted.{AreAccounted}
-use Rattle.machine.specs.Machine.{entry_weight}
-use Rattle.machine.specs.Machine.{Machine, entry_count, operation_weight, weight}
+use Rattle.engine.specs.internal.Accounted.{AreAccounted}
+use Rattle.machine.specs.Machine.{entry_weight, Machine, entry_count, operation_weight, weight}
 
 -- ---- the entries of a batch
 

@@ -14,11 +14,11 @@ use Rattle.edits.specs.declared.field.Field.{Field}
 use Rattle.edits.specs.declared.field.Field.TheVariants.{Comparator, LogNumber, NextFileNumber, LastSequence, CompactPointer, DeletedFile, NewFile, PreviousLogNumber}
 use Rattle.edits.specs.declared.names.FileName.{FileName}
 use Rattle.edits.specs.declared.names.FileName.TheVariants.{Current, Lock, Log, Table, OldTable, Manifest, Temporary}
-use Rattle.recover.specs.Changes.{DistinctLaw}
+use Rattle.recover.specs.internal.Changes.{DistinctLaw}
 use Rattle.recover.specs.Directory.{Directory, IsConsistent, IsDirectory, IsEmpty, entries_in, used_in}
-use Rattle.recover.specs.Laws.{OneManifestLaw}
+use Rattle.recover.specs.internal.Laws.{OneManifestLaw}
 use Rattle.recover.specs.Numbers.{number_of, NamesBelow, IsFree}
-use Rattle.recover.specs.Parts.{highest_in}
+use Rattle.recover.specs.internal.Parts.{highest_in}
 use Rattle.machine.specs.Machine.{Machine, entry_weight}
 use Rattle.recover.specs.Limits.{IsWithinLimits}
 use Rattle.engine.specs.Headline.{IsFirst, FirstLaw}

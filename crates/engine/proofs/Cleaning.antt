@@ -13,25 +13,26 @@ use Rattle.memtables.specs.Changes.{IsUsed, KeepsUsed}
 use Rattle.memtables.specs.Memories.{Memories, inserts_of, logged_in, older_at, sealed_inserts}
 use Rattle.memtables.specs.Places.{MemoriesPlace, KeepsMemories}
 use Rattle.recover.specs.Directory.{Directory, IsConsistent}
-use Rattle.recover.specs.Laws.{OneDirectoryLaw}
+use Rattle.recover.specs.internal.Laws.{OneDirectoryLaw}
 use Rattle.recover.specs.Tables.{InTables, TableContent}
 use Rattle.recover.proofs.Adding.{table_of}
 use Rattle.db_cursor.specs.Scans.{KeepsScan}
-use Rattle.db_cursor.specs.Scanning.{ScanIsKept}
+use Rattle.db_cursor.specs.internal.Scanning.{ScanIsKept}
 use Rattle.db_cursor.specs.declared.scan.Scan.{Scan}
 use Rattle.table_access.specs.Tables.{Seen, IsSound, KeepsOf, SoundLasts}
 use Rattle.table_access.proofs.Sounding.{same_file, same_table}
 use Rattle.store.specs.Files.{Facts}
 use Rattle.table.specs.Reading.{HasFile}
-use Rattle.directory_writes.specs.Removal.{AreNumbersOf, KeepsParts, KeepsTable, ListsUnused}
-use Rattle.engine.specs.Directory.{CanAppend}
-use Rattle.engine.specs.Held.{Held, whole_of}
+use Rattle.directory_writes.specs.internal.Removal.{AreOfDirectory, KeepsParts, KeepsTable, ListsUnused}
+use Rattle.opening.specs.internal.Directories.{CanAppend}
+use Rattle.engine.specs.OpenDb.{OpenDb, whole_of}
 use Rattle.engine.specs.InUse.{IsJobTable, IsMemoryUsed, IsTableUsed}
-use Rattle.engine.specs.Iterators.{IsWalk}
-use Rattle.engine.specs.Live.{kept_at}
+use Rattle.reader.specs.internal.Iterators.{IsWalk}
+use Rattle.engine.specs.Reads.{kept_at}
 use Rattle.machine.specs.Machine.{Machine, Walk}
-use Rattle.engine.specs.Stands.{HasLog, HasTables, IsServing}
-use Rattle.engine.specs.Working.{ClosesTables, numbers_of}
+use Rattle.engine.specs.internal.Standing.{HasLog, HasTables, IsServing}
+use Rattle.engine.specs.internal.Pieces.{ClosesTables}
+use Rattle.engine.specs.Working.{numbers_of}
 use Rattle.engine.proofs.Compacting.{each_job, goes_beside, have_itself, known_itself, version_unowned}
 use Rattle.engine.proofs.InUse.{memory_used, read_used, table_used}
 use Rattle.engine.proofs.Pieces.{limits_stay, made_still, walks_each}
@@ -42,14 +43,14 @@ abbrev pub DropsKept : (List ℕ → List ℕ → Ordering) → Type 0
 DropsKept cmp = (cursor : MemoriesPlace) (old new : Memories) → new ≡ record old { older = new.older } → older_at new.older cursor.generation ≡ older_at old.older cursor.generation → KeepsMemories cmp cursor old new
 
 module _ {K : Type 0} {g : _} (order : Order) (kept : (scan : Scan K g) → ScanIsKept order.cmp scan) (one : OneDirectoryLaw) (lasts : SoundLasts) (drops : DropsKept order.cmp)
-    (old : Seen) (facts : Facts) (tables : List KeptTable) (db : Held K g) (memory : Memories) (gone : List ℕ) where
+    (old : Seen) (facts : Facts) (tables : List KeptTable) (db : OpenDb K g) (memory : Memories) (gone : List ℕ) where
   abbrev in_use : ℕ → Type 0
   in_use number = IsTableUsed db.tables db.job db.iterators number
 
   abbrev new : Seen
   new = record { facts = facts; tables = tables; blocks = old.blocks }
 
-  abbrev after : Held K g
+  abbrev after : OpenDb K g
   after = record db { memory = memory }
 
   -- ---- the memory tables
@@ -124,7 +125,7 @@ module _ {K : Type 0} {g : _} (order : Order) (kept : (scan : Scan K g) → Scan
       -- ---- what stands
 
       module _ (m : Machine) (serving : IsServing order old db m)
-          (parts : (d : Directory) → IsConsistent order old.facts.files d → AreNumbersOf (numbers_of db.directory) in_use d → KeepsParts order old.facts.files facts.files in_use d) where
+          (parts : (d : Directory) → IsConsistent order old.facts.files d → AreOfDirectory (numbers_of db.directory) in_use d → KeepsParts order old.facts.files facts.files in_use d) where
         abbrev a : CanAppend order old.facts.files db.log.number db.log.end serving.contents (logged_in db.memory) db.memory.last
         a = serving.log.directory
 
@@ -137,7 +138,7 @@ module _ {K : Type 0} {g : _} (order : Order) (kept : (scan : Scan K g) → Scan
             let at = subst (λ (p : PlacedTable). Contains db.tables p) here.2 (serving.tables.version.all here.0 content.placed here.1) in
             table_used db.tables db.job db.iterators content.placed.table.number (content.placed, at, refl)
 
-        numbers : AreNumbersOf (numbers_of db.directory) in_use d
+        numbers : AreOfDirectory (numbers_of db.directory) in_use d
         numbers = record { manifest = serving.log.knows.number; log_number = sym serving.log.knows.first_log; previous_log_number = sym serving.log.knows.previous_log; tables = listed }
 
         kept_parts : KeepsParts order old.facts.files facts.files in_use d

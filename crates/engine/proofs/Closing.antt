@@ -5,7 +5,7 @@ use Rattle.std.proofs.lemmas.List.{take_more}
 use Rattle.std.proofs.lemmas.List.Elements.{Contains-push_cases}
 use Rattle.std.proofs.lemmas.Map.Made.{Contains-tail}
 use Rattle.cache.specs.Tables.{KeptTable, kept_table_at}
-use Rattle.engine.specs.Working.{ClosesTables}
+use Rattle.engine.specs.internal.Pieces.{ClosesTables}
 
 -- what is kept is found under its number
 pub none_kept : (tables : List KeptTable) (number : ℕ) (kept : KeptTable) → kept_table_at tables number ≡ None → Contains tables kept → number ≡ kept.number → ⊥

@@ -7,7 +7,7 @@ use Rattle.std.specs.List.{AllByRecursion}
 use Rattle.std.specs.List.Sorted.{IsPermutation}
 use Rattle.std.specs.Ordering.{nat_cmp, is_eq}
 use Rattle.compact.specs.Laws.{SeesAsOne}
-use Rattle.compact.specs.Outputs.{AreNumbered, IsOwn, Written}
+use Rattle.compact.specs.Outputs.{AreNumbered, IsOwn, TablesWritten}
 use Rattle.edits.proofs.Orders.{unused, unused_from}
 use Rattle.edits.specs.Edit.{IsTableProper}
 use Rattle.edits.specs.Layout.{inserted, is_before, is_used}
@@ -19,16 +19,16 @@ use Rattle.ikey.specs.Entries.{entry_of}
 use Rattle.ikey.specs.Orders.{Order}
 use Rattle.ikey.specs.Views.{Among}
 use Rattle.running_job.specs.Running.{IsRunning, is_input, is_to_write}
-use Rattle.running_job.specs.Staying.{LeavesTables}
+use Rattle.running_job.specs.internal.Staying.{LeavesTables}
 use Rattle.running_job.specs.declared.open_job.OpenJob.{OpenJob}
 use Rattle.running_job.proofs.Staying.{stays_beside}
 use Rattle.recover.proofs.Adding.{table_of}
 use Rattle.recover.proofs.Memberships.{from_chosen}
-use Rattle.recover.specs.Changes.{AreParted}
+use Rattle.recover.specs.Replacing.{AreParted}
 use Rattle.recover.specs.Directory.{Directory, IsConsistent}
 use Rattle.recover.specs.Numbers.{IsFree}
 use Rattle.recover.specs.Tables.{InTables, TableContent}
-use Rattle.level_cursor.specs.InRows.{HasNumber}
+use Rattle.level_cursor.specs.InRows.{ListsNumber}
 use Rattle.db_cursor.specs.Scans.{tables_of}
 use Rattle.db_cursor.specs.Whole.{Whole}
 use Rattle.db_cursor.specs.declared.scan.Scan.{Scan}
@@ -38,13 +38,12 @@ use Rattle.store.specs.Files.{Files}
 use Rattle.directory_writes.proofs.JobTables.{among_contains, among_placed, contains_among, content_at}
 use Rattle.directory_writes.proofs.JobWritten.{hand_below}
 use Rattle.directory_writes.proofs.TableFiles.{below_placed}
-use Rattle.directory_writes.specs.Compactions.{placed_in}
-use Rattle.directory_writes.specs.JobWrites.{OwnsNone}
+use Rattle.directory_writes.specs.Replacing.{placed_in, OwnsNone}
 use Rattle.versions.proofs.Pairs.{among_contained}
-use Rattle.versions.specs.Levels.{Lists}
-use Rattle.engine.specs.Compacting.{IsCompacting}
+use Rattle.versions.specs.Levels.{ListsSameTables}
+use Rattle.engine.specs.internal.Compacting.{IsCompacting}
 use Rattle.engine.specs.InUse.{IsJobTable}
-use Rattle.engine.specs.Live.{kept_at}
+use Rattle.engine.specs.Reads.{kept_at}
 use Rattle.engine.proofs.InUse.{as_used}
 
 -- ---- where there is one
@@ -61,7 +60,7 @@ closed_number (t ∷ cs) next number p b (zero, x, lt, is, e) = let same : t.num
 closed_number (t ∷ cs) next number p b (suc k, x, lt, is, e) = closed_number cs next number p.1 b.1 (k, x, omega (arith, lt), is, e)
 
 -- one that it has written has a number that was drawn
-pub own_number : (w : Written) (next number : ℕ) → AreNumbered w next → IsOwn w number → (0 < number) × (number < next)
+pub own_number : (w : TablesWritten) (next number : ℕ) → AreNumbered w next → IsOwn w number → (0 < number) × (number < next)
 own_number w next number h (inl at) = hand_below w next number h at
 own_number w next number h (inr closed) = closed_number w.closed next number h.proper h.below closed
 
@@ -76,7 +75,7 @@ listed_number order files d next content consistent free i =
 
 -- so has an input
 pub input_number : (order : Order) (files : Files) (d : Directory) (next : ℕ) (tables : List PlacedTable) (inputs rest : List TableContent) → IsConsistent order files d → IsFree order files next → AreParted d.tables inputs rest → IsPermutation tables (placed_in inputs)
-    → (number : ℕ) → HasNumber tables number → IsNumbered number × (number < next)
+    → (number : ℕ) → ListsNumber tables number → IsNumbered number × (number < next)
 input_number order files d next tables inputs rest consistent free parted permuted number is =
     let content = content_at inputs is.0 (contains_among (placed_in inputs) is.0 (Contains-permutation tables (placed_in inputs) is.0 permuted is.1)) in
     let same : content.0.placed.table.number ≡ number = ap (λ (p : PlacedTable). p.table.number) content.2 ∙ is.2 in
@@ -88,22 +87,22 @@ all_at P (x ∷ tables) placed h (inl e) = subst P (sym e) h.0
 all_at P (x ∷ tables) placed h (inr i) = all_at P tables placed h.1 i
 
 -- none of the directory's tables has a number that is the job's
-pub unowned : (w : Written) (tables : List PlacedTable) (number : ℕ) → OwnsNone w tables → HasNumber tables number → IsOwn w number → ⊥
+pub unowned : (w : TablesWritten) (tables : List PlacedTable) (number : ℕ) → OwnsNone w tables → ListsNumber tables number → IsOwn w number → ⊥
 unowned w tables number none has own = all_at (λ (x : PlacedTable). number ≢ x.table.number) tables has.0 (unused number tables (none number own)) (contains_among tables has.0 has.1) (sym has.2)
 
 pub all_contains : (P : PlacedTable → Type 0) (tables : List PlacedTable) (placed : PlacedTable) → All P tables → Contains tables placed → P placed
 all_contains P tables placed h at = subst P at.2 (h at.0 placed at.1)
 
 -- so of a version that has them
-pub version_unowned : (w : Written) (order : Order) (files : Files) (d : Directory) (contents : List TableContent) (tables : List PlacedTable) (number : ℕ) → IsConsistent order files d → contents ≡ d.tables → Lists (placed_in contents) tables
-    → OwnsNone w d.layout.tables.items → HasNumber tables number → IsOwn w number → ⊥
+pub version_unowned : (w : TablesWritten) (order : Order) (files : Files) (d : Directory) (contents : List TableContent) (tables : List PlacedTable) (number : ℕ) → IsConsistent order files d → contents ≡ d.tables → ListsSameTables (placed_in contents) tables
+    → OwnsNone w d.layout.tables.items → ListsNumber tables number → IsOwn w number → ⊥
 version_unowned w order files d contents tables number consistent same listed none has own =
     let at = all_contains (Contains (placed_in contents)) tables has.0 listed.only has.1 in
     unowned w d.layout.tables.items number none (has.0, subst (λ (ps : List PlacedTable). Contains ps has.0) (ap placed_in same ∙ consistent.placed) at, has.2) own
 
 -- and their numbers were drawn
-pub version_number : (order : Order) (files : Files) (d : Directory) (next : ℕ) (contents : List TableContent) (tables : List PlacedTable) (number : ℕ) → IsConsistent order files d → IsFree order files next → contents ≡ d.tables → Lists (placed_in contents) tables
-    → HasNumber tables number → IsNumbered number × (number < next)
+pub version_number : (order : Order) (files : Files) (d : Directory) (next : ℕ) (contents : List TableContent) (tables : List PlacedTable) (number : ℕ) → IsConsistent order files d → IsFree order files next → contents ≡ d.tables → ListsSameTables (placed_in contents) tables
+    → ListsNumber tables number → IsNumbered number × (number < next)
 version_number order files d next contents tables number consistent free same listed has =
     let content = content_at d.tables has.0 (contains_among (placed_in d.tables) has.0 (subst (λ (cs : List TableContent). Contains (placed_in cs) has.0) same (all_contains (Contains (placed_in contents)) tables has.0 listed.only has.1))) in
     subst (λ (n : ℕ). IsNumbered n × (n < next)) (ap (λ (p : PlacedTable). p.table.number) content.2 ∙ has.2) (listed_number order files d next content.0 consistent free content.1)
@@ -117,7 +116,7 @@ all_inserted P new (placed ∷ tables) p h = at (is_before new placed) (all_inse
     at true later = (p, h)
     at false later = (h.0, later)
 
-pub owns_none_with : (w : Written) (new : PlacedTable) (tables after : List PlacedTable) → after ≡ inserted new tables → (IsOwn w new.table.number → ⊥) → OwnsNone w tables → OwnsNone w after
+pub owns_none_with : (w : TablesWritten) (new : PlacedTable) (tables after : List PlacedTable) → after ≡ inserted new tables → (IsOwn w new.table.number → ⊥) → OwnsNone w tables → OwnsNone w after
 owns_none_with w new tables after is other none number own =
     subst (λ (ts : List PlacedTable). is_used number ts ≡ false) (sym is)
     (unused_from number (inserted new tables)
@@ -184,14 +183,14 @@ module _ {K : Type 0} {g : _} (order : Order) (old new : Whole) (next more : ℕ
     | inr above ↦ (c.reach, c.begun.kept, (let used = c.begun.used in omega (arith, above, used)), λ entry i le. c.begun.above entry i)
   ]
 
-  unread_on : HaveKnown iterators tables open_ones → ((number : ℕ) → HasNumber tables number → IsOwn work.job.outputs number → ⊥) → (id : ℕ) (scan : Scan K g) → kept_at open_ones id ≡ Some scan → (number : ℕ) → HasNumber (tables_of scan) number → IsOwn work.job.outputs number → ⊥
+  unread_on : HaveKnown iterators tables open_ones → ((number : ℕ) → ListsNumber tables number → IsOwn work.job.outputs number → ⊥) → (id : ℕ) (scan : Scan K g) → kept_at open_ones id ≡ Some scan → (number : ℕ) → ListsNumber (tables_of scan) number → IsOwn work.job.outputs number → ⊥
   unread_on known none id scan is number has own = elim (known id scan is) [
-    | inl before ↦ c.unread before.0 before.1 before.2 number (subst (λ (ts : List PlacedTable). HasNumber ts number) before.3 has) own
-    | inr same ↦ none number (subst (λ (ts : List PlacedTable). HasNumber ts number) same has) own
+    | inl before ↦ c.unread before.0 before.1 before.2 number (subst (λ (ts : List PlacedTable). ListsNumber ts number) before.3 has) own
+    | inr same ↦ none number (subst (λ (ts : List PlacedTable). ListsNumber ts number) same has) own
   ]
 
   pub goes_on_as : IsRunning order new more e work c.came c.left → old.memory.last ≤ new.memory.last → AreKnown snapshots old.memory.last kept → HaveKnown iterators tables open_ones
-      → ((number : ℕ) → HasNumber tables number → IsOwn work.job.outputs number → ⊥)
+      → ((number : ℕ) → ListsNumber tables number → IsOwn work.job.outputs number → ⊥)
       → IsCompacting order new more kept open_ones e work
   goes_on_as running last known have none = record {
     came = c.came;
@@ -245,6 +244,6 @@ module _ {K : Type 0} {g : _} (order : Order) (old new : Whole) (next more : ℕ
     -- so it is where the directory has the same tables
     pub goes_beside : next ≤ more → KeepsJobFiles → (IsSound order.cmp old.seen → IsSound order.cmp new.seen) → ((number : ℕ) → KeepsOf new.seen number → KeepsOf old.seen number ⊎ ((number < next) × (IsOwn work.job.outputs number → ⊥)))
         → e.tables ≡ d.tables → e.layout.tables.items ≡ d.layout.tables.items → old.memory.last ≤ new.memory.last → AreKnown snapshots old.memory.last kept → HaveKnown iterators tables open_ones
-        → ((number : ℕ) → HasNumber tables number → IsOwn work.job.outputs number → ⊥) → IsCompacting order new more kept open_ones e work
+        → ((number : ℕ) → ListsNumber tables number → IsOwn work.job.outputs number → ⊥) → IsCompacting order new more kept open_ones e work
     goes_beside le files sound gathered tables_same listed last known have none =
         goes_on_as (stays_beside order work old new next more d e c.came c.left c.running (leaves_tables le files sound gathered tables_same listed)) last known have none

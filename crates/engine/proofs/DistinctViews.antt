@@ -6,7 +6,7 @@ use Rattle.std.specs.Cmp.Lexicographic.{slice_cmp, nat_list_cmp_total}
 use Rattle.std.specs.FinMap.{get, empty, insert, remove, get-empty, get-insert, get-remove}
 use Rattle.ikey.specs.declared.entry.Entry.{Entry}
 use Rattle.ikey.specs.Views.{Among, Contents, IsNewest, IsUnseen, IsView}
-use Rattle.recover.specs.Changes.{AreDistinct}
+use Rattle.recover.specs.Replacing.{AreDistinct}
 use Rattle.engine.proofs.EntryViews.{same_key, same_of}
 
 -- ---- the newest entry of a key

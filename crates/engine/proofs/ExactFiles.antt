@@ -19,20 +19,21 @@ use Rattle.db_cursor.specs.Scans.{tables_of}
 use Rattle.db_cursor.specs.declared.scan.Scan.{Scan}
 use Rattle.table_access.specs.Tables.{Seen}
 use Rattle.directory_writes.proofs.JobTables.{contains_among, content_at}
-use Rattle.directory_writes.specs.Compactions.{placed_in}
-use Rattle.versions.specs.Keeping.{HasNumber}
+use Rattle.directory_writes.specs.Replacing.{placed_in}
+use Rattle.versions.specs.Levels.{HasNumber}
 use Rattle.engine.specs.declared.ids.Ids.{Ids}
 use Rattle.engine.specs.declared.work.Progress.{Progress}
 use Rattle.engine.specs.declared.work.Progress.TheVariants as progress
 use Rattle.engine.specs.ExactFiles.{HasExactlyLive, IsLiveAtEase, LeavesExactlyLive}
-use Rattle.engine.specs.Follows.{LeadsOpen}
-use Rattle.engine.specs.Held.{Held, whole_of}
+use Rattle.engine.specs.internal.Leading.{LeadsOpen}
+use Rattle.engine.specs.OpenDb.{OpenDb, whole_of}
 use Rattle.engine.specs.InUse.{IsJobTable, IsTableRead, IsTableUsed}
-use Rattle.engine.specs.Iterators.{IsWalk}
-use Rattle.engine.specs.Live.{IsBoth, kept_at}
+use Rattle.reader.specs.internal.Iterators.{IsWalk}
+use Rattle.engine.specs.internal.Live.{IsBoth}
+use Rattle.engine.specs.Reads.{kept_at}
 use Rattle.machine.specs.Machine.{Machine}
 use Rattle.engine.specs.OptionValues.{OptionValues}
-use Rattle.engine.specs.Stands.{IsServing}
+use Rattle.engine.specs.internal.Standing.{IsServing}
 use Rattle.machine.specs.Upkeep.{Works}
 use Rattle.engine.specs.Working.{DoesWork, HasLiveOnly, IsLiveIn, work_answer}
 use Rattle.engine.proofs.Compacting.{all_contains}
@@ -47,7 +48,7 @@ both_of : {X Y : Type 0} (Is : X → Y → Type 0) (x : X) (o : Option X) (p : O
 both_of {X} {Y} Is x o None is h = absurd (subst (λ (q : Option X). IsBoth {X = X} {Y = Y} Is q None) is h)
 both_of {X} {Y} Is x o (Some y) is h = (y, subst (λ (q : Option X). IsBoth {X = X} {Y = Y} Is q (Some y)) is h)
 
-module _ {K : Type 0} {g : _} (order : Order) (source : Seen) (db : Held K g) (m : Machine) (serving : IsServing order source db m) where
+module _ {K : Type 0} {g : _} (order : Order) (source : Seen) (db : OpenDb K g) (m : Machine) (serving : IsServing order source db m) where
   abbrev d : Directory
   d = serving.log.directory.directory
 
@@ -118,7 +119,7 @@ module _ {K : Type 0} {g : _} (order : Order) (source : Seen) (db : Held K g) (m
 abbrev IsIdle : Result Progress DbError → Type 0
 IsIdle result = result ≡ Ok progress.Idle
 
-pub leaves_exactly : {K : Type 0} {g : _} (order : Order) (old new : Seen) (before after : Held K g) (options : OptionValues) (budget : ℕ) (done : Progress)
+pub leaves_exactly : {K : Type 0} {g : _} (order : Order) (old new : Seen) (before after : OpenDb K g) (options : OptionValues) (budget : ℕ) (done : Progress)
     → ((ids : Ids) → LeadsOpen order old new ids before after (λ m n. Works m budget (work_answer (Ok done)) n)) → (IsIdle (Ok done) → after.broken ≡ false)
     → (IsIdle (Ok done) → IsTrue new.facts.faithful → new.facts.failures ≡ old.facts.failures → HasLiveOnly new.facts.files after) → DoesWork order.cmp options budget before after (Ok done) → LeavesExactlyLive order old new before after (Ok done)
 leaves_exactly order old new before after options budget progress.Idle step whole tidy does is f same ids m s =

@@ -3,15 +3,15 @@ use Rattle.std.proofs.Common.{◌≡◌, ℕ, List, [], ◌∷◌, ◌++◌, len
 use Rattle.std.proofs.lemmas.List.{length-append}
 use Rattle.ikey.specs.Orders.{Order}
 use Rattle.ikey.specs.declared.entry.Entry.{Entry}
-use Rattle.memtables.specs.Changes.{IsWritten}
+use Rattle.memtables.specs.Changes.{HasMoreEntries}
 use Rattle.memtables.specs.Memories.{Memories, sealed_inserts}
-use Rattle.recover.specs.Changes.{IsExtended, ManifestEndsAt}
+use Rattle.recover.specs.internal.Changes.{IsExtended, ManifestEndsAt}
 use Rattle.recover.specs.Directory.{Directory}
 use Rattle.recover.specs.Logs.{LogContent, batch_entries, logged}
 use Rattle.recover.specs.Numbers.{IsFree}
 use Rattle.store.specs.Files.{Files}
-use Rattle.engine.specs.Knowing.{HasLogs, KnowsDirectory}
-use Rattle.engine.specs.declared.directory.DirectoryState.{DirectoryState}
+use Rattle.opening.specs.internal.Knowing.{HasLogs, KnowsDirectory}
+use Rattle.opening.specs.declared.directory.DirectoryState.{DirectoryState}
 
 -- a list ends in one way
 one_end : {X : Type 0} → (xs ys : List X) (x y : X) → xs ++ x ∷ [] ≡ ys ++ y ∷ [] → (xs ≡ ys) × (x ≡ y)
@@ -25,7 +25,7 @@ one_end (a ∷ xs) (b ∷ ys) x y e =
     ((λ i. first i ∷ ends.0 i), ends.1)
 
 -- The entries come behind those of the last log and of the current memory table.
-pub logs_extended : (d e : Directory) (log : ℕ) (old new : Memories) (more : List Entry) → IsExtended d e more → IsWritten old new more → HasLogs d log old → HasLogs e log new
+pub logs_extended : (d e : Directory) (log : ℕ) (old new : Memories) (more : List Entry) → IsExtended d e more → HasMoreEntries old new more → HasLogs d log old → HasLogs e log new
 logs_extended d e log old new more x written h =
     let same = one_end h.sealed x.before h.current x.last (sym h.logs ∙ x.old) in
     let sealed : new.sealed ≡ old.sealed = ap (λ (m : Memories). m.sealed) written.others in

@@ -11,20 +11,22 @@ use Rattle.memtables.specs.PlaceLaws.{left_onward, left_there}
 use Rattle.memtables.specs.Places.{LeavesMemories}
 use Rattle.table_access.specs.Tables.{Seen}
 use Rattle.store.specs.Files.{Facts}
-use Rattle.directory_writes.specs.Install.{Replaces}
-use Rattle.versions.specs.Keeping.{HasNumber}
+use Rattle.directory_writes.specs.Replacing.{ReplacesInputs}
+use Rattle.versions.specs.Levels.{HasNumber}
 use Rattle.versions.specs.declared.plan.JobPlan.{JobPlan}
 use Rattle.engine.specs.declared.ids.Ids.{Ids}
-use Rattle.engine.specs.Compacting.{IsCompacting}
-use Rattle.engine.specs.Finishing.{CompactOutcome, EndsJob, HasCome, ServesOn}
-use Rattle.engine.specs.Follows.{LeadsOpen}
-use Rattle.engine.specs.Held.{Held, whole_of}
+use Rattle.engine.specs.internal.Compacting.{IsCompacting}
+use Rattle.engine.specs.Finishing.{CompactOutcome}
+use Rattle.engine.specs.internal.JobsToEnd.{EndsJob, HasCome, ServesOn}
+use Rattle.engine.specs.internal.Leading.{LeadsOpen}
+use Rattle.engine.specs.OpenDb.{OpenDb, whole_of}
 use Rattle.machine.specs.Machine.{Machine, entry_count}
-use Rattle.engine.specs.Needed.{IsTakingAll}
+use Rattle.engine.specs.internal.TakingAll.{IsTakingAll}
 use Rattle.engine.specs.Outcomes.{DbOutcome, IsSame, KeepsViews, MayRefuseLevel, MayRefuseWork}
-use Rattle.engine.specs.Stands.{StandsOpen}
+use Rattle.engine.specs.internal.Standing.{StandsOpen}
 use Rattle.machine.specs.Upkeep.{Draws}
-use Rattle.engine.specs.Working.{GoesOn, IsFurther, IsPiece, MayRefusePiece}
+use Rattle.engine.specs.Working.{GoesOn, IsFurther}
+use Rattle.engine.specs.internal.Pieces.{IsPiece, MayRefusePiece}
 use Rattle.engine.specs.WrittenTables.{HasMerged, KeepsTableFiles, PutsMerged}
 use Rattle.engine.proofs.InUse.{as_used}
 use Rattle.engine.proofs.JobEnds.{inputs_listed, job_counted, merged_on}
@@ -34,17 +36,17 @@ use Rattle.engine.proofs.WorkSteps.{piece_done, piece_more, pieces_on}
 
 -- ---- over any store
 
-pub views_same : {K : Type 0} {g : _} (db : Held K g) → KeepsViews db db
+pub views_same : {K : Type 0} {g : _} (db : OpenDb K g) → KeepsViews db db
 views_same db = record { sequence = refl; snapshots = λ id. refl; iterators = λ id. refl }
 
-pub views_on : {K : Type 0} {g : _} (before between after : Held K g) → KeepsViews before between → KeepsViews between after → KeepsViews before after
+pub views_on : {K : Type 0} {g : _} (before between after : OpenDb K g) → KeepsViews before between → KeepsViews between after → KeepsViews before after
 views_on before between after first next = record {
   sequence = next.sequence ∙ first.sequence;
   snapshots = λ id. next.snapshots id ∙ first.snapshots id;
   iterators = λ id. next.iterators id ∙ first.iterators id;
 }
 
-pub serves_then : {K : Type 0} {g : _} (old mid new : Facts) (before between after : Held K g) → ServesOn old mid before between → ServesOn mid new between after → ServesOn old new before after
+pub serves_then : {K : Type 0} {g : _} (old mid new : Facts) (before between after : OpenDb K g) → ServesOn old mid before between → ServesOn mid new between after → ServesOn old new before after
 serves_then old mid new before between after first next = record {
   stood = next.stood ∙ first.stood;
   undenied = next.undenied ∙ first.undenied;
@@ -53,7 +55,7 @@ serves_then old mid new before between after first next = record {
   views = views_on before between after first.views next.views;
 }
 
-pub serves_same : {K : Type 0} {g : _} (facts : Facts) (db : Held K g) → db.broken ≡ false → ServesOn facts facts db db
+pub serves_same : {K : Type 0} {g : _} (facts : Facts) (db : OpenDb K g) → db.broken ≡ false → ServesOn facts facts db db
 serves_same facts db whole = record { stood = refl; undenied = refl; locked = refl; whole = whole; views = views_same db }
 
 abbrev SameAnswer : {T : Type 0} → Result T DbError → Result T DbError → Type 0
@@ -66,7 +68,7 @@ never_refused : {T : Type 0} {done : T} {e : DbError} → SameAnswer {T = T} (Ok
 never_refused is = cc
 
 -- a compaction that is done
-pub outcome_done : {T K : Type 0} {g : _} (may : DbError → Type 0) (old new : Facts) (before after : Held K g) (done : T) → before.broken ≡ false → ServesOn old new before after → CompactOutcome may old new before after (Ok done)
+pub outcome_done : {T K : Type 0} {g : _} (may : DbError → Type 0) (old new : Facts) (before after : OpenDb K g) (done : T) → before.broken ≡ false → ServesOn old new before after → CompactOutcome may old new before after (Ok done)
 outcome_done may old new before after done whole h = record {
   failures = (let stood = h.stood in omega (arith, stood));
   denials = h.undenied;
@@ -79,7 +81,7 @@ outcome_done may old new before after done whole h = record {
 }
 
 -- one behind steps that were done
-pub outcome_then : {T K : Type 0} {g : _} (may : DbError → Type 0) (old mid new : Facts) (before between after : Held K g) (result : Result T DbError) → before.broken ≡ false → ServesOn old mid before between → CompactOutcome may mid new between after result
+pub outcome_then : {T K : Type 0} {g : _} (may : DbError → Type 0) (old mid new : Facts) (before between after : OpenDb K g) (result : Result T DbError) → before.broken ≡ false → ServesOn old mid before between → CompactOutcome may mid new between after result
     → CompactOutcome may old new before after result
 outcome_then may old mid new before between after result whole first h = record {
   failures = (let stood = first.stood in let rise = h.failures in omega (arith, stood, rise));
@@ -93,7 +95,7 @@ outcome_then may old mid new before between after result whole first h = record 
 }
 
 -- what a refused step leaves
-pub outcome_of : {T U K : Type 0} {g : _} (old new : Facts) (before after : Held K g) (e : DbError) → new.locked ≡ old.locked → DbOutcome {T = T} MayRefusePiece old new before after (Err e) → CompactOutcome {T = U} MayRefusePiece old new before after (Err e)
+pub outcome_of : {T U K : Type 0} {g : _} (old new : Facts) (before after : OpenDb K g) (e : DbError) → new.locked ≡ old.locked → DbOutcome {T = T} MayRefusePiece old new before after (Err e) → CompactOutcome {T = U} MayRefusePiece old new before after (Err e)
 outcome_of {T} {U} old new before after e held h = record {
   failures = h.failures;
   denials = h.denials;
@@ -109,7 +111,7 @@ outcome_of {T} {U} old new before after e held h = record {
     as_other is = (let inner = refusal_in is in ap (λ (r : DbError). Err r) inner)
 
 -- a refusal that takes nothing but memory
-pub outcome_full : {T K : Type 0} {g : _} (facts : Facts) (db : Held K g) → CompactOutcome {T = T} MayRefusePiece facts facts db db (Err error.OutOfMemory)
+pub outcome_full : {T K : Type 0} {g : _} (facts : Facts) (db : OpenDb K g) → CompactOutcome {T = T} MayRefusePiece facts facts db db (Err error.OutOfMemory)
 outcome_full facts db = record {
   failures = omega arith;
   denials = refl;
@@ -122,13 +124,13 @@ outcome_full facts db = record {
 }
 
 -- by what a step says of both its ways
-pub outcome_by : {T K : Type 0} {g : _} (old new : Facts) (before after : Held K g) (result : Result T DbError) → before.broken ≡ false → new.locked ≡ old.locked → DbOutcome MayRefusePiece old new before after result → OnOk result (ServesOn old new before after)
+pub outcome_by : {T K : Type 0} {g : _} (old new : Facts) (before after : OpenDb K g) (result : Result T DbError) → before.broken ≡ false → new.locked ≡ old.locked → DbOutcome MayRefusePiece old new before after result → OnOk result (ServesOn old new before after)
     → CompactOutcome MayRefusePiece old new before after result
 outcome_by old new before after (Ok done) whole held h serves = outcome_done MayRefusePiece old new before after done whole serves
 outcome_by old new before after (Err e) whole held h serves = outcome_of old new before after e held h
 
 -- what the first step of a compaction leaves
-pub serves_begun : {K : Type 0} {g : _} (old new : Facts) (before after : Held K g) → new.failures ≡ old.failures → new.denials ≡ old.denials → new.locked ≡ old.locked → after.broken ≡ false → IsSame before after → ServesOn old new before after
+pub serves_begun : {K : Type 0} {g : _} (old new : Facts) (before after : OpenDb K g) → new.failures ≡ old.failures → new.denials ≡ old.denials → new.locked ≡ old.locked → after.broken ≡ false → IsSame before after → ServesOn old new before after
 serves_begun old new before after stood undenied held whole same = record {
   stood = stood;
   undenied = undenied;
@@ -138,7 +140,7 @@ serves_begun old new before after stood undenied held whole same = record {
 }
 
 -- a refusal that shows in the state
-pub outcome_stays : {K : Type 0} {g : _} (may_be : DbError → Type 0) (facts : Facts) (db : Held K g) (e : DbError) → (e ≡ error.Io → ⊥) → may_be e → CompactOutcome {T = Unit {0}} may_be facts facts db db (Err e)
+pub outcome_stays : {K : Type 0} {g : _} (may_be : DbError → Type 0) (facts : Facts) (db : OpenDb K g) (e : DbError) → (e ≡ error.Io → ⊥) → may_be e → CompactOutcome {T = Unit {0}} may_be facts facts db db (Err e)
 outcome_stays may_be facts db e other may = record {
   failures = omega arith;
   denials = refl;
@@ -166,7 +168,7 @@ may_refuse_level (error.Unsupported what) h = tt
 may_refuse_level error.NumbersSpent h = tt
 may_refuse_level _ h = absurd h
 
-as_may : {T K : Type 0} {g : _} (may more : DbError → Type 0) → ((e : DbError) → may e → more e) → (old new : Facts) (before after : Held K g) (result : Result T DbError) → CompactOutcome may old new before after result → CompactOutcome more old new before after result
+as_may : {T K : Type 0} {g : _} (may more : DbError → Type 0) → ((e : DbError) → may e → more e) → (old new : Facts) (before after : OpenDb K g) (result : Result T DbError) → CompactOutcome may old new before after result → CompactOutcome more old new before after result
 as_may {T} may more widens old new before after result h =
     record { failures = h.failures; denials = h.denials; locked = h.locked; io = h.io; memory = h.memory; allowed = at result h.allowed; views = h.views; broken = h.broken }
   where
@@ -174,7 +176,7 @@ as_may {T} may more widens old new before after result h =
     at (Ok x) is = tt
     at (Err e) is = widens e is
 
-module _ {T K : Type 0} {g : _} (old new : Facts) (before after : Held K g) (result : Result T DbError) where
+module _ {T K : Type 0} {g : _} (old new : Facts) (before after : OpenDb K g) (result : Result T DbError) where
   pub outcome_all_as : CompactOutcome MayRefusePiece old new before after result → CompactOutcome MayRefuseWork old new before after result
   outcome_all_as h = as_may MayRefusePiece MayRefuseWork may_refuse_work old new before after result h
 
@@ -186,7 +188,7 @@ module _ {T K : Type 0} {g : _} (old new : Facts) (before after : Held K g) (res
 same_count : (m n : Machine) (k : ℕ) → Draws m k n → entry_count n ≡ entry_count m
 same_count m n k drawn = ap entry_count drawn.1
 
-module _ {K : Type 0} {g : _} (order : Order) (old mid new : Seen) (ids : Ids) (before between after : Held K g) where
+module _ {K : Type 0} {g : _} (order : Order) (old mid new : Seen) (ids : Ids) (before between after : OpenDb K g) where
   -- bounds by the number of entries add up
   pub then_bound : {T U : Type 0} (few most : ℕ → ℕ) (done : T) (result : Result U DbError) → LeadsOpen order old mid ids before between (λ m n. IsPiece m (few (entry_count m)) (Ok done) n)
       → LeadsOpen order mid new ids between after (λ m n. IsPiece m (most (entry_count m)) result n) → LeadsOpen order old new ids before after (λ m n. IsPiece m (few (entry_count m) + most (entry_count m)) result n)
@@ -199,7 +201,7 @@ module _ {K : Type 0} {g : _} (order : Order) (old mid new : Seen) (ids : Ids) (
         (two.0, pieces_on m one.0 two.0 (few (entry_count m)) (most (entry_count m)) done result one.1 (subst (λ (e : ℕ). IsPiece one.0 (most e) result two.0) same two.1), two.2);
   }
 
-module _ {K : Type 0} {g : _} (order : Order) (old new : Seen) (ids : Ids) (before after : Held K g) where
+module _ {K : Type 0} {g : _} (order : Order) (old new : Seen) (ids : Ids) (before after : OpenDb K g) where
   pub within_bound : {T : Type 0} (few most : ℕ → ℕ) (result : Result T DbError) → ((e : ℕ) → few e ≤ most e) → LeadsOpen order old new ids before after (λ m n. IsPiece m (few (entry_count m)) result n)
       → LeadsOpen order old new ids before after (λ m n. IsPiece m (most (entry_count m)) result n)
   within_bound few most result le step = record {
@@ -214,16 +216,16 @@ module _ {K : Type 0} {g : _} (order : Order) (old new : Seen) (ids : Ids) (befo
   }
 
 -- where nothing is done, the machine stays
-pub stays_done : {T K : Type 0} {g : _} (order : Order) (source : Seen) (ids : Ids) (db : Held K g) (most : ℕ → ℕ) (done : T) → LeadsOpen order source source ids db db (λ m n. IsPiece m (most (entry_count m)) (Ok done) n)
+pub stays_done : {T K : Type 0} {g : _} (order : Order) (source : Seen) (ids : Ids) (db : OpenDb K g) (most : ℕ → ℕ) (done : T) → LeadsOpen order source source ids db db (λ m n. IsPiece m (most (entry_count m)) (Ok done) n)
 stays_done order source ids db most done = record { faithful = λ f. f; moved = λ f m s. (m, record { failures = omega arith; denials = refl; what = ((omega arith, omega arith), refl) }, s) }
 
-pub stays_full : {T K : Type 0} {g : _} (order : Order) (source : Seen) (ids : Ids) (db : Held K g) (most : ℕ → ℕ) → LeadsOpen order source source ids db db (λ m n. IsPiece {T = T} m (most (entry_count m)) (Err error.OutOfMemory) n)
+pub stays_full : {T K : Type 0} {g : _} (order : Order) (source : Seen) (ids : Ids) (db : OpenDb K g) (most : ℕ → ℕ) → LeadsOpen order source source ids db db (λ m n. IsPiece {T = T} m (most (entry_count m)) (Err error.OutOfMemory) n)
 stays_full order source ids db most = record { faithful = λ f. f; moved = λ f m s. (m, record { failures = omega arith; denials = refl; what = ((omega arith, omega arith), refl) }, s) }
 
 -- ---- one step after the other
 
 -- what came to the compaction under way is no more than there is
-stands_counted : {K : Type 0} {g : _} (order : Order) (total : IsTotalOrder order.cmp) (source : Seen) (ids : Ids) (db : Held K g) (m : Machine) (work : OpenJob K g) → db.broken ≡ false → db.job ≡ Some work → StandsOpen order source ids db m
+stands_counted : {K : Type 0} {g : _} (order : Order) (total : IsTotalOrder order.cmp) (source : Seen) (ids : Ids) (db : OpenDb K g) (m : Machine) (work : OpenJob K g) → db.broken ≡ false → db.job ≡ Some work → StandsOpen order source ids db m
     → work.merged ≤ entry_count m
 stands_counted {K} {g} order total source ids db m work whole is s =
     let serving = serving_of order source ids db m whole s in
@@ -231,7 +233,7 @@ stands_counted {K} {g} order total source ids db m work whole is s =
     job_counted order total source db m serving work c
 
 -- its inputs are tables of the version
-stands_listed : {K : Type 0} {g : _} (order : Order) (total : IsTotalOrder order.cmp) (source : Seen) (ids : Ids) (db : Held K g) (m : Machine) (work : OpenJob K g) → db.broken ≡ false → db.job ≡ Some work → StandsOpen order source ids db m
+stands_listed : {K : Type 0} {g : _} (order : Order) (total : IsTotalOrder order.cmp) (source : Seen) (ids : Ids) (db : OpenDb K g) (m : Machine) (work : OpenJob K g) → db.broken ≡ false → db.job ≡ Some work → StandsOpen order source ids db m
     → (placed : PlacedTable) → Contains work.job.plan.inputs.items placed → Contains db.tables placed
 stands_listed {K} {g} order total source ids db m work whole is s =
     let serving = serving_of order source ids db m whole s in
@@ -239,7 +241,7 @@ stands_listed {K} {g} order total source ids db m work whole is s =
     inputs_listed order total source db m serving work c
 
 -- So many steps were taken, and the compaction is under way still.
-pub record Taken {K : Type 0} {g : _} (order : Order) (old new : Seen) (before after : Held K g) (steps : ℕ) : Type 0 where
+pub record Taken {K : Type 0} {g : _} (order : Order) (old new : Seen) (before after : OpenDb K g) (steps : ℕ) : Type 0 where
   pub work : OpenJob K g
   pub was : before.job ≡ Some work
   pub more : OpenJob K g
@@ -255,7 +257,7 @@ pub record Taken {K : Type 0} {g : _} (order : Order) (old new : Seen) (before a
   pub all : IsTakingAll before → IsTakingAll after
   pub step : (ids : Ids) → LeadsOpen order old new ids before after (λ m n. IsPiece m steps (Ok (tt {0})) n)
 
-pub taken_none : {K : Type 0} {g : _} (order : Order) (source : Seen) (db : Held K g) (work : OpenJob K g) → db.broken ≡ false → db.job ≡ Some work → Taken order source source db db 0
+pub taken_none : {K : Type 0} {g : _} (order : Order) (source : Seen) (db : OpenDb K g) (work : OpenJob K g) → db.broken ≡ false → db.job ≡ Some work → Taken order source source db db 0
 taken_none order source db work whole is = record {
   work = work;
   was = is;
@@ -280,12 +282,12 @@ job_there (Some x) some = (x, refl)
 job_in : {X : Type 0} (a b : X) → Some a ≡ Some b → a ≡ b
 job_in a b is = cc
 
-module _ {K : Type 0} {g : _} (order : Order) (old mid new : Seen) (before between after : Held K g) (steps : ℕ) (t : Taken order old mid before between steps) where
+module _ {K : Type 0} {g : _} (order : Order) (old mid new : Seen) (before between after : OpenDb K g) (steps : ℕ) (t : Taken order old mid before between steps) where
   pub taken_more : GoesOn 1 between after → IsSome after.job → ServesOn mid.facts new.facts between after → LeavesMemories between.memory after.memory → (IsTakingAll between → IsTakingAll after)
       → (IsTrue new.facts.faithful → KeepsTableFiles order mid new between) → ((ids : Ids) → LeadsOpen order mid new ids between after (λ m n. IsPiece m 1 (Ok false) n)) → Taken order old new before after (steps + 1)
   taken_more goes some serves memory all beside step = at after.job refl goes.on some
     where
-      at : (o : Option (OpenJob K g)) → after.job ≡ o → MatchOption o (Replaces goes.work.job.plan between.tables after.tables) (λ more. IsFurther goes.work (max 1 1) more × (after.tables ≡ between.tables)) → IsSome o → Taken order old new before after (steps + 1)
+      at : (o : Option (OpenJob K g)) → after.job ≡ o → MatchOption o (ReplacesInputs goes.work.job.plan between.tables after.tables) (λ more. IsFurther goes.work (max 1 1) more × (after.tables ≡ between.tables)) → IsSome o → Taken order old new before after (steps + 1)
       at None is on some = absurd (cc)
       at (Some more) is on some =
           let same = job_in goes.work t.more (sym goes.was ∙ t.now) in
@@ -310,13 +312,13 @@ module _ {K : Type 0} {g : _} (order : Order) (old mid new : Seen) (before betwe
           }
 
   -- all came, and the outputs are in the place of the inputs
-  pub taken_done : GoesOn 1 between after → after.job ≡ None → MatchOption before.job (Unit {0}) (λ work. Replaces work.job.plan before.tables after.tables)
+  pub taken_done : GoesOn 1 between after → after.job ≡ None → MatchOption before.job (Unit {0}) (λ work. ReplacesInputs work.job.plan before.tables after.tables)
   taken_done goes none =
       let same = job_in goes.work t.more (sym goes.was ∙ t.now) in
-      let done = subst (λ (o : Option (OpenJob K g)). MatchOption o (Replaces goes.work.job.plan between.tables after.tables) (λ more. IsFurther goes.work (max 1 1) more × (after.tables ≡ between.tables))) none goes.on in
+      let done = subst (λ (o : Option (OpenJob K g)). MatchOption o (ReplacesInputs goes.work.job.plan between.tables after.tables) (λ more. IsFurther goes.work (max 1 1) more × (after.tables ≡ between.tables))) none goes.on in
       let plan : goes.work.job.plan ≡ t.work.job.plan = ap (λ (w : OpenJob K g). w.job.plan) same ∙ t.plan in
-      subst (λ (o : Option (OpenJob K g)). MatchOption o (Unit {0}) (λ work. Replaces work.job.plan before.tables after.tables)) (sym t.was)
-      (subst (λ (p : JobPlan). Replaces p before.tables after.tables) plan (subst (λ (ts : List PlacedTable). Replaces goes.work.job.plan ts after.tables) t.tables done))
+      subst (λ (o : Option (OpenJob K g)). MatchOption o (Unit {0}) (λ work. ReplacesInputs work.job.plan before.tables after.tables)) (sym t.was)
+      (subst (λ (p : JobPlan). ReplacesInputs p before.tables after.tables) plan (subst (λ (ts : List PlacedTable). ReplacesInputs goes.work.job.plan ts after.tables) t.tables done))
 
   -- and what must be kept of the inputs' entries is in them
   pub taken_merged : {P : Machine → Machine → Type 0} (total : IsTotalOrder order.cmp) → before.broken ≡ false → ((ids : Ids) → LeadsOpen order mid new ids between after P) → PutsMerged order mid new between after → PutsMerged order old new before after
@@ -363,7 +365,7 @@ module _ {K : Type 0} {g : _} (order : Order) (old mid new : Seen) (before betwe
   }
 
 -- no database has so many entries
-pub taken_all : {K : Type 0} {g : _} (order : Order) (total : IsTotalOrder order.cmp) (old new : Seen) (before after : Held K g) (steps : ℕ) → Taken order old new before after steps → steps ≡ 2 ^ 64 - 1 → (ids : Ids)
+pub taken_all : {K : Type 0} {g : _} (order : Order) (total : IsTotalOrder order.cmp) (old new : Seen) (before after : OpenDb K g) (steps : ℕ) → Taken order old new before after steps → steps ≡ 2 ^ 64 - 1 → (ids : Ids)
     → LeadsOpen order old new ids before after (λ m n. EndsJob {T = Unit {0}} m (Err error.OutOfMemory) n)
 taken_all order total old new before after steps t all ids = record {
   faithful = (t.step ids).faithful;
@@ -377,5 +379,5 @@ taken_all order total old new before after steps t all ids = record {
 }
 
 -- out of memory behind all of them
-pub outcome_all : {K : Type 0} {g : _} (old new : Facts) (before after : Held K g) → before.broken ≡ false → ServesOn old new before after → CompactOutcome {T = Unit {0}} MayRefusePiece old new before after (Err error.OutOfMemory)
+pub outcome_all : {K : Type 0} {g : _} (old new : Facts) (before after : OpenDb K g) → before.broken ≡ false → ServesOn old new before after → CompactOutcome {T = Unit {0}} MayRefusePiece old new before after (Err error.OutOfMemory)
 outcome_all old new before after whole serves = outcome_then MayRefusePiece old new new before after after (Err error.OutOfMemory) whole serves (outcome_full new after)

@@ -14,20 +14,20 @@ use Rattle.ikey.specs.declared.entry.Entry.{Entry}
 use Rattle.ikey.proofs.SearchedSources.{among_back, among_front}
 use Rattle.memtables.specs.Memories.{Memories, logged_in, sealed_inserts}
 use Rattle.recover.proofs.Memberships.{new_in_with, one_of_tables}
-use Rattle.recover.specs.Changes.{with_content}
+use Rattle.recover.specs.internal.Changes.{with_content}
 use Rattle.recover.specs.Directory.{Directory}
 use Rattle.recover.specs.Entries.{RiseAbove}
-use Rattle.recover.specs.Laws.{OneDirectoryLaw}
+use Rattle.recover.specs.internal.Laws.{OneDirectoryLaw}
 use Rattle.recover.specs.Logs.{LogContent}
 use Rattle.recover.specs.Tables.{tabled}
-use Rattle.db_cursor.specs.Scanning.{ScanIsKept}
+use Rattle.db_cursor.specs.internal.Scanning.{ScanIsKept}
 use Rattle.db_cursor.specs.declared.scan.Scan.{Scan}
 use Rattle.table_access.specs.Tables.{Seen, IsSound, SoundLasts}
 use Rattle.store.specs.Files.{Facts}
-use Rattle.directory_writes.specs.Compactions.{placed_in}
-use Rattle.directory_writes.specs.Flush.{CanFlush, DrawsTable, FlushMeans, FlushTouches, IsCorrupt, IsFlushed, MayBeFlushed, RefusesFlush, RefusesTable}
+use Rattle.directory_writes.specs.Replacing.{placed_in}
+use Rattle.directory_writes.specs.internal.Flush.{CanFlush, DrawsTable, FlushMeans, FlushTouches, IsCorrupt, IsFlushed, MayBeFlushed, RefusesFlush, RefusesNewTable}
 use Rattle.compact.specs.Rooms.{room_of}
-use Rattle.directory_writes.specs.Level0.{IsTooLarge}
+use Rattle.directory_writes.specs.internal.Level0.{IsTooLarge}
 use Rattle.directory_writes.specs.declared.flush.FlushError.{FlushError}
 use Rattle.directory_writes.specs.declared.flush.FlushError.TheVariants.{Before, Edit}
 use Rattle.directory_writes.specs.declared.flush.FlushPlan.{FlushPlan}
@@ -35,12 +35,12 @@ use Rattle.versions.specs.Levels.{AreInOrder, Placement}
 use Rattle.engine.specs.declared.ids.Ids.{Ids}
 use Rattle.engine.specs.declared.state.DbState.{DbState}
 use Rattle.engine.specs.declared.work.Progress.{Progress}
-use Rattle.engine.specs.Follows.{LeadsOpen}
-use Rattle.engine.specs.Held.{Held, entries_of, held, whole_of}
+use Rattle.engine.specs.internal.Leading.{LeadsOpen}
+use Rattle.engine.specs.OpenDb.{OpenDb, open_db, whole_of}
+use Rattle.engine.specs.internal.Standing.{entries_of, IsServing}
 use Rattle.machine.specs.Machine.{Machine, entry_count, weight}
-use Rattle.engine.specs.Stands.{IsServing}
 use Rattle.machine.specs.Upkeep.{UpkeepRefused}
-use Rattle.engine.specs.Working.{IsPiece, IsSameMemory, broken_by, flush_answer}
+use Rattle.engine.specs.internal.Pieces.{IsPiece, IsSameMemory, broken_by, flush_answer}
 use Rattle.engine.specs.WrittenTables.{FlushesSealed, PutsSealed}
 use Rattle.engine.proofs.Compacting.{all_contains, each_job, goes_beside, have_itself, known_itself, version_unowned}
 use Rattle.engine.proofs.Flushing.{NamesStay, names_same, names_unchanged, FlushKept, StaysBelow, broken_flush, can_flush, serving_flushed, serving_unflushed, sound_beside, sound_unchanged, table_same, table_unchanged}
@@ -65,8 +65,8 @@ module _ {K : Type 0} {g : _} (order : Order) (kept : (scan : Scan K g) → Scan
   abbrev next : ℕ
   next = state.directory.numbers.next
 
-  abbrev before : Held K g
-  before = held memory state
+  abbrev before : OpenDb K g
+  before = open_db memory state
 
   abbrev new : Seen
   new = record old { facts = facts }
@@ -111,7 +111,7 @@ module _ {K : Type 0} {g : _} (order : Order) (kept : (scan : Scan K g) → Scan
         let is = ap room_of entries_are in
         omega (arith, least, within, is)
 
-    refused : (e : DbError) → IsTrue facts.faithful → RefusesTable e old.facts facts entries before.tables next numbers.next → (IsCorrupt e → ⊥) → m.failures ≡ old.facts.failures → (e ≡ error.Io → ⊥) → UpkeepRefused m 1 e (drawing m 1 facts)
+    refused : (e : DbError) → IsTrue facts.faithful → RefusesNewTable e old.facts facts entries before.tables next numbers.next → (IsCorrupt e → ⊥) → m.failures ≡ old.facts.failures → (e ≡ error.Io → ⊥) → UpkeepRefused m 1 e (drawing m 1 facts)
     refused error.OutOfMemory f h sound same other = draws m 1 facts
     refused error.Io f h sound same other = absurd (other refl)
     refused (error.Unsupported what) f h sound same other = (inr (heavy f h), draws m 1 facts)
@@ -123,9 +123,9 @@ module _ {K : Type 0} {g : _} (order : Order) (kept : (scan : Scan K g) → Scan
   Leaves e = IsTrue facts.faithful → (m : Machine) (serving : IsServing order old before m) → FlushMeans {K = K} order old.facts.files facts.files next numbers.next plan state.directory.manifest entries before.tables serving.log.directory.directory serving.log.logs.sealed serving.log.logs.current (Err e)
 
   -- nothing of the directory was changed
-  unflushed : {T : Type 0} (e : DbError) → RefusesTable e old.facts facts entries before.tables next numbers.next → Leaves (Before e) → (e ≡ error.Io → ⊥) → LeadsOpen order old new ids before (held memory drawn) (λ m n. IsPiece {T = T} m 1 (Err e) n)
+  unflushed : {T : Type 0} (e : DbError) → RefusesNewTable e old.facts facts entries before.tables next numbers.next → Leaves (Before e) → (e ≡ error.Io → ⊥) → LeadsOpen order old new ids before (open_db memory drawn) (λ m n. IsPiece {T = T} m 1 (Err e) n)
   unflushed e refuses leaves other =
-      serves_on order old new ids before (held memory drawn) 1 (Err e) whole whole touches.faithful touches.failures touches.denials
+      serves_on order old new ids before (open_db memory drawn) 1 (Err e) whole whole touches.faithful touches.failures touches.denials
       (λ m f same serving.
       let left = leaves f m serving in (
         refused m serving e f refuses left.0 same other,
@@ -135,14 +135,14 @@ module _ {K : Type 0} {g : _} (order : Order) (kept : (scan : Scan K g) → Scan
   -- the device failed
   failed : {T : Type 0} → old.facts.failures < facts.failures
       → (IsTrue facts.faithful → (m : Machine) (serving : IsServing order old before m) → MayBeFlushed order old.facts.files facts.files next numbers.next entries serving.log.directory.directory serving.log.logs.sealed serving.log.logs.current)
-      → LeadsOpen order old new ids before (held memory (record drawn { broken = true })) (λ m n. IsPiece {T = T} m 1 (Err error.Io) n)
+      → LeadsOpen order old new ids before (open_db memory (record drawn { broken = true })) (λ m n. IsPiece {T = T} m 1 (Err error.Io) n)
   failed rise may =
-      breaks order old new ids before (held memory (record drawn { broken = true })) 1 (Err error.Io) refl whole refl touches.faithful rise touches.denials
+      breaks order old new ids before (open_db memory (record drawn { broken = true })) 1 (Err error.Io) refl whole refl touches.faithful rise touches.denials
       (λ m f serving.
       let either = may f m serving in
       broken_flush order kept one lasts law flushes old facts before m serving plan numbers.next (stays_below m serving f) (names_below m serving f) (sound_still m serving f) either.free upto.1 entries either)
 
-  unflushed_by : {T : Type 0} (e : FlushError) → RefusesFlush e old.facts facts entries before.tables next numbers.next → Leaves e → LeadsOpen order old new ids before (held memory (broken_by drawn (flush_answer e))) (λ m n. IsPiece {T = T} m 1 (Err (flush_answer e)) n)
+  unflushed_by : {T : Type 0} (e : FlushError) → RefusesFlush e old.facts facts entries before.tables next numbers.next → Leaves e → LeadsOpen order old new ids before (open_db memory (broken_by drawn (flush_answer e))) (λ m n. IsPiece {T = T} m 1 (Err (flush_answer e)) n)
   unflushed_by (Before error.OutOfMemory) refuses leaves = unflushed error.OutOfMemory refuses leaves (λ e. cc)
   unflushed_by (Before error.Io) refuses leaves = failed refuses (λ f m serving. let left = (leaves f m serving).1 in record { either = inl (left.can.consistent, left.kept); free = left.can.free })
   unflushed_by (Before (error.Unsupported what)) refuses leaves = unflushed (error.Unsupported what) refuses leaves (λ e. cc)
@@ -155,7 +155,7 @@ module _ {K : Type 0} {g : _} (order : Order) (kept : (scan : Scan K g) → Scan
   pub ends_unflushed : {T : Type 0} (tables : List PlacedTable) → tables ≡ before.tables → (e : FlushError) → RefusesFlush e old.facts facts entries tables next numbers.next
       → (IsTrue facts.faithful → (d : Directory) (sealed : List LogContent) (current : LogContent) → CanFlush order old.facts.files next plan state.directory.manifest entries tables d sealed current
       → FlushMeans {K = K} order old.facts.files facts.files next numbers.next plan state.directory.manifest entries tables d sealed current (Err e))
-      → LeadsOpen order old new ids before (held memory (broken_by drawn (flush_answer e))) (λ m n. IsPiece {T = T} m 1 (Err (flush_answer e)) n)
+      → LeadsOpen order old new ids before (open_db memory (broken_by drawn (flush_answer e))) (λ m n. IsPiece {T = T} m 1 (Err (flush_answer e)) n)
   ends_unflushed tables are e refuses leaves =
       unflushed_by e (subst (λ (ts : List PlacedTable). RefusesFlush e old.facts facts entries ts next numbers.next) are refuses)
       (λ f m serving.
@@ -172,10 +172,10 @@ module _ {K : Type 0} {g : _} (order : Order) (kept : (scan : Scan K g) → Scan
   pub ends_flushed : (end : ℕ) (version : Rc Placement Global) (after : DbState K g) → after ≡ with_table end version
       → AreInOrder order.cmp version.value.tables
       → (IsTrue facts.faithful → (m : Machine) (serving : IsServing order old before m) → IsFlushed order old.facts.files facts.files next numbers.next end entries version.value.tables serving.log.directory.directory serving.log.logs.sealed serving.log.logs.current)
-      → LeadsOpen order old new ids before (held (record memory { sealed = None }) after) (λ m n. IsPiece m 1 (Ok (tt {0})) n)
+      → LeadsOpen order old new ids before (open_db (record memory { sealed = None }) after) (λ m n. IsPiece m 1 (Ok (tt {0})) n)
   ends_flushed end version after is in_order has =
-      subst (λ (s : DbState K g). LeadsOpen order old new ids before (held (record memory { sealed = None }) s) (λ m n. IsPiece m 1 (Ok (tt {0})) n)) (sym is)
-      (serves_on order old new ids before (held (record memory { sealed = None }) (with_table end version)) 1 (Ok (tt {0})) whole whole touches.faithful touches.failures touches.denials
+      subst (λ (s : DbState K g). LeadsOpen order old new ids before (open_db (record memory { sealed = None }) s) (λ m n. IsPiece m 1 (Ok (tt {0})) n)) (sym is)
+      (serves_on order old new ids before (open_db (record memory { sealed = None }) (with_table end version)) 1 (Ok (tt {0})) whole whole touches.faithful touches.failures touches.denials
       (λ m f same serving.
       let done = has f m serving in (
         draws m 1 facts,
@@ -185,9 +185,9 @@ module _ {K : Type 0} {g : _} (order : Order) (kept : (scan : Scan K g) → Scan
   -- and its file has the entries of the memory table
   pub table_put : (end : ℕ) (version : Rc Placement Global) (after : DbState K g) → after ≡ with_table end version
       → (IsTrue facts.faithful → (m : Machine) (serving : IsServing order old before m) → IsFlushed order old.facts.files facts.files next numbers.next end entries version.value.tables serving.log.directory.directory serving.log.logs.sealed serving.log.logs.current)
-      → PutsSealed order old new before (held (record memory { sealed = None }) after)
+      → PutsSealed order old new before (open_db (record memory { sealed = None }) after)
   table_put end version after is has =
-      subst (λ (s : DbState K g). PutsSealed order old new before (held (record memory { sealed = None }) s)) (sym is)
+      subst (λ (s : DbState K g). PutsSealed order old new before (open_db (record memory { sealed = None }) s)) (sym is)
       (λ f given m s.
       let serving = serving_of order old given before m whole s in
       let done = has f m serving in
@@ -213,7 +213,7 @@ module _ {K : Type 0} {g : _} (order : Order) (kept : (scan : Scan K g) → Scan
   logged_same : logged_in let_go ≡ logged_in memory
   logged_same = ap (λ (es : List Entry). es ++ memory.current.inserts) (sym none)
 
-  serving_let_go : (m : Machine) → IsServing order source (held memory state) m → IsServing order source (held let_go state) (drawing m 1 source.facts)
+  serving_let_go : (m : Machine) → IsServing order source (open_db memory state) m → IsServing order source (open_db let_go state) (drawing m 1 source.facts)
   serving_let_go m h =
       let knows = h.log.knows in
       let logs = h.log.logs in
@@ -231,27 +231,27 @@ module _ {K : Type 0} {g : _} (order : Order) (kept : (scan : Scan K g) → Scan
         tables = record { version = h.tables.version; in_order = h.tables.in_order; sound = h.tables.sound; drawn = h.tables.drawn };
         entries = record { used = h.entries.used; fits = h.entries.fits; view = rw (logged_same) h.entries.view; bounded = rw (logged_same) h.entries.bounded };
         snapshots = rw (logged_same) h.snapshots;
-        iterators = walks_each order kept (whole_of source (held memory state)) (whole_of source (held let_go state)) state.iterators m
+        iterators = walks_each order kept (whole_of source (open_db memory state)) (whole_of source (open_db let_go state)) state.iterators m
             (λ id scan walk there is. record { memory = λ cursor reads within. flushes cursor memory let_go refl; files = λ number reads. refl; sound = λ sound. sound }) (omega arith) h.iterators;
         accounted = rw (logged_same) h.accounted;
         readable = record { made = h.readable.made; numbers = free_up order source.facts.files m.numbers (m.numbers + 1) (omega arith) h.readable.numbers; limits = h.readable.limits };
         numbers = (let below = h.numbers in omega (arith, below));
         job = each_job _ _ state.job (λ work is c.
             let d = a.directory in
-            goes_beside order (whole_of source (held memory state)) (whole_of source (held let_go state)) state.directory.numbers.next state.directory.numbers.next state.snapshots state.snapshots state.iterators state.iterators state.version.value.tables d d work c
+            goes_beside order (whole_of source (open_db memory state)) (whole_of source (open_db let_go state)) state.directory.numbers.next state.directory.numbers.next state.snapshots state.snapshots state.iterators state.iterators state.version.value.tables d d work c
             a.consistent knows.free state.directory.numbers.in_range.1 (omega arith) (λ number numbered below one. (refl, refl)) (λ sound. sound) (λ number kept_now. inl kept_now) refl refl
             (omega arith) (known_itself state.snapshots memory.last) (have_itself state.iterators state.version.value.tables)
             (λ number. version_unowned work.job.outputs order source.facts.files d h.contents state.version.value.tables number a.consistent a.in_tables h.tables.version c.running.unused)) h.job;
       }
 
-  pub ends_let_go : LeadsOpen order source source ids (held memory state) (held let_go state) (λ m n. IsPiece m 1 (Ok (tt {0})) n)
+  pub ends_let_go : LeadsOpen order source source ids (open_db memory state) (open_db let_go state) (λ m n. IsPiece m 1 (Ok (tt {0})) n)
   ends_let_go =
-      serves_on order source source ids (held memory state) (held let_go state) 1 (Ok (tt {0})) whole whole (λ f. f) (omega arith) refl
+      serves_on order source source ids (open_db memory state) (open_db let_go state) 1 (Ok (tt {0})) whole whole (λ f. f) (omega arith) refl
       (λ m f same serving. (draws m 1 source.facts, serving_let_go m serving))
 
 -- ---- behind a removal
 
-pub flushes_behind : {K : Type 0} {g : _} (order : Order) (old mid new : Seen) (before : Held K g) (memory : Memories) (after : Held K g) (result : Result Progress DbError) {P : Machine → Machine → Type 0}
+pub flushes_behind : {K : Type 0} {g : _} (order : Order) (old mid new : Seen) (before : OpenDb K g) (memory : Memories) (after : OpenDb K g) (result : Result Progress DbError) {P : Machine → Machine → Type 0}
     → ((ids : Ids) → LeadsOpen order old mid ids before (record before { memory = memory }) P) → (IsTrue new.facts.faithful → IsTrue mid.facts.faithful) → IsSameMemory before.memory memory → FlushesSealed order mid new (record before { memory = memory }) after result
     → FlushesSealed order old new before after result
 flushes_behind order old mid new before memory after result leads still same flushes done idle some f ids m s =

@@ -17,43 +17,44 @@ use Rattle.memtables.specs.Memories.{Memories, logged_in, sealed_inserts}
 use Rattle.memtables.specs.Places.{MemoriesPlace, KeepsMemories}
 use Rattle.running_job.proofs.Staying.{stays as job_stays}
 use Rattle.running_job.specs.Running.{deep_of}
-use Rattle.recover.specs.Changes.{ManifestEndsAt, flushed, with_content}
+use Rattle.recover.specs.internal.Changes.{ManifestEndsAt, flushed, with_content}
 use Rattle.recover.specs.Numbers.{IsFree}
 use Rattle.recover.specs.Directory.{Directory, IsConsistent, entries_in, used_in}
-use Rattle.recover.specs.Laws.{OneDirectoryLaw}
+use Rattle.recover.specs.internal.Laws.{OneDirectoryLaw}
 use Rattle.recover.specs.Logs.{LogContent, batch_entries, logged}
 use Rattle.recover.specs.Report.{IsLongTable, AnyHasBytes}
 use Rattle.recover.specs.Tables.{TableContent, tabled}
 use Rattle.db_cursor.specs.Scans.{KeepsScan}
-use Rattle.db_cursor.specs.Scanning.{ScanIsKept}
+use Rattle.db_cursor.specs.internal.Scanning.{ScanIsKept}
 use Rattle.db_cursor.specs.declared.scan.Scan.{Scan}
 use Rattle.table_access.specs.Tables.{Seen, IsSound, KeepsOf, SoundLasts}
 use Rattle.table_access.proofs.Sounding.{same_file, same_table}
 use Rattle.store.specs.Files.{Facts}
-use Rattle.directory_writes.specs.Flush.{CanFlush, FlushTouches, HasFlushed, IsFlushed, IsUnflushed, MayBeFlushed, PassesNoLimit}
+use Rattle.directory_writes.specs.internal.Flush.{CanFlush, FlushTouches, HasFlushed, IsFlushed, IsUnflushed, MayBeFlushed, PassesNoLimit}
 use Rattle.directory_writes.specs.declared.flush.FlushPlan.{FlushPlan}
 use Rattle.directory_writes.proofs.PlansKept.{flushed_plan}
-use Rattle.versions.specs.Levels.{AreInOrder, Lists}
-use Rattle.engine.specs.declared.directory.DirectoryState.{DirectoryState}
-use Rattle.engine.specs.Directory.{CanAppend, IsReadable}
-use Rattle.engine.specs.Held.{Held, entries_of, whole_of}
-use Rattle.engine.specs.Iterators.{IsWalk}
-use Rattle.engine.specs.Live.{kept_at}
+use Rattle.versions.specs.Levels.{AreInOrder, ListsSameTables}
+use Rattle.opening.specs.declared.directory.DirectoryState.{DirectoryState}
+use Rattle.opening.specs.internal.Directories.{CanAppend}
+use Rattle.engine.specs.internal.Directory.{IsReadable}
+use Rattle.engine.specs.OpenDb.{OpenDb, whole_of}
+use Rattle.engine.specs.internal.Standing.{entries_of, HasLog, IsBroken, IsServing}
+use Rattle.reader.specs.internal.Iterators.{IsWalk}
+use Rattle.engine.specs.Reads.{kept_at}
 use Rattle.machine.specs.Machine as machine
 use Rattle.machine.specs.Machine.{Machine, Walk, entry_count, weight}
-use Rattle.engine.specs.Stands.{HasLog, IsBroken, IsServing}
-use Rattle.engine.specs.Compacting.{IsCompacting}
+use Rattle.engine.specs.internal.Compacting.{IsCompacting}
 use Rattle.engine.proofs.Compacting.{each_job, goes_beside, goes_on_as, have_itself, is_input_number, is_own_number, known_itself, owns_none_with, version_unowned}
 use Rattle.engine.proofs.Pieces.{accounted_same, bounded_same, free_up, made_still, rests_as, same_back, same_by, snapshots_same, walks_each}
 use Rattle.engine.proofs.Reading.{below_next}
-use Rattle.engine.proofs.Reopening.{files_apart, long_back}
+use Rattle.opening.proofs.Reopening.{files_apart, long_back}
 
 -- a cursor over a memory table reads on where none is sealed any more
 abbrev pub FlushKept : (List ℕ → List ℕ → Ordering) → Type 0
 FlushKept cmp = (cursor : MemoriesPlace) (old new : Memories) → new ≡ record old { sealed = None } → KeepsMemories cmp cursor old new
 
 module _ {K : Type 0} {g : _} (order : Order) (kept : (scan : Scan K g) → ScanIsKept order.cmp scan) (one : OneDirectoryLaw) (lasts : SoundLasts) (law : SameViewLaw) (flushes : FlushKept order.cmp)
-    (old : Seen) (facts : Facts) (db : Held K g) (m : Machine) (serving : IsServing order old db m) (plan : FlushPlan) (after : ℕ) where
+    (old : Seen) (facts : Facts) (db : OpenDb K g) (m : Machine) (serving : IsServing order old db m) (plan : FlushPlan) (after : ℕ) where
   abbrev next : ℕ
   next = db.directory.numbers.next
 
@@ -97,7 +98,7 @@ module _ {K : Type 0} {g : _} (order : Order) (kept : (scan : Scan K g) → Scan
         named = knows.named;
         ends = knows.ends;
         free = knows.free;
-        listed = subst (λ (contents : List TableContent). Lists (map (λ (content : TableContent). content.placed) contents) db.tables) a.in_tables serving.tables.version;
+        listed = subst (λ (contents : List TableContent). ListsSameTables (map (λ (content : TableContent). content.placed) contents) db.tables) a.in_tables serving.tables.version;
       }
 
   -- ---- other tables
@@ -200,7 +201,7 @@ module _ {K : Type 0} {g : _} (order : Order) (kept : (scan : Scan K g) → Scan
       abbrev memory : Memories
       memory = record db.memory { sealed = None }
 
-      abbrev pub flushed_db : Held K g
+      abbrev pub flushed_db : OpenDb K g
       flushed_db = record db { memory = memory; tables = tables; compact_pointers = pointers; directory = state }
 
       in_current : db.memory.current.inserts ≡ logged (current ∷ [])
@@ -287,7 +288,7 @@ module _ {K : Type 0} {g : _} (order : Order) (kept : (scan : Scan K g) → Scan
     module _ (state : DirectoryState) (entries : List Entry) (has : IsUnflushed order old.facts.files facts.files after plan db.directory.manifest entries db.tables d sealed current)
         (number : state.manifest.number ≡ db.directory.manifest.number) (name : state.manifest.name ≡ db.directory.manifest.name) (ends : state.manifest.end ≡ db.directory.manifest.end) (first_log : state.first_log ≡ db.directory.first_log)
         (previous_log : state.previous_log ≡ db.directory.previous_log) (next_is : state.numbers.next ≡ after) (le : next ≤ after) where
-      abbrev pub unflushed_db : Held K g
+      abbrev pub unflushed_db : OpenDb K g
       unflushed_db = record db { directory = state }
 
       abbrev log_unflushed : HasLog order facts.files serving.contents unflushed_db

@@ -13,7 +13,7 @@ use Rattle.coding.specs.declared.error.DbError.TheVariants as error
 use Rattle.cursor.specs.Moves.{Refuses}
 use Rattle.ikey.specs.Orders.{Order}
 use Rattle.memtables.specs.PlaceLaws.{left_logged}
-use Rattle.db_cursor.specs.Scanning.{ScanIsKept}
+use Rattle.db_cursor.specs.internal.Scanning.{ScanIsKept}
 use Rattle.db_cursor.specs.Scans.{IsScanLimited, ListsMerged, tables_of}
 use Rattle.db_cursor.specs.Whole.{Whole}
 use Rattle.memtables.specs.Memories.{Memories}
@@ -25,37 +25,41 @@ use Rattle.store.specs.Files.{Facts}
 use Rattle.machine.specs.declared.command.Answer.{Answer}
 use Rattle.machine.specs.declared.command.Answer.TheVariants.{Pair, Refused}
 use Rattle.engine.specs.declared.ids.Ids.{Ids}
-use Rattle.engine.specs.Causes.{IsCausedIn, IsMet, move_refusal, placeless_in}
-use Rattle.engine.specs.Follows.{LeadsOpen, pair_answer}
-use Rattle.engine.specs.Held.{Held, whole_of}
-use Rattle.engine.specs.Iterators.{IsWalk, standing, walked_of}
-use Rattle.engine.specs.Live.{kept_at, IsBoth, AreLive}
-use Rattle.machine.specs.Machine.{Machine, Walk}
-use Rattle.engine.specs.Moving.{IsMoved, IsNoWalk, MovesTo}
+use Rattle.engine.specs.Causes.{IsCausedIn, open_status}
+use Rattle.engine.specs.Stands.{no_ids}
+use Rattle.opening.specs.Refusals.{IsMet}
+use Rattle.engine.specs.internal.Leading.{LeadsOpen}
+use Rattle.engine.specs.Follows.{pair_answer}
+use Rattle.engine.specs.OpenDb.{OpenDb, whole_of}
+use Rattle.reader.specs.internal.Iterators.{IsWalk, walked_of}
+use Rattle.engine.specs.Reads.{kept_at}
+use Rattle.engine.specs.internal.Live.{IsBoth, AreLive}
+use Rattle.machine.specs.Machine.{Machine, Walk, walk_under}
+use Rattle.reader.specs.Moving.{IsMoved, IsNoWalk, IsReadError, MayRefuseMotion, MovesTo, standing}
 use Rattle.engine.specs.Outcomes.{DbOutcome, IsSame, Keeps, MayRefuseMove}
-use Rattle.machine.specs.Serving.{Becomes, Counted, ReadRefused}
-use Rattle.engine.specs.Stands.{IsServing, StandsOpen}
-use Rattle.machine.specs.Views.{no_iterator}
-use Rattle.machine.specs.Walks.{Motion, place_after, pair_at, no_place, lacks_place, needs_place, walk_under, move_cause, moved, Moves}
+use Rattle.machine.specs.Serving.{◌≈◌, Counted, ReadRefused}
+use Rattle.engine.specs.internal.Standing.{IsServing, StandsOpen}
+use Rattle.machine.specs.Causes.{no_iterator, status_of, Motion, lacks_place, needs_place, move_cause}
+use Rattle.machine.specs.Walks.{place_after, pair_at, moved, Moves}
 use Rattle.engine.proofs.Compacting.{HaveKnown, have_same, have_updated, known_itself}
 use Rattle.engine.proofs.LiveIds.{same_id, live_again, live_changed, live_replaced, both_then}
 use Rattle.engine.proofs.Reading.{read_by, stands_read}
 use Rattle.engine.proofs.Steps.{denies_none, by_cause, without_cause, serving_of}
 use Rattle.engine.proofs.ViewSteps.{Updates, cause_whole, iterator_known, stands_anew, stands_beside}
-use Rattle.engine.proofs.Walking.{stands_is}
+use Rattle.reader.proofs.Walking.{stands_is}
 
 -- ---- there is no such iterator
 
-pub not_walked : {K : Type 0} {g : _} → (order : Order) (source : Seen) (ids : Ids) (db : Held K g) (open_ones : BTreeMap ℕ (Scan K g)) (id : ℕ) (motion : Motion) → db.broken ≡ false → is_some (kept_at db.iterators id) ≡ false
+pub not_walked : {K : Type 0} {g : _} → (order : Order) (source : Seen) (ids : Ids) (db : OpenDb K g) (open_ones : BTreeMap ℕ (Scan K g)) (id : ℕ) (motion : Motion) → db.broken ≡ false → is_some (kept_at db.iterators id) ≡ false
     → ((q : ℕ) → kept_at open_ones q ≡ kept_at db.iterators q) → LeadsOpen order source source ids db (record db { iterators = open_ones }) (λ m n. Moves order m id motion (Refused error.NoIterator) n)
 not_walked order source ids db open_ones id motion is gone same = record {
   faithful = λ f. f;
   moved = λ f m s.
       let walks : AreLive (IsWalk order.cmp m.over_limit (whole_of source db)) open_ones m.iterators = λ q. subst (λ (o : Option (Scan _ _)). IsBoth (IsWalk order.cmp m.over_limit (whole_of source db)) o (lookup (nat_eq q) m.iterators)) (sym (same q)) ((serving_of order source ids db m is s).iterators q) in (
         m,
-        by_cause (move_cause m id motion) m error.NoIterator ⊥
-            (cause_whole order source ids db m (option_or (no_iterator m id) (no_place (walk_under m id) motion)) is s
-            ∙ ap (λ (o : Option DbError). option_or o (no_place (walk_under m id) motion)) (iterator_known order source ids db m is s id false gone)),
+        by_cause (move_cause (status_of m) id motion) m error.NoIterator ⊥
+            (cause_whole order source ids db m (option_or (no_iterator (status_of m) id) (lacks_place (is_some (walk_under m id).place) motion)) is s
+            ∙ ap (λ (o : Option DbError). option_or o (lacks_place (is_some (walk_under m id).place) motion)) (iterator_known order source ids db m is s id false gone)),
         stands_anew order source ids db db.snapshots open_ones m is (λ q. refl) (have_same db.iterators open_ones db.tables same) walks s,
       );
 }
@@ -68,13 +72,13 @@ walk_at Is (Some x) None iterator is h = absurd h
 walk_at {X} Is (Some x) (Some walk) iterator is h = (let same : x ≡ iterator = cc in subst (λ (i : X). Is i walk) same h)
 
 -- the same place is lacked
-lacks_same : {K : Type 0} {g : _} (order : Order) (limited : Bool) (whole : Whole) (scan : Scan K g) (walk : Walk) (motion : Motion) → IsWalk order.cmp limited whole scan walk → no_place walk motion ≡ lacks_place scan.walk.stands motion
+lacks_same : {K : Type 0} {g : _} (order : Order) (limited : Bool) (whole : Whole) (scan : Scan K g) (walk : Walk) (motion : Motion) → IsWalk order.cmp limited whole scan walk → lacks_place (is_some walk.place) motion ≡ lacks_place scan.walk.stands motion
 lacks_same order limited whole scan walk motion h =
     sym (ap (λ (b : Bool). lacks_place b motion) (stands_is order.cmp (ListsMerged order.cmp) scan.walk.cursor scan.walk.sequence scan.walk.stands scan.walk.position scan.walk.here.key.items scan.walk.here.value.items whole h.scan.walk.0 (walked_of walk) h.scan.walk.2))
 
 -- ---- limits of reading
 
-module _ {K : Type 0} {g : _} (order : Order) (source : Seen) (db : Held K g) (m : Machine) (version : VersionLaw) (total : IsTotalOrder order.cmp) (exact : IsAntisymmetric order.cmp) (serving : IsServing order source db m) where
+module _ {K : Type 0} {g : _} (order : Order) (source : Seen) (db : OpenDb K g) (m : Machine) (version : VersionLaw) (total : IsTotalOrder order.cmp) (exact : IsAntisymmetric order.cmp) (serving : IsServing order source db m) where
   -- An iterator passes one only where the directory of the machine does.
   over_limit : (b : Bool) → m.over_limit ≡ b → (b ≡ false → ⊥) → m.over_limit ≡ true
   over_limit true is none = is
@@ -103,7 +107,7 @@ placed_somewhere None pair old new before after h = refl
 placed_somewhere (Some cause) pair old new before after h = absurd (let bad : SameMove (Ok pair) (Err cause) = h.0 in cc)
 
 module _ {K : Type 0} {g : _} (order : Order) (kept : (scan : Scan K g) → ScanIsKept order.cmp scan) (version : VersionLaw) (total : IsTotalOrder order.cmp) (exact : IsAntisymmetric order.cmp)
-    (source new : Seen) (ids : Ids) (db : Held K g) (memory : Memories) (open_ones : BTreeMap ℕ (Scan K g)) (id : ℕ) (motion : Motion) (was now : Scan K g)
+    (source new : Seen) (ids : Ids) (db : OpenDb K g) (memory : Memories) (open_ones : BTreeMap ℕ (Scan K g)) (id : ℕ) (motion : Motion) (was now : Scan K g)
     (is : db.broken ≡ false) (there : kept_at db.iterators id ≡ Some was) (updates : Updates id (Some now) db.iterators open_ones) where
   abbrev before : Whole
   before = whole_of source db
@@ -112,7 +116,7 @@ module _ {K : Type 0} {g : _} (order : Order) (kept : (scan : Scan K g) → Scan
   after = record { seen = new; memory = memory }
 
   -- the database behind the move, but for its iterators
-  abbrev read_db : Held K g
+  abbrev read_db : OpenDb K g
   read_db = record db { memory = memory }
 
   -- its version is what it was
@@ -122,10 +126,10 @@ module _ {K : Type 0} {g : _} (order : Order) (kept : (scan : Scan K g) → Scan
   walk_known : (m : Machine) → StandsOpen order source ids db m → IsWalk order.cmp m.over_limit before was (walk_under m id)
   walk_known m s = walk_at (IsWalk order.cmp m.over_limit before) (kept_at db.iterators id) (lookup (nat_eq id) m.iterators) was there ((serving_of order source ids db m is s).iterators id)
 
-  move_at : (m : Machine) (o : Option DbError) → StandsOpen order source ids db m → lacks_place was.walk.stands motion ≡ o → move_cause m id motion ≡ o
+  move_at : (m : Machine) (o : Option DbError) → StandsOpen order source ids db m → lacks_place was.walk.stands motion ≡ o → move_cause (status_of m) id motion ≡ o
   move_at m o s known =
-      cause_whole order source ids db m (option_or (no_iterator m id) (no_place (walk_under m id) motion)) is s
-      ∙ ap (λ (x : Option DbError). option_or x (no_place (walk_under m id) motion)) (iterator_known order source ids db m is s id true (ap is_some there))
+      cause_whole order source ids db m (option_or (no_iterator (status_of m) id) (lacks_place (is_some (walk_under m id).place) motion)) is s
+      ∙ ap (λ (x : Option DbError). option_or x (lacks_place (is_some (walk_under m id).place) motion)) (iterator_known order source ids db m is s id true (ap is_some there))
       ∙ lacks_same order m.over_limit before was (walk_under m id) motion (walk_known m s) ∙ known
 
   stands_on : (result : Result (Option (List ℕ × List ℕ)) DbError) → IsMoved order.cmp motion before after was now result → IsTrue new.facts.faithful → (m : Machine) → StandsOpen order source ids db m → StandsOpen order new ids read_db (read_by new.facts m)
@@ -146,7 +150,7 @@ module _ {K : Type 0} {g : _} (order : Order) (kept : (scan : Scan K g) → Scan
         let counted = counts_on (Ok pair) (Pair pair) place h m s in
         let serving = serving_of order new ids read_db (read_by new.facts m) is stands in (
           n,
-          without_cause (move_cause m id motion) m n (Pair pair) ((pair ≡ pair_at (walk_under m id).pairs place) × Becomes (moved m id place) n) (move_at m None s free)
+          without_cause (move_cause (status_of m) id motion) m n (Pair pair) ((pair ≡ pair_at (walk_under m id).pairs place) × (n ≈ moved m id place)) (move_at m None s free)
               (record { failures = counted.failures; denials = counted.denials; undenied = counted.undenied }) (goes.1, refl),
           stands_beside order new ids ids read_db db.snapshots open_ones (read_by new.facts m) m.snapshots n.iterators m.last_snapshot m.last_iterator is stands s.ids.0 s.ids.1 (known_itself db.snapshots memory.last) (have_now h.version) serving.snapshots
               (live_replaced (IsWalk order.cmp m.over_limit after) id db.iterators open_ones m.iterators now (record (walk_under m id) { place = place }) updates goes.0 serving.iterators),
@@ -180,13 +184,13 @@ module _ {K : Type 0} {g : _} (order : Order) (kept : (scan : Scan K g) → Scan
           → (n : Machine) × Moves order m id motion (Refused e) n × StandsOpen order new ids (record db { memory = memory; iterators = open_ones }) n
       at f m s None known free = (
         read_by new.facts m,
-        without_cause (move_cause m id motion) m (read_by new.facts m) (Refused e) (ReadRefused m e (read_by new.facts m)) (move_at m None s known) (counts_on (Err e) (Refused e) None h m s)
+        without_cause (move_cause (status_of m) id motion) m (read_by new.facts m) (Refused e) (ReadRefused m e (read_by new.facts m)) (move_at m None s known) (counts_on (Err e) (Refused e) None h m s)
             (read_refused order source db m version total exact (serving_of order source ids db m is s) new.facts was (walk_under m id) e f s.counts.failures (walk_known m s) (h.refused known)),
         stays_there e h f known m s,
       )
       at f m s (Some cause) known same = (
         m,
-        by_cause (move_cause m id motion) m e _ (move_at m (Some cause) s known ∙ ap Some (let refused : SameMove (Err e) (Err cause) = same.0 in let back : cause ≡ e = cc in back)),
+        by_cause (move_cause (status_of m) id motion) m e _ (move_at m (Some cause) s known ∙ ap Some (let refused : SameMove (Err e) (Err cause) = same.0 in let back : cause ≡ e = cc in back)),
         same_there same.1 same.2 m s,
       )
 
@@ -208,7 +212,15 @@ not_io stands motion cause known io = at stands (needs_place motion) known
     at true true is = cc
     at false true is = cc
 
-module _ {K : Type 0} {g : _} (cmp : List ℕ → List ℕ → Ordering) (source new : Seen) (db : Held K g) (memory : Memories) (open_ones : BTreeMap ℕ (Scan K g)) (id : ℕ) (motion : Motion) (was now : Scan K g)
+may_refuse : (motion : Motion) (e : DbError) → MayRefuseMotion motion e → MayRefuseMove motion e
+may_refuse motion error.OutOfMemory h = tt
+may_refuse motion error.Io h = tt
+may_refuse motion (error.Corrupt file what) h = tt
+may_refuse motion (error.Unsupported what) h = tt
+may_refuse motion error.NoPlace h = h
+may_refuse motion _ h = absurd h
+
+module _ {K : Type 0} {g : _} (cmp : List ℕ → List ℕ → Ordering) (source new : Seen) (db : OpenDb K g) (memory : Memories) (open_ones : BTreeMap ℕ (Scan K g)) (id : ℕ) (motion : Motion) (was now : Scan K g)
     (there : kept_at db.iterators id ≡ Some was) (updates : Updates id (Some now) db.iterators open_ones) where
   -- a refusal leaves all that is answered from
   leaves_same : (e : DbError) → IsMoved cmp motion (whole_of source db) (record { seen = new; memory = memory }) was now (Err e) → IsSame db (record db { memory = memory; iterators = open_ones })
@@ -250,25 +262,33 @@ module _ {K : Type 0} {g : _} (cmp : List ℕ → List ℕ → Ordering) (source
     refused = keeps r h;
   }
     where
-      at : (x : Result (Option (List ℕ × List ℕ)) DbError) → IfErr x (MayRefuseMove motion) → MatchResult x (λ y. Unit {0}) (MayRefuseMove motion)
+      at : (x : Result (Option (List ℕ × List ℕ)) DbError) → IfErr x (MayRefuseMotion motion) → MatchResult x (λ y. Unit {0}) (MayRefuseMove motion)
       at (Ok pair) k = tt
-      at (Err e) k = k
+      at (Err e) k = may_refuse motion e k
 
       keeps : (x : Result (Option (List ℕ × List ℕ)) DbError) → IsMoved cmp motion (whole_of source db) (record { seen = new; memory = memory }) was now x
           → MatchResult x (λ y. Unit {0}) (λ e. Keeps source.facts new.facts db (record db { memory = memory; iterators = open_ones }))
       keeps (Ok pair) k = tt
       keeps (Err e) k = (leaves_same e k, inl refl)
 
+is_met : (e : DbError) → IsReadError e → IsMet e
+is_met error.OutOfMemory h = tt
+is_met error.Io h = tt
+is_met (error.Corrupt file what) h = tt
+is_met (error.Unsupported what) h = tt
+is_met _ h = absurd h
+
 -- what refuses a move is what has to
-pub move_caused : {K S : Type 0} {g : _} → (db : Held K g) (id : ℕ) (motion : Motion) (was now : Scan K g) (before after : Whole) (old new : S) (unmoved : Type 0) (r : Result (Option (List ℕ × List ℕ)) DbError) → db.broken ≡ false → kept_at db.iterators id ≡ Some was
-    → (lacks_place was.walk.stands motion ≡ None → IfErr r IsMet) → Placeless (lacks_place was.walk.stands motion) r was now before after → MatchOption (lacks_place was.walk.stands motion) (Unit {0}) (λ _. unmoved) → (unmoved → new ≡ old)
-    → IsCausedIn (move_refusal db id motion) old new r
+pub move_caused : {K S : Type 0} {g : _} → (db : OpenDb K g) (id : ℕ) (motion : Motion) (was now : Scan K g) (before after : Whole) (old new : S) (unmoved : Type 0) (r : Result (Option (List ℕ × List ℕ)) DbError) → db.broken ≡ false → kept_at db.iterators id ≡ Some was
+    → (lacks_place was.walk.stands motion ≡ None → IfErr r IsReadError) → Placeless (lacks_place was.walk.stands motion) r was now before after → MatchOption (lacks_place was.walk.stands motion) (Unit {0}) (λ _. unmoved) → (unmoved → new ≡ old)
+    → IsCausedIn (move_cause (open_status no_ids db) id motion) old new r
 move_caused {K} {S} {g} db id motion was now before after old new unmoved r whole there met lacking undone goes =
-    let cause : move_refusal db id motion ≡ lacks_place was.walk.stands motion =
-    ap (λ (b : Bool). option_or (cond b (Some error.Broken) None) (placeless_in db id motion)) whole
-    ∙ ap (λ (o : Option (Scan K g)). cond (is_some o) (option_and_then (λ (iterator : Scan K g). lacks_place iterator.walk.stands motion) o) (Some error.NoIterator)) there in
+    let status = open_status no_ids db in
+    let cause : move_cause status id motion ≡ lacks_place was.walk.stands motion =
+    ap (λ (b : Bool). option_or (cond b (Some error.Broken) None) (option_or (no_iterator status id) (lacks_place (status.stands id) motion))) whole
+    ∙ ap (λ (o : Option (Scan K g)). option_or (cond (is_some o) None (Some error.NoIterator)) (lacks_place (unwrap_or (option_map (λ (iterator : Scan K g). iterator.walk.stands) o) false) motion)) there in
     subst (λ (o : Option DbError). IsCausedIn o old new r) (sym cause) (at (lacks_place was.walk.stands motion) refl lacking undone)
   where
     at : (o : Option DbError) → lacks_place was.walk.stands motion ≡ o → Placeless o r was now before after → MatchOption o (Unit {0}) (λ _. unmoved) → IsCausedIn o old new r
-    at None known p u = λ e is. subst (λ (x : Result (Option (List ℕ × List ℕ)) DbError). IfErr x IsMet) is (met known)
+    at None known p u = λ e is. is_met e (subst (λ (x : Result (Option (List ℕ × List ℕ)) DbError). IfErr x IsReadError) is (met known))
     at (Some cause) known p u = (p.0, goes u)

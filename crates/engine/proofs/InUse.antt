@@ -12,9 +12,9 @@ use Rattle.running_job.specs.declared.open_job.OpenJob.{OpenJob}
 use Rattle.level_cursor.specs.InRows as rows
 use Rattle.db_cursor.specs.Scans.{reads_memory, tables_of}
 use Rattle.db_cursor.specs.declared.scan.Scan.{Scan}
-use Rattle.versions.specs.Keeping as versions
+use Rattle.versions.specs.Levels as versions
 use Rattle.engine.specs.InUse.{AnyIterator, IsMemoryUsed, IsTableUsed}
-use Rattle.engine.specs.Live.{kept_at}
+use Rattle.engine.specs.Reads.{kept_at}
 
 more : {X : Type 0} (P : X → Type 0) (x : X) (xs : List X) → Any P xs → Any P (x ∷ xs)
 more P x xs (k, y, lt, is, h) = (suc k, y, omega (arith, lt), is, h)
@@ -27,20 +27,20 @@ any_found {X} test P (e ∷ entries) x is h = at (λ there. any_found test P ent
     at later true here = (let same : e.1 ≡ x = cc in (0, e.1, omega arith, refl, subst P (sym same) h))
     at later false there = more P e.1 (values_of entries) (later there)
 
-pub as_used : (placed_in : List PlacedTable) (number : ℕ) → rows.HasNumber placed_in number → versions.HasNumber number placed_in
+pub as_used : (placed_in : List PlacedTable) (number : ℕ) → rows.ListsNumber placed_in number → versions.HasNumber number placed_in
 as_used placed_in number (placed, (k, lt, e), is) = (k, placed, lt, e, is)
 
-pub as_listed : (placed_in : List PlacedTable) (number : ℕ) → versions.HasNumber number placed_in → rows.HasNumber placed_in number
+pub as_listed : (placed_in : List PlacedTable) (number : ℕ) → versions.HasNumber number placed_in → rows.ListsNumber placed_in number
 as_listed placed_in number (k, placed, lt, e, is) = (placed, (k, lt, e), is)
 
 module _ {K : Type 0} {g : _} (tables : List PlacedTable) (job : Option (OpenJob K g)) (iterators : BTreeMap ℕ (Scan K g)) where
   pub any_iterator : (P : Scan K g → Type 0) (id : ℕ) (scan : Scan K g) → kept_at iterators id ≡ Some scan → P scan → AnyIterator iterators P
   any_iterator P id scan there h = any_found _ P iterators.entries scan there h
 
-  pub table_used : (number : ℕ) → rows.HasNumber tables number → IsTableUsed tables job iterators number
+  pub table_used : (number : ℕ) → rows.ListsNumber tables number → IsTableUsed tables job iterators number
   table_used number has = inl (inl (as_used tables number has))
 
-  pub read_used : (id : ℕ) (scan : Scan K g) (number : ℕ) → kept_at iterators id ≡ Some scan → rows.HasNumber (tables_of scan) number → IsTableUsed tables job iterators number
+  pub read_used : (id : ℕ) (scan : Scan K g) (number : ℕ) → kept_at iterators id ≡ Some scan → rows.ListsNumber (tables_of scan) number → IsTableUsed tables job iterators number
   read_used id scan number there has = inl (inr (any_iterator (λ one. versions.HasNumber number (tables_of one)) id scan there (as_used (tables_of scan) number has)))
 
   pub memory_used : (id : ℕ) (scan : Scan K g) (generation : ℕ) → kept_at iterators id ≡ Some scan → reads_memory scan generation → IsMemoryUsed iterators generation

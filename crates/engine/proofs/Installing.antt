@@ -2,7 +2,7 @@
 use Rattle.std.proofs.Common.{true, ◌≡◌, ◌≢◌, ℕ, ◌+◌, ◌≤◌, List, [], ◌∷◌, ◌++◌, map, Option, Some, None, IsTrue, inl, inr, refl, sym, ap, subst, ◌∙◌, arith, string_bytes}
 use Rattle.std.specs.FinMap.{get}
 use Rattle.cache.specs.Tables.{table_at}
-use Rattle.compact.specs.Laws.{AreApart, SeesAsOne}
+use Rattle.compact.specs.Laws.{AreNewerOrDeep, SeesAsOne}
 use Rattle.compact.specs.Outputs.{IsNumberAtHand}
 use Rattle.edits.specs.Edit.{HasPastLimit}
 use Rattle.edits.specs.Layout.{fields_of}
@@ -15,47 +15,49 @@ use Rattle.ikey.specs.Entries.{InternalEntry, entry_of}
 use Rattle.ikey.specs.Orders.{Order}
 use Rattle.ikey.specs.Views.{Among, Contents, IsView}
 use Rattle.ikey.specs.declared.entry.Entry.{Entry}
-use Rattle.running_job.specs.Ending.{CanEnd}
+use Rattle.running_job.specs.internal.Ending.{CanEnd}
 use Rattle.running_job.specs.Running.{IsRunning, deep_of}
 use Rattle.running_job.specs.declared.open_job.OpenJob.{OpenJob}
 use Rattle.memtables.specs.Memories.{logged_in}
 use Rattle.memtables.specs.PlaceLaws.{left_kept}
 use Rattle.recover.proofs.Memberships.{among_chosen, among_contents, among_rest}
-use Rattle.recover.specs.Changes.{ManifestEndsAt, compacted}
+use Rattle.recover.specs.internal.Changes.{ManifestEndsAt, compacted}
 use Rattle.recover.specs.Directory.{Directory, IsConsistent, entries_in}
-use Rattle.recover.specs.Laws.{OneDirectoryLaw}
+use Rattle.recover.specs.internal.Laws.{OneDirectoryLaw}
 use Rattle.recover.specs.Logs.{logged}
 use Rattle.recover.specs.Numbers.{IsFree}
 use Rattle.recover.specs.Report.{IsLongTable, AnyHasBytes}
 use Rattle.recover.specs.Tables.{TableContent, tabled}
-use Rattle.db_cursor.specs.Scanning.{ScanIsKept}
+use Rattle.db_cursor.specs.internal.Scanning.{ScanIsKept}
 use Rattle.db_cursor.specs.Scans.{KeepsScan}
 use Rattle.db_cursor.specs.declared.scan.Scan.{Scan}
 use Rattle.table_access.proofs.Sounding.{same_file, same_table}
 use Rattle.table_access.specs.Tables.{IsSound, KeepsOf, Seen, SoundLasts}
 use Rattle.store.specs.Files.{Facts}
 use Rattle.directory_writes.proofs.PlansMade.{planned_apart}
-use Rattle.directory_writes.specs.Compactions.{placed_in}
-use Rattle.directory_writes.specs.Flush.{KeepsParts, PassesNoLimit}
-use Rattle.directory_writes.specs.Install.{HasInstalled, InstallTouches, IsUninstalled, MayBeInstalled}
-use Rattle.versions.specs.Levels.{AreInOrder, Lists}
-use Rattle.engine.specs.declared.directory.DirectoryState.{DirectoryState}
-use Rattle.engine.specs.Accounted.{AreAccounted}
-use Rattle.engine.specs.Compacting.{IsCompacting}
-use Rattle.engine.specs.Directory.{CanAppend, IsReadable}
-use Rattle.engine.specs.Held.{Held, entries_of, whole_of}
-use Rattle.engine.specs.Iterators.{IsWalk}
-use Rattle.engine.specs.Live.{kept_at, AreSnapshots, IsSnapshot}
+use Rattle.directory_writes.specs.Replacing.{placed_in}
+use Rattle.directory_writes.specs.internal.Flush.{KeepsLogsAndTables, PassesNoLimit}
+use Rattle.directory_writes.specs.internal.Install.{HasInstalled, InstallTouches, IsUninstalled, MayBeInstalled}
+use Rattle.versions.specs.Levels.{AreInOrder, ListsSameTables}
+use Rattle.opening.specs.declared.directory.DirectoryState.{DirectoryState}
+use Rattle.engine.specs.internal.Accounted.{AreAccounted}
+use Rattle.engine.specs.internal.Compacting.{IsCompacting}
+use Rattle.opening.specs.internal.Directories.{CanAppend}
+use Rattle.engine.specs.internal.Directory.{IsReadable}
+use Rattle.engine.specs.OpenDb.{OpenDb, whole_of}
+use Rattle.engine.specs.internal.Standing.{entries_of, HasLog, IsBroken, IsServing}
+use Rattle.reader.specs.internal.Iterators.{IsWalk}
+use Rattle.engine.specs.Reads.{kept_at}
+use Rattle.engine.specs.internal.Live.{AreSnapshots, IsSnapshot}
 use Rattle.machine.specs.Machine as machine
 use Rattle.machine.specs.Machine.{Machine, Walk, entry_count, view_at, weight}
-use Rattle.engine.specs.Stands.{HasLog, IsBroken, IsServing}
 use Rattle.engine.proofs.Compacting.{own_number}
 use Rattle.engine.proofs.Pieces.{free_up, live_each, made_still, rests_seen, walks_each}
-use Rattle.engine.proofs.Reopening.{files_apart, long_back}
+use Rattle.opening.proofs.Reopening.{files_apart, long_back}
 use Rattle.engine.proofs.WorkSteps.{drawing}
 
 module _ {K : Type 0} {g : _} (order : Order) (kept : (scan : Scan K g) → ScanIsKept order.cmp scan) (one : OneDirectoryLaw) (lasts : SoundLasts)
-    (old : Seen) (facts : Facts) (db : Held K g) (m : Machine) (serving : IsServing order old db m) (work : OpenJob K g)
+    (old : Seen) (facts : Facts) (db : OpenDb K g) (m : Machine) (serving : IsServing order old db m) (work : OpenJob K g)
     (c : IsCompacting order (whole_of old db) db.directory.numbers.next db.snapshots db.iterators serving.log.directory.directory work) (ended : c.left ≡ []) where
   abbrev pub next : ℕ
   next = db.directory.numbers.next
@@ -82,7 +84,7 @@ module _ {K : Type 0} {g : _} (order : Order) (kept : (scan : Scan K g) → Scan
           named = knows.named;
           ends = knows.ends;
           free = knows.free;
-          listed = subst (λ (contents : List TableContent). Lists (placed_in contents) db.tables) a.in_tables serving.tables.version;
+          listed = subst (λ (contents : List TableContent). ListsSameTables (placed_in contents) db.tables) a.in_tables serving.tables.version;
         };
         running = ended_job;
         used = a.spent;
@@ -175,7 +177,7 @@ module _ {K : Type 0} {g : _} (order : Order) (kept : (scan : Scan K g) → Scan
       fewer_held : (entry : Entry) → Among (entries_in e) entry → Among (entries_of serving.contents db) entry
       fewer_held entry i = subst (λ (es : List Entry). Among es entry) (sym entries_are) (fewer entry i)
 
-      apart : AreApart (tabled ended_job.inputs) (tabled ended_job.rest ++ logged d.logs) (deep_of order.cmp work)
+      apart : AreNewerOrDeep (tabled ended_job.inputs) (tabled ended_job.rest ++ logged d.logs) (deep_of order.cmp work)
       apart = planned_apart order old.facts.files (deep_of order.cmp work) work.job.plan d ended_job.inputs ended_job.rest a.consistent ended_job.planned
 
       -- a reader that sees of what came what one of its sequences sees, sees the same
@@ -204,9 +206,9 @@ module _ {K : Type 0} {g : _} (order : Order) (kept : (scan : Scan K g) → Scan
       logged_now = ap (λ (es : List Entry). tabled has.contents ++ es) a.in_logs
 
       module _ (tables : List PlacedTable) (pointers : List (Option (List ℕ))) (state : DirectoryState) (in_order : AreInOrder order.cmp tables) (ends : ManifestEndsAt order facts.files d.manifest state.manifest.end (d.edits ++ has.edit ∷ []) has.next) (free : IsFree order facts.files next)
-          (listed : Lists (placed_in has.contents) tables) (number : state.manifest.number ≡ db.directory.manifest.number) (name : state.manifest.name ≡ db.directory.manifest.name) (first_log : state.first_log ≡ db.directory.first_log)
+          (listed : ListsSameTables (placed_in has.contents) tables) (number : state.manifest.number ≡ db.directory.manifest.number) (name : state.manifest.name ≡ db.directory.manifest.name) (first_log : state.first_log ≡ db.directory.first_log)
           (previous_log : state.previous_log ≡ db.directory.previous_log) (next_is : state.numbers.next ≡ next) where
-        abbrev pub installed_db : Held K g
+        abbrev pub installed_db : OpenDb K g
         installed_db = record db { tables = tables; compact_pointers = pointers; directory = state; job = None }
 
         abbrev log_installed : HasLog order facts.files has.contents installed_db
@@ -270,14 +272,14 @@ module _ {K : Type 0} {g : _} (order : Order) (kept : (scan : Scan K g) → Scan
 
     -- ---- they aren't, and nothing was lost
 
-    passes_still : KeepsParts old.facts.files facts.files d d → PassesNoLimit order old.facts.files d → PassesNoLimit order facts.files d
+    passes_still : KeepsLogsAndTables old.facts.files facts.files d d → PassesNoLimit order old.facts.files d → PassesNoLimit order facts.files d
     passes_still parts none past = none (elim past [
       | inl numbers ↦ inl numbers
       | inr long ↦ inr (long_back order old.facts.files facts.files d.tables parts.beside.tables long)
     ])
 
     module _ (has : IsUninstalled order old.facts.files facts.files next db.directory.manifest db.tables d) where
-      abbrev pub uninstalled_db : Held K g
+      abbrev pub uninstalled_db : OpenDb K g
       uninstalled_db = record db { job = None }
 
       abbrev log_uninstalled : HasLog order facts.files serving.contents uninstalled_db

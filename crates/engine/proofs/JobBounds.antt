@@ -16,7 +16,7 @@ use Rattle.ikey.specs.Views.{Among}
 use Rattle.running_job.specs.declared.open_job.OpenJob.{OpenJob}
 use Rattle.db_cursor.specs.Scans.{ListsMerged}
 use Rattle.db_cursor.specs.Whole.{Whole}
-use Rattle.engine.specs.Accounted.{AreAccounted}
+use Rattle.engine.specs.internal.Accounted.{AreAccounted}
 use Rattle.machine.specs.Machine.{entry_weight}
 use Rattle.engine.proofs.Weighing.{weighs_less, room_is}
 pub use Rattle.engine.proofs.Weighing.{NoTwice}

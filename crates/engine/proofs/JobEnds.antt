@@ -22,9 +22,9 @@ use Rattle.cursor.specs.Places.{Cmp}
 use Rattle.ikey.specs.Sources.{SameEntries}
 use Rattle.ikey.specs.Views.{Among}
 use Rattle.ikey.specs.declared.entry.Entry.{Entry}
-use Rattle.running_job.specs.Ending.{CanEnd, EndLeaves, RefusesEnd}
+use Rattle.running_job.specs.internal.Ending.{CanEnd, EndLeaves, RefusesEnd}
 use Rattle.running_job.specs.Running.{deep_of, shown}
-use Rattle.running_job.specs.Stepping.{GoesOn, KeepsDirectory, RefusesStep, StepTouches}
+use Rattle.running_job.specs.internal.Stepping.{GoesOn, KeepsDirectory, RefusesStep, StepTouches}
 use Rattle.running_job.specs.declared.open_job.OpenJob.{OpenJob}
 use Rattle.memtables.specs.Memories.{Memories, logged_in}
 use Rattle.memtables.specs.PlaceLaws.{left_logged}
@@ -32,37 +32,38 @@ use Rattle.memtables.specs.Places.{LeavesMemories}
 use Rattle.recover.proofs.Memberships.{among_chosen, from_chosen, from_rest, in_part, one_of_tables}
 use Rattle.recover.proofs.Adding.{table_of}
 use Rattle.recover.specs.Directory.{Directory}
-use Rattle.recover.specs.Laws.{OneDirectoryLaw}
+use Rattle.recover.specs.internal.Laws.{OneDirectoryLaw}
 use Rattle.recover.specs.Tables.{HasTable, InTables, IsTableFile, TableContent, tabled}
-use Rattle.db_cursor.specs.Scanning.{ScanIsKept}
+use Rattle.db_cursor.specs.internal.Scanning.{ScanIsKept}
 use Rattle.db_cursor.specs.Scans.{IsOnePastLimit}
 use Rattle.db_cursor.specs.Whole.{Whole}
 use Rattle.db_cursor.specs.declared.scan.Scan.{Scan}
 use Rattle.table_access.specs.Tables.{Seen, SoundLasts}
-use Rattle.table_access.specs.Values.{IsPastLimit}
+use Rattle.table_access.specs.Values.{IsTablePastLimit}
 use Rattle.store.specs.Files.{Facts, Files}
 use Rattle.directory_writes.proofs.JobTables.{contains_among, content_at}
-use Rattle.directory_writes.specs.Compactions.{placed_in}
-use Rattle.directory_writes.specs.Install.{InstallMeans, InstallTouches}
+use Rattle.directory_writes.specs.Replacing.{placed_in}
+use Rattle.directory_writes.specs.internal.Install.{InstallMeans, InstallTouches}
 use Rattle.directory_writes.specs.declared.flush.FlushError.{FlushError}
 use Rattle.directory_writes.specs.declared.flush.FlushError.TheVariants.{Before, Edit}
 use Rattle.directory_writes.specs.declared.install.Installed.{Installed}
 use Rattle.directory_writes.specs.declared.manifest.CurrentManifest.{CurrentManifest}
-use Rattle.versions.specs.Levels.{AreInOrder, Lists}
+use Rattle.versions.specs.Levels.{AreInOrder, ListsSameTables}
 use Rattle.versions.specs.declared.plan.JobPlan.{JobPlan}
 use Rattle.engine.specs.declared.ids.Ids.{Ids}
 use Rattle.engine.specs.declared.state.DbState.{DbState}
-use Rattle.engine.specs.Compacting.{IsCompacting}
-use Rattle.engine.specs.Follows.{LeadsOpen}
-use Rattle.engine.specs.Held.{Held, entries_of, held, whole_of}
+use Rattle.engine.specs.internal.Compacting.{IsCompacting}
+use Rattle.engine.specs.internal.Leading.{LeadsOpen}
+use Rattle.engine.specs.OpenDb.{OpenDb, open_db, whole_of}
+use Rattle.engine.specs.internal.Standing.{entries_of, IsBroken, IsServing, StandsOpen}
 use Rattle.machine.specs.Machine.{Machine, entry_count, weight}
-use Rattle.engine.specs.Needed.{EndsNeeded, TakesAll, live_sequences}
-use Rattle.engine.specs.Stands.{IsBroken, IsServing, StandsOpen}
+use Rattle.engine.specs.internal.TakingAll.{EndsNeeded, TakesAll}
+use Rattle.engine.specs.Needed.{live_sequences}
 use Rattle.engine.specs.WrittenTables.{HasMerged, KeepsTableFiles, PutsMerged}
 use Rattle.machine.specs.Upkeep.{UpkeepRefused}
 use Rattle.engine.specs.Outcomes.{DbOutcome, IsSame}
-use Rattle.engine.specs.Finishing.{HasCome}
-use Rattle.engine.specs.Working.{IsPiece, MayRefusePiece, broken_by, flush_answer}
+use Rattle.engine.specs.internal.JobsToEnd.{HasCome}
+use Rattle.engine.specs.internal.Pieces.{IsPiece, MayRefusePiece, broken_by, flush_answer}
 use Rattle.engine.proofs.InUse.{as_listed}
 use Rattle.engine.proofs.Installing.{broken_install, can_end, serving_installed, serving_uninstalled}
 use Rattle.engine.proofs.JobBounds.{count_within, merged_apart, room_apart_within}
@@ -82,8 +83,8 @@ refusal_in is = cc
 -- ---- what a compaction meets
 
 -- a table of the directory that passes a limit is one of the first directory's
-pub limited_in : {K : Type 0} {g : _} (order : Order) (old : Seen) (db : Held K g) (m : Machine) (serving : IsServing order old db m) (content : TableContent) → InTables serving.log.directory.directory.tables content
-    → (placed : PlacedTable) → content.placed ≡ placed → (file : List ℕ) → table_at old.facts.files placed.table.number ≡ Some file → IsPastLimit order.cmp file → m.over_limit ≡ true
+pub limited_in : {K : Type 0} {g : _} (order : Order) (old : Seen) (db : OpenDb K g) (m : Machine) (serving : IsServing order old db m) (content : TableContent) → InTables serving.log.directory.directory.tables content
+    → (placed : PlacedTable) → content.placed ≡ placed → (file : List ℕ) → table_at old.facts.files placed.table.number ≡ Some file → IsTablePastLimit order.cmp file → m.over_limit ≡ true
 limited_in order old db m serving content i placed is file there past = at m.over_limit refl
   where
     none : m.over_limit ≡ false → ⊥
@@ -99,7 +100,7 @@ limited_in order old db m serving content i placed is file there past = at m.ove
     at true known = known
     at false known = absurd (none known)
 
-module _ {K : Type 0} {g : _} (order : Order) (total : IsTotalOrder order.cmp) (old : Seen) (db : Held K g) (m : Machine) (serving : IsServing order old db m) (work : OpenJob K g)
+module _ {K : Type 0} {g : _} (order : Order) (total : IsTotalOrder order.cmp) (old : Seen) (db : OpenDb K g) (m : Machine) (serving : IsServing order old db m) (work : OpenJob K g)
     (c : IsCompacting order (whole_of old db) db.directory.numbers.next db.snapshots db.iterators serving.log.directory.directory work) where
   abbrev d : Directory
   d = serving.log.directory.directory
@@ -131,7 +132,7 @@ module _ {K : Type 0} {g : _} (order : Order) (total : IsTotalOrder order.cmp) (
   inputs_listed placed i =
       let content = content_at c.running.inputs placed (contains_among (placed_in c.running.inputs) placed (Contains-permutation work.job.plan.inputs.items (placed_in c.running.inputs) placed c.running.planned.planned i)) in
       let there = from_chosen d.tables c.running.inputs c.running.rest content.0 c.running.planned.parted content.1 in
-      let listed = subst (λ (cs : List TableContent). Lists (placed_in cs) db.tables) serving.log.directory.in_tables serving.tables.version in
+      let listed = subst (λ (cs : List TableContent). ListsSameTables (placed_in cs) db.tables) serving.log.directory.in_tables serving.tables.version in
       subst (λ (p : PlacedTable). Contains db.tables p) content.2 (all_contains (Contains db.tables) (placed_in d.tables) content.0.placed listed.all (has_placed d.tables content.0 there))
 
   -- an input that passes a limit is one of the first directory's
@@ -154,7 +155,7 @@ may_refuse _ old new A B C h = absurd h
 -- a refused step leaves all that is answered from
 pub stopped_outcome : {K T : Type 0} {g : _} (A B C : Type 0) (old new : Facts) (state : DbState K g) (memory after_memory : Memories) (numbers : FileNumbers) (job : Option (OpenJob K g)) (e : DbError) → RefusesEntry e old new A B C
     → old.failures ≤ new.failures → new.denials ≡ old.denials → LeavesMemories memory after_memory
-    → DbOutcome {T = T} MayRefusePiece old new (held memory state) (held after_memory (record state { directory = record state.directory { numbers = numbers }; job = job })) (Err e)
+    → DbOutcome {T = T} MayRefusePiece old new (open_db memory state) (open_db after_memory (record state { directory = record state.directory { numbers = numbers }; job = job })) (Err e)
 stopped_outcome {T = T} A B C old new state memory after_memory numbers job e refused failures denials left = record {
   failures = failures;
   denials = denials;
@@ -170,13 +171,13 @@ stopped_outcome {T = T} A B C old new state memory after_memory numbers job e re
 -- so does a refused end, but that the database is broken where the store failed
 pub unended_outcome : {K T : Type 0} {g : _} (order : Order) (old mid new : Facts) (state : DbState K g) (memory after_memory : Memories) (numbers : FileNumbers) (job : Option (OpenJob K g)) (next sequence : ℕ) (manifest : CurrentManifest) (tables : List PlacedTable) (work : OpenJob K g) (e : FlushError)
     → RefusesEnd order mid new next sequence manifest tables work e → old.failures ≡ mid.failures → mid.failures ≤ new.failures → new.denials ≡ old.denials → LeavesMemories memory after_memory
-    → DbOutcome {T = T} MayRefusePiece old new (held memory state) (held after_memory (broken_by (record state { directory = record state.directory { numbers = numbers }; job = job }) (flush_answer e))) (Err (flush_answer e))
+    → DbOutcome {T = T} MayRefusePiece old new (open_db memory state) (open_db after_memory (broken_by (record state { directory = record state.directory { numbers = numbers }; job = job }) (flush_answer e))) (Err (flush_answer e))
 unended_outcome {K} {T} {g} order old mid new state memory after_memory numbers job next sequence manifest tables work e refused stood rise undenied left = at e refused
   where
-    same : IsSame (held memory state) (held after_memory (record state { directory = record state.directory { numbers = numbers }; job = job }))
+    same : IsSame (open_db memory state) (open_db after_memory (record state { directory = record state.directory { numbers = numbers }; job = job }))
     same = record { entries = left_logged memory after_memory left; sequence = left.last; tables = refl; log = refl; snapshots = λ q. refl; iterators = λ q. refl }
 
-    failed : mid.failures < new.failures → DbOutcome {T = T} MayRefusePiece old new (held memory state) (held after_memory (record state { directory = record state.directory { numbers = numbers }; job = job; broken = true })) (Err error.Io)
+    failed : mid.failures < new.failures → DbOutcome {T = T} MayRefusePiece old new (open_db memory state) (open_db after_memory (record state { directory = record state.directory { numbers = numbers }; job = job; broken = true })) (Err error.Io)
     failed rose = record {
       failures = omega (arith, stood, rose);
       denials = undenied;
@@ -186,7 +187,7 @@ unended_outcome {K} {T} {g} order old mid new state memory after_memory numbers 
       refused = (record { entries = same.entries; sequence = same.sequence; tables = same.tables; log = same.log; snapshots = same.snapshots; iterators = same.iterators }, inr (refl, omega (arith, stood, rose)));
     }
 
-    kept : (x : DbError) (A B C : Type 0) → RefusesEntry x mid new A B C → DbOutcome {T = T} MayRefusePiece old new (held memory state) (held after_memory (record state { directory = record state.directory { numbers = numbers }; job = job })) (Err x)
+    kept : (x : DbError) (A B C : Type 0) → RefusesEntry x mid new A B C → DbOutcome {T = T} MayRefusePiece old new (open_db memory state) (open_db after_memory (record state { directory = record state.directory { numbers = numbers }; job = job })) (Err x)
     kept x A B C h = record {
       failures = omega (arith, stood, rise);
       denials = undenied;
@@ -197,7 +198,7 @@ unended_outcome {K} {T} {g} order old mid new state memory after_memory numbers 
     }
 
     at : (f : FlushError) → RefusesEnd order mid new next sequence manifest tables work f
-        → DbOutcome {T = T} MayRefusePiece old new (held memory state) (held after_memory (broken_by (record state { directory = record state.directory { numbers = numbers }; job = job }) (flush_answer f))) (Err (flush_answer f))
+        → DbOutcome {T = T} MayRefusePiece old new (open_db memory state) (open_db after_memory (broken_by (record state { directory = record state.directory { numbers = numbers }; job = job }) (flush_answer f))) (Err (flush_answer f))
     at (Before error.OutOfMemory) h = kept error.OutOfMemory ⊥ ⊥ ⊥ h
     at (Before error.Io) h = failed h
     at (Before (error.Corrupt file what)) h = kept (error.Corrupt file what) _ ⊥ ⊥ h
@@ -207,10 +208,10 @@ unended_outcome {K} {T} {g} order old mid new state memory after_memory numbers 
     at Edit h = failed h
 
 -- where the memory tables are left, and the log and the tables, all that is answered from is the same
-pub same_left : {K : Type 0} {g : _} (state : DbState K g) (memory after_memory : Memories) (job : Option (OpenJob K g)) → LeavesMemories memory after_memory → IsSame (held memory state) (held after_memory (record state { job = job }))
+pub same_left : {K : Type 0} {g : _} (state : DbState K g) (memory after_memory : Memories) (job : Option (OpenJob K g)) → LeavesMemories memory after_memory → IsSame (open_db memory state) (open_db after_memory (record state { job = job }))
 same_left state memory after_memory job left = record { entries = left_logged memory after_memory left; sequence = left.last; tables = refl; log = refl; snapshots = λ q. refl; iterators = λ q. refl }
 
-pub same_on : {K : Type 0} {g : _} (before between after : Held K g) → IsSame before between → IsSame between after → IsSame before after
+pub same_on : {K : Type 0} {g : _} (before between after : OpenDb K g) → IsSame before between → IsSame between after → IsSame before after
 same_on before between after first next = record {
   entries = next.entries ∙ first.entries;
   sequence = next.sequence ∙ first.sequence;
@@ -221,7 +222,7 @@ same_on before between after first next = record {
 }
 
 -- a refusal behind a call that has left all that is answered from
-pub outcome_behind : {K T U : Type 0} {g : _} (old mid new : Facts) (before between after : Held K g) (e : DbError) → old.failures ≡ mid.failures → mid.denials ≡ old.denials → IsSame before between → between.broken ≡ before.broken
+pub outcome_behind : {K T U : Type 0} {g : _} (old mid new : Facts) (before between after : OpenDb K g) (e : DbError) → old.failures ≡ mid.failures → mid.denials ≡ old.denials → IsSame before between → between.broken ≡ before.broken
     → DbOutcome {T = T} MayRefusePiece mid new between after (Err e) → DbOutcome {T = U} MayRefusePiece old new before after (Err e)
 outcome_behind {T = T} {U = U} old mid new before between after e stood undenied same whole h = record {
   failures = (let rise = h.failures in omega (arith, rise, stood));
@@ -240,7 +241,7 @@ deep_same : {K : Type 0} {g : _} (cmp : Cmp) (work more : OpenJob K g) → work.
 deep_same cmp work more plan version = λ i key. is_covered_below cmp (plan i).output_level (version i).value.tables key
 
 -- what has become of a compaction is that of it as it was, where its inputs' files are the same
-pub merged_on : {K : Type 0} {g : _} (order : Order) (old mid new : Files) (work more : OpenJob K g) (before between after : Held K g) → more.job.plan ≡ work.job.plan → more.job.selection.snapshots ≡ work.job.selection.snapshots → more.version ≡ work.version
+pub merged_on : {K : Type 0} {g : _} (order : Order) (old mid new : Files) (work more : OpenJob K g) (before between after : OpenDb K g) → more.job.plan ≡ work.job.plan → more.job.selection.snapshots ≡ work.job.selection.snapshots → more.version ≡ work.version
     → between.tables ≡ before.tables → ((placed : PlacedTable) → Contains work.job.plan.inputs.items placed → table_at mid placed.table.number ≡ table_at old placed.table.number) → HasMerged order mid new more between after → HasMerged order old new work before after
 merged_on order old mid new work more before between after plan snapshots version tables files h =
     let planned = subst (λ (p : JobPlan). IsPermutation p.inputs.items (placed_in h.inputs)) plan h.planned in
@@ -276,8 +277,8 @@ module _ {K : Type 0} {g : _} (order : Order) (total : IsTotalOrder order.cmp) (
     (le : state.directory.numbers.next ≤ numbers.next) (upto : numbers.next ≤ state.directory.numbers.next + most)
     (touches : StepTouches (record { seen = old; memory = memory }) (record { seen = new; memory = after_memory }) state.directory.numbers.next numbers.next before after)
     (keeps : KeepsDirectory order (record { seen = old; memory = memory }) (record { seen = new; memory = after_memory }) state.directory.numbers.next numbers.next before) where
-  abbrev db : Held K g
-  db = held memory state
+  abbrev db : OpenDb K g
+  db = open_db memory state
 
   abbrev next : ℕ
   next = state.directory.numbers.next
@@ -308,7 +309,7 @@ module _ {K : Type 0} {g : _} (order : Order) (total : IsTotalOrder order.cmp) (
   steps_beside f given m s number has =
       let serving = serving_of order old given db m whole s in
       let d = serving.log.directory.directory in
-      let listed = subst (λ (cs : List TableContent). Lists (placed_in cs) state.version.value.tables) serving.log.directory.in_tables serving.tables.version in
+      let listed = subst (λ (cs : List TableContent). ListsSameTables (placed_in cs) state.version.value.tables) serving.log.directory.in_tables serving.tables.version in
       let one_listed = as_listed state.version.value.tables number has in
       let placed = one_listed.0 in
       let content = content_at d.tables placed (contains_among (placed_in d.tables) placed (all_contains (Contains (placed_in d.tables)) state.version.value.tables placed listed.only one_listed.1)) in
@@ -319,22 +320,22 @@ module _ {K : Type 0} {g : _} (order : Order) (total : IsTotalOrder order.cmp) (
 
   -- it was refused, and the job is given up
   pub ends_stopped : {T : Type 0} (e : DbError) → RefusesStep order (record { seen = old; memory = memory }) (record { seen = new; memory = after_memory }) next numbers.next before e
-      → LeadsOpen order old new ids db (held after_memory (with_job None)) (λ m n. IsPiece {T = T} m most (Err e) n)
+      → LeadsOpen order old new ids db (open_db after_memory (with_job None)) (λ m n. IsPiece {T = T} m most (Err e) n)
   ends_stopped e h =
-      serves_on order old new ids db (held after_memory (with_job None)) most (Err e) whole whole touches.writes.faithful touches.writes.failures touches.writes.denials
+      serves_on order old new ids db (open_db after_memory (with_job None)) most (Err e) whole whole touches.writes.faithful touches.writes.failures touches.writes.denials
       (λ m f same serving. (refused m e serving f same h, serving_stepped order kept one old new db after_memory numbers most before after is le upto touches keeps m serving f None tt))
 
   module _ (budget : ℕ) (progress : Progress) (goes : GoesOn order (record { seen = old; memory = memory }) (record { seen = new; memory = after_memory }) next numbers.next budget before after progress)
       (snapshots : after.job.selection.snapshots ≡ before.job.selection.snapshots) (owns : (number : ℕ) → IsOwn after.job.outputs number → IsOwn before.job.outputs number ⊎ (next ≤ number)) where
-    abbrev pub serving_on : (m : Machine) → IsServing order old db m → IsTrue new.facts.faithful → IsServing order new (held after_memory (with_job (Some after))) (drawing m most new.facts)
+    abbrev pub serving_on : (m : Machine) → IsServing order old db m → IsTrue new.facts.faithful → IsServing order new (open_db after_memory (with_job (Some after))) (drawing m most new.facts)
     serving_on m serving f =
         serving_stepped order kept one old new db after_memory numbers most before after is le upto touches keeps m serving f (Some after)
         (gone_on order kept one old new db after_memory numbers most before after is le upto touches keeps m serving f budget progress goes snapshots owns)
 
     -- it goes on
-    pub ends_gone_on : {T : Type 0} (done : T) → LeadsOpen order old new ids db (held after_memory (with_job (Some after))) (λ m n. IsPiece m most (Ok done) n)
+    pub ends_gone_on : {T : Type 0} (done : T) → LeadsOpen order old new ids db (open_db after_memory (with_job (Some after))) (λ m n. IsPiece m most (Ok done) n)
     ends_gone_on done =
-        serves_on order old new ids db (held after_memory (with_job (Some after))) most (Ok done) whole whole touches.writes.faithful touches.writes.failures touches.writes.denials
+        serves_on order old new ids db (open_db after_memory (with_job (Some after))) most (Ok done) whole whole touches.writes.faithful touches.writes.failures touches.writes.denials
         (λ m f same serving. (draws m most new.facts, serving_on m serving f))
 
     -- ---- all came, and it is ended
@@ -344,8 +345,8 @@ module _ {K : Type 0} {g : _} (order : Order) (total : IsTotalOrder order.cmp) (
       abbrev last_seen : Seen
       last_seen = record new { facts = facts }
 
-      abbrev mid : Held K g
-      mid = held after_memory (with_job (Some after))
+      abbrev mid : OpenDb K g
+      mid = open_db after_memory (with_job (Some after))
 
       module _ (m : Machine) (serving : IsServing order old db m) (f : IsTrue facts.faithful) where
         abbrev on : IsServing order new mid (drawing m most new.facts)
@@ -370,7 +371,7 @@ module _ {K : Type 0} {g : _} (order : Order) (total : IsTotalOrder order.cmp) (
             said f (whole_of new mid) on.log.directory.directory c.came refl can
 
         -- the machine behind both
-        pub once : (s : Seen) (a : Held K g) → IsServing order s a (drawing (drawing m most new.facts) 0 facts) → IsServing order s a (drawing m most facts)
+        pub once : (s : Seen) (a : OpenDb K g) → IsServing order s a (drawing (drawing m most new.facts) 0 facts) → IsServing order s a (drawing m most facts)
         once s a h = (let none : m.numbers + most + 0 ≡ m.numbers + most = omega arith in subst (λ (k : ℕ). IsServing order s a (record m { numbers = k; failures = facts.failures; denials = facts.denials })) none h)
 
         pub once_broken : IsBroken order facts.files (record (drawing (drawing m most new.facts) 0 facts) { broken = true }) → IsBroken order facts.files (record (drawing m most facts) { broken = true })
@@ -390,32 +391,32 @@ module _ {K : Type 0} {g : _} (order : Order) (total : IsTotalOrder order.cmp) (
       installed_state installed = record (with_job None) { version = installed.version; directory = record state.directory { numbers = numbers; manifest = record state.directory.manifest { end = installed.manifest_end } } }
 
       pub ends_installed : {T : Type 0} (done : T) (installed : Installed K) → result ≡ Ok installed → AreInOrder order.cmp installed.version.value.tables
-          → LeadsOpen order old last_seen ids db (held after_memory (installed_state installed)) (λ m n. IsPiece m most (Ok done) n)
+          → LeadsOpen order old last_seen ids db (open_db after_memory (installed_state installed)) (λ m n. IsPiece m most (Ok done) n)
       ends_installed done installed said in_order =
-          serves_on order old last_seen ids db (held after_memory (installed_state installed)) most (Ok done) whole whole faithful rise undenied
+          serves_on order old last_seen ids db (open_db after_memory (installed_state installed)) most (Ok done) whole whole faithful rise undenied
           (λ m f same serving.
           let has = subst (λ (r : Result (Installed K) FlushError). Means m serving f r) said (means m serving f) in (
             draws m most facts,
-            once m serving f last_seen (held after_memory (installed_state installed))
+            once m serving f last_seen (open_db after_memory (installed_state installed))
                 (serving_installed order kept one lasts new facts mid (drawing m most new.facts) (on m serving f) after (c m serving f) (none_left m serving f) f install has.has installed.version.value.tables installed.version.value.compact_pointers (installed_state installed).directory in_order has.ends has.free has.listed
                 refl refl refl refl refl),
           ))
 
       -- where it has taken all tables, what they have now is needed
-      pub ends_needed : (installed : Installed K) → result ≡ Ok installed → after.job.plan ≡ before.job.plan → after.version ≡ before.version → TakesAll db before → EndsNeeded order old last_seen db (held after_memory (installed_state installed))
+      pub ends_needed : (installed : Installed K) → result ≡ Ok installed → after.job.plan ≡ before.job.plan → after.version ≡ before.version → TakesAll db before → EndsNeeded order old last_seen db (open_db after_memory (installed_state installed))
       ends_needed installed said plan version all f given m s =
           let serving = serving_of order old given db m whole s in
           let has = subst (λ (r : Result (Installed K) FlushError). Means m serving f r) said (means m serving f) in
           let can = can_end order kept one lasts new facts mid (drawing m most new.facts) (on m serving f) after (c m serving f) (none_left m serving f) in
           let takes = takes_on db db before after plan version snapshots refl refl all in
           installed_needed order new.facts.files facts.files (on m serving f).log.directory.directory after state.version.value.tables can.running.inputs can.running.rest (c m serving f).came can.served.consistent can.running.planned can.served.listed
-          serving.tables.in_order.levels takes.inputs takes.output takes.version has.has (live_sequences (held after_memory (installed_state installed)))
+          serving.tables.in_order.levels takes.inputs takes.output takes.version has.has (live_sequences (open_db after_memory (installed_state installed)))
           (λ sequence i. subst (λ (last : ℕ). Contains (last ∷ values_of state.snapshots.entries) sequence) (sym touches.memory.last) (takes.sequences sequence i))
 
       -- what must be kept of its inputs' entries is in its outputs
-      pub ends_merged : (installed : Installed K) → result ≡ Ok installed → after.job.plan ≡ before.job.plan → after.version ≡ before.version → PutsMerged order old last_seen db (held after_memory (installed_state installed))
+      pub ends_merged : (installed : Installed K) → result ≡ Ok installed → after.job.plan ≡ before.job.plan → after.version ≡ before.version → PutsMerged order old last_seen db (open_db after_memory (installed_state installed))
       ends_merged installed said plan version =
-          subst (λ (o : Option (OpenJob K g)). MatchOption o ⊥ (λ work. IsTrue facts.faithful → (given : Ids) (m : Machine) → StandsOpen order old given db m → HasMerged order old.facts.files facts.files work db (held after_memory (installed_state installed)))) (sym is)
+          subst (λ (o : Option (OpenJob K g)). MatchOption o ⊥ (λ work. IsTrue facts.faithful → (given : Ids) (m : Machine) → StandsOpen order old given db m → HasMerged order old.facts.files facts.files work db (open_db after_memory (installed_state installed)))) (sym is)
           (λ f given m s.
           let serving = serving_of order old given db m whole s in
           let d = serving.log.directory.directory in
@@ -454,7 +455,7 @@ module _ {K : Type 0} {g : _} (order : Order) (total : IsTotalOrder order.cmp) (
 
       -- no number more is drawn than entries came
       pub ends_counted : {T : Type 0} (budget_is : most ≤ max budget 1) (merged : after.merged ≡ shown (before.merged + progress.merged)) (few : most ≤ progress.merged) (done : T) (installed : Installed K) → result ≡ Ok installed
-          → AreInOrder order.cmp installed.version.value.tables → LeadsOpen order old last_seen ids db (held after_memory (installed_state installed)) (λ m n. HasCome budget db m (Ok done) n)
+          → AreInOrder order.cmp installed.version.value.tables → LeadsOpen order old last_seen ids db (open_db after_memory (installed_state installed)) (λ m n. HasCome budget db m (Ok done) n)
       ends_counted budget_is merged few done installed said in_order =
           let step = ends_installed done installed said in_order in
           record {
@@ -469,26 +470,26 @@ module _ {K : Type 0} {g : _} (order : Order) (total : IsTotalOrder order.cmp) (
 
       -- they aren't, and nothing was lost
       uninstalled : {T : Type 0} (e : DbError) → result ≡ Err (Before e) → ((m : Machine) → IsServing order old db m → IsTrue facts.faithful → UpkeepRefused m most e (drawing m most facts))
-          → LeadsOpen order old last_seen ids db (held after_memory (with_job None)) (λ m n. IsPiece {T = T} m most (Err e) n)
+          → LeadsOpen order old last_seen ids db (open_db after_memory (with_job None)) (λ m n. IsPiece {T = T} m most (Err e) n)
       uninstalled e said why =
-          serves_on order old last_seen ids db (held after_memory (with_job None)) most (Err e) whole whole faithful rise undenied
+          serves_on order old last_seen ids db (open_db after_memory (with_job None)) most (Err e) whole whole faithful rise undenied
           (λ m f same serving.
           let has = subst (λ (r : Result (Installed K) FlushError). Means m serving f r) said (means m serving f) in (
             why m serving f,
-            once m serving f last_seen (held after_memory (with_job None))
+            once m serving f last_seen (open_db after_memory (with_job None))
                 (serving_uninstalled order kept one lasts new facts mid (drawing m most new.facts) (on m serving f) after (c m serving f) (none_left m serving f) f install has.1),
           ))
 
       -- the device failed
       failed : {T : Type 0} → new.facts.failures < facts.failures
           → ((m : Machine) (serving : IsServing order old db m) (f : IsTrue facts.faithful) → IsBroken order facts.files (record (drawing (drawing m most new.facts) 0 facts) { broken = true }))
-          → LeadsOpen order old last_seen ids db (held after_memory (record (with_job None) { broken = true })) (λ m n. IsPiece {T = T} m most (Err error.Io) n)
+          → LeadsOpen order old last_seen ids db (open_db after_memory (record (with_job None) { broken = true })) (λ m n. IsPiece {T = T} m most (Err error.Io) n)
       failed rose may =
-          breaks order old last_seen ids db (held after_memory (record (with_job None) { broken = true })) most (Err error.Io) refl whole refl faithful (let a = touches.writes.failures in omega (arith, a, rose)) undenied
+          breaks order old last_seen ids db (open_db after_memory (record (with_job None) { broken = true })) most (Err error.Io) refl whole refl faithful (let a = touches.writes.failures in omega (arith, a, rose)) undenied
           (λ m f serving. once_broken m serving f (may m serving f))
 
       unended : {T : Type 0} (e : FlushError) → result ≡ Err e → RefusesEnd order new.facts facts numbers.next sequence state.directory.manifest tables after e
-          → LeadsOpen order old last_seen ids db (held after_memory (broken_by (with_job None) (flush_answer e))) (λ m n. IsPiece {T = T} m most (Err (flush_answer e)) n)
+          → LeadsOpen order old last_seen ids db (open_db after_memory (broken_by (with_job None) (flush_answer e))) (λ m n. IsPiece {T = T} m most (Err (flush_answer e)) n)
       unended (Before error.OutOfMemory) said h = uninstalled error.OutOfMemory said (λ m serving f. draws m most facts)
       unended (Before error.Io) said h = failed h (λ m serving f.
           let has = (subst (λ (r : Result (Installed K) FlushError). Means m serving f r) said (means m serving f)).1 in
@@ -512,5 +513,5 @@ module _ {K : Type 0} {g : _} (order : Order) (total : IsTotalOrder order.cmp) (
           broken_install order kept one lasts new facts mid (drawing m most new.facts) (on m serving f) after (c m serving f) (none_left m serving f) f install (subst (λ (r : Result (Installed K) FlushError). Means m serving f r) said (means m serving f)))
 
       pub ends_unended : {T : Type 0} (e : FlushError) → result ≡ Err e → RefusesEnd order new.facts facts numbers.next sequence state.directory.manifest tables after e
-          → LeadsOpen order old last_seen ids db (held after_memory (broken_by (with_job None) (flush_answer e))) (λ m n. IsPiece {T = T} m most (Err (flush_answer e)) n)
+          → LeadsOpen order old last_seen ids db (open_db after_memory (broken_by (with_job None) (flush_answer e))) (λ m n. IsPiece {T = T} m most (Err (flush_answer e)) n)
       ends_unended e said h = unended e said h

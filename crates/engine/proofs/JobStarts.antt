@@ -2,39 +2,39 @@
 use Rattle.std.proofs.Common.{◌≡◌, ◌++◌, ℕ, false, List, [], map, Contains, Some, None, Ok, Err, IsTrue, inl, inr, refl, sym, subst, arith}
 use Rattle.coding.specs.declared.error.DbError.{DbError}
 use Rattle.coding.specs.declared.error.DbError.TheVariants as error
-use Rattle.compact.specs.Outputs.{IsOwn, Written}
+use Rattle.compact.specs.Outputs.{IsOwn, TablesWritten}
 use Rattle.edits.specs.declared.field.PlacedTable.{PlacedTable}
 use Rattle.ikey.proofs.SearchedSources.{among_front}
 use Rattle.ikey.specs.Entries.{entry_of}
 use Rattle.ikey.specs.Orders.{Order}
 use Rattle.ikey.specs.Views.{AllUpTo, Among}
-use Rattle.running_job.specs.Beginning.{BeginsJob, CanBegin, RefusesBegin}
+use Rattle.running_job.specs.internal.Beginning.{BeginsJob, CanBegin, RefusesBegin}
 use Rattle.running_job.specs.declared.open_job.OpenJob.{OpenJob}
 use Rattle.memtables.specs.Memories.{Memories, logged_in}
 use Rattle.recover.proofs.Memberships.{among_chosen}
 use Rattle.recover.specs.Directory.{Directory}
 use Rattle.recover.specs.Tables.{TableContent, tabled}
-use Rattle.level_cursor.specs.InRows.{HasNumber}
+use Rattle.level_cursor.specs.InRows.{ListsNumber}
 use Rattle.db_cursor.specs.Places.{LeavesSource}
-use Rattle.db_cursor.specs.Scanning.{ScanIsKept}
+use Rattle.db_cursor.specs.internal.Scanning.{ScanIsKept}
 use Rattle.db_cursor.specs.Whole.{Whole}
 use Rattle.db_cursor.specs.declared.scan.Scan.{Scan}
 use Rattle.table_access.specs.Tables.{Seen}
 use Rattle.directory_writes.proofs.JobTables.{contains_among, content_at}
-use Rattle.directory_writes.specs.Compactions.{placed_in}
-use Rattle.versions.specs.Levels.{Lists}
+use Rattle.directory_writes.specs.Replacing.{placed_in}
+use Rattle.versions.specs.Levels.{ListsSameTables}
 use Rattle.versions.specs.Plans.{IsPlanOf}
 use Rattle.versions.specs.declared.plan.JobPlan.{JobPlan}
 use Rattle.engine.specs.declared.ids.Ids.{Ids}
 use Rattle.engine.specs.declared.state.DbState.{DbState}
-use Rattle.engine.specs.Compacting.{IsCompacting}
-use Rattle.engine.specs.Follows.{LeadsOpen}
-use Rattle.engine.specs.Held.{Held, held, whole_of}
-use Rattle.engine.specs.Live.{kept_at}
+use Rattle.engine.specs.internal.Compacting.{IsCompacting}
+use Rattle.engine.specs.internal.Leading.{LeadsOpen}
+use Rattle.engine.specs.OpenDb.{OpenDb, open_db, whole_of}
+use Rattle.engine.specs.Reads.{kept_at}
 use Rattle.machine.specs.Machine.{Machine}
-use Rattle.engine.specs.Stands.{IsServing}
+use Rattle.engine.specs.internal.Standing.{IsServing}
 use Rattle.machine.specs.Upkeep.{UpkeepRefused}
-use Rattle.engine.specs.Working.{IsPiece}
+use Rattle.engine.specs.internal.Pieces.{IsPiece}
 use Rattle.engine.proofs.Compacting.{all_contains}
 use Rattle.engine.proofs.JobEnds.{limited_in}
 use Rattle.engine.proofs.Reading.{GathersRead, KeepsThere, carried_there, read_by, serving_read}
@@ -50,7 +50,7 @@ planned_within cmp tables plan placed (inr all) is = subst (λ (ps : List Placed
 
 -- ---- with a job
 
-module _ {K : Type 0} {g : _} (order : Order) (source : Seen) (db : Held K g) (m : Machine) (work : OpenJob K g) where
+module _ {K : Type 0} {g : _} (order : Order) (source : Seen) (db : OpenDb K g) (m : Machine) (work : OpenJob K g) where
   -- a database in which one is under way is one in which none was
   pub serving_with : (h : IsServing order source db m) → IsCompacting order (whole_of source db) db.directory.numbers.next db.snapshots db.iterators h.log.directory.directory work → IsServing order source (record db { job = Some work }) m
   serving_with h c = record {
@@ -72,9 +72,9 @@ module _ {K : Type 0} {g : _} (order : Order) (source : Seen) (db : Held K g) (m
 
 module _ {K : Type 0} {g : _} (order : Order) (kept : (scan : Scan K g) → ScanIsKept order.cmp scan) (old new : Seen) (ids : Ids) (state : DbState K g) (memory after_memory : Memories) (plan : JobPlan)
     (whole : state.broken ≡ false) (none : state.job ≡ None) (tables : List PlacedTable) (tables_are : tables ≡ state.version.value.tables) (is : IsPlanOf order.cmp state.version.value.tables plan)
-    (leaves : LeavesSource order.cmp (HasNumber plan.inputs.items) (record { seen = old; memory = memory }) (record { seen = new; memory = after_memory })) where
-  abbrev db : Held K g
-  db = held memory state
+    (leaves : LeavesSource order.cmp (ListsNumber plan.inputs.items) (record { seen = old; memory = memory }) (record { seen = new; memory = after_memory })) where
+  abbrev db : OpenDb K g
+  db = open_db memory state
 
   abbrev before : Whole
   before = record { seen = old; memory = memory }
@@ -89,13 +89,13 @@ module _ {K : Type 0} {g : _} (order : Order) (kept : (scan : Scan K g) → Scan
     pub can_begin : CanBegin order before state.directory.numbers.next tables d
     can_begin = record {
       consistent = serving.log.directory.consistent;
-      listed = subst (λ (ts : List PlacedTable). Lists (placed_in d.tables) ts) (sym tables_are) (subst (λ (contents : List TableContent). Lists (placed_in contents) state.version.value.tables) serving.log.directory.in_tables serving.tables.version);
+      listed = subst (λ (ts : List PlacedTable). ListsSameTables (placed_in d.tables) ts) (sym tables_are) (subst (λ (contents : List TableContent). ListsSameTables (placed_in contents) state.version.value.tables) serving.log.directory.in_tables serving.tables.version);
       sound = serving.tables.sound;
       unkept = λ number is_kept come. absurd (let below = (serving.tables.drawn number is_kept).1 in omega (arith, come.0, below));
       free = serving.log.knows.free;
     }
 
-    of_version : (number : ℕ) → HasNumber plan.inputs.items number → HasNumber state.version.value.tables number
+    of_version : (number : ℕ) → ListsNumber plan.inputs.items number → ListsNumber state.version.value.tables number
     of_version number has = (has.0, planned_within order.cmp state.version.value.tables plan has.0 is has.1, has.2)
 
     there : KeepsThere old new
@@ -128,7 +128,7 @@ module _ {K : Type 0} {g : _} (order : Order) (kept : (scan : Scan K g) → Scan
     module _ (work : OpenJob K g) (begins : BeginsJob order tables before after work) (empty : work.job.outputs ≡ record { closed = []; at_hand = None }) (kept_last : Contains work.job.selection.snapshots memory.last)
         (kept_each : (id sequence : ℕ) → kept_at state.snapshots id ≡ Some sequence → Contains work.job.selection.snapshots sequence) where
       owns_none : (number : ℕ) → IsOwn work.job.outputs number → ⊥
-      owns_none number own = elim (subst (λ (w : Written). IsOwn w number) empty own) [
+      owns_none number own = elim (subst (λ (w : TablesWritten). IsOwn w number) empty own) [
         | inl at ↦ absurd at
         | inr closed ↦ absurd (omega (arith, closed.2))
       ]
@@ -152,17 +152,17 @@ module _ {K : Type 0} {g : _} (order : Order) (kept : (scan : Scan K g) → Scan
             unread = λ id scan there number has own. owns_none number own;
           }
 
-      pub serving_begun : IsServing order new (record (held after_memory state) { job = Some work }) (drawing m 0 new.facts)
-      serving_begun = undrawn order new (record (held after_memory state) { job = Some work }) m new.facts (serving_with order new (held after_memory state) (read_by new.facts m) work read_on begun_job)
+      pub serving_begun : IsServing order new (record (open_db after_memory state) { job = Some work }) (drawing m 0 new.facts)
+      serving_begun = undrawn order new (record (open_db after_memory state) { job = Some work }) m new.facts (serving_with order new (open_db after_memory state) (read_by new.facts m) work read_on begun_job)
 
   pub ends_begun : {T : Type 0} (done : T) (work : OpenJob K g) → BeginsJob order tables before after work → work.job.outputs ≡ record { closed = []; at_hand = None } → Contains work.job.selection.snapshots memory.last
       → ((id sequence : ℕ) → kept_at state.snapshots id ≡ Some sequence → Contains work.job.selection.snapshots sequence)
-      → LeadsOpen order old new ids db (held after_memory (record state { job = Some work })) (λ m n. IsPiece m 0 (Ok done) n)
+      → LeadsOpen order old new ids db (open_db after_memory (record state { job = Some work })) (λ m n. IsPiece m 0 (Ok done) n)
   ends_begun done work begins empty last each =
-      serves_on order old new ids db (held after_memory (record state { job = Some work })) 0 (Ok done) whole whole leaves.carries.reads.faithful leaves.carries.reads.failures leaves.carries.reads.denials
+      serves_on order old new ids db (open_db after_memory (record state { job = Some work })) 0 (Ok done) whole whole leaves.carries.reads.faithful leaves.carries.reads.failures leaves.carries.reads.denials
       (λ m f same serving. (draws m 0 new.facts, serving_begun m serving f work begins empty last each))
 
-  pub ends_unbegun : {T : Type 0} (e : DbError) → RefusesBegin order tables plan before after e → LeadsOpen order old new ids db (held after_memory state) (λ m n. IsPiece {T = T} m 0 (Err e) n)
+  pub ends_unbegun : {T : Type 0} (e : DbError) → RefusesBegin order tables plan before after e → LeadsOpen order old new ids db (open_db after_memory state) (λ m n. IsPiece {T = T} m 0 (Err e) n)
   ends_unbegun e h =
-      serves_on order old new ids db (held after_memory state) 0 (Err e) whole whole leaves.carries.reads.faithful leaves.carries.reads.failures leaves.carries.reads.denials
+      serves_on order old new ids db (open_db after_memory state) 0 (Err e) whole whole leaves.carries.reads.faithful leaves.carries.reads.failures leaves.carries.reads.denials
       (λ m f same serving. (refused m serving f e same h, on m serving f))

@@ -9,14 +9,11 @@ use Rattle.ikey.specs.Views.{Contents, IsView}
 use Rattle.recover.specs.Directory.{IsDirectory}
 use Rattle.machine.specs.Machine.{Machine, after_batch, after_batches, current}
 use Rattle.machine.specs.Access.{accepted}
-use Rattle.machine.specs.Lifetime.{Closed, EndsClosed}
-use Rattle.machine.specs.declared.command.Answer.{Answer}
+use Rattle.machine.specs.Lifetime.{Closed}
 use Rattle.machine.specs.declared.command.Answer.TheVariants.{Done, Refused}
-use Rattle.engine.specs.declared.ids.Ids.{Ids}
-use Rattle.engine.specs.Bridges.{EndsLaw}
-use Rattle.engine.specs.Directory.{MeansCurrent, MeansWith, IsAtRest}
+use Rattle.engine.specs.internal.Bridges.{EndsLaw}
+use Rattle.engine.specs.internal.Directory.{MeansCurrent, MeansWith, IsAtRest}
 use Rattle.engine.specs.Headline.{Holds, IsLast}
-use Rattle.engine.specs.Stands.{StandsClosed}
 
 pushed : (map : Contents) (batches : List (List Operation)) (batch : List Operation) → after_batches map (batches ++ batch ∷ []) ≡ after_batch (after_batches map batches) batch
 pushed map [] batch = refl

@@ -10,47 +10,17 @@ use Rattle.store.specs.declared.error.StoreError.TheVariants as store_error
 use Rattle.edits.specs.Names.{name_of}
 use Rattle.edits.specs.declared.names.FileName.TheVariants.{Current, Lock}
 use Rattle.recover.proofs.NamedFiles.{get_other, get_same}
-use Rattle.engine.specs.Calls.{TakesLock}
-use Rattle.engine.specs.Durable.{IsForeign, IsSpared, KeepsForeign, LeavesFile, LeavesDurable, Spares}
+use Rattle.opening.specs.internal.Calls.{TakesLock}
+use Rattle.opening.specs.Durable.{IsForeign, KeepsForeign, LeavesFile, LeavesDurable}
+use Rattle.opening.specs.internal.Durable.{IsSpared, Spares}
 use Rattle.engine.specs.Touching.{OpensStore, Frees, told_failures}
 use Rattle.engine.proofs.OpenLock.{OnlyLock, may_lock_only}
-use Rattle.engine.proofs.Reopening.{files_apart}
+use Rattle.opening.proofs.AfterReading.{behind_durable, done_durable, left_by, spared_same}
+use Rattle.opening.proofs.Reopening.{files_apart}
 
 -- ---- what is synced
 
-left_by : (old new : Facts) → new.files ≡ old.files → new.synced ≡ old.synced → LeavesFile old new (name_of Current)
-left_by old new files synced = (ap (λ (fs : Files). get fs (name_of Current)) files, ap (λ (s : Synced). s (name_of Current)) synced)
-
--- nothing was written
-pub unwritten_durable : {T : Type 0} (old new : Facts) (e : DbError) → (IsTrue new.faithful → new.files ≡ old.files) → (IsTrue new.faithful → new.synced ≡ old.synced) → LeavesDurable {T = T} old new (Err e)
-unwritten_durable old new e files synced = record { ok = λ f. tt; err = λ f. inl (left_by old new (files f) (synced f)) }
-
--- what was only read before, or the lock that was taken, leaves `CURRENT`
-pub behind_durable : {T U : Type 0} (old mid new : Facts) (e : DbError) → (IsTrue new.faithful → IsTrue mid.faithful) → (IsTrue mid.faithful → LeavesFile old mid (name_of Current)) → LeavesDurable {T = T} mid new (Err e) → LeavesDurable {T = U} old new (Err e)
-behind_durable old mid new e back left d = record {
-  ok = λ f. tt;
-  err = λ f. elim (d.err f) [
-    | inl still ↦ (let first = left (back f) in inl (still.0 ∙ first.0, still.1 ∙ first.1))
-    | inr made ↦ inr made
-  ];
-}
-
-pub behind_read : {T U : Type 0} (old mid new : Facts) (e : DbError) → (IsTrue new.faithful → IsTrue mid.faithful) → (IsTrue mid.faithful → mid.files ≡ old.files) → (IsTrue mid.faithful → mid.synced ≡ old.synced)
-    → LeavesDurable {T = T} mid new (Err e) → LeavesDurable {T = U} old new (Err e)
-behind_read {T} {U} old mid new e back files synced d = behind_durable {T = T} {U = U} old mid new e back (λ f. left_by old mid (files f) (synced f)) d
-
-pub done_durable : {T U : Type 0} (old mid new : Facts) (x : T) (y : U) → LeavesDurable {T = T} mid new (Ok x) → LeavesDurable {T = U} old new (Ok y)
-done_durable old mid new x y d = record { ok = d.ok; err = λ f. tt }
-
 -- ---- files that an open leaves alone
-
--- where it was only read
-pub spared_same : (old new : Facts) → new.files ≡ old.files → new.synced ≡ old.synced → Spares old new
-spared_same old new files synced name is = (ap (λ (fs : Files). get fs name) files, ap (λ (s : Synced). s name) synced)
-
--- behind what was only read
-pub spared_behind : (old mid new : Facts) → mid.files ≡ old.files → mid.synced ≡ old.synced → Spares mid new → Spares old new
-spared_behind old mid new files synced kept name is = let a = spared_same old mid files synced name is in let b = kept name is in (b.0 ∙ a.0, b.1 ∙ a.1)
 
 made_beside : (b : Bool) (files : Files) (name : List ℕ) → IsForeign name → get (cond b files (insert files lock_name [])) name ≡ get files name
 made_beside true files name is = refl

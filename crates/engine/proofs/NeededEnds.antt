@@ -19,36 +19,38 @@ use Rattle.ikey.specs.declared.entry.Entry.{Entry}
 use Rattle.memtables.specs.Memories.{Memories, inserts_of, logged_in, older_at, sealed_inserts}
 use Rattle.recover.proofs.Distinct.{distinct}
 use Rattle.recover.proofs.OneMeaning.{same_directory}
-use Rattle.recover.specs.Changes.{AreDistinct}
+use Rattle.recover.specs.Replacing.{AreDistinct}
 use Rattle.recover.specs.Logs.{logged}
 use Rattle.recover.specs.Tables.{TableContent, tabled}
 use Rattle.table_access.specs.Tables.{Seen}
 use Rattle.directory_writes.proofs.PlanParts.{distinct_front}
-use Rattle.directory_writes.specs.Compactions.{placed_in}
+use Rattle.directory_writes.specs.Replacing.{placed_in}
 use Rattle.running_job.specs.declared.open_job.OpenJob.{OpenJob}
-use Rattle.versions.specs.Levels.{Lists, tables_at}
+use Rattle.versions.specs.Levels.{ListsSameTables, tables_at}
 use Rattle.versions.specs.Plans.{IsLevelPlan}
 use Rattle.versions.specs.declared.plan.JobPlan.{JobPlan}
 use Rattle.engine.specs.declared.ids.Ids.{Ids}
 use Rattle.engine.specs.Finishing.{HasNoMemory, IsAllCompacted}
-use Rattle.engine.specs.Follows.{LeadsOpen}
-use Rattle.engine.specs.Held.{Held, entries_of}
-use Rattle.engine.specs.Live.{IsBoth, IsSnapshot, kept_at}
+use Rattle.engine.specs.internal.Leading.{LeadsOpen}
+use Rattle.engine.specs.OpenDb.{OpenDb}
+use Rattle.engine.specs.internal.Standing.{entries_of, IsBroken, IsServing, StandsOpen}
+use Rattle.engine.specs.internal.Live.{IsBoth, IsSnapshot}
+use Rattle.engine.specs.Reads.{kept_at}
 use Rattle.machine.specs.Machine.{Machine, current}
-use Rattle.engine.specs.Needed.{EndsNeeded, HasNeeded, IsForLive, LeavesNeeded, live_sequences, none_below}
-use Rattle.engine.specs.Stands.{IsBroken, IsServing, StandsOpen}
+use Rattle.engine.specs.internal.TakingAll.{EndsNeeded}
+use Rattle.engine.specs.Needed.{HasNeeded, IsForLive, LeavesNeeded, live_sequences, none_below}
 use Rattle.machine.specs.Upkeep.{most_drawn}
-use Rattle.engine.specs.Working.{IsPiece}
+use Rattle.engine.specs.internal.Pieces.{IsPiece}
 use Rattle.engine.specs.WrittenTables.{MergesLevel, MergesPlan, PutsMerged}
 use Rattle.engine.proofs.Steps.{serving_of}
 
 -- ---- behind what came first
 
-module _ {K : Type 0} {g : _} (order : Order) (old mid new : Seen) (before between after : Held K g) {P Q : Machine → Machine → Type 0} where
+module _ {K : Type 0} {g : _} (order : Order) (old mid new : Seen) (before between after : OpenDb K g) {P Q : Machine → Machine → Type 0} where
   pub needed_behind : ((ids : Ids) → LeadsOpen order old mid ids before between P) → ((ids : Ids) → LeadsOpen order mid new ids between after Q) → EndsNeeded order mid new between after → EndsNeeded order old new before after
   needed_behind first next ends f ids m s = let one = (first ids).moved ((next ids).faithful f) m s in ends f ids one.0 one.2
 
-module _ {K : Type 0} {g : _} (order : Order) (plan : JobPlan) (old mid new : Seen) (before between after : Held K g) {P Q : Machine → Machine → Type 0} where
+module _ {K : Type 0} {g : _} (order : Order) (plan : JobPlan) (old mid new : Seen) (before between after : OpenDb K g) {P Q : Machine → Machine → Type 0} where
   pub merges_plan : ((ids : Ids) → LeadsOpen order old mid ids before between P) → ((ids : Ids) → LeadsOpen order mid new ids between after Q) → between.tables ≡ before.tables → IsSome between.job
       → MatchOption between.job ⊥ (λ work. (work.merged ≡ 0) × (work.job.plan ≡ plan)) → MatchOption between.job ⊥ (λ work. IsForLive work before) → (IsSome between.job → PutsMerged order mid new between after) → MergesPlan order plan old new before after
   merges_plan first next tables some begun live merges f =
@@ -58,26 +60,26 @@ module _ {K : Type 0} {g : _} (order : Order) (plan : JobPlan) (old mid new : Se
       both None begun live = begun
       both (Some work) begun live = (begun.1, live)
 
-pub merges_none : {K : Type 0} {g : _} (order : Order) (level : ℕ) (old new : Seen) (before after : Held K g) {P : Machine → Machine → Type 0} → ((ids : Ids) → LeadsOpen order old new ids before after P) → (IsSome before.job → PutsMerged order old new before after)
+pub merges_none : {K : Type 0} {g : _} (order : Order) (level : ℕ) (old new : Seen) (before after : OpenDb K g) {P : Machine → Machine → Type 0} → ((ids : Ids) → LeadsOpen order old new ids before after P) → (IsSome before.job → PutsMerged order old new before after)
     → tables_at level after.tables ≡ [] → MergesLevel order level old new before after
 merges_none order level old new before after first merges none f = (new, after, (λ ids m s. let one = (first ids).moved f m s in (one.0, one.2)), merges, inl none)
 
-pub merges_level : {K : Type 0} {g : _} (order : Order) (level : ℕ) (old mid new : Seen) (before between after : Held K g) (plan : JobPlan) {P Q : Machine → Machine → Type 0} → ((ids : Ids) → LeadsOpen order old mid ids before between P)
+pub merges_level : {K : Type 0} {g : _} (order : Order) (level : ℕ) (old mid new : Seen) (before between after : OpenDb K g) (plan : JobPlan) {P Q : Machine → Machine → Type 0} → ((ids : Ids) → LeadsOpen order old mid ids before between P)
     → ((ids : Ids) → LeadsOpen order mid new ids between after Q) → (IsSome before.job → PutsMerged order old mid before between) → IsLevelPlan order.cmp between.tables level plan → MergesPlan order plan mid new between after → MergesLevel order level old new before after
 merges_level order level old mid new before between after plan first next ended is merges f =
     (mid, between, (λ ids m s. let one = (first ids).moved ((next ids).faithful f) m s in (one.0, one.2)), ended, inr (plan, is, merges))
 
 -- ---- without tables
 
-none_placed : (contents : List TableContent) → Lists (placed_in contents) [] → contents ≡ []
+none_placed : (contents : List TableContent) → ListsSameTables (placed_in contents) [] → contents ≡ []
 none_placed [] listed = refl
 none_placed (c ∷ contents) listed = (let there = listed.all 0 c.placed (omega arith) in absurd (omega (arith, there.1)))
 
-pub needed_none : {K : Type 0} {g : _} (order : Order) (source : Seen) (db : Held K g) → db.broken ≡ false → db.tables ≡ [] → EndsNeeded order source source db db
+pub needed_none : {K : Type 0} {g : _} (order : Order) (source : Seen) (db : OpenDb K g) → db.broken ≡ false → db.tables ≡ [] → EndsNeeded order source source db db
 needed_none order source db whole none f ids m s =
     let serving = serving_of order source ids db m whole s in
     let d = serving.log.directory.directory in
-    let empty : d.tables ≡ [] = sym serving.log.directory.in_tables ∙ none_placed serving.contents (subst (λ (ts : List PlacedTable). Lists (placed_in serving.contents) ts) none serving.tables.version) in
+    let empty : d.tables ≡ [] = sym serving.log.directory.in_tables ∙ none_placed serving.contents (subst (λ (ts : List PlacedTable). ListsSameTables (placed_in serving.contents) ts) none serving.tables.version) in
     record {
       directory = d;
       consistent = serving.log.directory.consistent;
@@ -113,7 +115,7 @@ none_both Is (Some x) h = absurd h
 no_logs : (memory : Memories) → memory.current.inserts ≡ [] → memory.sealed ≡ None → logged_in memory ≡ []
 no_logs memory current sealed = ap (λ (es : List Entry). sealed_inserts memory ++ es) current ∙ append-nil (sealed_inserts memory) ∙ ap (λ (o : Option ℕ). inserts_of (option_and_then (older_at memory.older) o)) sealed
 
-module _ {K : Type 0} {g : _} (order : Order) (total : IsTotalOrder order.cmp) (new : Seen) (db : Held K g) (n : Machine) (serving : IsServing order new db n) (memory : HasNoMemory db) (h : HasNeeded order new.facts.files (live_sequences db)) where
+module _ {K : Type 0} {g : _} (order : Order) (total : IsTotalOrder order.cmp) (new : Seen) (db : OpenDb K g) (n : Machine) (serving : IsServing order new db n) (memory : HasNoMemory db) (h : HasNeeded order new.facts.files (live_sequences db)) where
   abbrev left : List Entry
   left = tabled h.directory.tables
 
@@ -137,14 +139,14 @@ module _ {K : Type 0} {g : _} (order : Order) (total : IsTotalOrder order.cmp) (
       (subst (λ (sequences : List ℕ). AreNeeded left sequences none_below left) (last_alone none) h.needed)
 
 -- it serves on where the machine does
-serving_on : {K : Type 0} {g : _} (order : Order) (source : Seen) (ids : Ids) (db : Held K g) (n : Machine) → n.broken ≡ false → StandsOpen order source ids db n → IsServing order source db n
+serving_on : {K : Type 0} {g : _} (order : Order) (source : Seen) (ids : Ids) (db : OpenDb K g) (n : Machine) → n.broken ≡ false → StandsOpen order source ids db n → IsServing order source db n
 serving_on order source ids db n whole s = at db.broken s.rest
   where
     at : (b : Bool) → MatchBool b (IsBroken order source.facts.files n) (IsServing order source db n) → IsServing order source db n
     at true h = absurd (let bad : true ≡ false = sym h.broken ∙ whole in cc)
     at false h = h
 
-module _ {K T : Type 0} {g : _} (order : Order) (total : IsTotalOrder order.cmp) (old new : Seen) (before after : Held K g) (whole : before.broken ≡ false) where
+module _ {K T : Type 0} {g : _} (order : Order) (total : IsTotalOrder order.cmp) (old new : Seen) (before after : OpenDb K g) (whole : before.broken ≡ false) where
   pub only_left : (result : Result T DbError) → ((ids : Ids) → LeadsOpen order old new ids before after (λ m n. IsPiece m (most_drawn m) result n)) → OnOk result (IsAllCompacted after) → OnOk result (EndsNeeded order old new before after)
       → OnOk result (LeavesNeeded order old new before after)
   only_left (Ok done) step compacted ends = λ f ids m s.

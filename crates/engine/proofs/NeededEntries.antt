@@ -7,7 +7,7 @@ use Rattle.std.specs.Map.{values_of}
 use Rattle.compact.proofs.Keeping.{keeps_needed}
 use Rattle.compact.proofs.Parts.{part-all, part-members}
 use Rattle.compact.specs.Deeper.{is_covered_below}
-use Rattle.compact.specs.Needed.{AreNeeded, IsNeeded, IsVisible}
+use Rattle.compact.specs.Needed.{AreNeeded, IsNeeded, IsSeenBySome}
 use Rattle.cursor.specs.Places.{Cmp}
 use Rattle.edits.specs.Snapshot.{AreInPlace}
 use Rattle.edits.specs.declared.field.PlacedTable.{PlacedTable}
@@ -20,22 +20,22 @@ use Rattle.running_job.specs.declared.open_job.OpenJob.{OpenJob}
 use Rattle.memtables.specs.Memories.{Memories}
 use Rattle.recover.proofs.Flushing.{kept_by}
 use Rattle.recover.proofs.Memberships.{among_chosen, among_contents, from_rest, from_tabled}
-use Rattle.recover.specs.Changes.{compacted}
+use Rattle.recover.specs.internal.Changes.{compacted}
 use Rattle.recover.specs.Directory.{Directory, IsConsistent}
 use Rattle.recover.specs.Tables.{InTables, TableContent, tabled}
 use Rattle.store.specs.Files.{Files}
 use Rattle.directory_writes.proofs.JobTables.{contains_among, content_at, row_of}
 use Rattle.directory_writes.proofs.PlanParts.{parts_apart}
-use Rattle.directory_writes.specs.Compactions.{placed_in}
-use Rattle.directory_writes.specs.Install.{HasInstalled}
-use Rattle.directory_writes.specs.Planned.{IsPlanned}
-use Rattle.versions.specs.Levels.{Lists}
+use Rattle.directory_writes.specs.Replacing.{placed_in, IsPlanned}
+use Rattle.directory_writes.specs.internal.Install.{HasInstalled}
+use Rattle.versions.specs.Levels.{ListsSameTables}
 use Rattle.versions.specs.Plans.{IsWholePlan}
 use Rattle.versions.specs.Ranges.{covers}
 use Rattle.versions.specs.declared.plan.JobPlan.{JobPlan}
 use Rattle.engine.specs.declared.state.DbState.{DbState}
-use Rattle.engine.specs.Held.{Held, held}
-use Rattle.engine.specs.Needed.{HasNeeded, IsForLive, IsTakingAll, TakesAll, live_sequences, none_below}
+use Rattle.engine.specs.OpenDb.{OpenDb, open_db}
+use Rattle.engine.specs.Needed.{HasNeeded, IsForLive, live_sequences, none_below}
+use Rattle.engine.specs.internal.TakingAll.{IsTakingAll, TakesAll}
 use Rattle.engine.proofs.Compacting.{all_contains}
 use Rattle.engine.proofs.Reading.{has_placed}
 
@@ -44,7 +44,7 @@ use Rattle.engine.proofs.Reading.{has_placed}
 -- those that are needed, and no deeper table covers them, are so where more is read, in whatever order they stand
 module _ (entries others : List Entry) (fewer more : List ℕ) (to : (entry : Entry) → Among others entry → Among entries entry) (back : (entry : Entry) → Among entries entry → Among others entry)
     (within : (sequence : ℕ) → Contains fewer sequence → Contains more sequence) where
-  visible_too : (entry : Entry) → IsVisible entries fewer entry → IsVisible others more entry
+  visible_too : (entry : Entry) → IsSeenBySome entries fewer entry → IsSeenBySome others more entry
   visible_too entry h = (h.0, within h.0 h.1, record { member = back entry h.2.member; seen = h.2.seen; greatest = λ other i same up. h.2.greatest other (to other i) same up })
 
   needed_too : (deep : List ℕ → Bool) → ((key : List ℕ) → IsTrue (deep key) → ⊥) → (entry : Entry) → IsNeeded entries fewer deep entry → IsNeeded others more none_below entry
@@ -72,7 +72,7 @@ none_covered cmp tables key levels is =
 -- ---- the outputs are all that is left
 
 module _ {K : Type 0} {g : _} (order : Order) (old new : Files) (d : Directory) (work : OpenJob K g) (tables : List PlacedTable) (inputs rest : List TableContent) (came : List InternalEntry) (consistent : IsConsistent order old d)
-    (planned : IsPlanned order (deep_of order.cmp work) work.job.plan d.tables inputs rest) (listed : Lists (placed_in d.tables) tables) (levels : All (λ (placed : PlacedTable). placed.level < 7) tables)
+    (planned : IsPlanned order (deep_of order.cmp work) work.job.plan d.tables inputs rest) (listed : ListsSameTables (placed_in d.tables) tables) (levels : All (λ (placed : PlacedTable). placed.level < 7) tables)
     (all : work.job.plan.inputs.items ≡ tables) (output : work.job.plan.output_level ≡ 6) (version : work.version.value.tables ≡ tables) where
   -- no table is beside the inputs
   none_beside : (content : TableContent) → InTables rest content → ⊥
@@ -109,14 +109,14 @@ module _ {K : Type 0} {g : _} (order : Order) (old new : Files) (d : Directory) 
 -- ---- a job that takes all tables
 
 module _ {K : Type 0} {g : _} where
-  pub taking : (db : Held K g) (work : OpenJob K g) → db.job ≡ Some work → IsTakingAll db → TakesAll db work
+  pub taking : (db : OpenDb K g) (work : OpenJob K g) → db.job ≡ Some work → IsTakingAll db → TakesAll db work
   taking db work is h = subst (λ (o : Option (OpenJob K g)). MatchOption o ⊥ (TakesAll db)) is h
 
-  pub not_taking : (db : Held K g) → db.job ≡ None → IsTakingAll db → ⊥
+  pub not_taking : (db : OpenDb K g) → db.job ≡ None → IsTakingAll db → ⊥
   not_taking db is h = subst (λ (o : Option (OpenJob K g)). MatchOption o ⊥ (TakesAll db)) is h
 
   -- it goes on
-  pub takes_on : (before after : Held K g) (work more : OpenJob K g) → more.job.plan ≡ work.job.plan → more.version ≡ work.version → more.job.selection.snapshots ≡ work.job.selection.snapshots → after.tables ≡ before.tables
+  pub takes_on : (before after : OpenDb K g) (work more : OpenJob K g) → more.job.plan ≡ work.job.plan → more.version ≡ work.version → more.job.selection.snapshots ≡ work.job.selection.snapshots → after.tables ≡ before.tables
       → live_sequences after ≡ live_sequences before → TakesAll before work → TakesAll after more
   takes_on before after work more plan version snapshots tables sequences h = record {
     inputs = ap (λ p. p.inputs.items) plan ∙ h.inputs ∙ sym tables;
@@ -126,7 +126,7 @@ module _ {K : Type 0} {g : _} where
   }
 
   -- one that is for the sequences that are read at is so where it is for the same, and the same are read at
-  pub still_live : (work more : OpenJob K g) (before after : Held K g) → more.job.selection.snapshots ≡ work.job.selection.snapshots → live_sequences after ≡ live_sequences before → IsForLive work before → IsForLive more after
+  pub still_live : (work more : OpenJob K g) (before after : OpenDb K g) → more.job.selection.snapshots ≡ work.job.selection.snapshots → live_sequences after ≡ live_sequences before → IsForLive work before → IsForLive more after
   still_live work more before after kept same h = record {
     each = λ s i. subst (λ (ss : List ℕ). Contains ss s) (sym kept) (h.each s (subst (λ (ss : List ℕ). Contains ss s) same i));
     only = λ s i. subst (λ (ss : List ℕ). Contains ss s) (sym same) (h.only s (subst (λ (ss : List ℕ). Contains ss s) kept i));
@@ -134,7 +134,7 @@ module _ {K : Type 0} {g : _} where
 
   -- one that was begun for all
   pub takes_begun : (state : DbState K g) (memory after_memory : Memories) (plan : JobPlan) (work : OpenJob K g) (sequences : List ℕ) → work.job.plan ≡ plan → work.version.value.tables ≡ state.version.value.tables → work.job.selection.snapshots ≡ sequences → after_memory.last ≡ memory.last
-      → ((sequence : ℕ) → Contains sequences sequence → Contains (live_sequences (held memory state)) sequence) → IsWholePlan state.version.value.tables plan → TakesAll (held after_memory (record state { job = Some work })) work
+      → ((sequence : ℕ) → Contains sequences sequence → Contains (live_sequences (open_db memory state)) sequence) → IsWholePlan state.version.value.tables plan → TakesAll (open_db after_memory (record state { job = Some work })) work
   takes_begun state memory after_memory plan work sequences plan_is version kept last only planned = record {
     inputs = ap (λ p. p.inputs.items) plan_is ∙ planned.inputs;
     output = ap (λ p. p.output_level) plan_is ∙ planned.output;

@@ -12,15 +12,19 @@ use Rattle.store.specs.Files.{Facts}
 use Rattle.machine.specs.declared.command.Mode.{Mode}
 use Rattle.machine.specs.declared.command.Answer.TheVariants.{Done, Refused}
 use Rattle.engine.specs.declared.ids.Ids.{Ids}
-use Rattle.engine.specs.Durable.{HasDurable, IsDurable, LeavesDurable, LeavesFile, Spares}
-use Rattle.engine.specs.Follows.{Leads, LeadsOpen}
-use Rattle.engine.specs.Held.{Held}
-use Rattle.machine.specs.Lifetime.{OpenAnswered, Opened, Opens, open_cause}
+use Rattle.opening.specs.internal.Durable.{HasDurable, Spares}
+use Rattle.opening.specs.Durable.{IsDurable, LeavesDurable, LeavesFile}
+use Rattle.engine.specs.Follows.{Leads}
+use Rattle.engine.specs.internal.Leading.{LeadsOpen}
+use Rattle.engine.specs.OpenDb.{OpenDb}
+use Rattle.machine.specs.Lifetime.{OpenAnswered, Opened, Opens}
+use Rattle.machine.specs.Causes.{open_cause, status_of}
 use Rattle.machine.specs.Machine.{Machine}
-use Rattle.machine.specs.Serving.{Becomes}
-use Rattle.engine.specs.Stands.{StandsOpen}
+use Rattle.machine.specs.Serving.{◌≈◌}
+use Rattle.engine.specs.internal.Standing.{StandsOpen}
 use Rattle.machine.specs.Upkeep.{Draws, UpkeepRefused}
-use Rattle.engine.specs.Working.{IsLiveIn, IsPiece, LosesDead}
+use Rattle.engine.specs.Working.{IsLiveIn, LosesDead}
+use Rattle.engine.specs.internal.Pieces.{IsPiece}
 use Rattle.engine.proofs.Steps.{serving_of}
 
 -- ---- the machine
@@ -46,7 +50,7 @@ opened_on m mid n h drawn = (
 )
 
 answered_on : (m mid n : Machine) (mode : Mode) (cause : Option DbError) → Draws mid 0 n
-    → MatchOption cause (OpenAnswered m mode Done mid) (λ e. (Done ≡ Refused e) × Becomes m mid) → MatchOption cause (OpenAnswered m mode Done n) (λ e. (Done ≡ Refused e) × Becomes m n)
+    → MatchOption cause (OpenAnswered m mode Done mid) (λ e. (Done ≡ Refused e) × (mid ≈ m)) → MatchOption cause (OpenAnswered m mode Done n) (λ e. (Done ≡ Refused e) × (n ≈ m))
 answered_on m mid n mode None drawn h = (h.0, opened_on m mid n h.1 drawn)
 answered_on m mid n mode (Some e) drawn h = absurd (let is : Done ≡ Refused e = h.0 in cc)
 
@@ -57,10 +61,10 @@ opens_on m mid n mode result drawn piece h = (
     denials = (let a = h.0.denials in let b = piece.denials in omega (arith, a, b));
     undenied = λ other. piece.denials ∙ h.0.undenied other;
   },
-  answered_on m mid n mode (open_cause m) drawn h.1,
+  answered_on m mid n mode (open_cause (status_of m)) drawn h.1,
 )
 
-module _ {K : Type 0} {g : _} (order : Order) (old : Facts) (mid new : Seen) (ids : Ids) (before after : Held K g) (start : Machine → Type 0) (mode : Mode) where
+module _ {K : Type 0} {g : _} (order : Order) (old : Facts) (mid new : Seen) (ids : Ids) (before after : OpenDb K g) (start : Machine → Type 0) (mode : Mode) where
   pub opened_cleaned : {T : Type 0} (result : Result T DbError) → before.broken ≡ false → after.broken ≡ false
       → Leads old mid.facts start (StandsOpen order mid ids before) (λ m n. Opens m mode Done n) → LeadsOpen order mid new ids before after (λ m n. IsPiece m 0 result n)
       → Leads old new.facts start (StandsOpen order new ids after) (λ m n. Opens m mode Done n)
@@ -75,7 +79,7 @@ module _ {K : Type 0} {g : _} (order : Order) (old : Facts) (mid new : Seen) (id
 
 -- ---- what is synced
 
-module _ {K : Type 0} {g : _} (old new : Facts) (db : Held K g) (loses : LosesDead old new db) where
+module _ {K : Type 0} {g : _} (old new : Facts) (db : OpenDb K g) (loses : LosesDead old new db) where
   -- what is live stays
   pub live_stays : (file : FileName) → IsFileName file → IsLiveIn db file → LeavesFile old new (name_of file)
   live_stays file is live = elim (loses (name_of file)) [
@@ -98,9 +102,9 @@ module _ {K : Type 0} {g : _} (old new : Facts) (db : Held K g) (loses : LosesDe
       let d = has.durable in
       (n, (d.0, (current.0 ∙ d.1.0, current.1 ∙ d.1.1), manifest.0 ∙ d.2, manifest.1 ∙ d.3))
 
-pub durable_cleaned : {K T : Type 0} {g : _} (first old new : Facts) (db : Held K g) (done : T) → (IsTrue new.faithful → IsTrue old.faithful) → (IsTrue new.faithful → LosesDead old new db)
+pub durable_cleaned : {K T : Type 0} {g : _} (first old new : Facts) (db : OpenDb K g) (done : T) → (IsTrue new.faithful → IsTrue old.faithful) → (IsTrue new.faithful → LosesDead old new db)
     → (IsTrue old.faithful → HasDurable db.directory.manifest.number old) → LeavesDurable {T = T} first new (Ok done)
 durable_cleaned first old new db done back loses has = record { ok = λ f. durable_stays old new db (loses f) (has (back f)); err = λ f. tt }
 
-pub spared_cleaned : {K : Type 0} {g : _} (first old new : Facts) (db : Held K g) → (IsTrue new.faithful → IsTrue old.faithful) → (IsTrue new.faithful → LosesDead old new db) → (IsTrue old.faithful → Spares first old) → IsTrue new.faithful → Spares first new
+pub spared_cleaned : {K : Type 0} {g : _} (first old new : Facts) (db : OpenDb K g) → (IsTrue new.faithful → IsTrue old.faithful) → (IsTrue new.faithful → LosesDead old new db) → (IsTrue old.faithful → Spares first old) → IsTrue new.faithful → Spares first new
 spared_cleaned first old new db back loses kept f name is = let a = kept (back f) name is in let b = spared_stays old new db (loses f) name is in (b.0 ∙ a.0, b.1 ∙ a.1)

@@ -17,26 +17,27 @@ use Rattle.ikey.specs.Sources.{SameEntries, SameViewLaw}
 use Rattle.ikey.specs.Views.{AllUpTo, IsView}
 use Rattle.ikey.specs.declared.entry.Entry.{Entry}
 use Rattle.recover.specs.Directory.{Directory, IsConsistent, entries_in, used_in}
-use Rattle.recover.specs.Laws.{OneDirectoryLaw}
+use Rattle.recover.specs.internal.Laws.{OneDirectoryLaw}
 use Rattle.recover.specs.Numbers.{IsFree, NamesBelow}
 use Rattle.recover.specs.Report.{IsLongTable, AnyHasBytes}
 use Rattle.recover.specs.Tables.{TableContent}
 use Rattle.db_cursor.specs.Scans.{KeepsScan}
-use Rattle.db_cursor.specs.Scanning.{ScanIsKept}
+use Rattle.db_cursor.specs.internal.Scanning.{ScanIsKept}
 use Rattle.db_cursor.specs.Whole.{Whole}
 use Rattle.db_cursor.specs.declared.scan.Scan.{Scan}
 use Rattle.store.specs.Files.{Files}
 use Rattle.table_access.specs.Tables.{Seen}
-use Rattle.engine.specs.Accounted.{AreAccounted}
-use Rattle.engine.specs.Directory.{Means, MeansAccepted}
+use Rattle.engine.specs.internal.Accounted.{AreAccounted}
+use Rattle.engine.specs.internal.Directory.{Means, MeansAccepted}
 use Rattle.recover.specs.Limits.{IsWithinLimits}
-use Rattle.engine.specs.Held.{Held, entries_of}
-use Rattle.engine.specs.Iterators.{IsWalk}
-use Rattle.engine.specs.Live.{kept_at, IsBoth, AreLive, AreSnapshots, AreWalks, IsSnapshot}
+use Rattle.engine.specs.OpenDb.{OpenDb}
+use Rattle.engine.specs.internal.Standing.{entries_of, IsServing}
+use Rattle.reader.specs.internal.Iterators.{IsWalk}
+use Rattle.engine.specs.Reads.{kept_at}
+use Rattle.engine.specs.internal.Live.{IsBoth, AreLive, AreSnapshots, AreWalks, IsSnapshot}
 use Rattle.machine.specs.Machine.{Machine, Walk, after_batch, current, entry_count, operation_weight, view_at, weight}
-use Rattle.engine.specs.Stands.{IsServing}
 use Rattle.engine.proofs.Reading.{walk_kept}
-use Rattle.engine.proofs.Reopening.{TablesStay, long_back}
+use Rattle.opening.proofs.Reopening.{TablesStay, long_back}
 
 -- ---- what is live
 
@@ -132,7 +133,7 @@ snapshots_same law xs ys last m snapshots same h =
 -- ---- a database that is broken
 
 -- a directory of which the machine's map is the view is what the machine stands for, as it stands for that of an open database
-pub rests_seen : {K : Type 0} {g : _} (order : Order) (source : Seen) (db : Held K g) (m : Machine) (serving : IsServing order source db m) (files : Files) (e : Directory)
+pub rests_seen : {K : Type 0} {g : _} (order : Order) (source : Seen) (db : OpenDb K g) (m : Machine) (serving : IsServing order source db m) (files : Files) (e : Directory)
     → IsConsistent order files e → IsView (entries_in e) db.memory.last (current m) → AreAccounted (entries_in e) (entry_count m) (weight m) → used_in e ≡ db.memory.last → MeansAccepted order files m
 rests_seen order source db m serving files e good view accounted used =
     let means : Means order files (current m) m.used (entry_count m) (weight m) = record {
@@ -147,7 +148,7 @@ rests_seen order source db m serving files e good view accounted used =
     subst Accepted (sym serving.certain) means
 
 -- so is one of the same entries
-pub rests_as : {K : Type 0} {g : _} (order : Order) (law : SameViewLaw) (source : Seen) (db : Held K g) (m : Machine) (serving : IsServing order source db m) (files : Files) (e : Directory)
+pub rests_as : {K : Type 0} {g : _} (order : Order) (law : SameViewLaw) (source : Seen) (db : OpenDb K g) (m : Machine) (serving : IsServing order source db m) (files : Files) (e : Directory)
     → IsConsistent order files e → SameEntries (entries_of serving.contents db) (entries_in e) → used_in e ≡ db.memory.last → MeansAccepted order files m
 rests_as order law source db m serving files e good same used =
     rests_seen order source db m serving files e good ((law (entries_of serving.contents db) (entries_in e) db.memory.last same).0 (current m) serving.entries.view)

@@ -4,7 +4,7 @@ use Rattle.std.specs.FinMap.{get, IsAntisymmetric}
 use Rattle.std.specs.Option.{option_or}
 use Rattle.edits.specs.Names.{IsNumbered, name_of}
 use Rattle.edits.specs.declared.names.FileName.TheVariants.{Table, OldTable}
-use Rattle.recover.specs.Changes.{ManifestEndsAt}
+use Rattle.recover.specs.internal.Changes.{ManifestEndsAt}
 use Rattle.recover.specs.Directory.{EndsAt, IsConsistent}
 use Rattle.recover.specs.Numbers.{IsFree}
 use Rattle.std.specs.Cmp.{IsTotalOrder}
@@ -21,10 +21,10 @@ use Rattle.version_get.specs.Gets.{HasTablesOf, IsTooLong}
 use Rattle.recover.specs.Report.{IsLongTable}
 use Rattle.recover.specs.Tables.{TableContent, IsTableFile, InTables, HasTable, tabled}
 use Rattle.recover.proofs.Memberships.{one_of_tables}
-use Rattle.db_cursor.specs.SourceLaws.{keeps_any}
+use Rattle.db_cursor.specs.internal.SourceLaws.{keeps_any}
 use Rattle.db_cursor.specs.Scans.{IsOnePastLimit, KeepsScan, KeepsUpTo, reads_memory, reads_table, tables_of}
-use Rattle.db_cursor.specs.Scanning.{ScanIsKept}
-use Rattle.level_cursor.specs.InRows.{HasNumber}
+use Rattle.db_cursor.specs.internal.Scanning.{ScanIsKept}
+use Rattle.level_cursor.specs.InRows.{ListsNumber}
 use Rattle.db_cursor.specs.Whole.{Whole}
 use Rattle.memtables.specs.Memories.{Memories, logged_in}
 use Rattle.memtables.specs.PlaceLaws.{left_kept, left_logged, left_sealed}
@@ -33,19 +33,20 @@ use Rattle.db_cursor.specs.declared.scan.Scan.{Scan}
 use Rattle.version_laws.specs.Laws.{VersionLaw}
 use Rattle.version_laws.specs.Places.{table_sources, HasVersion}
 use Rattle.table_access.specs.Tables.{Seen, IsSound, Carries, KeepsOf, Knows}
-use Rattle.table_access.specs.Values.{IsPastLimit}
+use Rattle.table_access.specs.Values.{IsTablePastLimit}
 use Rattle.store.specs.Files.{Files, Facts}
 use Rattle.table.proofs.FrameParts.{long_frame}
-use Rattle.versions.specs.Levels.{Lists}
+use Rattle.versions.specs.Levels.{ListsSameTables}
 use Rattle.engine.specs.declared.ids.Ids.{Ids}
-use Rattle.engine.specs.Directory.{IsAtRest, IsReadable}
+use Rattle.engine.specs.internal.Directory.{IsAtRest, IsReadable}
 use Rattle.recover.specs.Limits.{IsWithinLimits}
-use Rattle.engine.specs.Held.{Held, whole_of}
-use Rattle.engine.specs.Iterators.{IsWalk, walked_of}
-use Rattle.engine.specs.Compacting.{IsCompacting}
-use Rattle.engine.specs.Live.{kept_at, AreLive, AreWalks, IsBoth}
+use Rattle.engine.specs.OpenDb.{OpenDb, whole_of}
+use Rattle.reader.specs.internal.Iterators.{IsWalk, walked_of}
+use Rattle.engine.specs.internal.Compacting.{IsCompacting}
+use Rattle.engine.specs.Reads.{kept_at}
+use Rattle.engine.specs.internal.Live.{AreLive, AreWalks, IsBoth}
 use Rattle.machine.specs.Machine.{Machine, Walk}
-use Rattle.engine.specs.Stands.{HasLog, HasTables, IsBroken, IsServing, StandsOpen}
+use Rattle.engine.specs.internal.Standing.{HasLog, HasTables, IsBroken, IsServing, StandsOpen}
 use Rattle.engine.proofs.Compacting.{each_job, goes_beside, have_itself, known_itself, version_number, version_unowned}
 use Rattle.engine.proofs.LiveIds.{live_then}
 
@@ -67,23 +68,23 @@ has_placed (x ∷ contents) c (inr i) = let rest = has_placed contents c i in (s
 -- ---- the tables of an open database
 
 -- The files of its version are tables, and their entries those of the directory's tables.
-pub tables_found : {K : Type 0} {g : _} → (order : Order) (source : Seen) (contents : List TableContent) (db : Held K g) → VersionLaw → IsTotalOrder order.cmp → IsAntisymmetric order.cmp
+pub tables_found : {K : Type 0} {g : _} → (order : Order) (source : Seen) (contents : List TableContent) (db : OpenDb K g) → VersionLaw → IsTotalOrder order.cmp → IsAntisymmetric order.cmp
     → HasLog order source.facts.files contents db → HasTables order source contents db
     → (found : List TableContent) × HasTablesOf order source db.tables found × SameEntries (joined (table_sources found)) (tabled contents)
 tables_found order source contents db law total exact log tables =
     let a = log.directory in
     let d = a.directory in
     let placed : map (λ (content : TableContent). content.placed) contents ≡ d.layout.tables.items = ap (λ (cs : List TableContent). map (λ (content : TableContent). content.placed) cs) a.in_tables ∙ a.consistent.placed in
-    let v = law order source.facts.files d db.tables total exact a.consistent (subst (λ (ps : List PlacedTable). Lists ps db.tables) placed tables.version) tables.in_order in
+    let v = law order source.facts.files d db.tables total exact a.consistent (subst (λ (ps : List PlacedTable). ListsSameTables ps db.tables) placed tables.version) tables.in_order in
     (v.0, (tables.sound, v.1), subst (λ (cs : List TableContent). SameEntries (joined (table_sources v.0)) (tabled cs)) (sym a.in_tables) v.2)
 
 -- a file that is a table, and is past a limit
-pub long_table : (order : Order) (file : List ℕ) (entries : List Entry) → IsTableFile order file entries → IsPastLimit order.cmp file → IsLongTable order file
+pub long_table : (order : Order) (file : List ℕ) (entries : List Entry) → IsTableFile order file entries → IsTablePastLimit order.cmp file → IsLongTable order file
 long_table order file entries t (inl unsupported) = (t.1.0, (t.1.1, inl (long_frame order.cmp file unsupported t.1.0 t.1.1)))
 long_table order file entries t (inr long) = (long.0, (long.1, inr long.2))
 
 -- Where the file of one of them is past a limit, the directory is.
-pub passes_limit : {K : Type 0} {g : _} → (order : Order) (source : Seen) (contents found : List TableContent) (db : Held K g) (content : TableContent)
+pub passes_limit : {K : Type 0} {g : _} → (order : Order) (source : Seen) (contents found : List TableContent) (db : OpenDb K g) (content : TableContent)
     → HasLog order source.facts.files contents db → HasTables order source contents db → HasVersion order source.facts.files db.tables found → InTables found content → IsTooLong order source content.placed
     → IsWithinLimits order source.facts.files → ⊥
 passes_limit order source contents found db content log tables version i long within =
@@ -120,10 +121,10 @@ abbrev pub KeepsThere : Seen → Seen → Type 0
 KeepsThere old new = (number : ℕ) → KeepsOf new number → KeepsOf old number ⊎ (IsNumbered number × IsSome (table_at old.facts.files number))
 
 -- it is a table of the version, or one that an open iterator reads
-abbrev pub IsReadIn : {K : Type 0} {g : _} → Held K g → ℕ → Type 0
-IsReadIn {K} {g} db number = HasNumber db.tables number ⊎ ((id : ℕ) × (scan : Scan K g) × (kept_at db.iterators id ≡ Some scan) × reads_table scan number)
+abbrev pub IsReadIn : {K : Type 0} {g : _} → OpenDb K g → ℕ → Type 0
+IsReadIn {K} {g} db number = ListsNumber db.tables number ⊎ ((id : ℕ) × (scan : Scan K g) × (kept_at db.iterators id ≡ Some scan) × reads_table scan number)
 
-abbrev pub GathersRead : {K : Type 0} {g : _} → Held K g → Seen → Seen → Type 0
+abbrev pub GathersRead : {K : Type 0} {g : _} → OpenDb K g → Seen → Seen → Type 0
 GathersRead db old new = (number : ℕ) → KeepsOf new number → KeepsOf old number ⊎ IsReadIn db number
 
 pub carried_there : {numbers : ℕ → Type 0} (cmp : List ℕ → List ℕ → Ordering) (old new : Seen) → Carries cmp numbers old new → IsTrue new.facts.faithful → KeepsThere old new
@@ -177,7 +178,7 @@ module _ {K : Type 0} {g : _} (order : Order) (kept : (scan : Scan K g) → Scan
       (λ iterator walk is. walk_kept m.over_limit old new iterator walk (keeps_any order.cmp (reads_memory iterator) (reads_table iterator) iterator.walk.sequence old new (keeps iterator.walk.sequence is.bound)) last is) h
 
   -- files and memory are the same, whatever else the calls did
-  module _ (old new : Seen) (db : Held K g) (memory : Memories) (m : Machine) (files : new.facts.files ≡ old.facts.files) (sound : IsSound order.cmp old → IsSound order.cmp new)
+  module _ (old new : Seen) (db : OpenDb K g) (memory : Memories) (m : Machine) (files : new.facts.files ≡ old.facts.files) (sound : IsSound order.cmp old → IsSound order.cmp new)
       (keeps : KeepsThere old new) (gathers : GathersRead db old new) (left : LeavesMemories db.memory memory) where
     pub inserts : logged_in memory ≡ logged_in db.memory
     inserts = left_logged db.memory memory left
@@ -185,7 +186,7 @@ module _ {K : Type 0} {g : _} (order : Order) (kept : (scan : Scan K g) → Scan
     pub last : memory.last ≡ db.memory.last
     last = left.last
 
-    abbrev pub after : Held K g
+    abbrev pub after : OpenDb K g
     after = record db { memory = memory }
 
     pub readable_read : IsReadable order old.facts.files m → IsReadable order new.facts.files (read_by new.facts m)
@@ -292,6 +293,6 @@ module _ {K : Type 0} {g : _} (order : Order) (kept : (scan : Scan K g) → Scan
     }
 
   -- Calls of a faithful store that only read it leave all but the counts.
-  pub stands_read : {numbers : ℕ → Type 0} (old new : Seen) (ids : Ids) (db : Held K g) (memory : Memories) (m : Machine) → Carries order.cmp numbers old new → GathersRead db old new → IsTrue new.facts.faithful
+  pub stands_read : {numbers : ℕ → Type 0} (old new : Seen) (ids : Ids) (db : OpenDb K g) (memory : Memories) (m : Machine) → Carries order.cmp numbers old new → GathersRead db old new → IsTrue new.facts.faithful
       → LeavesMemories db.memory memory → StandsOpen order old ids db m → StandsOpen order new ids (record db { memory = memory }) (read_by new.facts m)
   stands_read old new ids db memory m carries gathers f left s = stands_kept old new db memory m (carries.reads.files f) (carries.sound f) (carried_there order.cmp old new carries f) gathers left ids s

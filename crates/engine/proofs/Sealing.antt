@@ -11,20 +11,20 @@ use Rattle.ikey.specs.declared.entry.Entry.{Entry}
 use Rattle.memtables.specs.Changes.{IsSealed}
 use Rattle.memtables.specs.Memories.{Memories, inserts_of, logged_in, older_at, sealed_inserts, table_in}
 use Rattle.memtables.specs.Places.{MemoriesPlace, KeepsMemories}
-use Rattle.recover.specs.Changes.{ManifestEndsAt, empty_log, with_log}
+use Rattle.recover.specs.internal.Changes.{ManifestEndsAt, empty_log, with_log}
 use Rattle.recover.specs.Directory.{Directory, EndsAt, IsConsistent, entries_in, used_in}
 use Rattle.recover.specs.Entries.{greatest}
 use Rattle.recover.specs.Report.{IsLongTable, AnyHasBytes}
 use Rattle.edits.specs.Edit.{HasPastLimit}
 use Rattle.edits.specs.Layout.{fields_of}
 use Rattle.edits.specs.declared.field.Field.{Field}
-use Rattle.recover.specs.Laws.{OneDirectoryLaw}
+use Rattle.recover.specs.internal.Laws.{OneDirectoryLaw}
 use Rattle.recover.specs.Logs.{logged}
 use Rattle.recover.specs.Numbers.{IsFree}
 use Rattle.recover.specs.Tables.{TableContent, tabled}
 use Rattle.recover.proofs.Adding.{table_of}
 use Rattle.db_cursor.specs.Scans.{KeepsScan}
-use Rattle.db_cursor.specs.Scanning.{ScanIsKept}
+use Rattle.db_cursor.specs.internal.Scanning.{ScanIsKept}
 use Rattle.db_cursor.specs.declared.scan.Scan.{Scan}
 use Rattle.table_access.specs.Tables.{Seen, IsSound, SoundLasts}
 use Rattle.table_access.proofs.Sounding.{same_file, same_table}
@@ -32,22 +32,23 @@ use Rattle.std.specs.declared.cmp.Ordering.{Ordering}
 use Rattle.std.specs.Option.{option_and_then}
 use Rattle.store.specs.Files.{Facts}
 use Rattle.table.specs.Writing.{KeepsOthers}
-use Rattle.directory_writes.specs.LogFile.{HasNewLog}
-use Rattle.engine.specs.declared.directory.DirectoryState.{DirectoryState}
-use Rattle.engine.specs.declared.log.CurrentLog.{CurrentLog}
-use Rattle.engine.specs.Directory.{CanAppend, IsReadable}
-use Rattle.engine.specs.Held.{Held, entries_of, whole_of}
-use Rattle.engine.specs.Iterators.{IsWalk}
-use Rattle.engine.specs.Live.{kept_at}
+use Rattle.directory_writes.specs.internal.LogFile.{HasNewLog}
+use Rattle.opening.specs.declared.directory.DirectoryState.{DirectoryState}
+use Rattle.opening.specs.declared.directory.CurrentLog.{CurrentLog}
+use Rattle.opening.specs.internal.Directories.{CanAppend}
+use Rattle.engine.specs.internal.Directory.{IsReadable}
+use Rattle.engine.specs.OpenDb.{OpenDb, whole_of}
+use Rattle.engine.specs.internal.Standing.{entries_of, HasLog, IsBroken, IsServing}
+use Rattle.reader.specs.internal.Iterators.{IsWalk}
+use Rattle.engine.specs.Reads.{kept_at}
 use Rattle.machine.specs.Machine.{Machine, Walk}
-use Rattle.engine.specs.Stands.{HasLog, IsBroken, IsServing}
 use Rattle.engine.proofs.Compacting.{each_job, goes_beside, have_itself, known_itself, version_unowned}
 use Rattle.engine.proofs.Pieces.{free_up, made_still, rests_as, same_by, walks_each}
-use Rattle.engine.proofs.Reopening.{files_apart, long_back}
+use Rattle.opening.proofs.Reopening.{files_apart, long_back}
 
 -- ---- a number is drawn, or none
 
-module _ {K : Type 0} {g : _} (order : Order) (source : Seen) (db : Held K g) (m : Machine) (state : DirectoryState) where
+module _ {K : Type 0} {g : _} (order : Order) (source : Seen) (db : OpenDb K g) (m : Machine) (state : DirectoryState) where
   pub serving_drawn : IsServing order source db m → state.manifest.number ≡ db.directory.manifest.number → state.manifest.name ≡ db.directory.manifest.name → state.manifest.end ≡ db.directory.manifest.end → state.first_log ≡ db.directory.first_log
       → state.previous_log ≡ db.directory.previous_log → db.directory.numbers.next ≤ state.numbers.next → state.numbers.next ≤ db.directory.numbers.next + 1 → IsServing order source (record db { directory = state }) (record m { numbers = m.numbers + 1 })
   serving_drawn h number name ends first_log previous_log le upto =
@@ -103,7 +104,7 @@ abbrev pub SealKept : (List ℕ → List ℕ → Ordering) → Type 0
 SealKept cmp = (cursor : MemoriesPlace) (old new : Memories) → IsSome (table_in old cursor.generation) → IsSealed old new → KeepsMemories cmp cursor old new
 
 module _ {K : Type 0} {g : _} (order : Order) (kept : (scan : Scan K g) → ScanIsKept order.cmp scan) (one : OneDirectoryLaw) (lasts : SoundLasts) (law : SameViewLaw) (seals : SealKept order.cmp)
-    (old : Seen) (facts : Facts) (db : Held K g) (m : Machine) (serving : IsServing order old db m) (t : IsTrue facts.faithful) (few : db.directory.numbers.next < 2 ^ 62)
+    (old : Seen) (facts : Facts) (db : OpenDb K g) (m : Machine) (serving : IsServing order old db m) (t : IsTrue facts.faithful) (few : db.directory.numbers.next < 2 ^ 62)
     (others : KeepsOthers old.facts.files facts.files (name_of (Log db.directory.numbers.next))) where
   abbrev next : ℕ
   next = db.directory.numbers.next
@@ -166,7 +167,7 @@ module _ {K : Type 0} {g : _} (order : Order) (kept : (scan : Scan K g) → Scan
       (log_number : log.number ≡ next) (log_name : string_bytes log.name ≡ name_of (Log next)) (log_end : log.end ≡ 0)
       (number : state.manifest.number ≡ db.directory.manifest.number) (name : state.manifest.name ≡ db.directory.manifest.name) (end : state.manifest.end ≡ db.directory.manifest.end)
       (first_log : state.first_log ≡ db.directory.first_log) (previous_log : state.previous_log ≡ db.directory.previous_log) (next_is : state.numbers.next ≡ next + 1) where
-    abbrev pub sealed_db : Held K g
+    abbrev pub sealed_db : OpenDb K g
     sealed_db = record db { memory = memory; log = log; directory = state }
 
     none_sealed : sealed_inserts db.memory ≡ []

@@ -8,7 +8,7 @@ use Rattle.std.specs.Map.Iter.{TakesFirst, deref}
 use Rattle.std.proofs.lemmas.List.Elements.{Contains-append_left, Contains-push, Contains-push_cases}
 use Rattle.std.proofs.lemmas.List.Sorted.{Contains-permutation, IsPermutation-sym}
 use Rattle.std.proofs.lemmas.Map.Iter.{iter_end}
-use Rattle.engine.specs.Live.{kept_at}
+use Rattle.engine.specs.Reads.{kept_at}
 
 further : (x y : ℕ) (ys : List ℕ) → Contains ys x → Contains (y ∷ ys) x
 further x y ys (k, lt, is) = (suc k, omega (arith, lt), is)

@@ -14,16 +14,16 @@ use Rattle.version_get.specs.Gets.{IsTooLong}
 use Rattle.cache.specs.Tables.{table_at}
 use Rattle.recover.proofs.Memberships.{one_of_tables}
 use Rattle.recover.specs.Tables.{HasTable, InTables, TableContent, tabled}
-use Rattle.level_cursor.specs.InRows.{HasNumber}
+use Rattle.level_cursor.specs.InRows.{ListsNumber}
 use Rattle.db_cursor.specs.Scans.{BeginsScan, reads_table, tables_of}
 use Rattle.db_cursor.specs.declared.scan.Scan.{Scan}
 use Rattle.version_laws.specs.Laws.{VersionLaw}
 use Rattle.version_laws.specs.Places.{table_sources}
 use Rattle.table_access.specs.Tables.{Seen}
 use Rattle.recover.specs.Limits.{IsWithinLimits}
-use Rattle.engine.specs.Held.{Held, whole_of, entries_of}
-use Rattle.engine.specs.Iterators.{BeginsWalk}
-use Rattle.engine.specs.Stands.{HasLog, HasTables}
+use Rattle.engine.specs.OpenDb.{OpenDb, whole_of}
+use Rattle.engine.specs.internal.Standing.{entries_of, HasLog, HasTables}
+use Rattle.reader.specs.Moving.{BeginsWalk}
 use Rattle.engine.proofs.Reading.{passes_limit, tables_found}
 use Rattle.engine.proofs.Tabled.{appendable_of, logged_newer}
 
@@ -47,10 +47,10 @@ content_of (c ∷ contents) p (suc k, less, is) = let rest = content_of contents
 some_of : (o : Option (List ℕ)) (file : List ℕ) → o ≡ Some file → IsSome o
 some_of o file is = subst (λ (x : Option (List ℕ)). IsSome x) (sym is) refl
 
-pub starts_walk : {K : Type 0} {g : _} → (order : Order) (limited : Bool) (source : Seen) (db : Held K g) (scan : Scan K g) (contents : List TableContent) (sequence : ℕ) (view_map : Contents)
+pub starts_walk : {K : Type 0} {g : _} → (order : Order) (limited : Bool) (source : Seen) (db : OpenDb K g) (scan : Scan K g) (contents : List TableContent) (sequence : ℕ) (view_map : Contents)
     → SameViewLaw → VersionLaw → IsTotalOrder order.cmp → IsAntisymmetric order.cmp → HasLog order source.facts.files contents db → HasTables order source contents db
     → scan.walk.sequence ≤ db.memory.last → sequence ≤ db.memory.last → IsView (entries_of contents db) sequence view_map → BeginsScan order db.tables sequence (whole_of source db) scan → tables_of scan ≡ db.tables
-    → ((number : ℕ) → reads_table scan number → HasNumber db.tables number)
+    → ((number : ℕ) → reads_table scan number → ListsNumber db.tables number)
     → (limited ≡ false → IsWithinLimits order source.facts.files) → BeginsWalk order.cmp limited view_map (whole_of source db) scan
 starts_walk order limited source db scan contents sequence view_map same version total exact log tables bound within view begins over reads limits =
     let inserts = (logged_in db.memory) in
@@ -75,7 +75,7 @@ starts_walk order limited source db scan contents sequence view_map same version
             let content = content_of found.0 one.0 (subst (λ (ps : List PlacedTable). Contains ps one.0) (sym found.1.1.placed) one.1) in
             let has : HasTable order source.facts.files content.0 = one_of_tables order source.facts.files found.0 content.0 found.1.1.are content.1 in
             let is : content.0.placed.table.number ≡ number = ap (λ (p : PlacedTable). p.table.number) content.2 ∙ one.2 in (
-              subst (λ (ps : List PlacedTable). HasNumber ps number) (sym over) one,
+              subst (λ (ps : List PlacedTable). ListsNumber ps number) (sym over) one,
               subst IsNumbered is has.numbered,
               subst (λ (k : ℕ). IsSome (table_at source.facts.files k)) is (some_of (table_at source.facts.files content.0.placed.table.number) has.bytes has.there),
             );

@@ -10,28 +10,28 @@ use Rattle.edits.specs.Names.{IsNumbered}
 use Rattle.ikey.specs.Entries.{InternalEntry, entry_of}
 use Rattle.ikey.specs.Orders.{Order}
 use Rattle.ikey.specs.Views.{AllUpTo}
-use Rattle.running_job.specs.Running.{IsRunning}
-use Rattle.running_job.specs.Stepping.{CanStep, GoesOn, KeepsDirectory, StepKeeps, StepTouches}
+use Rattle.running_job.specs.Running.{IsRunning, CanStep}
+use Rattle.running_job.specs.internal.Stepping.{GoesOn, KeepsDirectory, StepKeeps, StepTouches}
 use Rattle.running_job.specs.declared.open_job.OpenJob.{OpenJob}
 use Rattle.memtables.specs.Memories.{Memories, logged_in}
 use Rattle.memtables.specs.PlaceLaws.{left_kept, left_logged, left_sealed}
 use Rattle.recover.specs.Directory.{Directory}
-use Rattle.recover.specs.Laws.{OneDirectoryLaw}
+use Rattle.recover.specs.internal.Laws.{OneDirectoryLaw}
 use Rattle.recover.specs.Tables.{InTables, TableContent}
 use Rattle.recover.proofs.Adding.{table_of}
-use Rattle.level_cursor.specs.InRows.{HasNumber}
-use Rattle.db_cursor.specs.Scanning.{ScanIsKept}
+use Rattle.level_cursor.specs.InRows.{ListsNumber}
+use Rattle.db_cursor.specs.internal.Scanning.{ScanIsKept}
 use Rattle.db_cursor.specs.Scans.{KeepsScan, reads_table, tables_of}
 use Rattle.db_cursor.specs.Whole.{Whole}
 use Rattle.db_cursor.specs.declared.scan.Scan.{Scan}
 use Rattle.table_access.specs.Tables.{KeepsOf, Seen}
-use Rattle.engine.specs.Compacting.{IsCompacting}
-use Rattle.engine.specs.Directory.{CanAppend}
-use Rattle.engine.specs.Held.{Held, whole_of}
-use Rattle.engine.specs.Iterators.{IsWalk}
-use Rattle.engine.specs.Live.{kept_at}
+use Rattle.engine.specs.internal.Compacting.{IsCompacting}
+use Rattle.opening.specs.internal.Directories.{CanAppend}
+use Rattle.engine.specs.OpenDb.{OpenDb, whole_of}
+use Rattle.reader.specs.internal.Iterators.{IsWalk}
+use Rattle.engine.specs.Reads.{kept_at}
 use Rattle.machine.specs.Machine.{Machine, Walk}
-use Rattle.engine.specs.Stands.{HasLog, IsServing}
+use Rattle.engine.specs.internal.Standing.{HasLog, IsServing}
 use Rattle.engine.proofs.Compacting.{is_input_number, listed_number, unowned}
 use Rattle.engine.proofs.Pieces.{free_up, limits_stay, made_still, walks_each}
 use Rattle.engine.proofs.Reading.{below_next, has_placed, live_of}
@@ -42,7 +42,7 @@ pub the_one : {X : Type 0} (P : X → Type 0) (o : Option X) (x : X) → o ≡ S
 the_one P o x is h = subst (λ (p : Option _). MatchOption p (Unit {0}) P) is h
 
 module _ {K : Type 0} {g : _} (order : Order) (kept : (scan : Scan K g) → ScanIsKept order.cmp scan) (one : OneDirectoryLaw)
-    (old new : Seen) (db : Held K g) (memory : Memories) (numbers : FileNumbers) (most : ℕ) (before after : OpenJob K g) (is : db.job ≡ Some before)
+    (old new : Seen) (db : OpenDb K g) (memory : Memories) (numbers : FileNumbers) (most : ℕ) (before after : OpenJob K g) (is : db.job ≡ Some before)
     (le : db.directory.numbers.next ≤ numbers.next) (upto : numbers.next ≤ db.directory.numbers.next + most)
     (touches : StepTouches (whole_of old db) (record { seen = new; memory = memory }) db.directory.numbers.next numbers.next before after)
     (keeps : KeepsDirectory order (whole_of old db) (record { seen = new; memory = memory }) db.directory.numbers.next numbers.next before) where
@@ -52,7 +52,7 @@ module _ {K : Type 0} {g : _} (order : Order) (kept : (scan : Scan K g) → Scan
   abbrev pub stepped_whole : Whole
   stepped_whole = record { seen = new; memory = memory }
 
-  abbrev pub stepped_db : Option (OpenJob K g) → Held K g
+  abbrev pub stepped_db : Option (OpenJob K g) → OpenDb K g
   stepped_db job = record db { memory = memory; directory = record db.directory { numbers = numbers }; job = job }
 
   module _ (m : Machine) (serving : IsServing order old db m) where
@@ -135,7 +135,7 @@ module _ {K : Type 0} {g : _} (order : Order) (kept : (scan : Scan K g) → Scan
             )
       ]
 
-      pub read_number : (id : ℕ) (scan : Scan K g) → kept_at db.iterators id ≡ Some scan → (number : ℕ) → reads_table scan number → HasNumber (tables_of scan) number × IsNumbered number × (number < next)
+      pub read_number : (id : ℕ) (scan : Scan K g) → kept_at db.iterators id ≡ Some scan → (number : ℕ) → reads_table scan number → ListsNumber (tables_of scan) number × IsNumbered number × (number < next)
       read_number id scan there number reads =
           let walk = live_of (IsWalk order.cmp m.over_limit (whole_of old db)) db.iterators m.iterators id scan there serving.iterators in
           let table = walk.1.tables number reads in
@@ -188,7 +188,7 @@ module _ {K : Type 0} {g : _} (order : Order) (kept : (scan : Scan K g) → Scan
         pub all_same : (the_job.came ++ gone.0) ++ gone.1 ≡ the_job.came ++ the_job.left
         all_same = append_assoc the_job.came gone.0 gone.1 ∙ ap (λ (es : List InternalEntry). the_job.came ++ es) (sym gone.2)
 
-        pub still_unread : (id : ℕ) (scan : Scan K g) → kept_at db.iterators id ≡ Some scan → (number : ℕ) → HasNumber (tables_of scan) number → IsOwn after.job.outputs number → ⊥
+        pub still_unread : (id : ℕ) (scan : Scan K g) → kept_at db.iterators id ≡ Some scan → (number : ℕ) → ListsNumber (tables_of scan) number → IsOwn after.job.outputs number → ⊥
         still_unread id scan there number has own = elim (owns number own) [
           | inl was ↦ the_job.unread id scan there number has was
           | inr drawn ↦ absurd (let below = (read_number id scan there number (inl has)).2 in omega (arith, drawn, below))

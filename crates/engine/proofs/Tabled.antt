@@ -14,8 +14,8 @@ use Rattle.recover.specs.Entries.{made_entry, entries_of, greatest}
 use Rattle.recover.specs.Logs.{logged}
 use Rattle.recover.specs.Tables.{TableContent, tabled}
 use Rattle.recover.proofs.Memberships.{up_to_greatest}
-use Rattle.engine.specs.Directory.{IsDirectoryOf, CanAppend}
-use Rattle.engine.specs.Live.{AreSnapshots}
+use Rattle.opening.specs.internal.Directories.{IsDirectoryOf, CanAppend}
+use Rattle.engine.specs.internal.Live.{AreSnapshots}
 use Rattle.machine.specs.Machine.{Machine, after_batch}
 use Rattle.engine.proofs.EntryViews.{view_batch, entry_sequence}
 use Rattle.engine.proofs.LiveIds.{snapshots_written}

@@ -6,7 +6,7 @@ use Rattle.ikey.specs.Views.{Among}
 use Rattle.memtable.specs.Contents.{byte_length}
 use Rattle.recover.specs.Entries.{RiseAbove}
 use Rattle.compact.specs.Rooms.{room_of}
-use Rattle.engine.specs.Accounted.{AreAccounted}
+use Rattle.engine.specs.internal.Accounted.{AreAccounted}
 use Rattle.machine.specs.Machine.{entry_weight}
 
 -- no entry is there twice

@@ -8,7 +8,8 @@ use Rattle.cursor.specs.Places.{Cmp}
 use Rattle.edits.specs.declared.names.FileName.TheVariants.{OldTable, Table}
 use Rattle.ikey.specs.Entries.{InternalEntry}
 use Rattle.ikey.specs.Orders.{Order}
-use Rattle.running_job.specs.Stepping.{CanStep, GoesOn}
+use Rattle.running_job.specs.Running.{CanStep}
+use Rattle.running_job.specs.internal.Stepping.{GoesOn}
 use Rattle.running_job.specs.declared.open_job.OpenJob.{OpenJob}
 use Rattle.memtables.specs.Memories.{Memories}
 use Rattle.memtable.specs.Contents.{size_of}
@@ -16,19 +17,20 @@ use Rattle.recover.specs.Directory.{Directory}
 use Rattle.db_cursor.specs.Whole.{Whole}
 use Rattle.table_access.specs.Tables.{Seen}
 use Rattle.store.specs.Files.{Files}
-use Rattle.versions.specs.Keeping.{HasNumber}
+use Rattle.versions.specs.Levels.{HasNumber}
 use Rattle.versions.specs.Levels.{Placement}
 use Rattle.versions.specs.Plans.{IsPicked}
 use Rattle.versions.specs.declared.plan.JobPlan.{JobPlan}
 use Rattle.engine.specs.declared.ids.Ids.{Ids}
-use Rattle.engine.specs.Follows.{LeadsOpen}
-use Rattle.engine.specs.Held.{Held, version_of, whole_of}
+use Rattle.engine.specs.internal.Leading.{LeadsOpen}
+use Rattle.engine.specs.OpenDb.{OpenDb, version_of, whole_of}
 use Rattle.machine.specs.Machine.{Machine}
 use Rattle.engine.specs.OptionValues.{OptionValues}
 use Rattle.engine.specs.Needed.{IsForLive, live_sequences}
 use Rattle.engine.specs.WithinBudget.{HasLeftAbove, HasLeftBy, HasLeftUpTo, IsNewJob, StepsBy}
 use Rattle.engine.specs.InUse.{IsTableUsed}
-use Rattle.engine.specs.Working.{IsAtEase, IsSameMemory, LosesDead}
+use Rattle.engine.specs.Working.{IsAtEase, LosesDead}
+use Rattle.engine.specs.internal.Pieces.{IsSameMemory}
 use Rattle.engine.specs.WrittenTables.{KeepsTableFiles, PutsMerged}
 use Rattle.engine.proofs.ExactFiles.{table_numbered}
 use Rattle.engine.proofs.NeededEntries.{still_live}
@@ -36,7 +38,7 @@ use Rattle.engine.proofs.Opened.{live_stays}
 use Rattle.engine.proofs.Steps.{serving_of}
 
 -- all that were left came
-pub few_left : {K : Type 0} {g : _} (order : Order) (old : Seen) (mid : Whole) (db : Held K g) (work more : OpenJob K g) (next budget : ℕ) (progress : Merged) → db.job ≡ Some work → progress.ended ≡ true
+pub few_left : {K : Type 0} {g : _} (order : Order) (old : Seen) (mid : Whole) (db : OpenDb K g) (work more : OpenJob K g) (next budget : ℕ) (progress : Merged) → db.job ≡ Some work → progress.ended ≡ true
     → GoesOn order (whole_of old db) mid db.directory.numbers.next next budget work more progress → IsTrue mid.seen.facts.faithful → HasLeftUpTo order old db (max budget 1)
 few_left {K} {g} order old mid db work more next budget progress is ended goes f =
     let Few : OpenJob K g → Type 0 = λ one. (d : Directory) (came left : List InternalEntry) → CanStep order (whole_of old db) db.directory.numbers.next d one came left → length left ≤ max budget 1 in
@@ -49,7 +51,7 @@ few_left {K} {g} order old mid db work more next budget progress is ended goes f
     omega (arith, count, long, most))
 
 -- more were left than came
-pub more_left : {K : Type 0} {g : _} (order : Order) (old : Seen) (mid : Whole) (db : Held K g) (work more : OpenJob K g) (next budget : ℕ) (progress : Merged) → db.job ≡ Some work → progress.ended ≡ false
+pub more_left : {K : Type 0} {g : _} (order : Order) (old : Seen) (mid : Whole) (db : OpenDb K g) (work more : OpenJob K g) (next budget : ℕ) (progress : Merged) → db.job ≡ Some work → progress.ended ≡ false
     → GoesOn order (whole_of old db) mid db.directory.numbers.next next budget work more progress → IsTrue mid.seen.facts.faithful → HasLeftAbove order old db (max budget 1)
 more_left {K} {g} order old mid db work more next budget progress is going goes f =
     let Above : OpenJob K g → Type 0 = λ one. (d : Directory) (came left : List InternalEntry) → CanStep order (whole_of old db) db.directory.numbers.next d one came left → max budget 1 < length left in
@@ -68,7 +70,7 @@ more_left {K} {g} order old mid db work more next budget progress is going goes 
 -- ---- the files of its tables
 
 -- those of the tables of the version stay where only what isn't live is removed
-pub tables_stay : {K : Type 0} {g : _} (order : Order) (old new : Seen) (before between : Held K g) → between.tables ≡ before.tables → between.job ≡ before.job → between.iterators ≡ before.iterators → before.broken ≡ false
+pub tables_stay : {K : Type 0} {g : _} (order : Order) (old new : Seen) (before between : OpenDb K g) → between.tables ≡ before.tables → between.job ≡ before.job → between.iterators ≡ before.iterators → before.broken ≡ false
     → LosesDead old.facts new.facts between → KeepsTableFiles order old new before
 tables_stay order old new before between tables job iterators whole loses ids m s number has =
     let numbered = table_numbered order old before m (serving_of order old ids before m whole s) number has in
@@ -78,18 +80,18 @@ tables_stay order old new before between tables job iterators whole loses ids m 
 
 -- ---- where it began
 
-pub steps_itself : {K : Type 0} {g : _} (order : Order) (options : OptionValues) (old new : Seen) (db after : Held K g) (most : ℕ) → db.broken ≡ false → HasLeftBy order old db most after.job → (after.job ≡ None → PutsMerged order old new db after) → StepsBy order options old new db after most
+pub steps_itself : {K : Type 0} {g : _} (order : Order) (options : OptionValues) (old new : Seen) (db after : OpenDb K g) (most : ℕ) → db.broken ≡ false → HasLeftBy order old db most after.job → (after.job ≡ None → PutsMerged order old new db after) → StepsBy order options old new db after most
 steps_itself order options old new db after most whole left merged = (old, db, record { stands = λ ids m s. (m, s); whole = whole; tables = refl; files = λ ids m s number has. refl; job = inl refl }, left, merged)
 
 module _ {K : Type 0} {g : _} (cmp : Cmp) (options : OptionValues) where
   -- one that was begun by the plan that was picked
-  new_job : (db : Held K g) (plan : JobPlan) → IsPicked cmp options.level0_files options.base_bytes (version_of db) plan → (o : Option (OpenJob K g)) → MatchOption o ⊥ (λ work. (work.merged ≡ 0) × (work.job.plan ≡ plan)) → MatchOption o ⊥ (λ work. IsForLive work db)
+  new_job : (db : OpenDb K g) (plan : JobPlan) → IsPicked cmp options.level0_files options.base_bytes (version_of db) plan → (o : Option (OpenJob K g)) → MatchOption o ⊥ (λ work. (work.merged ≡ 0) × (work.job.plan ≡ plan)) → MatchOption o ⊥ (λ work. IsForLive work db)
       → MatchOption o ⊥ (IsNewJob cmp options db)
   new_job db plan picked None begun live = begun
   new_job db plan picked (Some work) begun live = record { none = begun.0; picked = subst (λ (p : JobPlan). IsPicked cmp options.level0_files options.base_bytes (version_of db) p) (sym begun.1) picked; live = live }
 
   -- it is so for a database of the same version that reads at the same sequences
-  new_behind : (between before : Held K g) → version_of between ≡ version_of before → live_sequences before ≡ live_sequences between → (o : Option (OpenJob K g)) → MatchOption o ⊥ (IsNewJob cmp options between) → MatchOption o ⊥ (IsNewJob cmp options before)
+  new_behind : (between before : OpenDb K g) → version_of between ≡ version_of before → live_sequences before ≡ live_sequences between → (o : Option (OpenJob K g)) → MatchOption o ⊥ (IsNewJob cmp options between) → MatchOption o ⊥ (IsNewJob cmp options before)
   new_behind between before version same None h = h
   new_behind between before version same (Some work) h = record {
     none = h.none;
@@ -98,7 +100,7 @@ module _ {K : Type 0} {g : _} (cmp : Cmp) (options : OptionValues) where
   }
 
 -- with a compaction that was begun
-pub steps_begun : {K : Type 0} {g : _} (order : Order) (options : OptionValues) (old between new : Seen) (before mid after : Held K g) (most : ℕ) (plan : JobPlan) {P : Machine → Machine → Type 0} → ((ids : Ids) → LeadsOpen order old between ids before mid P) → IsTrue between.facts.faithful
+pub steps_begun : {K : Type 0} {g : _} (order : Order) (options : OptionValues) (old between new : Seen) (before mid after : OpenDb K g) (most : ℕ) (plan : JobPlan) {P : Machine → Machine → Type 0} → ((ids : Ids) → LeadsOpen order old between ids before mid P) → IsTrue between.facts.faithful
     → mid.broken ≡ false → mid.tables ≡ before.tables → between.facts.files ≡ old.facts.files → before.job ≡ None → MatchOption mid.job ⊥ (λ work. (work.merged ≡ 0) × (work.job.plan ≡ plan)) → MatchOption mid.job ⊥ (λ work. IsForLive work before)
     → IsPicked order.cmp options.level0_files options.base_bytes (version_of before) plan → HasLeftBy order between mid most after.job → (after.job ≡ None → PutsMerged order between new mid after) → StepsBy order options old new before after most
 steps_begun order options old between new before mid after most plan leads f whole tables files none begun live picked left merged = (
@@ -116,7 +118,7 @@ steps_begun order options old between new before mid after most plan leads f who
 )
 
 -- behind a piece that leaves tables and compaction
-pub steps_behind : {K : Type 0} {g : _} (order : Order) (options : OptionValues) (old mid new : Seen) (before between after : Held K g) (most : ℕ) {P : Machine → Machine → Type 0} → ((ids : Ids) → LeadsOpen order old mid ids before between P) → IsTrue mid.facts.faithful
+pub steps_behind : {K : Type 0} {g : _} (order : Order) (options : OptionValues) (old mid new : Seen) (before between after : OpenDb K g) (most : ℕ) {P : Machine → Machine → Type 0} → ((ids : Ids) → LeadsOpen order old mid ids before between P) → IsTrue mid.facts.faithful
     → version_of between ≡ version_of before → live_sequences before ≡ live_sequences between → between.job ≡ before.job → KeepsTableFiles order old mid before → StepsBy order options mid new between after most → StepsBy order options old new before after most
 steps_behind {K} {g} order options old mid new before between after most leads f version sequences same files inner =
     let tables = ap (λ (v : Placement). v.tables) version in (
@@ -137,7 +139,7 @@ steps_behind {K} {g} order options old mid new before between after most leads f
 
 -- ---- when it is asked
 
-pub at_ease_on : {K : Type 0} {g : _} (options : OptionValues) (before : Held K g) (memory : Memories) → IsSameMemory before.memory memory → IsAtEase options before → IsAtEase options (record before { memory = memory })
+pub at_ease_on : {K : Type 0} {g : _} (options : OptionValues) (before : OpenDb K g) (memory : Memories) → IsSameMemory before.memory memory → IsAtEase options before → IsAtEase options (record before { memory = memory })
 at_ease_on options before memory same h = record {
   idle = h.idle;
   none = same.sealed ∙ h.none;

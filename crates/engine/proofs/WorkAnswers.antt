@@ -13,7 +13,7 @@ use Rattle.memtables.specs.Memories.{Memories}
 use Rattle.memtable.specs.Contents.{size_of}
 use Rattle.table_access.specs.Tables.{Seen}
 use Rattle.store.specs.Files.{Facts}
-use Rattle.directory_writes.specs.Install.{Replaces}
+use Rattle.directory_writes.specs.Replacing.{ReplacesInputs}
 use Rattle.versions.specs.Levels.{Placement}
 use Rattle.versions.specs.Plans.{IsPicked}
 use Rattle.versions.specs.declared.plan.JobPlan.{JobPlan}
@@ -22,16 +22,20 @@ use Rattle.engine.specs.declared.ids.Ids.{Ids}
 use Rattle.engine.specs.Applied.{DoneWork, WorksIn}
 use Rattle.engine.specs.declared.work.Progress.{Progress}
 use Rattle.engine.specs.declared.work.Progress.TheVariants as progress
-use Rattle.engine.specs.Causes.{IsCausedIn, IsMet, broken_in}
-use Rattle.engine.specs.Follows.{LeadsOpen}
-use Rattle.engine.specs.Held.{Held}
+use Rattle.engine.specs.Causes.{IsCausedIn, open_status}
+use Rattle.machine.specs.Causes.{not_serving}
+use Rattle.engine.specs.Stands.{no_ids}
+use Rattle.opening.specs.Refusals.{IsMet}
+use Rattle.engine.specs.internal.Leading.{LeadsOpen}
+use Rattle.engine.specs.OpenDb.{OpenDb}
 use Rattle.engine.specs.Needed.{IsForLive}
 use Rattle.machine.specs.Machine.{Machine}
-use Rattle.machine.specs.Serving.{not_serving}
-use Rattle.engine.specs.Stands.{StandsClosed}
+use Rattle.machine.specs.Causes.{not_serving, status_of}
+use Rattle.engine.specs.internal.Standing.{StandsClosed}
 use Rattle.machine.specs.Upkeep.{UpkeepRefused, Works}
 use Rattle.engine.specs.OptionValues.{OptionValues}
-use Rattle.engine.specs.Working.{DoesWork, GoesOn, IsAtEase, IsFurther, IsPiece, IsSameMemory, MayRefusePiece, refused_as, work_answer}
+use Rattle.engine.specs.Working.{DoesWork, GoesOn, IsAtEase, IsFurther, work_answer}
+use Rattle.engine.specs.internal.Pieces.{IsPiece, IsSameMemory, MayRefusePiece, refused_as}
 use Rattle.engine.proofs.NeededEntries.{still_live}
 use Rattle.engine.proofs.Steps.{broken_cause, broken_of, by_cause, closed_cause, no_cause, serving_of}
 use Rattle.engine.proofs.WorkSteps.{piece_failed, pieces_on, works_as}
@@ -40,14 +44,14 @@ use Rattle.engine.proofs.WriteSteps.{stays_open}
 -- ---- the machine
 
 -- a broken database does none
-pub works_broken : {K : Type 0} {g : _} → (order : Order) (source : Seen) (ids : Ids) (db : Held K g) (budget : ℕ) → db.broken ≡ true → LeadsOpen order source source ids db db (λ m n. Works m budget (work_answer (Err error.Broken)) n)
-works_broken order source ids db budget is = stays_open order source ids db _ (λ m s. by_cause (not_serving m) m error.Broken _ (broken_cause m s.opened (broken_of order source ids db m is s).broken))
+pub works_broken : {K : Type 0} {g : _} → (order : Order) (source : Seen) (ids : Ids) (db : OpenDb K g) (budget : ℕ) → db.broken ≡ true → LeadsOpen order source source ids db db (λ m n. Works m budget (work_answer (Err error.Broken)) n)
+works_broken order source ids db budget is = stays_open order source ids db _ (λ m s. by_cause (not_serving (status_of m)) m error.Broken _ (broken_cause m s.opened (broken_of order source ids db m is s).broken))
 
 -- and where none is open, there is none to do
 pub works_closed : (order : Order) (facts : Facts) (ids : Ids) (m : Machine) (budget : ℕ) → StandsClosed order facts ids m → Works m budget (work_answer (Err error.NotOpen)) m
-works_closed order facts ids m budget s = by_cause (not_serving m) m error.NotOpen _ (closed_cause order facts ids m s)
+works_closed order facts ids m budget s = by_cause (not_serving (status_of m)) m error.NotOpen _ (closed_cause order facts ids m s)
 
-module _ {K : Type 0} {g : _} (order : Order) (old new : Seen) (ids : Ids) (before after : Held K g) where
+module _ {K : Type 0} {g : _} (order : Order) (old new : Seen) (ids : Ids) (before after : OpenDb K g) where
   -- a piece is what is answered
   pub works : (budget most : ℕ) (result : Result Progress DbError) → most ≤ max budget 1 → before.broken ≡ false → LeadsOpen order old new ids before after (λ m n. IsPiece m most result n) → LeadsOpen order old new ids before after (λ m n. Works m budget (work_answer result) n)
   works budget most result le whole step = record {
@@ -58,7 +62,7 @@ module _ {K : Type 0} {g : _} (order : Order) (old new : Seen) (ids : Ids) (befo
   }
 
 -- one piece after the other
-module _ {K : Type 0} {g : _} (order : Order) (old mid new : Seen) (ids : Ids) (before between after : Held K g) where
+module _ {K : Type 0} {g : _} (order : Order) (old mid new : Seen) (ids : Ids) (before between after : OpenDb K g) where
   pub then_piece : {T U : Type 0} (few most : ℕ) (done : T) (result : Result U DbError) → LeadsOpen order old mid ids before between (λ m n. IsPiece m few (Ok done) n) → LeadsOpen order mid new ids between after (λ m n. IsPiece m most result n)
       → LeadsOpen order old new ids before after (λ m n. IsPiece m (few + most) result n)
   then_piece few most done result first next = record {
@@ -82,7 +86,7 @@ as_failure m n most complete e rose piece = record { failures = piece.failures; 
     )
     at _ complete rose h = h
 
-module _ {K : Type 0} {g : _} (order : Order) (old mid new : Seen) (ids : Ids) (before between after : Held K g) where
+module _ {K : Type 0} {g : _} (order : Order) (old mid new : Seen) (ids : Ids) (before between after : OpenDb K g) where
   -- a refusal behind a removal
   pub then_refused : {T U : Type 0} (most : ℕ) (complete : Bool) (e : DbError) → (complete ≡ false → old.facts.failures < mid.facts.failures) → mid.facts.failures ≤ new.facts.failures
       → LeadsOpen order old mid ids before between (λ m n. IsPiece m 0 (Ok complete) n) → LeadsOpen order mid new ids between after (λ m n. IsPiece {T = T} m most (Err e) n)
@@ -114,31 +118,31 @@ piece_met (error.Unsupported what) h = tt
 piece_met error.NumbersSpent h = tt
 piece_met _ h = absurd h
 
-pub caused_met : {S K : Type 0} {g : _} (db : Held K g) (old new : S) (result : Result Progress DbError) (e : DbError) → result ≡ Err e → db.broken ≡ false → MayRefusePiece e → IsCausedIn (broken_in db) old new result
+pub caused_met : {S K : Type 0} {g : _} (db : OpenDb K g) (old new : S) (result : Result Progress DbError) (e : DbError) → result ≡ Err e → db.broken ≡ false → MayRefusePiece e → IsCausedIn (not_serving (open_status no_ids db)) old new result
 caused_met db old new result e is whole may =
     subst (λ (cause : Option DbError). IsCausedIn cause old new result) (sym (ap (λ (b : Bool). if b then Some error.Broken else None) whole)) (λ other same. subst IsMet (let inner : e ≡ other = cc in inner) (piece_met e may))
 
 -- ---- which piece it is
 
-at_ease : {K : Type 0} {g : _} (options : OptionValues) (before : Held K g) (memory : Memories) → IsSameMemory before.memory memory → IsAtEase options (record before { memory = memory }) → IsAtEase options before
+at_ease : {K : Type 0} {g : _} (options : OptionValues) (before : OpenDb K g) (memory : Memories) → IsSameMemory before.memory memory → IsAtEase options (record before { memory = memory }) → IsAtEase options before
 at_ease options before memory same h = record {
   idle = h.idle;
   none = sym same.sealed ∙ h.none;
   small = (let size : size_of memory.current.inserts ≡ size_of before.memory.current.inserts = ap (λ c. size_of c.inserts) same.current in let least = h.small in omega (arith, size, least));
 }
 
-begun_on : {K : Type 0} {g : _} (budget : ℕ) (plan : JobPlan) (before : Held K g) (memory : Memories) (after : Held K g) → memory.last ≡ before.memory.last
-    → MatchOption after.job (Replaces plan before.tables after.tables) (λ work. (work.job.plan ≡ plan) × (work.merged ≡ shown (max budget 1)) × IsForLive work (record before { memory = memory }) × (after.tables ≡ before.tables))
-    → MatchOption after.job (Replaces plan before.tables after.tables) (λ work. (work.job.plan ≡ plan) × (work.merged ≡ shown (max budget 1)) × IsForLive work before × (after.tables ≡ before.tables))
+begun_on : {K : Type 0} {g : _} (budget : ℕ) (plan : JobPlan) (before : OpenDb K g) (memory : Memories) (after : OpenDb K g) → memory.last ≡ before.memory.last
+    → MatchOption after.job (ReplacesInputs plan before.tables after.tables) (λ work. (work.job.plan ≡ plan) × (work.merged ≡ shown (max budget 1)) × IsForLive work (record before { memory = memory }) × (after.tables ≡ before.tables))
+    → MatchOption after.job (ReplacesInputs plan before.tables after.tables) (λ work. (work.job.plan ≡ plan) × (work.merged ≡ shown (max budget 1)) × IsForLive work before × (after.tables ≡ before.tables))
 begun_on {K} {g} budget plan before memory after last = at after.job
   where
     at : (o : Option (OpenJob K g))
-        → MatchOption o (Replaces plan before.tables after.tables) (λ work. (work.job.plan ≡ plan) × (work.merged ≡ shown (max budget 1)) × IsForLive work (record before { memory = memory }) × (after.tables ≡ before.tables))
-        → MatchOption o (Replaces plan before.tables after.tables) (λ work. (work.job.plan ≡ plan) × (work.merged ≡ shown (max budget 1)) × IsForLive work before × (after.tables ≡ before.tables))
+        → MatchOption o (ReplacesInputs plan before.tables after.tables) (λ work. (work.job.plan ≡ plan) × (work.merged ≡ shown (max budget 1)) × IsForLive work (record before { memory = memory }) × (after.tables ≡ before.tables))
+        → MatchOption o (ReplacesInputs plan before.tables after.tables) (λ work. (work.job.plan ≡ plan) × (work.merged ≡ shown (max budget 1)) × IsForLive work before × (after.tables ≡ before.tables))
     at None h = h
     at (Some work) h = (h.0, h.1, still_live work work (record before { memory = memory }) before refl (ap (λ (n : ℕ). n ∷ values_of before.snapshots.entries) (sym last)) h.2, h.3)
 
-pub does_on : {K : Type 0} {g : _} (cmp : Cmp) (before : Held K g) (memory : Memories) (after : Held K g) (options : OptionValues) (budget : ℕ) (result : Result Progress DbError) → IsSameMemory before.memory memory → memory.last ≡ before.memory.last → DoesWork cmp options budget (record before { memory = memory }) after result
+pub does_on : {K : Type 0} {g : _} (cmp : Cmp) (before : OpenDb K g) (memory : Memories) (after : OpenDb K g) (options : OptionValues) (budget : ℕ) (result : Result Progress DbError) → IsSameMemory before.memory memory → memory.last ≡ before.memory.last → DoesWork cmp options budget (record before { memory = memory }) after result
     → DoesWork cmp options budget before after result
 does_on cmp before memory after options budget (Ok progress.Worked) same last (inl h) = inl (record { work = h.work; was = h.was; on = h.on })
 does_on cmp before memory after options budget (Ok progress.Worked) same last (inr (inl h)) = inr (inl (record {
@@ -158,8 +162,8 @@ does_on cmp before memory after options budget (Ok progress.Idle) same last h = 
 does_on cmp before memory after options budget (Err e) same last h = tt
 
 -- so many came of those of a compaction that was begun at once, or all
-pub begun_further : {K : Type 0} {g : _} (budget : ℕ) (plan : JobPlan) (before mid after : Held K g) → mid.tables ≡ before.tables → MatchOption mid.job ⊥ (λ work. (work.merged ≡ 0) × (work.job.plan ≡ plan)) → MatchOption mid.job ⊥ (λ work. IsForLive work before) → GoesOn budget mid after
-    → MatchOption after.job (Replaces plan before.tables after.tables) (λ work. (work.job.plan ≡ plan) × (work.merged ≡ shown (max budget 1)) × IsForLive work before × (after.tables ≡ before.tables))
+pub begun_further : {K : Type 0} {g : _} (budget : ℕ) (plan : JobPlan) (before mid after : OpenDb K g) → mid.tables ≡ before.tables → MatchOption mid.job ⊥ (λ work. (work.merged ≡ 0) × (work.job.plan ≡ plan)) → MatchOption mid.job ⊥ (λ work. IsForLive work before) → GoesOn budget mid after
+    → MatchOption after.job (ReplacesInputs plan before.tables after.tables) (λ work. (work.job.plan ≡ plan) × (work.merged ≡ shown (max budget 1)) × IsForLive work before × (after.tables ≡ before.tables))
 begun_further {K} {g} budget plan before mid after same none live goes = at after.job goes.on
   where
     for_live : IsForLive goes.work before
@@ -168,9 +172,9 @@ begun_further {K} {g} budget plan before mid after same none live goes = at afte
     empty : (goes.work.merged ≡ 0) × (goes.work.job.plan ≡ plan)
     empty = subst (λ (o : Option (OpenJob K g)). MatchOption o ⊥ (λ work. (work.merged ≡ 0) × (work.job.plan ≡ plan))) goes.was none
 
-    at : (o : Option (OpenJob K g)) → MatchOption o (Replaces goes.work.job.plan mid.tables after.tables) (λ more. IsFurther goes.work (max budget 1) more × (after.tables ≡ mid.tables))
-        → MatchOption o (Replaces plan before.tables after.tables) (λ work. (work.job.plan ≡ plan) × (work.merged ≡ shown (max budget 1)) × IsForLive work before × (after.tables ≡ before.tables))
-    at None h = subst (λ (p : JobPlan). Replaces p before.tables after.tables) empty.1 (subst (λ (ts : List PlacedTable). Replaces goes.work.job.plan ts after.tables) same h)
+    at : (o : Option (OpenJob K g)) → MatchOption o (ReplacesInputs goes.work.job.plan mid.tables after.tables) (λ more. IsFurther goes.work (max budget 1) more × (after.tables ≡ mid.tables))
+        → MatchOption o (ReplacesInputs plan before.tables after.tables) (λ work. (work.job.plan ≡ plan) × (work.merged ≡ shown (max budget 1)) × IsForLive work before × (after.tables ≡ before.tables))
+    at None h = subst (λ (p : JobPlan). ReplacesInputs p before.tables after.tables) empty.1 (subst (λ (ts : List PlacedTable). ReplacesInputs goes.work.job.plan ts after.tables) same h)
     at (Some more) h = (h.0.0 ∙ empty.1, (let is = h.0.1 in let first = empty.0 in omega (arith, is, first)), still_live goes.work more before before h.0.2 refl for_live, h.1 ∙ same)
 
 -- ---- which plan is begun
@@ -187,9 +191,9 @@ picked_for cmp files base level0_files base_bytes version tables plan files_are 
     subst (λ (n : ℕ). IsPicked cmp n base_bytes tables plan) files_are (subst (λ (n : ℕ). IsPicked cmp files n tables plan) base_is (subst (λ (v : Placement). IsPicked cmp files base v plan) same picked))
 
 -- what work promises, where this was open before and that was answered
-pub done_in : {K : Type 0} {g : _} (order : Order) (options : OptionValues) (budget : ℕ) (old new : Seen) (state : Option (Held K g)) (before after : Held K g) (answer : Answer) (result : Result Progress DbError) {shown : Result Progress DbError}
+pub done_in : {K : Type 0} {g : _} (order : Order) (options : OptionValues) (budget : ℕ) (old new : Seen) (state : Option (OpenDb K g)) (before after : OpenDb K g) (answer : Answer) (result : Result Progress DbError) {shown : Result Progress DbError}
     → result ≡ shown → state ≡ Some before → DoneWork order options budget old new before after result
     → (DoneWork order options budget old new before after shown → WorksIn order options budget old new (Some before) (Some after) answer) → WorksIn order options budget old new state (Some after) answer
 done_in order options budget old new state before after answer result is opened done shows =
-    subst (λ (o : Option (Held _ _)). WorksIn order options budget old new o (Some after) answer) (sym opened)
+    subst (λ (o : Option (OpenDb _ _)). WorksIn order options budget old new o (Some after) answer) (sym opened)
     (shows (subst (λ (r : Result Progress DbError). DoneWork order options budget old new before after r) is done))

@@ -13,23 +13,24 @@ use Rattle.memtables.specs.Changes.{IsSealed, IsUsed, KeepsUsed}
 use Rattle.memtables.specs.Memories.{Memories, sealed_inserts}
 use Rattle.memtables.specs.Places.{LeavesMemories}
 use Rattle.recover.specs.Directory.{Directory, IsConsistent}
-use Rattle.recover.specs.Laws.{OneDirectoryLaw}
+use Rattle.recover.specs.internal.Laws.{OneDirectoryLaw}
 use Rattle.recover.specs.Numbers.{IsFree}
-use Rattle.db_cursor.specs.Scanning.{ScanIsKept}
+use Rattle.db_cursor.specs.internal.Scanning.{ScanIsKept}
 use Rattle.db_cursor.specs.declared.scan.Scan.{Scan}
 use Rattle.table_access.specs.Tables.{Seen, IsSound, SoundLasts}
 use Rattle.store.specs.Files.{Files, Facts}
-use Rattle.directory_writes.specs.Calls.{Touches}
-use Rattle.directory_writes.specs.LogFile.{BeginsLog, DrawsLog, RefusesLog}
-use Rattle.directory_writes.specs.Removal.{AreNumbersOf, KeepsParts, KeepsTable, ListsUnused, RefusesList}
+use Rattle.directory_writes.specs.internal.Calls.{Touches}
+use Rattle.directory_writes.specs.internal.LogFile.{BeginsLog, DrawsLog, RefusesLog}
+use Rattle.directory_writes.specs.internal.Removal.{AreOfDirectory, KeepsParts, KeepsTable, ListsUnused, RefusesList}
 use Rattle.engine.specs.declared.ids.Ids.{Ids}
 use Rattle.engine.specs.declared.state.DbState.{DbState}
-use Rattle.engine.specs.Follows.{LeadsOpen}
-use Rattle.engine.specs.Held.{Held, held}
+use Rattle.engine.specs.internal.Leading.{LeadsOpen}
+use Rattle.engine.specs.OpenDb.{OpenDb, open_db}
 use Rattle.machine.specs.Machine.{Machine}
-use Rattle.engine.specs.Stands.{IsServing}
+use Rattle.engine.specs.internal.Standing.{IsServing}
 use Rattle.machine.specs.Upkeep.{UpkeepRefused}
-use Rattle.engine.specs.Working.{ClosesTables, IsPiece, IsSameMemory, broken_by, numbers_of}
+use Rattle.engine.specs.internal.Pieces.{ClosesTables, IsPiece, IsSameMemory, broken_by}
+use Rattle.engine.specs.Working.{numbers_of}
 use Rattle.engine.specs.InUse.{IsMemoryUsed, IsTableUsed}
 use Rattle.engine.proofs.Cleaning.{DropsKept, sealed_same, serving_cleaned}
 use Rattle.engine.proofs.Reading.{read_by, serving_read}
@@ -43,7 +44,7 @@ sound_same order lasts old facts same =
     (λ block file is there. subst (λ (fs : Files). table_at fs block.file ≡ Some file) same there)
 
 -- none was drawn
-pub undrawn : {K : Type 0} {g : _} (order : Order) (source : Seen) (db : Held K g) (m : Machine) (facts : Facts) → IsServing order source db (read_by facts m) → IsServing order source db (drawing m 0 facts)
+pub undrawn : {K : Type 0} {g : _} (order : Order) (source : Seen) (db : OpenDb K g) (m : Machine) (facts : Facts) → IsServing order source db (read_by facts m) → IsServing order source db (drawing m 0 facts)
 undrawn order source db m facts h = (let is : m.numbers ≡ m.numbers + 0 = omega arith in subst (λ (k : ℕ). IsServing order source db (record m { numbers = k; failures = facts.failures; denials = facts.denials })) is h)
 
 leaves_same : (memory : Memories) → LeavesMemories memory memory
@@ -54,11 +55,11 @@ module _ {K : Type 0} {g : _} (order : Order) (kept : (scan : Scan K g) → Scan
   new = record old { facts = facts }
 
   -- where the files are the same, and of the memory tables all that is read
-  pub serving_same : (db : Held K g) (memory : Memories) (m : Machine) → facts.files ≡ old.facts.files → LeavesMemories db.memory memory → IsServing order old db m → IsServing order new (record db { memory = memory }) (read_by facts m)
+  pub serving_same : (db : OpenDb K g) (memory : Memories) (m : Machine) → facts.files ≡ old.facts.files → LeavesMemories db.memory memory → IsServing order old db m → IsServing order new (record db { memory = memory }) (read_by facts m)
   serving_same db memory m same left h = serving_read order kept old new db memory m same (sound_same order lasts old facts same) (λ number is. inl is) (λ number is. inl is) left h
 
   -- and perhaps a number was drawn
-  pub serving_numbered : (db : Held K g) (memory : Memories) (numbers : FileNumbers) (m : Machine) → facts.files ≡ old.facts.files → LeavesMemories db.memory memory → db.directory.numbers.next ≤ numbers.next → numbers.next ≤ db.directory.numbers.next + 1
+  pub serving_numbered : (db : OpenDb K g) (memory : Memories) (numbers : FileNumbers) (m : Machine) → facts.files ≡ old.facts.files → LeavesMemories db.memory memory → db.directory.numbers.next ≤ numbers.next → numbers.next ≤ db.directory.numbers.next + 1
       → IsServing order old db m → IsServing order new (record db { memory = memory; directory = record db.directory { numbers = numbers } }) (drawing m 1 facts)
   serving_numbered db memory numbers m same left le upto h =
       serving_drawn order new (record db { memory = memory }) (read_by facts m) (record db.directory { numbers = numbers }) (serving_same db memory m same left h) refl refl refl refl refl le upto
@@ -70,7 +71,7 @@ list_refused m old facts error.OutOfMemory h same = draws m 0 facts
 list_refused m old facts error.Io h same = (omega (arith, h, same), (omega arith, omega arith), refl)
 list_refused m old facts _ h same = absurd h
 
-module _ {K : Type 0} {g : _} (order : Order) (kept : (scan : Scan K g) → ScanIsKept order.cmp scan) (lasts : SoundLasts) (old : Seen) (facts : Facts) (ids : Ids) (db : Held K g) where
+module _ {K : Type 0} {g : _} (order : Order) (kept : (scan : Scan K g) → ScanIsKept order.cmp scan) (lasts : SoundLasts) (old : Seen) (facts : Facts) (ids : Ids) (db : OpenDb K g) where
   pub ends_unlisted : {T : Type 0} (e : DbError) → db.broken ≡ false → Touches old.facts facts → RefusesList e old.facts facts → (IsTrue facts.faithful → facts.files ≡ old.facts.files)
       → LeadsOpen order old (record old { facts = facts }) ids db db (λ m n. IsPiece {T = T} m 0 (Err e) n)
   ends_unlisted e whole touches refused files =
@@ -78,7 +79,7 @@ module _ {K : Type 0} {g : _} (order : Order) (kept : (scan : Scan K g) → Scan
       (λ m f same serving. (list_refused m old.facts facts e refused same, undrawn order (record old { facts = facts }) db m facts (serving_same order kept lasts old facts db db.memory m (files f) (leaves_same db.memory) serving)))
 
 -- nothing was done
-module _ {K : Type 0} {g : _} (order : Order) (kept : (scan : Scan K g) → ScanIsKept order.cmp scan) (lasts : SoundLasts) (source : Seen) (ids : Ids) (db : Held K g) where
+module _ {K : Type 0} {g : _} (order : Order) (kept : (scan : Scan K g) → ScanIsKept order.cmp scan) (lasts : SoundLasts) (source : Seen) (ids : Ids) (db : OpenDb K g) where
   pub ends_idle : {T : Type 0} (most : ℕ) (done : T) → db.broken ≡ false → LeadsOpen order source source ids db db (λ m n. IsPiece m most (Ok done) n)
   ends_idle most done whole =
       piece_within order source source ids db db 0 most (Ok done) (omega arith)
@@ -104,14 +105,14 @@ module _ {K : Type 0} {g : _} (order : Order) (kept : (scan : Scan K g) → Scan
 
   pub ends_sealed : (number : ℕ) (name : String Global) (sealed : Memories) → memory.sealed ≡ None → 0 < length memory.current.inserts → IsSealed memory sealed → sealed_inserts sealed ≡ memory.current.inserts
       → DrawsLog old.facts facts next numbers.next (Ok (number, name)) → BeginsLog {T = ℕ × String Global} order old.facts facts next numbers.next (Ok (number, name))
-      → LeadsOpen order old (record old { facts = facts }) ids (held memory state) (held sealed (record drawn { log = record { number = number; name = name; end = 0 } })) (λ m n. IsPiece m 1 (Ok (tt {0})) n)
+      → LeadsOpen order old (record old { facts = facts }) ids (open_db memory state) (open_db sealed (record drawn { log = record { number = number; name = name; end = 0 } })) (λ m n. IsPiece m 1 (Ok (tt {0})) n)
   ends_sealed number name sealed unsealed filled is inserts draws_log begins =
-      serves_on order old (record old { facts = facts }) ids (held memory state) (held sealed (record drawn { log = record { number = number; name = name; end = 0 } })) 1 (Ok (tt {0})) whole whole touches.faithful touches.failures touches.denials
+      serves_on order old (record old { facts = facts }) ids (open_db memory state) (open_db sealed (record drawn { log = record { number = number; name = name; end = 0 } })) 1 (Ok (tt {0})) whole whole touches.faithful touches.failures touches.denials
       (λ m f same serving.
       let knows = serving.log.knows in
       let d = serving.log.directory.directory in (
         draws m 1 facts,
-        serving_sealed order kept one lasts law seals old facts (held memory state) m serving f draws_log.3 (begins.others f) sealed (record { number = number; name = name; end = 0 }) (record state.directory { numbers = numbers }) unsealed filled is inserts
+        serving_sealed order kept one lasts law seals old facts (open_db memory state) m serving f draws_log.3 (begins.others f) sealed (record { number = number; name = name; end = 0 }) (record state.directory { numbers = numbers }) unsealed filled is inserts
             (begins.ok f d serving.log.directory.consistent knows.free) (begins.manifest f d.manifest state.directory.manifest.end d.edits d.layout knows.ends) (subst (λ (n : ℕ). IsFree order facts.files n) draws_log.2 (begins.free f knows.free))
             draws_log.0 draws_log.1 refl refl refl refl refl refl draws_log.2,
       ))
@@ -124,31 +125,31 @@ module _ {K : Type 0} {g : _} (order : Order) (kept : (scan : Scan K g) → Scan
 
   -- the device failed: the log is there, or not
   log_failed : {T : Type 0} (back : Memories) → old.facts.failures < facts.failures → DrawsLog old.facts facts next numbers.next (Err error.Io) → BeginsLog {T = ℕ × String Global} order old.facts facts next numbers.next (Err error.Io)
-      → LeadsOpen order old (record old { facts = facts }) ids (held memory state) (held back (record drawn { broken = true })) (λ m n. IsPiece {T = T} m 1 (Err error.Io) n)
+      → LeadsOpen order old (record old { facts = facts }) ids (open_db memory state) (open_db back (record drawn { broken = true })) (λ m n. IsPiece {T = T} m 1 (Err error.Io) n)
   log_failed back rise draws_log begins =
-      breaks order old (record old { facts = facts }) ids (held memory state) (held back (record drawn { broken = true })) 1 (Err error.Io) refl whole refl touches.faithful rise touches.denials
+      breaks order old (record old { facts = facts }) ids (open_db memory state) (open_db back (record drawn { broken = true })) 1 (Err error.Io) refl whole refl touches.faithful rise touches.denials
       (λ m f serving.
       let knows = serving.log.knows in
       let d = serving.log.directory.directory in
       elim draws_log [
         | inl none ↦ absurd (let same : facts.failures ≡ old.facts.failures = ap (λ (x : Facts). x.failures) none.1 in omega (arith, rise, same))
-        | inr more ↦ broken_seal order kept one lasts law seals old facts (held memory state) m serving f more.1 (begins.others f) (begins.err f d serving.log.directory.consistent knows.free)
+        | inr more ↦ broken_seal order kept one lasts law seals old facts (open_db memory state) m serving f more.1 (begins.others f) (begins.err f d serving.log.directory.consistent knows.free)
             (subst (λ (n : ℕ). IsFree order facts.files n) more.0 (begins.free f knows.free))
       ])
 
   -- the files are as before
   log_unbegun : {T : Type 0} (e : DbError) (back : Memories) → (e ≡ error.Io → ⊥) → (IsTrue facts.faithful → facts.files ≡ old.facts.files) → RefusesLog e old.facts facts next numbers.next → DrawsLog old.facts facts next numbers.next (Err e) → LeavesMemories memory back
-      → LeadsOpen order old (record old { facts = facts }) ids (held memory state) (held back drawn) (λ m n. IsPiece {T = T} m 1 (Err e) n)
+      → LeadsOpen order old (record old { facts = facts }) ids (open_db memory state) (open_db back drawn) (λ m n. IsPiece {T = T} m 1 (Err e) n)
   log_unbegun e back other files refused draws_log left =
-      serves_on order old (record old { facts = facts }) ids (held memory state) (held back drawn) 1 (Err e) whole whole touches.faithful touches.failures touches.denials
+      serves_on order old (record old { facts = facts }) ids (open_db memory state) (open_db back drawn) 1 (Err e) whole whole touches.faithful touches.failures touches.denials
       (λ m f same serving.
       let below : next ≤ m.numbers = serving.numbers in
       let upto : (next ≤ numbers.next) × (numbers.next ≤ next + 1) = elim draws_log [ inl none ↦ (let is = none.0 in (omega (arith, is), omega (arith, is))) | inr more ↦ (let is = more.0 in (omega (arith, is), omega (arith, is))) ] in
-      (log_refused m e refused same below other, serving_numbered order kept lasts old facts (held memory state) back numbers m (files f) left upto.0 upto.1 serving))
+      (log_refused m e refused same below other, serving_numbered order kept lasts old facts (open_db memory state) back numbers m (files f) left upto.0 upto.1 serving))
 
   -- however it isn't
   pub ends_unsealed : {T : Type 0} (e : DbError) (back : Memories) → RefusesLog e old.facts facts next numbers.next → DrawsLog old.facts facts next numbers.next (Err e) → BeginsLog {T = ℕ × String Global} order old.facts facts next numbers.next (Err e) → LeavesMemories memory back
-      → LeadsOpen order old (record old { facts = facts }) ids (held memory state) (held back (broken_by drawn e)) (λ m n. IsPiece {T = T} m 1 (Err e) n)
+      → LeadsOpen order old (record old { facts = facts }) ids (open_db memory state) (open_db back (broken_by drawn e)) (λ m n. IsPiece {T = T} m 1 (Err e) n)
   ends_unsealed error.OutOfMemory back refused draws_log begins left = log_unbegun error.OutOfMemory back (λ e. cc) (λ f. (refused f).0) refused draws_log left
   ends_unsealed error.Io back refused draws_log begins left = log_failed back refused draws_log begins
   ends_unsealed error.NumbersSpent back refused draws_log begins left = log_unbegun error.NumbersSpent back (λ e. cc) (λ f. ap (λ (x : Facts). x.files) refused.2) refused draws_log left
@@ -157,10 +158,10 @@ module _ {K : Type 0} {g : _} (order : Order) (kept : (scan : Scan K g) → Scan
 -- ---- files that are gone
 
 module _ {K : Type 0} {g : _} (order : Order) (kept : (scan : Scan K g) → ScanIsKept order.cmp scan) (one : OneDirectoryLaw) (lasts : SoundLasts) (drops : DropsKept order.cmp)
-    (old : Seen) (facts : Facts) (ids : Ids) (db : Held K g) (tables : List KeptTable) (memory : Memories) (gone : List ℕ) where
+    (old : Seen) (facts : Facts) (ids : Ids) (db : OpenDb K g) (tables : List KeptTable) (memory : Memories) (gone : List ℕ) where
   pub ends_cleaned : {T : Type 0} (done : T) → db.broken ≡ false → Touches old.facts facts → KeepsUsed (IsUsed (λ generation. IsMemoryUsed db.iterators generation) db.memory) db.memory memory
       → (IsTrue facts.faithful → (n : ℕ) → IsNumbered n → KeepsTable old.facts facts (λ number. IsTableUsed db.tables db.job db.iterators number) n) → ListsUnused old.facts facts (λ number. IsTableUsed db.tables db.job db.iterators number) gone → ClosesTables old.tables tables gone
-      → (IsTrue facts.faithful → (d : Directory) → IsConsistent order old.facts.files d → AreNumbersOf (numbers_of db.directory) (λ number. IsTableUsed db.tables db.job db.iterators number) d
+      → (IsTrue facts.faithful → (d : Directory) → IsConsistent order old.facts.files d → AreOfDirectory (numbers_of db.directory) (λ number. IsTableUsed db.tables db.job db.iterators number) d
       → KeepsParts order old.facts.files facts.files (λ number. IsTableUsed db.tables db.job db.iterators number) d)
       → LeadsOpen order old (record { facts = facts; tables = tables; blocks = old.blocks }) ids db (record db { memory = memory }) (λ m n. IsPiece m 0 (Ok done) n)
   ends_cleaned done whole touches used each unused closes parts =

@@ -8,13 +8,14 @@ use Rattle.store.specs.Files.{Facts}
 use Rattle.engine.specs.declared.ids.Ids.{Ids}
 use Rattle.engine.specs.declared.work.Progress.{Progress}
 use Rattle.engine.specs.declared.work.Progress.TheVariants as progress
-use Rattle.engine.specs.Follows.{LeadsOpen}
-use Rattle.engine.specs.Held.{Held}
+use Rattle.engine.specs.internal.Leading.{LeadsOpen}
+use Rattle.engine.specs.OpenDb.{OpenDb}
 use Rattle.machine.specs.Machine.{Machine, weight}
-use Rattle.machine.specs.Serving.{not_serving}
-use Rattle.engine.specs.Stands.{HasCounts, IsBroken, IsServing}
+use Rattle.machine.specs.Causes.{not_serving, status_of}
+use Rattle.engine.specs.internal.Standing.{HasCounts, IsBroken, IsServing}
 use Rattle.machine.specs.Upkeep.{Draws, UpkeepRefused, WorkDone, Works}
-use Rattle.engine.specs.Working.{IsPiece, work_answer}
+use Rattle.engine.specs.internal.Pieces.{IsPiece}
+use Rattle.engine.specs.Working.{work_answer}
 use Rattle.engine.proofs.Steps.{serving_of, denies_none, without_cause}
 
 -- ---- a piece
@@ -34,7 +35,7 @@ piece_of m most old facts result n counts failures denials rise undenied what = 
   what = what;
 }
 
-module _ {K : Type 0} {g : _} (order : Order) (old new : Seen) (ids : Ids) (before after : Held K g) where
+module _ {K : Type 0} {g : _} (order : Order) (old new : Seen) (ids : Ids) (before after : OpenDb K g) where
   -- one that leaves a serving database
   pub serves_on : {T : Type 0} (most : ℕ) (result : Result T DbError) → before.broken ≡ false → after.broken ≡ false → (IsTrue new.facts.faithful → IsTrue old.facts.faithful) → old.facts.failures ≤ new.facts.failures → new.facts.denials ≡ old.facts.denials
       → ((m : Machine) → IsTrue new.facts.faithful → m.failures ≡ old.facts.failures → IsServing order old before m
@@ -137,9 +138,9 @@ piece_more {T} m n most more result le piece = record { failures = piece.failure
 
 -- ---- an answer
 
-pub works_as : (m n : Machine) (budget most : ℕ) (result : Result Progress DbError) → not_serving m ≡ None → most ≤ max budget 1 → IsPiece m most result n → Works m budget (work_answer result) n
+pub works_as : (m n : Machine) (budget most : ℕ) (result : Result Progress DbError) → not_serving (status_of m) ≡ None → most ≤ max budget 1 → IsPiece m most result n → Works m budget (work_answer result) n
 works_as m n budget most result free le piece =
-    without_cause (not_serving m) m n (work_answer result) _ free (denies_none m n (work_answer result) piece.failures piece.denials) (at result piece.what)
+    without_cause (not_serving (status_of m)) m n (work_answer result) _ free (denies_none m n (work_answer result) piece.failures piece.denials) (at result piece.what)
   where
     draws_more : Draws m most n → Draws m (max budget 1) n
     draws_more h = ((h.0.0, (let upto = h.0.1 in omega (arith, upto, le))), h.1)
@@ -149,7 +150,7 @@ works_as m n budget most result free le piece =
     at (Ok progress.Idle) h = draws_more h
     at (Err e) h = refused_more m n most (max budget 1) e le h
 
-module _ {K : Type 0} {g : _} (order : Order) (old new : Seen) (ids : Ids) (before after : Held K g) where
+module _ {K : Type 0} {g : _} (order : Order) (old new : Seen) (ids : Ids) (before after : OpenDb K g) where
   -- what a piece answers is what is answered
   pub piece_failed : {T U : Type 0} (most : ℕ) (e : DbError) → LeadsOpen order old new ids before after (λ m n. IsPiece {T = T} m most (Err e) n) → LeadsOpen order old new ids before after (λ m n. IsPiece {T = U} m most (Err e) n)
   piece_failed most e step = record {

@@ -11,18 +11,18 @@ use Rattle.db_cursor.specs.Scans.{tables_of}
 use Rattle.db_cursor.specs.declared.scan.Scan.{Scan}
 use Rattle.table_access.specs.Tables.{Seen}
 use Rattle.store.specs.Files.{Files}
-use Rattle.versions.specs.Keeping.{HasNumber}
+use Rattle.versions.specs.Levels.{HasNumber}
 use Rattle.engine.specs.declared.ids.Ids.{Ids}
 use Rattle.engine.specs.declared.work.Progress.{Progress}
 use Rattle.engine.specs.declared.work.Progress.TheVariants as progress
-use Rattle.engine.specs.Held.{Held}
+use Rattle.engine.specs.OpenDb.{OpenDb}
 use Rattle.engine.specs.InUse.{IsTableRead}
-use Rattle.engine.specs.Live.{kept_at}
+use Rattle.engine.specs.Reads.{kept_at}
 use Rattle.machine.specs.Machine.{Machine}
-use Rattle.engine.specs.Stands.{StandsOpen}
+use Rattle.engine.specs.internal.Standing.{StandsOpen}
 
 -- the file is `CURRENT`, the lock, the MANIFEST, the log that writes go to, or a table of the version or of that of an open iterator
-abbrev pub IsLiveAtEase : {K : Type 0} {g : _} → Held K g → FileName → Type 0
+abbrev pub IsLiveAtEase : {K : Type 0} {g : _} → OpenDb K g → FileName → Type 0
 IsLiveAtEase db Current = Unit {0}
 IsLiveAtEase db Lock = Unit {0}
 IsLiveAtEase db (Log n) = n ≡ db.log.number
@@ -33,7 +33,7 @@ IsLiveAtEase db (Temporary n) = ⊥
 
 -- These are the files of a known shape, and all of them but the lock's, of which nothing is said, are there, a table's under one of its
 -- names.
-pub record HasExactlyLive {K : Type 0} {g : _} (files : Files) (db : Held K g) : Type 0 where
+pub record HasExactlyLive {K : Type 0} {g : _} (files : Files) (db : OpenDb K g) : Type 0 where
   pub only : (file : FileName) → IsFileName file → contains_key files (name_of file) ≡ true → IsLiveAtEase db file
   pub current : IsSome (get files (name_of Current))
   pub manifest : IsSome (get files (name_of (Manifest db.directory.manifest.number)))
@@ -43,6 +43,6 @@ pub record HasExactlyLive {K : Type 0} {g : _} (files : Files) (db : Held K g) :
 
 -- Where there is no work and no call failed, that is so, while the store is faithful, from each state of the machine that the database
 -- could be in before.
-abbrev pub LeavesExactlyLive : {K : Type 0} {g : _} → Order → Seen → Seen → Held K g → Held K g → Result Progress DbError → Type 0
+abbrev pub LeavesExactlyLive : {K : Type 0} {g : _} → Order → Seen → Seen → OpenDb K g → OpenDb K g → Result Progress DbError → Type 0
 LeavesExactlyLive order old new before after result =
     result ≡ Ok progress.Idle → IsTrue new.facts.faithful → new.facts.failures ≡ old.facts.failures → (ids : Ids) (m : Machine) → StandsOpen order old ids before m → HasExactlyLive new.facts.files after

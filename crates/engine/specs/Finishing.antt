@@ -1,33 +1,22 @@
 -- Compactions that are brought to their end in one call.
-use Rattle.std.specs.Prelude.{◌≡◌, ◌⊎◌, ◌<◌, ◌≤◌, ◌+◌, ℕ, true, false, None, MatchOption, List, [], Result, Ok, Err, MatchResult, max}
+use Rattle.std.specs.Prelude.{◌≡◌, ◌⊎◌, ◌<◌, ◌≤◌, ℕ, true, None, MatchOption, List, [], Result, Err, MatchResult}
 use Rattle.coding.specs.declared.error.DbError.{DbError}
 use Rattle.coding.specs.declared.error.DbError.TheVariants as error
 use Rattle.cursor.specs.Places.{Cmp}
 use Rattle.edits.specs.declared.field.PlacedTable.{PlacedTable}
-use Rattle.running_job.specs.Running.{shown}
 use Rattle.store.specs.Files.{Facts}
-use Rattle.directory_writes.specs.Install.{Replaces}
+use Rattle.directory_writes.specs.Replacing.{ReplacesInputs}
 use Rattle.versions.specs.Levels.{tables_at}
 use Rattle.versions.specs.Plans.{IsLevelPlan}
 use Rattle.versions.specs.declared.plan.JobPlan.{JobPlan}
-use Rattle.engine.specs.Held.{Held}
-use Rattle.machine.specs.Machine.{Machine, entry_count}
+use Rattle.engine.specs.OpenDb.{OpenDb}
 use Rattle.engine.specs.Outcomes.{KeepsViews}
-use Rattle.engine.specs.Working.{IsPiece}
 
 -- ---- over any store
 
--- What a step of a compaction leaves that is done: no call of the store failed, and the database serves on.
-pub record ServesOn {K : Type 0} {g : _} (old new : Facts) (before after : Held K g) : Type 0 where
-  pub stood : new.failures ≡ old.failures
-  pub undenied : new.denials ≡ old.denials
-  pub locked : new.locked ≡ old.locked
-  pub whole : after.broken ≡ false
-  pub views : KeepsViews before after
-
 -- What a compaction leaves: the views, and the database as it was, or broken now, and that only where a failure was counted. What it had done
 -- before it was refused, it keeps.
-pub record CompactOutcome {T K : Type 0} {g : _} (may : DbError → Type 0) (old new : Facts) (before after : Held K g) (result : Result T DbError) : Type 0 where
+pub record CompactOutcome {T K : Type 0} {g : _} (may : DbError → Type 0) (old new : Facts) (before after : OpenDb K g) (result : Result T DbError) : Type 0 where
   pub failures : old.failures ≤ new.failures
   pub denials : new.denials ≡ old.denials
   pub locked : new.locked ≡ old.locked
@@ -40,41 +29,23 @@ pub record CompactOutcome {T K : Type 0} {g : _} (may : DbError → Type 0) (old
 -- ---- what is left of the tables
 
 -- the level has none
-abbrev pub IsLevelEmpty : {K : Type 0} {g : _} → ℕ → Held K g → Type 0
+abbrev pub IsLevelEmpty : {K : Type 0} {g : _} → ℕ → OpenDb K g → Type 0
 IsLevelEmpty level db = tables_at level db.tables ≡ []
 
 -- The compaction that was under way came to its end, if one was. Behind it the tables of the level, where it had some, were compacted
 -- into the next one, with what they bring along; its other tables stay.
-pub record MovesLevel {K : Type 0} {g : _} (cmp : Cmp) (level : ℕ) (before after : Held K g) : Type 0 where
+pub record MovesLevel {K : Type 0} {g : _} (cmp : Cmp) (level : ℕ) (before after : OpenDb K g) : Type 0 where
   pub between : List PlacedTable
-  pub ended : MatchOption before.job (between ≡ before.tables) (λ work. Replaces work.job.plan before.tables between)
-  pub moved : ((tables_at level between ≡ []) × (after.tables ≡ between)) ⊎ ((plan : JobPlan) × IsLevelPlan cmp between level plan × Replaces plan between after.tables)
+  pub ended : MatchOption before.job (between ≡ before.tables) (λ work. ReplacesInputs work.job.plan before.tables between)
+  pub moved : ((tables_at level between ≡ []) × (after.tables ≡ between)) ⊎ ((plan : JobPlan) × IsLevelPlan cmp between level plan × ReplacesInputs plan between after.tables)
   pub idle : after.job ≡ None
 
 -- No entry is in memory alone, and no memory table is sealed.
-pub record HasNoMemory {K : Type 0} {g : _} (db : Held K g) : Type 0 where
+pub record HasNoMemory {K : Type 0} {g : _} (db : OpenDb K g) : Type 0 where
   pub current : db.memory.current.inserts ≡ []
   pub sealed : db.memory.sealed ≡ None
 
 -- So it is, and all tables stand in the last level.
-pub record IsAllCompacted {K : Type 0} {g : _} (db : Held K g) : Type 0 where
+pub record IsAllCompacted {K : Type 0} {g : _} (db : OpenDb K g) : Type 0 where
   pub memory : HasNoMemory db
   pub levels : (level : ℕ) → level < 6 → tables_at level db.tables ≡ []
-
--- ---- the machine
-
--- one number more may be drawn where it was refused
-abbrev pub beyond : {T : Type 0} → Result T DbError → ℕ
-beyond (Ok done) = 0
-beyond (Err e) = 1
-
--- It draws as many numbers as there are entries at most.
-abbrev pub EndsJob : {T : Type 0} → Machine → Result T DbError → Machine → Type 0
-EndsJob m result n = IsPiece m (entry_count m + beyond result) result n
-
--- It draws no more numbers than entries came, and all that came are no more than there are.
-pub record HasCome {T K : Type 0} {g : _} (budget : ℕ) (before : Held K g) (m : Machine) (result : Result T DbError) (n : Machine) : Type 0 where
-  pub came : ℕ
-  pub most : came ≤ max budget 1
-  pub piece : IsPiece m came result n
-  pub within : MatchOption before.job (Unit {0}) (λ work. shown (work.merged + came) ≤ entry_count m)

@@ -8,8 +8,7 @@ use Rattle.memtables.specs.Memories.{Memories, older_at}
 use Rattle.running_job.specs.declared.open_job.OpenJob.{OpenJob}
 use Rattle.db_cursor.specs.Scans.{reads_memory, tables_of}
 use Rattle.db_cursor.specs.declared.scan.Scan.{Scan}
-use Rattle.table_access.specs.Tables.{Seen, KeepsOf}
-use Rattle.versions.specs.Keeping.{HasNumber}
+use Rattle.versions.specs.Levels.{HasNumber}
 
 -- one of the open iterators is so
 abbrev pub AnyIterator : {K : Type 0} {g : _} → BTreeMap ℕ (Scan K g) → (Scan K g → Type 0) → Type 0
@@ -34,7 +33,3 @@ IsMemoryUsed iterators generation = AnyIterator iterators (λ scan. reads_memory
 -- beside the current memory table none is there but the sealed one and those that open iterators read
 abbrev pub HasUsedMemory : {K : Type 0} {g : _} → Memories → BTreeMap ℕ (Scan K g) → Type 0
 HasUsedMemory memory iterators = (generation : ℕ) → ((memory.sealed ≡ Some generation) ⊎ IsMemoryUsed iterators generation → ⊥) → older_at memory.older generation ≡ None
-
--- what is kept anew of tables is of those of such numbers
-abbrev pub Gathers : (ℕ → Type 0) → Seen → Seen → Type 0
-Gathers numbers old new = (number : ℕ) → KeepsOf new number → KeepsOf old number ⊎ numbers number

@@ -1,5 +1,5 @@
 -- What a compaction of all tables leaves of their entries (LevelDB's doc/impl.md, "Compactions").
-use Rattle.std.specs.Prelude.{◌≡◌, ℕ, Bool, false, IsTrue, List, [], ◌∷◌, Contains, MatchOption}
+use Rattle.std.specs.Prelude.{◌≡◌, ℕ, Bool, false, IsTrue, List, [], ◌∷◌, Contains}
 use Rattle.std.specs.Map.{values_of}
 use Rattle.compact.specs.Laws.{ArePairsOf}
 use Rattle.compact.specs.Needed.{AreNeeded}
@@ -10,16 +10,16 @@ use Rattle.recover.specs.Tables.{tabled}
 use Rattle.table_access.specs.Tables.{Seen}
 use Rattle.store.specs.Files.{Files}
 use Rattle.engine.specs.declared.ids.Ids.{Ids}
-use Rattle.engine.specs.Held.{Held}
+use Rattle.engine.specs.OpenDb.{OpenDb}
 use Rattle.machine.specs.Machine.{Machine, current}
-use Rattle.engine.specs.Stands.{StandsOpen}
+use Rattle.engine.specs.internal.Standing.{StandsOpen}
 
 -- the sequences that are read at: the last one used, and those of the live snapshots
-abbrev pub live_sequences : {K : Type 0} {g : _} → Held K g → List ℕ
+abbrev pub live_sequences : {K : Type 0} {g : _} → OpenDb K g → List ℕ
 live_sequences db = db.memory.last ∷ values_of db.snapshots.entries
 
 -- The compaction keeps the views of exactly those sequences.
-pub record IsForLive {K : Type 0} {g : _} (work : OpenJob K g) (db : Held K g) : Type 0 where
+pub record IsForLive {K : Type 0} {g : _} (work : OpenJob K g) (db : OpenDb K g) : Type 0 where
   pub each : (sequence : ℕ) → Contains (live_sequences db) sequence → Contains work.job.selection.snapshots sequence
   pub only : (sequence : ℕ) → Contains work.job.selection.snapshots sequence → Contains (live_sequences db) sequence
 
@@ -36,27 +36,10 @@ pub record HasNeeded (order : Order) (files : Files) (sequences : List ℕ) : Ty
   pub needed : AreNeeded (tabled directory.tables) sequences none_below (tabled directory.tables)
 
 -- So it is for the sequences that are read at; and without a snapshot the entries are the pairs of the machine's map, one put each.
-pub record HasOnlyNeeded {K : Type 0} {g : _} (order : Order) (files : Files) (db : Held K g) (m : Machine) : Type 0 where
+pub record HasOnlyNeeded {K : Type 0} {g : _} (order : Order) (files : Files) (db : OpenDb K g) (m : Machine) : Type 0 where
   pub tables : HasNeeded order files (live_sequences db)
   pub pairs : m.snapshots ≡ [] → ArePairsOf (current m) (tabled tables.directory.tables)
 
 -- While the store is faithful, that is what a call leaves, for each state of the machine that the database could be in before.
-abbrev pub LeavesNeeded : {K : Type 0} {g : _} → Order → Seen → Seen → Held K g → Held K g → Type 0
+abbrev pub LeavesNeeded : {K : Type 0} {g : _} → Order → Seen → Seen → OpenDb K g → OpenDb K g → Type 0
 LeavesNeeded order old new before after = IsTrue new.facts.faithful → (ids : Ids) (m : Machine) → StandsOpen order old ids before m → HasOnlyNeeded order new.facts.files after m
-
--- ---- how it comes about
-
--- the same of the tables alone, as the end of a job leaves it
-abbrev pub EndsNeeded : {K : Type 0} {g : _} → Order → Seen → Seen → Held K g → Held K g → Type 0
-EndsNeeded order old new before after = IsTrue new.facts.faithful → (ids : Ids) (m : Machine) → StandsOpen order old ids before m → HasNeeded order new.facts.files (live_sequences after)
-
--- The job takes all tables of the version into the last level, and keeps what is seen at no other sequences than are read at.
-pub record TakesAll {K : Type 0} {g : _} (db : Held K g) (work : OpenJob K g) : Type 0 where
-  pub inputs : work.job.plan.inputs.items ≡ db.tables
-  pub output : work.job.plan.output_level ≡ 6
-  pub version : work.version.value.tables ≡ db.tables
-  pub sequences : (sequence : ℕ) → Contains work.job.selection.snapshots sequence → Contains (live_sequences db) sequence
-
--- such a job is under way
-abbrev pub IsTakingAll : {K : Type 0} {g : _} → Held K g → Type 0
-IsTakingAll db = MatchOption db.job ⊥ (TakesAll db)

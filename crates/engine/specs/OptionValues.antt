@@ -18,3 +18,14 @@ AreInRange o =
     × (1 ≤ o.level0_files) × (o.level0_files ≤ 1024)
     × (1 ≤ o.base_bytes) × (o.base_bytes ≤ 2 ^ 40)
     × (1 ≤ o.cache_blocks) × (o.cache_blocks ≤ 65536)
+
+-- LevelDB's defaults (include/leveldb/options.h and db/dbformat.h), with a cache of 1,024 blocks
+abbrev pub default_values : OptionValues
+default_values = record {
+  write_buffer = 4194304;
+  block_bytes = 4096;
+  file_bytes = 2097152;
+  level0_files = 4;
+  base_bytes = 10485760;
+  cache_blocks = 1024;
+}

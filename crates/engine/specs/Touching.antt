@@ -9,8 +9,8 @@ use Rattle.machine.specs.declared.command.Op.{Op}
 use Rattle.machine.specs.declared.command.Op.TheVariants.{Open, Write, Work, CompactLevel, CompactAll, Close}
 use Rattle.machine.specs.declared.command.Answer.{Answer}
 use Rattle.machine.specs.declared.command.Answer.TheVariants.{Refused}
-use Rattle.engine.specs.Held.{Held}
-use Rattle.engine.specs.Durable.{SyncsOnly, IsSynced, KeepsForeign, LeavesDurable, LeavesFile}
+use Rattle.engine.specs.OpenDb.{OpenDb}
+use Rattle.opening.specs.Durable.{SyncsOnly, IsSynced, KeepsForeign, LeavesDurable, LeavesFile}
 
 -- whether it was refused
 abbrev pub unit_result : Answer → Result (Unit {0}) DbError
@@ -36,7 +36,7 @@ abbrev pub AsksSync : List Operation → Bool → Type 0
 AsksSync operations sync = (sync ≡ true) × (operations ≢ [])
 
 -- the name of the log that an open database writes to
-abbrev pub log_of : {K : Type 0} {g : _} → Option (Held K g) → List ℕ
+abbrev pub log_of : {K : Type 0} {g : _} → Option (OpenDb K g) → List ℕ
 log_of None = []
 log_of (Some state) = string_bytes state.log.name
 
@@ -84,22 +84,22 @@ pub record OpensStore {T : Type 0} (old new : Facts) (result : Result T DbError)
   pub durable : LeavesDurable old new result
   pub foreign : IsTrue new.faithful → KeepsForeign old new
 
-abbrev pub OpenTouches : {K : Type 0} {g : _} → Option (Held K g) → Facts → Facts → Answer → Type 0
+abbrev pub OpenTouches : {K : Type 0} {g : _} → Option (OpenDb K g) → Facts → Facts → Answer → Type 0
 OpenTouches None old new answer = OpensStore old new (unit_result answer)
 OpenTouches (Some state) old new answer = LeavesStore old new
 
-abbrev pub CloseTouches : {K : Type 0} {g : _} → Option (Held K g) → Facts → Facts → Type 0
+abbrev pub CloseTouches : {K : Type 0} {g : _} → Option (OpenDb K g) → Facts → Facts → Type 0
 CloseTouches None old new = LeavesStore old new
 CloseTouches (Some state) old new = ClosesStore old new
 
-abbrev pub WriteTouches : {K : Type 0} {g : _} → List Operation → Bool → Option (Held K g) → Facts → Facts → Answer → Type 0
+abbrev pub WriteTouches : {K : Type 0} {g : _} → List Operation → Bool → Option (OpenDb K g) → Facts → Facts → Answer → Type 0
 WriteTouches operations sync state old new answer = SyncsLog (AsksSync operations sync) sync (log_of state) old new (unit_result answer)
 
 -- work and compactions leave the lock
-abbrev pub WorkTouches : {K : Type 0} {g : _} → Option (Held K g) → Facts → Facts → Answer → Type 0
+abbrev pub WorkTouches : {K : Type 0} {g : _} → Option (OpenDb K g) → Facts → Facts → Answer → Type 0
 WorkTouches state old new answer = new.locked ≡ old.locked
 
-abbrev pub Touches : {K : Type 0} {g : _} → Op → Option (Held K g) → Facts → Facts → Answer → Type 0
+abbrev pub Touches : {K : Type 0} {g : _} → Op → Option (OpenDb K g) → Facts → Facts → Answer → Type 0
 Touches (Open mode) state old new answer = OpenTouches state old new answer
 Touches (Write operations sync) state old new answer = WriteTouches operations.items sync state old new answer
 Touches (Work budget) state old new answer = WorkTouches state old new answer

@@ -1,66 +1,33 @@
 -- What a piece of work does to the machine.
-use Rattle.std.specs.Prelude.{◌≡◌, ◌⊎◌, ◌<◌, ◌≤◌, ◌+◌, ℕ, Bool, true, if◌then◌else◌, Some, None, IsSome, MatchOption, max, List, [], Contains, Result, Ok, Err, MatchResult}
-use Rattle.cache.specs.Tables.{KeptTable}
+use Rattle.std.specs.Prelude.{◌≡◌, ◌⊎◌, ◌<◌, ◌≤◌, ◌+◌, ℕ, true, Some, None, IsSome, MatchOption, max, List, [], Result, Ok, Err}
 use Rattle.coding.specs.declared.error.DbError.{DbError}
 use Rattle.cursor.specs.Places.{Cmp}
-use Rattle.coding.specs.declared.error.DbError.TheVariants as error
 use Rattle.edits.specs.Layout.{inserted}
 use Rattle.edits.specs.declared.field.TableFile.{TableFile}
-use Rattle.memtables.specs.Memories.{Memories, sealed_inserts}
+use Rattle.memtables.specs.Memories.{sealed_inserts}
 use Rattle.memtable.specs.Contents.{size_of}
-use Rattle.versions.specs.Levels.{Lists}
+use Rattle.versions.specs.Levels.{ListsSameTables}
 use Rattle.versions.specs.Plans.{IsPicked, Needs}
 use Rattle.std.specs.FinMap.{contains_key, get}
 use Rattle.edits.specs.Names.{IsFileName, name_of}
 use Rattle.edits.specs.declared.names.FileName.{FileName}
 use Rattle.store.specs.Files.{Facts, Files}
-use Rattle.directory_writes.specs.Install.{Replaces}
+use Rattle.directory_writes.specs.Replacing.{ReplacesInputs}
 use Rattle.directory_writes.specs.Removal.{IsDead, IsLiveFile}
 use Rattle.versions.specs.declared.live.LiveNumbers.{LiveNumbers}
 use Rattle.versions.specs.declared.plan.JobPlan.{JobPlan}
-use Rattle.engine.specs.declared.directory.DirectoryState.{DirectoryState}
-use Rattle.engine.specs.Durable.{LeavesFile}
-use Rattle.engine.specs.Held.{Held, version_of}
+use Rattle.opening.specs.declared.directory.DirectoryState.{DirectoryState}
+use Rattle.opening.specs.Durable.{LeavesFile}
+use Rattle.engine.specs.OpenDb.{OpenDb, version_of}
 use Rattle.engine.specs.InUse.{IsTableUsed}
 use Rattle.engine.specs.Needed.{IsForLive}
 use Rattle.engine.specs.OptionValues.{OptionValues}
 use Rattle.running_job.specs.Running.{shown}
 use Rattle.running_job.specs.declared.open_job.OpenJob.{OpenJob}
-use Rattle.directory_writes.specs.declared.flush.FlushError.{FlushError}
-use Rattle.directory_writes.specs.declared.flush.FlushError.TheVariants.{Before, Edit}
 use Rattle.machine.specs.declared.command.Answer.{Answer}
 use Rattle.machine.specs.declared.command.Answer.TheVariants.{Worked, Idle, Refused}
-use Rattle.engine.specs.declared.state.DbState.{DbState}
 use Rattle.engine.specs.declared.work.Progress.{Progress}
 use Rattle.engine.specs.declared.work.Progress.TheVariants as progress
-use Rattle.machine.specs.Machine.{Machine}
-use Rattle.machine.specs.Upkeep.{Draws, UpkeepRefused}
-
--- It draws so many numbers at most, and changes nothing else, or is refused.
-pub record IsPiece {T : Type 0} (old : Machine) (most : ℕ) (result : Result T DbError) (new : Machine) : Type 0 where
-  pub failures : old.failures ≤ new.failures
-  pub denials : new.denials ≡ old.denials
-  pub what : MatchResult result (λ done. Draws old most new) (λ e. UpkeepRefused old most e new)
-
--- What a piece may be refused with. Corrupt comes only of a store that isn't faithful.
-abbrev pub MayRefusePiece : DbError → Type 0
-MayRefusePiece error.OutOfMemory = Unit {0}
-MayRefusePiece error.Io = Unit {0}
-MayRefusePiece (error.Corrupt file what) = Unit {0}
-MayRefusePiece (error.Unsupported what) = Unit {0}
-MayRefusePiece error.NumbersSpent = Unit {0}
-MayRefusePiece _ = ⊥
-
--- Want of memory is answered as a failure of the store where a file couldn't be removed either.
-abbrev pub refused_as : Bool → DbError → DbError
-refused_as complete error.OutOfMemory = if complete then error.OutOfMemory else error.Io
-refused_as complete e = e
-
--- The current and the sealed table have the same entries, and what is sealed is so still.
-pub record IsSameMemory (old new : Memories) : Type 0 where
-  pub current : new.current ≡ old.current
-  pub sealed : new.sealed ≡ old.sealed
-  pub sealed_are : sealed_inserts new ≡ sealed_inserts old
 
 -- ---- which piece it is
 
@@ -70,22 +37,22 @@ IsFurther work merged more = (more.job.plan ≡ work.job.plan) × (more.merged �
 
 -- A compaction was under way. As many entries more of its inputs came as the budget has, one for 0, and it is under way still, with the
 -- tables as they were; or all came, and its outputs are in the place of its inputs.
-pub record GoesOn {K : Type 0} {g : _} (budget : ℕ) (before after : Held K g) : Type 0 where
+pub record GoesOn {K : Type 0} {g : _} (budget : ℕ) (before after : OpenDb K g) : Type 0 where
   pub work : OpenJob K g
   pub was : before.job ≡ Some work
-  pub on : MatchOption after.job (Replaces work.job.plan before.tables after.tables) (λ more. IsFurther work (max budget 1) more × (after.tables ≡ before.tables))
+  pub on : MatchOption after.job (ReplacesInputs work.job.plan before.tables after.tables) (λ more. IsFurther work (max budget 1) more × (after.tables ≡ before.tables))
 
 -- None was, and the sealed memory table has become a table of level 0, unless it was empty.
-pub record WritesTable {K : Type 0} {g : _} (before after : Held K g) : Type 0 where
+pub record WritesTable {K : Type 0} {g : _} (before after : OpenDb K g) : Type 0 where
   pub idle : before.job ≡ None
   pub was : IsSome before.memory.sealed
   pub gone : after.memory.sealed ≡ None
   pub current : after.memory.current ≡ before.memory.current
   pub still : after.job ≡ None
-  pub table : (sealed_inserts before.memory ≡ []) ⊎ ((table : TableFile) × Lists (inserted (record { level = 0; table = table }) before.tables) after.tables)
+  pub table : (sealed_inserts before.memory ≡ []) ⊎ ((table : TableFile) × ListsSameTables (inserted (record { level = 0; table = table }) before.tables) after.tables)
 
 -- Nor was anything sealed. The memory table is, and an empty one has taken its place, with a log of its own.
-pub record SealsMemory {K : Type 0} {g : _} (before after : Held K g) : Type 0 where
+pub record SealsMemory {K : Type 0} {g : _} (before after : OpenDb K g) : Type 0 where
   pub idle : before.job ≡ None
   pub none : before.memory.sealed ≡ None
   pub sealed : sealed_inserts after.memory ≡ before.memory.current.inserts
@@ -96,35 +63,35 @@ pub record SealsMemory {K : Type 0} {g : _} (before after : Held K g) : Type 0 w
   pub begins : after.log.end ≡ 0
 
 -- No compaction is under way, nothing is sealed, and the memory table has fewer bytes than it may.
-pub record IsAtEase {K : Type 0} {g : _} (options : OptionValues) (db : Held K g) : Type 0 where
+pub record IsAtEase {K : Type 0} {g : _} (options : OptionValues) (db : OpenDb K g) : Type 0 where
   pub idle : db.job ≡ None
   pub none : db.memory.sealed ≡ None
   pub small : size_of db.memory.current.inserts < options.write_buffer
 
 -- this level of the version wants a compaction
-abbrev pub WantsCompaction : {K : Type 0} {g : _} → OptionValues → Held K g → ℕ → Type 0
+abbrev pub WantsCompaction : {K : Type 0} {g : _} → OptionValues → OpenDb K g → ℕ → Type 0
 WantsCompaction options db level = (level < 6) × Needs options.level0_files options.base_bytes db.tables level
 
 -- The compaction that is most wanted was begun. So many entries of its inputs came, and it keeps the views that are read at, and no
 -- others; or all came, and its outputs are in the place of its inputs.
-pub record BeginsJob {K : Type 0} {g : _} (cmp : Cmp) (options : OptionValues) (budget : ℕ) (before after : Held K g) : Type 0 where
+pub record BeginsJob {K : Type 0} {g : _} (cmp : Cmp) (options : OptionValues) (budget : ℕ) (before after : OpenDb K g) : Type 0 where
   pub plan : JobPlan
   pub picked : IsPicked cmp options.level0_files options.base_bytes (version_of before) plan
-  pub begun : MatchOption after.job (Replaces plan before.tables after.tables) (λ work. (work.job.plan ≡ plan) × (work.merged ≡ shown (max budget 1)) × IsForLive work before × (after.tables ≡ before.tables))
+  pub begun : MatchOption after.job (ReplacesInputs plan before.tables after.tables) (λ work. (work.job.plan ≡ plan) × (work.merged ≡ shown (max budget 1)) × IsForLive work before × (after.tables ≡ before.tables))
 
 -- That is so where nothing else was to be done.
-pub record Begins {K : Type 0} {g : _} (cmp : Cmp) (options : OptionValues) (budget : ℕ) (before after : Held K g) : Type 0 where
+pub record Begins {K : Type 0} {g : _} (cmp : Cmp) (options : OptionValues) (budget : ℕ) (before after : OpenDb K g) : Type 0 where
   pub ease : IsAtEase options before
   pub job : BeginsJob cmp options budget before after
 
 -- Where it is, and no level wants a compaction, there is no work.
-pub record HasNoWork {K : Type 0} {g : _} (options : OptionValues) (db : Held K g) : Type 0 where
+pub record HasNoWork {K : Type 0} {g : _} (options : OptionValues) (db : OpenDb K g) : Type 0 where
   pub ease : IsAtEase options db
   pub unwanted : (level : ℕ) → WantsCompaction options db level → ⊥
 
 -- Work goes on with the compaction under way; writes a table where one is sealed; seals the memory table where that is full; begins the
 -- compaction that is most wanted; and else there is none.
-abbrev pub DoesWork : {K : Type 0} {g : _} → Cmp → OptionValues → ℕ → Held K g → Held K g → Result Progress DbError → Type 0
+abbrev pub DoesWork : {K : Type 0} {g : _} → Cmp → OptionValues → ℕ → OpenDb K g → OpenDb K g → Result Progress DbError → Type 0
 DoesWork cmp options budget before after (Ok progress.Worked) =
     GoesOn budget before after ⊎ WritesTable before after ⊎ ((options.write_buffer ≤ size_of before.memory.current.inserts) × SealsMemory before after) ⊎ Begins cmp options budget before after
 DoesWork cmp options budget before after (Ok progress.Idle) = HasNoWork options before × HasNoWork options after
@@ -138,16 +105,16 @@ numbers_of state = record { manifest_number = state.manifest.number; log_number 
 
 -- `CURRENT`, the lock, the MANIFEST, a log that the directory reads, or a table of the version, of that of an open iterator, or of the
 -- compaction under way
-abbrev pub IsLiveIn : {K : Type 0} {g : _} → Held K g → FileName → Type 0
+abbrev pub IsLiveIn : {K : Type 0} {g : _} → OpenDb K g → FileName → Type 0
 IsLiveIn db file = IsLiveFile (numbers_of db.directory) (λ number. IsTableUsed db.tables db.job db.iterators number) file
 
 -- Each file of a known shape is live.
-abbrev pub HasLiveOnly : {K : Type 0} {g : _} → Files → Held K g → Type 0
+abbrev pub HasLiveOnly : {K : Type 0} {g : _} → Files → OpenDb K g → Type 0
 HasLiveOnly files db = (file : FileName) → IsFileName file → contains_key files (name_of file) ≡ true → IsLiveIn db file
 
 -- Each file, and what of it is synced, is as before; or it is of a known shape and not live, and is gone. So live files and files of
 -- other programs stay.
-abbrev pub LosesDead : {K : Type 0} {g : _} → Facts → Facts → Held K g → Type 0
+abbrev pub LosesDead : {K : Type 0} {g : _} → Facts → Facts → OpenDb K g → Type 0
 LosesDead old new db = (name : List ℕ) → LeavesFile old new name ⊎ (IsDead (IsLiveIn db) name × (get new.files name ≡ None))
 
 -- ---- answers
@@ -159,20 +126,3 @@ progress_answer progress.Idle = Idle
 abbrev pub work_answer : Result Progress DbError → Answer
 work_answer (Ok done) = progress_answer done
 work_answer (Err e) = Refused e
-
--- a failure of the store at the edit is one too
-abbrev pub flush_answer : FlushError → DbError
-flush_answer (Before e) = e
-flush_answer Edit = error.Io
-
--- A failure of the store in a call that changes the directory breaks the database.
-abbrev pub broken_by : {K : Type 0} {g : _} → DbState K g → DbError → DbState K g
-broken_by state error.Io = record state { broken = true }
-broken_by state _ = state
-
--- ---- what is kept of tables
-
--- Nothing more is kept, and nothing under these numbers.
-pub record ClosesTables (old new : List KeptTable) (numbers : List ℕ) : Type 0 where
-  pub kept : (kept : KeptTable) → Contains new kept → Contains old kept
-  pub closed : (kept : KeptTable) → Contains new kept → Contains numbers kept.number → ⊥

@@ -4,7 +4,7 @@ use Rattle.std.specs.List.Sorted.{IsPermutation}
 use Rattle.cache.specs.Tables.{table_at}
 use Rattle.coding.specs.declared.error.DbError.{DbError}
 use Rattle.compact.specs.Needed.{AreNeeded}
-use Rattle.directory_writes.specs.Compactions.{placed_in}
+use Rattle.directory_writes.specs.Replacing.{placed_in}
 use Rattle.edits.specs.declared.field.PlacedTable.{PlacedTable}
 use Rattle.ikey.specs.Orders.{Order}
 use Rattle.ikey.specs.Sources.{SameEntries}
@@ -15,26 +15,26 @@ use Rattle.running_job.specs.Running.{deep_of}
 use Rattle.running_job.specs.declared.open_job.OpenJob.{OpenJob}
 use Rattle.store.specs.Files.{Files}
 use Rattle.table_access.specs.Tables.{Seen}
-use Rattle.versions.specs.Keeping.{HasNumber}
+use Rattle.versions.specs.Levels.{HasNumber}
 use Rattle.versions.specs.Levels.{tables_at}
 use Rattle.versions.specs.Plans.{IsLevelPlan}
 use Rattle.versions.specs.declared.plan.JobPlan.{JobPlan}
 use Rattle.engine.specs.declared.ids.Ids.{Ids}
 use Rattle.engine.specs.declared.work.Progress.{Progress}
 use Rattle.engine.specs.declared.work.Progress.TheVariants.{Worked}
-use Rattle.engine.specs.Held.{Held}
+use Rattle.engine.specs.OpenDb.{OpenDb}
 use Rattle.engine.specs.Needed.{IsForLive}
 use Rattle.machine.specs.Machine.{Machine}
-use Rattle.engine.specs.Stands.{StandsOpen}
+use Rattle.engine.specs.internal.Standing.{StandsOpen}
 
 -- The files of the tables of the version are as before.
-abbrev pub KeepsTableFiles : {K : Type 0} {g : _} → Order → Seen → Seen → Held K g → Type 0
+abbrev pub KeepsTableFiles : {K : Type 0} {g : _} → Order → Seen → Seen → OpenDb K g → Type 0
 KeepsTableFiles order old new before = (ids : Ids) (m : Machine) → StandsOpen order old ids before m → (number : ℕ) → HasNumber number before.tables → table_at new.facts.files number ≡ table_at old.facts.files number
 
 -- ---- of a memory table
 
 -- The version has a table of level 0 under the number that was next, whose file has exactly these entries.
-pub record HasFlushed {K : Type 0} {g : _} (order : Order) (files : Files) (entries : List Entry) (before after : Held K g) : Type 0 where
+pub record HasFlushed {K : Type 0} {g : _} (order : Order) (files : Files) (entries : List Entry) (before after : OpenDb K g) : Type 0 where
   pub content : TableContent
   pub level : content.placed.level ≡ 0
   pub number : content.placed.table.number ≡ before.directory.numbers.next
@@ -43,19 +43,19 @@ pub record HasFlushed {K : Type 0} {g : _} (order : Order) (files : Files) (entr
   pub entries_are : SameEntries content.entries entries
 
 -- While the store is faithful, so it is of the entries of the sealed memory table, unless there are none.
-abbrev pub PutsSealed : {K : Type 0} {g : _} → Order → Seen → Seen → Held K g → Held K g → Type 0
+abbrev pub PutsSealed : {K : Type 0} {g : _} → Order → Seen → Seen → OpenDb K g → OpenDb K g → Type 0
 PutsSealed order old new before after =
     IsTrue new.facts.faithful → (ids : Ids) (m : Machine) → StandsOpen order old ids before m → (sealed_inserts before.memory ≡ []) ⊎ HasFlushed order new.facts.files (sealed_inserts before.memory) before after
 
 -- So it is behind a call of work in front of which a memory table was sealed, and no compaction under way.
-abbrev pub FlushesSealed : {K : Type 0} {g : _} → Order → Seen → Seen → Held K g → Held K g → Result Progress DbError → Type 0
+abbrev pub FlushesSealed : {K : Type 0} {g : _} → Order → Seen → Seen → OpenDb K g → OpenDb K g → Result Progress DbError → Type 0
 FlushesSealed order old new before after result = result ≡ Ok Worked → before.job ≡ None → IsSome before.memory.sealed → PutsSealed order old new before after
 
 -- ---- of a compaction
 
 -- Tables of its output level have come in the place of its inputs. Their files have exactly those of the inputs' entries that must be kept
 -- for its sequences.
-pub record HasMerged {K : Type 0} {g : _} (order : Order) (old new : Files) (work : OpenJob K g) (before after : Held K g) : Type 0 where
+pub record HasMerged {K : Type 0} {g : _} (order : Order) (old new : Files) (work : OpenJob K g) (before after : OpenDb K g) : Type 0 where
   pub inputs : List TableContent
   pub outputs : List TableContent
   pub planned : IsPermutation work.job.plan.inputs.items (placed_in inputs)
@@ -67,19 +67,19 @@ pub record HasMerged {K : Type 0} {g : _} (order : Order) (old new : Files) (wor
   pub needed : AreNeeded entries work.job.selection.snapshots (deep_of order.cmp work) (tabled outputs)
 
 -- While the store is faithful, that is what the compaction under way has become.
-abbrev pub PutsMerged : {K : Type 0} {g : _} → Order → Seen → Seen → Held K g → Held K g → Type 0
+abbrev pub PutsMerged : {K : Type 0} {g : _} → Order → Seen → Seen → OpenDb K g → OpenDb K g → Type 0
 PutsMerged order old new before after =
     MatchOption before.job ⊥ (λ work. IsTrue new.facts.faithful → (ids : Ids) (m : Machine) → StandsOpen order old ids before m → HasMerged order old.facts.files new.facts.files work before after)
 
 -- While the store is faithful: the call came through a state in which the compaction of this plan had just begun, for the sequences that are
 -- read at, and that is what it has become.
-abbrev pub MergesPlan : {K : Type 0} {g : _} → Order → JobPlan → Seen → Seen → Held K g → Held K g → Type 0
+abbrev pub MergesPlan : {K : Type 0} {g : _} → Order → JobPlan → Seen → Seen → OpenDb K g → OpenDb K g → Type 0
 MergesPlan {K} {g} order plan old new before after =
-    IsTrue new.facts.faithful → (between : Seen) × (mid : Held K g) × ((ids : Ids) (m : Machine) → StandsOpen order old ids before m → (n : Machine) × StandsOpen order between ids mid n)
+    IsTrue new.facts.faithful → (between : Seen) × (mid : OpenDb K g) × ((ids : Ids) (m : Machine) → StandsOpen order old ids before m → (n : Machine) × StandsOpen order between ids mid n)
     × (mid.tables ≡ before.tables) × MatchOption mid.job ⊥ (λ work. (work.job.plan ≡ plan) × IsForLive work before) × PutsMerged order between new mid after
 
 -- So it is of a compaction of a level, unless the level had no table. The one under way, if one was, had come to its end in front of it.
-abbrev pub MergesLevel : {K : Type 0} {g : _} → Order → ℕ → Seen → Seen → Held K g → Held K g → Type 0
+abbrev pub MergesLevel : {K : Type 0} {g : _} → Order → ℕ → Seen → Seen → OpenDb K g → OpenDb K g → Type 0
 MergesLevel {K} {g} order level old new before after =
-    IsTrue new.facts.faithful → (between : Seen) × (mid : Held K g) × ((ids : Ids) (m : Machine) → StandsOpen order old ids before m → (n : Machine) × StandsOpen order between ids mid n)
+    IsTrue new.facts.faithful → (between : Seen) × (mid : OpenDb K g) × ((ids : Ids) (m : Machine) → StandsOpen order old ids before m → (n : Machine) × StandsOpen order between ids mid n)
     × (IsSome before.job → PutsMerged order old between before mid) × ((tables_at level mid.tables ≡ []) ⊎ ((plan : JobPlan) × IsLevelPlan order.cmp mid.tables level plan × MergesPlan order plan between new mid after))

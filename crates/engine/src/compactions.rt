@@ -1,7 +1,7 @@
 //! Compactions of a whole level, or of all tables, in one call (LevelDB's db/db_impl.cc, DBImpl::CompactRange and
 //! DBImpl::TEST_CompactRange).
 
-ghost use Rattle.std.specs.Prelude.{◌≡◌, ◌<◌, ℕ, ◌+◌, None, Some, IsSome, false, MatchOption, OnOk};
+ghost use Rattle.std.specs.Prelude.{◌≡◌, ◌<◌, None, Some, IsSome, false, MatchOption, OnOk};
 ghost use Rattle.ikey.specs.Orders.{order_of};
 
 use crate::options::Options;
@@ -15,20 +15,23 @@ use store::Store;
 use versions::{JobPlan, plans_of_tables};
 
 impl<K: KeyOrder> DbState<K> {
-    ghost use Rattle.engine.specs.declared.ids.Ids.{Ids};
-    ghost use Rattle.engine.specs.Causes.{IsCausedIn, broken_in, level_refusal};
-    ghost use Rattle.engine.specs.Finishing.{EndsJob, HasNoMemory, IsAllCompacted, IsLevelEmpty, MovesLevel};
-    ghost use Rattle.engine.specs.Needed.{EndsNeeded, IsTakingAll, LeavesNeeded};
+    ghost use Rattle.engine.specs.Causes.{IsCausedIn, open_status};
+    ghost use Rattle.engine.specs.Stands.{no_ids};
+    ghost use Rattle.machine.specs.Causes.{level_cause, not_serving};
+    ghost use Rattle.engine.specs.internal.JobsToEnd.{EndsJob};
+    ghost use Rattle.engine.specs.Finishing.{HasNoMemory, IsAllCompacted, IsLevelEmpty, MovesLevel};
+    ghost use Rattle.engine.specs.internal.TakingAll.{EndsNeeded, IsTakingAll};
+    ghost use Rattle.engine.specs.Needed.{LeavesNeeded};
     ghost use Rattle.engine.specs.Outcomes.{MayRefuseLevel, MayRefuseWork};
     ghost use Rattle.engine.specs.Follows.{unit_answer};
-    ghost use Rattle.engine.specs.Lent.{LeadsLent, ServesLent, CompactLent};
-    ghost use Rattle.engine.specs.Held.{held};
+    ghost use Rattle.engine.specs.internal.Lent.{LeadsLent, ServesLent, CompactLent};
+    ghost use Rattle.engine.specs.OpenDb.{open_db};
     ghost use Rattle.db_cursor.specs.Whole.{seen_of};
     ghost use Rattle.machine.specs.Upkeep.{CompactsAll, CompactsLevel, most_drawn};
-    ghost use Rattle.engine.specs.Working.{IsPiece, MayRefusePiece};
+    ghost use Rattle.engine.specs.internal.Pieces.{IsPiece, MayRefusePiece};
     ghost use Rattle.engine.specs.WrittenTables.{MergesLevel, MergesPlan, PutsMerged};
     ghost use Rattle.memtables.specs.Places.{LeavesMemories};
-    ghost use Rattle.directory_writes.specs.Install.{Replaces};
+    ghost use Rattle.directory_writes.specs.Replacing.{ReplacesInputs};
     ghost use Rattle.versions.specs.Plans.{IsPlanOf, IsWholePlan};
 
     /// Brings the compaction under way to its end, and then compacts all tables of a level, with those of the next one whose keys meet
@@ -43,13 +46,15 @@ impl<K: KeyOrder> DbState<K> {
         ensures step { LeadsLent (order_of K.name K.cmp) S.facts source.old self.old source.new self.new
             (λ m n. CompactsLevel m level (unit_answer result) n) }
         ensures outcome { CompactLent MayRefuseLevel S.facts source.old self.old source.new self.new result }
-        ensures caused { IsCausedIn (level_refusal
-            (held source.old.memory self.old) level) source.old.tables.store source.new.tables.store result }
-        ensures emptied { OnOk result (IsLevelEmpty level (held source.new.memory self.new)) }
-        ensures moves { OnOk result (MovesLevel K.cmp level (held source.old.memory self.old) (held source.new.memory self.new)) }
+        ensures caused { IsCausedIn (level_cause
+            (open_status no_ids (open_db source.old.memory self.old)) level) source.old.tables.store source.new.tables.store result }
+        // Done or refused, over any store: no entry of a memory table is touched.
+        ensures memory { LeavesMemories source.old.memory source.new.memory }
+        ensures emptied { OnOk result (IsLevelEmpty level (open_db source.new.memory self.new)) }
+        ensures moves { OnOk result (MovesLevel K.cmp level (open_db source.old.memory self.old) (open_db source.new.memory self.new)) }
         // While the store is faithful, each entry that must be kept is in what its tables have become, and no other.
         ensures merges { OnOk result (MergesLevel (order_of K.name K.cmp) level (seen_of S.facts source.old) (seen_of S.facts source.new)
-            (held source.old.memory self.old) (held source.new.memory self.new)) }
+            (open_db source.old.memory self.old) (open_db source.new.memory self.new)) }
     {
         if self.broken {
             return Err(DbError::Broken);
@@ -71,11 +76,11 @@ impl<K: KeyOrder> DbState<K> {
         ensures step { LeadsLent (order_of K.name K.cmp) S.facts source.old self.old source.new self.new
             (λ m n. CompactsAll m (unit_answer result) n) }
         ensures outcome { CompactLent MayRefuseWork S.facts source.old self.old source.new self.new result }
-        ensures caused { IsCausedIn (broken_in (held source.old.memory self.old)) source.old.tables.store source.new.tables.store result }
-        ensures compacted { OnOk result (IsAllCompacted (held source.new.memory self.new)) }
+        ensures caused { IsCausedIn (not_serving (open_status no_ids (open_db source.old.memory self.old))) source.old.tables.store source.new.tables.store result }
+        ensures compacted { OnOk result (IsAllCompacted (open_db source.new.memory self.new)) }
         // While the store is faithful, each entry of the tables is one that must be kept.
         ensures needed { OnOk result (LeavesNeeded (order_of K.name K.cmp) (seen_of S.facts source.old) (seen_of S.facts source.new)
-            (held source.old.memory self.old) (held source.new.memory self.new)) }
+            (open_db source.old.memory self.old) (open_db source.new.memory self.new)) }
     {
         if self.broken {
             return Err(DbError::Broken);
@@ -96,10 +101,11 @@ impl<K: KeyOrder> DbState<K> {
         ensures step { LeadsLent (order_of K.name K.cmp) S.facts source.old self.old source.new self.new
             (λ m n. IsPiece m (most_drawn m) result n) }
         ensures outcome { CompactLent MayRefusePiece S.facts source.old self.old source.new self.new result }
-        ensures emptied { OnOk result (IsLevelEmpty level (held source.new.memory self.new)) }
-        ensures moves { OnOk result (MovesLevel K.cmp level (held source.old.memory self.old) (held source.new.memory self.new)) }
+        ensures memory { LeavesMemories source.old.memory source.new.memory }
+        ensures emptied { OnOk result (IsLevelEmpty level (open_db source.new.memory self.new)) }
+        ensures moves { OnOk result (MovesLevel K.cmp level (open_db source.old.memory self.old) (open_db source.new.memory self.new)) }
         ensures merges { OnOk result (MergesLevel (order_of K.name K.cmp) level (seen_of S.facts source.old) (seen_of S.facts source.new)
-            (held source.old.memory self.old) (held source.new.memory self.new)) }
+            (open_db source.old.memory self.old) (open_db source.new.memory self.new)) }
     {
         // Laws, for the proof alone.
         plans_of_tables();
@@ -121,9 +127,9 @@ impl<K: KeyOrder> DbState<K> {
         ensures step { LeadsLent (order_of K.name K.cmp) S.facts source.old self.old source.new self.new
             (λ m n. IsPiece m (most_drawn m) result n) }
         ensures outcome { CompactLent MayRefusePiece S.facts source.old self.old source.new self.new result }
-        ensures compacted { OnOk result (IsAllCompacted (held source.new.memory self.new)) }
+        ensures compacted { OnOk result (IsAllCompacted (open_db source.new.memory self.new)) }
         ensures needed { OnOk result (EndsNeeded (order_of K.name K.cmp) (seen_of S.facts source.old) (seen_of S.facts source.new)
-            (held source.old.memory self.old) (held source.new.memory self.new)) }
+            (open_db source.old.memory self.old) (open_db source.new.memory self.new)) }
     {
         // Laws, for the proof alone.
         plans_of_tables();
@@ -148,7 +154,7 @@ impl<K: KeyOrder> DbState<K> {
         ensures outcome { CompactLent MayRefusePiece S.facts source.old self.old source.new self.new result }
         ensures serves { OnOk result (ServesLent S.facts source.old self.old source.new self.new) }
         ensures none { OnOk result (self.new.job ≡ None) }
-        ensures written { OnOk result (HasNoMemory (held source.new.memory self.new)) }
+        ensures written { OnOk result (HasNoMemory (open_db source.new.memory self.new)) }
     {
         self.write_sealed(alloc, source, options)?;
         if source.memory.is_empty() {
@@ -194,12 +200,12 @@ impl<K: KeyOrder> DbState<K> {
         ensures outcome { CompactLent MayRefusePiece S.facts source.old self.old source.new self.new result }
         ensures memory { LeavesMemories source.old.memory source.new.memory }
         ensures none { OnOk result (self.new.job ≡ None) }
-        ensures done { OnOk result (Replaces plan self.old.version.value.tables self.new.version.value.tables) }
+        ensures done { OnOk result (ReplacesInputs plan self.old.version.value.tables self.new.version.value.tables) }
         ensures needed { OnOk result (IsWholePlan self.old.version.value.tables plan
             → EndsNeeded (order_of K.name K.cmp) (seen_of S.facts source.old) (seen_of S.facts source.new)
-            (held source.old.memory self.old) (held source.new.memory self.new)) }
+            (open_db source.old.memory self.old) (open_db source.new.memory self.new)) }
         ensures merges { OnOk result (MergesPlan (order_of K.name K.cmp) plan (seen_of S.facts source.old) (seen_of S.facts source.new)
-            (held source.old.memory self.old) (held source.new.memory self.new)) }
+            (open_db source.old.memory self.old) (open_db source.new.memory self.new)) }
     {
         self.begin_job(alloc, source, options, plan)?;
         self.run_job_to_end(alloc, source)
@@ -218,13 +224,13 @@ impl<K: KeyOrder> DbState<K> {
         ensures memory { LeavesMemories source.old.memory source.new.memory }
         ensures none { OnOk result (self.new.job ≡ None) }
         ensures done { OnOk result (MatchOption self.old.job (Unit {0})
-            (λ work. Replaces work.job.plan self.old.version.value.tables self.new.version.value.tables)) }
+            (λ work. ReplacesInputs work.job.plan self.old.version.value.tables self.new.version.value.tables)) }
         ensures stays { OnOk result (self.old.job ≡ None → self.new.version.value.tables ≡ self.old.version.value.tables) }
-        ensures needed { OnOk result (IsTakingAll (held source.old.memory self.old)
+        ensures needed { OnOk result (IsTakingAll (open_db source.old.memory self.old)
             → EndsNeeded (order_of K.name K.cmp) (seen_of S.facts source.old) (seen_of S.facts source.new)
-            (held source.old.memory self.old) (held source.new.memory self.new)) }
+            (open_db source.old.memory self.old) (open_db source.new.memory self.new)) }
         ensures merges { OnOk result (IsSome self.old.job → PutsMerged (order_of K.name K.cmp) (seen_of S.facts source.old)
-            (seen_of S.facts source.new) (held source.old.memory self.old) (held source.new.memory self.new)) }
+            (seen_of S.facts source.new) (open_db source.old.memory self.old) (open_db source.new.memory self.new)) }
     {
         if self.job.is_none() {
             return Ok(());
@@ -246,12 +252,12 @@ impl<K: KeyOrder> DbState<K> {
         ensures memory { LeavesMemories source.old.memory source.new.memory }
         ensures none { OnOk result (self.new.job ≡ None) }
         ensures done { OnOk result (MatchOption self.old.job (Unit {0})
-            (λ work. Replaces work.job.plan self.old.version.value.tables self.new.version.value.tables)) }
-        ensures needed { OnOk result (IsTakingAll (held source.old.memory self.old)
+            (λ work. ReplacesInputs work.job.plan self.old.version.value.tables self.new.version.value.tables)) }
+        ensures needed { OnOk result (IsTakingAll (open_db source.old.memory self.old)
             → EndsNeeded (order_of K.name K.cmp) (seen_of S.facts source.old) (seen_of S.facts source.new)
-            (held source.old.memory self.old) (held source.new.memory self.new)) }
+            (open_db source.old.memory self.old) (open_db source.new.memory self.new)) }
         ensures merges { OnOk result (PutsMerged (order_of K.name K.cmp) (seen_of S.facts source.old)
-            (seen_of S.facts source.new) (held source.old.memory self.old) (held source.new.memory self.new)) }
+            (seen_of S.facts source.new) (open_db source.old.memory self.old) (open_db source.new.memory self.new)) }
     {
         // A loop without a measure: as many turns as 64 bits count, and out of memory behind them, which no run reaches.
         for _ in 0..u64::MAX {

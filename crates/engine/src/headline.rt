@@ -6,7 +6,7 @@ ghost use Rattle.ikey.specs.Orders.{order_of};
 ghost use Rattle.machine.specs.declared.command.Answer.{Answer};
 ghost use Rattle.engine.specs.Headline.{Headline, FirstLaw};
 ghost use Rattle.engine.specs.Touching.{LeavesStore};
-ghost use Rattle.engine.specs.Bridges.{StartsLaw, EndsLaw};
+ghost use Rattle.engine.specs.internal.Bridges.{StartsLaw, EndsLaw};
 
 use crate::options::Options;
 use crate::session::Session;

@@ -6,7 +6,7 @@ ghost use Rattle.std.specs.Prelude.{false, true, Contains, MatchBool, MatchOptio
 ghost use Rattle.std.specs.List.Sorted.{IsNonDecreasing};
 ghost use Rattle.std.specs.Map.{values_of};
 ghost use Rattle.ikey.specs.Orders.{order_of};
-ghost use Rattle.engine.specs.Live.{kept_at};
+ghost use Rattle.engine.specs.Reads.{kept_at};
 
 use crate::options::Options;
 use crate::state::DbState;
@@ -23,17 +23,18 @@ use table_access::sound_lasts;
 use versions::{JobPlan, plans_of_tables};
 
 impl<K: KeyOrder> DbState<K> {
-    ghost use Rattle.engine.specs.declared.ids.Ids.{Ids};
-    ghost use Rattle.engine.specs.Lent.{LeadsLent, ServesLent, OutcomeLent};
-    ghost use Rattle.engine.specs.Held.{held};
+    ghost use Rattle.engine.specs.internal.Lent.{LeadsLent, ServesLent, OutcomeLent};
+    ghost use Rattle.engine.specs.OpenDb.{open_db};
     ghost use Rattle.db_cursor.specs.Whole.{seen_of};
     ghost use Rattle.engine.specs.Outcomes.{IsSame};
     ghost use Rattle.engine.specs.declared.work.Progress.TheVariants.{Worked, Idle};
-    ghost use Rattle.engine.specs.Finishing.{HasCome};
-    ghost use Rattle.engine.specs.Needed.{EndsNeeded, IsForLive, IsTakingAll};
+    ghost use Rattle.engine.specs.internal.JobsToEnd.{HasCome};
+    ghost use Rattle.engine.specs.internal.TakingAll.{EndsNeeded, IsTakingAll};
+    ghost use Rattle.engine.specs.Needed.{IsForLive};
     ghost use Rattle.engine.specs.WithinBudget.{HasLeftBy, StepsBy};
     ghost use Rattle.engine.specs.WrittenTables.{KeepsTableFiles, PutsMerged};
-    ghost use Rattle.engine.specs.Working.{BeginsJob, GoesOn, IsPiece, MayRefusePiece, WantsCompaction};
+    ghost use Rattle.engine.specs.Working.{BeginsJob, GoesOn, WantsCompaction};
+    ghost use Rattle.engine.specs.internal.Pieces.{IsPiece, MayRefusePiece};
     ghost use Rattle.memtables.specs.Places.{LeavesMemories};
     ghost use Rattle.versions.specs.Plans.{IsPlanOf, IsWholePlan};
 
@@ -50,12 +51,12 @@ impl<K: KeyOrder> DbState<K> {
         ensures step { LeadsLent (order_of K.name K.cmp) S.facts source.old self.old source.new self.new
             (λ m n. IsPiece m (max budget 1) result n) }
         ensures outcome { OutcomeLent MayRefusePiece S.facts source.old self.old source.new self.new result }
-        ensures begins { result ≡ Ok Worked → BeginsJob K.cmp options.now budget (held source.old.memory self.old)
-            (held source.new.memory self.new) }
-        ensures unwanted { result ≡ Ok Idle → (level : ℕ) → WantsCompaction options.now (held source.old.memory self.old) level → ⊥ }
+        ensures begins { result ≡ Ok Worked → BeginsJob K.cmp options.now budget (open_db source.old.memory self.old)
+            (open_db source.new.memory self.new) }
+        ensures unwanted { result ≡ Ok Idle → (level : ℕ) → WantsCompaction options.now (open_db source.old.memory self.old) level → ⊥ }
         ensures few { result ≡ Ok Worked → IsTrue (S.facts source.new.tables.store).faithful
             → StepsBy (order_of K.name K.cmp) options.now (seen_of S.facts source.old) (seen_of S.facts source.new)
-            (held source.old.memory self.old) (held source.new.memory self.new) (max budget 1) }
+            (open_db source.old.memory self.old) (open_db source.new.memory self.new) (max budget 1) }
         ensures idle { result ≡ Ok Idle → (source.new ≡ source.old) × (self.new ≡ self.old) }
         ensures lock { (S.facts source.new.tables.store).locked ≡ (S.facts source.old.tables.store).locked }
     {
@@ -88,13 +89,13 @@ impl<K: KeyOrder> DbState<K> {
         ensures outcome { OutcomeLent MayRefusePiece S.facts source.old self.old source.new self.new result }
         ensures begun { OnOk result (IsSome self.new.job) }
         ensures none { OnOk result (MatchOption self.new.job ⊥ (λ work. (work.merged ≡ 0) × (work.job.plan ≡ plan))) }
-        ensures live { OnOk result (MatchOption self.new.job ⊥ (λ work. IsForLive work (held source.old.memory self.old))) }
-        ensures all { OnOk result (IsWholePlan self.old.version.value.tables plan → IsTakingAll (held source.new.memory self.new)) }
+        ensures live { OnOk result (MatchOption self.new.job ⊥ (λ work. IsForLive work (open_db source.old.memory self.old))) }
+        ensures all { OnOk result (IsWholePlan self.old.version.value.tables plan → IsTakingAll (open_db source.new.memory self.new)) }
         ensures files { IsTrue (S.facts source.new.tables.store).faithful
             → (S.facts source.new.tables.store).files ≡ (S.facts source.old.tables.store).files }
         ensures stood { OnOk result ((S.facts source.new.tables.store).failures ≡ (S.facts source.old.tables.store).failures) }
         ensures memory { LeavesMemories source.old.memory source.new.memory }
-        ensures same { IsSame (held source.old.memory self.old) (held source.new.memory self.new) }
+        ensures same { IsSame (open_db source.old.memory self.old) (open_db source.new.memory self.new) }
         ensures whole { self.new.broken ≡ false }
         ensures lock { (S.facts source.new.tables.store).locked ≡ (S.facts source.old.tables.store).locked }
     {
@@ -127,24 +128,24 @@ impl<K: KeyOrder> DbState<K> {
         ensures step { LeadsLent (order_of K.name K.cmp) S.facts source.old self.old source.new self.new
             (λ m n. IsPiece m (max budget 1) result n) }
         ensures outcome { OutcomeLent MayRefusePiece S.facts source.old self.old source.new self.new result }
-        ensures on { OnOk result (GoesOn budget (held source.old.memory self.old) (held source.new.memory self.new)) }
+        ensures on { OnOk result (GoesOn budget (open_db source.old.memory self.old) (open_db source.new.memory self.new)) }
         ensures ended { IfOk result (λ ended. MatchBool ended (self.new.job ≡ None) (IsSome self.new.job)) }
         ensures serves { OnOk result (ServesLent S.facts source.old self.old source.new self.new) }
         ensures memory { LeavesMemories source.old.memory source.new.memory }
-        ensures all { result ≡ Ok false → IsTakingAll (held source.old.memory self.old) → IsTakingAll (held source.new.memory self.new) }
-        ensures needed { result ≡ Ok true → IsTakingAll (held source.old.memory self.old)
+        ensures all { result ≡ Ok false → IsTakingAll (open_db source.old.memory self.old) → IsTakingAll (open_db source.new.memory self.new) }
+        ensures needed { result ≡ Ok true → IsTakingAll (open_db source.old.memory self.old)
             → EndsNeeded (order_of K.name K.cmp) (seen_of S.facts source.old) (seen_of S.facts source.new)
-            (held source.old.memory self.old) (held source.new.memory self.new) }
+            (open_db source.old.memory self.old) (open_db source.new.memory self.new) }
         ensures few { OnOk result (IsTrue (S.facts source.new.tables.store).faithful
-            → HasLeftBy (order_of K.name K.cmp) (seen_of S.facts source.old) (held source.old.memory self.old)
+            → HasLeftBy (order_of K.name K.cmp) (seen_of S.facts source.old) (open_db source.old.memory self.old)
             (max budget 1) self.new.job) }
         ensures beside { result ≡ Ok false → IsTrue (S.facts source.new.tables.store).faithful
             → KeepsTableFiles (order_of K.name K.cmp) (seen_of S.facts source.old) (seen_of S.facts source.new)
-            (held source.old.memory self.old) }
+            (open_db source.old.memory self.old) }
         ensures merges { OnOk result (self.new.job ≡ None → PutsMerged (order_of K.name K.cmp) (seen_of S.facts source.old)
-            (seen_of S.facts source.new) (held source.old.memory self.old) (held source.new.memory self.new)) }
+            (seen_of S.facts source.new) (open_db source.old.memory self.old) (open_db source.new.memory self.new)) }
         ensures come { result ≡ Ok true → LeadsLent (order_of K.name K.cmp) S.facts source.old self.old source.new self.new
-            (λ m n. HasCome budget (held source.old.memory self.old) m result n) }
+            (λ m n. HasCome budget (open_db source.old.memory self.old) m result n) }
         ensures lock { (S.facts source.new.tables.store).locked ≡ (S.facts source.old.tables.store).locked }
     {
         // Laws, for the proof alone.

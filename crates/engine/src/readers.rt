@@ -2,8 +2,8 @@
 
 ghost use Rattle.std.specs.Prelude.{MatchBool};
 ghost use Rattle.engine.specs.InUse.{AnyIterator, IsJobTable, IsMemoryUsed, IsTableUsed};
-ghost use Rattle.db_cursor.specs.Scans.{reads_memory, tables_of};
-ghost use Rattle.versions.specs.Keeping.{HasNumber};
+ghost use Rattle.db_cursor.specs.Scans.{tables_of};
+ghost use Rattle.versions.specs.Levels.{HasNumber};
 
 use crate::state::DbState;
 use db_cursor::Scan;

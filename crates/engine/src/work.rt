@@ -1,11 +1,10 @@
 //! What an open database does beside its commands: the removal of files, flushes, and new logs (LevelDB's db/db_impl.cc,
 //! DBImpl::RemoveObsoleteFiles, CompactMemTable and MakeRoomForWrite).
 
-ghost use Rattle.std.specs.Prelude.{◌≡◌, ◌<◌, ℕ, length, max, None, IsSome, false, if◌then◌else◌, IsTrue, IfOk, Ok, OnOk};
-ghost use Rattle.engine.specs.Working.{ClosesTables, refused_as};
+ghost use Rattle.std.specs.Prelude.{◌≡◌, ◌<◌, length, max, None, IsSome, false, if◌then◌else◌, IsTrue, IfErr, IfOk, Ok, OnErr, OnOk};
+ghost use Rattle.engine.specs.internal.Pieces.{ClosesTables, refused_as};
 ghost use Rattle.ikey.specs.Orders.{order_of};
 
-use crate::log::CurrentLog;
 use crate::options::Options;
 use crate::state::DbState;
 use cache::TableCache;
@@ -14,6 +13,7 @@ use db_cursor::Sources;
 use directory_writes::{FlushError, FlushPlan, Flushed, begin_log, flush_memory, remove_files};
 use ikey::{KeyOrder, same_view};
 use memtables::changes_are_kept;
+use opening::CurrentLog;
 use recover::one_directory;
 use std::alloc::Global;
 use store::Store;
@@ -30,20 +30,24 @@ pub enum Progress {
 }
 
 impl<K: KeyOrder> DbState<K> {
-    ghost use Rattle.engine.specs.declared.ids.Ids.{Ids};
     ghost use Rattle.engine.specs.declared.work.Progress.TheVariants.{Idle};
-    ghost use Rattle.engine.specs.Causes.{IsCausedIn, broken_in};
+    ghost use Rattle.engine.specs.Causes.{IsCausedIn, open_status};
+    ghost use Rattle.engine.specs.Stands.{no_ids};
+    ghost use Rattle.machine.specs.Causes.{not_serving};
+    ghost use Rattle.directory_writes.specs.internal.Removal.{RefusesList};
     ghost use Rattle.engine.specs.ExactFiles.{LeavesExactlyLive};
     ghost use Rattle.engine.specs.InUse.{HasUsedMemory};
-    ghost use Rattle.engine.specs.Lent.{LeadsLent, ServesLent, OutcomeLent};
-    ghost use Rattle.engine.specs.Held.{held};
+    ghost use Rattle.engine.specs.internal.Lent.{LeadsLent, ServesLent, OutcomeLent};
+    ghost use Rattle.engine.specs.OpenDb.{open_db};
     ghost use Rattle.db_cursor.specs.Whole.{seen_of};
     ghost use Rattle.engine.specs.Outcomes.{IsSame, MayRefuseWork};
     ghost use Rattle.machine.specs.Upkeep.{Works};
     ghost use Rattle.engine.specs.WithinBudget.{EndsWithin};
     ghost use Rattle.engine.specs.WrittenTables.{FlushesSealed, PutsSealed};
-    ghost use Rattle.engine.specs.Working.{DoesWork, HasLiveOnly, IsPiece, IsSameMemory, LosesDead, MayRefusePiece};
-    ghost use Rattle.engine.specs.Working.{SealsMemory, WritesTable, broken_by, flush_answer, work_answer};
+    ghost use Rattle.engine.specs.Working.{DoesWork, HasLiveOnly, LosesDead};
+    ghost use Rattle.engine.specs.internal.Pieces.{IsPiece, IsSameMemory, MayRefusePiece};
+    ghost use Rattle.engine.specs.Working.{SealsMemory, WritesTable, work_answer};
+    ghost use Rattle.engine.specs.internal.Pieces.{broken_by, flush_answer};
 
     /// Removes the files that aren't live, and then does the first of these that there is to do: goes on with the compaction under
     /// way by so many entries, one for 0; writes the sealed memory table into a table file; seals the memory table, where it has
@@ -58,26 +62,26 @@ impl<K: KeyOrder> DbState<K> {
         ensures step { LeadsLent (order_of K.name K.cmp) S.facts source.old self.old source.new self.new
             (λ m n. Works m budget (work_answer result) n) }
         ensures outcome { OutcomeLent MayRefuseWork S.facts source.old self.old source.new self.new result }
-        ensures caused { IsCausedIn (broken_in (held source.old.memory self.old)) source.old.tables.store source.new.tables.store result }
-        ensures does { DoesWork K.cmp options.now budget (held source.old.memory self.old) (held source.new.memory self.new) result }
+        ensures caused { IsCausedIn (not_serving (open_status no_ids (open_db source.old.memory self.old))) source.old.tables.store source.new.tables.store result }
+        ensures does { DoesWork K.cmp options.now budget (open_db source.old.memory self.old) (open_db source.new.memory self.new) result }
         // While the store is faithful, a compaction is at its end exactly where no more entries were left than the budget has.
         ensures within { EndsWithin (order_of K.name K.cmp) options.now budget (seen_of S.facts source.old)
-            (seen_of S.facts source.new) (held source.old.memory self.old) (held source.new.memory self.new) result }
+            (seen_of S.facts source.new) (open_db source.old.memory self.old) (open_db source.new.memory self.new) result }
         // The table that it wrote of a sealed memory table has exactly that one's entries then.
         ensures flushes { FlushesSealed (order_of K.name K.cmp) (seen_of S.facts source.old)
-            (seen_of S.facts source.new) (held source.old.memory self.old) (held source.new.memory self.new) result }
+            (seen_of S.facts source.new) (open_db source.old.memory self.old) (open_db source.new.memory self.new) result }
         // Where there is none, all files are live, unless one couldn't be removed.
         ensures tidy { result ≡ Ok Idle → IsTrue (S.facts source.new.tables.store).faithful
             → (S.facts source.new.tables.store).failures ≡ (S.facts source.old.tables.store).failures
-            → HasLiveOnly (S.facts source.new.tables.store).files (held source.new.memory self.new) }
+            → HasLiveOnly (S.facts source.new.tables.store).files (open_db source.new.memory self.new) }
         // They are exactly those that a database without work needs then: of the logs the one that writes go to.
         ensures exact { LeavesExactlyLive (order_of K.name K.cmp) (seen_of S.facts source.old) (seen_of S.facts source.new)
-            (held source.old.memory self.old) (held source.new.memory self.new) result }
+            (open_db source.old.memory self.old) (open_db source.new.memory self.new) result }
         // Nor is a memory table kept then that is of no use.
         ensures dropped { result ≡ Ok Idle → HasUsedMemory source.new.memory self.new.iterators }
         // All files that are live stay then, and those of other programs.
         ensures removes { result ≡ Ok Idle → IsTrue (S.facts source.new.tables.store).faithful
-            → LosesDead (S.facts source.old.tables.store) (S.facts source.new.tables.store) (held source.new.memory self.new) }
+            → LosesDead (S.facts source.old.tables.store) (S.facts source.new.tables.store) (open_db source.new.memory self.new) }
         ensures lock { (S.facts source.new.tables.store).locked ≡ (S.facts source.old.tables.store).locked }
     {
         if self.broken {
@@ -100,8 +104,11 @@ impl<K: KeyOrder> DbState<K> {
         requires whole { self.now.broken ≡ false }
         ensures step { LeadsLent (order_of K.name K.cmp) S.facts source.old self.now source.new self.now (λ m n. IsPiece m 0 result n) }
         ensures outcome { OutcomeLent MayRefusePiece S.facts source.old self.now source.new self.now result }
-        ensures same { IsSame (held source.old.memory self.now) (held source.new.memory self.now) }
+        ensures same { IsSame (open_db source.old.memory self.now) (open_db source.new.memory self.now) }
         ensures memory { IsSameMemory source.old.memory source.new.memory }
+        ensures refused { IfErr result (λ e. RefusesList e (S.facts source.old.tables.store) (S.facts source.new.tables.store)) }
+        ensures unlisted { IsTrue (S.facts source.new.tables.store).faithful
+            → OnErr result ((S.facts source.new.tables.store).files ≡ (S.facts source.old.tables.store).files) }
         ensures dropped { OnOk result (HasUsedMemory source.new.memory self.now.iterators) }
         ensures complete { IfOk result (λ complete. IsTrue complete
             → (S.facts source.new.tables.store).failures ≡ (S.facts source.old.tables.store).failures) }
@@ -109,9 +116,9 @@ impl<K: KeyOrder> DbState<K> {
             (S.facts source.old.tables.store).failures → IsTrue complete) }
         ensures tidy { IsTrue (S.facts source.new.tables.store).faithful
             → IfOk result (λ complete. IsTrue complete
-            → HasLiveOnly (S.facts source.new.tables.store).files (held source.new.memory self.now)) }
+            → HasLiveOnly (S.facts source.new.tables.store).files (open_db source.new.memory self.now)) }
         ensures removes { IsTrue (S.facts source.new.tables.store).faithful
-            → LosesDead (S.facts source.old.tables.store) (S.facts source.new.tables.store) (held source.new.memory self.now) }
+            → LosesDead (S.facts source.old.tables.store) (S.facts source.new.tables.store) (open_db source.new.memory self.now) }
         ensures lock { (S.facts source.new.tables.store).locked ≡ (S.facts source.old.tables.store).locked }
     {
         // Laws, for the proof alone.
@@ -141,11 +148,11 @@ impl<K: KeyOrder> DbState<K> {
         ensures step { LeadsLent (order_of K.name K.cmp) S.facts source.old self.old source.new self.new
             (λ m n. IsPiece m (max budget 1) result n) }
         ensures outcome { OutcomeLent MayRefusePiece S.facts source.old self.old source.new self.new result }
-        ensures does { DoesWork K.cmp options.now budget (held source.old.memory self.old) (held source.new.memory self.new) result }
+        ensures does { DoesWork K.cmp options.now budget (open_db source.old.memory self.old) (open_db source.new.memory self.new) result }
         ensures within { EndsWithin (order_of K.name K.cmp) options.now budget (seen_of S.facts source.old)
-            (seen_of S.facts source.new) (held source.old.memory self.old) (held source.new.memory self.new) result }
+            (seen_of S.facts source.new) (open_db source.old.memory self.old) (open_db source.new.memory self.new) result }
         ensures flushes { FlushesSealed (order_of K.name K.cmp) (seen_of S.facts source.old)
-            (seen_of S.facts source.new) (held source.old.memory self.old) (held source.new.memory self.new) result }
+            (seen_of S.facts source.new) (open_db source.old.memory self.old) (open_db source.new.memory self.new) result }
         ensures idle { result ≡ Ok Idle → (source.new ≡ source.old) × (self.new ≡ self.old) }
         ensures lock { (S.facts source.new.tables.store).locked ≡ (S.facts source.old.tables.store).locked }
     {
@@ -169,11 +176,11 @@ impl<K: KeyOrder> DbState<K> {
         ensures step { LeadsLent (order_of K.name K.cmp) S.facts source.old self.old source.new self.new
             (λ m n. IsPiece m (max budget 1) result n) }
         ensures outcome { OutcomeLent MayRefusePiece S.facts source.old self.old source.new self.new result }
-        ensures does { DoesWork K.cmp options.now budget (held source.old.memory self.old) (held source.new.memory self.new) result }
+        ensures does { DoesWork K.cmp options.now budget (open_db source.old.memory self.old) (open_db source.new.memory self.new) result }
         ensures within { EndsWithin (order_of K.name K.cmp) options.now budget (seen_of S.facts source.old)
-            (seen_of S.facts source.new) (held source.old.memory self.old) (held source.new.memory self.new) result }
+            (seen_of S.facts source.new) (open_db source.old.memory self.old) (open_db source.new.memory self.new) result }
         ensures flushes { FlushesSealed (order_of K.name K.cmp) (seen_of S.facts source.old)
-            (seen_of S.facts source.new) (held source.old.memory self.old) (held source.new.memory self.new) result }
+            (seen_of S.facts source.new) (open_db source.old.memory self.old) (open_db source.new.memory self.new) result }
         ensures idle { result ≡ Ok Idle → (source.new ≡ source.old) × (self.new ≡ self.old) }
         ensures lock { (S.facts source.new.tables.store).locked ≡ (S.facts source.old.tables.store).locked }
     {
@@ -201,9 +208,9 @@ impl<K: KeyOrder> DbState<K> {
         requires sealed { IsSome source.old.memory.sealed }
         ensures step { LeadsLent (order_of K.name K.cmp) S.facts source.old self.old source.new self.new (λ m n. IsPiece m 1 result n) }
         ensures outcome { OutcomeLent MayRefusePiece S.facts source.old self.old source.new self.new result }
-        ensures does { OnOk result (WritesTable (held source.old.memory self.old) (held source.new.memory self.new)) }
+        ensures does { OnOk result (WritesTable (open_db source.old.memory self.old) (open_db source.new.memory self.new)) }
         ensures puts { OnOk result (PutsSealed (order_of K.name K.cmp) (seen_of S.facts source.old) (seen_of S.facts source.new)
-            (held source.old.memory self.old) (held source.new.memory self.new)) }
+            (open_db source.old.memory self.old) (open_db source.new.memory self.new)) }
         ensures serves { OnOk result (ServesLent S.facts source.old self.old source.new self.new) }
         ensures lock { (S.facts source.new.tables.store).locked ≡ (S.facts source.old.tables.store).locked }
     {
@@ -257,7 +264,7 @@ impl<K: KeyOrder> DbState<K> {
         requires filled { 0 < length source.old.memory.current.inserts }
         ensures step { LeadsLent (order_of K.name K.cmp) S.facts source.old self.old source.new self.new (λ m n. IsPiece m 1 result n) }
         ensures outcome { OutcomeLent MayRefusePiece S.facts source.old self.old source.new self.new result }
-        ensures does { OnOk result (SealsMemory (held source.old.memory self.old) (held source.new.memory self.new)) }
+        ensures does { OnOk result (SealsMemory (open_db source.old.memory self.old) (open_db source.new.memory self.new)) }
         ensures serves { OnOk result (ServesLent S.facts source.old self.old source.new self.new) }
         ensures lock { (S.facts source.new.tables.store).locked ≡ (S.facts source.old.tables.store).locked }
     {

@@ -1,7 +1,6 @@
 use Rattle.std.proofs.Common.{Result, Ok, Err, OnOk}
 use Rattle.coding.specs.declared.error.DbError.{DbError}
 use Rattle.ikey.specs.Orders.{Order, order_of}
-use Rattle.engine.specs.Stands.{no_ids}
 use Rattle.engine.proofs.headline.run_over.Goals as goal
 
 on_ok : {A B : Type 0} (result : Result (Unit {0}) DbError) → (A → B) → OnOk result A → OnOk result B

@@ -1,7 +1,7 @@
 use Rattle.std.proofs.Common.{◌∙◌}
 use Rattle.std.specs.Map.{values_of}
 use Rattle.db_cursor.specs.Scans.{tables_of}
-use Rattle.versions.specs.Keeping.{HasNumber}
+use Rattle.versions.specs.Levels.{HasNumber}
 use Rattle.engine.proofs.InUse.{any_turn, none_end, none_more}
 use Rattle.engine.proofs.readers.is_table_read.Goals as goal
 

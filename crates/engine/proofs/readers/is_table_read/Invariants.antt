@@ -1,6 +1,6 @@
 use Rattle.std.proofs.Common.{All}
 use Rattle.db_cursor.specs.Scans.{tables_of}
-use Rattle.versions.specs.Keeping.{HasNumber}
+use Rattle.versions.specs.Levels.{HasNumber}
 use Rattle.engine.proofs.readers.is_table_read.Given as goal
 
 -- none so far has the table

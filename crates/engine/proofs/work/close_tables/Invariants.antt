@@ -1,5 +1,5 @@
 use Rattle.std.proofs.Common.{take}
-use Rattle.engine.specs.Working.{ClosesTables}
+use Rattle.engine.specs.internal.Pieces.{ClosesTables}
 use Rattle.engine.proofs.work.close_tables.Given as goal
 
 -- the tables of the numbers so far are closed

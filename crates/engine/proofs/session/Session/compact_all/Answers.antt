@@ -3,8 +3,9 @@ use Rattle.std.proofs.Common.{Option, Result, OnOk, ap, subst}
 use Rattle.std.specs.Option.{option_map}
 use Rattle.coding.specs.declared.error.DbError.{DbError}
 use Rattle.engine.specs.declared.state.DbState.{DbState}
-use Rattle.engine.specs.Follows.{LeadsOpen, unit_answer}
-use Rattle.engine.specs.Held.{held}
+use Rattle.engine.specs.internal.Leading.{LeadsOpen}
+use Rattle.engine.specs.Follows.{unit_answer}
+use Rattle.engine.specs.OpenDb.{open_db}
 use Rattle.db_cursor.specs.Whole.{seen_of}
 use Rattle.engine.specs.Needed.{LeavesNeeded}
 use Rattle.engine.specs.Stands.{StandsOver}
@@ -21,7 +22,7 @@ returns-in-None-clause-step g c =
     let old = seen_of facts c.args.self.now.source in
     let memory = c.args.self.now.source.memory in
     let ids = c.args.self.now.ids in
-    stays order facts c.args.self.now _ (λ m s. all_closed order old.facts ids m (subst (λ (state : Option (DbState _ _)). StandsOver order old ids (option_map (held memory) state) m) c.in-None.is s))
+    stays order facts c.args.self.now _ (λ m s. all_closed order old.facts ids m (subst (λ (state : Option (DbState _ _)). StandsOver order old ids (option_map (open_db memory) state) m) c.in-None.is s))
 
 pub returns-in-Ok-clause-step : goal.returns-in-Ok-clause-step
 returns-in-Ok-clause-step g c =
@@ -31,9 +32,9 @@ returns-in-Ok-clause-step g c =
     let memory = c.args.self.now.source.memory in
     let ids = c.args.self.now.ids in
     let new = seen_of facts c.compact_all.new.source in
-    let before = held memory c.in-Some.state in
-    let after = held c.compact_all.new.source.memory c.compact_all.new.self in
-    lifts order old new ids ids (option_map (held memory) c.args.self.now.state) before after _ (ap (option_map (held memory)) c.in-Some.is)
+    let before = open_db memory c.in-Some.state in
+    let after = open_db c.compact_all.new.source.memory c.compact_all.new.self in
+    lifts order old new ids ids (option_map (open_db memory) c.args.self.now.state) before after _ (ap (option_map (open_db memory)) c.in-Some.is)
     (subst (λ (r : Result _ DbError). LeadsOpen order old new ids before after (λ m n. CompactsAll m (unit_answer r) n)) c.in-Ok.is (c.compact_all.ensures.step ids))
 
 pub returns-in-Err-clause-step : goal.returns-in-Err-clause-step
@@ -44,9 +45,9 @@ returns-in-Err-clause-step g c =
     let memory = c.args.self.now.source.memory in
     let ids = c.args.self.now.ids in
     let new = seen_of facts c.compact_all.new.source in
-    let before = held memory c.in-Some.state in
-    let after = held c.compact_all.new.source.memory c.compact_all.new.self in
-    lifts order old new ids ids (option_map (held memory) c.args.self.now.state) before after _ (ap (option_map (held memory)) c.in-Some.is)
+    let before = open_db memory c.in-Some.state in
+    let after = open_db c.compact_all.new.source.memory c.compact_all.new.self in
+    lifts order old new ids ids (option_map (open_db memory) c.args.self.now.state) before after _ (ap (option_map (open_db memory)) c.in-Some.is)
     (subst (λ (r : Result _ DbError). LeadsOpen order old new ids before after (λ m n. CompactsAll m (unit_answer r) n)) c.in-Err.is (c.compact_all.ensures.step ids))
 
 pub returns-in-Ok-clause-needed : goal.returns-in-Ok-clause-needed
@@ -57,7 +58,7 @@ returns-in-Ok-clause-needed g c f m s =
     let memory = c.args.self.now.source.memory in
     let ids = c.args.self.now.ids in
     let new = seen_of facts c.compact_all.new.source in
-    let before = held memory c.in-Some.state in
-    let after = held c.compact_all.new.source.memory c.compact_all.new.self in
+    let before = open_db memory c.in-Some.state in
+    let after = open_db c.compact_all.new.source.memory c.compact_all.new.self in
     let left = subst (λ (r : Result _ DbError). OnOk r (LeavesNeeded order old new before after)) c.in-Ok.is c.compact_all.ensures.needed in
-    left f ids m (subst (λ (state : Option (DbState _ _)). StandsOver order old ids (option_map (held memory) state) m) c.in-Some.is s)
+    left f ids m (subst (λ (state : Option (DbState _ _)). StandsOver order old ids (option_map (open_db memory) state) m) c.in-Some.is s)

@@ -3,14 +3,15 @@ use Rattle.std.proofs.Common.{Option, Some, Result, OnOk, sym, ap, subst}
 use Rattle.std.specs.Option.{option_map}
 use Rattle.coding.specs.declared.error.DbError.{DbError}
 use Rattle.engine.specs.declared.state.DbState.{DbState}
-use Rattle.engine.specs.Follows.{LeadsOpen, unit_answer}
+use Rattle.engine.specs.internal.Leading.{LeadsOpen}
+use Rattle.engine.specs.Follows.{unit_answer}
 use Rattle.engine.specs.Applied.{LevelIn}
 use Rattle.engine.specs.Finishing.{MovesLevel}
-use Rattle.engine.specs.Held.{Held, held}
+use Rattle.engine.specs.OpenDb.{OpenDb, open_db}
 use Rattle.db_cursor.specs.Whole.{seen_of}
 use Rattle.engine.specs.Stands.{StandsOver}
 use Rattle.machine.specs.Upkeep.{CompactsLevel}
-use Rattle.machine.specs.declared.command.Answer.TheVariants.{Done}
+use Rattle.machine.specs.declared.command.Answer.TheVariants.{Done, Refused}
 use Rattle.engine.specs.WrittenTables.{MergesLevel}
 use Rattle.engine.proofs.Emptied.{level_closed}
 use Rattle.engine.proofs.Steps.{stays}
@@ -24,7 +25,7 @@ returns-in-None-clause-step g c =
     let old = seen_of facts c.args.self.now.source in
     let memory = c.args.self.now.source.memory in
     let ids = c.args.self.now.ids in
-    stays order facts c.args.self.now _ (λ m s. level_closed order old.facts ids m c.args.level (subst (λ (state : Option (DbState _ _)). StandsOver order old ids (option_map (held memory) state) m) c.in-None.is s))
+    stays order facts c.args.self.now _ (λ m s. level_closed order old.facts ids m c.args.level (subst (λ (state : Option (DbState _ _)). StandsOver order old ids (option_map (open_db memory) state) m) c.in-None.is s))
 
 pub returns-in-Ok-clause-step : goal.returns-in-Ok-clause-step
 returns-in-Ok-clause-step g c =
@@ -34,9 +35,9 @@ returns-in-Ok-clause-step g c =
     let memory = c.args.self.now.source.memory in
     let ids = c.args.self.now.ids in
     let new = seen_of facts c.compact_level.new.source in
-    let before = held memory c.in-Some.state in
-    let after = held c.compact_level.new.source.memory c.compact_level.new.self in
-    lifts order old new ids ids (option_map (held memory) c.args.self.now.state) before after _ (ap (option_map (held memory)) c.in-Some.is)
+    let before = open_db memory c.in-Some.state in
+    let after = open_db c.compact_level.new.source.memory c.compact_level.new.self in
+    lifts order old new ids ids (option_map (open_db memory) c.args.self.now.state) before after _ (ap (option_map (open_db memory)) c.in-Some.is)
     (subst (λ (r : Result _ DbError). LeadsOpen order old new ids before after (λ m n. CompactsLevel m c.args.level (unit_answer r) n)) c.in-Ok.is (c.compact_level.ensures.step ids))
 
 pub returns-in-Err-clause-step : goal.returns-in-Err-clause-step
@@ -47,9 +48,9 @@ returns-in-Err-clause-step g c =
     let memory = c.args.self.now.source.memory in
     let ids = c.args.self.now.ids in
     let new = seen_of facts c.compact_level.new.source in
-    let before = held memory c.in-Some.state in
-    let after = held c.compact_level.new.source.memory c.compact_level.new.self in
-    lifts order old new ids ids (option_map (held memory) c.args.self.now.state) before after _ (ap (option_map (held memory)) c.in-Some.is)
+    let before = open_db memory c.in-Some.state in
+    let after = open_db c.compact_level.new.source.memory c.compact_level.new.self in
+    lifts order old new ids ids (option_map (open_db memory) c.args.self.now.state) before after _ (ap (option_map (open_db memory)) c.in-Some.is)
     (subst (λ (r : Result _ DbError). LeadsOpen order old new ids before after (λ m n. CompactsLevel m c.args.level (unit_answer r) n)) c.in-Err.is (c.compact_level.ensures.step ids))
 
 pub returns-in-Ok-clause-works : goal.returns-in-Ok-clause-works
@@ -59,10 +60,22 @@ returns-in-Ok-clause-works g c =
     let old = seen_of facts c.args.self.now.source in
     let new = seen_of facts c.compact_level.new.source in
     let memory = c.args.self.now.source.memory in
-    let before = held memory c.in-Some.state in
-    let after = held c.compact_level.new.source.memory c.compact_level.new.self in
-    subst (λ (o : Option (Held _ _)). LevelIn order c.args.level old new o (Some after) Done) (sym (ap (option_map (held memory)) c.in-Some.is))
-    (record {
-      moves = subst (λ (r : Result _ DbError). OnOk r (MovesLevel order.cmp c.args.level before after)) c.in-Ok.is c.compact_level.ensures.moves;
-      merges = subst (λ (r : Result _ DbError). OnOk r (MergesLevel order c.args.level old new before after)) c.in-Ok.is c.compact_level.ensures.merges;
-    })
+    let before = open_db memory c.in-Some.state in
+    let after = open_db c.compact_level.new.source.memory c.compact_level.new.self in
+    subst (λ (o : Option (OpenDb _ _)). LevelIn order c.args.level old new o (Some after) Done) (sym (ap (option_map (open_db memory)) c.in-Some.is)) (
+      c.compact_level.ensures.memory,
+      record {
+        moves = subst (λ (r : Result _ DbError). OnOk r (MovesLevel order.cmp c.args.level before after)) c.in-Ok.is c.compact_level.ensures.moves;
+        merges = subst (λ (r : Result _ DbError). OnOk r (MergesLevel order c.args.level old new before after)) c.in-Ok.is c.compact_level.ensures.merges;
+      },
+    )
+
+pub returns-in-Err-clause-works : goal.returns-in-Err-clause-works
+returns-in-Err-clause-works g c =
+    let order = order_of g.K.KeyOrder.name g.K.KeyOrder.cmp in
+    let facts = g.S.Store.facts in
+    let old = seen_of facts c.args.self.now.source in
+    let new = seen_of facts c.compact_level.new.source in
+    let memory = c.args.self.now.source.memory in
+    let after = open_db c.compact_level.new.source.memory c.compact_level.new.self in
+    subst (λ (o : Option (OpenDb _ _)). LevelIn order c.args.level old new o (Some after) (Refused c.in-Err.error)) (sym (ap (option_map (open_db memory)) c.in-Some.is)) (c.compact_level.ensures.memory, tt)

@@ -4,18 +4,17 @@ use Rattle.std.specs.Option.{option_map}
 use Rattle.coding.specs.declared.error.DbError.{DbError}
 use Rattle.engine.specs.declared.state.DbState.{DbState}
 use Rattle.engine.specs.declared.work.Progress.{Progress}
-use Rattle.engine.specs.Follows.{LeadsOpen}
-use Rattle.engine.specs.Held.{held}
+use Rattle.engine.specs.internal.Leading.{LeadsOpen}
+use Rattle.engine.specs.OpenDb.{open_db}
 use Rattle.db_cursor.specs.Whole.{seen_of}
 use Rattle.engine.specs.Stands.{StandsOver}
 use Rattle.machine.specs.Upkeep.{Works}
 use Rattle.engine.specs.Working.{work_answer}
 use Rattle.engine.proofs.Steps.{stays}
-use Rattle.engine.proofs.WorkAnswers.{works_closed}
+use Rattle.engine.proofs.WorkAnswers.{works_closed, done_in}
 use Rattle.engine.proofs.WriteSteps.{lifts}
 use Rattle.machine.specs.declared.command.Answer.TheVariants.{Worked, Refused}
 use Rattle.machine.specs.declared.command.Answer.TheVariants as answer
-use Rattle.engine.proofs.WorkAnswers.{done_in}
 use Rattle.engine.proofs.session.Session.work.Goals as goal
 
 pub returns-in-None-clause-step : goal.returns-in-None-clause-step
@@ -25,7 +24,7 @@ returns-in-None-clause-step g c =
     let old = seen_of facts c.args.self.now.source in
     let memory = c.args.self.now.source.memory in
     let ids = c.args.self.now.ids in
-    stays order facts c.args.self.now _ (λ m s. works_closed order old.facts ids m c.args.budget (subst (λ (state : Option (DbState _ _)). StandsOver order old ids (option_map (held memory) state) m) c.in-None.is s))
+    stays order facts c.args.self.now _ (λ m s. works_closed order old.facts ids m c.args.budget (subst (λ (state : Option (DbState _ _)). StandsOver order old ids (option_map (open_db memory) state) m) c.in-None.is s))
 
 pub returns-in-Ok-Worked-clause-step : goal.returns-in-Ok-Worked-clause-step
 returns-in-Ok-Worked-clause-step g c =
@@ -35,9 +34,9 @@ returns-in-Ok-Worked-clause-step g c =
     let memory = c.args.self.now.source.memory in
     let ids = c.args.self.now.ids in
     let new = seen_of facts c.work.new.source in
-    let before = held memory c.in-Some.state in
-    let after = held c.work.new.source.memory c.work.new.self in
-    lifts order old new ids ids (option_map (held memory) c.args.self.now.state) before after _ (ap (option_map (held memory)) c.in-Some.is)
+    let before = open_db memory c.in-Some.state in
+    let after = open_db c.work.new.source.memory c.work.new.self in
+    lifts order old new ids ids (option_map (open_db memory) c.args.self.now.state) before after _ (ap (option_map (open_db memory)) c.in-Some.is)
     (subst (λ (r : Result Progress DbError). LeadsOpen order old new ids before after (λ m n. Works m c.args.budget (work_answer r) n)) (c.in-Ok-Worked.is ∙ ap Ok c.in-Ok-Worked.field-0-is) (c.work.ensures.step ids))
 
 pub returns-in-Ok-Idle-clause-step : goal.returns-in-Ok-Idle-clause-step
@@ -48,9 +47,9 @@ returns-in-Ok-Idle-clause-step g c =
     let memory = c.args.self.now.source.memory in
     let ids = c.args.self.now.ids in
     let new = seen_of facts c.work.new.source in
-    let before = held memory c.in-Some.state in
-    let after = held c.work.new.source.memory c.work.new.self in
-    lifts order old new ids ids (option_map (held memory) c.args.self.now.state) before after _ (ap (option_map (held memory)) c.in-Some.is)
+    let before = open_db memory c.in-Some.state in
+    let after = open_db c.work.new.source.memory c.work.new.self in
+    lifts order old new ids ids (option_map (open_db memory) c.args.self.now.state) before after _ (ap (option_map (open_db memory)) c.in-Some.is)
     (subst (λ (r : Result Progress DbError). LeadsOpen order old new ids before after (λ m n. Works m c.args.budget (work_answer r) n)) (c.in-Ok-Idle.is ∙ ap Ok c.in-Ok-Idle.field-0-is) (c.work.ensures.step ids))
 
 pub returns-in-Err-clause-step : goal.returns-in-Err-clause-step
@@ -61,9 +60,9 @@ returns-in-Err-clause-step g c =
     let memory = c.args.self.now.source.memory in
     let ids = c.args.self.now.ids in
     let new = seen_of facts c.work.new.source in
-    let before = held memory c.in-Some.state in
-    let after = held c.work.new.source.memory c.work.new.self in
-    lifts order old new ids ids (option_map (held memory) c.args.self.now.state) before after _ (ap (option_map (held memory)) c.in-Some.is)
+    let before = open_db memory c.in-Some.state in
+    let after = open_db c.work.new.source.memory c.work.new.self in
+    lifts order old new ids ids (option_map (open_db memory) c.args.self.now.state) before after _ (ap (option_map (open_db memory)) c.in-Some.is)
     (subst (λ (r : Result Progress DbError). LeadsOpen order old new ids before after (λ m n. Works m c.args.budget (work_answer r) n)) c.in-Err.is (c.work.ensures.step ids))
 
 pub returns-in-Ok-Worked-clause-works : goal.returns-in-Ok-Worked-clause-works
@@ -71,8 +70,8 @@ returns-in-Ok-Worked-clause-works g c =
     let order = order_of g.K.KeyOrder.name g.K.KeyOrder.cmp in
     let facts = g.S.Store.facts in
     let memory = c.args.self.now.source.memory in
-    done_in order c.args.self.now.options c.args.budget (seen_of facts c.args.self.now.source) (seen_of facts c.work.new.source) (option_map (held memory) c.args.self.now.state)
-    (held memory c.in-Some.state) (held c.work.new.source.memory c.work.new.self) Worked c.work.result (c.in-Ok-Worked.is ∙ ap Ok c.in-Ok-Worked.field-0-is) (ap (option_map (held memory)) c.in-Some.is)
+    done_in order c.args.self.now.options c.args.budget (seen_of facts c.args.self.now.source) (seen_of facts c.work.new.source) (option_map (open_db memory) c.args.self.now.state)
+    (open_db memory c.in-Some.state) (open_db c.work.new.source.memory c.work.new.self) Worked c.work.result (c.in-Ok-Worked.is ∙ ap Ok c.in-Ok-Worked.field-0-is) (ap (option_map (open_db memory)) c.in-Some.is)
     (record { does = c.work.ensures.does; within = c.work.ensures.within; flushes = c.work.ensures.flushes; tidy = c.work.ensures.tidy; removes = c.work.ensures.removes; exact = c.work.ensures.exact; dropped = c.work.ensures.dropped }) (λ d. d)
 
 pub returns-in-Ok-Idle-clause-works : goal.returns-in-Ok-Idle-clause-works
@@ -80,8 +79,8 @@ returns-in-Ok-Idle-clause-works g c =
     let order = order_of g.K.KeyOrder.name g.K.KeyOrder.cmp in
     let facts = g.S.Store.facts in
     let memory = c.args.self.now.source.memory in
-    done_in order c.args.self.now.options c.args.budget (seen_of facts c.args.self.now.source) (seen_of facts c.work.new.source) (option_map (held memory) c.args.self.now.state)
-    (held memory c.in-Some.state) (held c.work.new.source.memory c.work.new.self) answer.Idle c.work.result (c.in-Ok-Idle.is ∙ ap Ok c.in-Ok-Idle.field-0-is) (ap (option_map (held memory)) c.in-Some.is)
+    done_in order c.args.self.now.options c.args.budget (seen_of facts c.args.self.now.source) (seen_of facts c.work.new.source) (option_map (open_db memory) c.args.self.now.state)
+    (open_db memory c.in-Some.state) (open_db c.work.new.source.memory c.work.new.self) answer.Idle c.work.result (c.in-Ok-Idle.is ∙ ap Ok c.in-Ok-Idle.field-0-is) (ap (option_map (open_db memory)) c.in-Some.is)
     (record { does = c.work.ensures.does; within = c.work.ensures.within; flushes = c.work.ensures.flushes; tidy = c.work.ensures.tidy; removes = c.work.ensures.removes; exact = c.work.ensures.exact; dropped = c.work.ensures.dropped }) (λ d. d)
 
 pub returns-in-Err-clause-works : goal.returns-in-Err-clause-works
@@ -89,6 +88,6 @@ returns-in-Err-clause-works g c =
     let order = order_of g.K.KeyOrder.name g.K.KeyOrder.cmp in
     let facts = g.S.Store.facts in
     let memory = c.args.self.now.source.memory in
-    done_in order c.args.self.now.options c.args.budget (seen_of facts c.args.self.now.source) (seen_of facts c.work.new.source) (option_map (held memory) c.args.self.now.state)
-    (held memory c.in-Some.state) (held c.work.new.source.memory c.work.new.self) (Refused c.in-Err.error) c.work.result (c.in-Err.is) (ap (option_map (held memory)) c.in-Some.is)
+    done_in order c.args.self.now.options c.args.budget (seen_of facts c.args.self.now.source) (seen_of facts c.work.new.source) (option_map (open_db memory) c.args.self.now.state)
+    (open_db memory c.in-Some.state) (open_db c.work.new.source.memory c.work.new.self) (Refused c.in-Err.error) c.work.result (c.in-Err.is) (ap (option_map (open_db memory)) c.in-Some.is)
     (record { does = c.work.ensures.does; within = c.work.ensures.within; flushes = c.work.ensures.flushes; tidy = c.work.ensures.tidy; removes = c.work.ensures.removes; exact = c.work.ensures.exact; dropped = c.work.ensures.dropped }) (λ d. d)

@@ -5,11 +5,11 @@ use Rattle.ikey.specs.Orders.{order_of}
 use Rattle.db_cursor.proofs.ScanSteps.{scan_kept}
 use Rattle.std.specs.Map.{values_of}
 use Rattle.versions.specs.Levels.{Placement}
-use Rattle.engine.specs.Follows.{LeadsOpen}
-use Rattle.engine.specs.Held.{held}
+use Rattle.engine.specs.internal.Leading.{LeadsOpen}
+use Rattle.engine.specs.OpenDb.{open_db}
 use Rattle.db_cursor.specs.Whole.{seen_of}
 use Rattle.engine.specs.Outcomes.{DbOutcome}
-use Rattle.engine.specs.Working.{IsPiece, MayRefusePiece}
+use Rattle.engine.specs.internal.Pieces.{IsPiece, MayRefusePiece}
 use Rattle.engine.proofs.JobEnds.{same_left, stopped_outcome}
 use Rattle.engine.proofs.JobStarts.{ends_begun, ends_unbegun}
 use Rattle.engine.proofs.NeededEntries.{takes_begun}
@@ -20,7 +20,7 @@ pub returns-in_err-snapshots-clause-step : goal.returns-in_err-snapshots-clause-
 returns-in_err-snapshots-clause-step g c ids =
     let order = order_of g.K.KeyOrder.name g.K.KeyOrder.cmp in
     let source = seen_of g.S.Store.facts c.args.source.now in
-    let db = held c.args.source.now.memory c.args.self.now in
+    let db = open_db c.args.source.now.memory c.args.self.now in
     let said : c.from_residual.result ≡ Err OutOfMemory = search rules in
     subst (λ (r : Result (Unit {0}) DbError). LeadsOpen order source source ids db db (λ m n. IsPiece m 0 r n)) (sym said) (ends_full order (λ scan. scan_kept order.cmp scan) c.sound_lasts.ensures source ids db 0 c.requires.whole)
 
@@ -34,7 +34,7 @@ returns-in_err-job-clause-step g c ids =
     let after_memory = c.begin.new.source.memory in
     let e = c.in_err-job.field-0.0 in
     let said : c.from_residual-in_err-job.result ≡ Err e = search rules in
-    subst (λ (r : Result (Unit {0}) DbError). LeadsOpen order old new ids (held memory state) (held after_memory state) (λ m n. IsPiece m 0 r n)) (sym said)
+    subst (λ (r : Result (Unit {0}) DbError). LeadsOpen order old new ids (open_db memory state) (open_db after_memory state) (λ m n. IsPiece m 0 r n)) (sym said)
     (ends_unbegun order (λ scan. scan_kept order.cmp scan) old new ids state memory after_memory c.args.plan c.requires.whole c.requires.none state.version.value.tables refl c.requires.plan c.in_err-job.ensures.leaves e c.in_err-job.ensures.refused)
 
 pub returns-in_err-job-clause-outcome : goal.returns-in_err-job-clause-outcome
@@ -45,7 +45,7 @@ returns-in_err-job-clause-outcome g c =
     let e = c.in_err-job.field-0.0 in
     let leaves = c.in_err-job.ensures.leaves in
     let said : c.from_residual-in_err-job.result ≡ Err e = search rules in
-    subst (λ (r : Result (Unit {0}) DbError). DbOutcome MayRefusePiece old new (held c.args.source.now.memory state) (held c.begin.new.source.memory state) r) (sym said)
+    subst (λ (r : Result (Unit {0}) DbError). DbOutcome MayRefusePiece old new (open_db c.args.source.now.memory state) (open_db c.begin.new.source.memory state) r) (sym said)
     (stopped_outcome _ _ _ old new state c.args.source.now.memory c.begin.new.source.memory state.directory.numbers state.job e c.in_err-job.ensures.refused leaves.carries.reads.failures leaves.carries.reads.denials leaves.memory)
 
 pub returns-clause-step : goal.returns-clause-step

@@ -3,10 +3,10 @@ use Rattle.memtables.specs.Memories.{Memories}
 use Rattle.coding.specs.declared.error.DbError.{DbError}
 use Rattle.ikey.specs.Orders.{order_of}
 use Rattle.db_cursor.proofs.ScanSteps.{scan_kept}
-use Rattle.engine.specs.Follows.{LeadsOpen}
-use Rattle.engine.specs.Held.{held}
+use Rattle.engine.specs.internal.Leading.{LeadsOpen}
+use Rattle.engine.specs.OpenDb.{open_db}
 use Rattle.db_cursor.specs.Whole.{seen_of}
-use Rattle.engine.specs.Working.{ClosesTables, IsPiece}
+use Rattle.engine.specs.internal.Pieces.{ClosesTables, IsPiece}
 use Rattle.engine.proofs.WorkEnds.{ends_cleaned, ends_unlisted, memory_cleaned}
 use Rattle.engine.proofs.state.DbState.clean.Goals as goal
 
@@ -15,7 +15,7 @@ returns-in_err-removal-clause-step g c ids =
     let order = order_of g.K.KeyOrder.name g.K.KeyOrder.cmp in
     let source = seen_of g.S.Store.facts c.args.source.now in
     let facts = g.S.Store.facts c.remove_files.new.store in
-    let db = held c.args.source.now.memory c.args.self.now in
+    let db = open_db c.args.source.now.memory c.args.self.now in
     let e = c.in_err-removal.field-0.0 in
     let is : c.from_residual.result ≡ Err e = search rules in
     let ensures = c.in_err-removal.ensures in
@@ -29,13 +29,13 @@ returns-clause-step g c ids =
     let ensures = c.in_ok-removal.ensures in
     let removal = c.in_ok-removal.removal in
     let listed : c.deref.result.now ≡ removal.tables.items = c.deref.ensures.value in
-    ends_cleaned order (λ scan. scan_kept order.cmp scan) c.one_directory.ensures c.sound_lasts.ensures c.changes_are_kept.ensures.dropped source (g.S.Store.facts c.remove_files.new.store) ids (held c.args.source.now.memory c.args.self.now) c.close_tables.new.tables.tables
+    ends_cleaned order (λ scan. scan_kept order.cmp scan) c.one_directory.ensures c.sound_lasts.ensures c.changes_are_kept.ensures.dropped source (g.S.Store.facts c.remove_files.new.store) ids (open_db c.args.source.now.memory c.args.self.now) c.close_tables.new.tables.tables
     c.drop_unused.new.self removal.tables.items removal.complete c.requires.whole ensures.call c.drop_unused.ensures ensures.tables ensures.unused (subst (λ (numbers : List ℕ). ClosesTables source.tables c.close_tables.new.tables.tables numbers) listed c.close_tables.ensures) (λ f d good numbers. ensures.meaning f order d good numbers)
 
 pub returns-clause-memory : goal.returns-clause-memory
 returns-clause-memory g c =
     memory_cleaned (order_of g.K.KeyOrder.name g.K.KeyOrder.cmp) (λ scan. scan_kept g.K.KeyOrder.cmp scan) c.one_directory.ensures c.sound_lasts.ensures c.changes_are_kept.ensures.dropped (seen_of g.S.Store.facts c.args.source.now) (g.S.Store.facts c.remove_files.new.store)
-    (record { snapshot = 0; iterator = 0 }) (held c.args.source.now.memory c.args.self.now) c.close_tables.new.tables.tables c.drop_unused.new.self c.in_ok-removal.removal.tables.items c.drop_unused.ensures
+    (record { snapshot = 0; iterator = 0 }) (open_db c.args.source.now.memory c.args.self.now) c.close_tables.new.tables.tables c.drop_unused.new.self c.in_ok-removal.removal.tables.items c.drop_unused.ensures
 
 pub returns-clause-dropped : goal.returns-clause-dropped
 returns-clause-dropped g c = λ generation unused.

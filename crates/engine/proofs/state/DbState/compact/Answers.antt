@@ -6,12 +6,12 @@ use Rattle.db_cursor.proofs.ScanSteps.{scan_kept}
 use Rattle.versions.specs.Plans.{IsPicked}
 use Rattle.engine.specs.declared.work.Progress.{Progress}
 use Rattle.engine.specs.declared.work.Progress.TheVariants.{Worked, Idle}
-use Rattle.engine.specs.Follows.{LeadsOpen}
-use Rattle.engine.specs.Held.{held}
+use Rattle.engine.specs.internal.Leading.{LeadsOpen}
+use Rattle.engine.specs.OpenDb.{open_db}
 use Rattle.db_cursor.specs.Whole.{seen_of}
 use Rattle.engine.specs.Outcomes.{DbOutcome}
 use Rattle.engine.specs.Stands.{no_ids}
-use Rattle.engine.specs.Working.{IsPiece, MayRefusePiece}
+use Rattle.engine.specs.internal.Pieces.{IsPiece, MayRefusePiece}
 use Rattle.engine.proofs.JobEnds.{outcome_behind}
 use Rattle.engine.proofs.WorkAnswers.{begun_further, of_some, picked_for, then_piece}
 use Rattle.engine.proofs.WorkEnds.{ends_full, ends_idle}
@@ -23,7 +23,7 @@ pub returns-in_err-plan-clause-step : goal.returns-in_err-plan-clause-step
 returns-in_err-plan-clause-step g c ids =
     let order = order_of g.K.KeyOrder.name g.K.KeyOrder.cmp in
     let source = seen_of g.S.Store.facts c.args.source.now in
-    let db = held c.args.source.now.memory c.args.self.now in
+    let db = open_db c.args.source.now.memory c.args.self.now in
     let said : c.from_residual.result ≡ Err OutOfMemory = search rules in
     subst (λ (r : Result Progress DbError). LeadsOpen order source source ids db db (λ m n. IsPiece m (max c.args.budget 1) r n)) (sym said)
     (ends_full order (λ scan. scan_kept order.cmp scan) c.sound_lasts.ensures source ids db (max c.args.budget 1) c.requires.whole)
@@ -31,15 +31,15 @@ returns-in_err-plan-clause-step g c ids =
 pub returns-in_default-clause-step : goal.returns-in_default-clause-step
 returns-in_default-clause-step g c ids =
     let order = order_of g.K.KeyOrder.name g.K.KeyOrder.cmp in
-    ends_idle order (λ scan. scan_kept order.cmp scan) c.sound_lasts.ensures (seen_of g.S.Store.facts c.args.source.now) ids (held c.args.source.now.memory c.args.self.now) (max c.args.budget 1) Idle c.requires.whole
+    ends_idle order (λ scan. scan_kept order.cmp scan) c.sound_lasts.ensures (seen_of g.S.Store.facts c.args.source.now) ids (open_db c.args.source.now.memory c.args.self.now) (max c.args.budget 1) Idle c.requires.whole
 
 pub returns-in_err-begin_job-clause-step : goal.returns-in_err-begin_job-clause-step
 returns-in_err-begin_job-clause-step g c ids =
     let order = order_of g.K.KeyOrder.name g.K.KeyOrder.cmp in
     let old = seen_of g.S.Store.facts c.args.source.now in
     let new = seen_of g.S.Store.facts c.begin_job.new.source in
-    let before = held c.args.source.now.memory c.args.self.now in
-    let after = held c.begin_job.new.source.memory c.begin_job.new.self in
+    let before = open_db c.args.source.now.memory c.args.self.now in
+    let after = open_db c.begin_job.new.source.memory c.begin_job.new.self in
     let e = c.in_err-begin_job.field-0.0 in
     let said : c.from_residual-in_err-begin_job.result ≡ Err e = search rules in
     subst (λ (r : Result Progress DbError). LeadsOpen order old new ids before after (λ m n. IsPiece m (max c.args.budget 1) r n)) (sym said)
@@ -51,9 +51,9 @@ returns-in_err-step_job-clause-step g c ids =
     let old = seen_of g.S.Store.facts c.args.source.now in
     let mid = seen_of g.S.Store.facts c.begin_job.new.source in
     let new = seen_of g.S.Store.facts c.step_job.new.source in
-    let before = held c.args.source.now.memory c.args.self.now in
-    let between = held c.begin_job.new.source.memory c.begin_job.new.self in
-    let after = held c.step_job.new.source.memory c.step_job.new.self in
+    let before = open_db c.args.source.now.memory c.args.self.now in
+    let between = open_db c.begin_job.new.source.memory c.begin_job.new.self in
+    let after = open_db c.step_job.new.source.memory c.step_job.new.self in
     let most = max c.args.budget 1 in
     let e = c.in_err-step_job.field-0.0 in
     let said : c.from_residual-in_err-step_job.result ≡ Err e = search rules in
@@ -66,9 +66,9 @@ returns-in_err-step_job-clause-outcome g c =
     let old = g.S.Store.facts c.args.source.now.tables.store in
     let mid = g.S.Store.facts c.begin_job.new.source.tables.store in
     let new = g.S.Store.facts c.step_job.new.source.tables.store in
-    let before = held c.args.source.now.memory c.args.self.now in
-    let between = held c.begin_job.new.source.memory c.begin_job.new.self in
-    let after = held c.step_job.new.source.memory c.step_job.new.self in
+    let before = open_db c.args.source.now.memory c.args.self.now in
+    let between = open_db c.begin_job.new.source.memory c.begin_job.new.self in
+    let after = open_db c.step_job.new.source.memory c.step_job.new.self in
     let e = c.in_err-step_job.field-0.0 in
     let said : c.from_residual-in_err-step_job.result ≡ Err e = search rules in
     let b = c.in_ok-begin_job.ensures in
@@ -81,9 +81,9 @@ returns-clause-step g c ids =
     let old = seen_of g.S.Store.facts c.args.source.now in
     let mid = seen_of g.S.Store.facts c.begin_job.new.source in
     let new = seen_of g.S.Store.facts c.step_job.new.source in
-    let before = held c.args.source.now.memory c.args.self.now in
-    let between = held c.begin_job.new.source.memory c.begin_job.new.self in
-    let after = held c.step_job.new.source.memory c.step_job.new.self in
+    let before = open_db c.args.source.now.memory c.args.self.now in
+    let between = open_db c.begin_job.new.source.memory c.begin_job.new.self in
+    let after = open_db c.step_job.new.source.memory c.step_job.new.self in
     let most = max c.args.budget 1 in
     let done = c.in_ok-step_job.field-0 in
     piece_done order old new ids before after most done Worked (piece_within order old new ids before after (0 + most) most (Ok done) (omega arith)
@@ -97,7 +97,7 @@ returns-clause-begins g c = λ done.
       picked = picked_for g.K.KeyOrder.cmp c.level0_files.result c.base_bytes.result c.args.options.now.level0_files c.args.options.now.base_bytes c.deref.result.now c.args.self.now.version.value c.in-Some.plan
           c.level0_files.ensures.is c.base_bytes.ensures.is c.deref.ensures
           (of_some _ (λ plan. IsPicked g.K.KeyOrder.cmp c.level0_files.result c.base_bytes.result c.deref.result.now plan) c.in_ok-plan.field-0 c.in-Some.plan c.in-Some.is c.in_ok-plan.ensures.picked);
-      begun = begun_further c.args.budget c.in-Some.plan (held c.args.source.now.memory c.args.self.now) (held c.begin_job.new.source.memory c.begin_job.new.self) (held c.step_job.new.source.memory c.step_job.new.self) b.same.tables b.none b.live c.in_ok-step_job.ensures.on;
+      begun = begun_further c.args.budget c.in-Some.plan (open_db c.args.source.now.memory c.args.self.now) (open_db c.begin_job.new.source.memory c.begin_job.new.self) (open_db c.step_job.new.source.memory c.step_job.new.self) b.same.tables b.none b.live c.in_ok-step_job.ensures.on;
     }
 
 pub returns-clause-few : goal.returns-clause-few
@@ -106,11 +106,11 @@ returns-clause-few g c worked f =
     let order = order_of g.K.KeyOrder.name g.K.KeyOrder.cmp in
     let old = seen_of g.S.Store.facts c.args.source.now in
     let mid = seen_of g.S.Store.facts c.begin_job.new.source in
-    let before = held c.args.source.now.memory c.args.self.now in
-    let between = held c.begin_job.new.source.memory c.begin_job.new.self in
+    let before = open_db c.args.source.now.memory c.args.self.now in
+    let between = open_db c.begin_job.new.source.memory c.begin_job.new.self in
     let b = c.in_ok-begin_job.ensures in
     let a = c.in_ok-step_job.ensures in
     let new = seen_of g.S.Store.facts c.step_job.new.source in
-    let after = held c.step_job.new.source.memory c.step_job.new.self in
+    let after = open_db c.step_job.new.source.memory c.step_job.new.self in
     let still = (a.step no_ids).faithful f in
     steps_begun order c.args.options.now old mid new before between after (max c.args.budget 1) c.in-Some.plan b.step still b.whole b.same.tables (b.files still) c.requires.none b.none b.live (returns-clause-begins g c worked).picked (a.few f) a.merges

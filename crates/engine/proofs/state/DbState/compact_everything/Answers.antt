@@ -6,13 +6,14 @@ use Rattle.edits.specs.declared.field.PlacedTable.{PlacedTable}
 use Rattle.versions.specs.Levels.{Placement}
 use Rattle.versions.specs.Plans.{IsWholePlan}
 use Rattle.engine.specs.declared.ids.Ids.{Ids}
-use Rattle.engine.specs.Finishing.{CompactOutcome, beyond}
-use Rattle.engine.specs.Follows.{LeadsOpen}
-use Rattle.engine.specs.Held.{held}
+use Rattle.engine.specs.Finishing.{CompactOutcome}
+use Rattle.engine.specs.internal.JobsToEnd.{beyond}
+use Rattle.engine.specs.internal.Leading.{LeadsOpen}
+use Rattle.engine.specs.OpenDb.{open_db}
 use Rattle.db_cursor.specs.Whole.{seen_of}
 use Rattle.machine.specs.Machine.{entry_count}
 use Rattle.machine.specs.Upkeep.{most_drawn}
-use Rattle.engine.specs.Working.{IsPiece, MayRefusePiece}
+use Rattle.engine.specs.internal.Pieces.{IsPiece, MayRefusePiece}
 use Rattle.engine.proofs.Emptied.{all_last, beyond_most, memory_left, none_there, on_ok}
 use Rattle.engine.proofs.Finishing.{outcome_all, outcome_done, outcome_then, serves_then, stays_done, stays_full, then_bound, within_bound}
 use Rattle.engine.proofs.WorkAnswers.{of_none, of_some}
@@ -23,9 +24,9 @@ pub returns-in_err-run_job_to_end-clause-step : goal.returns-in_err-run_job_to_e
 returns-in_err-run_job_to_end-clause-step g c ids =
     let order = order_of g.K.KeyOrder.name g.K.KeyOrder.cmp in
     let old = seen_of g.S.Store.facts c.args.source.now in
-    let before = held c.args.source.now.memory c.args.self.now in
+    let before = open_db c.args.source.now.memory c.args.self.now in
     let new = seen_of g.S.Store.facts c.run_job_to_end.new.source in
-    let after = held c.run_job_to_end.new.source.memory c.run_job_to_end.new.self in
+    let after = open_db c.run_job_to_end.new.source.memory c.run_job_to_end.new.self in
     let e = c.in_err-run_job_to_end.field-0.0 in
     let said : c.from_residual.result ≡ Err e = search rules in
     subst (λ (r : Result _ DbError). LeadsOpen order old new ids before after (λ m n. IsPiece m (most_drawn m) r n)) (sym said)
@@ -36,18 +37,18 @@ returns-in_err-run_job_to_end-clause-outcome g c =
     let facts = g.S.Store.facts in
     let e = c.in_err-run_job_to_end.field-0.0 in
     let said : c.from_residual.result ≡ Err e = search rules in
-    subst (λ (r : Result _ DbError). CompactOutcome MayRefusePiece (facts c.args.source.now.tables.store) (facts c.run_job_to_end.new.source.tables.store) (held c.args.source.now.memory c.args.self.now) (held c.run_job_to_end.new.source.memory c.run_job_to_end.new.self) r)
+    subst (λ (r : Result _ DbError). CompactOutcome MayRefusePiece (facts c.args.source.now.tables.store) (facts c.run_job_to_end.new.source.tables.store) (open_db c.args.source.now.memory c.args.self.now) (open_db c.run_job_to_end.new.source.memory c.run_job_to_end.new.self) r)
     (sym said) c.in_err-run_job_to_end.ensures.outcome
 
 pub returns-in_err-write_memory-clause-step : goal.returns-in_err-write_memory-clause-step
 returns-in_err-write_memory-clause-step g c ids =
     let order = order_of g.K.KeyOrder.name g.K.KeyOrder.cmp in
     let old = seen_of g.S.Store.facts c.args.source.now in
-    let before = held c.args.source.now.memory c.args.self.now in
+    let before = open_db c.args.source.now.memory c.args.self.now in
     let mid = seen_of g.S.Store.facts c.run_job_to_end.new.source in
-    let between = held c.run_job_to_end.new.source.memory c.run_job_to_end.new.self in
+    let between = open_db c.run_job_to_end.new.source.memory c.run_job_to_end.new.self in
     let new = seen_of g.S.Store.facts c.write_memory.new.source in
-    let after = held c.write_memory.new.source.memory c.write_memory.new.self in
+    let after = open_db c.write_memory.new.source.memory c.write_memory.new.self in
     let e = c.in_err-write_memory.field-0.0 in
     let said : c.from_residual-in_err-write_memory.result ≡ Err e = search rules in
     subst (λ (r : Result _ DbError). LeadsOpen order old new ids before after (λ m n. IsPiece m (most_drawn m) r n)) (sym said)
@@ -60,9 +61,9 @@ returns-in_err-write_memory-clause-outcome g c =
     let old = facts c.args.source.now.tables.store in
     let mid = facts c.run_job_to_end.new.source.tables.store in
     let new = facts c.write_memory.new.source.tables.store in
-    let before = held c.args.source.now.memory c.args.self.now in
-    let between = held c.run_job_to_end.new.source.memory c.run_job_to_end.new.self in
-    let after = held c.write_memory.new.source.memory c.write_memory.new.self in
+    let before = open_db c.args.source.now.memory c.args.self.now in
+    let between = open_db c.run_job_to_end.new.source.memory c.run_job_to_end.new.self in
+    let after = open_db c.write_memory.new.source.memory c.write_memory.new.self in
     let e = c.in_err-write_memory.field-0.0 in
     let said : c.from_residual-in_err-write_memory.result ≡ Err e = search rules in
     subst (λ (r : Result _ DbError). CompactOutcome MayRefusePiece old new before after r) (sym said)
@@ -72,11 +73,11 @@ pub returns-in_err-plan-clause-step : goal.returns-in_err-plan-clause-step
 returns-in_err-plan-clause-step g c ids =
     let order = order_of g.K.KeyOrder.name g.K.KeyOrder.cmp in
     let old = seen_of g.S.Store.facts c.args.source.now in
-    let before = held c.args.source.now.memory c.args.self.now in
+    let before = open_db c.args.source.now.memory c.args.self.now in
     let mid = seen_of g.S.Store.facts c.run_job_to_end.new.source in
-    let first = held c.run_job_to_end.new.source.memory c.run_job_to_end.new.self in
+    let first = open_db c.run_job_to_end.new.source.memory c.run_job_to_end.new.self in
     let later = seen_of g.S.Store.facts c.write_memory.new.source in
-    let second = held c.write_memory.new.source.memory c.write_memory.new.self in
+    let second = open_db c.write_memory.new.source.memory c.write_memory.new.self in
     let said : c.from_residual-in_err-plan.result ≡ Err OutOfMemory = search rules in
     subst (λ (r : Result _ DbError). LeadsOpen order old later ids before second (λ m n. IsPiece m (most_drawn m) r n)) (sym said)
     (within_bound order old later ids before second (λ k. (k + 0) + 3 + 0) (λ k. 4 + 2 * k) (Err OutOfMemory) (λ k. omega arith)
@@ -88,9 +89,9 @@ returns-in_err-plan-clause-outcome g c =
     let old = facts c.args.source.now.tables.store in
     let mid = facts c.run_job_to_end.new.source.tables.store in
     let later = facts c.write_memory.new.source.tables.store in
-    let before = held c.args.source.now.memory c.args.self.now in
-    let first = held c.run_job_to_end.new.source.memory c.run_job_to_end.new.self in
-    let second = held c.write_memory.new.source.memory c.write_memory.new.self in
+    let before = open_db c.args.source.now.memory c.args.self.now in
+    let first = open_db c.run_job_to_end.new.source.memory c.run_job_to_end.new.self in
+    let second = open_db c.write_memory.new.source.memory c.write_memory.new.self in
     let serves = serves_then old mid later before first second c.in_ok-run_job_to_end.ensures.serves c.in_ok-write_memory.ensures.serves in
     let said : c.from_residual-in_err-plan.result ≡ Err OutOfMemory = search rules in
     subst (λ (r : Result _ DbError). CompactOutcome MayRefusePiece old later before second r) (sym said) (outcome_all old later before second c.requires.whole serves)
@@ -99,11 +100,11 @@ pub returns-in_default-clause-step : goal.returns-in_default-clause-step
 returns-in_default-clause-step g c ids =
     let order = order_of g.K.KeyOrder.name g.K.KeyOrder.cmp in
     let old = seen_of g.S.Store.facts c.args.source.now in
-    let before = held c.args.source.now.memory c.args.self.now in
+    let before = open_db c.args.source.now.memory c.args.self.now in
     let mid = seen_of g.S.Store.facts c.run_job_to_end.new.source in
-    let first = held c.run_job_to_end.new.source.memory c.run_job_to_end.new.self in
+    let first = open_db c.run_job_to_end.new.source.memory c.run_job_to_end.new.self in
     let later = seen_of g.S.Store.facts c.write_memory.new.source in
-    let second = held c.write_memory.new.source.memory c.write_memory.new.self in
+    let second = open_db c.write_memory.new.source.memory c.write_memory.new.self in
     within_bound order old later ids before second (λ k. (k + 0) + 3) (λ k. 4 + 2 * k) (Ok (tt {0})) (λ k. omega arith) (then_bound order old mid later ids before first second (λ k. k + 0) (λ k. 3) (tt {0}) (Ok (tt {0})) (c.in_ok-run_job_to_end.ensures.step ids) (c.in_ok-write_memory.ensures.step ids))
 
 pub returns-in_default-clause-outcome : goal.returns-in_default-clause-outcome
@@ -112,9 +113,9 @@ returns-in_default-clause-outcome g c =
     let old = facts c.args.source.now.tables.store in
     let mid = facts c.run_job_to_end.new.source.tables.store in
     let later = facts c.write_memory.new.source.tables.store in
-    let before = held c.args.source.now.memory c.args.self.now in
-    let first = held c.run_job_to_end.new.source.memory c.run_job_to_end.new.self in
-    let second = held c.write_memory.new.source.memory c.write_memory.new.self in
+    let before = open_db c.args.source.now.memory c.args.self.now in
+    let first = open_db c.run_job_to_end.new.source.memory c.run_job_to_end.new.self in
+    let second = open_db c.write_memory.new.source.memory c.write_memory.new.self in
     let serves = serves_then old mid later before first second c.in_ok-run_job_to_end.ensures.serves c.in_ok-write_memory.ensures.serves in
     outcome_done MayRefusePiece old later before second (tt {0}) c.requires.whole serves
 
@@ -122,13 +123,13 @@ pub returns-clause-step : goal.returns-clause-step
 returns-clause-step g c ids =
     let order = order_of g.K.KeyOrder.name g.K.KeyOrder.cmp in
     let old = seen_of g.S.Store.facts c.args.source.now in
-    let before = held c.args.source.now.memory c.args.self.now in
+    let before = open_db c.args.source.now.memory c.args.self.now in
     let mid = seen_of g.S.Store.facts c.run_job_to_end.new.source in
-    let first = held c.run_job_to_end.new.source.memory c.run_job_to_end.new.self in
+    let first = open_db c.run_job_to_end.new.source.memory c.run_job_to_end.new.self in
     let later = seen_of g.S.Store.facts c.write_memory.new.source in
-    let second = held c.write_memory.new.source.memory c.write_memory.new.self in
+    let second = open_db c.write_memory.new.source.memory c.write_memory.new.self in
     let new = seen_of g.S.Store.facts c.run_job.new.source in
-    let after = held c.run_job.new.source.memory c.run_job.new.self in
+    let after = open_db c.run_job.new.source.memory c.run_job.new.self in
     let r = c.run_job.result in
     within_bound order old new ids before after (λ k. (k + 0) + 3 + (k + beyond r)) (λ k. 4 + 2 * k) r (λ k. (let most = beyond_most r in omega (arith, most)))
     (then_bound order old later new ids before second after (λ k. (k + 0) + 3) (λ k. k + beyond r) (tt {0}) r (then_bound order old mid later ids before first second (λ k. k + 0) (λ k. 3) (tt {0}) (Ok (tt {0})) (c.in_ok-run_job_to_end.ensures.step ids) (c.in_ok-write_memory.ensures.step ids)) (c.run_job.ensures.step ids))
@@ -139,11 +140,11 @@ returns-clause-outcome g c =
     let old = facts c.args.source.now.tables.store in
     let mid = facts c.run_job_to_end.new.source.tables.store in
     let later = facts c.write_memory.new.source.tables.store in
-    let before = held c.args.source.now.memory c.args.self.now in
-    let first = held c.run_job_to_end.new.source.memory c.run_job_to_end.new.self in
-    let second = held c.write_memory.new.source.memory c.write_memory.new.self in
+    let before = open_db c.args.source.now.memory c.args.self.now in
+    let first = open_db c.run_job_to_end.new.source.memory c.run_job_to_end.new.self in
+    let second = open_db c.write_memory.new.source.memory c.write_memory.new.self in
     let serves = serves_then old mid later before first second c.in_ok-run_job_to_end.ensures.serves c.in_ok-write_memory.ensures.serves in
-    outcome_then MayRefusePiece old later (facts c.run_job.new.source.tables.store) before second (held c.run_job.new.source.memory c.run_job.new.self) c.run_job.result c.requires.whole serves c.run_job.ensures.outcome
+    outcome_then MayRefusePiece old later (facts c.run_job.new.source.tables.store) before second (open_db c.run_job.new.source.memory c.run_job.new.self) c.run_job.result c.requires.whole serves c.run_job.ensures.outcome
 
 pub returns-in_default-clause-compacted : goal.returns-in_default-clause-compacted
 returns-in_default-clause-compacted g c =
@@ -159,7 +160,7 @@ returns-clause-compacted g c =
     let tables_are : c.deref.result.now.tables ≡ tables = ap (λ (p : Placement). p.tables) c.deref.ensures in
     let planned = of_some (c.deref.result.now.tables ≡ []) (IsWholePlan c.deref.result.now.tables) c.in_ok-plan.field-0 plan c.in-Some.is c.in_ok-plan.ensures in
     on_ok c.run_job.result (λ h. record {
-      memory = memory_left (held c.write_memory.new.source.memory c.write_memory.new.self) (held c.run_job.new.source.memory c.run_job.new.self) c.run_job.ensures.memory c.in_ok-write_memory.ensures.written;
+      memory = memory_left (open_db c.write_memory.new.source.memory c.write_memory.new.self) (open_db c.run_job.new.source.memory c.run_job.new.self) c.run_job.ensures.memory c.in_ok-write_memory.ensures.written;
       levels = all_last tables c.run_job.new.self.version.value.tables plan (subst (λ (ts : List PlacedTable). IsWholePlan ts plan) tables_are planned) h;
     }) c.run_job.ensures.done
 
@@ -167,11 +168,11 @@ pub returns-in_default-clause-needed : goal.returns-in_default-clause-needed
 returns-in_default-clause-needed g c =
     let order = order_of g.K.KeyOrder.name g.K.KeyOrder.cmp in
     let old = seen_of g.S.Store.facts c.args.source.now in
-    let before = held c.args.source.now.memory c.args.self.now in
+    let before = open_db c.args.source.now.memory c.args.self.now in
     let mid = seen_of g.S.Store.facts c.run_job_to_end.new.source in
-    let first = held c.run_job_to_end.new.source.memory c.run_job_to_end.new.self in
+    let first = open_db c.run_job_to_end.new.source.memory c.run_job_to_end.new.self in
     let later = seen_of g.S.Store.facts c.write_memory.new.source in
-    let second = held c.write_memory.new.source.memory c.write_memory.new.self in
+    let second = open_db c.write_memory.new.source.memory c.write_memory.new.self in
     let tables_are : c.deref.result.now.tables ≡ second.tables = ap (λ (p : Placement). p.tables) c.deref.ensures in
     let none = of_none (c.deref.result.now.tables ≡ []) (IsWholePlan c.deref.result.now.tables) c.in_ok-plan.field-0 c.in_default.is c.in_ok-plan.ensures in
     let written = c.in_ok-write_memory.ensures in
@@ -182,13 +183,13 @@ pub returns-clause-needed : goal.returns-clause-needed
 returns-clause-needed g c =
     let order = order_of g.K.KeyOrder.name g.K.KeyOrder.cmp in
     let old = seen_of g.S.Store.facts c.args.source.now in
-    let before = held c.args.source.now.memory c.args.self.now in
+    let before = open_db c.args.source.now.memory c.args.self.now in
     let mid = seen_of g.S.Store.facts c.run_job_to_end.new.source in
-    let first = held c.run_job_to_end.new.source.memory c.run_job_to_end.new.self in
+    let first = open_db c.run_job_to_end.new.source.memory c.run_job_to_end.new.self in
     let later = seen_of g.S.Store.facts c.write_memory.new.source in
-    let second = held c.write_memory.new.source.memory c.write_memory.new.self in
+    let second = open_db c.write_memory.new.source.memory c.write_memory.new.self in
     let new = seen_of g.S.Store.facts c.run_job.new.source in
-    let after = held c.run_job.new.source.memory c.run_job.new.self in
+    let after = open_db c.run_job.new.source.memory c.run_job.new.self in
     let plan = c.in-Some.plan in
     let tables_are : c.deref.result.now.tables ≡ second.tables = ap (λ (p : Placement). p.tables) c.deref.ensures in
     let planned = of_some (c.deref.result.now.tables ≡ []) (IsWholePlan c.deref.result.now.tables) c.in_ok-plan.field-0 plan c.in-Some.is c.in_ok-plan.ensures in

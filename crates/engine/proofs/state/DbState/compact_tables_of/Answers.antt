@@ -5,12 +5,14 @@ use Rattle.ikey.specs.Orders.{order_of}
 use Rattle.edits.specs.declared.field.PlacedTable.{PlacedTable}
 use Rattle.versions.specs.Levels.{Placement, tables_at}
 use Rattle.versions.specs.Plans.{IsLevelPlan, IsPlanOf}
-use Rattle.engine.specs.Finishing.{CompactOutcome, beyond}
-use Rattle.engine.specs.Follows.{LeadsOpen}
-use Rattle.engine.specs.Held.{held}
+use Rattle.memtables.specs.PlaceLaws.{left_onward}
+use Rattle.engine.specs.Finishing.{CompactOutcome}
+use Rattle.engine.specs.internal.JobsToEnd.{beyond}
+use Rattle.engine.specs.internal.Leading.{LeadsOpen}
+use Rattle.engine.specs.OpenDb.{open_db}
 use Rattle.db_cursor.specs.Whole.{seen_of}
 use Rattle.machine.specs.Upkeep.{most_drawn}
-use Rattle.engine.specs.Working.{IsPiece, MayRefusePiece}
+use Rattle.engine.specs.internal.Pieces.{IsPiece, MayRefusePiece}
 use Rattle.engine.proofs.Emptied.{beyond_most, both_ok, level_emptied, level_moved, level_unmoved, on_ok}
 use Rattle.engine.proofs.Finishing.{outcome_all, outcome_done, outcome_then, stays_full, then_bound, within_bound}
 use Rattle.engine.proofs.NeededEnds.{merges_level, merges_none}
@@ -21,9 +23,9 @@ pub returns-in_err-run_job_to_end-clause-step : goal.returns-in_err-run_job_to_e
 returns-in_err-run_job_to_end-clause-step g c ids =
     let order = order_of g.K.KeyOrder.name g.K.KeyOrder.cmp in
     let old = seen_of g.S.Store.facts c.args.source.now in
-    let before = held c.args.source.now.memory c.args.self.now in
+    let before = open_db c.args.source.now.memory c.args.self.now in
     let new = seen_of g.S.Store.facts c.run_job_to_end.new.source in
-    let after = held c.run_job_to_end.new.source.memory c.run_job_to_end.new.self in
+    let after = open_db c.run_job_to_end.new.source.memory c.run_job_to_end.new.self in
     let e = c.in_err-run_job_to_end.field-0.0 in
     let said : c.from_residual.result ≡ Err e = search rules in
     subst (λ (r : Result _ DbError). LeadsOpen order old new ids before after (λ m n. IsPiece m (most_drawn m) r n)) (sym said)
@@ -34,16 +36,16 @@ returns-in_err-run_job_to_end-clause-outcome g c =
     let facts = g.S.Store.facts in
     let e = c.in_err-run_job_to_end.field-0.0 in
     let said : c.from_residual.result ≡ Err e = search rules in
-    subst (λ (r : Result _ DbError). CompactOutcome MayRefusePiece (facts c.args.source.now.tables.store) (facts c.run_job_to_end.new.source.tables.store) (held c.args.source.now.memory c.args.self.now) (held c.run_job_to_end.new.source.memory c.run_job_to_end.new.self) r)
+    subst (λ (r : Result _ DbError). CompactOutcome MayRefusePiece (facts c.args.source.now.tables.store) (facts c.run_job_to_end.new.source.tables.store) (open_db c.args.source.now.memory c.args.self.now) (open_db c.run_job_to_end.new.source.memory c.run_job_to_end.new.self) r)
     (sym said) c.in_err-run_job_to_end.ensures.outcome
 
 pub returns-in_err-plan-clause-step : goal.returns-in_err-plan-clause-step
 returns-in_err-plan-clause-step g c ids =
     let order = order_of g.K.KeyOrder.name g.K.KeyOrder.cmp in
     let old = seen_of g.S.Store.facts c.args.source.now in
-    let before = held c.args.source.now.memory c.args.self.now in
+    let before = open_db c.args.source.now.memory c.args.self.now in
     let later = seen_of g.S.Store.facts c.run_job_to_end.new.source in
-    let second = held c.run_job_to_end.new.source.memory c.run_job_to_end.new.self in
+    let second = open_db c.run_job_to_end.new.source.memory c.run_job_to_end.new.self in
     let said : c.from_residual-in_err-plan.result ≡ Err OutOfMemory = search rules in
     subst (λ (r : Result _ DbError). LeadsOpen order old later ids before second (λ m n. IsPiece m (most_drawn m) r n)) (sym said)
     (within_bound order old later ids before second (λ k. k + 0 + 0) (λ k. 4 + 2 * k) (Err OutOfMemory) (λ k. omega arith)
@@ -54,8 +56,8 @@ returns-in_err-plan-clause-outcome g c =
     let facts = g.S.Store.facts in
     let old = facts c.args.source.now.tables.store in
     let later = facts c.run_job_to_end.new.source.tables.store in
-    let before = held c.args.source.now.memory c.args.self.now in
-    let second = held c.run_job_to_end.new.source.memory c.run_job_to_end.new.self in
+    let before = open_db c.args.source.now.memory c.args.self.now in
+    let second = open_db c.run_job_to_end.new.source.memory c.run_job_to_end.new.self in
     let serves = c.in_ok-run_job_to_end.ensures.serves in
     let said : c.from_residual-in_err-plan.result ≡ Err OutOfMemory = search rules in
     subst (λ (r : Result _ DbError). CompactOutcome MayRefusePiece old later before second r) (sym said) (outcome_all old later before second c.requires.whole serves)
@@ -64,9 +66,9 @@ pub returns-in_default-clause-step : goal.returns-in_default-clause-step
 returns-in_default-clause-step g c ids =
     let order = order_of g.K.KeyOrder.name g.K.KeyOrder.cmp in
     let old = seen_of g.S.Store.facts c.args.source.now in
-    let before = held c.args.source.now.memory c.args.self.now in
+    let before = open_db c.args.source.now.memory c.args.self.now in
     let later = seen_of g.S.Store.facts c.run_job_to_end.new.source in
-    let second = held c.run_job_to_end.new.source.memory c.run_job_to_end.new.self in
+    let second = open_db c.run_job_to_end.new.source.memory c.run_job_to_end.new.self in
     within_bound order old later ids before second (λ k. k + 0) (λ k. 4 + 2 * k) (Ok (tt {0})) (λ k. omega arith) (c.in_ok-run_job_to_end.ensures.step ids)
 
 pub returns-in_default-clause-outcome : goal.returns-in_default-clause-outcome
@@ -74,8 +76,8 @@ returns-in_default-clause-outcome g c =
     let facts = g.S.Store.facts in
     let old = facts c.args.source.now.tables.store in
     let later = facts c.run_job_to_end.new.source.tables.store in
-    let before = held c.args.source.now.memory c.args.self.now in
-    let second = held c.run_job_to_end.new.source.memory c.run_job_to_end.new.self in
+    let before = open_db c.args.source.now.memory c.args.self.now in
+    let second = open_db c.run_job_to_end.new.source.memory c.run_job_to_end.new.self in
     let serves = c.in_ok-run_job_to_end.ensures.serves in
     outcome_done MayRefusePiece old later before second (tt {0}) c.requires.whole serves
 
@@ -83,11 +85,11 @@ pub returns-clause-step : goal.returns-clause-step
 returns-clause-step g c ids =
     let order = order_of g.K.KeyOrder.name g.K.KeyOrder.cmp in
     let old = seen_of g.S.Store.facts c.args.source.now in
-    let before = held c.args.source.now.memory c.args.self.now in
+    let before = open_db c.args.source.now.memory c.args.self.now in
     let later = seen_of g.S.Store.facts c.run_job_to_end.new.source in
-    let second = held c.run_job_to_end.new.source.memory c.run_job_to_end.new.self in
+    let second = open_db c.run_job_to_end.new.source.memory c.run_job_to_end.new.self in
     let new = seen_of g.S.Store.facts c.run_job.new.source in
-    let after = held c.run_job.new.source.memory c.run_job.new.self in
+    let after = open_db c.run_job.new.source.memory c.run_job.new.self in
     let r = c.run_job.result in
     within_bound order old new ids before after (λ k. k + 0 + (k + beyond r)) (λ k. 4 + 2 * k) r (λ k. (let most = beyond_most r in omega (arith, most)))
     (then_bound order old later new ids before second after (λ k. k + 0) (λ k. k + beyond r) (tt {0}) r (c.in_ok-run_job_to_end.ensures.step ids) (c.run_job.ensures.step ids))
@@ -97,10 +99,10 @@ returns-clause-outcome g c =
     let facts = g.S.Store.facts in
     let old = facts c.args.source.now.tables.store in
     let later = facts c.run_job_to_end.new.source.tables.store in
-    let before = held c.args.source.now.memory c.args.self.now in
-    let second = held c.run_job_to_end.new.source.memory c.run_job_to_end.new.self in
+    let before = open_db c.args.source.now.memory c.args.self.now in
+    let second = open_db c.run_job_to_end.new.source.memory c.run_job_to_end.new.self in
     let serves = c.in_ok-run_job_to_end.ensures.serves in
-    outcome_then MayRefusePiece old later (facts c.run_job.new.source.tables.store) before second (held c.run_job.new.source.memory c.run_job.new.self) c.run_job.result c.requires.whole serves c.run_job.ensures.outcome
+    outcome_then MayRefusePiece old later (facts c.run_job.new.source.tables.store) before second (open_db c.run_job.new.source.memory c.run_job.new.self) c.run_job.result c.requires.whole serves c.run_job.ensures.outcome
 
 pub returns-in_default-clause-emptied : goal.returns-in_default-clause-emptied
 returns-in_default-clause-emptied g c =
@@ -124,15 +126,15 @@ returns-clause-emptied g c =
 pub returns-in_default-clause-moves : goal.returns-in_default-clause-moves
 returns-in_default-clause-moves g c =
     let r = c.in_ok-run_job_to_end.ensures in
-    level_unmoved g.K.KeyOrder.cmp c.args.level (held c.args.source.now.memory c.args.self.now) (held c.run_job_to_end.new.source.memory c.run_job_to_end.new.self) r.done r.stays r.none (returns-in_default-clause-emptied g c)
+    level_unmoved g.K.KeyOrder.cmp c.args.level (open_db c.args.source.now.memory c.args.self.now) (open_db c.run_job_to_end.new.source.memory c.run_job_to_end.new.self) r.done r.stays r.none (returns-in_default-clause-emptied g c)
 
 pub returns-clause-moves : goal.returns-clause-moves
 returns-clause-moves g c =
     let cmp = g.K.KeyOrder.cmp in
     let level = c.args.level in
     let plan = c.in-Some.plan in
-    let before = held c.args.source.now.memory c.args.self.now in
-    let after = held c.run_job.new.source.memory c.run_job.new.self in
+    let before = open_db c.args.source.now.memory c.args.self.now in
+    let after = open_db c.run_job.new.source.memory c.run_job.new.self in
     let tables = c.run_job_to_end.new.self.version.value.tables in
     let tables_are : c.deref.result.now.tables ≡ tables = ap (λ (p : Placement). p.tables) c.deref.ensures in
     let planned = of_some (tables_at level c.deref.result.now.tables ≡ []) (IsLevelPlan cmp c.deref.result.now.tables level) c.in_ok-plan.field-0 plan c.in-Some.is c.in_ok-plan.ensures in
@@ -154,8 +156,8 @@ returns-in_default-clause-merges g c =
     let order = order_of g.K.KeyOrder.name g.K.KeyOrder.cmp in
     let old = seen_of g.S.Store.facts c.args.source.now in
     let mid = seen_of g.S.Store.facts c.run_job_to_end.new.source in
-    let before = held c.args.source.now.memory c.args.self.now in
-    let between = held c.run_job_to_end.new.source.memory c.run_job_to_end.new.self in
+    let before = open_db c.args.source.now.memory c.args.self.now in
+    let between = open_db c.run_job_to_end.new.source.memory c.run_job_to_end.new.self in
     let r = c.in_ok-run_job_to_end.ensures in
     merges_none order c.args.level old mid before between r.step r.merges (returns-in_default-clause-emptied g c)
 
@@ -168,10 +170,13 @@ returns-clause-merges g c =
     let old = seen_of g.S.Store.facts c.args.source.now in
     let mid = seen_of g.S.Store.facts c.run_job_to_end.new.source in
     let new = seen_of g.S.Store.facts c.run_job.new.source in
-    let before = held c.args.source.now.memory c.args.self.now in
-    let between = held c.run_job_to_end.new.source.memory c.run_job_to_end.new.self in
-    let after = held c.run_job.new.source.memory c.run_job.new.self in
+    let before = open_db c.args.source.now.memory c.args.self.now in
+    let between = open_db c.run_job_to_end.new.source.memory c.run_job_to_end.new.self in
+    let after = open_db c.run_job.new.source.memory c.run_job.new.self in
     let tables_are : c.deref.result.now.tables ≡ between.tables = ap (λ (p : Placement). p.tables) c.deref.ensures in
     let planned = of_some (tables_at level c.deref.result.now.tables ≡ []) (IsLevelPlan cmp c.deref.result.now.tables level) c.in_ok-plan.field-0 plan c.in-Some.is c.in_ok-plan.ensures in
     let r = c.in_ok-run_job_to_end.ensures in
     on_ok c.run_job.result (λ merges. merges_level order level old mid new before between after plan r.step c.run_job.ensures.step r.merges (subst (λ (ts : List PlacedTable). IsLevelPlan cmp ts level plan) tables_are planned) merges) c.run_job.ensures.merges
+
+pub returns-clause-memory : goal.returns-clause-memory
+returns-clause-memory g c = left_onward c.args.source.now.memory c.run_job_to_end.new.source.memory c.run_job.new.source.memory c.in_ok-run_job_to_end.ensures.memory c.run_job.ensures.memory

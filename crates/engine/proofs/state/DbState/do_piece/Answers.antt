@@ -3,10 +3,10 @@ use Rattle.coding.specs.declared.error.DbError.{DbError}
 use Rattle.ikey.specs.Orders.{order_of}
 use Rattle.engine.specs.declared.work.Progress.{Progress}
 use Rattle.engine.specs.declared.work.Progress.TheVariants.{Worked}
-use Rattle.engine.specs.Follows.{LeadsOpen}
-use Rattle.engine.specs.Held.{held}
+use Rattle.engine.specs.internal.Leading.{LeadsOpen}
+use Rattle.engine.specs.OpenDb.{open_db}
 use Rattle.db_cursor.specs.Whole.{seen_of}
-use Rattle.engine.specs.Working.{IsPiece}
+use Rattle.engine.specs.internal.Pieces.{IsPiece}
 use Rattle.engine.proofs.WorkSteps.{piece_done, piece_failed}
 use Rattle.engine.proofs.WithinBudget.{not_some, steps_itself}
 use Rattle.engine.proofs.state.DbState.do_piece.Goals as goal
@@ -16,23 +16,23 @@ returns-in_err-step_job-clause-step g c ids =
     let order = order_of g.K.KeyOrder.name g.K.KeyOrder.cmp in
     let old = seen_of g.S.Store.facts c.args.source.now in
     let new = seen_of g.S.Store.facts c.step_job.new.source in
-    let before = held c.args.source.now.memory c.args.self.now in
-    let after = held c.step_job.new.source.memory c.step_job.new.self in
+    let before = open_db c.args.source.now.memory c.args.self.now in
+    let after = open_db c.step_job.new.source.memory c.step_job.new.self in
     let e = c.in_err-step_job.field-0.0 in
     let is : c.from_residual.result ≡ Err e = search rules in
     subst (λ (r : Result Progress DbError). LeadsOpen order old new ids before after (λ m n. IsPiece m (max c.args.budget 1) r n)) (sym is) (piece_failed order old new ids before after (max c.args.budget 1) e (c.in_err-step_job.ensures.step ids))
 
 pub returns-then-is_some-clause-step : goal.returns-then-is_some-clause-step
 returns-then-is_some-clause-step g c ids =
-    piece_done (order_of g.K.KeyOrder.name g.K.KeyOrder.cmp) (seen_of g.S.Store.facts c.args.source.now) (seen_of g.S.Store.facts c.step_job.new.source) ids (held c.args.source.now.memory c.args.self.now) (held c.step_job.new.source.memory c.step_job.new.self)
+    piece_done (order_of g.K.KeyOrder.name g.K.KeyOrder.cmp) (seen_of g.S.Store.facts c.args.source.now) (seen_of g.S.Store.facts c.step_job.new.source) ids (open_db c.args.source.now.memory c.args.self.now) (open_db c.step_job.new.source.memory c.step_job.new.self)
     (max c.args.budget 1) c.in_ok-step_job.field-0 Worked (c.in_ok-step_job.ensures.step ids)
 
 pub returns-then-is_some-clause-within : goal.returns-then-is_some-clause-within
 returns-then-is_some-clause-within g c worked which f =
     let old = seen_of g.S.Store.facts c.args.source.now in
     let new = seen_of g.S.Store.facts c.step_job.new.source in
-    let before = held c.args.source.now.memory c.args.self.now in
-    let after = held c.step_job.new.source.memory c.step_job.new.self in
+    let before = open_db c.args.source.now.memory c.args.self.now in
+    let after = open_db c.step_job.new.source.memory c.step_job.new.self in
     let a = c.in_ok-step_job.ensures in
     steps_itself (order_of g.K.KeyOrder.name g.K.KeyOrder.cmp) c.args.options.now old new before after (max c.args.budget 1) c.requires.whole (a.few f) a.merges
 

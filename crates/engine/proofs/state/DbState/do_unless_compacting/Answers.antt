@@ -3,10 +3,10 @@ use Rattle.coding.specs.declared.error.DbError.{DbError}
 use Rattle.ikey.specs.Orders.{order_of}
 use Rattle.engine.specs.declared.work.Progress.{Progress}
 use Rattle.engine.specs.declared.work.Progress.TheVariants.{Worked}
-use Rattle.engine.specs.Follows.{LeadsOpen}
-use Rattle.engine.specs.Held.{held}
+use Rattle.engine.specs.internal.Leading.{LeadsOpen}
+use Rattle.engine.specs.OpenDb.{open_db}
 use Rattle.db_cursor.specs.Whole.{seen_of}
-use Rattle.engine.specs.Working.{IsPiece}
+use Rattle.engine.specs.internal.Pieces.{IsPiece}
 use Rattle.engine.proofs.WorkSteps.{piece_done, piece_failed, piece_within}
 use Rattle.engine.proofs.WithinBudget.{not_some}
 use Rattle.engine.proofs.state.DbState.do_unless_compacting.Goals as goal
@@ -16,8 +16,8 @@ returns-in_err-flush-clause-step g c ids =
     let order = order_of g.K.KeyOrder.name g.K.KeyOrder.cmp in
     let old = seen_of g.S.Store.facts c.args.source.now in
     let new = seen_of g.S.Store.facts c.flush.new.source in
-    let before = held c.args.source.now.memory c.args.self.now in
-    let after = held c.flush.new.source.memory c.flush.new.self in
+    let before = open_db c.args.source.now.memory c.args.self.now in
+    let after = open_db c.flush.new.source.memory c.flush.new.self in
     let e = c.in_err-flush.field-0.0 in
     let is : c.from_residual.result ≡ Err e = search rules in
     subst (λ (r : Result Progress DbError). LeadsOpen order old new ids before after (λ m n. IsPiece m (max c.args.budget 1) r n)) (sym is)
@@ -28,8 +28,8 @@ returns-then-is_some-clause-step g c ids =
     let order = order_of g.K.KeyOrder.name g.K.KeyOrder.cmp in
     let old = seen_of g.S.Store.facts c.args.source.now in
     let new = seen_of g.S.Store.facts c.flush.new.source in
-    let before = held c.args.source.now.memory c.args.self.now in
-    let after = held c.flush.new.source.memory c.flush.new.self in
+    let before = open_db c.args.source.now.memory c.args.self.now in
+    let after = open_db c.flush.new.source.memory c.flush.new.self in
     piece_done order old new ids before after (max c.args.budget 1) (tt {0}) Worked (piece_within order old new ids before after 1 (max c.args.budget 1) (Ok (tt {0})) (omega arith) (c.in_ok-flush.ensures.step ids))
 
 pub returns-in_err-seal-clause-step : goal.returns-in_err-seal-clause-step
@@ -37,8 +37,8 @@ returns-in_err-seal-clause-step g c ids =
     let order = order_of g.K.KeyOrder.name g.K.KeyOrder.cmp in
     let old = seen_of g.S.Store.facts c.args.source.now in
     let new = seen_of g.S.Store.facts c.seal.new.source in
-    let before = held c.args.source.now.memory c.args.self.now in
-    let after = held c.seal.new.source.memory c.seal.new.self in
+    let before = open_db c.args.source.now.memory c.args.self.now in
+    let after = open_db c.seal.new.source.memory c.seal.new.self in
     let e = c.in_err-seal.field-0.0 in
     let is : c.from_residual-in_err-seal.result ≡ Err e = search rules in
     subst (λ (r : Result Progress DbError). LeadsOpen order old new ids before after (λ m n. IsPiece m (max c.args.budget 1) r n)) (sym is)
@@ -49,8 +49,8 @@ returns-clause-step g c ids =
     let order = order_of g.K.KeyOrder.name g.K.KeyOrder.cmp in
     let old = seen_of g.S.Store.facts c.args.source.now in
     let new = seen_of g.S.Store.facts c.seal.new.source in
-    let before = held c.args.source.now.memory c.args.self.now in
-    let after = held c.seal.new.source.memory c.seal.new.self in
+    let before = open_db c.args.source.now.memory c.args.self.now in
+    let after = open_db c.seal.new.source.memory c.seal.new.self in
     piece_done order old new ids before after (max c.args.budget 1) (tt {0}) Worked (piece_within order old new ids before after 1 (max c.args.budget 1) (Ok (tt {0})) (omega arith) (c.in_ok-seal.ensures.step ids))
 
 pub returns-then-is_some-clause-within : goal.returns-then-is_some-clause-within

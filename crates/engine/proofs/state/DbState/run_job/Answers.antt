@@ -2,11 +2,12 @@ use Rattle.std.proofs.Common.{◌≡◌, ◌+◌, Result, Err, sym, subst, arith
 use Rattle.coding.specs.declared.error.DbError.{DbError}
 use Rattle.ikey.specs.Orders.{order_of}
 use Rattle.memtables.specs.PlaceLaws.{left_onward}
-use Rattle.engine.specs.Finishing.{CompactOutcome, EndsJob, beyond}
-use Rattle.engine.specs.Follows.{LeadsOpen}
-use Rattle.engine.specs.Held.{held}
+use Rattle.engine.specs.Finishing.{CompactOutcome}
+use Rattle.engine.specs.internal.JobsToEnd.{EndsJob, beyond}
+use Rattle.engine.specs.internal.Leading.{LeadsOpen}
+use Rattle.engine.specs.OpenDb.{open_db}
 use Rattle.db_cursor.specs.Whole.{seen_of}
-use Rattle.engine.specs.Working.{MayRefusePiece}
+use Rattle.engine.specs.internal.Pieces.{MayRefusePiece}
 use Rattle.engine.proofs.Emptied.{done_of, on_ok}
 use Rattle.engine.proofs.Finishing.{outcome_of, outcome_then, serves_begun, then_bound, within_bound}
 use Rattle.engine.proofs.NeededEnds.{merges_plan, needed_behind}
@@ -16,9 +17,9 @@ pub returns-in_err-begin_job-clause-step : goal.returns-in_err-begin_job-clause-
 returns-in_err-begin_job-clause-step g c ids =
     let order = order_of g.K.KeyOrder.name g.K.KeyOrder.cmp in
     let old = seen_of g.S.Store.facts c.args.source.now in
-    let before = held c.args.source.now.memory c.args.self.now in
+    let before = open_db c.args.source.now.memory c.args.self.now in
     let new = seen_of g.S.Store.facts c.begin_job.new.source in
-    let after = held c.begin_job.new.source.memory c.begin_job.new.self in
+    let after = open_db c.begin_job.new.source.memory c.begin_job.new.self in
     let e = c.in_err-begin_job.field-0.0 in
     let said : c.from_residual.result ≡ Err e = search rules in
     subst (λ (r : Result _ DbError). LeadsOpen order old new ids before after (λ m n. EndsJob m r n)) (sym said)
@@ -29,8 +30,8 @@ returns-in_err-begin_job-clause-outcome g c =
     let facts = g.S.Store.facts in
     let old = facts c.args.source.now.tables.store in
     let new = facts c.begin_job.new.source.tables.store in
-    let before = held c.args.source.now.memory c.args.self.now in
-    let after = held c.begin_job.new.source.memory c.begin_job.new.self in
+    let before = open_db c.args.source.now.memory c.args.self.now in
+    let after = open_db c.begin_job.new.source.memory c.begin_job.new.self in
     let e = c.in_err-begin_job.field-0.0 in
     let said : c.from_residual.result ≡ Err e = search rules in
     let b = c.in_err-begin_job.ensures in
@@ -40,11 +41,11 @@ pub returns-clause-step : goal.returns-clause-step
 returns-clause-step g c ids =
     let order = order_of g.K.KeyOrder.name g.K.KeyOrder.cmp in
     let old = seen_of g.S.Store.facts c.args.source.now in
-    let before = held c.args.source.now.memory c.args.self.now in
+    let before = open_db c.args.source.now.memory c.args.self.now in
     let mid = seen_of g.S.Store.facts c.begin_job.new.source in
-    let between = held c.begin_job.new.source.memory c.begin_job.new.self in
+    let between = open_db c.begin_job.new.source.memory c.begin_job.new.self in
     let new = seen_of g.S.Store.facts c.run_job_to_end.new.source in
-    let after = held c.run_job_to_end.new.source.memory c.run_job_to_end.new.self in
+    let after = open_db c.run_job_to_end.new.source.memory c.run_job_to_end.new.self in
     let r = c.run_job_to_end.result in
     within_bound order old new ids before after (λ k. 0 + (k + beyond r)) (λ k. k + beyond r) r (λ k. omega arith)
     (then_bound order old mid new ids before between after (λ k. 0) (λ k. k + beyond r) (tt {0}) r (c.in_ok-begin_job.ensures.step ids) (c.run_job_to_end.ensures.step ids))
@@ -55,9 +56,9 @@ returns-clause-outcome g c =
     let old = facts c.args.source.now.tables.store in
     let mid = facts c.begin_job.new.source.tables.store in
     let new = facts c.run_job_to_end.new.source.tables.store in
-    let before = held c.args.source.now.memory c.args.self.now in
-    let between = held c.begin_job.new.source.memory c.begin_job.new.self in
-    let after = held c.run_job_to_end.new.source.memory c.run_job_to_end.new.self in
+    let before = open_db c.args.source.now.memory c.args.self.now in
+    let between = open_db c.begin_job.new.source.memory c.begin_job.new.self in
+    let after = open_db c.run_job_to_end.new.source.memory c.run_job_to_end.new.self in
     let b = c.in_ok-begin_job.ensures in
     outcome_then MayRefusePiece old mid new before between after c.run_job_to_end.result c.requires.whole (serves_begun old mid before between b.stood b.outcome.denials b.lock b.whole b.same) c.run_job_to_end.ensures.outcome
 
@@ -73,11 +74,11 @@ pub returns-clause-needed : goal.returns-clause-needed
 returns-clause-needed g c =
     let order = order_of g.K.KeyOrder.name g.K.KeyOrder.cmp in
     let old = seen_of g.S.Store.facts c.args.source.now in
-    let before = held c.args.source.now.memory c.args.self.now in
+    let before = open_db c.args.source.now.memory c.args.self.now in
     let mid = seen_of g.S.Store.facts c.begin_job.new.source in
-    let between = held c.begin_job.new.source.memory c.begin_job.new.self in
+    let between = open_db c.begin_job.new.source.memory c.begin_job.new.self in
     let new = seen_of g.S.Store.facts c.run_job_to_end.new.source in
-    let after = held c.run_job_to_end.new.source.memory c.run_job_to_end.new.self in
+    let after = open_db c.run_job_to_end.new.source.memory c.run_job_to_end.new.self in
     let b = c.in_ok-begin_job.ensures in
     on_ok c.run_job_to_end.result (λ ends whole. needed_behind order old mid new before between after b.step c.run_job_to_end.ensures.step (ends (b.all whole))) c.run_job_to_end.ensures.needed
 
@@ -85,11 +86,11 @@ pub returns-clause-merges : goal.returns-clause-merges
 returns-clause-merges g c =
     let order = order_of g.K.KeyOrder.name g.K.KeyOrder.cmp in
     let old = seen_of g.S.Store.facts c.args.source.now in
-    let before = held c.args.source.now.memory c.args.self.now in
+    let before = open_db c.args.source.now.memory c.args.self.now in
     let mid = seen_of g.S.Store.facts c.begin_job.new.source in
-    let between = held c.begin_job.new.source.memory c.begin_job.new.self in
+    let between = open_db c.begin_job.new.source.memory c.begin_job.new.self in
     let new = seen_of g.S.Store.facts c.run_job_to_end.new.source in
-    let after = held c.run_job_to_end.new.source.memory c.run_job_to_end.new.self in
+    let after = open_db c.run_job_to_end.new.source.memory c.run_job_to_end.new.self in
     let b = c.in_ok-begin_job.ensures in
     let r = c.run_job_to_end.ensures in
     on_ok c.run_job_to_end.result (λ merges. merges_plan order c.args.plan old mid new before between after b.step r.step b.same.tables b.begun b.none b.live merges) r.merges

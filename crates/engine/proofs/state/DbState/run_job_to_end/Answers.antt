@@ -1,9 +1,9 @@
 use Rattle.std.proofs.Common.{◌≡◌, ◌+◌, None, IsSome, refl, rules}
 use Rattle.ikey.specs.Orders.{order_of}
 use Rattle.memtables.specs.PlaceLaws.{left_there}
-use Rattle.engine.specs.Held.{held}
+use Rattle.engine.specs.OpenDb.{open_db}
 use Rattle.db_cursor.specs.Whole.{seen_of}
-use Rattle.engine.specs.Working.{MayRefusePiece}
+use Rattle.engine.specs.internal.Pieces.{MayRefusePiece}
 use Rattle.engine.proofs.Emptied.{always_ok, on_ok}
 use Rattle.engine.proofs.Finishing.{outcome_done, serves_same, stays_done}
 use Rattle.engine.proofs.NeededEntries.{not_taking}
@@ -12,16 +12,16 @@ use Rattle.engine.proofs.state.DbState.run_job_to_end.Goals as goal
 
 pub returns-then-is_none-clause-step : goal.returns-then-is_none-clause-step
 returns-then-is_none-clause-step g c ids =
-    stays_done (order_of g.K.KeyOrder.name g.K.KeyOrder.cmp) (seen_of g.S.Store.facts c.args.source.now) ids (held c.args.source.now.memory c.args.self.now) (λ e. e + 0) (tt {0})
+    stays_done (order_of g.K.KeyOrder.name g.K.KeyOrder.cmp) (seen_of g.S.Store.facts c.args.source.now) ids (open_db c.args.source.now.memory c.args.self.now) (λ e. e + 0) (tt {0})
 
 pub returns-then-is_none-clause-outcome : goal.returns-then-is_none-clause-outcome
 returns-then-is_none-clause-outcome g c =
-    let db = held c.args.source.now.memory c.args.self.now in
+    let db = open_db c.args.source.now.memory c.args.self.now in
     let facts = g.S.Store.facts c.args.source.now.tables.store in
     outcome_done MayRefusePiece facts facts db db (tt {0}) c.requires.whole (serves_same facts db c.requires.whole)
 
 pub returns-then-is_none-clause-serves : goal.returns-then-is_none-clause-serves
-returns-then-is_none-clause-serves g c = serves_same (g.S.Store.facts c.args.source.now.tables.store) (held c.args.source.now.memory c.args.self.now) c.requires.whole
+returns-then-is_none-clause-serves g c = serves_same (g.S.Store.facts c.args.source.now.tables.store) (open_db c.args.source.now.memory c.args.self.now) c.requires.whole
 
 pub returns-then-is_none-clause-memory : goal.returns-then-is_none-clause-memory
 returns-then-is_none-clause-memory g c = left_there c.args.source.now.memory
@@ -29,7 +29,7 @@ returns-then-is_none-clause-memory g c = left_there c.args.source.now.memory
 pub returns-then-is_none-clause-needed : goal.returns-then-is_none-clause-needed
 returns-then-is_none-clause-needed g c takes =
     let none : c.args.self.now.job ≡ None = search rules in
-    absurd (not_taking (held c.args.source.now.memory c.args.self.now) none takes)
+    absurd (not_taking (open_db c.args.source.now.memory c.args.self.now) none takes)
 
 pub returns-then-is_none-clause-stays : goal.returns-then-is_none-clause-stays
 returns-then-is_none-clause-stays g c none = refl

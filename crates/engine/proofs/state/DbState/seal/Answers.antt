@@ -5,10 +5,10 @@ use Rattle.ikey.specs.Orders.{order_of}
 use Rattle.memtables.specs.Memories.{Memories}
 use Rattle.db_cursor.proofs.ScanSteps.{scan_kept}
 use Rattle.engine.specs.declared.state.DbState.{DbState}
-use Rattle.engine.specs.Follows.{LeadsOpen}
-use Rattle.engine.specs.Held.{held}
+use Rattle.engine.specs.internal.Leading.{LeadsOpen}
+use Rattle.engine.specs.OpenDb.{open_db}
 use Rattle.db_cursor.specs.Whole.{seen_of}
-use Rattle.engine.specs.Working.{IsPiece}
+use Rattle.engine.specs.internal.Pieces.{IsPiece}
 use Rattle.engine.proofs.WorkEnds.{ends_full, ends_sealed, ends_unsealed}
 use Rattle.engine.proofs.state.DbState.seal.Goals as goal
 
@@ -17,9 +17,9 @@ returns-in_err-seal-clause-step g c ids =
     let order = order_of g.K.KeyOrder.name g.K.KeyOrder.cmp in
     let source = seen_of g.S.Store.facts c.args.source.now in
     let memory : c.from_residual.result ≡ Err OutOfMemory = search rules in
-    subst (λ (r : Result _ DbError). LeadsOpen order source source ids (held c.args.source.now.memory c.args.self.now) (held c.seal.new.self c.args.self.now) (λ m n. IsPiece m 1 r n)) (sym memory)
-    (subst (λ (mem : Memories). LeadsOpen order source source ids (held c.args.source.now.memory c.args.self.now) (held mem c.args.self.now) (λ m n. IsPiece m 1 (Err OutOfMemory) n)) (sym c.in_err-seal.ensures.err)
-    (ends_full order (λ scan. scan_kept order.cmp scan) c.sound_lasts.ensures source ids (held c.args.source.now.memory c.args.self.now) 1 c.requires.whole))
+    subst (λ (r : Result _ DbError). LeadsOpen order source source ids (open_db c.args.source.now.memory c.args.self.now) (open_db c.seal.new.self c.args.self.now) (λ m n. IsPiece m 1 r n)) (sym memory)
+    (subst (λ (mem : Memories). LeadsOpen order source source ids (open_db c.args.source.now.memory c.args.self.now) (open_db mem c.args.self.now) (λ m n. IsPiece m 1 (Err OutOfMemory) n)) (sym c.in_err-seal.ensures.err)
+    (ends_full order (λ scan. scan_kept order.cmp scan) c.sound_lasts.ensures source ids (open_db c.args.source.now.memory c.args.self.now) 1 c.requires.whole))
 
 pub returns-in-Ok-clause-step : goal.returns-in-Ok-clause-step
 returns-in-Ok-clause-step g c ids =
@@ -36,7 +36,7 @@ returns-in-Err-clause-step g c ids =
     let facts = g.S.Store.facts c.begin_log.new.store in
     let ensures = c.in-Err.ensures in
     let e = c.in-Err.error in
-    let after : _ → DbError → Type 0 = λ s r. LeadsOpen order source (record source { facts = facts }) ids (held c.args.source.now.memory c.args.self.now) (held c.unseal.new.self s) (λ m n. IsPiece m 1 (Err r) n) in
+    let after : _ → DbError → Type 0 = λ s r. LeadsOpen order source (record source { facts = facts }) ids (open_db c.args.source.now.memory c.args.self.now) (open_db c.unseal.new.self s) (λ m n. IsPiece m 1 (Err r) n) in
     let left = c.unseal.ensures.left c.args.source.now.memory c.in_ok-seal.ensures.ok in
     subst (after c.refuse.new.self) (sym c.refuse.ensures.answer)
     (subst (λ (s : DbState _ _). after s e) (sym c.refuse.ensures.broken)

@@ -5,19 +5,20 @@ use Rattle.running_job.specs.declared.open_job.OpenJob.{OpenJob}
 use Rattle.db_cursor.proofs.ScanSteps.{scan_kept}
 use Rattle.std.specs.Map.{values_of}
 use Rattle.edits.specs.declared.field.PlacedTable.{PlacedTable}
-use Rattle.directory_writes.specs.Install.{Replaces}
+use Rattle.directory_writes.specs.Replacing.{ReplacesInputs}
 use Rattle.versions.specs.Levels.{Placement}
 use Rattle.versions.specs.declared.plan.JobPlan.{JobPlan}
 use Rattle.engine.specs.declared.state.DbState.{DbState}
-use Rattle.engine.specs.Finishing.{HasCome, ServesOn}
-use Rattle.engine.specs.Follows.{LeadsOpen}
-use Rattle.engine.specs.Held.{held}
+use Rattle.engine.specs.internal.JobsToEnd.{HasCome, ServesOn}
+use Rattle.engine.specs.internal.Leading.{LeadsOpen}
+use Rattle.engine.specs.OpenDb.{open_db}
 use Rattle.db_cursor.specs.Whole.{seen_of, whole_in}
-use Rattle.engine.specs.Needed.{EndsNeeded}
+use Rattle.engine.specs.internal.TakingAll.{EndsNeeded}
 use Rattle.engine.specs.Outcomes.{DbOutcome}
 use Rattle.engine.specs.Stands.{no_ids}
 use Rattle.engine.specs.WithinBudget.{HasLeftBy}
-use Rattle.engine.specs.Working.{IsFurther, IsPiece, MayRefusePiece, broken_by, flush_answer}
+use Rattle.engine.specs.Working.{IsFurther}
+use Rattle.engine.specs.internal.Pieces.{IsPiece, MayRefusePiece, broken_by, flush_answer}
 use Rattle.engine.specs.WrittenTables.{PutsMerged}
 use Rattle.engine.proofs.JobEnds.{ends_counted, ends_gone_on, ends_installed, ends_merged, ends_needed, ends_stopped, ends_unended, steps_beside, stopped_outcome, unended_outcome}
 use Rattle.engine.proofs.NeededEntries.{takes_on, taking}
@@ -39,7 +40,7 @@ returns-in_err-progress-clause-step g c ids =
     let is : state.job ≡ Some c.in-Some.job = search rules in
     let none : c.take.new.self ≡ None = search rules in
     let said : c.from_residual.result ≡ Err e = search rules in
-    let After : Option (OpenJob g.row.K.Denot g.K.KeyOrder) → Result Bool DbError → Type 0 = λ o r. LeadsOpen order old new ids (held memory state) (held after_memory (record state { directory = record state.directory { numbers = numbers }; job = o })) (λ m n. IsPiece m most r n) in
+    let After : Option (OpenJob g.row.K.Denot g.K.KeyOrder) → Result Bool DbError → Type 0 = λ o r. LeadsOpen order old new ids (open_db memory state) (open_db after_memory (record state { directory = record state.directory { numbers = numbers }; job = o })) (λ m n. IsPiece m most r n) in
     subst (After c.take.new.self) (sym said)
     (subst (λ (o : Option (OpenJob g.row.K.Denot g.K.KeyOrder)). After o (Err e)) (sym none)
     (ends_stopped order g.met.K.KeyOrder.total (λ scan. scan_kept order.cmp scan) c.one_directory.ensures c.sound_lasts.ensures old new ids state memory after_memory numbers most c.in-Some.job c.step.new.self is c.requires.whole
@@ -54,7 +55,7 @@ returns-in_err-progress-clause-outcome g c =
     let e = c.in_err-progress.field-0.0 in
     let said : c.from_residual.result ≡ Err e = search rules in
     let after : DbState g.row.K.Denot g.K.KeyOrder = record state { directory = record state.directory { numbers = c.step.new.numbers }; job = c.take.new.self } in
-    subst (λ (r : Result Bool DbError). DbOutcome MayRefusePiece old new (held c.args.source.now.memory state) (held c.step.new.source.memory after) r) (sym said)
+    subst (λ (r : Result Bool DbError). DbOutcome MayRefusePiece old new (open_db c.args.source.now.memory state) (open_db c.step.new.source.memory after) r) (sym said)
     (stopped_outcome _ _ _ old new state c.args.source.now.memory c.step.new.source.memory c.step.new.numbers c.take.new.self e s.refused s.touches.writes.failures s.touches.writes.denials s.touches.memory)
 
 pub returns-then-not-progress-clause-step : goal.returns-then-not-progress-clause-step
@@ -93,8 +94,8 @@ returns-then-not-progress-clause-all g c said takes =
     let s = c.in_ok-progress.ensures in
     let is : state.job ≡ Some c.in-Some.job = search rules in
     let after : DbState g.row.K.Denot g.K.KeyOrder = record state { directory = record state.directory { numbers = c.step.new.numbers }; job = Some c.step.new.self } in
-    takes_on (held c.args.source.now.memory state) (held c.step.new.source.memory after) c.in-Some.job c.step.new.self s.plan s.version s.snapshots refl (ap (λ (n : ℕ). n ∷ values_of state.snapshots.entries) s.touches.memory.last)
-    (taking (held c.args.source.now.memory state) c.in-Some.job is takes)
+    takes_on (open_db c.args.source.now.memory state) (open_db c.step.new.source.memory after) c.in-Some.job c.step.new.self s.plan s.version s.snapshots refl (ap (λ (n : ℕ). n ∷ values_of state.snapshots.entries) s.touches.memory.last)
+    (taking (open_db c.args.source.now.memory state) c.in-Some.job is takes)
 
 pub returns-then-not-progress-clause-few : goal.returns-then-not-progress-clause-few
 returns-then-not-progress-clause-few g c f =
@@ -103,7 +104,7 @@ returns-then-not-progress-clause-few g c f =
     let progress = c.in_ok-progress.progress in
     let is : c.args.self.now.job ≡ Some c.in-Some.job = search rules in
     let going : progress.ended ≡ false = search rules in
-    more_left order old (whole_in g.S.Store.facts c.step.new.source) (held c.args.source.now.memory c.args.self.now) c.in-Some.job c.step.new.self c.step.new.numbers.next c.args.budget progress is going c.in_ok-progress.ensures.goes_on f
+    more_left order old (whole_in g.S.Store.facts c.step.new.source) (open_db c.args.source.now.memory c.args.self.now) c.in-Some.job c.step.new.self c.step.new.numbers.next c.args.budget progress is going c.in_ok-progress.ensures.goes_on f
 
 pub returns-then-not-progress-clause-beside : goal.returns-then-not-progress-clause-beside
 returns-then-not-progress-clause-beside g c said f =
@@ -136,7 +137,7 @@ returns-in-Ok-clause-step g c ids =
     let after : Option (OpenJob g.row.K.Denot g.K.KeyOrder) → DbState g.row.K.Denot g.K.KeyOrder =
     λ o. record state { version = installed.version; directory = record state.directory { numbers = numbers; manifest = record state.directory.manifest { end = installed.manifest_end } }; job = o } in
     let taken : c.take_installed.new.self ≡ after c.take.new.self = c.take_installed.ensures in
-    subst (λ (t : DbState g.row.K.Denot g.K.KeyOrder). LeadsOpen order old (record new { facts = facts }) ids (held memory state) (held after_memory t) (λ m n. IsPiece m most (Ok true) n)) (sym (taken ∙ ap after none))
+    subst (λ (t : DbState g.row.K.Denot g.K.KeyOrder). LeadsOpen order old (record new { facts = facts }) ids (open_db memory state) (open_db after_memory t) (λ m n. IsPiece m most (Ok true) n)) (sym (taken ∙ ap after none))
     (ends_installed order g.met.K.KeyOrder.total (λ scan. scan_kept order.cmp scan) c.one_directory.ensures c.sound_lasts.ensures old new ids state memory after_memory numbers most c.in-Some.job c.step.new.self is c.requires.whole
     s.numbers s.drawn s.touches s.keeps c.args.budget c.in_ok-progress.progress s.goes_on s.snapshots s.owns facts ended c.last-last_sequence.result c.last-last_sequence.ensures.is c.deref.result.now.tables (ap (λ (p : Placement). p.tables) c.deref.ensures) (Ok installed)
     i.call i.leaves true installed refl i.version.in_order)
@@ -151,12 +152,12 @@ returns-in-Ok-clause-on g c =
     let none : c.take.new.self ≡ None = search rules in
     let tables_are : c.deref.result.now.tables ≡ state.version.value.tables = ap (λ (p : Placement). p.tables) c.deref.ensures in
     let new = installed.version.value.tables in
-    let done : Replaces work.job.plan state.version.value.tables new =
-    subst (λ (plan : JobPlan). Replaces plan state.version.value.tables new) s.plan (subst (λ (ts : List PlacedTable). Replaces c.step.new.self.job.plan ts new) tables_are c.in-Ok.ensures.version.replaces) in
+    let done : ReplacesInputs work.job.plan state.version.value.tables new =
+    subst (λ (plan : JobPlan). ReplacesInputs plan state.version.value.tables new) s.plan (subst (λ (ts : List PlacedTable). ReplacesInputs c.step.new.self.job.plan ts new) tables_are c.in-Ok.ensures.version.replaces) in
     let after : Option (OpenJob g.row.K.Denot g.K.KeyOrder) → DbState g.row.K.Denot g.K.KeyOrder =
     λ o. record state { version = installed.version; directory = record state.directory { numbers = c.step.new.numbers; manifest = record state.directory.manifest { end = installed.manifest_end } }; job = o } in
     let taken : c.take_installed.new.self ≡ after c.take.new.self = c.take_installed.ensures in
-    let On : DbState g.row.K.Denot g.K.KeyOrder → Type 0 = λ t. MatchOption t.job (Replaces work.job.plan state.version.value.tables t.version.value.tables) (λ more. IsFurther work (max c.args.budget 1) more × (t.version.value.tables ≡ state.version.value.tables)) in
+    let On : DbState g.row.K.Denot g.K.KeyOrder → Type 0 = λ t. MatchOption t.job (ReplacesInputs work.job.plan state.version.value.tables t.version.value.tables) (λ more. IsFurther work (max c.args.budget 1) more × (t.version.value.tables ≡ state.version.value.tables)) in
     record { work = work; was = is; on = subst On (sym (taken ∙ ap after none)) done }
 
 pub returns-in-Ok-clause-serves : goal.returns-in-Ok-clause-serves
@@ -168,7 +169,7 @@ returns-in-Ok-clause-serves g c =
     let after : DbState g.row.K.Denot g.K.KeyOrder =
     record state { version = installed.version; directory = record state.directory { numbers = c.step.new.numbers; manifest = record state.directory.manifest { end = installed.manifest_end } }; job = c.take.new.self } in
     let taken : c.take_installed.new.self ≡ after = c.take_installed.ensures in
-    subst (λ (t : DbState g.row.K.Denot g.K.KeyOrder). ServesOn (g.S.Store.facts c.args.source.now.tables.store) (g.S.Store.facts c.install.new.store) (held c.args.source.now.memory state) (held c.step.new.source.memory t)) (sym taken)
+    subst (λ (t : DbState g.row.K.Denot g.K.KeyOrder). ServesOn (g.S.Store.facts c.args.source.now.tables.store) (g.S.Store.facts c.install.new.store) (open_db c.args.source.now.memory state) (open_db c.step.new.source.memory t)) (sym taken)
     (record {
       stood = i.stood ∙ s.stood;
       undenied = i.call.denials ∙ s.touches.writes.denials;
@@ -199,7 +200,7 @@ returns-in-Ok-clause-come g c said ids =
     let after : Option (OpenJob g.row.K.Denot g.K.KeyOrder) → DbState g.row.K.Denot g.K.KeyOrder =
     λ o. record state { version = installed.version; directory = record state.directory { numbers = numbers; manifest = record state.directory.manifest { end = installed.manifest_end } }; job = o } in
     let taken : c.take_installed.new.self ≡ after c.take.new.self = c.take_installed.ensures in
-    subst (λ (t : DbState g.row.K.Denot g.K.KeyOrder). LeadsOpen order old (record new { facts = facts }) ids (held memory state) (held after_memory t) (λ m n. HasCome c.args.budget (held memory state) m (Ok true) n)) (sym (taken ∙ ap after none))
+    subst (λ (t : DbState g.row.K.Denot g.K.KeyOrder). LeadsOpen order old (record new { facts = facts }) ids (open_db memory state) (open_db after_memory t) (λ m n. HasCome c.args.budget (open_db memory state) m (Ok true) n)) (sym (taken ∙ ap after none))
     (ends_counted order g.met.K.KeyOrder.total (λ scan. scan_kept order.cmp scan) c.one_directory.ensures c.sound_lasts.ensures old new ids state memory after_memory numbers most c.in-Some.job c.step.new.self is c.requires.whole
     s.numbers upto s.touches s.keeps c.args.budget progress s.goes_on s.snapshots s.owns facts ended c.last-last_sequence.result c.last-last_sequence.ensures.is c.deref.result.now.tables (ap (λ (p : Placement). p.tables) c.deref.ensures) (Ok installed)
     i.call i.leaves (omega arith) s.merged (omega arith) true installed refl i.version.in_order)
@@ -224,17 +225,17 @@ returns-in-Ok-clause-needed g c said takes =
     let after : Option (OpenJob g.row.K.Denot g.K.KeyOrder) → DbState g.row.K.Denot g.K.KeyOrder =
     λ o. record state { version = installed.version; directory = record state.directory { numbers = numbers; manifest = record state.directory.manifest { end = installed.manifest_end } }; job = o } in
     let taken : c.take_installed.new.self ≡ after c.take.new.self = c.take_installed.ensures in
-    subst (λ (t : DbState g.row.K.Denot g.K.KeyOrder). EndsNeeded order old (record new { facts = facts }) (held memory state) (held after_memory t)) (sym (taken ∙ ap after none))
+    subst (λ (t : DbState g.row.K.Denot g.K.KeyOrder). EndsNeeded order old (record new { facts = facts }) (open_db memory state) (open_db after_memory t)) (sym (taken ∙ ap after none))
     (ends_needed order g.met.K.KeyOrder.total (λ scan. scan_kept order.cmp scan) c.one_directory.ensures c.sound_lasts.ensures old new no_ids state memory after_memory numbers most c.in-Some.job c.step.new.self is c.requires.whole
     s.numbers s.drawn s.touches s.keeps c.args.budget c.in_ok-progress.progress s.goes_on s.snapshots s.owns facts ended c.last-last_sequence.result c.last-last_sequence.ensures.is c.deref.result.now.tables (ap (λ (p : Placement). p.tables) c.deref.ensures) (Ok installed)
-    i.call i.leaves installed refl s.plan s.version (taking (held memory state) c.in-Some.job is takes))
+    i.call i.leaves installed refl s.plan s.version (taking (open_db memory state) c.in-Some.job is takes))
 
 pub returns-in-Ok-clause-few : goal.returns-in-Ok-clause-few
 returns-in-Ok-clause-few g c f =
     let order = order_of g.K.KeyOrder.name g.K.KeyOrder.cmp in
     let old = seen_of g.S.Store.facts c.args.source.now in
     let state = c.args.self.now in
-    let db = held c.args.source.now.memory state in
+    let db = open_db c.args.source.now.memory state in
     let progress = c.in_ok-progress.progress in
     let is : state.job ≡ Some c.in-Some.job = search rules in
     let none : c.take.new.self ≡ None = search rules in
@@ -266,7 +267,7 @@ returns-in-Ok-clause-merges g c gone =
     let after : Option (OpenJob g.row.K.Denot g.K.KeyOrder) → DbState g.row.K.Denot g.K.KeyOrder =
     λ o. record state { version = installed.version; directory = record state.directory { numbers = numbers; manifest = record state.directory.manifest { end = installed.manifest_end } }; job = o } in
     let taken : c.take_installed.new.self ≡ after c.take.new.self = c.take_installed.ensures in
-    subst (λ (t : DbState g.row.K.Denot g.K.KeyOrder). PutsMerged order old (record new { facts = facts }) (held memory state) (held after_memory t)) (sym (taken ∙ ap after none))
+    subst (λ (t : DbState g.row.K.Denot g.K.KeyOrder). PutsMerged order old (record new { facts = facts }) (open_db memory state) (open_db after_memory t)) (sym (taken ∙ ap after none))
     (ends_merged order g.met.K.KeyOrder.total (λ scan. scan_kept order.cmp scan) c.one_directory.ensures c.sound_lasts.ensures old new no_ids state memory after_memory numbers most c.in-Some.job c.step.new.self is c.requires.whole
     s.numbers s.drawn s.touches s.keeps c.args.budget c.in_ok-progress.progress s.goes_on s.snapshots s.owns facts ended c.last-last_sequence.result c.last-last_sequence.ensures.is c.deref.result.now.tables (ap (λ (p : Placement). p.tables) c.deref.ensures) (Ok installed)
     i.call i.leaves installed refl s.plan s.version)
@@ -289,7 +290,7 @@ returns-in-Err-clause-step g c ids =
     let none : c.take.new.self ≡ None = search rules in
     let ended : c.in_ok-progress.progress.ended ≡ true = search rules in
     let before : Option (OpenJob g.row.K.Denot g.K.KeyOrder) → DbState g.row.K.Denot g.K.KeyOrder = λ o. record state { directory = record state.directory { numbers = numbers }; job = o } in
-    let After : DbState g.row.K.Denot g.K.KeyOrder → DbError → Type 0 = λ t r. LeadsOpen order old (record new { facts = facts }) ids (held memory state) (held after_memory t) (λ m n. IsPiece {T = Bool} m most (Err r) n) in
+    let After : DbState g.row.K.Denot g.K.KeyOrder → DbError → Type 0 = λ t r. LeadsOpen order old (record new { facts = facts }) ids (open_db memory state) (open_db after_memory t) (λ m n. IsPiece {T = Bool} m most (Err r) n) in
     subst (After c.flush_refusal.new.self) (sym c.flush_refusal.ensures.answer)
     (subst (λ (t : DbState g.row.K.Denot g.K.KeyOrder). After t (flush_answer e)) (sym c.flush_refusal.ensures.broken)
     (subst (λ (o : Option (OpenJob g.row.K.Denot g.K.KeyOrder)). After (broken_by (before o) (flush_answer e)) (flush_answer e)) (sym none)
@@ -309,7 +310,7 @@ returns-in-Err-clause-outcome g c =
     let s = c.in_ok-progress.ensures in
     let i = c.in-Err.ensures in
     let e = c.in-Err.error in
-    let After : DbState g.row.K.Denot g.K.KeyOrder → DbError → Type 0 = λ t r. DbOutcome {T = Bool} MayRefusePiece old new (held memory state) (held after_memory t) (Err r) in
+    let After : DbState g.row.K.Denot g.K.KeyOrder → DbError → Type 0 = λ t r. DbOutcome {T = Bool} MayRefusePiece old new (open_db memory state) (open_db after_memory t) (Err r) in
     subst (After c.flush_refusal.new.self) (sym c.flush_refusal.ensures.answer)
     (subst (λ (t : DbState g.row.K.Denot g.K.KeyOrder). After t (flush_answer e)) (sym c.flush_refusal.ensures.broken)
     (unended_outcome order old mid new state memory after_memory c.step.new.numbers c.take.new.self _ _ _ _ _ e i.refused (sym s.stood) i.call.failures (i.call.denials ∙ s.touches.writes.denials) s.touches.memory))

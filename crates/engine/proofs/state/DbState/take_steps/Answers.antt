@@ -2,11 +2,12 @@ use Rattle.std.proofs.Common.{◌≡◌, ◌<◌, ◌^◌, ◌-◌, true, false,
 use Rattle.coding.specs.declared.error.DbError.{DbError}
 use Rattle.ikey.specs.Orders.{order_of}
 use Rattle.memtables.specs.PlaceLaws.{left_onward}
-use Rattle.engine.specs.Finishing.{CompactOutcome, EndsJob, HasCome}
-use Rattle.engine.specs.Follows.{LeadsOpen}
-use Rattle.engine.specs.Held.{held}
+use Rattle.engine.specs.Finishing.{CompactOutcome}
+use Rattle.engine.specs.internal.JobsToEnd.{EndsJob, HasCome}
+use Rattle.engine.specs.internal.Leading.{LeadsOpen}
+use Rattle.engine.specs.OpenDb.{open_db}
 use Rattle.db_cursor.specs.Whole.{seen_of}
-use Rattle.engine.specs.Working.{IsPiece, MayRefusePiece}
+use Rattle.engine.specs.internal.Pieces.{IsPiece, MayRefusePiece}
 use Rattle.engine.proofs.Finishing.{job_there, outcome_all, outcome_done, outcome_of, outcome_then, serves_then, taken_all, taken_done, taken_ended, taken_merged, taken_more, taken_none, taken_refused}
 use Rattle.engine.proofs.NeededEnds.{needed_behind}
 use Rattle.engine.proofs.state.DbState.take_steps.Goals as goal
@@ -14,7 +15,7 @@ use Rattle.engine.proofs.state.DbState.take_steps.Goals as goal
 pub loop-init : goal.loop-init
 loop-init g c =
     let there = job_there c.args.self.now.job c.requires.job in
-    taken_none (order_of g.K.KeyOrder.name g.K.KeyOrder.cmp) (seen_of g.S.Store.facts c.args.source.now) (held c.args.source.now.memory c.args.self.now) there.0 c.requires.whole there.1
+    taken_none (order_of g.K.KeyOrder.name g.K.KeyOrder.cmp) (seen_of g.S.Store.facts c.args.source.now) (open_db c.args.source.now.memory c.args.self.now) there.0 c.requires.whole there.1
 
 pub loop-preserved : goal.loop-preserved
 loop-preserved g c =
@@ -22,9 +23,9 @@ loop-preserved g c =
     let old = seen_of g.S.Store.facts c.args.source.now in
     let mid = seen_of g.S.Store.facts c.loop.source in
     let new = seen_of g.S.Store.facts c.step_job.new.source in
-    let before = held c.args.source.now.memory c.args.self.now in
-    let between = held c.loop.source.memory c.loop.self in
-    let after = held c.step_job.new.source.memory c.step_job.new.self in
+    let before = open_db c.args.source.now.memory c.args.self.now in
+    let between = open_db c.loop.source.memory c.loop.self in
+    let after = open_db c.step_job.new.source.memory c.step_job.new.self in
     let a = c.in_ok-step_job.ensures in
     let going : c.in_ok-step_job.field-0 ≡ false = search rules in
     let some = subst (λ (b : Bool). MatchBool b (c.step_job.new.self.job ≡ None) (IsSome c.step_job.new.self.job)) going a.ended in
@@ -37,9 +38,9 @@ returns-in_err-step_job-clause-step g c ids =
     let old = seen_of g.S.Store.facts c.args.source.now in
     let mid = seen_of g.S.Store.facts c.loop.source in
     let new = seen_of g.S.Store.facts c.step_job.new.source in
-    let before = held c.args.source.now.memory c.args.self.now in
-    let between = held c.loop.source.memory c.loop.self in
-    let after = held c.step_job.new.source.memory c.step_job.new.self in
+    let before = open_db c.args.source.now.memory c.args.self.now in
+    let between = open_db c.loop.source.memory c.loop.self in
+    let after = open_db c.step_job.new.source.memory c.step_job.new.self in
     let e = c.in_err-step_job.field-0.0 in
     let said : c.from_residual.result ≡ Err e = search rules in
     let below : c.loop.counter < 2 ^ 64 - 1 = omega (arith, c.loop-test.true) in
@@ -52,9 +53,9 @@ returns-in_err-step_job-clause-outcome g c =
     let old = facts c.args.source.now.tables.store in
     let mid = facts c.loop.source.tables.store in
     let new = facts c.step_job.new.source.tables.store in
-    let before = held c.args.source.now.memory c.args.self.now in
-    let between = held c.loop.source.memory c.loop.self in
-    let after = held c.step_job.new.source.memory c.step_job.new.self in
+    let before = open_db c.args.source.now.memory c.args.self.now in
+    let between = open_db c.loop.source.memory c.loop.self in
+    let after = open_db c.step_job.new.source.memory c.step_job.new.self in
     let e = c.in_err-step_job.field-0.0 in
     let said : c.from_residual.result ≡ Err e = search rules in
     let a = c.in_err-step_job.ensures in
@@ -70,9 +71,9 @@ returns-then-branch-clause-step g c ids =
     let old = seen_of g.S.Store.facts c.args.source.now in
     let mid = seen_of g.S.Store.facts c.loop.source in
     let new = seen_of g.S.Store.facts c.step_job.new.source in
-    let before = held c.args.source.now.memory c.args.self.now in
-    let between = held c.loop.source.memory c.loop.self in
-    let after = held c.step_job.new.source.memory c.step_job.new.self in
+    let before = open_db c.args.source.now.memory c.args.self.now in
+    let between = open_db c.loop.source.memory c.loop.self in
+    let after = open_db c.step_job.new.source.memory c.step_job.new.self in
     let a = c.in_ok-step_job.ensures in
     let ended : c.in_ok-step_job.field-0 ≡ true = search rules in
     let below : c.loop.counter < 2 ^ 64 - 1 = omega (arith, c.loop-test.true) in
@@ -85,9 +86,9 @@ returns-then-branch-clause-serves g c =
     let old = facts c.args.source.now.tables.store in
     let mid = facts c.loop.source.tables.store in
     let new = facts c.step_job.new.source.tables.store in
-    let before = held c.args.source.now.memory c.args.self.now in
-    let between = held c.loop.source.memory c.loop.self in
-    let after = held c.step_job.new.source.memory c.step_job.new.self in
+    let before = open_db c.args.source.now.memory c.args.self.now in
+    let between = open_db c.loop.source.memory c.loop.self in
+    let after = open_db c.step_job.new.source.memory c.step_job.new.self in
     serves_then old mid new before between after c.loop.invariant.serves c.in_ok-step_job.ensures.serves
 
 pub returns-then-branch-clause-outcome : goal.returns-then-branch-clause-outcome
@@ -96,9 +97,9 @@ returns-then-branch-clause-outcome g c =
     let old = facts c.args.source.now.tables.store in
     let mid = facts c.loop.source.tables.store in
     let new = facts c.step_job.new.source.tables.store in
-    let before = held c.args.source.now.memory c.args.self.now in
-    let between = held c.loop.source.memory c.loop.self in
-    let after = held c.step_job.new.source.memory c.step_job.new.self in
+    let before = open_db c.args.source.now.memory c.args.self.now in
+    let between = open_db c.loop.source.memory c.loop.self in
+    let after = open_db c.step_job.new.source.memory c.step_job.new.self in
     outcome_done MayRefusePiece old new before after (tt {0}) c.requires.whole (serves_then old mid new before between after c.loop.invariant.serves c.in_ok-step_job.ensures.serves)
 
 pub returns-then-branch-clause-memory : goal.returns-then-branch-clause-memory
@@ -115,9 +116,9 @@ returns-then-branch-clause-done g c =
     let old = seen_of g.S.Store.facts c.args.source.now in
     let mid = seen_of g.S.Store.facts c.loop.source in
     let new = seen_of g.S.Store.facts c.step_job.new.source in
-    let before = held c.args.source.now.memory c.args.self.now in
-    let between = held c.loop.source.memory c.loop.self in
-    let after = held c.step_job.new.source.memory c.step_job.new.self in
+    let before = open_db c.args.source.now.memory c.args.self.now in
+    let between = open_db c.loop.source.memory c.loop.self in
+    let after = open_db c.step_job.new.source.memory c.step_job.new.self in
     let ended : c.in_ok-step_job.field-0 ≡ true = search rules in
     let none = subst (λ (b : Bool). MatchBool b (c.step_job.new.self.job ≡ None) (IsSome c.step_job.new.self.job)) ended c.in_ok-step_job.ensures.ended in
     taken_done order old mid new before between after c.loop.counter c.loop.invariant c.in_ok-step_job.ensures.on none
@@ -127,15 +128,15 @@ returns-clause-step g c ids =
     let order = order_of g.K.KeyOrder.name g.K.KeyOrder.cmp in
     let old = seen_of g.S.Store.facts c.args.source.now in
     let new = seen_of g.S.Store.facts c.loop.source in
-    let before = held c.args.source.now.memory c.args.self.now in
-    let after = held c.loop.source.memory c.loop.self in
+    let before = open_db c.args.source.now.memory c.args.self.now in
+    let after = open_db c.loop.source.memory c.loop.self in
     let all : c.loop.counter ≡ 2 ^ 64 - 1 = omega (arith, c.loop-test.false, c.loop.auto.counter-end) in
     taken_all order g.met.K.KeyOrder.total old new before after c.loop.counter c.loop.invariant all ids
 
 pub returns-clause-outcome : goal.returns-clause-outcome
 returns-clause-outcome g c =
     let facts = g.S.Store.facts in
-    outcome_all (facts c.args.source.now.tables.store) (facts c.loop.source.tables.store) (held c.args.source.now.memory c.args.self.now) (held c.loop.source.memory c.loop.self) c.requires.whole c.loop.invariant.serves
+    outcome_all (facts c.args.source.now.tables.store) (facts c.loop.source.tables.store) (open_db c.args.source.now.memory c.args.self.now) (open_db c.loop.source.memory c.loop.self) c.requires.whole c.loop.invariant.serves
 
 pub returns-then-branch-clause-needed : goal.returns-then-branch-clause-needed
 returns-then-branch-clause-needed g c takes =
@@ -143,9 +144,9 @@ returns-then-branch-clause-needed g c takes =
     let old = seen_of g.S.Store.facts c.args.source.now in
     let mid = seen_of g.S.Store.facts c.loop.source in
     let new = seen_of g.S.Store.facts c.step_job.new.source in
-    let before = held c.args.source.now.memory c.args.self.now in
-    let between = held c.loop.source.memory c.loop.self in
-    let after = held c.step_job.new.source.memory c.step_job.new.self in
+    let before = open_db c.args.source.now.memory c.args.self.now in
+    let between = open_db c.loop.source.memory c.loop.self in
+    let after = open_db c.step_job.new.source.memory c.step_job.new.self in
     let a = c.in_ok-step_job.ensures in
     let ended : c.in_ok-step_job.field-0 ≡ true = search rules in
     needed_behind order old mid new before between after c.loop.invariant.step a.step (a.needed (ap (λ (b : Bool). Ok b) ended) (c.loop.invariant.all takes))
@@ -156,8 +157,8 @@ returns-then-branch-clause-merges g c =
     let old = seen_of g.S.Store.facts c.args.source.now in
     let mid = seen_of g.S.Store.facts c.loop.source in
     let new = seen_of g.S.Store.facts c.step_job.new.source in
-    let before = held c.args.source.now.memory c.args.self.now in
-    let between = held c.loop.source.memory c.loop.self in
-    let after = held c.step_job.new.source.memory c.step_job.new.self in
+    let before = open_db c.args.source.now.memory c.args.self.now in
+    let between = open_db c.loop.source.memory c.loop.self in
+    let after = open_db c.step_job.new.source.memory c.step_job.new.self in
     let a = c.in_ok-step_job.ensures in
     taken_merged order old mid new before between after c.loop.counter c.loop.invariant g.met.K.KeyOrder.total c.requires.whole a.step (a.merges (returns-then-branch-clause-none g c))

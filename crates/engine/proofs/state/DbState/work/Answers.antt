@@ -3,14 +3,15 @@ use Rattle.coding.specs.declared.error.DbError.{DbError}
 use Rattle.std.specs.Map.{values_of}
 use Rattle.ikey.specs.Orders.{order_of}
 use Rattle.engine.specs.declared.work.Progress.{Progress}
-use Rattle.engine.specs.Follows.{LeadsOpen}
-use Rattle.engine.specs.Held.{held}
+use Rattle.engine.specs.internal.Leading.{LeadsOpen}
+use Rattle.engine.specs.OpenDb.{open_db}
 use Rattle.engine.specs.InUse.{IsMemoryUsed}
 use Rattle.memtables.specs.Memories.{older_at}
 use Rattle.db_cursor.specs.Whole.{seen_of}
 use Rattle.engine.specs.Stands.{no_ids}
 use Rattle.machine.specs.Upkeep.{Works}
-use Rattle.engine.specs.Working.{refused_as, work_answer}
+use Rattle.engine.specs.internal.Pieces.{refused_as}
+use Rattle.engine.specs.Working.{work_answer}
 use Rattle.engine.proofs.ExactFiles.{leaves_exactly}
 use Rattle.engine.proofs.FlushEnds.{flushes_behind}
 use Rattle.engine.proofs.WorkAnswers.{caused_met, does_on, failures_rose, then_piece, then_refused, works, works_broken}
@@ -20,15 +21,15 @@ use Rattle.engine.proofs.state.DbState.work.Goals as goal
 
 pub returns-then-self-clause-step : goal.returns-then-self-clause-step
 returns-then-self-clause-step g c ids =
-    works_broken (order_of g.K.KeyOrder.name g.K.KeyOrder.cmp) (seen_of g.S.Store.facts c.args.source.now) ids (held c.args.source.now.memory c.args.self.now) c.args.budget c.if-self.true
+    works_broken (order_of g.K.KeyOrder.name g.K.KeyOrder.cmp) (seen_of g.S.Store.facts c.args.source.now) ids (open_db c.args.source.now.memory c.args.self.now) c.args.budget c.if-self.true
 
 pub returns-in_err-complete-clause-step : goal.returns-in_err-complete-clause-step
 returns-in_err-complete-clause-step g c ids =
     let order = order_of g.K.KeyOrder.name g.K.KeyOrder.cmp in
     let old = seen_of g.S.Store.facts c.args.source.now in
     let new = seen_of g.S.Store.facts c.clean.new.source in
-    let before = held c.args.source.now.memory c.args.self.now in
-    let after = held c.clean.new.source.memory c.args.self.now in
+    let before = open_db c.args.source.now.memory c.args.self.now in
+    let after = open_db c.clean.new.source.memory c.args.self.now in
     let e = c.in_err-complete.field-0.0 in
     let is : c.from_residual.result ≡ Err e = search rules in
     subst (λ (r : Result Progress DbError). LeadsOpen order old new ids before after (λ m n. Works m c.args.budget (work_answer r) n)) (sym is)
@@ -37,7 +38,7 @@ returns-in_err-complete-clause-step g c ids =
 pub returns-in_err-complete-clause-caused : goal.returns-in_err-complete-clause-caused
 returns-in_err-complete-clause-caused g c =
     let is : c.from_residual.result ≡ Err c.in_err-complete.field-0.0 = search rules in
-    caused_met (held c.args.source.now.memory c.args.self.now) c.args.source.now.tables.store c.clean.new.source.tables.store c.from_residual.result c.in_err-complete.field-0.0 is c.if-self.false c.in_err-complete.ensures.outcome.allowed
+    caused_met (open_db c.args.source.now.memory c.args.self.now) c.args.source.now.tables.store c.clean.new.source.tables.store c.from_residual.result c.in_err-complete.field-0.0 is c.if-self.false c.in_err-complete.ensures.outcome.allowed
 
 pub returns-in-Ok-clause-step : goal.returns-in-Ok-clause-step
 returns-in-Ok-clause-step g c ids =
@@ -45,15 +46,15 @@ returns-in-Ok-clause-step g c ids =
     let old = seen_of g.S.Store.facts c.args.source.now in
     let mid = seen_of g.S.Store.facts c.clean.new.source in
     let new = seen_of g.S.Store.facts c.do_piece.new.source in
-    let before = held c.args.source.now.memory c.args.self.now in
-    let between = held c.clean.new.source.memory c.args.self.now in
-    let after = held c.do_piece.new.source.memory c.do_piece.new.self in
+    let before = open_db c.args.source.now.memory c.args.self.now in
+    let between = open_db c.clean.new.source.memory c.args.self.now in
+    let after = open_db c.do_piece.new.source.memory c.do_piece.new.self in
     works order old new ids before after c.args.budget (0 + max c.args.budget 1) (Ok c.in-Ok.progress) (omega arith) c.if-self.false
     (then_piece order old mid new ids before between after 0 (max c.args.budget 1) c.in_ok-complete.complete (Ok c.in-Ok.progress) (c.in_ok-complete.ensures.step ids) (c.in-Ok.ensures.step ids))
 
 pub returns-in-Ok-clause-does : goal.returns-in-Ok-clause-does
 returns-in-Ok-clause-does g c =
-    does_on g.K.KeyOrder.cmp (held c.args.source.now.memory c.args.self.now) c.clean.new.source.memory (held c.do_piece.new.source.memory c.do_piece.new.self) c.args.options.now c.args.budget (Ok c.in-Ok.progress) c.in_ok-complete.ensures.memory c.in_ok-complete.ensures.same.sequence c.in-Ok.ensures.does
+    does_on g.K.KeyOrder.cmp (open_db c.args.source.now.memory c.args.self.now) c.clean.new.source.memory (open_db c.do_piece.new.source.memory c.do_piece.new.self) c.args.options.now c.args.budget (Ok c.in-Ok.progress) c.in_ok-complete.ensures.memory c.in_ok-complete.ensures.same.sequence c.in-Ok.ensures.does
 
 pub returns-in-Err-clause-step : goal.returns-in-Err-clause-step
 returns-in-Err-clause-step g c ids =
@@ -61,9 +62,9 @@ returns-in-Err-clause-step g c ids =
     let old = seen_of g.S.Store.facts c.args.source.now in
     let mid = seen_of g.S.Store.facts c.clean.new.source in
     let new = seen_of g.S.Store.facts c.do_piece.new.source in
-    let before = held c.args.source.now.memory c.args.self.now in
-    let between = held c.clean.new.source.memory c.args.self.now in
-    let after = held c.do_piece.new.source.memory c.do_piece.new.self in
+    let before = open_db c.args.source.now.memory c.args.self.now in
+    let between = open_db c.clean.new.source.memory c.args.self.now in
+    let after = open_db c.do_piece.new.source.memory c.do_piece.new.self in
     let complete = c.in_ok-complete.complete in
     let e = c.in-Err.error in
     let cleaned = c.in_ok-complete.ensures in
@@ -80,8 +81,8 @@ returns-in-Ok-clause-exact g c =
     let order = order_of g.K.KeyOrder.name g.K.KeyOrder.cmp in
     let old = seen_of g.S.Store.facts c.args.source.now in
     let new = seen_of g.S.Store.facts c.do_piece.new.source in
-    let before = held c.args.source.now.memory c.args.self.now in
-    let after = held c.do_piece.new.source.memory c.do_piece.new.self in
+    let before = open_db c.args.source.now.memory c.args.self.now in
+    let after = open_db c.do_piece.new.source.memory c.do_piece.new.self in
     leaves_exactly order old new before after c.args.options.now c.args.budget c.in-Ok.progress (returns-in-Ok-clause-step g c) (λ is. ap (λ s. s.broken) (c.in-Ok.ensures.idle is).1 ∙ c.if-self.false)
     (returns-in-Ok-clause-tidy g c) (returns-in-Ok-clause-does g c)
 
@@ -90,14 +91,14 @@ returns-in-Ok-clause-within g c worked which f =
     let order = order_of g.K.KeyOrder.name g.K.KeyOrder.cmp in
     let old = seen_of g.S.Store.facts c.args.source.now in
     let mid = seen_of g.S.Store.facts c.clean.new.source in
-    let before = held c.args.source.now.memory c.args.self.now in
-    let between = held c.clean.new.source.memory c.args.self.now in
+    let before = open_db c.args.source.now.memory c.args.self.now in
+    let between = open_db c.clean.new.source.memory c.args.self.now in
     let cleaned = c.in_ok-complete.ensures in
     let piece = c.in-Ok.ensures in
     let inner = piece.within worked (elim which [ inl some ↦ inl some | inr ease ↦ inr (at_ease_on c.args.options.now before c.clean.new.source.memory cleaned.memory ease) ]) f in
     let mid_faithful = (piece.step no_ids).faithful f in
     let new = seen_of g.S.Store.facts c.do_piece.new.source in
-    let after = held c.do_piece.new.source.memory c.do_piece.new.self in
+    let after = open_db c.do_piece.new.source.memory c.do_piece.new.self in
     let sequences = ap (λ (n : ℕ). n ∷ values_of c.args.self.now.snapshots.entries) (sym cleaned.same.sequence) in
     steps_behind order c.args.options.now old mid new before between after (max c.args.budget 1) cleaned.step mid_faithful refl sequences refl
     (tables_stay order old mid before between refl refl refl c.if-self.false (cleaned.removes mid_faithful)) inner
@@ -118,8 +119,8 @@ returns-in-Ok-clause-flushes g c =
     let old = seen_of g.S.Store.facts c.args.source.now in
     let mid = seen_of g.S.Store.facts c.clean.new.source in
     let new = seen_of g.S.Store.facts c.do_piece.new.source in
-    let before = held c.args.source.now.memory c.args.self.now in
-    let after = held c.do_piece.new.source.memory c.do_piece.new.self in
+    let before = open_db c.args.source.now.memory c.args.self.now in
+    let after = open_db c.do_piece.new.source.memory c.do_piece.new.self in
     let cleaned = c.in_ok-complete.ensures in
     let piece = c.in-Ok.ensures in
     flushes_behind order old mid new before c.clean.new.source.memory after (Ok c.in-Ok.progress) cleaned.step (piece.step no_ids).faithful cleaned.memory piece.flushes

@@ -3,10 +3,10 @@ use Rattle.std.proofs.lemmas.Bool.{eqb-true}
 use Rattle.coding.specs.declared.error.DbError.{DbError}
 use Rattle.ikey.specs.Orders.{order_of}
 use Rattle.engine.specs.Finishing.{CompactOutcome}
-use Rattle.engine.specs.Follows.{LeadsOpen}
-use Rattle.engine.specs.Held.{held}
+use Rattle.engine.specs.internal.Leading.{LeadsOpen}
+use Rattle.engine.specs.OpenDb.{open_db}
 use Rattle.db_cursor.specs.Whole.{seen_of}
-use Rattle.engine.specs.Working.{IsPiece, MayRefusePiece}
+use Rattle.engine.specs.internal.Pieces.{IsPiece, MayRefusePiece}
 use Rattle.engine.proofs.Emptied.{on_ok}
 use Rattle.engine.proofs.FlushEnds.{no_entries}
 use Rattle.engine.proofs.Finishing.{outcome_by, outcome_of, outcome_then, serves_then, then_bound, within_bound}
@@ -16,9 +16,9 @@ pub returns-in_err-write_sealed-clause-step : goal.returns-in_err-write_sealed-c
 returns-in_err-write_sealed-clause-step g c ids =
     let order = order_of g.K.KeyOrder.name g.K.KeyOrder.cmp in
     let old = seen_of g.S.Store.facts c.args.source.now in
-    let before = held c.args.source.now.memory c.args.self.now in
+    let before = open_db c.args.source.now.memory c.args.self.now in
     let new = seen_of g.S.Store.facts c.write_sealed.new.source in
-    let after = held c.write_sealed.new.source.memory c.write_sealed.new.self in
+    let after = open_db c.write_sealed.new.source.memory c.write_sealed.new.self in
     let e = c.in_err-write_sealed.field-0.0 in
     let said : c.from_residual.result ≡ Err e = search rules in
     subst (λ (r : Result _ DbError). LeadsOpen order old new ids before after (λ m n. IsPiece m 3 r n)) (sym said)
@@ -29,16 +29,16 @@ returns-in_err-write_sealed-clause-outcome g c =
     let facts = g.S.Store.facts in
     let e = c.in_err-write_sealed.field-0.0 in
     let said : c.from_residual.result ≡ Err e = search rules in
-    subst (λ (r : Result _ DbError). CompactOutcome MayRefusePiece (facts c.args.source.now.tables.store) (facts c.write_sealed.new.source.tables.store) (held c.args.source.now.memory c.args.self.now) (held c.write_sealed.new.source.memory c.write_sealed.new.self) r)
+    subst (λ (r : Result _ DbError). CompactOutcome MayRefusePiece (facts c.args.source.now.tables.store) (facts c.write_sealed.new.source.tables.store) (open_db c.args.source.now.memory c.args.self.now) (open_db c.write_sealed.new.source.memory c.write_sealed.new.self) r)
     (sym said) c.in_err-write_sealed.ensures.outcome
 
 pub returns-then-is_empty-clause-step : goal.returns-then-is_empty-clause-step
 returns-then-is_empty-clause-step g c ids =
     let order = order_of g.K.KeyOrder.name g.K.KeyOrder.cmp in
     let old = seen_of g.S.Store.facts c.args.source.now in
-    let before = held c.args.source.now.memory c.args.self.now in
+    let before = open_db c.args.source.now.memory c.args.self.now in
     let new = seen_of g.S.Store.facts c.write_sealed.new.source in
-    let after = held c.write_sealed.new.source.memory c.write_sealed.new.self in
+    let after = open_db c.write_sealed.new.source.memory c.write_sealed.new.self in
     within_bound order old new ids before after (λ k. 1) (λ k. 3) (Ok (tt {0})) (λ k. omega arith) (c.in_ok-write_sealed.ensures.step ids)
 
 pub returns-then-is_empty-clause-written : goal.returns-then-is_empty-clause-written
@@ -52,11 +52,11 @@ pub returns-in_err-seal-clause-step : goal.returns-in_err-seal-clause-step
 returns-in_err-seal-clause-step g c ids =
     let order = order_of g.K.KeyOrder.name g.K.KeyOrder.cmp in
     let old = seen_of g.S.Store.facts c.args.source.now in
-    let before = held c.args.source.now.memory c.args.self.now in
+    let before = open_db c.args.source.now.memory c.args.self.now in
     let mid = seen_of g.S.Store.facts c.write_sealed.new.source in
-    let between = held c.write_sealed.new.source.memory c.write_sealed.new.self in
+    let between = open_db c.write_sealed.new.source.memory c.write_sealed.new.self in
     let new = seen_of g.S.Store.facts c.seal.new.source in
-    let after = held c.seal.new.source.memory c.seal.new.self in
+    let after = open_db c.seal.new.source.memory c.seal.new.self in
     let e = c.in_err-seal.field-0.0 in
     let said : c.from_residual-in_err-seal.result ≡ Err e = search rules in
     subst (λ (r : Result _ DbError). LeadsOpen order old new ids before after (λ m n. IsPiece m 3 r n)) (sym said)
@@ -69,9 +69,9 @@ returns-in_err-seal-clause-outcome g c =
     let old = facts c.args.source.now.tables.store in
     let mid = facts c.write_sealed.new.source.tables.store in
     let new = facts c.seal.new.source.tables.store in
-    let before = held c.args.source.now.memory c.args.self.now in
-    let between = held c.write_sealed.new.source.memory c.write_sealed.new.self in
-    let after = held c.seal.new.source.memory c.seal.new.self in
+    let before = open_db c.args.source.now.memory c.args.self.now in
+    let between = open_db c.write_sealed.new.source.memory c.write_sealed.new.self in
+    let after = open_db c.seal.new.source.memory c.seal.new.self in
     let e = c.in_err-seal.field-0.0 in
     let said : c.from_residual-in_err-seal.result ≡ Err e = search rules in
     let s = c.in_err-seal.ensures in
@@ -82,13 +82,13 @@ pub returns-clause-step : goal.returns-clause-step
 returns-clause-step g c ids =
     let order = order_of g.K.KeyOrder.name g.K.KeyOrder.cmp in
     let old = seen_of g.S.Store.facts c.args.source.now in
-    let before = held c.args.source.now.memory c.args.self.now in
+    let before = open_db c.args.source.now.memory c.args.self.now in
     let mid = seen_of g.S.Store.facts c.write_sealed.new.source in
-    let first = held c.write_sealed.new.source.memory c.write_sealed.new.self in
+    let first = open_db c.write_sealed.new.source.memory c.write_sealed.new.self in
     let later = seen_of g.S.Store.facts c.seal.new.source in
-    let second = held c.seal.new.source.memory c.seal.new.self in
+    let second = open_db c.seal.new.source.memory c.seal.new.self in
     let new = seen_of g.S.Store.facts c.flush.new.source in
-    let after = held c.flush.new.source.memory c.flush.new.self in
+    let after = open_db c.flush.new.source.memory c.flush.new.self in
     let r = c.flush.result in
     within_bound order old new ids before after (λ k. (1 + 1) + 1) (λ k. 3) r (λ k. omega arith)
     (then_bound order old later new ids before second after (λ k. 1 + 1) (λ k. 1) (tt {0}) r
@@ -101,10 +101,10 @@ returns-clause-outcome g c =
     let mid = facts c.write_sealed.new.source.tables.store in
     let later = facts c.seal.new.source.tables.store in
     let new = facts c.flush.new.source.tables.store in
-    let before = held c.args.source.now.memory c.args.self.now in
-    let first = held c.write_sealed.new.source.memory c.write_sealed.new.self in
-    let second = held c.seal.new.source.memory c.seal.new.self in
-    let after = held c.flush.new.source.memory c.flush.new.self in
+    let before = open_db c.args.source.now.memory c.args.self.now in
+    let first = open_db c.write_sealed.new.source.memory c.write_sealed.new.self in
+    let second = open_db c.seal.new.source.memory c.seal.new.self in
+    let after = open_db c.flush.new.source.memory c.flush.new.self in
     let f = c.flush.ensures in
     let so_far = serves_then old mid later before first second c.in_ok-write_sealed.ensures.serves c.in_ok-seal.ensures.serves in
     outcome_then MayRefusePiece old later new before second after c.flush.result c.requires.whole so_far (outcome_by later new second after c.flush.result c.in_ok-seal.ensures.serves.whole f.lock f.outcome f.serves)
@@ -116,10 +116,10 @@ returns-clause-serves g c =
     let mid = facts c.write_sealed.new.source.tables.store in
     let later = facts c.seal.new.source.tables.store in
     let new = facts c.flush.new.source.tables.store in
-    let before = held c.args.source.now.memory c.args.self.now in
-    let first = held c.write_sealed.new.source.memory c.write_sealed.new.self in
-    let second = held c.seal.new.source.memory c.seal.new.self in
-    let after = held c.flush.new.source.memory c.flush.new.self in
+    let before = open_db c.args.source.now.memory c.args.self.now in
+    let first = open_db c.write_sealed.new.source.memory c.write_sealed.new.self in
+    let second = open_db c.seal.new.source.memory c.seal.new.self in
+    let after = open_db c.flush.new.source.memory c.flush.new.self in
     on_ok c.flush.result (λ h. serves_then old later new before second after (serves_then old mid later before first second c.in_ok-write_sealed.ensures.serves c.in_ok-seal.ensures.serves) h) c.flush.ensures.serves
 
 pub returns-clause-written : goal.returns-clause-written

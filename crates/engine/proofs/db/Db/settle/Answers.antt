@@ -1,0 +1,26 @@
+use Rattle.std.proofs.Common.{◌∙◌, refl}
+use Rattle.engine.proofs.PaceSteps.{draws_none, draws_then, idle_only, refusal_only, worked_only, works_then}
+use Rattle.engine.proofs.RangeLeads.{leads_as, leads_stay, leads_then}
+use Rattle.engine.proofs.db.Db.settle.Goals as goal
+
+pub loop-init : goal.loop-init
+loop-init g c = record { steps = leads_stay draws_none; ids = refl; opening = record { options = refl; failures = refl } }
+
+pub loop-preserved : goal.loop-preserved
+loop-preserved g c = record {
+  steps = leads_then (λ m n o h k. draws_then m n o h (worked_only n o c.args.budget k)) c.loop.invariant.steps (rw c.in-Ok-Worked.field-0-is at c.in-Ok-Worked.ensures.step);
+  ids = c.work.ensures.ids ∙ c.loop.invariant.ids;
+  opening = record {
+    options = c.work.ensures.opening.options ∙ c.loop.invariant.opening.options;
+    failures = c.work.ensures.opening.failures ∙ c.loop.invariant.opening.failures;
+  };
+}
+
+pub returns-in-Ok-Idle-clause-step : goal.returns-in-Ok-Idle-clause-step
+returns-in-Ok-Idle-clause-step g c = leads_then (λ m n o h k. draws_then m n o h (idle_only n o c.args.budget k)) c.loop.invariant.steps (rw c.in-Ok-Idle.field-0-is at c.in-Ok-Idle.ensures.step)
+
+pub returns-in-Err-clause-step : goal.returns-in-Err-clause-step
+returns-in-Err-clause-step g c = leads_then (λ m n o h k. works_then m n o h.0 (refusal_only n o c.args.budget c.in-Err.error k)) c.loop.invariant.steps c.in-Err.ensures.step
+
+pub returns-clause-step : goal.returns-clause-step
+returns-clause-step g c = leads_as (λ m n h. h.0) c.loop.invariant.steps

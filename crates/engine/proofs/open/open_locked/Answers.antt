@@ -1,0 +1,62 @@
+use Rattle.ikey.specs.Orders.{order_of}
+use Rattle.std.proofs.Common.{◌≡◌, inl, Result, Err, refl, sym, ap, subst, arith, rules}
+use Rattle.coding.specs.declared.error.DbError.{DbError}
+use Rattle.coding.specs.declared.error.DbError.TheVariants.{OutOfMemory}
+use Rattle.table_access.specs.Tables.{seen}
+use Rattle.machine.specs.declared.command.Answer.TheVariants.{Refused}
+use Rattle.engine.specs.declared.state.DbState.{DbState}
+use Rattle.machine.specs.Lifetime.{Opens}
+use Rattle.engine.specs.Follows.{Leads, unit_answer}
+use Rattle.engine.specs.internal.Resting.{Rests, StandsResult}
+use Rattle.engine.specs.internal.Standing.{StandsClosed}
+use Rattle.opening.specs.Telling.{IsOpenable}
+use Rattle.opening.specs.internal.Opening.{IsContinued}
+use Rattle.opening.proofs.BegunSteps.{continued_itself}
+use Rattle.engine.proofs.LiveIds.{none_kept}
+use Rattle.engine.proofs.OpenMachine.{open_refused, open_finished, leads_from, sound_empty, nothing_kept}
+use Rattle.engine.proofs.open.open_locked.Goals as goal
+
+pub returns-in_err-begin-clause-step : goal.returns-in_err-begin-clause-step
+returns-in_err-begin-clause-step g c ids =
+    let order = order_of g.K.KeyOrder.name g.K.KeyOrder.cmp in
+    let old = g.S.Store.facts c.args.source.now.tables.store in
+    let is : c.from_residual.result ≡ Err OutOfMemory = search rules in
+    subst (λ (r : Result (DbState _ _) DbError). Leads old (g.S.Store.facts c.begin.new.self.store) (Rests order old ids)
+    (StandsResult order (seen (g.S.Store.facts c.begin.new.self.store) c.begin.new.self.tables c.begin.new.self.blocks) c.args.source.now.memory ids r) (λ m n. Opens m c.args.mode (unit_answer r) n)) (sym is)
+    (subst (λ s. Leads old (g.S.Store.facts s) (Rests order old ids) (StandsClosed order (g.S.Store.facts s) ids) (λ m n. Opens m c.args.mode (Refused OutOfMemory) n)) (sym c.in_err-begin.ensures.store)
+    (open_refused order old old c.args.mode OutOfMemory (λ f. f) (omega arith) refl (λ f. continued_itself order old.files) tt (inl (λ f. refl))))
+
+pub returns-in_err-begun-clause-step : goal.returns-in_err-begun-clause-step
+returns-in_err-begun-clause-step g c ids =
+    let order = order_of g.K.KeyOrder.name g.K.KeyOrder.cmp in
+    let old = g.S.Store.facts c.args.source.now.tables.store in
+    let mid = g.S.Store.facts c.begin.new.self.store in
+    let new = g.S.Store.facts c.begin-2.new.store in
+    let e = c.in_err-begun.field-0.0 in
+    let is : c.from_residual-in_err-begun.result ≡ Err e = search rules in
+    let b = c.in_err-begun.ensures in
+    subst (λ (r : Result (DbState _ _) DbError). Leads old new (Rests order old ids)
+    (StandsResult order (seen new c.begin.new.self.tables c.begin.new.self.blocks) c.args.source.now.memory ids r) (λ m n. Opens m c.args.mode (unit_answer r) n)) (sym is)
+    (leads_from order old mid new (StandsClosed order new ids) (λ m n. Opens m c.args.mode (Refused e) n) (ap (λ s. g.S.Store.facts s) c.in_ok-begin.ensures.store)
+    (open_refused order mid new c.args.mode e b.faithful b.outcome.failures b.denials b.continued b.refused b.unwritten))
+
+pub returns-clause-step : goal.returns-clause-step
+returns-clause-step g c ids =
+    let order = order_of g.K.KeyOrder.name g.K.KeyOrder.cmp in
+    let b = c.in_ok-begun.ensures in
+    leads_from order (g.S.Store.facts c.args.source.now.tables.store) (g.S.Store.facts c.begin.new.self.store) (g.S.Store.facts c.begin-2.new.store) _ _ (ap (λ s. g.S.Store.facts s) c.in_ok-begin.ensures.store)
+    (open_finished order (g.S.Store.facts c.begin.new.self.store) (seen (g.S.Store.facts c.begin-2.new.store) c.begin.new.self.tables c.begin.new.self.blocks) c.args.mode c.in_ok-begun.begun c.new.result c.new-2.result
+    b.faithful b.outcome.failures b.denials b.whole b.begun b.continued
+    (sound_empty order.cmp (g.S.Store.facts c.begin-2.new.store) c.begin.new.self.tables.tables c.begin.new.self.blocks.blocks c.empty_is_sound.ensures c.in_ok-begin.ensures.tables c.in_ok-begin.ensures.blocks)
+    (nothing_kept (g.S.Store.facts c.begin-2.new.store) c.begin.new.self.tables.tables c.begin.new.self.blocks.blocks c.in_ok-begin.ensures.tables c.in_ok-begin.ensures.blocks)
+    (none_kept c.new.result c.new.ensures.empty) (none_kept c.new-2.result c.new-2.ensures.empty))
+
+pub returns-clause-tells : goal.returns-clause-tells
+returns-clause-tells g c = λ f.
+    subst (λ s. IsOpenable (order_of g.K.KeyOrder.name g.K.KeyOrder.cmp) (g.S.Store.facts s).files) c.in_ok-begin.ensures.store (c.in_ok-begun.ensures.tells f)
+
+pub returns-in_err-begin-clause-continued : goal.returns-in_err-begin-clause-continued
+returns-in_err-begin-clause-continued g c = λ f.
+    let order = order_of g.K.KeyOrder.name g.K.KeyOrder.cmp in
+    let old = g.S.Store.facts c.args.source.now.tables.store in
+    subst (λ s. IsContinued order old.files (g.S.Store.facts s).files) (sym c.in_err-begin.ensures.store) (continued_itself order old.files)

@@ -1,0 +1,56 @@
+-- What putting a batch behind the log does to the directory.
+use Rattle.std.specs.Prelude.{◌≡◌, ◌⊎◌, ℕ, ◌+◌, ◌<◌, ◌≤◌, List, ◌++◌, length, IsTrue, Result, Err, IfOk, OnOk}
+use Rattle.std.specs.FinMap.{get}
+use Rattle.batch.specs.declared.operation.Operation.{Operation}
+use Rattle.store.specs.Files.{Files, Facts, Appends, AppendsBeginning}
+use Rattle.edits.specs.Names.{name_of}
+use Rattle.edits.specs.declared.field.Field.{Field}
+use Rattle.edits.specs.declared.layout.Layout.{Layout}
+use Rattle.edits.specs.declared.names.FileName.TheVariants.{Log, Table, OldTable}
+use Rattle.ikey.specs.Orders.{Order}
+use Rattle.ikey.specs.declared.entry.Entry.{Entry}
+use Rattle.recover.specs.internal.Changes.{IsExtended, ManifestEndsAt}
+use Rattle.recover.specs.Entries.{entries_of}
+use Rattle.recover.specs.Numbers.{IsFree}
+use Rattle.recover.specs.Tables.{TableContent}
+use Rattle.engine.specs.declared.log.LogError.{LogError}
+use Rattle.engine.specs.declared.log.LogError.TheVariants.{Memory, Device}
+use Rattle.machine.specs.Machine.{Machine}
+use Rattle.engine.specs.internal.Directory.{IsReadable}
+use Rattle.opening.specs.internal.Directories.{IsDirectoryOf, CanAppend}
+
+-- The bytes stand behind the file; or, where the device fails, nothing of them or a beginning.
+pub record AppendsRecord (old new : Facts) (name bytes : List ℕ) (result : Result (Unit {0}) LogError) : Type 0 where
+  pub faithful : IsTrue new.faithful → IsTrue old.faithful
+  pub failures : old.failures ≤ new.failures
+  pub denials : new.denials ≡ old.denials
+  pub ok : IsTrue new.faithful → OnOk result (Appends old.files new.files name bytes)
+  pub device : IsTrue new.faithful → result ≡ Err Device → AppendsBeginning old.files new.files name bytes
+  pub counted : result ≡ Err Device → old.failures < new.failures
+  pub memory : IsTrue new.faithful → result ≡ Err Memory → new.files ≡ old.files
+
+-- The files of all tables are as before, under both of their names.
+abbrev pub KeepsTables : Files → Files → Type 0
+KeepsTables old new = (number : ℕ)
+    → (get new (name_of (Table number)) ≡ get old (name_of (Table number))) × (get new (name_of (OldTable number)) ≡ get old (name_of (OldTable number)))
+
+-- The operations are put behind the log of this name, which ends at `end`, as a batch behind `used` sequences; or,
+-- where the device fails, none of them or all of them are there for the next open. Nothing else changes: no other part of the
+-- directory, nor where its MANIFEST ends, nor which numbers are free.
+pub record Logs (order : Order) (old new : Facts) (log : ℕ) (name : List ℕ) (end used : ℕ) (operations : List Operation) (result : Result ℕ LogError) : Type 0 where
+  pub faithful : IsTrue new.faithful → IsTrue old.faithful
+  pub failures : old.failures ≤ new.failures
+  pub denials : new.denials ≡ old.denials
+  pub readable : IsTrue new.faithful → (tables : List TableContent) (entries : List Entry) → name ≡ name_of (Log log) → CanAppend order old.files log end tables entries used
+      → (m : Machine) → IsReadable order old.files m → IsReadable order new.files m
+  pub ok : IsTrue new.faithful → IfOk result (λ after. (tables : List TableContent) (entries : List Entry) → name ≡ name_of (Log log) → (a : CanAppend order old.files log end tables entries used)
+      → (b : CanAppend order new.files log after tables (entries ++ entries_of (used + 1) operations) (used + length operations)) × IsExtended a.directory b.directory (entries_of (used + 1) operations))
+  pub device : IsTrue new.faithful → result ≡ Err Device → (tables : List TableContent) (entries : List Entry) → name ≡ name_of (Log log) → CanAppend order old.files log end tables entries used
+      → IsDirectoryOf order new.files tables entries used ⊎ IsDirectoryOf order new.files tables (entries ++ entries_of (used + 1) operations) (used + length operations)
+  pub counted : result ≡ Err Device → old.failures < new.failures
+  pub memory : IsTrue new.faithful → result ≡ Err Memory → new.files ≡ old.files
+  pub tables : IsTrue new.faithful → name ≡ name_of (Log log) → KeepsTables old.files new.files
+  pub manifest : IsTrue new.faithful → (tables : List TableContent) (entries : List Entry) → name ≡ name_of (Log log) → CanAppend order old.files log end tables entries used
+      → (number position : ℕ) (edits : List (List Field)) (layout : Layout) → ManifestEndsAt order old.files number position edits layout → ManifestEndsAt order new.files number position edits layout
+  pub free : IsTrue new.faithful → (tables : List TableContent) (entries : List Entry) → name ≡ name_of (Log log) → CanAppend order old.files log end tables entries used
+      → (n : ℕ) → IsFree order old.files n → IsFree order new.files n

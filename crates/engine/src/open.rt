@@ -1,0 +1,167 @@
+//! Opening a database (LevelDB's db/db_impl.cc, DB::Open).
+
+ghost use Rattle.std.specs.Prelude.{◌≡◌, true, false, IsTrue, Err, IfOk, IfErr, OnOk};
+ghost use Rattle.coding.specs.declared.error.DbError.TheVariants.{OutOfMemory};
+ghost use Rattle.ikey.specs.Orders.{order_of};
+ghost use Rattle.opening.specs.internal.Calls.{TakesLock};
+ghost use Rattle.machine.specs.Lifetime.{Opens};
+ghost use Rattle.engine.specs.internal.Standing.{StandsClosed};
+ghost use Rattle.engine.specs.Follows.{Leads, unit_answer};
+ghost use Rattle.engine.specs.declared.ids.Ids.{Ids};
+ghost use Rattle.engine.specs.Opened.{IsTidy};
+ghost use Rattle.engine.specs.internal.Resting.{Rests, StandsResult, is_of_memory};
+ghost use Rattle.opening.specs.internal.Opening.{IsContinued};
+ghost use Rattle.opening.specs.internal.Durable.{HasDurable, Spares};
+ghost use Rattle.opening.specs.Durable.{LeavesDurable};
+ghost use Rattle.engine.specs.Touching.{OpensStore};
+ghost use Rattle.opening.specs.Refusals.{IsMet};
+ghost use Rattle.opening.specs.Telling.{Tells};
+ghost use Rattle.opening.specs.internal.Outcome.{OpenOutcome};
+ghost use Rattle.db_cursor.specs.Whole.{seen_of};
+
+use crate::log::LogBuffers;
+use crate::options::Options;
+use crate::state::DbState;
+use coding::DbError;
+use db_cursor::Sources;
+use ikey::KeyOrder;
+use machine::Mode;
+use opening::begin;
+use recover::free_change_law;
+use std::alloc::Global;
+use std::collections::BTreeMap;
+use store::{Store, StoreError};
+use table_access::empty_is_sound;
+
+/// Opens the database of a store: takes the lock, reads what is there, writes a new MANIFEST, `CURRENT` and a new log, and
+/// removes the files that aren't live. Where one can't be removed, or the store can't list them, they are left for the next time, and
+/// the open is accepted. A refusal releases the lock, and removes nothing. Nothing that was kept of tables before stays.
+pub fn open_store<K: KeyOrder, S: Store>(
+    alloc: Global,
+    source: &mut Sources<K, S>,
+    options: &Options,
+    mode: Mode,
+) -> Result<DbState<K>, DbError>
+    ensures step { (ids : Ids) → Leads (S.facts source.old.tables.store) (S.facts source.new.tables.store)
+        (StandsClosed (order_of K.name K.cmp) (S.facts source.old.tables.store) ids)
+        (StandsResult (order_of K.name K.cmp) (seen_of S.facts source.new) source.new.memory ids result)
+        (λ m n. Opens m mode (unit_answer result) n) }
+    ensures outcome { OpenOutcome (S.facts source.old.tables.store) (S.facts source.new.tables.store) result }
+    ensures met { IfErr result IsMet }
+    ensures touches { OpensStore (S.facts source.old.tables.store) (S.facts source.new.tables.store) result }
+    ensures tells { IsTrue (S.facts source.new.tables.store).faithful
+        → Tells (order_of K.name K.cmp) (S.facts source.old.tables.store).files result }
+    // All files are live then, unless one couldn't be removed.
+    ensures tidy { IfOk result (IsTidy (S.facts source.old.tables.store) (S.facts source.new.tables.store) source.new.memory) }
+{
+    // Laws, for the proof alone.
+    free_change_law();
+    take_lock(&mut source.tables.store)?;
+    match open_and_clean::<K, S>(alloc, source, options, mode) {
+        Ok(state) => Ok(state),
+        Err(error) => {
+            let _ = source.tables.store.unlock();
+            Err(error)
+        }
+    }
+}
+
+fn take_lock<S: Store>(store: &mut S) -> Result<(), DbError>
+    ensures { TakesLock (S.facts store.old) (S.facts store.new) result }
+{
+    match store.lock() {
+        Ok(true) => Ok(()),
+        Ok(false) => Err(DbError::Locked),
+        Err(StoreError::Memory) => Err(DbError::OutOfMemory),
+        Err(StoreError::Missing) => Err(DbError::Io),
+        Err(StoreError::Device) => Err(DbError::Io),
+    }
+}
+
+// Opens it, while the lock is held, and removes the files that aren't live.
+fn open_and_clean<K: KeyOrder, S: Store>(
+    alloc: Global,
+    source: &mut Sources<K, S>,
+    options: &Options,
+    mode: Mode,
+) -> Result<DbState<K>, DbError>
+    ensures step { (ids : Ids) → Leads (S.facts source.old.tables.store) (S.facts source.new.tables.store)
+        (Rests (order_of K.name K.cmp) (S.facts source.old.tables.store) ids)
+        (StandsResult (order_of K.name K.cmp) (seen_of S.facts source.new) source.new.memory ids result)
+        (λ m n. Opens m mode (unit_answer result) n) }
+    ensures outcome { OpenOutcome (S.facts source.old.tables.store) (S.facts source.new.tables.store) result }
+    ensures met { IfErr result IsMet }
+    ensures lock { (S.facts source.new.tables.store).locked ≡ (S.facts source.old.tables.store).locked }
+    ensures stood { result ≡ Err OutOfMemory → (S.facts source.new.tables.store).failures ≡ (S.facts source.old.tables.store).failures }
+    ensures durable { LeavesDurable (S.facts source.old.tables.store) (S.facts source.new.tables.store) result }
+    ensures spared { IsTrue (S.facts source.new.tables.store).faithful
+        → Spares (S.facts source.old.tables.store) (S.facts source.new.tables.store) }
+    ensures tells { IsTrue (S.facts source.new.tables.store).faithful
+        → Tells (order_of K.name K.cmp) (S.facts source.old.tables.store).files result }
+    ensures tidy { IfOk result (IsTidy (S.facts source.old.tables.store) (S.facts source.new.tables.store) source.new.memory) }
+{
+    let state = open_locked::<K, S>(alloc, source, options, mode)?;
+    match state.clean(alloc, source) {
+        Ok(_) => Ok(state),
+        Err(error) => {
+            if lacks_memory(error) {
+                return Err(DbError::OutOfMemory);
+            }
+            Ok(state)
+        }
+    }
+}
+
+// Whether memory was missing. (A listing that the store fails is no reason to refuse an open.)
+fn lacks_memory(error: DbError) -> bool
+    ensures { result ≡ is_of_memory error }
+{
+    match error {
+        DbError::OutOfMemory => true,
+        _ => false,
+    }
+}
+
+// Opens it, while the lock is held.
+fn open_locked<K: KeyOrder, S: Store>(
+    alloc: Global,
+    source: &mut Sources<K, S>,
+    options: &Options,
+    mode: Mode,
+) -> Result<DbState<K>, DbError>
+    ensures step { (ids : Ids) → Leads (S.facts source.old.tables.store) (S.facts source.new.tables.store)
+        (Rests (order_of K.name K.cmp) (S.facts source.old.tables.store) ids)
+        (StandsResult (order_of K.name K.cmp) (seen_of S.facts source.new) source.new.memory ids result)
+        (λ m n. Opens m mode (unit_answer result) n) }
+    ensures outcome { OpenOutcome (S.facts source.old.tables.store) (S.facts source.new.tables.store) result }
+    ensures met { IfErr result IsMet }
+    ensures lock { (S.facts source.new.tables.store).locked ≡ (S.facts source.old.tables.store).locked }
+    ensures stood { result ≡ Err OutOfMemory → (S.facts source.new.tables.store).failures ≡ (S.facts source.old.tables.store).failures }
+    ensures unfailed { OnOk result ((S.facts source.new.tables.store).failures ≡ (S.facts source.old.tables.store).failures) }
+    ensures continued { IsTrue (S.facts source.new.tables.store).faithful
+        → IsContinued (order_of K.name K.cmp) (S.facts source.old.tables.store).files (S.facts source.new.tables.store).files }
+    ensures durable { LeavesDurable (S.facts source.old.tables.store) (S.facts source.new.tables.store) result }
+    ensures current { IfOk result (λ state. IsTrue (S.facts source.new.tables.store).faithful
+        → HasDurable state.directory.manifest.number (S.facts source.new.tables.store)) }
+    ensures spared { IsTrue (S.facts source.new.tables.store).faithful
+        → Spares (S.facts source.old.tables.store) (S.facts source.new.tables.store) }
+    ensures whole { IfOk result (λ state. state.broken ≡ false) }
+    ensures tells { IsTrue (S.facts source.new.tables.store).faithful
+        → Tells (order_of K.name K.cmp) (S.facts source.old.tables.store).files result }
+{
+    // Laws, for the proof alone.
+    empty_is_sound();
+    source.tables.begin(alloc, options.cache_blocks())?;
+    let begun = begin::<K, S>(alloc, &mut source.tables.store, mode)?;
+    source.memory = begun.memory;
+    Ok(DbState {
+        version: begun.version,
+        log: begun.log,
+        directory: begun.directory,
+        job: None,
+        snapshots: BTreeMap::new(alloc),
+        iterators: BTreeMap::new(alloc),
+        broken: false,
+        buffers: LogBuffers::new(alloc),
+    })
+}

@@ -1,0 +1,351 @@
+//! Walks over the pairs whose keys lie in a range, above the iterators of a database.
+
+ghost use Rattle.std.specs.Prelude.{◌≡◌, ◌<◌, ◌↔◌, ◌+◌, ◌++◌, ◌∷◌, [], ℕ, List, All, Some, None, IfOk, IsTrue, OnErr, MatchBool, MatchResult};
+ghost use Rattle.std.specs.Cmp.Lexicographic.{slice_cmp};
+ghost use Rattle.std.specs.Ordering.{nat_cmp};
+ghost use Rattle.ikey.specs.Orders.{order_of};
+ghost use Rattle.engine.specs.Ranges.{BeginsWith, is_before_end, is_in_range, prefix_end};
+
+use crate::db::Db;
+use coding::{Bytes, DbError};
+use ikey::KeyOrder;
+use std::alloc::{AllocError, Global};
+use std::cmp::Ordering;
+use store::Store;
+
+/// Which keys, in the order of a database: from one on, and in front of another (LevelDB's include/leveldb/db.h, `Range`). Where the one
+/// isn't in front of the other there are none.
+#[derive(Debug, Drop)]
+pub struct KeyRange {
+    /// The first key that it has; `None` where there is none in front of it.
+    pub from: Option<Bytes>,
+    /// The first key behind it; `None` where there is none.
+    pub to: Option<Bytes>,
+}
+
+impl KeyRange {
+    /// All keys.
+    pub fn all() -> Self
+        ensures { (result.from ≡ None) × (result.to ≡ None) }
+    {
+        KeyRange {
+            from: None,
+            to: None,
+        }
+    }
+
+    /// The keys from this one on.
+    pub fn starting_at(alloc: Global, from: &[u8]) -> Result<Self, AllocError>
+        ensures { IfOk result (λ keys. (keys.from ≡ Some from.now) × (keys.to ≡ None)) }
+    {
+        let from = Bytes::copied_from(alloc, from)?;
+        Ok(KeyRange {
+            from: Some(from),
+            to: None,
+        })
+    }
+
+    /// The keys in front of this one.
+    pub fn ending_before(alloc: Global, to: &[u8]) -> Result<Self, AllocError>
+        ensures { IfOk result (λ keys. (keys.from ≡ None) × (keys.to ≡ Some to.now)) }
+    {
+        let to = Bytes::copied_from(alloc, to)?;
+        Ok(KeyRange {
+            from: None,
+            to: Some(to),
+        })
+    }
+
+    /// The keys from one on that come before the other.
+    pub fn between(alloc: Global, from: &[u8], to: &[u8]) -> Result<Self, AllocError>
+        ensures { IfOk result (λ keys. (keys.from ≡ Some from.now) × (keys.to ≡ Some to.now)) }
+    {
+        let from = Bytes::copied_from(alloc, from)?;
+        let to = Bytes::copied_from(alloc, to)?;
+        Ok(KeyRange {
+            from: Some(from),
+            to: Some(to),
+        })
+    }
+
+    /// The keys that begin so, in the order of bytes: for a database of `ikey::Bytewise`.
+    pub fn with_prefix(alloc: Global, prefix: &[u8]) -> Result<Self, AllocError>
+        ensures { IfOk result (λ keys. (key : List ℕ) → All (λ byte. byte < 256) key →
+            IsTrue (is_in_range (slice_cmp nat_cmp) keys key) ↔ BeginsWith prefix.now key) }
+    {
+        // A law, for the proof alone.
+        prefix_law();
+        let to = behind_prefix(alloc, prefix)?;
+        let from = Bytes::copied_from(alloc, prefix)?;
+        Ok(KeyRange {
+            from: Some(from),
+            to,
+        })
+    }
+}
+
+// Law: a key begins so where it isn't below the prefix, and comes before its end.
+fn prefix_law()
+    ensures { (prefix key : List ℕ) → All (λ byte. byte < 256) key →
+        IsTrue (is_in_range (slice_cmp nat_cmp) (record { from = Some prefix; to = prefix_end prefix }) key) ↔ BeginsWith prefix key }
+{}
+
+// What comes first behind all keys that begin so, in the order of bytes: `None` where nothing does.
+fn behind_prefix(alloc: Global, prefix: &[u8]) -> Result<Option<Bytes>, AllocError>
+    ensures { IfOk result (λ end. end ≡ prefix_end prefix.now) }
+{
+    let mut rest = prefix;
+    while let [front @ .., last] = rest {
+        if *last < 255 {
+            let end = raised(alloc, front, *last)?;
+            return Ok(Some(end));
+        }
+        rest = front;
+    }
+    Ok(None)
+}
+
+// A key with its last byte raised.
+fn raised(alloc: Global, front: &[u8], last: u8) -> Result<Bytes, AllocError>
+    requires { last < 255 }
+    ensures { IfOk result (λ end. end ≡ front.now ++ (last + 1) ∷ []) }
+{
+    let mut end = Vec::from_slice(alloc, front)?;
+    end.push(last + 1)?;
+    Ok(Bytes::from_vec(end))
+}
+
+/// How far a walk has come.
+#[derive(Clone, Copy, Debug, PartialEq, Eq)]
+pub enum Stage {
+    /// It hasn't begun.
+    Ahead,
+    /// Its iterator stands on the pair that came last.
+    Within,
+    /// All came.
+    Over,
+}
+
+/// A walk over the pairs of a range. The database keeps an iterator for it until `Db::end_range` takes it back: it can't be dropped,
+/// so that a program which forgets one isn't compiled.
+#[derive(Debug)]
+pub struct RangeWalk {
+    id: u64,
+    keys: KeyRange,
+    stage: Stage,
+}
+
+impl RangeWalk {
+    ghost use Rattle.engine.specs.Ranges.{Settles};
+    ghost use Rattle.engine.specs.declared.ranges.Stage.TheVariants.{Over};
+
+    /// Lets a walk go whose database was closed, which gave up all iterators.
+    pub fn forget(self) {
+        let RangeWalk {
+            id: _,
+            keys: _,
+            stage: _,
+        } = self;
+    }
+
+    fn is_over(&self) -> bool
+        ensures { MatchBool result (self.now.stage ≡ Over) (self.now.stage ≡ Over → ⊥) }
+    {
+        match self.stage {
+            Stage::Ahead => false,
+            Stage::Within => false,
+            Stage::Over => true,
+        }
+    }
+
+    // Takes the pair to which its iterator was moved, where that is one of the range.
+    fn settle<K: KeyOrder>(&mut self, found: Option<(Bytes, Bytes)>) -> Option<(Bytes, Bytes)>
+        ensures { Settles K.cmp self.old found self.new result }
+    {
+        let Some((key, value)) = found else {
+            self.stage = Stage::Over;
+            return None;
+        };
+        if !is_in_front::<K>(&self.keys, key.as_slice()) {
+            self.stage = Stage::Over;
+            return None;
+        }
+        self.stage = Stage::Within;
+        Some((key, value))
+    }
+}
+
+// Whether a key comes before the end of a range.
+fn is_in_front<K: KeyOrder>(keys: &KeyRange, key: &[u8]) -> bool
+    ensures { result ≡ is_before_end K.cmp keys.now.to key.now }
+{
+    match &keys.to {
+        None => true,
+        Some(to) => K::compare(key, to.as_slice()) == Ordering::Less,
+    }
+}
+
+impl<S: Store, K: KeyOrder> Db<S, K> {
+    ghost use Rattle.machine.specs.declared.command.Answer.{Answer};
+    ghost use Rattle.machine.specs.Views.{Drops};
+    ghost use Rattle.machine.specs.Causes.{ToNext, iterate_cause};
+    ghost use Rattle.machine.specs.Walks.{Moves};
+    ghost use Rattle.engine.specs.Applied.{DbCaused, DbLeaves};
+    ghost use Rattle.engine.specs.Follows.{pair_answer};
+    ghost use Rattle.engine.specs.Outcomes.{DbOutcomeOf, MayRefuseIterate, MayRefuseMove};
+    ghost use Rattle.engine.specs.Ranges.{Begins, Fills, MayRefuseScan, RefusesScan, SameWalk, Scans, Steps, next_motion};
+    ghost use Rattle.engine.specs.StandsDb.{FollowsDb, KeepsOpening, db_ids_of, db_store_of};
+
+    /// Begins a walk over the pairs of a range, as they are now or at a snapshot. It takes an iterator, and goes on seeing the same
+    /// pairs whatever is written.
+    pub fn range(
+        &mut self,
+        alloc: Global,
+        keys: KeyRange,
+        snapshot: Option<u64>,
+    ) -> Result<RangeWalk, DbError>
+        ensures step { FollowsDb (order_of K.name K.cmp) S.facts self.old self.new
+            (λ m n. Begins (order_of K.name K.cmp) m keys snapshot result n) }
+        // Over any store:
+        ensures outcome { DbOutcomeOf MayRefuseIterate S.facts self.old self.new result }
+        ensures caused { DbCaused (λ status. iterate_cause status snapshot) self.old self.new result }
+        ensures leaves { DbLeaves S.facts self.old self.new }
+        ensures ids { OnErr result (db_ids_of self.new ≡ db_ids_of self.old) }
+        ensures opening { KeepsOpening self.old self.new }
+    {
+        match self.iter(alloc, snapshot) {
+            Ok(id) => Ok(RangeWalk {
+                id,
+                keys,
+                stage: Stage::Ahead,
+            }),
+            Err(error) => Err(error),
+        }
+    }
+
+    /// The next pair of a walk, or None where all came. A refusal leaves the walk where it was: the next call tries the same pair again.
+    pub fn range_next(
+        &mut self,
+        alloc: Global,
+        walk: &mut RangeWalk,
+    ) -> Result<Option<(Bytes, Bytes)>, DbError>
+        ensures step { FollowsDb (order_of K.name K.cmp) S.facts self.old self.new
+            (λ m n. Steps (order_of K.name K.cmp) m walk.old result n walk.new) }
+        ensures same { SameWalk walk.old walk.new }
+        // Over any store:
+        ensures kept { OnErr result (walk.new ≡ walk.old) }
+        ensures outcome { DbOutcomeOf (MayRefuseMove ToNext) S.facts self.old self.new result }
+        ensures leaves { DbLeaves S.facts self.old self.new }
+        ensures ids { db_ids_of self.new ≡ db_ids_of self.old }
+        ensures opening { KeepsOpening self.old self.new }
+    {
+        if walk.is_over() {
+            return Ok(None);
+        }
+        match self.move_walk(alloc, walk) {
+            Ok(found) => Ok(walk.settle::<K>(found)),
+            Err(error) => Err(error),
+        }
+    }
+
+    // Moves the iterator of a walk: to the first pair that may be in its range, or to the next.
+    fn move_walk(
+        &mut self,
+        alloc: Global,
+        walk: &RangeWalk,
+    ) -> Result<Option<(Bytes, Bytes)>, DbError>
+        ensures step { FollowsDb (order_of K.name K.cmp) S.facts self.old self.new
+            (λ m n. Moves (order_of K.name K.cmp) m walk.now.id (next_motion walk.now.stage walk.now.keys) (pair_answer result) n) }
+        ensures outcome { DbOutcomeOf (MayRefuseMove (next_motion walk.now.stage walk.now.keys)) S.facts self.old self.new result }
+        ensures leaves { DbLeaves S.facts self.old self.new }
+        ensures ids { db_ids_of self.new ≡ db_ids_of self.old }
+        ensures opening { KeepsOpening self.old self.new }
+    {
+        match walk.stage {
+            Stage::Ahead => match &walk.keys.from {
+                None => self.iter_first(alloc, walk.id),
+                Some(from) => self.iter_seek(alloc, walk.id, from.as_slice()),
+            },
+            Stage::Within => self.iter_next(alloc, walk.id),
+            Stage::Over => self.iter_next(alloc, walk.id),
+        }
+    }
+
+    /// Puts the next pairs of a walk behind those that `sink` has, and no more than `limit`. Those that came before a refusal are there
+    /// too, and the walk stands behind them.
+    pub fn range_fill(
+        &mut self,
+        alloc: Global,
+        walk: &mut RangeWalk,
+        limit: usize,
+        sink: &mut Vec<(Bytes, Bytes)>,
+    ) -> Result<(), DbError>
+        ensures step { FollowsDb (order_of K.name K.cmp) S.facts self.old self.new
+            (λ m n. Fills (order_of K.name K.cmp) limit m walk.old sink.old.items result n walk.new sink.new.items) }
+        ensures same { SameWalk walk.old walk.new }
+        // Over any store:
+        ensures allowed { MatchResult result (λ x. Unit {0}) (MayRefuseMove ToNext) }
+        ensures leaves { DbLeaves S.facts self.old self.new }
+        ensures ids { db_ids_of self.new ≡ db_ids_of self.old }
+        ensures opening { KeepsOpening self.old self.new }
+    {
+        for _ in 0..limit {
+            if sink.reserve(1).is_err() {
+                return Err(DbError::OutOfMemory);
+            }
+            match self.range_next(alloc, walk) {
+                Ok(Some(pair)) => sink.push(pair).unwrap(),
+                Ok(None) => return Ok(()),
+                Err(error) => return Err(error),
+            }
+        }
+        Ok(())
+    }
+
+    /// Ends a walk, and gives up its iterator. Nothing is refused: what a broken database keeps for it goes when it is closed.
+    pub fn range_end(&mut self, walk: RangeWalk)
+        ensures step { FollowsDb (order_of K.name K.cmp) S.facts self.old self.new
+            (λ m n. (answer : Answer) × Drops m walk.id answer n) }
+        // Over any store:
+        ensures store { db_store_of self.new ≡ db_store_of self.old }
+        ensures ids { db_ids_of self.new ≡ db_ids_of self.old }
+        ensures opening { KeepsOpening self.old self.new }
+    {
+        let RangeWalk {
+            id,
+            keys: _,
+            stage: _,
+        } = walk;
+        let _ = self.iter_release(id);
+    }
+
+    /// The pairs of a range, as they are now or at a snapshot, in their order and no more than `limit`: for a range of which not too much
+    /// is asked, since all of them are in memory at once. The next ones are those of the range that starts behind the last key.
+    pub fn scan(
+        &mut self,
+        alloc: Global,
+        keys: KeyRange,
+        snapshot: Option<u64>,
+        limit: usize,
+    ) -> Result<Vec<(Bytes, Bytes)>, DbError>
+        ensures step { FollowsDb (order_of K.name K.cmp) S.facts self.old self.new
+            (λ m n. MatchResult result (λ found. Scans (order_of K.name K.cmp) m keys snapshot limit found.items n)
+            (λ e. RefusesScan (order_of K.name K.cmp) m snapshot e n)) }
+        // Over any store:
+        ensures allowed { MatchResult result (λ x. Unit {0}) MayRefuseScan }
+        ensures leaves { DbLeaves S.facts self.old self.new }
+        ensures opening { KeepsOpening self.old self.new }
+    {
+        let mut walk = match self.range(alloc, keys, snapshot) {
+            Ok(walk) => walk,
+            Err(error) => return Err(error),
+        };
+        let mut found = Vec::new(alloc);
+        let filled = self.range_fill(alloc, &mut walk, limit, &mut found);
+        self.range_end(walk);
+        match filled {
+            Ok(()) => Ok(found),
+            Err(error) => Err(error),
+        }
+    }
+}
