@@ -2,6 +2,7 @@
 //
 //   leveldb_twin WORKLOAD N DIR    runs a workload over the database of a folder, which must exist
 //
+// latency prints how long the slowest writes of drawn keys took, in nanoseconds, as `bench latency` does; its other line says nothing.
 // filllog is here alone: it is fillrandom with a write buffer that takes all of it, so that a long log is left for both to open.
 //
 // Keys, values, their order and the line that is printed are those of crates/bench, and so are the options. Nothing is compressed, and
@@ -9,6 +10,8 @@
 
 #include <sys/stat.h>
 
+#include <algorithm>
+#include <chrono>
 #include <cstdint>
 #include <cstdio>
 #include <cstdlib>
@@ -201,6 +204,25 @@ Status GetEach(DB* db, Keys keys, Slice (Keys::*next)(), uint64_t count, Tally* 
   return Status::OK();
 }
 
+// How many nanoseconds each write took: so many of a thousand are as fast as what is printed, or faster (crates/bench/src/latency.rt).
+Status PutTimed(DB* db, Keys keys, uint64_t count, Tally* tally) {
+  using Clock = std::chrono::steady_clock;
+  Values values;
+  std::vector<uint64_t> times;
+  for (uint64_t i = 0; i < count; i++) {
+    const Slice key = keys.NextKey(), value = values.NextValue();
+    const Clock::time_point begun = Clock::now();
+    const Status status = db->Put(Writing(false), key, value);
+    times.push_back(std::chrono::duration_cast<std::chrono::nanoseconds>(Clock::now() - begun).count());
+    if (!status.ok()) return status;
+    tally->Count(key, value);
+  }
+  std::sort(times.begin(), times.end());
+  const auto at = [&times](size_t thousandths) { return times[std::min(times.size() / 1000 * thousandths, times.size() - 1)]; };
+  std::cout << "latency p50=" << at(500) << " p99=" << at(990) << " p99.9=" << at(999) << " slowest=" << times.back() << "\n";
+  return Status::OK();
+}
+
 Status PutAndLookBack(DB* db, Keys keys, uint64_t count, Tally* tally) {
   Values values;
   std::string before;
@@ -260,6 +282,7 @@ const std::map<std::string, Workload>& Workloads() {
        [](DB* db, uint64_t n, Tally* tally) { return PutEach(db, Keys::Drawn(kWritten, n), n, false, tally); }},
       {"filllog",
        [](DB* db, uint64_t n, Tally* tally) { return PutEach(db, Keys::Drawn(kWritten, n), n, false, tally); }},
+      {"latency", [](DB* db, uint64_t n, Tally* tally) { return PutTimed(db, Keys::Drawn(kWritten, n), n, tally); }},
       {"overwrite",
        [](DB* db, uint64_t n, Tally* tally) { return PutEach(db, Keys::Drawn(kRewritten, n), n, false, tally); }},
       {"fillsync",

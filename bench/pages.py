@@ -3,6 +3,7 @@ import sys
 
 BEGIN = "<!-- bench/run writes from here -->"
 GROWTH = "<!-- bench/run growth writes from here -->"
+LATENCY = "<!-- bench/run latency writes from here -->"
 END = "<!-- to here -->"
 
 # the chart's measures, in its own units
@@ -36,6 +37,14 @@ def growth_of(sizes, rows):
         for side, seconds in zip(("ours", "LevelDB"), sides):
             each = [it / size * 1e6 for it, size in zip(seconds, sizes)]
             lines.append(f"| `{name}` | {side} | {' | '.join(f'{it:.2f}' for it in each)} | {each[-1] / each[0]:.2f} |")
+    return "\n".join(lines)
+
+
+def latency_of(rows):
+    """How long writes take in microseconds, by what follows each, and the seconds of all."""
+    lines = ["| After each write | half | 99 in 100 | 999 in 1,000 | the slowest | all, s |", "|---|---:|---:|---:|---:|---:|"]
+    for name, times, seconds in rows:
+        lines.append(f"| {name} | {' | '.join(f'{it / 1000:,.1f}' for it in times)} | {seconds:.1f} |")
     return "\n".join(lines)
 
 

@@ -3,12 +3,10 @@
 use crate::runner::run_over;
 use crate::tally::Tally;
 use crate::workload::{Workload, named};
-use crate::{FAILED, MISUSED};
+use crate::{DONE, FAILED, MISUSED};
 use coding::DbError;
 use engine::Options;
 use store::{FileStore, StoreError};
-
-const DONE: u8 = 0;
 
 /// Runs the workload of a name over the folder at a path, prints its line, and answers the exit status.
 pub fn run(rt: &HostRuntime, name: &str, number: &str, path: &str) -> u8 {
@@ -29,8 +27,8 @@ pub fn run(rt: &HostRuntime, name: &str, number: &str, path: &str) -> u8 {
     report(rt, name, number, outcome)
 }
 
-// A number of operations, which is at least 1.
-fn counted(text: &str) -> Option<u64> {
+/// A number of operations, which is at least 1.
+pub fn counted(text: &str) -> Option<u64> {
     match text.parse::<u64>() {
         Ok(0) => None,
         Ok(number) => Some(number),
@@ -42,8 +40,8 @@ fn counted(text: &str) -> Option<u64> {
 // thread is busy: `bench/run` prints how many it merged. Here nothing waits, so that 8 is what makes both merge as many at once.
 const LEVEL0_FILES: u64 = 8;
 
-// The sizes of LevelDB's db_bench, with a cache of 8 MB.
-fn options() -> Option<Options> {
+/// The sizes of LevelDB's db_bench, with a cache of 8 MB.
+pub fn options() -> Option<Options> {
     Options::new(4_194_304, 4096, 2_097_152, LEVEL0_FILES, 10_485_760, 2048)
 }
 
@@ -73,12 +71,13 @@ pub fn report<R: Print + Eprint>(
 /// Says what the words of the command line may be, and answers the exit status.
 pub fn misuse<R: Eprint>(rt: &R) -> u8 {
     let _ = eprintln!(rt;
-        "usage: bench WORKLOAD N DIR, N from 1 on; with no argument each workload runs in memory"
+        "usage: bench WORKLOAD N DIR or bench latency SHARE N DIR, N from 1 on; with no argument each workload runs in memory"
     );
     MISUSED
 }
 
-fn folder_fault<R: Eprint>(rt: &R, path: &str, error: StoreError) -> u8 {
+/// Says why a folder wasn't opened, and answers the exit status.
+pub fn folder_fault<R: Eprint>(rt: &R, path: &str, error: StoreError) -> u8 {
     let why = match error {
         StoreError::Missing => "there is no such folder",
         StoreError::Device => "it isn't a folder, or this user may not open it",

@@ -2,12 +2,16 @@
 //! over LevelDB, and `bench/run` compares both. At its end it prints one line: the workload, N, how many entries were written or
 //! found, and a sum over their bytes.
 //!
+//! `bench latency SHARE N DIR` writes N drawn keys and prints how long the slowest writes took, in nanoseconds, each with its share of
+//! work: none for 0, so many entries, or all that there is (`all`).
+//!
 //! With no argument it runs each workload over files in memory, a few entries each.
 #![tactic(auto)]
 
 mod entries;
 mod folder;
 mod gets;
+mod latency;
 mod runner;
 mod sample;
 mod tally;
@@ -20,6 +24,8 @@ use std::process::ExitCode;
 use std::rt::Env;
 use std::{env, io};
 
+const DONE: u8 = 0;
+
 const FAILED: u8 = 1;
 
 const MISUSED: u8 = 2;
@@ -31,6 +37,9 @@ fn main(rt: HostRuntime) -> ExitCode {
     ExitCode::from(match words.as_slice() {
         [] => sample::run(&rt),
         [name, number, path] => folder::run(&rt, name.as_str(), number.as_str(), path.as_str()),
+        [name, share, number, path] if name.as_str() == "latency" => {
+            latency::run(&rt, share.as_str(), number.as_str(), path.as_str())
+        }
         _ => folder::misuse(&rt),
     })
 }

@@ -7,7 +7,7 @@ use crate::walks::{seek_each, walk_backwards, walk_forwards};
 use crate::workload::Workload;
 use crate::writes::{delete_each, put_and_look_back, put_batches, put_each, settle};
 use coding::DbError;
-use engine::{Db, Ids, Mode, Options};
+use engine::{Db, Ids, Mode, OpenError, Options};
 use ikey::Bytewise;
 use std::alloc::Global;
 use store::Store;
@@ -30,12 +30,8 @@ pub fn run_over<S: Store>(
     workload: Workload,
     number: u64,
 ) -> (Result<Tally, DbError>, S) {
-    let ids = Ids {
-        snapshot: 0,
-        iterator: 0,
-    };
-    match Db::open(alloc, store, options, Mode::Any, ids) {
-        Err((error, store)) => (Err(error), store),
+    match Db::open(alloc, store, options, Mode::Any, Ids::first()) {
+        Err(OpenError { error, store }) => (Err(error), store),
         Ok(mut db) => {
             let tally = run_in(alloc, &mut db, workload, number);
             let (store, _) = db.close();

@@ -9,11 +9,15 @@ mod faults;
 #[cfg(test)]
 mod long_logs;
 #[cfg(test)]
+mod options;
+#[cfg(test)]
 mod orders;
 #[cfg(test)]
 mod origins;
 #[cfg(test)]
 mod programs;
+#[cfg(test)]
+mod ranges;
 #[cfg(test)]
 mod readings;
 #[cfg(test)]

@@ -14,7 +14,7 @@ struct Outcome {
 }
 
 // The words of a command line, where `DIR` stands for the folder.
-fn words_of(alloc: Global, words: &[&str], folder: &str) -> Result<Vec<String>, AllocError> {
+pub fn words_of(alloc: Global, words: &[&str], folder: &str) -> Result<Vec<String>, AllocError> {
     let mut owned = vec![in alloc; String::from_str(alloc, "ldbtool")?]?;
     for word in words {
         let word = if *word == "DIR" { folder } else { *word };

@@ -1,7 +1,7 @@
 // What an open database does to its directory. The bytes of records are made outside.
 ghost use Rattle.std.specs.Prelude.{◌<◌, ℕ, All, Contains, IfOk, length};
 ghost use Rattle.edits.specs.Edit.{IsProper, IsInOrder};
-ghost use Rattle.directory_writes.specs.Level0.{HaveSequences};
+ghost use Rattle.directory_writes.specs.internal.Level0.{HaveSequences};
 
 use crate::files::ONE_ENTRY;
 use crate::layouts::version_of;

@@ -1,13 +1,13 @@
 // What a version tells of its tables, and which compactions it plans.
 use crate::layouts::{Pointer, TableRow, key_of, layout_of, placed, version_of};
 use coding::DbError;
-use edits::{Edit, Field, FileName, PlacedTable};
+use edits::{Edit, Field, PlacedTable};
 use ikey::{Bytewise, KeyOrder};
 use std::alloc::{AllocError, Global};
 use std::test::*;
 use versions::{
-    JobPlan, LiveNumbers, Version, Versions, covers, inputs_in_order, one_more_edit, one_user_key,
-    plans_of_tables, searches_reach, user_of,
+    JobPlan, Version, covers, inputs_in_order, one_more_edit, one_user_key, plans_of_tables,
+    searches_reach, user_of,
 };
 
 // The numbers of the inputs, the output level, and the largest user key of the moved pointer.
@@ -390,57 +390,6 @@ fn is_left(alloc: Global) -> Result<bool, DbError> {
 #[test]
 fn an_edit_leaves_another_version(rt: HostRuntime) {
     assert_eq!(rt; is_left(rt.alloc()), Ok(true));
-}
-
-// ---- pinned versions
-
-const NUMBERS: LiveNumbers = LiveNumbers {
-    manifest_number: 1,
-    log_number: 5,
-    previous_log_number: 3,
-};
-
-// Files, and whether they are live while the version before the compaction is pinned.
-#[rattlefmt::skip]
-const FILES: [(FileName, bool); 12] = [
-    (FileName::Current, true), (FileName::Lock, true), (FileName::Log(3), true), (FileName::Log(4), false), (FileName::Log(6), true),
-    (FileName::Manifest(1), true), (FileName::Manifest(2), false), (FileName::Temporary(1), false),
-    (FileName::Table(2), true), (FileName::OldTable(3), true), (FileName::Table(8), true), (FileName::Table(9), false),
-];
-
-fn are_live(versions: &Versions<Bytewise>) -> bool {
-    for (file, is_live) in FILES {
-        if versions.is_live(&NUMBERS, file) != is_live {
-            return false;
-        }
-    }
-    true
-}
-
-fn has_current(versions: &Versions<Bytewise>, numbers: &[u64]) -> bool {
-    have_numbers(versions.current().tables(), numbers)
-}
-
-// Whether the tables of a pinned version are live behind the next one, and go once it isn't pinned.
-fn keeps_what_is_pinned(alloc: Global, before: Version<Bytewise>) -> Result<bool, DbError> {
-    let next = compacted(alloc, &before)?;
-    let mut versions = Versions::new(alloc, before)?;
-    let id = versions.pin();
-    versions.reserve()?;
-    versions.install(next);
-    let are_kept = have_numbers(versions.pinned(id).tables(), &[2, 4, 3]) && are_live(&versions);
-    versions.unpin(id);
-    let is_gone = !versions.is_live(&NUMBERS, FileName::Table(2)) && versions.has_table(4);
-    Ok(are_kept && is_gone && has_current(&versions, &[4, 8, 7]))
-}
-
-fn keeps_pinned(alloc: Global) -> Result<bool, DbError> {
-    keeps_what_is_pinned(alloc, version_of(alloc, &BEFORE, None)?)
-}
-
-#[test]
-fn pinned_versions_keep_their_tables(rt: HostRuntime) {
-    assert_eq!(rt; keeps_pinned(rt.alloc()), Ok(true));
 }
 
 // ---- the inputs of a compaction

@@ -8,7 +8,7 @@ use Rattle.ikey.specs.declared.entry.Entry.{Entry}
 use Rattle.recover.specs.Directory.{Directory, IsConsistent, IsEmpty}
 use Rattle.recover.specs.Limits.{PassesLimit}
 use Rattle.recover.specs.Origins.{HasEntries, HasNoEntries, PassesLimitAt}
-use Rattle.recover.specs.Reading.{IsInconsistent, Reads, RefusesDirectory}
+use Rattle.recover.specs.Reading.{IsInconsistent, IsStill, ReadsDirectory, RefusesDirectory}
 use Rattle.recover.specs.Report.{IsReport}
 use Rattle.recover.specs.declared.origins.Origin.{Origin}
 use Rattle.recover.specs.declared.report.Report.{Report}
@@ -19,6 +19,7 @@ use Rattle.tool.specs.Reports.{check_text_of, entry_line_of, origins_of_summary,
 pub record IsChecked (order : Order) (old new : Facts) (answer : Result Report DbError) : Type 0 where
   pub found : IfOk answer (λ report. IsTrue new.faithful → IsReport order old.files report)
   pub refused : IfErr answer (λ error. RefusesDirectory error old new ((IsEmpty old.files → ⊥) × IsInconsistent order old.files) ((IsEmpty old.files → ⊥) × PassesLimit order old.files))
+  pub still : IsStill old new answer
 
 -- It is written, and the status says which.
 pub record Checks (order : Order) (old new : Facts) (before after : Option (List ℕ)) (status : ℕ) : Type 0 where
@@ -31,9 +32,10 @@ pub record Checks (order : Order) (old new : Facts) (before after : Option (List
 
 -- what the entries of a file are, or why they are refused
 pub record IsFileRead (order : Order) (origin : Origin) (old new : Facts) (answer : Result (List Entry) DbError) : Type 0 where
-  pub reads : Reads old new answer
+  pub reads : ReadsDirectory old new answer
   pub found : IfOk answer (λ entries. IsTrue new.faithful → (d : Directory) → IsConsistent order old.files d → HasEntries d origin entries)
   pub refused : IfErr answer (λ error. RefusesDirectory error old new (HasNoEntries order old.files origin) (PassesLimitAt order old.files origin))
+  pub still : IsStill old new answer
 
 -- The lines of the entries of a file are written, or its refusal, with which all ends: then there is a status.
 abbrev pub PrintsFile : Order → Origin → Facts → Facts → Option (List ℕ) → Option (List ℕ) → Option ℕ → Type 0

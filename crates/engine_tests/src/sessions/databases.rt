@@ -4,7 +4,7 @@ use super::*;
 use batch::Batch;
 use coding::Bytes;
 use engine::Mode::New;
-use engine::{Db, Ids, Progress};
+use engine::{Db, Ids, OpenError, Progress};
 use std::test::Fail;
 
 // Each is the least of its range, so that a memory table is sealed with its first entry.
@@ -46,7 +46,7 @@ fn database(alloc: Global, sizes: Sizes, ids: Ids) -> Result<Db<MemStore, Bytewi
     let options = options_of(sizes).ok_or("an option is outside its range")?;
     match Db::open(alloc, MemStore::new(alloc), options, New, ids) {
         Ok(database) => Ok(database),
-        Err((error, _)) => Err(error)?,
+        Err(refused) => Err(DbError::from(refused))?,
     }
 }
 
@@ -95,7 +95,12 @@ fn refused(alloc: Global, store: MemStore) -> Result<MemStore, Fail> {
     let options = options_of(LEAST).ok_or("each is the least of its range")?;
     let again: Result<Db<MemStore, Bytewise>, _> = Db::open(alloc, store, options, New, FIRST_IDS);
     match again {
-        Err((DbError::Exists, store)) => Ok(store),
+        Err(
+            OpenError {
+                error: DbError::Exists,
+                store,
+            },
+        ) => Ok(store),
         _ => Err(Fail::from("there is a database already")),
     }
 }

@@ -50,11 +50,11 @@ const BESIDE_AN_EDIT: Files<'static> = &[
 ];
 
 // Files; one more, or in place of one of these; and what is answered over them.
-type Opening = (Files<'static>, (&'static str, &'static [u8]), Line<'static>);
+pub type Opening = (Files<'static>, (&'static str, &'static [u8]), Line<'static>);
 
 // Each MANIFEST that isn't the first one is one edit: Bytewise, and what is said of it.
 #[rattlefmt::skip]
-const OPENINGS: &[Opening] = &[
+pub const OPENINGS: &[Opening] = &[
     (BESIDE_AN_EDIT, ("MANIFEST-000001", b"S&\xfe[\x22\x00\x01\x01\x1aleveldb.BytewiseComparator\x02\x02\x03\x03\x04\x00"), ("open", "ok")),
     // no log number
     (BESIDE_AN_EDIT, ("MANIFEST-000001", b"\x22Q\x8c% \x00\x01\x01\x1aleveldb.BytewiseComparator\x03\x03\x04\x00"), ("open", "refused Corrupt(Manifest, Missing)")),
@@ -94,7 +94,7 @@ const OPENINGS: &[Opening] = &[
     (&[], ("LOG", b""), ("open new", "ok")),
 ];
 
-fn before(alloc: Global, opening: &Opening) -> Result<MemStore, DbError> {
+pub fn before(alloc: Global, opening: &Opening) -> Result<MemStore, DbError> {
     let (files, (name, bytes), _) = *opening;
     let mut store = directory(alloc, files)?;
     put(&mut store, name, bytes)?;

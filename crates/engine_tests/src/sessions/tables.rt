@@ -16,7 +16,7 @@ pub const LEVELS: &[(&str, &[u8])] = &[
     ("000019.log", b""),
 ];
 
-const READ: &[Line<'static>] = &[
+pub const READ: &[Line<'static>] = &[
     ("open", "ok"),
     ("get 61", "value 3131"),
     ("get 62", "value 3232"),
@@ -82,7 +82,7 @@ const UNFILTERED: Files<'static> = &[
 
 // The value of its first entry is changed.
 #[rattlefmt::skip]
-const UNFILTERED_AND_DAMAGED: Files<'static> = &[
+pub const UNFILTERED_AND_DAMAGED: Files<'static> = &[
     ("CURRENT", b"MANIFEST-000002\n"),
     ("MANIFEST-000002", TWO_BLOCKS_MANIFEST),
     ("000003.log", b""),
@@ -91,7 +91,7 @@ const UNFILTERED_AND_DAMAGED: Files<'static> = &[
 
 // Its first block is said to be compressed, under a checksum that fits.
 #[rattlefmt::skip]
-const UNFILTERED_AND_COMPRESSED: Files<'static> = &[
+pub const UNFILTERED_AND_COMPRESSED: Files<'static> = &[
     ("CURRENT", b"MANIFEST-000002\n"),
     ("MANIFEST-000002", TWO_BLOCKS_MANIFEST),
     ("000003.log", b""),
@@ -106,7 +106,7 @@ const WHOLE: &[Line<'static>] = &[
 
 // The block that is met answers so in the call that meets it, and the others go on answering. A move backwards looks at the entry
 // in front, for whether it is of the same key.
-const BESIDE_DAMAGE: &[Line<'static>] = &[
+pub const BESIDE_DAMAGE: &[Line<'static>] = &[
     ("open", "ok"),
     ("get 61", "refused Corrupt(Table, Checksum)"),
     ("get 62", "value 32"),
@@ -120,7 +120,7 @@ const BESIDE_DAMAGE: &[Line<'static>] = &[
     ("next 1", "end"),
 ];
 
-const BESIDE_A_COMPRESSED_BLOCK: &[Line<'static>] = &[
+pub const BESIDE_A_COMPRESSED_BLOCK: &[Line<'static>] = &[
     ("open", "ok"),
     ("get 61", "refused Unsupported(BlockType)"),
     ("get 62", "value 32"),

@@ -28,6 +28,7 @@ returns-clause-finished g c = record {
     tells = c.apply.ensures.tells;
     shown = c.apply.ensures.shown;
     leaves = c.apply.ensures.leaves;
+    lets_go = c.apply.ensures.lets_go;
     works = c.apply.ensures.works;
     needed = c.apply.ensures.needed;
     shut = c.apply.ensures.shut;
