@@ -120,10 +120,11 @@ def build(named, at_once=None):
         while running or (left and not failed):
             ready = [it for it in left if not failed and all(other in done for other in below(it))][: len(free)]
             jobs = max(1, at_once // max(1, len(ready) + len(running)))
-            for crate in ready:
+            for i, crate in enumerate(ready):
                 left.remove(crate)
                 copy = free.pop()
-                running[crate] = started(crate, copy, jobs), copy, time.monotonic()
+                # (all wait for the first, which has the longest chain above it)
+                running[crate] = started(crate, copy, max(jobs, min(2, at_once)) if i == 0 else jobs), copy, time.monotonic()
             time.sleep(0.5)
             for crate in [it for it, (process, *_) in running.items() if process.poll() is not None]:
                 process, copy, since = running.pop(crate)
