@@ -79,12 +79,12 @@ fn range_of(alloc: Global, from: Option<&[u8]>, to: Option<&[u8]>) -> Result<Key
 
 // Whether these pairs have these values, of a byte each.
 fn has_values(pairs: &[(Bytes, Bytes)], wanted: &[u8]) -> bool {
-    let mut at = 0;
+    let mut at = 0_usize;
     for (_, value) in pairs {
         if wanted.get(at..).and_then(|rest| rest.first()) != value.as_slice().first() {
             return false;
         }
-        at += 1;
+        at = at.saturating_add(1);
     }
     at == wanted.len()
 }
@@ -163,8 +163,11 @@ fn a_range_of_a_prefix_has_the_keys_that_begin_so(rt: HostRuntime) -> Result<(),
     Ok(())
 }
 
-fn is_one(found: Result<Option<(Bytes, Bytes)>, DbError>, wanted: &[u8]) -> bool {
-    matches!(found, Ok(Some((_, value))) if value.as_slice() == wanted)
+fn is_one(found: &Result<Option<(Bytes, Bytes)>, DbError>, wanted: &[u8]) -> bool {
+    match found {
+        Ok(Some((_, value))) => value.as_slice() == wanted,
+        _ => false,
+    }
 }
 
 // A walk from ab up to e: it sees what was there when it began, and gives up its iterator.
@@ -172,7 +175,7 @@ fn walks(alloc: Global, db: &mut Db<MemStore, Bytewise>) -> Result<bool, DbError
     let keys = KeyRange::between(alloc, b"ab", b"e")?;
     let mut walk = db.range(alloc, keys, None)?;
     let mut rest = Vec::new(alloc);
-    let first = is_one(db.range_next(alloc, &mut walk), b"4");
+    let first = is_one(&db.range_next(alloc, &mut walk), b"4");
     let wrote = db.work(alloc, 9).is_ok();
     let filled = db.range_fill(alloc, &mut walk, 1, &mut rest);
     let filled_again = db.range_fill(alloc, &mut walk, 9, &mut rest);

@@ -13,7 +13,8 @@ use reader::{Movement, ReadOnly, Reader, ReaderWalk};
 use std::num::NonZeroUsize;
 use store::StoreError;
 
-// Files in memory that no call may change: one that would is noted, and does nothing.
+// Files in memory that no call may change: one that would is noted, and fails, since a file is removed that isn't there. So is noted what
+// asks for the lock.
 #[derive(Drop)]
 struct Untouched {
     inner: MemStore,
@@ -21,10 +22,10 @@ struct Untouched {
 }
 
 impl Untouched {
-    // Counts a call that would change something, and has it fail: a file is removed that isn't there.
-    fn refuse(&mut self) -> Result<(), StoreError> {
+    fn count(&mut self)
+        ensures { self.new.inner ≡ self.old.inner }
+    {
         self.asked = self.asked.saturating_add(1);
-        self.inner.remove("")
     }
 }
 
@@ -56,32 +57,38 @@ impl Store for Untouched {
     }
 
     fn create(&mut self, _name: &str) -> Result<(), StoreError> {
-        self.refuse()
+        self.count();
+        self.inner.remove("")
     }
 
     fn append(&mut self, _name: &str, _bytes: &[u8]) -> Result<(), StoreError> {
-        self.refuse()
+        self.count();
+        self.inner.remove("")
     }
 
     fn sync(&mut self, _name: &str) -> Result<(), StoreError> {
-        self.refuse()
+        self.count();
+        self.inner.remove("")
     }
 
     fn rename(&mut self, _from: &str, _to: &str) -> Result<(), StoreError> {
-        self.refuse()
+        self.count();
+        self.inner.remove("")
     }
 
     fn remove(&mut self, _name: &str) -> Result<(), StoreError> {
-        self.refuse()
+        self.count();
+        self.inner.remove("")
     }
 
     fn lock(&mut self) -> Result<bool, StoreError> {
-        self.refuse()?;
-        Ok(false)
+        self.count();
+        self.inner.lock()
     }
 
     fn unlock(&mut self) -> Result<(), StoreError> {
-        self.refuse()
+        self.count();
+        self.inner.unlock()
     }
 }
 

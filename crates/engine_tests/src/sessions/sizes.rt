@@ -20,13 +20,13 @@ fn operations(alloc: Global) -> Result<Vec<Operation>, DbError> {
 
 // How many table files there are, and how many bytes they have in all.
 fn tables_in(alloc: Global, store: &mut MemStore) -> Result<(usize, u64), DbError> {
-    let mut found = (0, 0);
+    let mut found = (0_usize, 0_u64);
     for name in listed(alloc, store)?.iter() {
         if !name.as_bytes().ends_with(b".ldb") {
             continue;
         }
         match store.len(name.as_str()) {
-            Ok(length) => found = (found.0 + 1, found.1 + length),
+            Ok(length) => found = (found.0.saturating_add(1), found.1.saturating_add(length)),
             Err(_) => return Err(DbError::Io),
         }
     }
