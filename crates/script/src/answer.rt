@@ -84,10 +84,19 @@ fn push_with_bytes(text: &mut Vec<u8>, word: &[u8], bytes: &Bytes) -> Result<(),
     ensures err { OnErr result (StartsWith text.new.items text.old.items) }
 {
     text.extend_from_slice(word)?;
+    push_bytes(text, bytes.as_slice())
+}
+
+/// Puts bytes behind the text as answers write them: in lower-case hexadecimal, `-` where there are none. Where there is no memory
+/// for all of it, a beginning may be left.
+pub fn push_bytes(text: &mut Vec<u8>, bytes: &[u8]) -> Result<(), AllocError>
+    ensures ok { OnOk result (text.new.items ≡ text.old.items ++ text_of_bytes bytes.now) }
+    ensures err { OnErr result (StartsWith text.new.items text.old.items) }
+{
     if bytes.is_empty() {
         return text.extend_from_slice(b"-");
     }
-    push_digits(text, bytes.as_slice())
+    push_digits(text, bytes)
 }
 
 // Two digits for each byte, written where they stay.

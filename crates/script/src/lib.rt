@@ -12,8 +12,9 @@ mod run;
 mod verb;
 mod word;
 
-pub use answer::{answer_line, bytes_text};
+pub use answer::{answer_line, bytes_text, push_bytes};
 pub use fault::Fault;
 pub use line::{one_command, read_line};
 pub use output::{show, write_all};
 pub use run::drive;
+pub use word::read_bytes;

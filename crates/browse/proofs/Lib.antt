@@ -1,0 +1,4 @@
+mod Texts
+mod PutLines
+mod Bounds
+mod Lists
