@@ -2,3 +2,8 @@ mod Texts
 mod PutLines
 mod Bounds
 mod Lists
+mod Moving
+mod Steps
+mod Consistent
+mod Printed
+mod Scanned

@@ -1,5 +1,5 @@
 -- Pairs of a range, in the order of their keys and backwards.
-use Rattle.std.proofs.Common.{◌≡◌, ◌⊎◌, ◌<◌, ◌≤◌, ℕ, zero, suc, ◌+◌, ◌-◌, Bool, true, false, not, ◌&&◌, cond, List, [], ◌∷◌, ◌++◌, length, take, drop, Option, Some, None, inl, inr, refl, sym, ap, ◌∙◌, add-one, subst, arith}
+use Rattle.std.proofs.Common.{◌≡◌, ◌⊎◌, ◌<◌, ◌≤◌, ℕ, zero, suc, ◌+◌, ◌-◌, Bool, true, false, not, ◌&&◌, cond, List, [], ◌∷◌, ◌++◌, length, take, drop, Option, Some, None, inl, inr, refl, sym, ap, ◌∙◌, add-one, subst, arith, length-drop}
 use mathlib.Core.Bool.{true≢false}
 use mathlib.Core.List.{reverse-cons}
 use Rattle.std.specs.Prelude.{reverse}
@@ -259,3 +259,16 @@ count_within cmp key (pair ∷ pairs) = at (is_lt (cmp pair.0 key)) (count_withi
     at : (b : Bool) → count_below cmp key pairs ≤ length pairs → cond b (count_below cmp key pairs + 1) 0 ≤ length (pair ∷ pairs)
     at true le = omega (arith, le)
     at false le = omega arith
+
+-- ---- where moves lead
+
+pub lands : (pairs : List Pair) (c i : ℕ) → place_at pairs c ≡ Some i → i ≡ c
+lands pairs c i is = at (nat_lt c (length pairs)) is
+  where
+    at : (b : Bool) → cond b (Some c) None ≡ Some i → i ≡ c
+    at true is' = cc
+    at false is' = absurd (cc)
+
+-- nothing is ahead of a place behind all
+pub ends_there : (pairs : List Pair) (c : ℕ) → c ≤ length pairs → drop c pairs ≡ [] → c ≡ length pairs
+ends_there pairs c le none = (let n : length pairs - c ≡ 0 = sym (length-drop c pairs) ∙ ap length none in omega (arith, n, le))

@@ -1,5 +1,5 @@
 -- What `get`, `scan` and `export` print of a directory, which they leave as it is.
-use Rattle.std.specs.Prelude.{◌≡◌, ◌++◌, ℕ, List, [], ◌∷◌, Option, Some, None, Result, Ok, Err, IfOk, IfErr, IfSome, IfNone, IsTrue}
+use Rattle.std.specs.Prelude.{◌≡◌, ◌⊎◌, ◌++◌, ℕ, List, [], ◌∷◌, Option, Some, None, Result, Ok, Err, IfOk, IfErr, IfSome, IfNone, IsTrue}
 use Rattle.std.specs.FinMap.{get}
 use Rattle.std.specs.Io.KnownBytes.{Appends}
 use Rattle.coding.specs.declared.error.DbError.{DbError}
@@ -52,10 +52,10 @@ pub record Gets (order : Order) (old new : Facts) (key : List ℕ) (form : Form)
 
 -- ---- pairs
 
--- these came: all that are asked for, or, where a refusal stands behind them, the first of these
+-- these came: all that are asked for, or, where a refusal stands behind them, the first of these, if any
 abbrev pub IsTold : Cmp → Choice → Contents → List Pair → Result (Unit {0}) DbError → Type 0
 IsTold cmp choice map came (Ok done) = IsChosen cmp choice map came
-IsTold cmp choice map came (Err e) = (rest : List Pair) × IsChosen cmp choice map (came ++ rest)
+IsTold cmp choice map came (Err e) = (came ≡ []) ⊎ ((rest : List Pair) × IsChosen cmp choice map (came ++ rest))
 
 abbrev pub end_text : Result (Unit {0}) DbError → List ℕ
 end_text (Ok done) = []

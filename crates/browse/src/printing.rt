@@ -61,8 +61,8 @@ fn print_pairs<K: KeyOrder, S: Store, W: Write>(
             Ok(None) => return Ok(Ok(())),
             Err(error) => return Ok(Err(error)),
         };
-        begun = true;
         print_pair(writer, text, choice.style, &pair)?;
+        begun = true;
     }
     end_at_limit(choice.most)
 }

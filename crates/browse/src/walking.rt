@@ -2,7 +2,8 @@
 
 ghost use Rattle.std.specs.Prelude.{◌≡◌, true, false, Some};
 ghost use Rattle.engine.specs.Ranges.{is_before_end, is_from};
-ghost use Rattle.browse.specs.internal.Walking.{Ahead, Moves, in_reach, all_of, reach, settled, StandsBefore, StartsBackwards, StartsForwards};
+ghost use Rattle.browse.specs.internal.Lists.{all_of, in_reach, reach, settled};
+ghost use Rattle.browse.specs.internal.Walking.{Ahead, Moves, StandsBefore, StartsBackwards, StartsForwards};
 
 use crate::choice::Choice;
 use coding::{Bytes, DbError};

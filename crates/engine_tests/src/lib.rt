@@ -3,6 +3,8 @@
 #![tactic(auto)]
 
 #[cfg(test)]
+mod browsing;
+#[cfg(test)]
 mod checks;
 #[cfg(test)]
 mod faults;

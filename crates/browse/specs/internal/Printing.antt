@@ -32,20 +32,20 @@ pub record Prints (cmp : Cmp) (choice : Choice) (Over : List Pair → Type 0) (o
   pub came : List Pair
   pub shown : Shows before after (text ++ lines_in choice.style came) rest
   pub told : IsTrue new.faithful → (pairs : List Pair) → Over pairs → Ends came (at_most choice.most (reach cmp choice (starting cmp choice pairs))) answer
-  pub refused : IfErr answer (λ e. RefusesMove cmp e old new ((pairs : List Pair) → Over pairs → ⊥))
+  pub refused : IfErr answer (λ e. RefusesMove cmp e old new (λ P. (pairs : List Pair) → Over pairs → P))
 
 -- The same of the pairs of the map that a reader shows.
 pub record PrintsMap {S K : Type 0} (order : Order) (choice : Choice) (facts : S → Facts) (old new : Reader S K) (before after : Option (List ℕ)) (text rest : List ℕ) (answer : Result (Unit {0}) DbError) : Type 0 where
   pub came : List Pair
   pub shown : Shows before after (text ++ lines_in choice.style came) rest
   pub told : IsTrue (facts_of facts new).faithful → (map : Contents) → ShowsMap order facts old map → IsTold order.cmp choice map came answer
-  pub refused : IfErr answer (λ e. RefusesMove order.cmp e (facts_of facts old) (facts_of facts new) ((map : Contents) → ShowsMap order facts old map → ⊥))
+  pub refused : IfErr answer (λ e. RefusesMove order.cmp e (facts_of facts old) (facts_of facts new) (λ P. (map : Contents) → ShowsMap order facts old map → P))
 
 -- And all of it was written, with the refusal behind it.
 pub record TellsMap {S K : Type 0} (order : Order) (choice : Choice) (facts : S → Facts) (old new : Reader S K) (before after : Option (List ℕ)) (status : ℕ) : Type 0 where
   pub came : List Pair
   pub answer : Result (Unit {0}) DbError
   pub told : IsTrue (facts_of facts new).faithful → (map : Contents) → ShowsMap order facts old map → IsTold order.cmp choice map came answer
-  pub refused : IfErr answer (λ e. RefusesMove order.cmp e (facts_of facts old) (facts_of facts new) ((map : Contents) → ShowsMap order facts old map → ⊥))
+  pub refused : IfErr answer (λ e. RefusesMove order.cmp e (facts_of facts old) (facts_of facts new) (λ P. (map : Contents) → ShowsMap order facts old map → P))
   pub written : Appends before after (lines_in choice.style came ++ end_text answer)
   pub ended : status ≡ end_status answer

@@ -1,5 +1,5 @@
 -- Walks through a range, in the order of the keys or backwards.
-use Rattle.std.specs.Prelude.{◌≡◌, ◌<◌, ◌⊎◌, ℕ, Bool, true, false, List, [], ◌∷◌, length, reverse, take, drop, Option, Some, None, Result, Ok, Err, OnOk, IfErr, IsTrue}
+use Rattle.std.specs.Prelude.{◌≡◌, ◌<◌, ℕ, Bool, true, false, List, [], ◌∷◌, length, reverse, take, drop, Option, Some, None, Result, Ok, Err, OnOk, IfErr, IsTrue}
 use Rattle.coding.specs.declared.error.DbError.{DbError}
 use Rattle.coding.specs.declared.error.DbError.TheVariants as error
 use Rattle.store.specs.Files.{Facts}
@@ -33,14 +33,14 @@ abbrev pub Ahead : Cmp → Choice → Bool → Walk → List Pair → Type 0
 Ahead cmp choice false at ahead = ahead ≡ starting cmp choice at.pairs
 Ahead cmp choice true at ahead = StandsBefore choice.backwards at ahead
 
--- Why a move is refused; `damaged` says that no walk is what the reader has.
-abbrev pub RefusesMove : Cmp → DbError → Facts → Facts → Type 0 → Type 0
-RefusesMove cmp error.OutOfMemory old new damaged = new.failures ≡ old.failures
-RefusesMove cmp error.Io old new damaged = old.failures < new.failures
-RefusesMove cmp error.NoPlace old new damaged = IsTrue new.faithful → damaged
-RefusesMove cmp (error.Corrupt file what) old new damaged = IsTrue new.faithful → damaged
-RefusesMove cmp (error.Unsupported what) old new damaged = IsTrue new.faithful → damaged ⊎ HasLongTable cmp old.files
-RefusesMove cmp _ old new damaged = ⊥
+-- Why a move is refused; `Of P` says that P is so of whatever the reader and its walk stand for.
+abbrev pub RefusesMove : Cmp → DbError → Facts → Facts → (Type 0 → Type 0) → Type 0
+RefusesMove cmp error.OutOfMemory old new Of = new.failures ≡ old.failures
+RefusesMove cmp error.Io old new Of = old.failures < new.failures
+RefusesMove cmp error.NoPlace old new Of = IsTrue new.faithful → Of ⊥
+RefusesMove cmp (error.Corrupt file what) old new Of = IsTrue new.faithful → Of ⊥
+RefusesMove cmp (error.Unsupported what) old new Of = IsTrue new.faithful → Of (HasLongTable cmp old.files)
+RefusesMove cmp _ old new Of = ⊥
 
 -- The walk stands on the first of those that were ahead, as far as `part` has them, and the others are behind it; none came where there
 -- is none.
@@ -56,4 +56,4 @@ pub record Moves {S K : Type 0} {g : _} (cmp : Cmp) (facts : S → Facts) (backw
   pub stood : OnOk result ((facts_of facts new).failures ≡ (facts_of facts old).failures)
   pub moves : IsTrue (facts_of facts new).faithful → (at : Walk) (ahead : List Pair) → Stands cmp facts old before at → Before at ahead
       → Arrives cmp facts backwards part new after at.pairs ahead result
-  pub refused : IfErr result (λ e. RefusesMove cmp e (facts_of facts old) (facts_of facts new) ((at : Walk) (ahead : List Pair) → Stands cmp facts old before at → Before at ahead → ⊥))
+  pub refused : IfErr result (λ e. RefusesMove cmp e (facts_of facts old) (facts_of facts new) (λ P. (at : Walk) (ahead : List Pair) → Stands cmp facts old before at → Before at ahead → P))
