@@ -70,7 +70,7 @@ shows_more : (style : Style) (a b c : Option (List ℕ)) (text waiting new : Lis
 shows_more style a b c text waiting new came pair h k = (
   h.0 ++ k.0,
   ap (λ (t : List ℕ). text ++ t) (lines_push style came pair) ∙ sym (append_assoc text (lines_in style came) (line_in style pair ++ 10 ∷ []))
-  ∙ ap (λ (t : List ℕ). t ++ (line_in style pair ++ 10 ∷ [])) h.1 ∙ append_assoc h.0 waiting (line_in style pair ++ 10 ∷ []) ∙ ap (λ (t : List ℕ). h.0 ++ t) k.1 ∙ sym (append_assoc h.0 k.0 new),
+      ∙ ap (λ (t : List ℕ). t ++ (line_in style pair ++ 10 ∷ [])) h.1 ∙ append_assoc h.0 waiting (line_in style pair ++ 10 ∷ []) ∙ ap (λ (t : List ℕ). h.0 ++ t) k.1 ∙ sym (append_assoc h.0 k.0 new),
   appends_then a b c h.0 k.0 h.2 k.2,
 )
 

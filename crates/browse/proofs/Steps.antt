@@ -133,11 +133,11 @@ module _ {S K : Type 0} {g : _} (cmp : Cmp) (facts : S → Facts) (to : List ℕ
   on_pair pair at ahead h is = elim (splits_on at.pairs (count_below cmp to at.pairs)) [
     | inl none ↦ absurd (let never : Some pair ≡ None = is ∙ ap (pair_at at.pairs) none.0 in cc)
     | inr some ↦ (
-        some.1,
-        some.2,
-        (let lt : some.1 < length at.pairs = some.3 in omega (arith, lt)),
-        h ∙ ap (λ (n : ℕ). reverse (take n at.pairs)) (sym (lands at.pairs (count_below cmp to at.pairs) some.1 some.2)),
-      )
+      some.1,
+      some.2,
+      (let lt : some.1 < length at.pairs = some.3 in omega (arith, lt)),
+      h ∙ ap (λ (n : ℕ). reverse (take n at.pairs)) (sym (lands at.pairs (count_below cmp to at.pairs) some.1 some.2)),
+    )
   ]
 
   on_none : (at : Walk) (ahead : List Pair) → StartsBackwards cmp (Some to) at ahead → None ≡ pair_at at.pairs (place_at at.pairs (count_below cmp to at.pairs)) → StartsBackwards cmp None (record at { place = place_at at.pairs (count_below cmp to at.pairs) }) ahead

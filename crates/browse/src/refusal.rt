@@ -9,11 +9,7 @@ use script::answer_line;
 use std::alloc::{AllocError, Global};
 
 /// Puts the line of a refusal behind the text, with a newline.
-pub fn push_refusal(
-    alloc: Global,
-    text: &mut Vec<u8>,
-    error: DbError,
-) -> Result<(), AllocError>
+pub fn push_refusal(alloc: Global, text: &mut Vec<u8>, error: DbError) -> Result<(), AllocError>
     ensures { OnOk result (text.new.items ≡ text.old.items ++ refusal_line error) }
 {
     let line = answer_line(alloc, &Answer::Refused(error))?;

@@ -30,10 +30,7 @@ pub fn next_pair<K: KeyOrder, S: Store>(
 }
 
 // The pair to which a walk came, where that isn't past the range.
-fn settle<K: KeyOrder>(
-    choice: &Choice,
-    found: Option<(Bytes, Bytes)>,
-) -> Option<(Bytes, Bytes)>
+fn settle<K: KeyOrder>(choice: &Choice, found: Option<(Bytes, Bytes)>) -> Option<(Bytes, Bytes)>
     ensures { result ≡ settled K.cmp choice.now found }
 {
     let (key, value) = found?;

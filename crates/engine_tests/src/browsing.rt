@@ -167,10 +167,9 @@ fn gets(
     wanted: (&str, u8),
 ) -> (bool, Looked) {
     let mut printed = Vec::new(alloc);
-    let (status, store) =
-        get::<Bytewise, MemStore, Vec<u8>>(alloc, store, key, form, &mut printed);
-    let same =
-        matches!(status, Ok(code) if code == wanted.1) && printed.as_slice() == wanted.0.as_bytes();
+    let (status, store) = get::<Bytewise, MemStore, Vec<u8>>(alloc, store, key, form, &mut printed);
+    let same = matches!(status, Ok(code) if code == wanted.1)
+        && printed.as_slice() == wanted.0.as_bytes();
     (same, store)
 }
 
