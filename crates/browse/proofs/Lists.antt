@@ -3,7 +3,7 @@ use Rattle.std.proofs.Common.{◌≡◌, ◌⊎◌, ◌<◌, ◌≤◌, ℕ, zer
 use mathlib.Core.Bool.{true≢false}
 use mathlib.Core.List.{reverse-cons}
 use Rattle.std.specs.Prelude.{reverse}
-use Rattle.std.specs.Bool.{nat_eq, nat_lt}
+use Rattle.std.specs.Bool.{nat_lt}
 use Rattle.std.specs.Cmp.{IsTotalOrder}
 use Rattle.std.specs.List.{AllByRecursion, slice_get}
 use Rattle.std.specs.List.Sorted.{IsStrictlySortedBy}
@@ -11,16 +11,15 @@ use Rattle.std.specs.Map.{keys_of}
 use Rattle.std.specs.Ordering.{is_lt}
 use Rattle.std.specs.declared.cmp.Ordering.{Ordering}
 use Rattle.std.specs.declared.cmp.Ordering.TheVariants.{Less, Equal, Greater}
-use Rattle.std.proofs.lemmas.Bool.{cases_lt, eq-eqb, ltb-true, lt-ltb, le-ltb, ne_eqb}
+use Rattle.std.proofs.lemmas.Bool.{ltb-true, lt-ltb, ne_eqb}
 use Rattle.std.proofs.lemmas.List.{take_all}
-use Rattle.std.proofs.lemmas.Option.{slice_get_cases}
 use Rattle.machine.specs.Walks.{count_below, place_at, place_before}
 use Rattle.engine.specs.declared.ranges.KeyRange.{KeyRange}
 use Rattle.engine.specs.Ranges.{Cmp, Pair, is_from, is_before_end, pairs_within, start_of, up_to}
 use Rattle.engine.proofs.RangePairs.{pairs_of_range, place_split}
 use Rattle.browse.specs.declared.choice.Choice.{Choice}
 use Rattle.browse.specs.Choices.{turned}
-use Rattle.browse.specs.internal.Lists.{behind, end_of, in_reach, reach, starting}
+use Rattle.browse.specs.internal.Lists.{behind, end_of, reach, starting}
 
 abbrev Pairs : List Pair → List Pair → Type 0
 Pairs xs ys = xs ≡ ys

@@ -1,12 +1,8 @@
 -- Moves of a reader's walk, by what is ahead of it.
-use Rattle.std.proofs.Common.{◌≡◌, ◌⊎◌, ◌<◌, ◌≤◌, ℕ, Bool, true, false, cond, is_some, IsTrue, List, [], ◌∷◌, length, Option, Some, None, Result, Ok, Err, MatchOption, inl, inr, refl, sym, ap, subst, ◌∙◌}
-use mathlib.Core.Bool.{true≢false}
-use Rattle.std.specs.Prelude.{IfErr, OnOk}
-use Rattle.std.specs.List.{slice_get}
+use Rattle.std.proofs.Common.{◌≡◌, ℕ, Bool, true, List, Option, Some, None, Result, Ok, Err, MatchOption, inl, inr, sym, ap, subst, ◌∙◌}
 use Rattle.coding.specs.declared.error.DbError.{DbError}
 use Rattle.coding.specs.declared.error.DbError.TheVariants as error
 use Rattle.store.specs.Files.{Facts}
-use Rattle.table.specs.Reading.{Reads}
 use Rattle.machine.specs.Machine.{Walk}
 use Rattle.machine.specs.Causes.{Motion, lacks_place}
 use Rattle.machine.specs.Walks.{pair_at, place_after}
@@ -15,8 +11,7 @@ use Rattle.reader.specs.declared.reader.Reader.{Reader}
 use Rattle.reader.specs.declared.reader.ReaderWalk.{ReaderWalk}
 use Rattle.reader.specs.Readers.{facts_of, scan_of, whole_of}
 use Rattle.reader.specs.Moving.{IsMoved}
-use Rattle.browse.specs.Refusals.{HasLongTable}
-use Rattle.browse.specs.internal.Lists.{all_of, behind}
+use Rattle.browse.specs.internal.Lists.{all_of}
 use Rattle.browse.specs.internal.Walking.{Arrives, Moves, RefusesMove, Stands}
 use Rattle.browse.proofs.Lists.{Splits}
 

@@ -1,6 +1,6 @@
 -- The pairs of a walk as they are printed.
-use Rattle.std.proofs.Common.{◌≡◌, ◌⊎◌, ◌<◌, ◌≤◌, ◌+◌, ◌-◌, ℕ, suc, Bool, true, false, cond, IsTrue, List, [], ◌∷◌, ◌++◌, length, take, Option, Some, None, Result, Ok, Err, inl, inr, refl, sym, ap, subst, ◌∙◌, append-nil, append_assoc, arith}
-use Rattle.std.specs.Prelude.{IfErr, IfOk, IfSome, IsSome, OnOk}
+use Rattle.std.proofs.Common.{◌≡◌, ◌≤◌, ◌+◌, ◌-◌, ℕ, suc, Bool, true, false, cond, IsTrue, List, [], ◌∷◌, ◌++◌, length, take, Option, Some, None, Result, Ok, Err, inl, inr, refl, sym, ap, subst, ◌∙◌, append-nil, append_assoc, arith}
+use Rattle.std.specs.Prelude.{IfErr, IfOk, IfSome, IsSome}
 use Rattle.std.specs.Cmp.{IsTotalOrder}
 use Rattle.std.specs.Io.KnownBytes.{Appends}
 use Rattle.std.proofs.lemmas.List.{length-append, take_all, take_at}
@@ -12,7 +12,6 @@ use Rattle.store.specs.Files.{Facts}
 use Rattle.table.specs.Reading.{Reads}
 use Rattle.table.proofs.Steps.{reads_then}
 use Rattle.machine.specs.Machine.{Walk}
-use Rattle.machine.specs.Views.{AreSortedPairs}
 use Rattle.script.specs.Drive.{Shows}
 use Rattle.script.proofs.Written.{appends_none, appends_then}
 use Rattle.engine.specs.Ranges.{Cmp, Pair}
@@ -23,7 +22,7 @@ use Rattle.reader.specs.Moving.{BeginsWalk}
 use Rattle.browse.specs.declared.choice.Choice.{Choice}
 use Rattle.browse.specs.declared.style.Style.{Style}
 use Rattle.browse.specs.Browsing.{IsTold, end_status, end_text}
-use Rattle.browse.specs.Choices.{IsChosen, at_most}
+use Rattle.browse.specs.Choices.{at_most}
 use Rattle.browse.specs.Forms.{line_in, lines_in}
 use Rattle.browse.specs.internal.Lists.{behind, reach, settled, starting, all_of, in_reach}
 use Rattle.browse.specs.internal.Walking.{Ahead, Arrives, Moves, RefusesMove, Stands}

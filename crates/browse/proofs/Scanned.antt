@@ -1,5 +1,5 @@
 -- What a scan tells, by what its reader shows.
-use Rattle.std.proofs.Common.{◌≡◌, ◌++◌, ℕ, IsTrue, List, [], Option, Result, Ok, Err, inl, inr, refl}
+use Rattle.std.proofs.Common.{◌≡◌, ◌++◌, ℕ, IsTrue, List, [], Option, Result, Ok, Err, inl, refl}
 use Rattle.std.specs.Prelude.{IfErr, IfOk, OnOk}
 use Rattle.std.specs.Cmp.{IsTotalOrder}
 use Rattle.std.specs.FinMap.{get}
@@ -16,7 +16,6 @@ use Rattle.reader.specs.Readers.{RefusesGet, ShowsMap, facts_of}
 use Rattle.reader.specs.Refusals.{RefusesReader}
 use Rattle.browse.specs.declared.choice.Choice.{Choice}
 use Rattle.browse.specs.Browsing.{IsRead, IsThere, Scans, end_status, end_text}
-use Rattle.browse.specs.Choices.{MeansMap}
 use Rattle.browse.specs.Refusals.{RefusesScan}
 use Rattle.browse.specs.internal.Printing.{PrintsMap, TellsMap}
 use Rattle.browse.specs.internal.Walking.{RefusesMove}

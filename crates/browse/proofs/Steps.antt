@@ -1,8 +1,7 @@
 -- The moves that start a walk through a range, and its steps.
-use Rattle.std.proofs.Common.{◌≡◌, ◌⊎◌, ◌<◌, ◌≤◌, ◌+◌, ℕ, Bool, true, false, cond, is_some, IsTrue, List, [], ◌∷◌, length, take, drop, Option, Some, None, Result, Ok, Err, inl, inr, refl, sym, ap, subst, ◌∙◌, arith}
+use Rattle.std.proofs.Common.{◌≡◌, ◌<◌, ◌≤◌, ◌+◌, ℕ, Bool, true, false, cond, is_some, IsTrue, List, length, take, drop, Option, Some, None, Result, Ok, Err, inl, inr, refl, sym, ap, subst, ◌∙◌, arith}
 use mathlib.Core.Bool.{true≢false}
 use Rattle.std.specs.Prelude.{IfErr, OnOk, reverse}
-use Rattle.std.specs.List.{slice_get}
 use Rattle.std.specs.Option.{option_and_then}
 use Rattle.coding.specs.declared.error.DbError.{DbError}
 use Rattle.coding.specs.declared.error.DbError.TheVariants as error
@@ -21,7 +20,7 @@ use Rattle.reader.specs.Moving.{IsMoved}
 use Rattle.reader.specs.internal.Iterators.{walked_of}
 use Rattle.reader.proofs.Walking.{stands_is}
 use Rattle.browse.specs.Refusals.{HasLongTable}
-use Rattle.browse.specs.internal.Lists.{all_of, behind, end_of}
+use Rattle.browse.specs.internal.Lists.{all_of, end_of}
 use Rattle.browse.specs.declared.choice.Choice.{Choice}
 use Rattle.browse.specs.internal.Walking.{Ahead, Moves, RefusesMove, Stands, StandsBefore, StartsBackwards, StartsForwards}
 use Rattle.browse.proofs.Lists.{Splits, count_within, ends_there, lands, last_is, splits_back, splits_on}

@@ -1,5 +1,5 @@
 -- Texts that are written one after the other.
-use Rattle.std.proofs.Common.{◌≡◌, ◌++◌, ◌∷◌, [], ◌+◌, ◌<◌, ℕ, List, refl, sym, ap, ◌∙◌, append-nil, append_assoc, take, length, get_or}
+use Rattle.std.proofs.Common.{◌≡◌, ◌++◌, ◌∷◌, [], ◌+◌, ◌<◌, ℕ, List, sym, ap, ◌∙◌, append-nil, append_assoc, take, length, get_or}
 use Rattle.std.proofs.lemmas.List.{take_more}
 use Rattle.browse.specs.Forms.{escaped, escaped_byte}
 

@@ -1,5 +1,5 @@
 -- Which pairs of a directory are asked for.
-use Rattle.std.specs.Prelude.{◌≡◌, ℕ, Bool, true, false, if◌then◌else◌, List, reverse, take, Option, Some, None}
+use Rattle.std.specs.Prelude.{◌≡◌, ℕ, Bool, if◌then◌else◌, List, reverse, take, Option, Some, None}
 use Rattle.ikey.specs.Orders.{Order}
 use Rattle.ikey.specs.Views.{Contents, IsView}
 use Rattle.store.specs.Files.{Files}

@@ -1,4 +1,3 @@
-use Rattle.std.proofs.Common.{◌≡◌, ◌++◌}
 use Rattle.browse.proofs.Texts.{escapes_more}
 use Rattle.browse.proofs.form.push_escaped.Goals as goal
 
