@@ -16,7 +16,7 @@ use Rattle.engine.specs.Outcomes.{IsAnswerTo, AreAnswersTo}
 use Rattle.engine.specs.Applied.{Applied, AllApplied}
 use Rattle.script.specs.Words.{Reads}
 use Rattle.script.specs.Script.{Says, line_of}
-use Rattle.script.specs.Drive.{lines_of, AreSaid, commands_of, text_of, Answered, EndsScript, Stopped, TakesLine, AppendsFront, Shows}
+use Rattle.script.specs.Drive.{lines_of, AreSaid, commands_of, text_of, Answered, EndsScript, Stopped, TakesLine, AppendsFront, Shows, LeavesLines}
 use Rattle.script.proofs.Written.{appends_none, appends_then}
 
 run_then : (order : Order) (m k n : Machine) (cs ds : List Op) (xs ys : List Answer) → Run order m cs xs k → Run order k ds ys n → Run order m (cs ++ ds) (xs ++ ys) n
@@ -25,13 +25,13 @@ run_then order m k n (c ∷ cs) ds (x ∷ xs) ys run next = (run.0, run.1, run_t
 run_then order m k n [] ds (x ∷ xs) ys run next = absurd run
 run_then order m k n (c ∷ cs) ds [] ys run next = absurd run
 
-answers_then : (cs ds : List Op) (xs ys : List Answer) → AreAnswersTo cs xs → AreAnswersTo ds ys → AreAnswersTo (cs ++ ds) (xs ++ ys)
+pub answers_then : (cs ds : List Op) (xs ys : List Answer) → AreAnswersTo cs xs → AreAnswersTo ds ys → AreAnswersTo (cs ++ ds) (xs ++ ys)
 answers_then [] ds [] ys h g = g
 answers_then (c ∷ cs) ds (x ∷ xs) ys h g = (h.0, answers_then cs ds xs ys h.1 g)
 answers_then [] ds (x ∷ xs) ys h g = absurd h
 answers_then (c ∷ cs) ds [] ys h g = absurd h
 
-applied_then : {S K : Type 0} {g : _} (order : Order) (facts : S → Facts) (a b c : Session S K g) (cs ds : List Op) (xs ys : List Answer)
+pub applied_then : {S K : Type 0} {g : _} (order : Order) (facts : S → Facts) (a b c : Session S K g) (cs ds : List Op) (xs ys : List Answer)
     → AllApplied order facts cs xs a b → AllApplied order facts ds ys b c → AllApplied order facts (cs ++ ds) (xs ++ ys) a c
 applied_then {S} {K} {g} order facts a b c [] ds [] ys h rest = subst (λ (s : Session S K g). AllApplied order facts ds ys s c) h rest
 applied_then order facts a b c (d ∷ cs) ds (x ∷ xs) ys h g = (h.0, h.1, applied_then order facts h.0 b c cs ds xs ys h.2 g)
@@ -100,10 +100,6 @@ answered_then order facts a b c ls ms s t xs ys one two = record {
 
 -- ---- how far a script has come
 
--- the lines so far and those that are left are all
-abbrev pub LeavesLines : Option (List ℕ) → Option (List ℕ) → List (List ℕ) → Type 0
-LeavesLines script left lines = IfSome script (λ bytes. IsSomeAnd left (λ rest. lines_of bytes ≡ lines ++ lines_of rest))
-
 pub record Progress {S K : Type 0} {g : _} (order : Order) (facts : S → Facts) (old now : Session S K g) (script left before after : Option (List ℕ)) (waiting : List ℕ) : Type 0 where
   pub lines : List (List ℕ)
   pub said : List (Option Op)
@@ -114,23 +110,23 @@ pub record Progress {S K : Type 0} {g : _} (order : Order) (facts : S → Facts)
   pub text : text_of said answers ≡ shown ++ waiting
   pub written : Appends before after shown
 
-leaves_all : (script : Option (List ℕ)) → LeavesLines script script []
+pub leaves_all : (script : Option (List ℕ)) → LeavesLines script script []
 leaves_all None = tt
 leaves_all (Some bytes) = refl
 
-leaves_fewer : (script left next : Option (List ℕ)) (lines : List (List ℕ)) (line : List ℕ) → LeavesLines script left lines → TakesLine left next true line → LeavesLines script next (lines ++ line ∷ [])
+pub leaves_fewer : (script left next : Option (List ℕ)) (lines : List (List ℕ)) (line : List ℕ) → LeavesLines script left lines → TakesLine left next true line → LeavesLines script next (lines ++ line ∷ [])
 leaves_fewer None left next lines line h g = tt
 leaves_fewer (Some bytes) None next lines line h g = absurd h
 leaves_fewer (Some bytes) (Some rest) next lines line h g =
     subst (λ (o : Option (List ℕ)). IsSomeAnd o (λ later. lines_of bytes ≡ (lines ++ line ∷ []) ++ lines_of later)) (sym g.1)
     (h ∙ ap (λ (ls : List (List ℕ)). lines ++ ls) g.2 ∙ sym (append_assoc lines (line ∷ []) (lines_of g.0)))
 
-leaves_none : (script left next : Option (List ℕ)) (lines : List (List ℕ)) (line : List ℕ) → LeavesLines script left lines → TakesLine left next false line → IfSome script (λ bytes. lines_of bytes ≡ lines)
+pub leaves_none : (script left next : Option (List ℕ)) (lines : List (List ℕ)) (line : List ℕ) → LeavesLines script left lines → TakesLine left next false line → IfSome script (λ bytes. lines_of bytes ≡ lines)
 leaves_none None left next lines line h g = tt
 leaves_none (Some bytes) None next lines line h g = absurd h
 leaves_none (Some bytes) (Some rest) next lines line h g = h ∙ ap (λ (r : List ℕ). lines ++ lines_of r) g ∙ append-nil lines
 
-leaves_some : (script left : Option (List ℕ)) (lines : List (List ℕ)) → LeavesLines script left lines → IfSome script (λ bytes. (later : List (List ℕ)) × (lines_of bytes ≡ lines ++ later))
+pub leaves_some : (script left : Option (List ℕ)) (lines : List (List ℕ)) → LeavesLines script left lines → IfSome script (λ bytes. (later : List (List ℕ)) × (lines_of bytes ≡ lines ++ later))
 leaves_some None left lines h = tt
 leaves_some (Some bytes) None lines h = absurd h
 leaves_some (Some bytes) (Some rest) lines h = (lines_of rest, h)

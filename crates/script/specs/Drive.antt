@@ -1,5 +1,5 @@
 -- What running a script does to a session, and what it writes.
-use Rattle.std.specs.Prelude.{◌≡◌, ◌==◌, ◌++◌, ℕ, Bool, if◌then◌else◌, List, [], ◌∷◌, Option, Some, None, IfSome, MatchBool}
+use Rattle.std.specs.Prelude.{◌≡◌, ◌==◌, ◌++◌, ℕ, Bool, if◌then◌else◌, List, [], ◌∷◌, Option, Some, None, IfSome, IsSomeAnd, MatchBool}
 use Rattle.std.specs.List.{onto_first}
 use Rattle.std.specs.Io.KnownBytes.{Appends}
 use Rattle.coding.specs.declared.error.DbError.TheVariants.{BadLine}
@@ -93,3 +93,7 @@ AppendsFront before after text = (shown unseen : List ℕ) × (text ≡ shown ++
 -- what was written and what still waits are the text that waited
 abbrev pub Shows : Option (List ℕ) → Option (List ℕ) → List ℕ → List ℕ → Type 0
 Shows before after old new = (shown : List ℕ) × (old ≡ shown ++ new) × Appends before after shown
+
+-- these lines and those that are left are all
+abbrev pub LeavesLines : Option (List ℕ) → Option (List ℕ) → List (List ℕ) → Type 0
+LeavesLines script left lines = IfSome script (λ bytes. IsSomeAnd left (λ rest. lines_of bytes ≡ lines ++ lines_of rest))

@@ -56,8 +56,8 @@ fn push_refusal(alloc: Global, text: &mut Vec<u8>, error: &DbError) -> Result<()
     text.extend_from_slice(line.as_bytes())
 }
 
-// A word, and a number behind it.
-fn push_with_number(
+/// Puts a word and a number behind the text. Where there is no memory, the text stays.
+pub fn push_with_number(
     alloc: Global,
     text: &mut Vec<u8>,
     word: &str,

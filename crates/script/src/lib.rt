@@ -4,17 +4,25 @@
 mod answer;
 mod arguments;
 mod batch_words;
+mod compaction;
 mod fault;
+mod gathered;
+mod import_options;
+mod importing;
 mod input;
 mod line;
 mod output;
 mod run;
+mod steps;
 mod verb;
 mod word;
 
 pub use answer::{answer_line, bytes_text, push_bytes};
+pub use compaction::compact;
 pub use fault::Fault;
-pub use line::{one_command, read_line};
+pub use import_options::Importing;
+pub use importing::import;
+pub use line::{one_command, read_line, read_operation_line};
 pub use output::{show, write_all};
 pub use run::drive;
 pub use word::read_bytes;

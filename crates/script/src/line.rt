@@ -4,14 +4,16 @@ ghost use Rattle.std.specs.Prelude.{IfOk, ℕ, List};
 ghost use Rattle.machine.specs.declared.command.Op.{Op as OpValue};
 ghost use Rattle.script.specs.Words.{texts_of, Reads};
 ghost use Rattle.script.specs.Script.{AreCommand, Spells, Says, IsSame};
+ghost use Rattle.script.specs.Importing.{SaysOperation};
 
 use crate::arguments::{
     read_alone, read_compaction, read_get, read_mode, read_number_alone, read_seek,
     read_small_number_alone, read_snapshot,
 };
-use crate::batch_words::{read_batch, read_delete_alone, read_put_alone};
+use crate::batch_words::{read_batch, read_delete_alone, read_one_operation, read_put_alone};
 use crate::verb::{Verb, read_verb};
 use crate::word::{few_words, split_words};
+use batch::Operation;
 use engine::Op;
 use std::alloc::{AllocError, Global};
 
@@ -28,6 +30,18 @@ pub fn read_line(alloc: Global, line: &[u8]) -> Result<Option<Op>, AllocError>
     }
     let words = split_words(alloc, line)?;
     read_words(alloc, words.as_slice())
+}
+
+/// The operation that a line says, without the newline that ends it, or `None` where it says none.
+pub fn read_operation_line(alloc: Global, line: &[u8]) -> Result<Option<Operation>, AllocError>
+    ensures { IfOk result (Reads (SaysOperation line.now)) }
+{
+    let mut room: [&[u8]; FEW] = [b""; FEW];
+    if let Some(count) = few_words(line, &mut room) {
+        return read_one_operation(alloc, &room[..count]);
+    }
+    let words = split_words(alloc, line)?;
+    read_one_operation(alloc, words.as_slice())
 }
 
 // The command that these words say.

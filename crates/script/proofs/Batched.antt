@@ -1,0 +1,151 @@
+-- One batch of an import, and the work behind it.
+use Rattle.std.proofs.Common.{◌≡◌, ℕ, ◌+◌, ◌*◌, ◌≤◌, List, [], ◌∷◌, ◌++◌, length, Bool, refl, sym, ap, ◌∙◌, subst, inl, inr, append_assoc, append-nil, arith}
+use Rattle.std.specs.Prelude.{◌⊎◌}
+use Rattle.std.proofs.lemmas.List.{length-append}
+use Rattle.std.proofs.lemmas.List.Elements.{All-nil, All-cons, All-head, All-tail, All-append}
+use Rattle.batch.specs.declared.operation.Operation.{Operation}
+use Rattle.store.specs.Files.{Facts}
+use Rattle.ikey.specs.Orders.{Order}
+use Rattle.machine.specs.declared.command.Op.{Op}
+use Rattle.machine.specs.declared.command.Op.TheVariants.{Write, Work}
+use Rattle.machine.specs.declared.command.Answer.{Answer}
+use Rattle.machine.specs.declared.command.Answer.TheVariants.{Done, Refused}
+use Rattle.engine.specs.declared.session.Session.{Session}
+use Rattle.engine.specs.Outcomes.{IsAnswerTo, IsWriteAnswer, AreAnswersTo}
+use Rattle.engine.specs.Applied.{Applied}
+use Rattle.script.specs.Script.{IsWrite}
+use Rattle.script.specs.Commands.{GoesOn, IsRefusal, AreWell, AreGiven}
+use Rattle.script.specs.Importing.{AreBatches, WritesBatch, written_by, all_written, taken_by, all_taken}
+use Rattle.script.proofs.Going.{goes_one, goes_then}
+
+pub refusal_or_not : (answer : Answer) → IsRefusal answer ⊎ (IsRefusal answer → ⊥)
+refusal_or_not (Refused e) = inl tt
+refusal_or_not _ = inr (λ h. h)
+
+pub done_is_none : (answer : Answer) → answer ≡ Done → IsRefusal answer → ⊥
+done_is_none answer done refused = subst IsRefusal done refused
+
+-- ---- what is taken
+
+write_done : (answer : Answer) → IsWriteAnswer answer → (IsRefusal answer → ⊥) → answer ≡ Done
+write_done Done may well = refl
+write_done (Refused e) may well = absurd (well tt)
+write_done _ may well = absurd may
+
+none_taken : (command : Op) (answer : Answer) → written_by command ≡ [] → taken_by command answer ≡ []
+none_taken command Done none = none
+none_taken command _ none = refl
+
+refused_takes_none : (command : Op) (answer : Answer) → IsRefusal answer → taken_by command answer ≡ []
+refused_takes_none command (Refused e) refused = refl
+refused_takes_none command _ refused = absurd refused
+
+-- a command that wasn't refused took what it writes
+one_taken : (command : Op) (answer : Answer) → IsAnswerTo command answer → (IsRefusal answer → ⊥) → taken_by command answer ≡ written_by command
+one_taken (Write operations sync) answer may well = ap (taken_by (Write operations sync)) (write_done answer may well)
+one_taken command answer may well = none_taken command answer refl
+
+pub well_taken : (commands : List Op) (answers : List Answer) → AreAnswersTo commands answers → AreWell answers → all_taken commands answers ≡ all_written commands
+well_taken [] [] may well = refl
+well_taken (c ∷ commands) (x ∷ answers) may well =
+    ap (λ (front : List Operation). front ++ all_taken commands answers) (one_taken c x may.0 (All-head (λ answer. IsRefusal answer → ⊥) x answers well))
+    ∙ ap (λ (rest : List Operation). written_by c ++ rest) (well_taken commands answers may.1 (All-tail (λ answer. IsRefusal answer → ⊥) x answers well))
+well_taken [] (x ∷ answers) may well = absurd may
+well_taken (c ∷ commands) [] may well = absurd may
+
+pub taken_then : (cs ds : List Op) (xs ys : List Answer) → AreAnswersTo cs xs → all_taken (cs ++ ds) (xs ++ ys) ≡ all_taken cs xs ++ all_taken ds ys
+taken_then [] ds [] ys may = refl
+taken_then (c ∷ cs) ds (x ∷ xs) ys may =
+    ap (λ (rest : List Operation). taken_by c x ++ rest) (taken_then cs ds xs ys may.1) ∙ sym (append_assoc (taken_by c x) (all_taken cs xs) (all_taken ds ys))
+taken_then [] ds (x ∷ xs) ys may = absurd may
+taken_then (c ∷ cs) ds [] ys may = absurd may
+
+pub written_then : (cs ds : List Op) → all_written (cs ++ ds) ≡ all_written cs ++ all_written ds
+written_then [] ds = refl
+written_then (c ∷ cs) ds = ap (λ (rest : List Operation). written_by c ++ rest) (written_then cs ds) ∙ sym (append_assoc (written_by c) (all_written cs) (all_written ds))
+
+pub batches_then : (most : ℕ) (sync : Bool) (cs ds : List Op) → AreBatches most sync cs → AreBatches most sync ds → AreBatches most sync (cs ++ ds)
+batches_then most sync [] ds h g = g
+batches_then most sync (Write operations synced ∷ Work entries ∷ cs) ds h g = (h.0, h.1, h.2, batches_then most sync cs ds h.3 g)
+batches_then most sync _ ds h g = absurd h
+
+-- behind commands that were given and not refused
+pub given_then : (front plan commands : List Op) (xs ys : List Answer) (ended : Answer) → AreWell xs → AreGiven plan commands ys ended
+    → AreGiven (front ++ plan) (front ++ commands) (xs ++ ys) ended
+given_then front plan commands xs ys ended well (inl all) =
+    inl (all.0, ap (λ (cs : List Op). front ++ cs) all.1, All-append (λ answer. IsRefusal answer → ⊥) xs ys well all.2)
+given_then front plan commands xs ys ended well (inr some) =
+    inr (
+      some.0,
+      some.1,
+      xs ++ some.2,
+      ap (λ (cs : List Op). front ++ cs) some.3 ∙ sym (append_assoc front commands some.1),
+      ap (λ (zs : List Answer). xs ++ zs) some.4 ∙ sym (append_assoc xs some.2 (ended ∷ [])),
+      All-append (λ answer. IsRefusal answer → ⊥) xs some.2 well some.5,
+    )
+
+-- ---- a batch
+
+batch_shape : (most : ℕ) (sync : Bool) (operations : List Operation) (write : Op) (entries : ℕ)
+    → IsWrite operations sync write → length operations ≤ most → entries ≡ 6 * length operations → AreBatches most sync (write ∷ Work entries ∷ [])
+batch_shape most sync operations (Write written synced) entries is few work =
+    (subst (λ (os : List Operation). length os ≤ most) (sym is.0) few, is.1, work ∙ ap (λ (os : List Operation). 6 * length os) (sym is.0), tt)
+batch_shape most sync operations _ entries is few work = absurd is
+
+writes_these : (sync : Bool) (operations : List Operation) (write : Op) → IsWrite operations sync write → written_by write ≡ operations
+writes_these sync operations (Write written synced) is = is.0
+writes_these sync operations _ is = absurd is
+
+write_answered : (sync : Bool) (operations : List Operation) (write : Op) (answer : Answer) → IsWrite operations sync write → IsAnswerTo write answer → (IsRefusal answer → ⊥) → answer ≡ Done
+write_answered sync operations (Write written synced) answer is may well = write_done answer may well
+write_answered sync operations _ answer is may well = absurd is
+
+pub batch_refused : {S K : Type 0} {g : _} (order : Order) (facts : S → Facts) (most : ℕ) (sync : Bool) (old new : Session S K g) (operations : List Operation) (count : ℕ) (write : Op) (entries : ℕ) (answer : Answer)
+    → IsWrite operations sync write → length operations ≤ most → entries ≡ 6 * length operations → Applied order facts write old new answer → IsRefusal answer
+    → WritesBatch order facts most sync old new operations count count answer
+batch_refused order facts most sync old new operations count write entries answer is few work applied refused =
+    let none : all_taken (write ∷ []) (answer ∷ []) ≡ [] = append-nil (taken_by write answer) ∙ refused_takes_none write answer refused in
+    record {
+      write = write;
+      work = Work entries;
+      shape = batch_shape most sync operations write entries is few work;
+      written = append-nil (written_by write) ∙ writes_these sync operations write is;
+      commands = write ∷ [];
+      answers = answer ∷ [];
+      given = inr (refused, Work entries ∷ [], [], refl, refl, All-nil (λ a. IsRefusal a → ⊥));
+      ran = goes_one order facts old new write answer applied;
+      left = operations;
+      taken = sym (ap (λ (front : List Operation). front ++ operations) none);
+      whole = λ done. absurd (done_is_none answer done refused);
+      counted = let e : length (all_taken (write ∷ []) (answer ∷ [])) ≡ 0 = ap length none in omega (arith, e);
+    }
+
+pub batch_taken : {S K : Type 0} {g : _} (order : Order) (facts : S → Facts) (most : ℕ) (sync : Bool) (old mid new : Session S K g) (operations : List Operation) (before after : ℕ) (write : Op) (entries : ℕ) (answer worked ended : Answer)
+    → IsWrite operations sync write → length operations ≤ most → entries ≡ 6 * length operations → Applied order facts write old mid answer → (IsRefusal answer → ⊥)
+    → Applied order facts (Work entries) mid new worked → (IsRefusal worked → ended ≡ worked) → ((IsRefusal worked → ⊥) → ended ≡ Done)
+    → after ≡ before + length operations → WritesBatch order facts most sync old new operations before after ended
+batch_taken order facts most sync old mid new operations before after write entries answer worked ended is few work first well second refused done count =
+    let front : taken_by write answer ≡ operations = one_taken write answer first.outcome.allowed well ∙ writes_these sync operations write is in
+    let back : taken_by (Work entries) worked ++ [] ≡ [] = append-nil (taken_by (Work entries) worked) ∙ none_taken (Work entries) worked refl in
+    let all : all_taken (write ∷ Work entries ∷ []) (answer ∷ worked ∷ []) ≡ operations = ap (λ (rest : List Operation). taken_by write answer ++ rest) back ∙ append-nil (taken_by write answer) ∙ front in
+    record {
+      write = write;
+      work = Work entries;
+      shape = batch_shape most sync operations write entries is few work;
+      written = append-nil (written_by write) ∙ writes_these sync operations write is;
+      commands = write ∷ Work entries ∷ [];
+      answers = answer ∷ worked ∷ [];
+      given = elim (refusal_or_not worked) [
+        | inl h ↦
+            let same = refused h in
+            inr (subst IsRefusal (sym same) h, [], answer ∷ [], refl, ap (λ (a : Answer). answer ∷ a ∷ []) (sym same), All-cons (λ a. IsRefusal a → ⊥) answer [] well (All-nil (λ a. IsRefusal a → ⊥)))
+        | inr h ↦
+            inl (done h, refl, All-cons (λ a. IsRefusal a → ⊥) answer (worked ∷ []) well (All-cons (λ a. IsRefusal a → ⊥) worked [] h (All-nil (λ a. IsRefusal a → ⊥))))
+      ];
+      ran = goes_then order facts old mid new (write ∷ []) (Work entries ∷ []) (answer ∷ []) (worked ∷ [])
+          (goes_one order facts old mid write answer first) (goes_one order facts mid new (Work entries) worked second);
+      left = [];
+      taken = sym (append-nil (all_taken (write ∷ Work entries ∷ []) (answer ∷ worked ∷ [])) ∙ all);
+      whole = λ done. refl;
+      counted = let e : length (all_taken (write ∷ Work entries ∷ []) (answer ∷ worked ∷ [])) ≡ length operations = ap length all in omega (arith, e, count);
+    }

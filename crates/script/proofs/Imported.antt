@@ -1,0 +1,339 @@
+-- How far an import has come.
+use Rattle.std.proofs.Common.{◌≡◌, ℕ, ◌+◌, ◌<◌, ◌≤◌, List, [], ◌∷◌, ◌++◌, length, Bool, true, false, refl, sym, ap, ◌∙◌, subst, inl, inr, append_assoc, append-nil, arith}
+use Rattle.std.specs.Prelude.{◌⊎◌, Option, Some, None, IfSome, IsSomeAnd}
+use Rattle.std.proofs.lemmas.Bool.{false≢true}
+use Rattle.std.proofs.lemmas.List.{length-append}
+use Rattle.std.proofs.lemmas.List.Elements.{All-nil, All-cons, All-append}
+use Rattle.batch.specs.declared.operation.Operation.{Operation}
+use Rattle.coding.specs.declared.error.DbError.TheVariants.{BadLine}
+use Rattle.store.specs.Files.{Facts}
+use Rattle.ikey.specs.Orders.{Order}
+use Rattle.machine.specs.declared.command.Mode.TheVariants.{Any}
+use Rattle.machine.specs.declared.command.Op.{Op}
+use Rattle.machine.specs.declared.command.Op.TheVariants.{Open}
+use Rattle.machine.specs.declared.command.Answer.{Answer}
+use Rattle.machine.specs.declared.command.Answer.TheVariants.{Done, Refused}
+use Rattle.engine.specs.declared.session.Session.{Session}
+use Rattle.script.specs.Commands.{GoesOn, IsRefusal, AreWell, AreGiven}
+use Rattle.script.specs.Drive.{lines_of, LeavesLines, TakesLine, AppendsFront}
+use Rattle.script.specs.Closing.{EndsClosed, TakesClosed}
+use Rattle.script.specs.Importing.{ImportValues, SaysOperation, SayOperations, AreBatches, IsPlan, all_written, all_taken, Takes, HasBadNext, EndsImport, HasTaken, WritesBatch, TakesOperation, TakesSome, StopsImport, report_of}
+use Rattle.script.proofs.Runs.{leaves_all, leaves_fewer, leaves_none}
+use Rattle.script.proofs.Written.{no_more}
+use Rattle.script.proofs.Going.{goes_then}
+use Rattle.script.proofs.Batched.{refusal_or_not, done_is_none, well_taken, taken_then, written_then, batches_then, given_then}
+
+say_then : (ls ms : List (List ℕ)) (os ps : List Operation) → SayOperations ls os → SayOperations ms ps → SayOperations (ls ++ ms) (os ++ ps)
+say_then [] ms [] ps h g = g
+say_then (l ∷ ls) ms (o ∷ os) ps h g = (h.0, say_then ls ms os ps h.1 g)
+say_then [] ms (o ∷ os) ps h g = absurd h
+say_then (l ∷ ls) ms [] ps h g = absurd h
+
+-- the lines behind these
+abbrev later_of : Option (List ℕ) → List (List ℕ)
+later_of None = []
+later_of (Some rest) = lines_of rest
+
+first_lines : (script left : Option (List ℕ)) (lines : List (List ℕ)) → LeavesLines script left lines → IfSome script (λ bytes. lines_of bytes ≡ lines ++ later_of left)
+first_lines None left lines h = tt
+first_lines (Some bytes) None lines h = absurd h
+first_lines (Some bytes) (Some rest) lines h = h
+
+all_lines : (script : Option (List ℕ)) (lines : List (List ℕ)) → IfSome script (λ bytes. lines_of bytes ≡ lines) → IfSome script (λ bytes. lines_of bytes ≡ lines ++ [])
+all_lines None lines h = tt
+all_lines (Some bytes) lines h = h ∙ sym (append-nil lines)
+
+bad_next : (script left next : Option (List ℕ)) (lines : List (List ℕ)) (line : List ℕ) → LeavesLines script left lines → TakesLine left next true line
+    → ((operation : Operation) → SaysOperation line operation → ⊥) → HasBadNext script lines
+bad_next None left next lines line h g none = tt
+bad_next (Some bytes) None next lines line h g none = absurd h
+bad_next (Some bytes) (Some rest) next lines line h g none = (line, lines_of g.0, h ∙ ap (λ (ls : List (List ℕ)). lines ++ ls) g.2, none)
+
+-- ---- steps
+
+pub taken_none : {S K : Type 0} {g : _} (order : Order) (facts : S → Facts) (how : ImportValues) (old now : Session S K g) (script : Option (List ℕ))
+    → GoesOn order facts old now (Open Any ∷ []) (Done ∷ []) → HasTaken order facts how old now script script [] 0
+taken_none order facts how old now script opened = record {
+  lines = [];
+  leaves = leaves_all script;
+  operations = [];
+  said = tt;
+  batches = [];
+  shape = tt;
+  written = refl;
+  answers = Done ∷ [];
+  well = All-cons (λ a. IsRefusal a → ⊥) Done [] (λ h. h) (All-nil (λ a. IsRefusal a → ⊥));
+  ran = opened;
+  counted = refl;
+}
+
+pub taken_waits : {S K : Type 0} {g : _} (order : Order) (facts : S → Facts) (how : ImportValues) (old now : Session S K g) (script left next : Option (List ℕ)) (waiting : List Operation) (count : ℕ) (line : List ℕ) (operation : Operation)
+    → HasTaken order facts how old now script left waiting count → TakesLine left next true line → SaysOperation line operation
+    → HasTaken order facts how old now script next (waiting ++ operation ∷ []) count
+taken_waits order facts how old now script left next waiting count line operation h takes says = record {
+  lines = h.lines ++ line ∷ [];
+  leaves = leaves_fewer script left next h.lines line h.leaves takes;
+  operations = h.operations ++ operation ∷ [];
+  said = say_then h.lines (line ∷ []) h.operations (operation ∷ []) h.said (says, tt);
+  batches = h.batches;
+  shape = h.shape;
+  written = ap (λ (os : List Operation). os ++ operation ∷ []) h.written ∙ append_assoc (all_written h.batches) waiting (operation ∷ []);
+  answers = h.answers;
+  well = h.well;
+  ran = h.ran;
+  counted = h.counted;
+}
+
+pub taken_batch : {S K : Type 0} {g : _} (order : Order) (facts : S → Facts) (how : ImportValues) (old now new : Session S K g) (script left : Option (List ℕ)) (waiting : List Operation) (before after : ℕ)
+    → HasTaken order facts how old now script left waiting before → WritesBatch order facts how.batch how.sync now new waiting before after Done
+    → HasTaken order facts how old new script left [] after
+taken_batch order facts how old now new script left waiting before after h b = elim b.given [
+  | inl all ↦
+      let plan = b.write ∷ b.work ∷ [] in
+      let written : all_written (h.batches ++ plan) ≡ all_written h.batches ++ waiting = written_then h.batches plan ∙ ap (λ (os : List Operation). all_written h.batches ++ os) b.written in
+      let taken : waiting ≡ all_taken b.commands b.answers = b.taken ∙ ap (λ (os : List Operation). all_taken b.commands b.answers ++ os) (b.whole refl) ∙ append-nil (all_taken b.commands b.answers) in
+      let long : length (all_written (h.batches ++ plan)) ≡ length (all_written h.batches) + length waiting = ap length written ∙ length-append (all_written h.batches) waiting in
+      let many : length waiting ≡ length (all_taken b.commands b.answers) = ap length taken in
+      record {
+        lines = h.lines;
+        leaves = h.leaves;
+        operations = h.operations;
+        said = h.said;
+        batches = h.batches ++ plan;
+        shape = batches_then how.batch how.sync h.batches plan h.shape b.shape;
+        written = h.written ∙ sym written ∙ sym (append-nil (all_written (h.batches ++ plan)));
+        answers = h.answers ++ b.answers;
+        well = All-append (λ a. IsRefusal a → ⊥) h.answers b.answers h.well all.2;
+        ran = subst (λ (cs : List Op). GoesOn order facts old new (Open Any ∷ h.batches ++ cs) (h.answers ++ b.answers)) all.1
+            (goes_then order facts old now new (Open Any ∷ h.batches) b.commands h.answers b.answers h.ran b.ran);
+        counted = omega (arith, h.counted, b.counted, long, many);
+      }
+  | inr some ↦ absurd some.0
+]
+
+-- ---- ends
+
+-- what was taken when nothing more is
+abbrev so_far : {S K : Type 0} {g : _} (order : Order) (facts : S → Facts) (how : ImportValues) (old now : Session S K g) (script left : Option (List ℕ)) (waiting : List Operation) (count : ℕ)
+    → HasTaken order facts how old now script left waiting count → Takes order facts how old now script false Done
+so_far order facts how old now script left waiting count h = record {
+  lines = h.lines;
+  later = later_of left;
+  first = first_lines script left h.lines h.leaves;
+  last = λ e. absurd (false≢true e);
+  operations = h.operations;
+  said = h.said;
+  plan = Open Any ∷ h.batches;
+  planned = (h.batches, refl, h.shape);
+  gathered = waiting;
+  written = h.written;
+  whole = λ e. absurd (false≢true e);
+  commands = Open Any ∷ h.batches;
+  answers = h.answers;
+  given = inl (refl, refl, h.well);
+  ran = h.ran;
+  left = waiting;
+  taken = h.written ∙ ap (λ (os : List Operation). os ++ waiting) (sym (well_taken (Open Any ∷ h.batches) h.answers h.ran.allowed h.well));
+}
+
+pub stops : {S K : Type 0} {g : _} (order : Order) (facts : S → Facts) (how : ImportValues) (old now : Session S K g) (script left : Option (List ℕ)) (waiting : List Operation) (count : ℕ)
+    → HasTaken order facts how old now script left waiting count → TakesSome order facts how old now script
+stops order facts how old now script left waiting count h = (false, Done, so_far order facts how old now script left waiting count h)
+
+pub ends_at_bad : {S K : Type 0} {g : _} (order : Order) (facts : S → Facts) (how : ImportValues) (old now : Session S K g) (script left next : Option (List ℕ)) (waiting : List Operation) (count : ℕ) (line : List ℕ)
+    → HasTaken order facts how old now script left waiting count → TakesLine left next true line → ((operation : Operation) → SaysOperation line operation → ⊥)
+    → EndsImport order facts how old now script (Refused BadLine) count
+ends_at_bad order facts how old now script left next waiting count line h takes none = record {
+  all = false;
+  ended = Done;
+  takes = so_far order facts how old now script left waiting count h;
+  how_ended = inr (inr (refl, refl, bad_next script left next h.lines line h.leaves takes none));
+  counted = h.counted ∙ sym (ap length (well_taken (Open Any ∷ h.batches) h.answers h.ran.allowed h.well));
+}
+
+-- behind what was taken, a batch
+module _ {S K : Type 0} {g : _} (order : Order) (facts : S → Facts) (how : ImportValues) (old now new : Session S K g) (script left : Option (List ℕ)) (waiting : List Operation) (before after : ℕ) (sync : Bool) (outcome : Answer)
+    (h : HasTaken order facts how old now script left waiting before) (b : WritesBatch order facts how.batch sync now new waiting before after outcome) where
+  abbrev plan : List Op
+  plan = Open Any ∷ h.batches ++ b.write ∷ b.work ∷ []
+
+  taken_here : all_taken (Open Any ∷ h.batches ++ b.commands) (h.answers ++ b.answers) ≡ all_written h.batches ++ all_taken b.commands b.answers
+  taken_here = taken_then (Open Any ∷ h.batches) b.commands h.answers b.answers h.ran.allowed
+      ∙ ap (λ (os : List Operation). os ++ all_taken b.commands b.answers) (well_taken (Open Any ∷ h.batches) h.answers h.ran.allowed h.well)
+
+  abbrev pub behind : (all : Bool) (later : List (List ℕ)) → IfSome script (λ bytes. lines_of bytes ≡ h.lines ++ later) → (all ≡ true → later ≡ []) → IsPlan how all plan
+      → Takes order facts how old new script all outcome
+  behind all later first last planned = record {
+    lines = h.lines;
+    later = later;
+    first = first;
+    last = last;
+    operations = h.operations;
+    said = h.said;
+    plan = plan;
+    planned = planned;
+    gathered = [];
+    written = h.written ∙ ap (λ (os : List Operation). all_written h.batches ++ os) (sym b.written) ∙ sym (written_then h.batches (b.write ∷ b.work ∷ [])) ∙ sym (append-nil (all_written plan));
+    whole = λ e. refl;
+    commands = Open Any ∷ h.batches ++ b.commands;
+    answers = h.answers ++ b.answers;
+    given = given_then (Open Any ∷ h.batches) (b.write ∷ b.work ∷ []) b.commands h.answers b.answers outcome h.well b.given;
+    ran = goes_then order facts old now new (Open Any ∷ h.batches) b.commands h.answers b.answers h.ran b.ran;
+    left = b.left;
+    taken = h.written ∙ ap (λ (os : List Operation). all_written h.batches ++ os) b.taken ∙ sym (append_assoc (all_written h.batches) (all_taken b.commands b.answers) b.left)
+        ∙ ap (λ (os : List Operation). os ++ b.left) (sym taken_here);
+  }
+
+  pub counted_here : after ≡ length (all_taken (Open Any ∷ h.batches ++ b.commands) (h.answers ++ b.answers))
+  counted_here =
+      let long : length (all_taken (Open Any ∷ h.batches ++ b.commands) (h.answers ++ b.answers)) ≡ length (all_written h.batches) + length (all_taken b.commands b.answers)
+      = ap length taken_here ∙ length-append (all_written h.batches) (all_taken b.commands b.answers) in
+      omega (arith, long, h.counted, b.counted)
+
+pub ends_refused : {S K : Type 0} {g : _} (order : Order) (facts : S → Facts) (how : ImportValues) (old now new : Session S K g) (script left : Option (List ℕ)) (waiting : List Operation) (before after : ℕ) (outcome : Answer)
+    → HasTaken order facts how old now script left waiting before → WritesBatch order facts how.batch how.sync now new waiting before after outcome → IsRefusal outcome
+    → EndsImport order facts how old new script outcome after
+ends_refused order facts how old now new script left waiting before after outcome h b refused = record {
+  all = false;
+  ended = outcome;
+  takes = behind order facts how old now new script left waiting before after how.sync outcome h b false (later_of left) (first_lines script left h.lines h.leaves) (λ e. absurd (false≢true e))
+      (h.batches ++ b.write ∷ b.work ∷ [], refl, batches_then how.batch how.sync h.batches (b.write ∷ b.work ∷ []) h.shape b.shape);
+  how_ended = inr (inl (refused, refl));
+  counted = counted_here order facts how old now new script left waiting before after how.sync outcome h b;
+}
+
+pub ends_whole : {S K : Type 0} {g : _} (order : Order) (facts : S → Facts) (how : ImportValues) (old now new : Session S K g) (script left next : Option (List ℕ)) (waiting : List Operation) (before after : ℕ) (outcome : Answer) (line : List ℕ)
+    → HasTaken order facts how old now script left waiting before → TakesLine left next false line → WritesBatch order facts how.batch true now new waiting before after outcome
+    → EndsImport order facts how old new script outcome after
+ends_whole order facts how old now new script left next waiting before after outcome line h none b = record {
+  all = true;
+  ended = outcome;
+  takes = behind order facts how old now new script left waiting before after true outcome h b true [] (all_lines script h.lines (leaves_none script left next h.lines line h.leaves none)) (λ e. refl)
+      (h.batches, b.write, b.work, refl, h.shape, b.shape);
+  how_ended = elim b.given [
+    | inl all ↦ inl (all.0, all.0, refl, b.whole all.0)
+    | inr some ↦ inr (inl (some.0, refl))
+  ];
+  counted = counted_here order facts how old now new script left waiting before after true outcome h b;
+}
+
+pub ends_unopened : {S K : Type 0} {g : _} (order : Order) (facts : S → Facts) (how : ImportValues) (old new : Session S K g) (script : Option (List ℕ)) (refused : Answer)
+    → IsRefusal refused → GoesOn order facts old new (Open Any ∷ []) (refused ∷ []) → EndsImport order facts how old new script refused 0
+ends_unopened order facts how old new script refused is ran = record {
+  all = false;
+  ended = refused;
+  takes = record {
+    lines = [];
+    later = later_of script;
+    first = first_lines script script [] (leaves_all script);
+    last = λ e. absurd (false≢true e);
+    operations = [];
+    said = tt;
+    plan = Open Any ∷ [];
+    planned = ([], refl, tt);
+    gathered = [];
+    written = refl;
+    whole = λ e. refl;
+    commands = Open Any ∷ [];
+    answers = refused ∷ [];
+    given = inr (is, [], [], refl, refl, All-nil (λ a. IsRefusal a → ⊥));
+    ran = ran;
+    left = [];
+    taken = sym (append-nil (all_taken (Open Any ∷ []) (refused ∷ [])) ∙ no_operations refused);
+  };
+  how_ended = inr (inl (is, refl));
+  counted = sym (ap length (no_operations refused));
+}
+  where
+    no_operations : (a : Answer) → all_taken (Open Any ∷ []) (a ∷ []) ≡ []
+    no_operations Done = refl
+    no_operations _ = refl
+
+-- ---- a line
+
+pub line_ends : {S K : Type 0} {g : _} (order : Order) (facts : S → Facts) (how : ImportValues) (old now new : Session S K g) (script left next : Option (List ℕ)) (waiting still : List Operation) (before after : ℕ) (line : List ℕ) (outcome : Answer)
+    → HasTaken order facts how old now script left waiting before → TakesLine left next true line → TakesOperation order facts how now new line waiting still before after outcome → IsRefusal outcome
+    → EndsImport order facts how old new script outcome after
+line_ends {S} {K} {g} order facts how old now new script left next waiting still before after line outcome h takes (inl bad) refused =
+    subst (λ (o : Answer). EndsImport order facts how old new script o after) (sym bad.0)
+    (subst (λ (s : Session S K g). EndsImport order facts how old s script (Refused BadLine) after) (sym bad.2)
+    (subst (λ (n : ℕ). EndsImport order facts how old now script (Refused BadLine) n) (sym bad.3)
+    (ends_at_bad order facts how old now script left next waiting before line h takes bad.1)))
+line_ends order facts how old now new script left next waiting still before after line outcome h takes (inr good) refused = elim good.2 [
+  | inl waits ↦ absurd (done_is_none outcome waits.0 refused)
+  | inr batch ↦
+      ends_refused order facts how old now new script next (waiting ++ good.0 ∷ []) before after outcome
+      (taken_waits order facts how old now script left next waiting before line good.0 h takes good.1) batch.1 refused
+]
+
+refused_is_one : (outcome : Answer) → outcome ≡ Refused BadLine → IsRefusal outcome
+refused_is_one outcome is = subst IsRefusal (sym is) tt
+
+pub line_goes_on : {S K : Type 0} {g : _} (order : Order) (facts : S → Facts) (how : ImportValues) (old now new : Session S K g) (script left next : Option (List ℕ)) (waiting still : List Operation) (before after : ℕ) (line : List ℕ) (outcome : Answer)
+    → HasTaken order facts how old now script left waiting before → TakesLine left next true line → TakesOperation order facts how now new line waiting still before after outcome → (IsRefusal outcome → ⊥)
+    → HasTaken order facts how old new script next still after
+line_goes_on order facts how old now new script left next waiting still before after line outcome h takes (inl bad) well = absurd (well (refused_is_one outcome bad.0))
+line_goes_on {S} {K} {g} order facts how old now new script left next waiting still before after line outcome h takes (inr good) well =
+    let more = taken_waits order facts how old now script left next waiting before line good.0 h takes good.1 in
+    elim good.2 [
+      | inl waits ↦
+          subst (λ (os : List Operation). HasTaken order facts how old new script next os after) (sym waits.1)
+          (subst (λ (s : Session S K g). HasTaken order facts how old s script next (waiting ++ good.0 ∷ []) after) (sym waits.3)
+          (subst (λ (n : ℕ). HasTaken order facts how old now script next (waiting ++ good.0 ∷ []) n) (sym waits.4) more))
+      | inr batch ↦
+          subst (λ (os : List Operation). HasTaken order facts how old new script next os after) (sym batch.0)
+          (taken_batch order facts how old now new script next (waiting ++ good.0 ∷ []) before after more
+          (subst (λ (o : Answer). WritesBatch order facts how.batch how.sync now new (waiting ++ good.0 ∷ []) before after o) (given_well batch.1.given well) batch.1))
+    ]
+  where
+    given_well : {plan commands : List Op} {answers : List Answer} {outcome : Answer} → AreGiven plan commands answers outcome → (IsRefusal outcome → ⊥) → outcome ≡ Done
+    given_well (inl all) well = all.0
+    given_well (inr some) well = absurd (well some.0)
+
+pub line_room : {S K : Type 0} {g : _} (order : Order) (facts : S → Facts) (how : ImportValues) (now new : Session S K g) (waiting still : List Operation) (before after : ℕ) (line : List ℕ) (outcome : Answer)
+    → TakesOperation order facts how now new line waiting still before after outcome → (IsRefusal outcome → ⊥) → 1 ≤ how.batch → length still < how.batch
+line_room order facts how now new waiting still before after line outcome (inl bad) well some = absurd (well (refused_is_one outcome bad.0))
+line_room order facts how now new waiting still before after line outcome (inr good) well some = elim good.2 [
+  | inl waits ↦ waits.2
+  | inr batch ↦ let none : length still ≡ 0 = ap length batch.0 in omega (arith, none, some)
+]
+
+-- what the lines behind the open lead to
+abbrev pub Carries : {S K : Type 0} {g : _} → Order → (S → Facts) → ImportValues → Session S K g → Session S K g → Option (List ℕ) → Option (List ℕ) → ℕ → List Operation → ℕ → Type 0
+Carries {S} {K} {g} order facts how first now start left before waiting count =
+    (old : Session S K g) (script : Option (List ℕ)) → HasTaken order facts how old first script start [] before → HasTaken order facts how old now script left waiting count
+
+-- the session is as it was
+pub stops_still : {S K : Type 0} {g : _} (order : Order) (facts : S → Facts) (how : ImportValues) (old now new : Session S K g) (script left : Option (List ℕ)) (waiting : List Operation) (count : ℕ)
+    → HasTaken order facts how old now script left waiting count → new ≡ now → TakesSome order facts how old new script
+stops_still {S} {K} {g} order facts how old now new script left waiting count h same =
+    subst (λ (s : Session S K g). TakesSome order facts how old s script) (sym same) (stops order facts how old now script left waiting count h)
+
+-- ---- behind the close
+
+pub import_stops : {S K : Type 0} {g : _} (order : Order) (facts : S → Facts) (how : ImportValues) (old new : Session S K g) (script contents : Option (List ℕ))
+    → TakesClosed order facts how old new script → StopsImport order facts how old new script contents contents
+import_stops order facts how old new script contents (between, closing, (all, ended, takes), closed) = record {
+  all = all;
+  ended = ended;
+  between = between;
+  closing = closing;
+  takes = takes;
+  closed = closed;
+  outcome = Done;
+  written = no_more contents (report_of Done (length (all_taken takes.commands takes.answers)));
+}
+
+-- it came to an end, of which some of the report was written
+pub report_stops : {S K : Type 0} {g : _} (order : Order) (facts : S → Facts) (how : ImportValues) (old new : Session S K g) (script before after : Option (List ℕ)) (outcome : Answer) (count : ℕ) (text : List ℕ)
+    → EndsClosed order facts how old new script outcome count → text ≡ report_of outcome count → AppendsFront before after text → StopsImport order facts how old new script before after
+report_stops order facts how old new script before after outcome count text (between, closing, import, closed) is front = record {
+  all = import.all;
+  ended = import.ended;
+  between = between;
+  closing = closing;
+  takes = import.takes;
+  closed = closed;
+  outcome = outcome;
+  written = subst (AppendsFront before after) (is ∙ ap (report_of outcome) import.counted) front;
+}

@@ -1,0 +1,195 @@
+-- What an import does to a session that has no database open, and what it writes.
+use Rattle.std.specs.Prelude.{◌≡◌, ◌⊎◌, ◌<◌, ◌≤◌, ◌+◌, ◌*◌, ◌++◌, ℕ, Bool, true, false, List, [], ◌∷◌, length, codes, Option, IfSome}
+use Rattle.std.specs.Fmt.{decimal}
+use Rattle.std.specs.Io.KnownBytes.{Appends}
+use Rattle.batch.specs.declared.operation.Operation.{Operation}
+use Rattle.coding.specs.declared.error.DbError.TheVariants.{BadLine}
+use Rattle.store.specs.Files.{Facts}
+use Rattle.ikey.specs.Orders.{Order}
+use Rattle.machine.specs.declared.command.Mode.TheVariants.{Any}
+use Rattle.machine.specs.declared.command.Op.{Op}
+use Rattle.machine.specs.declared.command.Op.TheVariants.{Open, Write, Work, Close}
+use Rattle.machine.specs.declared.command.Answer.{Answer}
+use Rattle.machine.specs.declared.command.Answer.TheVariants.{Done, Refused}
+use Rattle.engine.specs.declared.session.Session.{Session}
+use Rattle.engine.specs.Applied.{Applied}
+use Rattle.script.specs.Words.{words_of}
+use Rattle.script.specs.Script.{IsOperation, refusal_of}
+use Rattle.script.specs.Commands.{GoesOn, AreGiven, AreWell, IsRefusal, status_of}
+use Rattle.script.specs.Drive.{lines_of, AppendsFront, LeavesLines}
+
+-- how many operations a batch has at most, and whether the device is to keep each before the next one
+pub record ImportValues : Type 0 where
+  pub batch : ℕ
+  pub sync : Bool
+
+-- ---- lines
+
+-- a line says an operation by its words, which are no more than that
+abbrev pub SaysOperation : List ℕ → Operation → Type 0
+SaysOperation line operation = IsOperation (words_of line) operation []
+
+-- each line says one, in order
+abbrev pub SayOperations : List (List ℕ) → List Operation → Type 0
+SayOperations [] [] = Unit {0}
+SayOperations (line ∷ lines) (operation ∷ operations) = SaysOperation line operation × SayOperations lines operations
+SayOperations [] (operation ∷ operations) = ⊥
+SayOperations (line ∷ lines) [] = ⊥
+
+-- ---- commands
+
+-- Batches of at most so many operations, all synced or none, and behind each one six entries of work for each of its operations.
+abbrev pub AreBatches : ℕ → Bool → List Op → Type 0
+AreBatches most sync [] = Unit {0}
+AreBatches most sync (Write operations synced ∷ Work entries ∷ commands) =
+    (length operations.items ≤ most) × (synced ≡ sync) × (entries ≡ 6 * length operations.items) × AreBatches most sync commands
+AreBatches most sync _ = ⊥
+
+-- An open and batches; behind all lines one more, which is synced.
+abbrev pub IsPlan : ImportValues → Bool → List Op → Type 0
+IsPlan how false plan = (batches : List Op) × (plan ≡ Open Any ∷ batches) × AreBatches how.batch how.sync batches
+IsPlan how true plan =
+    (batches : List Op) × (write work : Op) × (plan ≡ Open Any ∷ batches ++ write ∷ work ∷ [])
+    × AreBatches how.batch how.sync batches × AreBatches how.batch true (write ∷ work ∷ [])
+
+-- the operations that a command writes
+abbrev pub written_by : Op → List Operation
+written_by (Write operations sync) = operations.items
+written_by _ = []
+
+abbrev pub all_written : List Op → List Operation
+all_written [] = []
+all_written (command ∷ commands) = written_by command ++ all_written commands
+
+-- and those of the writes that were answered Done
+abbrev pub taken_by : Op → Answer → List Operation
+taken_by command Done = written_by command
+taken_by command _ = []
+
+abbrev pub all_taken : List Op → List Answer → List Operation
+all_taken (command ∷ commands) (answer ∷ answers) = taken_by command answer ++ all_taken commands answers
+all_taken _ _ = []
+
+-- ---- the whole
+
+-- The session went on by the import of what the first lines say, or of what all do.
+pub record Takes {S K : Type 0} {g : _} (order : Order) (facts : S → Facts) (how : ImportValues) (old new : Session S K g) (script : Option (List ℕ)) (all : Bool) (ended : Answer) : Type 0 where
+  pub lines : List (List ℕ)
+  pub later : List (List ℕ)
+  pub first : IfSome script (λ bytes. lines_of bytes ≡ lines ++ later)
+  pub last : all ≡ true → later ≡ []
+  pub operations : List Operation
+  pub said : SayOperations lines operations
+  -- the planned commands write these in order, but some last ones that were gathered only
+  pub plan : List Op
+  pub planned : IsPlan how all plan
+  pub gathered : List Operation
+  pub written : operations ≡ all_written plan ++ gathered
+  pub whole : all ≡ true → gathered ≡ []
+  -- they were given, up to the first that was refused
+  pub commands : List Op
+  pub answers : List Answer
+  pub given : AreGiven plan commands answers ended
+  pub ran : GoesOn order facts old new commands answers
+  -- what was taken are the operations of the first lines
+  pub left : List Operation
+  pub taken : operations ≡ all_taken commands answers ++ left
+
+-- The next line says no operation.
+abbrev pub HasBadNext : Option (List ℕ) → List (List ℕ) → Type 0
+HasBadNext script lines = IfSome script (λ bytes. (line : List ℕ) × (later : List (List ℕ))
+    × (lines_of bytes ≡ lines ++ line ∷ later) × ((operation : Operation) → SaysOperation line operation → ⊥))
+
+-- It came to an end: all lines were taken, a command was refused, or a line says no operation. So many operations were taken.
+pub record EndsImport {S K : Type 0} {g : _} (order : Order) (facts : S → Facts) (how : ImportValues) (old new : Session S K g) (script : Option (List ℕ)) (outcome : Answer) (count : ℕ) : Type 0 where
+  pub all : Bool
+  pub ended : Answer
+  pub takes : Takes order facts how old new script all ended
+  pub how_ended :
+      ((outcome ≡ Done) × (ended ≡ Done) × (all ≡ true) × (takes.left ≡ []))
+      ⊎ (IsRefusal outcome × (ended ≡ outcome))
+      ⊎ ((outcome ≡ Refused BadLine) × (ended ≡ Done) × HasBadNext script takes.lines)
+  pub counted : count ≡ length (all_taken takes.commands takes.answers)
+
+-- the line of a refusal, where it is one
+abbrev pub refusal_line : Answer → List ℕ
+refusal_line (Refused e) = refusal_of e ++ 10 ∷ []
+refusal_line _ = []
+
+-- that line, and how many operations were taken
+abbrev pub report_of : Answer → ℕ → List ℕ
+report_of outcome count = refusal_line outcome ++ codes "taken " ++ decimal count ++ 10 ∷ []
+
+-- The session was closed then, whatever that was answered, and the report was written.
+pub record Imports {S K : Type 0} {g : _} (order : Order) (facts : S → Facts) (how : ImportValues) (old new : Session S K g) (script before after : Option (List ℕ)) (status : ℕ) : Type 0 where
+  pub outcome : Answer
+  pub count : ℕ
+  pub between : Session S K g
+  pub closing : Answer
+  pub import : EndsImport order facts how old between script outcome count
+  pub closed : Applied order facts Close between new closing
+  pub written : Appends before after (report_of outcome count)
+  pub says : status ≡ status_of outcome
+
+-- Some first lines were imported, the session was closed, and a beginning of a report was written.
+pub record StopsImport {S K : Type 0} {g : _} (order : Order) (facts : S → Facts) (how : ImportValues) (old new : Session S K g) (script before after : Option (List ℕ)) : Type 0 where
+  pub all : Bool
+  pub ended : Answer
+  pub between : Session S K g
+  pub closing : Answer
+  pub takes : Takes order facts how old between script all ended
+  pub closed : Applied order facts Close between new closing
+  pub outcome : Answer
+  pub written : AppendsFront before after (report_of outcome (length (all_taken takes.commands takes.answers)))
+
+-- ---- parts
+
+-- The database was opened, batches of the first lines' operations were taken, and their last operations wait.
+pub record HasTaken {S K : Type 0} {g : _} (order : Order) (facts : S → Facts) (how : ImportValues) (old now : Session S K g) (script left : Option (List ℕ)) (waiting : List Operation) (count : ℕ) : Type 0 where
+  pub lines : List (List ℕ)
+  pub leaves : LeavesLines script left lines
+  pub operations : List Operation
+  pub said : SayOperations lines operations
+  pub batches : List Op
+  pub shape : AreBatches how.batch how.sync batches
+  pub written : operations ≡ all_written batches ++ waiting
+  pub answers : List Answer
+  pub well : AreWell answers
+  pub ran : GoesOn order facts old now (Open Any ∷ batches) answers
+  pub counted : count ≡ length (all_written batches)
+
+-- A batch was given, and work behind it where that was taken.
+pub record WritesBatch {S K : Type 0} {g : _} (order : Order) (facts : S → Facts) (most : ℕ) (sync : Bool) (old new : Session S K g) (operations : List Operation) (before after : ℕ) (outcome : Answer) : Type 0 where
+  pub write : Op
+  pub work : Op
+  pub shape : AreBatches most sync (write ∷ work ∷ [])
+  pub written : all_written (write ∷ work ∷ []) ≡ operations
+  pub commands : List Op
+  pub answers : List Answer
+  pub given : AreGiven (write ∷ work ∷ []) commands answers outcome
+  pub ran : GoesOn order facts old new commands answers
+  pub left : List Operation
+  pub taken : operations ≡ all_taken commands answers ++ left
+  pub whole : outcome ≡ Done → left ≡ []
+  pub counted : after ≡ before + length (all_taken commands answers)
+
+-- A line says no operation; or its operation waits now; or it was written with those that waited.
+abbrev pub TakesOperation : {S K : Type 0} {g : _} → Order → (S → Facts) → ImportValues → Session S K g → Session S K g → List ℕ → List Operation → List Operation → ℕ → ℕ → Answer → Type 0
+TakesOperation order facts how old new line waiting still before after outcome =
+    ((outcome ≡ Refused BadLine) × ((operation : Operation) → SaysOperation line operation → ⊥) × (new ≡ old) × (after ≡ before))
+    ⊎ ((operation : Operation) × SaysOperation line operation
+    × (((outcome ≡ Done) × (still ≡ waiting ++ operation ∷ []) × (length still < how.batch) × (new ≡ old) × (after ≡ before))
+    ⊎ ((still ≡ []) × WritesBatch order facts how.batch how.sync old new (waiting ++ operation ∷ []) before after outcome)))
+
+-- some first lines were imported
+abbrev pub TakesSome : {S K : Type 0} {g : _} → Order → (S → Facts) → ImportValues → Session S K g → Session S K g → Option (List ℕ) → Type 0
+TakesSome order facts how old new script = (all : Bool) × (ended : Answer) × Takes order facts how old new script all ended
+
+-- The lines that are left are imported behind those that were taken before; to an end, or not to one.
+abbrev pub EndsRest : {S K : Type 0} {g : _} → Order → (S → Facts) → ImportValues → Session S K g → Session S K g → Option (List ℕ) → ℕ → ℕ → Answer → Type 0
+EndsRest {S} {K} {g} order facts how now new left before after outcome =
+    (old : Session S K g) (script : Option (List ℕ)) → HasTaken order facts how old now script left [] before → EndsImport order facts how old new script outcome after
+
+abbrev pub TakesRest : {S K : Type 0} {g : _} → Order → (S → Facts) → ImportValues → Session S K g → Session S K g → Option (List ℕ) → ℕ → Type 0
+TakesRest {S} {K} {g} order facts how now new left before =
+    (old : Session S K g) (script : Option (List ℕ)) → HasTaken order facts how old now script left [] before → TakesSome order facts how old new script
