@@ -5,6 +5,10 @@
 //   leveldb_driver get FLAGS FOLDER        opens a database and prints the value of each key of standard input, or "none"
 //   leveldb_driver seek FLAGS FOLDER       the same of the first pair whose key doesn't come before it, or "end"
 //   leveldb_driver write FLAGS FOLDER      opens or makes a database and applies the lines of standard input
+//   leveldb_driver script FLAGS FOLDER     answers the lines of a script of `ldbtool run`, one by one: open, close, put, del, write, compact
+//                                          all and work, which LevelDB does by itself, so that it is answered "idle"
+//   leveldb_driver maps FLAGS              opens each folder that a line of standard input names, and prints its pairs and "end", or
+//                                          "refused" and why
 //   leveldb_driver history FLAGS FOLDER    makes a database by a random history: opens, writes, deletes, batches, snapshots,
 //                                          compactions, each open with options of its own. --seed says which
 //   leveldb_driver file FLAGS FILE         prints what a MANIFEST, a log or a table holds (DumpFile), without a database
@@ -28,6 +32,8 @@
 //   --block-bytes=N      block_size
 //   --restarts=N         block_restart_interval
 //   --file-bytes=N       max_file_size
+//   --write-buffer=N     write_buffer_size (LevelDB takes 65,536 for less)
+//   --lenient            no paranoid_checks
 //   --backwards          `dump` goes from the last pair to the first
 //   --seed=N             which history
 //   --operations=N       how many operations a history has (10000)
@@ -137,6 +143,10 @@ bool TakeFlag(const std::string& flag, Database* database) {
     options.block_restart_interval = number;
   } else if (name == "--file-bytes" && number > 0) {
     options.max_file_size = number;
+  } else if (name == "--write-buffer" && number > 0) {
+    options.write_buffer_size = number;
+  } else if (name == "--lenient") {
+    options.paranoid_checks = false;
   } else if (name == "--backwards") {
     database->backwards = true;
   } else if (name == "--seed") {
@@ -164,10 +174,10 @@ leveldb::Status Open(const Database& database, bool may_create, std::unique_ptr<
   return status;
 }
 
-int Dump(const Database& database) {
+leveldb::Status Print(const Database& database) {
   std::unique_ptr<leveldb::DB> db;
   leveldb::Status status = Open(database, false, &db);
-  if (!status.ok()) return Refuse(status);
+  if (!status.ok()) return status;
   std::unique_ptr<leveldb::Iterator> pairs(db->NewIterator(Checked()));
   if (database.backwards) {
     pairs->SeekToLast();
@@ -182,7 +192,20 @@ int Dump(const Database& database) {
       pairs->Next();
     }
   }
-  return pairs->status().ok() ? 0 : Refuse(pairs->status());
+  return pairs->status();
+}
+
+int Dump(const Database& database) {
+  const leveldb::Status status = Print(database);
+  return status.ok() ? 0 : Refuse(status);
+}
+
+int Maps(Database database) {
+  while (std::getline(std::cin, database.folder)) {
+    const leveldb::Status status = Print(database);
+    std::cout << (status.ok() ? "end" : "refused " + status.ToString()) << std::endl;
+  }
+  return 0;
 }
 
 int Get(const Database& database) {
@@ -264,6 +287,67 @@ int Write(const Database& database) {
     status = db->Write(leveldb::WriteOptions(), &batch);
     if (!status.ok()) return Refuse(status);
     batch.Clear();
+  }
+  return 0;
+}
+
+// A database that the lines of a script open and close.
+class Scripted {
+ public:
+  explicit Scripted(const Database& database) : database_(database) {}
+
+  // What a line is answered, or nothing, where it is none.
+  std::string Answer(const std::string& line) {
+    std::istringstream words(line);
+    std::string verb, rest;
+    words >> verb;
+    if (verb == "open") return Told(Open(database_, true, &db_));
+    if (verb == "close") {
+      db_.reset();
+      return "ok";
+    }
+    if (!db_) return "";
+    if (verb == "work") return "idle";
+    if (verb == "compact") {
+      db_->CompactRange(nullptr, nullptr);
+      return "ok";
+    }
+    leveldb::WriteBatch batch;
+    leveldb::WriteOptions how;
+    how.sync = line.compare(0, 10, "write sync") == 0;
+    std::getline(words, rest);
+    if (!AddWords(verb == "write" ? rest : line, &batch)) return "";
+    return Told(db_->Write(how, &batch));
+  }
+
+ private:
+  static std::string Told(const leveldb::Status& status) { return status.ok() ? "ok" : "refused " + status.ToString(); }
+
+  // Adds operations that stand one behind the other.
+  static bool AddWords(const std::string& text, leveldb::WriteBatch* batch) {
+    std::istringstream words(text);
+    for (std::string verb, key, value; words >> verb;) {
+      if (verb == "sync") continue;
+      words >> key;
+      if (verb == "put") words >> value;
+      if (!AddLine(verb == "put" ? verb + " " + key + " " + value : verb + " " + key, batch)) return false;
+    }
+    return true;
+  }
+
+  const Database database_;
+  std::unique_ptr<leveldb::DB> db_;
+};
+
+int Script(const Database& database) {
+  Scripted scripted(database);
+  for (std::string line; std::getline(std::cin, line);) {
+    const std::string answer = scripted.Answer(line);
+    if (answer.empty()) {
+      std::cerr << "no line of a script: " << line << "\n";
+      return kMisused;
+    }
+    std::cout << answer << std::endl;
   }
   return 0;
 }
@@ -419,18 +503,20 @@ int main(int argc, char** argv) {
       misused = true;
     }
   }
+  if (!misused && database.folder.empty() && verb == "maps") return Maps(database);
   if (!misused && !database.folder.empty()) {
     if (verb == "dump") return Dump(database);
     if (verb == "get") return Get(database);
     if (verb == "seek") return Seek(database);
     if (verb == "write") return Write(database);
+    if (verb == "script") return Script(database);
     if (verb == "history") return History(database);
     if (verb == "file") return File(database);
     if (verb == "compact") return Compact(database);
     if (verb == "repair") return Repair(database);
     if (verb == "hold") return Hold(database);
   }
-  std::cerr << "usage: leveldb_driver version, or dump, get, seek, write, history, compact, repair, hold or file, then flags and a "
-               "folder, or a file\n";
+  std::cerr << "usage: leveldb_driver version, or dump, get, seek, write, script, history, compact, repair, hold or file, then flags "
+               "and a folder, or a file; or maps, then flags\n";
   return kMisused;
 }

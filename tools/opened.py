@@ -1,0 +1,96 @@
+"""Opens folders that are made of names and bytes, by ldbtool and, where it is there, by LevelDB behind its command line
+(interop/leveldb_driver.cc), and says what is in them."""
+import shutil
+import subprocess
+import tempfile
+
+from judged import held, ran
+from listed import Wrong
+from machine import text_of
+from promises import Found
+
+# more pairs than any session has
+MOST = 30
+
+
+def written(folder, files):
+    """Puts files into a folder."""
+    for name, text in files.items():
+        with open(f"{folder}/{name}", "wb") as file:
+            file.write(text)
+
+
+class LevelDB:
+    """LevelDB, which is given one folder after the other. It writes into what it opens."""
+
+    def __init__(self, program):
+        self.process = subprocess.Popen([program, "maps"], stdin=subprocess.PIPE, stdout=subprocess.PIPE, text=True)
+
+    def found(self, folder):
+        self.process.stdin.write(f"{folder}\n")
+        self.process.stdin.flush()
+        pairs = {}
+        for line in self.process.stdout:
+            words = line.rstrip("\n").split(" ")
+            if words[0] == "refused":
+                # (what we take for an empty folder it finds missing)
+                return Found(pairs={}) if "does not exist (create_if_missing is false)" in line else Found(f"LevelDB refuses it: {line.strip()}")
+            if words[0] == "end":
+                return Found(pairs=pairs)
+            pairs[text_of(words[0])] = text_of(words[1])
+        raise Wrong("LevelDB ended")
+
+    def end(self):
+        self.process.stdin.close()
+        self.process.stdout.close()
+        self.process.wait()
+
+
+def found_by_ldbtool(folder):
+    """What a check says, and what is there once the folder was opened, which writes into it."""
+    status, report = ran("check", folder)
+    if status or report[:1] not in (["good"], ["empty"]):
+        return Found(f"a check answers {report[:2]}, status {status}")
+    try:
+        pairs = dict(line.split(" ")[1:] for line in held(folder, MOST))
+    except Wrong as fault:
+        return Found(str(fault))
+    sequence = int(report[1].split(" ")[1]) if report[0] == "good" else 0
+    logs = [int(line.split(" ")[1]) for line in report if line.startswith("log ")]
+    return Found(pairs={text_of(key): text_of(value) for key, value in pairs.items()}, sequence=sequence, live_logs=tuple(logs))
+
+
+class Opener:
+    """Opens each state once, however often it comes."""
+
+    def __init__(self, room, beside=None):
+        self.room, self.known, self.leveldb = room, {}, LevelDB(beside) if beside else None
+
+    def __enter__(self):
+        return self
+
+    def __exit__(self, *_):
+        if self.leveldb:
+            self.leveldb.end()
+
+    def found(self, files):
+        """What is there by ldbtool, which is what is there by LevelDB."""
+        key = hash(frozenset(files.items()))
+        if key not in self.known:
+            self.known[key] = self.opened(files)
+        return self.known[key]
+
+    def opened(self, files):
+        ours = self.opened_by(found_by_ldbtool, files)
+        if self.leveldb and not ours.refusal:
+            theirs = self.opened_by(self.leveldb.found, files)
+            if theirs.pairs != ours.pairs:
+                return Found(theirs.refusal or f"LevelDB finds {len(theirs.pairs)} pairs, and not the {len(ours.pairs)} of ours")
+        return ours
+
+    def opened_by(self, reader, files):
+        folder = tempfile.mkdtemp(prefix="state-", dir=self.room)
+        written(folder, files)
+        found = reader(folder)
+        shutil.rmtree(folder)
+        return found

@@ -1,0 +1,181 @@
+"""What is promised of a folder that a session of ldbtool leaves: which batches it holds, where the program is stopped and where the device
+loses power. A session is known by its recording (recorded.py), what is left of it by remains.py."""
+import bisect
+import math
+import operator
+from dataclasses import dataclass
+
+from listed import Wrong
+from machine import Machine
+from recorded import Answered, Locked, Moved, Opened, Removed, Wrote
+
+WRITES = ("put", "del", "write")
+
+# what is made to have the lock
+LOCKS = ("LOCK", "LOCK-wal")
+
+# Why an earlier batch may be lost today, and a later one be there: they lie in two logs, and no sync of the later one syncs the other.
+SEALED, KEPT = "a log that is sealed", "a log that an open keeps"
+
+
+@dataclass(frozen=True)
+class Found:
+    """What a reader finds in a folder: nothing, where it refuses it, or its pairs; and what a check says of the last sequence and of the
+    numbers of live logs, where the reader has one."""
+
+    refusal: str = ""
+    pairs: dict = None
+    sequence: int = None
+    live_logs: tuple = ()
+
+
+@dataclass(frozen=True)
+class Batch:
+    """A batch that was accepted: by which line, which the folder then holds, and the log with its place there."""
+
+    line: int
+    text: str
+    pairs: dict
+    sequence: int
+    log: object
+    number: int
+    end: int
+
+
+def operations_in(line):
+    """How many operations a line writes, which take so many sequences."""
+    words = line.split(" ")
+    return 1 if words[0] != "write" else words.count("put") + words.count("del")
+
+
+def is_synced(line):
+    return line.startswith("write sync")
+
+
+def applied(pairs, line):
+    """The pairs behind a line that writes."""
+    machine = Machine()
+    machine.pairs = pairs
+    verb, *words = line.split(" ")
+    return machine.written(verb, words)
+
+
+class Story:
+    """The batches of a session, and how many of them were accepted at each moment. It begins over a folder that holds these pairs, up
+    to this sequence."""
+
+    def __init__(self, recording, history, pairs=None, sequence=0):
+        self.history, self.script = history, recording.script
+        want_accepted(recording)
+        # at each moment, how many lines were answered
+        self.answered = [0]
+        for call in history.calls:
+            self.answered.append(self.answered[-1] + (call.lines if isinstance(call, Answered) else 0))
+        self.pairs, self.sequence = pairs or {}, sequence
+        self.batches = []
+        for number, line in enumerate(self.script):
+            if line.split(" ")[0] in WRITES:
+                self.batches.append(self.batch(number, line))
+
+    def batch(self, number, line):
+        pairs, sequence = self.state(len(self.batches))
+        log, name, end = self.place(number)
+        return Batch(number, line, applied(pairs, line), sequence + operations_in(line), log, name, end)
+
+    def calls_of(self, line):
+        """The places of the calls that a line made."""
+        return range(bisect.bisect_left(self.answered, line), bisect.bisect_left(self.answered, line + 1))
+
+    def place(self, line):
+        """Where a line's batch lies: the log, its number, and where it ends there; none, where the batch is empty."""
+        for at in reversed(self.calls_of(line)):
+            log, now = self.history.written.get(at), self.history.moments[at + 1]
+            name = next((name for name, it in now.names.items() if it is log and name.endswith(".log")), None)
+            if name:
+                return log, int(name[:-4]), now.lengths[log]
+        return None, math.inf, 0
+
+    def state(self, count):
+        """The pairs and the last sequence behind so many batches."""
+        return (self.batches[count - 1].pairs, self.batches[count - 1].sequence) if count else (self.pairs, self.sequence)
+
+    def accepted(self, moment):
+        """How many batches were answered by then, how many up to the last that was synced, and whether another was under way."""
+        lines = self.answered[moment]
+        count = bisect.bisect_left([it.line for it in self.batches], lines)
+        synced = max((number for number, it in enumerate(self.batches[:count], 1) if is_synced(it.text)), default=0)
+        return count, synced, count < len(self.batches) and self.batches[count].line == lines
+
+
+def want_accepted(recording):
+    """Each command was done."""
+    for line, answer in zip(recording.script, recording.answers):
+        if answer not in (("worked", "idle") if line.startswith("work ") else ("ok",)):
+            raise Wrong(f"{line[:200]!r} was answered {answer[:200]!r}")
+
+
+def want_locked(story):
+    """Each open has the lock before it changes another file."""
+    for line, text in enumerate(story.script):
+        calls = [story.history.calls[at] for at in story.calls_of(line)]
+        locks = [at for at, it in enumerate(calls) if isinstance(it, Locked)]
+        changes = [at for at, it in enumerate(calls) if isinstance(it, (Wrote, Moved)) or isinstance(it, (Opened, Removed)) and it.name not in LOCKS]
+        if text.startswith("open") and changes and (not locks or changes[0] < locks[0]):
+            raise Wrong(f"{text!r} changes a file before it has the lock")
+
+
+# ---- the promises
+
+
+def breach(story, found, least, most, is_last):
+    """What is wrong with a folder that is to hold the first so many batches, and at most so many; nothing, where it does. What it says of
+    the last sequence is to be in accord with that."""
+    if found.refusal:
+        return found.refusal
+    states = [story.state(count) for count in range(least, most + 1)]
+    if any(found.pairs == pairs and (found.sequence is None or is_last(found.sequence, sequence)) for pairs, sequence in states):
+        return ""
+    held = [count for count in range(len(story.batches) + 1) if story.state(count)[0] == found.pairs]
+    what = f"the pairs behind batch {held[-1]}" if held else "the pairs behind no batch"
+    return f"it holds {what}, by sequence {found.sequence}, and not those behind one of {least} to {most}"
+
+
+def breach_of_stop(story, remains, found):
+    """All that was answered is there, and of the batch under way all or nothing."""
+    count, _, is_under_way = story.accepted(remains.moment)
+    return breach(story, found, count, count + is_under_way, operator.eq)
+
+
+def breach_of_loss(story, remains, found):
+    """All up to the last synced batch that was answered is there, and of what came behind it a beginning. (A MANIFEST that was synced may
+    tell of sequences whose batches are lost.)"""
+    count, synced, is_under_way = story.accepted(remains.moment)
+    return breach(story, found, synced, count + is_under_way, operator.ge)
+
+
+# ---- what isn't promised yet
+
+
+def gaps(story, remains):
+    """Why a batch may be gone and a later one be there, in what is left: none, where no log lost more than one behind it has."""
+    here = {id(file) for file in remains.names.values()}
+    of_logs = [it for it in story.batches if it.log and id(it.log) in here]
+    gone = [it for it in of_logs if remains.lengths[it.log] < it.end]
+    there = [it for it in of_logs if remains.lengths[it.log] >= it.end]
+    return {kind(story, first, then) for first in gone for then in there if first.line < then.line and first.log is not then.log}
+
+
+def kind(story, first, then):
+    between = story.script[first.line : then.line]
+    return KEPT if any(line.startswith("open") for line in between) else SEALED
+
+
+def breach_of_logs(story, remains, found):
+    """What holds even so: a beginning of each log's batches is there, with what of it was synced at least, and all that tables have."""
+    if found.refusal:
+        return found.refusal
+    oldest, here, pairs = min(found.live_logs, default=math.inf), {id(it) for it in remains.names.values()}, story.pairs
+    for it in story.batches:
+        if it.number < oldest or id(it.log) in here and remains.lengths[it.log] >= it.end:
+            pairs = applied(pairs, it.text)
+    return "" if found.pairs == pairs else f"its pairs aren't those of the batches that its logs have, of which {oldest} is the oldest"

@@ -1,0 +1,111 @@
+"""Sessions of ldbtool for tools/stops, written down and drawn: so short that each state that may be left of them can be opened."""
+import itertools
+from dataclasses import dataclass
+
+from machine import word
+from promises import KEPT, SEALED
+
+# each begins in an empty folder: its name, the options, and its runs one behind the other
+SESSIONS = [
+    ("a log alone", "", ["open new; put 61 01; write sync put 62 02 del 61; write; del 62; put 63 03; write sync put 61 04; close"]),
+    ("an empty database, opened again and again", "", ["open new; close; open; close; open; put 61 01; close; open; close", "open; close"]),
+    ("flushes", "--write-buffer 1", [
+        "open new; write sync put 61 01; work 9; work 9; put 62 02; work 9; put 63 03; work 9; write sync put 61 04; work 9; work 9; close",
+        "open; put 62 05; work 9; work 9; write sync del 61; close",
+    ]),
+    ("a compaction in steps", "--write-buffer 1 --level0-files 2", [
+        "open new; write sync put 61 01 put 62 01; work 9; work 9; write sync put 62 02 put 63 02; work 9; work 9; work 1; work 1; write sync put 64 03; "
+        "work 1; work 9; work 9; write sync del 62; close",
+        "open; work 9; work 9; work 9; work 9; close",
+    ]),
+    ("a file for each key, and levels", "--write-buffer 1 --file-bytes 1 --level0-files 1 --base-bytes 400", [
+        "open new; write sync put 61 01 put 62 02 put 63 03; work 9; work 9; work 9; work 9; work 9; write sync put 64 04 del 61; work 9; work 9; work 9; "
+        "work 9; work 9; close",
+    ]),
+    ("all compacted", "", [
+        "open new; put 61 01; put 62 02; compact all; write sync put 61 03; compact all; del 62; compact all; compact all; close",
+        "open; put 63 04; compact all; write sync put 62 05; close",
+    ]),
+    ("runs that end open", "--write-buffer 1", ["open new; put 61 01; work 9", "open; put 62 02; work 9; work 9; put 63 03", "open; write sync put 61 04"]),
+    ("a batch over blocks of a log", "", [f"open new; write sync put 61 01 put 62 {'02' * 40_000}; put 63 {'03' * 33_000}; write sync del 62; close; open; close"]),
+]  # fmt: skip
+
+FIRST, RENAMED = "CURRENT at a first open, on a device to which names come in any order", "CURRENT at an open, on a device to which names come in any order"
+
+
+@dataclass(frozen=True)
+class Case:
+    """A session that shows one thing which a loss of power may do, from one of its lines on; and whether names come to the device in
+    any order."""
+
+    options: str
+    script: str
+    line: int
+    is_unordered: bool = False
+
+
+CASES = {
+    SEALED: Case("--write-buffer 1", "open new; put 61 01; work 9; write sync put 62 02; close", 4),
+    KEPT: Case("", "open new; put 61 01; close; open; write sync put 62 02; close", 5),
+    FIRST: Case("", "open new; close", 0, True),
+    RENAMED: Case("", "open new; write sync put 61 01; close; open; close", 3, True),
+}
+
+# What isn't promised today, and why. A line here is wrong once it is kept after all; it goes then, and tools/stops asks for it everywhere.
+NOT_KEPT = {
+    SEALED: "a write with sync syncs the log that it goes to, and not the one that was sealed before",
+    KEPT: "a write with sync syncs the log that it goes to, and not those that an open keeps since no table has their entries",
+    FIRST: "the log may be there without CURRENT, which is taken for damage",
+    RENAMED: "CURRENT may still name the MANIFEST that was removed behind its renaming",
+}
+
+
+# ---- drawn sessions
+
+# what their options are drawn from
+OPTIONS = {
+    "--write-buffer": (1, 1, 200, 1_000), "--block-bytes": (1, 64, 4_096), "--file-bytes": (1, 300, 2_097_152), "--level0-files": (1, 2, 4),
+    "--base-bytes": (1, 400, 10_485_760),
+}  # fmt: skip
+KEYS = [b"a", b"b", b"c", b"ab", b"abc", b""]
+
+
+def drawn_options(chance):
+    return [text for name, sizes in OPTIONS.items() for text in (name, str(chance.choice(sizes)))]
+
+
+def drawn_runs(chance, runs, commands):
+    """Scripts one behind the other over one folder, of so many commands each. Each batch has values of its own."""
+    numbers = itertools.count(chance.randrange(2**16))
+    return ["; ".join(["open any", *drawn_lines(chance, numbers, commands), *chance.choice((["close"], []))]) for _ in range(runs)]
+
+
+def drawn_lines(chance, numbers, commands):
+    kinds = {"put": 6, "write": 6, "work": 9, "work to the end": 1, "compact": 1, "open": 1.5}
+    return [line for kind in chance.choices([*kinds], [*kinds.values()], k=commands) for line in drawn_command(chance, numbers, kind)]
+
+
+def drawn_command(chance, numbers, kind):
+    """A line or a few."""
+    if kind == "put":
+        return [drawn_put(chance, numbers)]
+    if kind == "write":
+        return [" ".join([chance.choice(("write", "write sync")), drawn_put(chance, numbers), *drawn_rest(chance, numbers)])]
+    if kind == "work":
+        return [f"work {chance.choice((1, 2, 9))}"]
+    if kind == "work to the end":
+        return ["work 100"] * 6
+    if kind == "compact":
+        return [f"compact {chance.choice((0, 1, 2, 'all'))}"]
+    return ["close", "open"]
+
+
+def drawn_rest(chance, numbers):
+    """More operations of a batch."""
+    count = chance.choice((0, 0, 1, 4))
+    return [f"del {word(chance.choice(KEYS))}" if chance.random() < 0.4 else drawn_put(chance, numbers) for _ in range(count)]
+
+
+def drawn_put(chance, numbers):
+    length = chance.choice((0, 0, 8, 40, 300))
+    return f"put {word(chance.choice(KEYS))} {next(numbers):06x}{'ee' * length}"
