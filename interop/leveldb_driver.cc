@@ -7,8 +7,8 @@
 //   leveldb_driver write FLAGS FOLDER      opens or makes a database and applies the lines of standard input
 //   leveldb_driver script FLAGS FOLDER     answers the lines of a script of `ldbtool run`, one by one: open, close, put, del, write, compact
 //                                          all and work, which LevelDB does by itself, so that it is answered "idle"
-//   leveldb_driver maps FLAGS              opens each folder that a line of standard input names, and prints its pairs and "end", or
-//                                          "refused" and why
+//   leveldb_driver maps FLAGS              opens or makes a database in each folder that a line of standard input names, and prints its
+//                                          pairs and "end", or "refused" and why
 //   leveldb_driver history FLAGS FOLDER    makes a database by a random history: opens, writes, deletes, batches, snapshots,
 //                                          compactions, each open with options of its own. --seed says which
 //   leveldb_driver file FLAGS FILE         prints what a MANIFEST, a log or a table holds (DumpFile), without a database
@@ -37,6 +37,8 @@
 //   --backwards          `dump` goes from the last pair to the first
 //   --seed=N             which history
 //   --operations=N       how many operations a history has (10000)
+
+#include <unistd.h>
 
 #include <cstdint>
 #include <cstdlib>
@@ -174,9 +176,9 @@ leveldb::Status Open(const Database& database, bool may_create, std::unique_ptr<
   return status;
 }
 
-leveldb::Status Print(const Database& database) {
+leveldb::Status Print(const Database& database, bool may_create) {
   std::unique_ptr<leveldb::DB> db;
-  leveldb::Status status = Open(database, false, &db);
+  leveldb::Status status = Open(database, may_create, &db);
   if (!status.ok()) return status;
   std::unique_ptr<leveldb::Iterator> pairs(db->NewIterator(Checked()));
   if (database.backwards) {
@@ -196,13 +198,13 @@ leveldb::Status Print(const Database& database) {
 }
 
 int Dump(const Database& database) {
-  const leveldb::Status status = Print(database);
+  const leveldb::Status status = Print(database, false);
   return status.ok() ? 0 : Refuse(status);
 }
 
 int Maps(Database database) {
   while (std::getline(std::cin, database.folder)) {
-    const leveldb::Status status = Print(database);
+    const leveldb::Status status = Print(database, true);
     std::cout << (status.ok() ? "end" : "refused " + status.ToString()) << std::endl;
   }
   return 0;
@@ -347,7 +349,9 @@ int Script(const Database& database) {
       std::cerr << "no line of a script: " << line << "\n";
       return kMisused;
     }
-    std::cout << answer << std::endl;
+    // (by the call that tools/recording_calls.c sees)
+    const std::string text = answer + "\n";
+    if (write(STDOUT_FILENO, text.data(), text.size()) < 0) return kRefused;
   }
   return 0;
 }

@@ -33,8 +33,7 @@ class LevelDB:
         for line in self.process.stdout:
             words = line.rstrip("\n").split(" ")
             if words[0] == "refused":
-                # (what we take for an empty folder it finds missing)
-                return Found(pairs={}) if "does not exist (create_if_missing is false)" in line else Found(f"LevelDB refuses it: {line.strip()}")
+                return Found(f"LevelDB refuses it: {line.strip()}")
             if words[0] == "end":
                 return Found(pairs=pairs)
             pairs[text_of(words[0])] = text_of(words[1])

@@ -71,6 +71,8 @@ class Story:
         self.answered = [0]
         for call in history.calls:
             self.answered.append(self.answered[-1] + (call.lines if isinstance(call, Answered) else 0))
+        if self.answered[-1] != len(self.script):
+            raise Wrong(f"the record has {self.answered[-1]} answers to {len(self.script)} lines")
         self.pairs, self.sequence = pairs or {}, sequence
         self.batches = []
         for number, line in enumerate(self.script):

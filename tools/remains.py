@@ -39,10 +39,10 @@ class Moment:
 
 class History:
     """The folder at each moment of a recording: in front of its first call, and behind each. `written` has the file of each write, by
-    its call's place among the calls."""
+    its call's place among the calls. `keeps_names` says that a sync of any file keeps all names too, as a device with a journal does."""
 
-    def __init__(self, recording):
-        self.folder, self.calls = recording.inode, recording.calls()
+    def __init__(self, recording, calls, keeps_names=False):
+        self.folder, self.calls, self.keeps_names = recording.inode, calls, keeps_names
         self.by_inode, self.written, names = {}, {}, {}
         for name, (inode, text) in recording.start.items():
             self.by_inode[inode] = names[name] = File(text)
@@ -82,10 +82,10 @@ class History:
         return replace(now, names={name: file for name, file in now.names.items() if name != call.name})
 
     def was_synced(self, now, call):
-        if call.file == self.folder:
-            return replace(now, names_synced=len(self.moments))
+        if call.file == self.folder or self.keeps_names:
+            now = replace(now, names_synced=len(self.moments))
         file = self.by_inode.get(call.file)
-        return now if file is None else replace(now, synced={**now.synced, file: now.lengths[file]})
+        return replace(now, synced={**now.synced, file: now.lengths[file]}) if file else now
 
     def want_end(self, found):
         """What was rebuilt of the record is what stands in the folder: no call was overlooked."""
@@ -192,11 +192,10 @@ def all_but_one(chance, names):
 
 
 def losses(history, chance, count):
-    """What a loss of power leaves: at each moment with the oldest and the newest names, the least and the most of all files; and
+    """What a loss of power leaves: at each moment with all names that the device may have, the least and the most of all files; and
     so many that are drawn."""
     for number in range(len(history.moments)):
-        found = names_in_order(history, number)
-        for names in (found[0], found[-1]) if len(found) > 1 else found:
+        for names in names_in_order(history, number):
             yield from (lost(history, number, names, how) for how in (least, most))
     for _ in range(count):
         number = chance.randrange(len(history.moments))
@@ -205,7 +204,7 @@ def losses(history, chance, count):
 
 
 def losses_in_any_order(history, chance, count):
-    """The same, drawn, of a device to which names come in any order."""
+    """The same of a device to which names come in any order, all of it drawn."""
     for _ in range(count):
         number = chance.randrange(len(history.moments))
         yield lost(history, number, names_without(history, number, chance), chance.choice((least, most, drawn(chance))))

@@ -30,6 +30,9 @@ SESSIONS = [
     ("a batch over blocks of a log", "", [f"open new; write sync put 61 01 put 62 {'02' * 40_000}; put 63 {'03' * 33_000}; write sync del 62; close; open; close"]),
 ]  # fmt: skip
 
+# into the calls of these runs bugs are planted
+PLANTED = SESSIONS[2][2]
+
 FIRST, RENAMED = "CURRENT at a first open, on a device to which names come in any order", "CURRENT at an open, on a device to which names come in any order"
 
 

@@ -1,0 +1,154 @@
+"""The checks of what a stop and a loss of power may leave of ldbtool's sessions and of LevelDB's, by the recording and the model of
+tools/stops (tools/recorded.py, tools/remains.py). What LevelDB does by itself it does while a script goes on."""
+import collections
+import functools
+import os
+import random
+
+from beside import CHECKS, Programs, new_folder, want
+from opened import Opener, found_by_ldbtool
+from promises import Story, breach_of_loss, breach_of_stop
+from recorded import Recording, files_in
+from remains import History, losses, losses_in_any_order, stops
+from shims import built_shim
+
+# by which seed losses are drawn
+SEED = 1
+
+# LevelDB's least write buffer, which these writes fill
+BUFFER = 65_536
+LARGE = [f"put {key} {key * 30_000}" for key in ("61", "62", "63")]
+
+# what is written with sync comes behind what isn't, in a log of its own: the other one was sealed, or found by an open
+SEALED = [
+    "open new", *LARGE, "work 9", "write sync put 64 04", "put 65 05", "work 9", "write sync put 61 06", "close", "open", "put 66 07", "close",
+]  # fmt: skip
+FOUND = ["open new", "put 61 01", "put 62 02", "close", "open", "write sync put 63 03", "close"]
+
+# and a session with tables
+TABLES = [
+    "open new", "put 61 01", "write sync put 62 02", "put 63 03", "compact all", "put 61 04", "write sync put 64 05", "del 62", "close",
+    "open", "write sync put 65 06", "put 66 07", "close", "open", "close",
+]  # fmt: skip
+
+OURS, THEIRS, REUSING = "ldbtool", "LevelDB", "LevelDB with reuse_logs"
+
+
+def command_of(whose):
+    if whose == OURS:
+        return [Programs.ldbtool, "run", "--write-buffer", str(BUFFER)]
+    return [Programs.leveldb, "script", f"--write-buffer={BUFFER}", *(["--reuse"] if whose == REUSING else [])]
+
+
+def recorded(room, whose, script):
+    """The session, with tables that take a while to be synced, so that LevelDB's writes go on meanwhile."""
+    folder = new_folder(room, f"folder of {whose}")
+    recording = Recording(built_shim(room, "recording_calls"), folder, os.path.join(room, f"record of {whose}"), SLOW_SYNC="200")
+    recording.run(command_of(whose), script)
+    History(recording, recording.calls()).want_end(files_in(folder))
+    return recording
+
+
+# ---- what both find in what is left
+
+
+class Readers:
+    """Opens what is left by both, each state once, and wants them to find the same."""
+
+    def __init__(self, room):
+        self.opener, self.known = Opener(room, Programs.leveldb), {}
+
+    def found(self, files):
+        key = hash(frozenset(files.items()))
+        if key not in self.known:
+            self.known[key] = self.opened(files)
+        return self.known[key]
+
+    def opened(self, files):
+        ours, theirs = (self.opener.opened_by(it, files) for it in (found_by_ldbtool, self.opener.leveldb.found))
+        if is_without_current(files):
+            want(ours.refusal, "we take a folder with a log or a table and without CURRENT")
+            return theirs
+        want(bool(ours.refusal) == bool(theirs.refusal) and ours.pairs == theirs.pairs, f"we find {ours}, and LevelDB {theirs}, in {[*files]}")
+        return ours
+
+
+def is_without_current(files):
+    """The known difference: we take it for damaged, and LevelDB makes a database there."""
+    return "CURRENT" not in files and any(name.endswith((".log", ".ldb")) for name in files)
+
+
+# ---- losses of power, on three devices
+
+# each with how many losses are drawn
+DEVICES = {
+    "a sync of a file keeps all names": (True, losses, 100),
+    "only a sync of the folder keeps names": (False, losses, 100),
+    "names come in any order": (True, losses_in_any_order, 400),
+}
+
+HELD, REFUSED, SHORT, GAP = "as promised", "refused", "with a synced batch gone, and all behind it", "with a batch gone, and a later one there"
+
+
+def kind(story, remains, found):
+    """What became of what ldbtool is to promise."""
+    if found.refusal:
+        return REFUSED
+    if not breach_of_loss(story, remains, found):
+        return HELD
+    return SHORT if any(found.pairs == story.state(count)[0] for count in range(len(story.batches) + 1)) else GAP
+
+
+def left(recording, device, readers):
+    """How many states of each kind there are among those that a loss of power may leave."""
+    keeps_names, states, count = DEVICES[device]
+    history = History(recording, recording.calls(), keeps_names)
+    story = Story(recording, history)
+    found = [kind(story, it, readers.found(it.files)) for it in states(history, random.Random(SEED), count)]
+    return collections.Counter(found)
+
+
+def want_stops(recording, readers):
+    history = History(recording, recording.calls())
+    story = Story(recording, history)
+    for it in stops(history, random.Random(SEED)):
+        wrong = breach_of_stop(story, it, readers.found(it.files))
+        want(not wrong, f"a stop {it.way}: {wrong}")
+
+
+# what is seen on each device beside what is as promised; on the last one, what is seen at least. docs/INTEROP.md says it in words
+SEEN = {
+    "a log that is sealed": (SEALED, {
+        OURS: ({GAP}, {GAP}, {GAP, REFUSED}),
+        THEIRS: ({GAP}, {GAP, SHORT}, {GAP, REFUSED}),
+        REUSING: ({GAP}, {GAP, SHORT, REFUSED}, {GAP}),
+    }),
+    "a log that an open finds": (FOUND, {
+        OURS: ({GAP}, {GAP}, {GAP, REFUSED}),
+        THEIRS: (set(), {GAP}, {REFUSED}),
+        REUSING: (set(), {SHORT}, set()),
+    }),
+    "tables": (TABLES, {
+        OURS: ({GAP}, {GAP}, {GAP, REFUSED}),
+        THEIRS: (set(), {GAP, REFUSED}, {REFUSED}),
+        REUSING: (set(), {SHORT, REFUSED}, set()),
+    }),
+}  # fmt: skip
+
+
+def power(script, seen, room):
+    """A session of each, every stop of which leaves all that was answered; and losses of power, which leave what is written above."""
+    readers, told = Readers(room), []
+    for whose, wanted in seen.items():
+        recording = recorded(room, whose, script)
+        want_stops(recording, readers)
+        for device, kinds in zip(DEVICES, wanted):
+            found = left(recording, device, readers)
+            others, is_last = set(found) - {HELD}, device == [*DEVICES][-1]
+            told.append(f"{whose}, where {device}: {', '.join(f'{count} {it}' for it, count in sorted(found.items()))}")
+            want(others >= kinds if is_last else others == kinds, f"{told[-1]}, and not {sorted(kinds)}")
+    return "; ".join(told)
+
+
+for name, (script_of, seen_of) in SEEN.items():
+    CHECKS.append((f"stops and losses of power: {name}", functools.partial(power, script_of, seen_of)))

@@ -1,0 +1,106 @@
+"""Bugs planted into a recording, for tools/stops to find: each makes of a program's calls those of a program that has it."""
+from recorded import Answered, Moved, Opened, Removed, Synced, Wrote
+
+
+def unsynced(*endings):
+    """Files with such names are never synced."""
+
+    def plant(calls, folder):
+        files = {it.file for it in calls if isinstance(it, Opened) and is_named(it.name, endings)}
+        return [it for it in calls if not (isinstance(it, Synced) and it.file in files - {folder})]
+
+    return plant
+
+
+def is_named(name, words):
+    return any(name.endswith(it) or name.startswith(it) for it in words)
+
+
+def folder_unsynced(calls, folder):
+    """The folder is never synced."""
+    return [it for it in calls if not (isinstance(it, Synced) and it.file == folder)]
+
+
+def current_removed(calls, _):
+    """CURRENT is taken away before its new file is renamed to it."""
+    found, is_there = [], False
+    for it in calls:
+        if isinstance(it, Moved) and it.new == "CURRENT":
+            found += [Removed("CURRENT")] if is_there else []
+            is_there = True
+        found.append(it)
+    return found
+
+
+def removed_early(*endings):
+    """What an open removes of such files goes before CURRENT is renamed."""
+
+    def plant(calls, _):
+        found = list(calls)
+        for at, it in enumerate(calls):
+            if isinstance(it, Moved) and it.new == "CURRENT":
+                end = next(place for place in range(at, len(calls)) if isinstance(calls[place], Answered))
+                early = [it for it in calls[at:end] if isinstance(it, Removed) and is_named(it.name, endings)]
+                found[at:end] = early + [it for it in calls[at:end] if it not in early]
+        return found
+
+    return plant
+
+
+def log_rewritten(calls, _):
+    """A write empties its log, and writes all of it once more."""
+    names, held, found = {}, {}, []
+    for it in calls:
+        if isinstance(it, Opened):
+            names[it.file], held[it.file] = it.name, b""
+        if isinstance(it, Wrote):
+            held[it.file] += it.text
+            if it.place and names[it.file].endswith(".log"):
+                found += [Opened(names[it.file], it.file, True), Wrote(it.file, 0, held[it.file])]
+                continue
+        found.append(it)
+    return found
+
+
+def edit_first(calls, _):
+    """A MANIFEST tells of a table before that is written: each table's calls come behind the next write to a MANIFEST."""
+    files = {it.file: it.name for it in calls if isinstance(it, Opened)}
+    found, late = [], []
+    for it in calls:
+        name = files.get(getattr(it, "file", None), "")
+        if name.endswith(".ldb"):
+            late.append(it)
+            continue
+        found.append(it)
+        if isinstance(it, Wrote) and name.startswith("MANIFEST-") or isinstance(it, Answered):
+            found += late
+            late = []
+    return found + late
+
+
+def log_removed_early(calls, _):
+    """A log is removed before the edit behind which nobody needs it."""
+    manifests = {it.file for it in calls if isinstance(it, Opened) and it.name.startswith("MANIFEST-")}
+    found, edit = [], 0
+    for it in calls:
+        if isinstance(it, Wrote) and it.file in manifests:
+            edit = len(found)
+        if isinstance(it, Removed) and it.name.endswith(".log"):
+            found.insert(edit, it)
+        else:
+            found.append(it)
+    return found
+
+
+PLANTS = {
+    "a log is never synced": unsynced(".log"),
+    "a table is never synced": unsynced(".ldb"),
+    "a MANIFEST is never synced": unsynced("MANIFEST-"),
+    "what becomes CURRENT is never synced": unsynced(".dbtmp"),
+    "the folder is never synced": folder_unsynced,
+    "CURRENT is removed before it is renamed": current_removed,
+    "the old MANIFEST is removed before CURRENT is renamed": removed_early("MANIFEST-"),
+    "a log is removed before the edit that has its table": log_removed_early,
+    "a write empties its log and writes it anew": log_rewritten,
+    "an edit comes before its table": edit_first,
+}
