@@ -7,7 +7,7 @@ import random
 
 from beside import CHECKS, Programs, new_folder, want
 from opened import Opener, found_by_ldbtool
-from promises import Story, breach_of_loss, breach_of_stop
+from promises import Story, breach_of_loss, breach_of_stop, is_synced, keys_in
 from recorded import Recording, files_in
 from remains import History, losses, losses_in_any_order, stops
 from shims import built_shim
@@ -87,7 +87,7 @@ DEVICES = {
     "names come in any order": (True, losses_in_any_order, 400),
 }
 
-HELD, REFUSED, SHORT, GAP = "as promised", "refused", "with a synced batch gone, and all behind it", "with a batch gone, and a later one there"
+HELD, REFUSED, GONE, GAP = "as promised", "refused", "a synced batch gone", "a batch gone that wasn't synced, and a later one there"
 
 
 def kind(story, remains, found):
@@ -96,7 +96,18 @@ def kind(story, remains, found):
         return REFUSED
     if not breach_of_loss(story, remains, found):
         return HELD
-    return SHORT if any(found.pairs == story.state(count)[0] for count in range(len(story.batches) + 1)) else GAP
+    return GONE if is_one_gone(story, remains.moment, found.pairs) else GAP
+
+
+def is_one_gone(story, moment, pairs):
+    """Whether a key has a value from before a batch that was synced and answered by then."""
+    count, _, is_under_way = story.accepted(moment)
+    batches = story.batches[: count + is_under_way]
+    for number, batch in enumerate(batches[:count]):
+        values = {key: [it.pairs.get(key) for it in batches[number:]] for key in keys_in(batch.text)}
+        if is_synced(batch.text) and any(pairs.get(key) not in it for key, it in values.items()):
+            return True
+    return False
 
 
 def left(recording, device, readers):
@@ -120,18 +131,18 @@ def want_stops(recording, readers):
 SEEN = {
     "a log that is sealed": (SEALED, {
         OURS: ({GAP}, {GAP}, {GAP, REFUSED}),
-        THEIRS: ({GAP}, {GAP, SHORT}, {GAP, REFUSED}),
-        REUSING: ({GAP}, {GAP, SHORT, REFUSED}, {GAP}),
+        THEIRS: ({GAP}, {GAP, GONE}, {GAP, REFUSED}),
+        REUSING: ({GAP}, {GAP, GONE, REFUSED}, {GAP}),
     }),
     "a log that an open finds": (FOUND, {
         OURS: ({GAP}, {GAP}, {GAP, REFUSED}),
         THEIRS: (set(), {GAP}, {REFUSED}),
-        REUSING: (set(), {SHORT}, set()),
+        REUSING: (set(), {GONE}, set()),
     }),
     "tables": (TABLES, {
         OURS: ({GAP}, {GAP}, {GAP, REFUSED}),
         THEIRS: (set(), {GAP, REFUSED}, {REFUSED}),
-        REUSING: (set(), {SHORT, REFUSED}, set()),
+        REUSING: (set(), {GONE, REFUSED}, set()),
     }),
 }  # fmt: skip
 

@@ -6,7 +6,7 @@ import operator
 from dataclasses import dataclass
 
 from listed import Wrong
-from machine import Machine
+from machine import Machine, text_of
 from recorded import Answered, Locked, Moved, Opened, Removed, Wrote
 
 WRITES = ("put", "del", "write")
@@ -46,6 +46,12 @@ def operations_in(line):
     """How many operations a line writes, which take so many sequences."""
     words = line.split(" ")
     return 1 if words[0] != "write" else words.count("put") + words.count("del")
+
+
+def keys_in(line):
+    """The keys that a line writes."""
+    words = line.split(" ")
+    return [text_of(words[place + 1]) for place, it in enumerate(words) if it in ("put", "del")]
 
 
 def is_synced(line):
