@@ -151,14 +151,15 @@ def power(script, seen, room):
     """A session of each, every stop of which leaves all that was answered; and losses of power, which leave what is written above."""
     readers, told = Readers(room), []
     for whose, wanted in seen.items():
-        recording = recorded(room, whose, script)
+        recording, shares = recorded(room, whose, script), []
         want_stops(recording, readers)
         for device, kinds in zip(DEVICES, wanted):
             found = left(recording, device, readers)
             others, is_last = set(found) - {HELD}, device == [*DEVICES][-1]
-            told.append(f"{whose}, where {device}: {', '.join(f'{count} {it}' for it, count in sorted(found.items()))}")
-            want(others >= kinds if is_last else others == kinds, f"{told[-1]}, and not {sorted(kinds)}")
-    return "; ".join(told)
+            want(others >= kinds if is_last else others == kinds, f"{whose}, where {device}: {dict(found)}, and not {sorted(kinds)}")
+            shares.append(f"{found.total() - found[HELD]}/{found.total()}")
+        told.append(f"{whose} {', '.join(shares)}")
+    return f"not as promised on each device: {'; '.join(told)}"
 
 
 for name, (script_of, seen_of) in SEEN.items():
