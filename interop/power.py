@@ -157,7 +157,8 @@ def power(script, seen, room):
             found = left(recording, device, readers)
             others, is_last = set(found) - {HELD}, device == [*DEVICES][-1]
             want(others >= kinds if is_last else others == kinds, f"{whose}, where {device}: {dict(found)}, and not {sorted(kinds)}")
-            shares.append(f"{found.total() - found[HELD]}/{found.total()}")
+            count = sum(found.values())
+            shares.append(f"{count - found[HELD]}/{count}")
         told.append(f"{whose} {', '.join(shares)}")
     return f"not as promised on each device: {'; '.join(told)}"
 

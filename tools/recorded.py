@@ -1,5 +1,6 @@
 """What a program did to the files of a folder, call by call, and what it had answered by then: it is run over a shim that records that
 (recording_calls.c), and is given a script line by line, each once the line before it is answered."""
+import collections
 import os
 import struct
 import subprocess
@@ -8,7 +9,10 @@ from dataclasses import dataclass
 from listed import Wrong
 
 SECONDS = 60
-ENTRY = struct.Struct("=IIQQII")
+
+# what stands in front of an entry's texts: its kind, flags, the inode, the place, and the lengths of the two
+HEAD = struct.Struct("=IIQQII")
+Entry = collections.namedtuple("Entry", "flags file place first second")
 
 
 @dataclass(frozen=True)
@@ -55,27 +59,29 @@ class Answered:
     lines: int
 
 
-MADE = {
-    1: lambda flags, file, _, first, __: Opened(first.decode(), file, bool(flags)),
-    2: lambda _, file, place, first, __: Wrote(file, place, first),
-    3: lambda _, __, ___, first, second: Moved(first.decode(), second.decode()),
-    4: lambda _, __, ___, first, ____: Removed(first.decode()),
-    5: lambda _, file, *__: Synced(file),
-    6: lambda _, __, ___, first, ____: Answered(first.count(b"\n")),
-    7: lambda _, file, *__: Locked(file),
+# of each kind of entry, the call that it stands for
+CALLS = {
+    1: lambda it: Opened(it.first.decode(), it.file, bool(it.flags)),
+    2: lambda it: Wrote(it.file, it.place, it.first),
+    3: lambda it: Moved(it.first.decode(), it.second.decode()),
+    4: lambda it: Removed(it.first.decode()),
+    5: lambda it: Synced(it.file),
+    6: lambda it: Answered(it.first.count(b"\n")),
+    7: lambda it: Locked(it.file),
 }
 
 
 def calls_in(path):
-    """The entries of a record."""
+    """The calls of a record, by the entries that recording_calls.c puts there."""
     with open(path, "rb") as file:
         text = file.read()
     found, at = [], 0
     while at < len(text):
-        kind, flags, inode, place, first, second = ENTRY.unpack_from(text, at)
-        at += ENTRY.size
-        found.append(MADE[kind](flags, inode, place, text[at : at + first], text[at + first : at + first + second]))
-        at += first + second
+        kind, flags, inode, place, first, second = HEAD.unpack_from(text, at)
+        middle = at + HEAD.size + first
+        entry = Entry(flags, inode, place, text[at + HEAD.size : middle], text[middle : middle + second])
+        found.append(CALLS[kind](entry))
+        at = middle + second
     return found
 
 
