@@ -4,6 +4,7 @@ import collections
 import os
 import struct
 import subprocess
+import threading
 from dataclasses import dataclass
 
 from listed import Wrong
@@ -118,8 +119,13 @@ class Recording:
         """Runs a program, whose last word is the folder."""
         command = [*words, self.folder]
         with subprocess.Popen(command, stdin=subprocess.PIPE, stdout=subprocess.PIPE, stderr=subprocess.PIPE, env=self.environment) as process:
-            answers = answers_to(process, script)
-            said = process.communicate(timeout=SECONDS)
+            killer = threading.Timer(SECONDS, process.kill)
+            killer.start()
+            try:
+                answers = answers_to(process, script)
+                said = process.communicate()
+            finally:
+                killer.cancel()
         if process.returncode or said != (b"", b""):
             raise Wrong(f"it ended with status {process.returncode}, and said {said}")
         self.script += script
