@@ -10,6 +10,7 @@ from opened import Opener, found_by_ldbtool
 from promises import Story, breach_of_loss, breach_of_stop, is_synced, keys_in
 from recorded import Recording, files_in
 from remains import History, losses, losses_in_any_order, stops
+from running import under_test
 from shims import built_shim
 
 # by which seed losses are drawn
@@ -53,24 +54,26 @@ def recorded(room, whose, script):
 
 
 class Readers:
-    """Opens what is left by both, each state once, and wants them to find the same."""
+    """Opens what is left by both, each state once, and wants them to find the same. What it answers is what is found by the one whose
+    session it is."""
 
-    def __init__(self, room):
-        self.opener, self.known = Opener(room, Programs.leveldb), {}
+    def __init__(self, opener):
+        self.opener, self.known, self.whose = opener, {}, OURS
 
     def found(self, files):
         key = hash(frozenset(files.items()))
         if key not in self.known:
             self.known[key] = self.opened(files)
-        return self.known[key]
+        ours, theirs = self.known[key]
+        return ours if self.whose == OURS else theirs
 
     def opened(self, files):
         ours, theirs = (self.opener.opened_by(it, files) for it in (found_by_ldbtool, self.opener.leveldb.found))
         if is_without_current(files):
             want(ours.refusal, "we take a folder with a log or a table and without CURRENT")
-            return theirs
-        want(bool(ours.refusal) == bool(theirs.refusal) and ours.pairs == theirs.pairs, f"we find {ours}, and LevelDB {theirs}, in {[*files]}")
-        return ours
+        else:
+            want(bool(ours.refusal) == bool(theirs.refusal) and ours.pairs == theirs.pairs, f"we find {ours}, and LevelDB {theirs}, in {[*files]}")
+        return ours, theirs
 
 
 def is_without_current(files):
@@ -127,7 +130,8 @@ def want_stops(recording, readers):
         want(not wrong, f"a stop {it.way}: {wrong}")
 
 
-# what is seen on each device beside what is as promised; on the last one, what is seen at least. docs/INTEROP.md says it in words
+# what is seen on each device beside what is as promised; where names come in any order, at least, and whether it is refused.
+# docs/INTEROP.md says it in words
 SEEN = {
     "a log that is sealed": (SEALED, {
         OURS: ({GAP}, {GAP}, {GAP, REFUSED}),
@@ -149,18 +153,24 @@ SEEN = {
 
 def power(script, seen, room):
     """A session of each, every stop of which leaves all that was answered; and losses of power, which leave what is written above."""
-    readers, told = Readers(room), []
-    for whose, wanted in seen.items():
-        recording, shares = recorded(room, whose, script), []
-        want_stops(recording, readers)
-        for device, kinds in zip(DEVICES, wanted):
-            found = left(recording, device, readers)
-            others, is_last = set(found) - {HELD}, device == [*DEVICES][-1]
-            want(others >= kinds if is_last else others == kinds, f"{whose}, where {device}: {dict(found)}, and not {sorted(kinds)}")
-            count = sum(found.values())
-            shares.append(f"{count - found[HELD]}/{count}")
-        told.append(f"{whose} {', '.join(shares)}")
+    under_test(Programs.ldbtool)
+    with Opener(room, Programs.leveldb) as opener:
+        readers = Readers(opener)
+        told = [f"{whose} {', '.join(shares(room, whose, script, wanted, readers))}" for whose, wanted in seen.items()]
     return f"not as promised on each device: {'; '.join(told)}"
+
+
+def shares(room, whose, script, wanted, readers):
+    """How many states aren't as promised on each device, and of how many."""
+    recording, readers.whose = recorded(room, whose, script), whose
+    want_stops(recording, readers)
+    for device, kinds in zip(DEVICES, wanted):
+        found = left(recording, device, readers)
+        others = set(found) - {HELD}
+        is_seen = others >= kinds and (REFUSED in others) == (REFUSED in kinds) if DEVICES[device][1] is losses_in_any_order else others == kinds
+        want(is_seen, f"{whose}, where {device}: {dict(found)}, and not {sorted(kinds)}")
+        count = sum(found.values())
+        yield f"{count - found[HELD]}/{count}"
 
 
 for name, (script_of, seen_of) in SEEN.items():
