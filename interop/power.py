@@ -127,7 +127,7 @@ def want_stops(recording, readers):
     story = Story(recording, history)
     for it in stops(history, random.Random(SEED)):
         wrong = breach_of_stop(story, it, readers.found(it.files))
-        want(not wrong, f"a stop {it.way}: {wrong}")
+        want(not wrong, f"{it.way}: {wrong}")
 
 
 # what is seen on each device beside what is as promised; where names come in any order, at least, and whether it is refused.

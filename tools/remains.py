@@ -119,11 +119,11 @@ class Remains:
 def stops(history, chance):
     """What a stop leaves: at each moment, and in the middle of each write behind some of its bytes."""
     for number, now in enumerate(history.moments):
-        yield Remains(number, now.names, now.lengths, f"behind call {number}")
+        yield Remains(number, now.names, now.lengths, f"a stop behind call {number}")
         file = history.written.get(number)
         if file:
             for count in cuts(len(history.calls[number].text), chance):
-                yield Remains(number, now.names, {**now.lengths, file: now.lengths[file] + count}, f"{count} bytes into call {number + 1}")
+                yield Remains(number, now.names, {**now.lengths, file: now.lengths[file] + count}, f"a stop {count} bytes into call {number + 1}")
 
 
 def cuts(length, chance):
