@@ -5,7 +5,7 @@ import functools
 import os
 import random
 
-from beside import CHECKS, Programs, new_folder, want
+from beside import CHECKS, Programs, check, last_log, ldbtool, leveldb_reads, leveldb_writes, new_folder, want, want_map
 from opened import Opener, found_by_ldbtool
 from promises import Story, breach_of_loss, breach_of_stop, is_synced, keys_in
 from recorded import Recording, files_in
@@ -171,6 +171,18 @@ def shares(room, whose, script, wanted, readers):
         want(is_seen, f"{whose}, where {device}: {dict(found)}, and not {sorted(kinds)}")
         count = sum(found.values())
         yield f"{count - found[HELD]}/{count}"
+
+
+@check("known difference: zeros behind a log's records are refused as Corrupt")
+def zeros(room):
+    """A device may leave them that keeps how long a file is before it has its bytes."""
+    folder = new_folder(room)
+    leveldb_writes(folder, ["put 61 01", "put 62 02"])
+    with open(last_log(folder), "ab") as log:
+        log.write(bytes(24))
+    want_map(leveldb_reads(folder), {"61": "01", "62": "02"})
+    ran = ldbtool("check", folder)
+    want((ran.returncode, ran.stdout) == (1, "refused 5 Corrupt\n"), f"a check answers {ran.stdout!r}, status {ran.returncode}")
 
 
 for name, (script_of, seen_of) in SEEN.items():
