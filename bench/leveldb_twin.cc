@@ -1,22 +1,23 @@
-// The workloads of crates/bench over LevelDB itself, by its public interface, for bench/run.
+// The workloads of crates/bench over LevelDB itself, by its public interface, for bench/run (twin.h says how it is called).
 //
-//   leveldb_twin WORKLOAD N DIR    runs a workload over the database of a folder, which must exist
+// Nothing is compressed, and checksums are verified; HOW changes one thing, and only how tables are read:
+//
+//   unverified    reads verify no checksums, which is LevelDB's own default
+//   pread         tables are read by pread into memory, and so kept in the cache, as this database does it; LevelDB maps them
 //
 // latency prints how long the slowest writes of drawn keys took, in nanoseconds, as `bench latency` does; its other line says nothing.
-// filllog is here alone: it is fillrandom with a write buffer that takes all of it, so that a long log is left for both to open.
-//
-// Keys, values, their order and the line that is printed are those of crates/bench, and so are the options. Nothing is compressed, and
-// checksums are verified. Status 1 where LevelDB refuses, with its words on standard error, and 2 where the command line is wrong.
+// dump prints each table and log of a folder as LevelDB does it, without opening the database. filllog is fillrandom with a write buffer
+// that takes all of it, so that a long log is left for both to open.
 
-#include <sys/stat.h>
+#include <fcntl.h>
+#include <unistd.h>
 
 #include <algorithm>
+#include <cerrno>
 #include <chrono>
 #include <cstdint>
 #include <cstdio>
-#include <cstdlib>
 #include <cstring>
-#include <functional>
 #include <iostream>
 #include <map>
 #include <memory>
@@ -25,194 +26,80 @@
 
 #include "leveldb/cache.h"
 #include "leveldb/db.h"
+#include "leveldb/dumpfile.h"
+#include "leveldb/env.h"
 #include "leveldb/filter_policy.h"
 #include "leveldb/iterator.h"
 #include "leveldb/options.h"
 #include "leveldb/write_batch.h"
+#include "twin.h"
+#include "workloads.h"
 
 namespace {
 
 using leveldb::DB;
 using leveldb::Slice;
 using leveldb::Status;
+using twin::Keys;
+using twin::Tally;
 
-constexpr int kDone = 0;
-constexpr int kFailed = 1;
-constexpr int kMisused = 2;
+struct LevelDb {
+  using DB = leveldb::DB;
+  using Slice = leveldb::Slice;
+  using Status = leveldb::Status;
+  using Iterator = leveldb::Iterator;
+  using ReadOptions = leveldb::ReadOptions;
+  using WriteOptions = leveldb::WriteOptions;
+  using WriteBatch = leveldb::WriteBatch;
+};
 
-// ---- keys and values (crates/bench/src/entries.rt)
+using Over = twin::Workloads<LevelDb>;
+constexpr auto Cut = Over::Cut;
+using Reading = Over::Reading;
+constexpr auto Synced = Over::Synced;
+using Workload = Over::Workload;
 
-constexpr size_t kKeyBytes = 16;
-constexpr size_t kValueBytes = 100;
-constexpr size_t kNoiseBytes = 1 << 20;
-constexpr uint64_t kNoiseSeed = 301;
+// ---- tables that are read by pread
 
-uint64_t Stepped(uint64_t state) { return state * 6364136223846793005u + 1442695040888963407u; }
-
-class Keys {
+class ReadFile : public leveldb::RandomAccessFile {
  public:
-  static Keys Rising() { return Keys(false, 0, 0); }
-  static Keys Drawn(uint64_t seed, uint64_t below) { return Keys(true, seed, below); }
+  ReadFile(std::string name, int file) : name_(std::move(name)), file_(file) {}
+  ~ReadFile() override { close(file_); }
 
-  Slice NextKey() {
-    uint64_t rest = NextNumber();
-    for (size_t i = kKeyBytes; i > 0; i--) {
-      text_[i - 1] = static_cast<char>('0' + rest % 10);
-      rest /= 10;
-    }
-    return Slice(text_, kKeyBytes);
-  }
-
-  Slice NextMissing() {
-    NextKey();
-    return Slice(text_, kKeyBytes - 1);
-  }
-
-  Slice NextNear() {
-    NextKey();
-    text_[kKeyBytes - 1] = '.';
-    return Slice(text_, kKeyBytes);
+  Status Read(uint64_t offset, size_t n, Slice* result, char* scratch) const override {
+    const ssize_t got = pread(file_, scratch, n, static_cast<off_t>(offset));
+    *result = Slice(scratch, got < 0 ? 0 : static_cast<size_t>(got));
+    return got < 0 ? Status::IOError(name_, std::strerror(errno)) : Status::OK();
   }
 
  private:
-  Keys(bool drawn, uint64_t state, uint64_t below) : drawn_(drawn), state_(state), below_(below) {}
-
-  uint64_t NextNumber() {
-    if (drawn_) {
-      state_ = Stepped(state_);
-      return below_ == 0 ? 0 : (state_ >> 33) % below_;
-    }
-    return state_++;
-  }
-
-  bool drawn_;
-  uint64_t state_;
-  uint64_t below_;
-  char text_[kKeyBytes];
+  const std::string name_;
+  const int file_;
 };
 
-class Values {
+// (LevelDB's own Env reads so where a thousand files are mapped already: util/env_posix.cc, `PosixRandomAccessFile`)
+class ReadingEnv : public leveldb::EnvWrapper {
  public:
-  Values() {
-    noise_.reserve(kNoiseBytes);
-    uint64_t state = kNoiseSeed;
-    for (size_t i = 0; i < kNoiseBytes; i++) {
-      state = Stepped(state);
-      noise_.push_back(static_cast<char>(state >> 56));
-    }
-  }
+  ReadingEnv() : EnvWrapper(leveldb::Env::Default()) {}
 
-  Slice NextValue() {
-    if (noise_.size() - place_ < kValueBytes) place_ = 0;
-    const Slice value(noise_.data() + place_, kValueBytes);
-    place_ += kValueBytes;
-    return value;
-  }
-
- private:
-  std::vector<char> noise_;
-  size_t place_ = 0;
-};
-
-// ---- what was written or found (crates/bench/src/tally.rt)
-
-uint64_t SumOf(const Slice& bytes) {
-  uint64_t sum = 0;
-  size_t i = 0;
-  for (; i + 8 <= bytes.size(); i += 8) {
-    uint64_t word;
-    std::memcpy(&word, bytes.data() + i, 8);  // (on a little-endian machine)
-    sum += word;
-  }
-  for (; i < bytes.size(); i++) sum += static_cast<unsigned char>(bytes[i]);
-  return sum;
-}
-
-struct Tally {
-  uint64_t entries = 0;
-  uint64_t sum = 0;
-
-  void Count(const Slice& key, const Slice& value) {
-    entries++;
-    sum += SumOf(key) + SumOf(value);
+  Status NewRandomAccessFile(const std::string& name, leveldb::RandomAccessFile** made) override {
+    const int file = open(name.c_str(), O_RDONLY | O_CLOEXEC);
+    *made = file < 0 ? nullptr : new ReadFile(name, file);
+    return file < 0 ? Status::IOError(name, std::strerror(errno)) : Status::OK();
   }
 };
 
-// ---- the workloads
-
-leveldb::ReadOptions Reading() {
-  leveldb::ReadOptions options;
-  options.verify_checksums = true;
-  return options;
-}
-
-leveldb::WriteOptions Writing(bool sync) {
-  leveldb::WriteOptions options;
-  options.sync = sync;
-  return options;
-}
-
-Status PutEach(DB* db, Keys keys, uint64_t count, bool sync, Tally* tally) {
-  Values values;
-  for (uint64_t i = 0; i < count; i++) {
-    const Slice key = keys.NextKey(), value = values.NextValue();
-    tally->Count(key, value);
-    const Status status = db->Put(Writing(sync), key, value);
-    if (!status.ok()) return status;
-  }
-  return Status::OK();
-}
-
-Status PutBatches(DB* db, Keys keys, uint64_t count, Tally* tally) {
-  constexpr uint64_t kBatched = 1000;
-  Values values;
-  for (uint64_t i = 0; i < count / kBatched; i++) {
-    leveldb::WriteBatch batch;
-    for (uint64_t j = 0; j < kBatched; j++) {
-      const Slice key = keys.NextKey(), value = values.NextValue();
-      batch.Put(key, value);
-      tally->Count(key, value);
-    }
-    const Status status = db->Write(Writing(false), &batch);
-    if (!status.ok()) return status;
-  }
-  return Status::OK();
-}
-
-Status DeleteEach(DB* db, Keys keys, uint64_t count, Tally* tally) {
-  for (uint64_t i = 0; i < count; i++) {
-    const Slice key = keys.NextKey();
-    tally->Count(key, Slice());
-    const Status status = db->Delete(Writing(false), key);
-    if (!status.ok()) return status;
-  }
-  return Status::OK();
-}
-
-Status GetEach(DB* db, Keys keys, Slice (Keys::*next)(), uint64_t count, Tally* tally) {
-  const leveldb::ReadOptions reading = Reading();
-  std::string value;
-  for (uint64_t i = 0; i < count; i++) {
-    const Slice key = (keys.*next)();
-    const Status status = db->Get(reading, key, &value);
-    if (status.ok()) {
-      tally->Count(key, value);
-    } else if (!status.IsNotFound()) {
-      return status;
-    }
-  }
-  return Status::OK();
-}
+// ---- the workloads that RocksDB's twin has not
 
 // How many nanoseconds each write took: so many of a thousand are as fast as what is printed, or faster (crates/bench/src/latency.rt).
 Status PutTimed(DB* db, Keys keys, uint64_t count, Tally* tally) {
   using Clock = std::chrono::steady_clock;
-  Values values;
+  twin::Values values;
   std::vector<uint64_t> times;
   for (uint64_t i = 0; i < count; i++) {
-    const Slice key = keys.NextKey(), value = values.NextValue();
+    const std::string_view key = keys.NextKey(), value = values.NextValue();
     const Clock::time_point begun = Clock::now();
-    const Status status = db->Put(Writing(false), key, value);
+    const Status status = db->Put(Synced(false), Cut(key), Cut(value));
     times.push_back(std::chrono::duration_cast<std::chrono::nanoseconds>(Clock::now() - begun).count());
     if (!status.ok()) return status;
     tally->Count(key, value);
@@ -223,16 +110,15 @@ Status PutTimed(DB* db, Keys keys, uint64_t count, Tally* tally) {
   return Status::OK();
 }
 
-Status PutAndLookBack(DB* db, Keys keys, uint64_t count, Tally* tally) {
-  Values values;
+Status PutAndLookBack(DB* db, Reading reading, Keys keys, uint64_t count, Tally* tally) {
+  twin::Values values;
   std::string before;
   for (uint64_t i = 0; i < count; i++) {
-    const Slice key = keys.NextKey(), value = values.NextValue();
-    leveldb::ReadOptions reading = Reading();
+    const std::string_view key = keys.NextKey(), value = values.NextValue();
     reading.snapshot = db->GetSnapshot();
-    Status status = db->Put(Writing(false), key, value);
+    Status status = db->Put(Synced(false), Cut(key), Cut(value));
     if (status.ok()) {
-      status = db->Get(reading, key, &before);
+      status = db->Get(reading, Cut(key), &before);
       if (status.ok()) tally->Count(key, before);
     }
     db->ReleaseSnapshot(reading.snapshot);
@@ -241,124 +127,86 @@ Status PutAndLookBack(DB* db, Keys keys, uint64_t count, Tally* tally) {
   return Status::OK();
 }
 
-Status Walk(DB* db, bool backwards, Tally* tally) {
-  std::unique_ptr<leveldb::Iterator> pairs(db->NewIterator(Reading()));
-  if (backwards) {
-    for (pairs->SeekToLast(); pairs->Valid(); pairs->Prev()) tally->Count(pairs->key(), pairs->value());
-  } else {
-    for (pairs->SeekToFirst(); pairs->Valid(); pairs->Next()) tally->Count(pairs->key(), pairs->value());
+class Printed : public leveldb::WritableFile {
+ public:
+  Status Append(const Slice& text) override {
+    return std::fwrite(text.data(), 1, text.size(), stdout) == text.size() ? Status::OK() : Status::IOError("standard output");
   }
-  return pairs->status();
+  Status Close() override { return Status::OK(); }
+  Status Flush() override { return Status::OK(); }
+  Status Sync() override { return Status::OK(); }
+};
+
+bool EndsWith(const std::string& name, const std::string& end) {
+  return name.size() >= end.size() && name.compare(name.size() - end.size(), end.size(), end) == 0;
 }
 
-Status SeekEach(DB* db, Keys keys, uint64_t count, Tally* tally) {
-  constexpr int kSteps = 10;
-  for (uint64_t i = 0; i < count; i++) {
-    std::unique_ptr<leveldb::Iterator> pairs(db->NewIterator(Reading()));
-    pairs->Seek(keys.NextKey());
-    for (int step = 0; pairs->Valid(); step++) {
-      tally->Count(pairs->key(), pairs->value());
-      if (step == kSteps) break;
-      pairs->Next();
-    }
-    if (!pairs->status().ok()) return pairs->status();
+// What `leveldbutil dump` does with these files, which Debian has not.
+Status Dump(const std::string& folder) {
+  leveldb::Env* env = leveldb::Env::Default();
+  std::vector<std::string> names;
+  Status status = env->GetChildren(folder, &names);
+  Printed printed;
+  for (const std::string& name : names) {
+    if (status.ok() && (EndsWith(name, ".ldb") || EndsWith(name, ".log"))) status = leveldb::DumpFile(env, folder + "/" + name, &printed);
   }
-  return Status::OK();
+  return status;
 }
-
-// ---- by their names (crates/bench/src/runner.rt)
-
-constexpr uint64_t kWritten = 1;
-constexpr uint64_t kRewritten = 2;
-constexpr uint64_t kRead = 3;
-constexpr uint64_t kSyncedWrites = 1000;
-
-using Workload = std::function<Status(DB*, uint64_t, Tally*)>;
 
 const std::map<std::string, Workload>& Workloads() {
-  static const std::map<std::string, Workload> workloads = {
-      {"fillseq", [](DB* db, uint64_t n, Tally* tally) { return PutEach(db, Keys::Rising(), n, false, tally); }},
-      {"fillrandom",
-       [](DB* db, uint64_t n, Tally* tally) { return PutEach(db, Keys::Drawn(kWritten, n), n, false, tally); }},
-      {"filllog",
-       [](DB* db, uint64_t n, Tally* tally) { return PutEach(db, Keys::Drawn(kWritten, n), n, false, tally); }},
-      {"latency", [](DB* db, uint64_t n, Tally* tally) { return PutTimed(db, Keys::Drawn(kWritten, n), n, tally); }},
-      {"overwrite",
-       [](DB* db, uint64_t n, Tally* tally) { return PutEach(db, Keys::Drawn(kRewritten, n), n, false, tally); }},
-      {"fillsync",
-       [](DB* db, uint64_t n, Tally* tally) {
-         return PutEach(db, Keys::Drawn(kWritten, n), kSyncedWrites, true, tally);
-       }},
-      {"fillbatch", [](DB* db, uint64_t n, Tally* tally) { return PutBatches(db, Keys::Rising(), n, tally); }},
-      {"readrandom",
-       [](DB* db, uint64_t n, Tally* tally) { return GetEach(db, Keys::Drawn(kRead, n), &Keys::NextKey, n, tally); }},
-      {"readmissing",
-       [](DB* db, uint64_t n, Tally* tally) { return GetEach(db, Keys::Drawn(kRead, n), &Keys::NextMissing, n, tally); }},
-      {"readnear",
-       [](DB* db, uint64_t n, Tally* tally) { return GetEach(db, Keys::Drawn(kRead, n), &Keys::NextNear, n, tally); }},
-      {"readhot",
-       [](DB* db, uint64_t n, Tally* tally) { return GetEach(db, Keys::Drawn(kRead, n / 100), &Keys::NextKey, n, tally); }},
-      {"readseq", [](DB* db, uint64_t, Tally* tally) { return Walk(db, false, tally); }},
-      {"readreverse", [](DB* db, uint64_t, Tally* tally) { return Walk(db, true, tally); }},
-      {"seekrandom",
-       [](DB* db, uint64_t n, Tally* tally) { return SeekEach(db, Keys::Drawn(kRead, n), n / 10, tally); }},
-      {"snapshotreads",
-       [](DB* db, uint64_t n, Tally* tally) { return PutAndLookBack(db, Keys::Drawn(kRewritten, n), n, tally); }},
-      {"deleterandom",
-       [](DB* db, uint64_t n, Tally* tally) { return DeleteEach(db, Keys::Drawn(kRewritten, n), n, tally); }},
-      {"settle",
-       [](DB* db, uint64_t, Tally*) {
-         db->CompactRange(nullptr, nullptr);
-         return Status::OK();
-       }},
-      {"open", [](DB*, uint64_t, Tally*) { return Status::OK(); }},
-  };
+  static const std::map<std::string, Workload> workloads = [] {
+    std::map<std::string, Workload> all = Over::Shared();
+    all["filllog"] = all["fillrandom"];
+    all["dump"] = nullptr;
+    all["latency"] = [](DB* db, const Reading&, uint64_t n, Tally* tally) { return PutTimed(db, Over::Written(n), n, tally); };
+    all["snapshotreads"] = [](DB* db, const Reading& reading, uint64_t n, Tally* tally) {
+      return PutAndLookBack(db, reading, Over::Rewritten(n), n, tally);
+    };
+    all["settle"] = [](DB* db, const Reading&, uint64_t, Tally*) {
+      db->CompactRange(nullptr, nullptr);
+      return Status::OK();
+    };
+    return all;
+  }();
   return workloads;
 }
 
-Status Run(const Workload& workload, size_t write_buffer, uint64_t number, const std::string& folder, Tally* tally) {
-  const std::unique_ptr<leveldb::Cache> cache(leveldb::NewLRUCache(8 << 20));
-  const std::unique_ptr<const leveldb::FilterPolicy> filter(leveldb::NewBloomFilterPolicy(10));
+// ---- one run
+
+leveldb::Options Sized(const std::string& workload) {
   leveldb::Options options;
   options.create_if_missing = true;
-  options.write_buffer_size = write_buffer;
+  options.write_buffer_size = workload == "filllog" ? 64 << 20 : 4 << 20;
   options.block_size = 4096;
   options.max_file_size = 2097152;
-  options.block_cache = cache.get();
-  options.filter_policy = filter.get();
   options.compression = leveldb::kNoCompression;
   // (level 0 is compacted from 4 files on and level 1 above 10 MB: these are no options)
-  DB* opened = nullptr;
-  const Status status = DB::Open(options, folder, &opened);
-  const std::unique_ptr<DB> db(opened);
-  return status.ok() ? workload(db.get(), number, tally) : status;
+  return options;
 }
 
-int Misuse() {
-  std::cerr << "usage: leveldb_twin WORKLOAD N DIR, N from 1 on\n";
-  return kMisused;
+Status RunOver(const Workload& workload, const twin::Asked& asked, Tally* tally) {
+  const std::unique_ptr<leveldb::Cache> cache(leveldb::NewLRUCache(8 << 20));
+  const std::unique_ptr<const leveldb::FilterPolicy> filter(leveldb::NewBloomFilterPolicy(10));
+  ReadingEnv env;
+  leveldb::Options options = Sized(asked.workload);
+  options.block_cache = cache.get();
+  options.filter_policy = filter.get();
+  if (asked.how == "pread") options.env = &env;
+  DB* opened = nullptr;
+  const Status status = DB::Open(options, asked.folder, &opened);
+  const std::unique_ptr<DB> db(opened);
+  Reading reading;
+  reading.verify_checksums = asked.how != "unverified";
+  return status.ok() ? workload(db.get(), reading, asked.number, tally) : status;
+}
+
+std::string Run(const Workload& workload, const twin::Asked& asked, Tally* tally) {
+  const Status status = asked.workload == "dump" ? Dump(asked.folder) : RunOver(workload, asked, tally);
+  return status.ok() ? "" : status.ToString();
 }
 
 }  // namespace
 
 int main(int count, char** words) {
-  if (count != 4) return Misuse();
-  const std::string name = words[1], folder = words[3];
-  const auto found = Workloads().find(name);
-  const uint64_t number = std::strtoull(words[2], nullptr, 10);
-  if (found == Workloads().end() || number == 0) return Misuse();
-  struct stat file;
-  if (stat(folder.c_str(), &file) != 0 || !S_ISDIR(file.st_mode)) {
-    std::cerr << "leveldb_twin: " << folder << ": there is no such folder\n";
-    return kFailed;
-  }
-  Tally tally;
-  const size_t write_buffer = name == "filllog" ? 64 << 20 : 4 << 20;
-  const Status status = Run(found->second, write_buffer, number, folder, &tally);
-  if (!status.ok()) {
-    std::cerr << "leveldb_twin: " << name << ": " << status.ToString() << "\n";
-    return kFailed;
-  }
-  std::cout << name << " " << number << " entries=" << tally.entries << " sum=" << tally.sum << "\n";
-  return kDone;
+  return twin::Main<Workload>("leveldb_twin", {words + 1, words + count}, Workloads(), {"unverified", "pread"}, Run);
 }
