@@ -1,25 +1,38 @@
 // Runs a program, and prints behind its output what it took: microseconds of wall time and of processors, and the most KB of memory.
 //
-//   measure PROGRAM WORD..
+//   measure [--silent] PROGRAM WORD..
+//
+// What a silent program prints is written to /dev/null: so nobody who reads it takes a processor meanwhile, or holds it up.
 //
 // A child begins with the memory of whoever forks it as its peak, and what Python takes is more than some workloads do: so bench/run
 // has this small program fork. The status is the program's, or 1 where it was stopped by a signal.
 
+#include <fcntl.h>
 #include <sys/resource.h>
 #include <sys/wait.h>
 #include <unistd.h>
 
 #include <chrono>
 #include <cstdio>
+#include <cstring>
+
+namespace {
+
+// Becomes the program, without a word where that can't be.
+[[noreturn]] void Become(char** words, bool silent) {
+  if (!silent || dup2(open("/dev/null", O_WRONLY), STDOUT_FILENO) == STDOUT_FILENO) execv(words[0], words);
+  _exit(127);
+}
+
+}  // namespace
 
 int main(int count, char** words) {
-  if (count < 2) return 2;
+  const bool silent = count > 1 && std::strcmp(words[1], "--silent") == 0;
+  const int first = silent ? 2 : 1;
+  if (count <= first) return 2;
   const auto began = std::chrono::steady_clock::now();
   const pid_t child = fork();
-  if (child == 0) {
-    execv(words[1], words + 1);
-    _exit(127);
-  }
+  if (child == 0) Become(words + first, silent);
   int status = 0;
   struct rusage used;
   if (child < 0 || wait4(child, &status, 0, &used) != child) return 1;

@@ -1,51 +1,96 @@
-"""What bench/run writes: tables, a chart, and the parts of a page between two lines."""
+"""What bench/run writes: tables, and the parts of a page between two lines."""
 import sys
 
 BEGIN = "<!-- bench/run writes from here -->"
+WAYS = "<!-- bench/run ways writes from here -->"
+CHECKS = "<!-- bench/run checks writes from here -->"
+OTHERS = "<!-- bench/run others writes from here -->"
 GROWTH = "<!-- bench/run growth writes from here -->"
 LATENCY = "<!-- bench/run latency writes from here -->"
 END = "<!-- to here -->"
 
-# the chart's measures, in its own units
-NAMES, WIDTH, ROW, TOP = 190, 600, 34, 64
-MOST = 3.0
+
+def ratio(one, other):
+    return one / max(other, 1e-6)
 
 
 def ratios(row):
     """Wall time and processors, ours to LevelDB's."""
     _, ours, theirs = row
-    return [ours[it] / max(theirs[it], 1e-6) for it in (0, 1)]
+    return [ratio(ours[it], theirs[it]) for it in (0, 1)]
+
+
+def lined(*rows):
+    """A table of rows of cells, of which the first is its head; all but the first column is at the right."""
+    head, *rest = rows
+    return "\n".join(f"| {' | '.join(it)} |" for it in [head, *rest]).replace("\n", f"\n|---|{'---:|' * (len(head) - 1)}\n", 1)
 
 
 def table_of(rows):
-    lines = [
-        "| Workload | ours, s | LevelDB, s | ratio | ours, processor s | LevelDB, processor s | ratio | ours, MB | LevelDB, MB |",
-        "|---|---:|---:|---:|---:|---:|---:|---:|---:|",
-    ]
+    lines = [("Workload", "ours, s", "LevelDB, s", "ratio", "ours, processor s", "LevelDB, processor s", "ratio", "ours, MB", "LevelDB, MB")]
     for row in rows:
         name, ours, theirs = row
         wall, processor = ratios(row)
-        times = f"{ours[0]:.3f} | {theirs[0]:.3f} | {wall:.2f} | {ours[1]:.3f} | {theirs[1]:.3f} | **{processor:.2f}**"
-        lines.append(f"| `{name}` | {times} | {ours[2]:.1f} | {theirs[2]:.1f} |")
-    return "\n".join(lines)
+        times = (f"{ours[0]:.3f}", f"{theirs[0]:.3f}", f"{wall:.2f}", f"{ours[1]:.3f}", f"{theirs[1]:.3f}", f"**{processor:.2f}**")
+        lines.append((f"`{name}`", *times, f"{ours[2]:.1f}", f"{theirs[2]:.1f}"))
+    return lined(*lines)
+
+
+def ways_of(rows):
+    """Processor seconds of reads, ours and each way of LevelDB's with the ratio of ours to it, and what memory each takes."""
+    head, lines = ["Workload", "ours, processor s"], []
+    ways = [it for it in rows[0][1] if it != "ours"]
+    for way in ways:
+        head += [f"{way}, s", "ratio"]
+    for workload, taken in rows:
+        seconds = {side: it[1] for side, it in taken.items()}
+        cells = [f"`{workload}`", f"{seconds['ours']:.3f}"]
+        for way in ways:
+            cells += [f"{seconds[way]:.3f}", f"**{ratio(seconds['ours'], seconds[way]):.2f}**"]
+        lines.append([*cells, " / ".join(f"{it[2]:.0f}" for it in taken.values())])
+    return lined([*head, "MB, in this order"], *lines)
+
+
+def taken_of(rows):
+    """What each of some programs took."""
+    lines = [(name, f"{wall:.3f}", f"{processor:.3f}", f"{memory:.1f}") for name, (wall, processor, memory) in rows]
+    return lined(("What", "s", "processor s", "MB"), *lines)
+
+
+def digits(seconds):
+    return f"{seconds:.2f}" if seconds >= 1 else f"{seconds:.3f}"
+
+
+def others_of(rows, sizes):
+    """Wall time and processor time of each side in one cell; and below what memory each took at most, and how long its files are."""
+    names = [*rows[0][1]]
+    lines = [[f"`{workload}`", *(f"{digits(it[0])} / {digits(it[1])}" for it in taken.values())] for workload, taken in rows]
+    most = [f"{max(taken[name][2] for _, taken in rows):.0f}" for name in names]
+    files = [f"{sizes[name]:.1f}" for name in names]
+    return lined(["Workload", *names], *lines, ["most memory, MB", *most], ["files behind `settle`, MB", *files])
 
 
 def growth_of(sizes, rows):
-    """What an entry takes of processors at each size, in microseconds, and how often that of the smallest size."""
+    """What an entry takes of processors at each size, in microseconds, what ours takes of each other's, and of all the last by the first."""
     lines = [f"| Workload | | {' | '.join(f'N = {it:,}' for it in sizes)} | growth |", f"|---|---|{'---:|' * (len(sizes) + 1)}"]
     for name, sides in rows:
-        for side, seconds in zip(("ours", "LevelDB"), sides):
-            each = [it / size * 1e6 for it, size in zip(seconds, sizes)]
-            lines.append(f"| `{name}` | {side} | {' | '.join(f'{it:.2f}' for it in each)} | {each[-1] / each[0]:.2f} |")
+        told = {side: [it / size * 1e6 for it, size in zip(seconds, sizes)] for side, seconds in sides.items()}
+        ours = told["ours"]
+        for side, each in told.items():
+            lines.append(grown_row(name, side, each, "{:.2f}"))
+            if side != "ours":
+                lines.append(grown_row(name, f"ours / {side}", [ratio(*pair) for pair in zip(ours, each)], "**{:.2f}**"))
     return "\n".join(lines)
+
+
+def grown_row(name, side, each, form):
+    return f"| `{name}` | {side} | {' | '.join(form.format(it) for it in [*each, ratio(each[-1], each[0])])} |"
 
 
 def latency_of(rows):
     """How long writes take in microseconds, by what follows each, and the seconds of all."""
-    lines = ["| After each write | half | 99 in 100 | 999 in 1,000 | the slowest | all, s |", "|---|---:|---:|---:|---:|---:|"]
-    for name, times, seconds in rows:
-        lines.append(f"| {name} | {' | '.join(f'{it / 1000:,.1f}' for it in times)} | {seconds:.1f} |")
-    return "\n".join(lines)
+    lines = [(name, *(f"{it / 1000:,.1f}" for it in times), f"{seconds:.1f}") for name, times, seconds in rows]
+    return lined(("Work after each write", "half", "99 in 100", "999 in 1,000", "the slowest", "all, s"), *lines)
 
 
 def put_between(path, begin, text):
@@ -58,53 +103,3 @@ def put_between(path, begin, text):
         sys.exit(f"bench: {path} has not its two lines, {begin} and {END}")
     with open(path, "w", encoding="utf-8") as file:
         file.write(f"{front}{begin}\n{text}\n{END}{behind}")
-
-
-# ---- the chart
-
-
-def place(ratio):
-    return NAMES + min(ratio, MOST) / MOST * WIDTH
-
-
-def bar(top, height, ratio, colour, name):
-    width = place(ratio) - NAMES
-    more = " →" if ratio > MOST else ""
-    return [
-        f'<rect x="{NAMES}" y="{top}" width="{width:.1f}" height="{height}" rx="2" fill="{colour}"><title>{name}: {ratio:.2f}</title></rect>',
-        f'<text x="{NAMES + width + 5:.1f}" y="{top + height - 1}" class="small">{ratio:.2f}{more}</text>',
-    ]
-
-
-def line_at(ratio, bottom, dashes):
-    x = place(ratio)
-    return [
-        f'<line x1="{x:.1f}" y1="{TOP - 6}" x2="{x:.1f}" y2="{bottom}" stroke="#444" stroke-width="1"{dashes}/>',
-        f'<text x="{x:.1f}" y="{TOP - 10}" class="small" text-anchor="middle">{ratio}</text>',
-    ]
-
-
-def drawn(rows, number):
-    """A horizontal bar chart of the ratios, as SVG."""
-    bottom = TOP + ROW * len(rows)
-    width = NAMES + WIDTH + 60
-    lines = [
-        f'<svg xmlns="http://www.w3.org/2000/svg" width="{width}" height="{bottom + 16}" viewBox="0 0 {width} {bottom + 16}" role="img">',
-        f"<title>Time beside LevelDB's, N = {number:,}</title>",
-        "<style>text { font: 13px sans-serif; fill: #222 } .small { font-size: 10.5px; fill: #444 } .head { font-weight: bold }</style>",
-        f'<rect width="{width}" height="{bottom + 16}" fill="#fff"/>',
-        f'<text x="12" y="22" class="head">Time beside LevelDB\'s (1.0), N = {number:,}; less is faster</text>',
-        f'<rect x="{width - 250}" y="12" width="12" height="12" rx="2" fill="#2f6f9f"/>',
-        f'<text x="{width - 233}" y="22" class="small">processor time</text>',
-        f'<rect x="{width - 140}" y="12" width="12" height="12" rx="2" fill="#a9c9de"/>',
-        f'<text x="{width - 123}" y="22" class="small">wall time</text>',
-    ]
-    for i, row in enumerate(rows):
-        wall, processor = ratios(row)
-        top = TOP + ROW * i
-        lines.append(f'<text x="{NAMES - 8}" y="{top + 17}" text-anchor="end">{row[0]}</text>')
-        lines += bar(top + 3, 12, processor, "#2f6f9f", f"{row[0]}, processor time")
-        lines += bar(top + 17, 9, wall, "#a9c9de", f"{row[0]}, wall time")
-    lines += line_at(0.8, bottom, ' stroke-dasharray="4 3"')
-    lines += line_at(1.0, bottom, "")
-    return "\n".join([*lines, "</svg>"]) + "\n"
