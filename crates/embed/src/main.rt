@@ -44,8 +44,9 @@ fn serve(rt: &HostRuntime, db: &mut Database) -> Result<()> {
     db.write(alloc, &harvest, true)?; // on the disk before it returns
     let before = db.snapshot()?;
     let changed = change(alloc, db).and_then(|()| print(rt, db, Some(before)));
-    db.release(before)?; // also where the change was refused
-    changed?;
+    let released = db.release(before); // also where the change was refused
+    changed?; // what went wrong first is what is told
+    released?;
     print(rt, db, None)?;
     Ok(db.settle(alloc, PIECE)?) // until there is no work left
 }
