@@ -1,7 +1,6 @@
 -- One batch of an import, and the work behind it.
 use Rattle.std.proofs.Common.{◌≡◌, ℕ, ◌+◌, ◌*◌, ◌≤◌, List, [], ◌∷◌, ◌++◌, length, Bool, refl, sym, ap, ◌∙◌, subst, inl, inr, append_assoc, append-nil, arith}
 use Rattle.std.specs.Prelude.{◌⊎◌}
-use Rattle.std.proofs.lemmas.List.{length-append}
 use Rattle.std.proofs.lemmas.List.Elements.{All-nil, All-cons, All-head, All-tail, All-append}
 use Rattle.batch.specs.declared.operation.Operation.{Operation}
 use Rattle.store.specs.Files.{Facts}
@@ -14,7 +13,7 @@ use Rattle.engine.specs.declared.session.Session.{Session}
 use Rattle.engine.specs.Outcomes.{IsAnswerTo, IsWriteAnswer, AreAnswersTo}
 use Rattle.engine.specs.Applied.{Applied}
 use Rattle.script.specs.Script.{IsWrite}
-use Rattle.script.specs.Commands.{GoesOn, IsRefusal, AreWell, AreGiven}
+use Rattle.script.specs.Commands.{IsRefusal, AreWell, AreGiven}
 use Rattle.script.specs.Importing.{AreBatches, WritesBatch, written_by, all_written, taken_by, all_taken}
 use Rattle.script.proofs.Going.{goes_one, goes_then}
 

@@ -1,6 +1,6 @@
 -- How far an import has come.
 use Rattle.std.proofs.Common.{◌≡◌, ℕ, ◌+◌, ◌<◌, ◌≤◌, List, [], ◌∷◌, ◌++◌, length, Bool, true, false, refl, sym, ap, ◌∙◌, subst, inl, inr, append_assoc, append-nil, arith}
-use Rattle.std.specs.Prelude.{◌⊎◌, Option, Some, None, IfSome, IsSomeAnd}
+use Rattle.std.specs.Prelude.{◌⊎◌, Option, Some, None, IfSome}
 use Rattle.std.proofs.lemmas.Bool.{false≢true}
 use Rattle.std.proofs.lemmas.List.{length-append}
 use Rattle.std.proofs.lemmas.List.Elements.{All-nil, All-cons, All-append}
@@ -14,14 +14,14 @@ use Rattle.machine.specs.declared.command.Op.TheVariants.{Open}
 use Rattle.machine.specs.declared.command.Answer.{Answer}
 use Rattle.machine.specs.declared.command.Answer.TheVariants.{Done, Refused}
 use Rattle.engine.specs.declared.session.Session.{Session}
-use Rattle.script.specs.Commands.{GoesOn, IsRefusal, AreWell, AreGiven}
+use Rattle.script.specs.Commands.{GoesOn, IsRefusal, AreGiven}
 use Rattle.script.specs.Drive.{lines_of, LeavesLines, TakesLine, AppendsFront}
 use Rattle.script.specs.Closing.{EndsClosed, TakesClosed}
-use Rattle.script.specs.Importing.{ImportValues, SaysOperation, SayOperations, AreBatches, IsPlan, all_written, all_taken, Takes, HasBadNext, EndsImport, HasTaken, WritesBatch, TakesOperation, TakesSome, StopsImport, report_of}
+use Rattle.script.specs.Importing.{ImportValues, SaysOperation, SayOperations, IsPlan, all_written, all_taken, Takes, HasBadNext, EndsImport, HasTaken, WritesBatch, TakesOperation, TakesSome, StopsImport, report_of}
 use Rattle.script.proofs.Runs.{leaves_all, leaves_fewer, leaves_none}
 use Rattle.script.proofs.Written.{no_more}
 use Rattle.script.proofs.Going.{goes_then}
-use Rattle.script.proofs.Batched.{refusal_or_not, done_is_none, well_taken, taken_then, written_then, batches_then, given_then}
+use Rattle.script.proofs.Batched.{done_is_none, well_taken, taken_then, written_then, batches_then, given_then}
 
 say_then : (ls ms : List (List ℕ)) (os ps : List Operation) → SayOperations ls os → SayOperations ms ps → SayOperations (ls ++ ms) (os ++ ps)
 say_then [] ms [] ps h g = g
@@ -151,71 +151,70 @@ ends_at_bad order facts how old now script left next waiting count line h takes 
   counted = h.counted ∙ sym (ap length (well_taken (Open Any ∷ h.batches) h.answers h.ran.allowed h.well));
 }
 
--- behind what was taken, a batch
-module _ {S K : Type 0} {g : _} (order : Order) (facts : S → Facts) (how : ImportValues) (old now new : Session S K g) (script left : Option (List ℕ)) (waiting : List Operation) (before after : ℕ) (sync : Bool) (outcome : Answer)
-    (h : HasTaken order facts how old now script left waiting before) (b : WritesBatch order facts how.batch sync now new waiting before after outcome) where
-  abbrev plan : List Op
-  plan = Open Any ∷ h.batches ++ b.write ∷ b.work ∷ []
+-- what was taken with a batch behind it
+taken_here : {S K : Type 0} {g : _} (order : Order) (facts : S → Facts) (how : ImportValues) (old now new : Session S K g) (script left : Option (List ℕ)) (waiting : List Operation) (before after : ℕ) (sync : Bool) (outcome : Answer)
+    (h : HasTaken order facts how old now script left waiting before) (b : WritesBatch order facts how.batch sync now new waiting before after outcome)
+    → all_taken (Open Any ∷ h.batches ++ b.commands) (h.answers ++ b.answers) ≡ all_written h.batches ++ all_taken b.commands b.answers
+taken_here order facts how old now new script left waiting before after sync outcome h b =
+    taken_then (Open Any ∷ h.batches) b.commands h.answers b.answers h.ran.allowed
+    ∙ ap (λ (os : List Operation). os ++ all_taken b.commands b.answers) (well_taken (Open Any ∷ h.batches) h.answers h.ran.allowed h.well)
 
-  taken_here : all_taken (Open Any ∷ h.batches ++ b.commands) (h.answers ++ b.answers) ≡ all_written h.batches ++ all_taken b.commands b.answers
-  taken_here = taken_then (Open Any ∷ h.batches) b.commands h.answers b.answers h.ran.allowed
-      ∙ ap (λ (os : List Operation). os ++ all_taken b.commands b.answers) (well_taken (Open Any ∷ h.batches) h.answers h.ran.allowed h.well)
-
-  abbrev pub behind : (all : Bool) (later : List (List ℕ)) → IfSome script (λ bytes. lines_of bytes ≡ h.lines ++ later) → (all ≡ true → later ≡ []) → IsPlan how all plan
-      → Takes order facts how old new script all outcome
-  behind all later first last planned = record {
-    lines = h.lines;
-    later = later;
-    first = first;
-    last = last;
-    operations = h.operations;
-    said = h.said;
-    plan = plan;
-    planned = planned;
-    gathered = [];
-    written = h.written ∙ ap (λ (os : List Operation). all_written h.batches ++ os) (sym b.written) ∙ sym (written_then h.batches (b.write ∷ b.work ∷ [])) ∙ sym (append-nil (all_written plan));
-    whole = λ e. refl;
-    commands = Open Any ∷ h.batches ++ b.commands;
-    answers = h.answers ++ b.answers;
-    given = given_then (Open Any ∷ h.batches) (b.write ∷ b.work ∷ []) b.commands h.answers b.answers outcome h.well b.given;
-    ran = goes_then order facts old now new (Open Any ∷ h.batches) b.commands h.answers b.answers h.ran b.ran;
-    left = b.left;
-    taken = h.written ∙ ap (λ (os : List Operation). all_written h.batches ++ os) b.taken ∙ sym (append_assoc (all_written h.batches) (all_taken b.commands b.answers) b.left)
-        ∙ ap (λ (os : List Operation). os ++ b.left) (sym taken_here);
-  }
-
-  pub counted_here : after ≡ length (all_taken (Open Any ∷ h.batches ++ b.commands) (h.answers ++ b.answers))
-  counted_here =
-      let long : length (all_taken (Open Any ∷ h.batches ++ b.commands) (h.answers ++ b.answers)) ≡ length (all_written h.batches) + length (all_taken b.commands b.answers)
-      = ap length taken_here ∙ length-append (all_written h.batches) (all_taken b.commands b.answers) in
-      omega (arith, long, h.counted, b.counted)
+-- the end behind a batch, at the end of the lines or before it
+ends_behind : {S K : Type 0} {g : _} (order : Order) (facts : S → Facts) (how : ImportValues) (old now new : Session S K g) (script left : Option (List ℕ)) (waiting : List Operation) (before after : ℕ) (sync : Bool) (outcome : Answer)
+    (h : HasTaken order facts how old now script left waiting before) (b : WritesBatch order facts how.batch sync now new waiting before after outcome) (all : Bool) (later : List (List ℕ))
+    → IfSome script (λ bytes. lines_of bytes ≡ h.lines ++ later) → (all ≡ true → later ≡ []) → IsPlan how all (Open Any ∷ h.batches ++ b.write ∷ b.work ∷ [])
+    → ((outcome ≡ Done) × (all ≡ true) × (b.left ≡ [])) ⊎ IsRefusal outcome → EndsImport order facts how old new script outcome after
+ends_behind order facts how old now new script left waiting before after sync outcome h b all later first last planned end =
+    let here = taken_here order facts how old now new script left waiting before after sync outcome h b in
+    let long : length (all_taken (Open Any ∷ h.batches ++ b.commands) (h.answers ++ b.answers)) ≡ length (all_written h.batches) + length (all_taken b.commands b.answers)
+    = ap length here ∙ length-append (all_written h.batches) (all_taken b.commands b.answers) in
+    record {
+      all = all;
+      ended = outcome;
+      takes = record {
+        lines = h.lines;
+        later = later;
+        first = first;
+        last = last;
+        operations = h.operations;
+        said = h.said;
+        plan = Open Any ∷ h.batches ++ b.write ∷ b.work ∷ [];
+        planned = planned;
+        gathered = [];
+        written = h.written ∙ ap (λ (os : List Operation). all_written h.batches ++ os) (sym b.written) ∙ sym (written_then h.batches (b.write ∷ b.work ∷ []))
+            ∙ sym (append-nil (all_written (Open Any ∷ h.batches ++ b.write ∷ b.work ∷ [])));
+        whole = λ e. refl;
+        commands = Open Any ∷ h.batches ++ b.commands;
+        answers = h.answers ++ b.answers;
+        given = given_then (Open Any ∷ h.batches) (b.write ∷ b.work ∷ []) b.commands h.answers b.answers outcome h.well b.given;
+        ran = goes_then order facts old now new (Open Any ∷ h.batches) b.commands h.answers b.answers h.ran b.ran;
+        left = b.left;
+        taken = h.written ∙ ap (λ (os : List Operation). all_written h.batches ++ os) b.taken ∙ sym (append_assoc (all_written h.batches) (all_taken b.commands b.answers) b.left)
+            ∙ ap (λ (os : List Operation). os ++ b.left) (sym here);
+      };
+      how_ended = elim end [
+        | inl done ↦ inl (done.0, done.0, done.1, done.2)
+        | inr refused ↦ inr (inl (refused, refl))
+      ];
+      counted = omega (arith, long, h.counted, b.counted);
+    }
 
 pub ends_refused : {S K : Type 0} {g : _} (order : Order) (facts : S → Facts) (how : ImportValues) (old now new : Session S K g) (script left : Option (List ℕ)) (waiting : List Operation) (before after : ℕ) (outcome : Answer)
     → HasTaken order facts how old now script left waiting before → WritesBatch order facts how.batch how.sync now new waiting before after outcome → IsRefusal outcome
     → EndsImport order facts how old new script outcome after
-ends_refused order facts how old now new script left waiting before after outcome h b refused = record {
-  all = false;
-  ended = outcome;
-  takes = behind order facts how old now new script left waiting before after how.sync outcome h b false (later_of left) (first_lines script left h.lines h.leaves) (λ e. absurd (false≢true e))
-      (h.batches ++ b.write ∷ b.work ∷ [], refl, batches_then how.batch how.sync h.batches (b.write ∷ b.work ∷ []) h.shape b.shape);
-  how_ended = inr (inl (refused, refl));
-  counted = counted_here order facts how old now new script left waiting before after how.sync outcome h b;
-}
+ends_refused order facts how old now new script left waiting before after outcome h b refused =
+    ends_behind order facts how old now new script left waiting before after how.sync outcome h b false (later_of left) (first_lines script left h.lines h.leaves) (λ e. absurd (false≢true e))
+    (h.batches ++ b.write ∷ b.work ∷ [], refl, batches_then how.batch how.sync h.batches (b.write ∷ b.work ∷ []) h.shape b.shape) (inr refused)
 
 pub ends_whole : {S K : Type 0} {g : _} (order : Order) (facts : S → Facts) (how : ImportValues) (old now new : Session S K g) (script left next : Option (List ℕ)) (waiting : List Operation) (before after : ℕ) (outcome : Answer) (line : List ℕ)
     → HasTaken order facts how old now script left waiting before → TakesLine left next false line → WritesBatch order facts how.batch true now new waiting before after outcome
     → EndsImport order facts how old new script outcome after
-ends_whole order facts how old now new script left next waiting before after outcome line h none b = record {
-  all = true;
-  ended = outcome;
-  takes = behind order facts how old now new script left waiting before after true outcome h b true [] (all_lines script h.lines (leaves_none script left next h.lines line h.leaves none)) (λ e. refl)
-      (h.batches, b.write, b.work, refl, h.shape, b.shape);
-  how_ended = elim b.given [
-    | inl all ↦ inl (all.0, all.0, refl, b.whole all.0)
-    | inr some ↦ inr (inl (some.0, refl))
-  ];
-  counted = counted_here order facts how old now new script left waiting before after true outcome h b;
-}
+ends_whole order facts how old now new script left next waiting before after outcome line h none b =
+    ends_behind order facts how old now new script left waiting before after true outcome h b true [] (all_lines script h.lines (leaves_none script left next h.lines line h.leaves none)) (λ e. refl)
+    (h.batches, b.write, b.work, refl, h.shape, b.shape) (elim b.given [
+      | inl all ↦ inl (all.0, refl, b.whole all.0)
+      | inr some ↦ inr some.0
+    ])
 
 pub ends_unopened : {S K : Type 0} {g : _} (order : Order) (facts : S → Facts) (how : ImportValues) (old new : Session S K g) (script : Option (List ℕ)) (refused : Answer)
     → IsRefusal refused → GoesOn order facts old new (Open Any ∷ []) (refused ∷ []) → EndsImport order facts how old new script refused 0

@@ -10,9 +10,9 @@ use Rattle.machine.specs.declared.command.Answer.{Answer}
 use Rattle.machine.specs.declared.command.Answer.TheVariants.{Refused}
 use Rattle.engine.specs.declared.session.Session.{Session}
 use Rattle.machine.specs.Machine.{Machine}
-use Rattle.machine.specs.Step.{Step, Run}
+use Rattle.machine.specs.Step.{Run}
 use Rattle.engine.specs.Follows.{Follows}
-use Rattle.engine.specs.Outcomes.{IsAnswerTo, AreAnswersTo}
+use Rattle.engine.specs.Outcomes.{AreAnswersTo}
 use Rattle.engine.specs.Applied.{Applied, AllApplied}
 use Rattle.script.specs.Words.{Reads}
 use Rattle.script.specs.Script.{Says, line_of}

@@ -1,5 +1,5 @@
 -- The lines of answers are ASCII.
-use Rattle.std.proofs.Common.{◌≡◌, ◌<◌, ◌^◌, ℕ, ◌/◌, ◌%◌, Bool, true, nat_lt, ◌&&◌, List, [], ◌∷◌, ◌++◌, codes, refl, arith}
+use Rattle.std.proofs.Common.{◌≡◌, ◌<◌, ◌^◌, ℕ, Bool, true, nat_lt, ◌&&◌, List, [], ◌∷◌, ◌++◌, codes, refl, arith}
 use Rattle.std.specs.Prelude.{Option, Some, None}
 use Rattle.std.specs.Str.{IsAscii}
 use Rattle.std.specs.Fmt.{decimal}
@@ -7,10 +7,9 @@ use Rattle.std.proofs.lemmas.Bool.{and_parts}
 use Rattle.std.proofs.lemmas.Fmt.{IsAscii-decimal}
 use Rattle.std.proofs.lemmas.Str.{IsAscii-append}
 use Rattle.std.proofs.lemmas.Str.Ascii.{IsAscii-nil, IsAscii-cons}
-use Rattle.coding.specs.Errors as error
 use Rattle.coding.specs.declared.error.DbError.{DbError}
 use Rattle.coding.specs.declared.error.DbError.TheVariants as refused
-use Rattle.hex.specs.Hex.{encode_lower, lower_digits}
+use Rattle.hex.specs.Hex.{lower_digits}
 use Rattle.hex.proofs.HexLemmas.{IsAscii-encode_with}
 use Rattle.script.specs.Words.{text_of_bytes}
 use Rattle.machine.specs.declared.command.Answer.TheVariants as answer

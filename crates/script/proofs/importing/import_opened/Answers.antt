@@ -1,6 +1,5 @@
 use Rattle.std.proofs.Common.{[], ℕ, List, sym, subst}
 use Rattle.std.specs.Prelude.{Option}
-use Rattle.std.specs.Io.Buffered.{reader_remaining}
 use Rattle.ikey.specs.Orders.{order_of}
 use Rattle.script.specs.Importing.{EndsImport, HasTaken}
 use Rattle.script.proofs.Written.{on_err, fresh_reader}

@@ -1,4 +1,4 @@
-use Rattle.std.proofs.Common.{◌<◌, ◌++◌, ◌∷◌, [], ℕ, List, Bool, length, refl, subst, inl, inr}
+use Rattle.std.proofs.Common.{◌<◌, ℕ, List, Bool, length, refl, subst, inl, inr}
 use Rattle.batch.specs.declared.operation.Operation.{Operation}
 use Rattle.ikey.specs.Orders.{order_of}
 use Rattle.script.specs.Importing.{WritesBatch}

@@ -1,4 +1,4 @@
-use Rattle.std.proofs.Common.{◌≡◌, [], ℕ, List, Bool, length, sym, ap, ◌∙◌, subst, arith}
+use Rattle.std.proofs.Common.{◌≡◌, [], ℕ, List, Bool, length, sym, ap, subst, arith}
 use Rattle.std.specs.Io.Buffered.{reader_remaining}
 use Rattle.batch.specs.declared.operation.Operation.{Operation}
 use Rattle.ikey.specs.Orders.{order_of}
