@@ -47,6 +47,19 @@ def removed_early(*endings):
     return plant
 
 
+def logs_removed(calls, _):
+    """The logs that an open finds are removed before CURRENT is renamed."""
+    found, logs = [], []
+    for it in calls:
+        if isinstance(it, Moved) and it.new == "CURRENT":
+            found += [Removed(name) for name in logs]
+            logs = []
+        if isinstance(it, Opened) and it.name.endswith(".log"):
+            logs.append(it.name)
+        found.append(it)
+    return found
+
+
 def log_rewritten(calls, _):
     """A write empties its log, and writes all of it once more."""
     names, held, found = {}, {}, []
@@ -100,6 +113,7 @@ PLANTS = {
     "the folder is never synced": folder_unsynced,
     "CURRENT is removed before it is renamed": current_removed,
     "the old MANIFEST is removed before CURRENT is renamed": removed_early("MANIFEST-"),
+    "logs are removed before CURRENT is renamed": logs_removed,
     "a log is removed before the edit that has its table": log_removed_early,
     "a write empties its log and writes it anew": log_rewritten,
     "an edit comes before its table": edit_first,

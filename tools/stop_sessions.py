@@ -31,7 +31,7 @@ SESSIONS = [
 ]  # fmt: skip
 
 # into the calls of these runs bugs are planted
-PLANTED = SESSIONS[2][2]
+PLANTED = [*SESSIONS[2][2], "open; close"]
 
 FIRST, RENAMED = "CURRENT at a first open, on a device to which names come in any order", "CURRENT at an open, on a device to which names come in any order"
 
