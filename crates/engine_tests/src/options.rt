@@ -10,7 +10,7 @@ use tool::{Task, settings};
 fn of_the_program(alloc: Global) -> Result<Option<Options>, Fail> {
     let words = words_of(alloc, &["run", "DIR"], "db")?;
     match settings(alloc, &words) {
-        Ok(Task::Run(numbers, _, _)) => Ok(numbers.options()),
+        Ok(Task::Run(_, numbers, _)) => Ok(numbers.options()),
         _ => Err(Fail::from("these words were refused")),
     }
 }

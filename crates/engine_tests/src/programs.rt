@@ -3,7 +3,7 @@ use std::alloc::{AllocError, AllocGlobal, Global};
 use std::process::Abort;
 use std::test::Fail;
 use std::{env, fs, process};
-use tool::start;
+use tool::{Terminals, start};
 
 // What a start wrote, and its status.
 #[derive(Drop)]
@@ -35,7 +35,10 @@ fn ran(
     let status = start(
         rt,
         &owned,
-        false,
+        Terminals {
+            input: false,
+            faults: false,
+        },
         script.as_bytes(),
         &mut answers,
         &mut faults,
@@ -53,78 +56,167 @@ const SCRIPT: &str =
 const ANSWERS: &str =
     "ok\nok\nvalue -\nrefused 20 BadLine\nrefused 20 BadLine\nrefused 20 BadLine\nok\n";
 
-// What is asked of one folder, one after the other: the words, a script, the status, and what is written. Nothing is written
-// exactly where a fault is said on the side.
-const STEPS: [(&[&str], &str, u8, &str); 21] = [
-    (&[], "", 2, ""),
-    (&["frob", "DIR"], "", 2, ""),
-    (&["run", "--block-bytes", "0", "DIR"], "", 2, ""),
-    (&["run", "--cache-blocks", "65537", "DIR"], "", 2, ""),
-    (&["check", "DIR", "B"], "", 2, ""),
-    (&["dump", "--write-buffer", "1", "DIR"], "", 2, ""),
-    (&["dump", "--order", "backwards", "DIR"], "", 2, ""),
-    (&["run", "/tmp/ldbtool-there-is-none"], "open new\n", 1, ""),
-    (&["check", "/tmp/ldbtool-there-is-none"], "", 1, ""),
-    (&["--version"], "", 0, "ldbtool 0.1.0\n"),
-    (&["check", "DIR"], "", 0, "empty\n"),
-    (&["run", "DIR"], SCRIPT, 0, ANSWERS),
+// What is asked of one folder, one after the other: the words, a script, the status, what is written, and whether something is said on the
+// side.
+const STEPS: [(&[&str], &str, u8, &str, bool); 41] = [
+    (&[], "", 2, "", true),
+    (&["frob", "DIR"], "", 2, "", true),
+    (&["run", "--block-bytes", "0", "DIR"], "", 2, "", true),
+    (&["run", "--cache-blocks", "65537", "DIR"], "", 2, "", true),
+    (&["check", "DIR", "B"], "", 2, "", true),
+    (&["dump", "--write-buffer", "1", "DIR"], "", 2, "", true),
+    (&["dump", "--order", "backwards", "DIR"], "", 2, "", true),
+    (
+        &["run", "/tmp/ldbtool-there-is-none"],
+        "open new\n",
+        1,
+        "",
+        true,
+    ),
+    (&["check", "/tmp/ldbtool-there-is-none"], "", 1, "", true),
+    (&["--version"], "", 0, "ldbtool 0.1.0\n", false),
+    (&["get", "DIR"], "", 2, "", true),
+    (&["get", "DIR", "6x"], "", 2, "", true),
+    (&["scan", "--text", "--json", "DIR"], "", 2, "", true),
+    (
+        &["scan", "--order", "reverse", "--prefix", "61", "DIR"],
+        "",
+        2,
+        "",
+        true,
+    ),
+    (&["compact", "--level", "6", "DIR"], "", 2, "", true),
+    (
+        &["get", "/tmp/ldbtool-there-is-none", "61"],
+        "",
+        1,
+        "",
+        true,
+    ),
+    (&["check", "DIR"], "", 0, "empty\n", true),
+    (
+        &["get", "DIR", "61"],
+        "",
+        1,
+        "refused 3 NoDatabase\n",
+        false,
+    ),
+    (&["compact", "DIR"], "", 1, "refused 3 NoDatabase\n", false),
+    (&["run", "DIR"], SCRIPT, 0, ANSWERS, false),
     (
         &["check", "DIR"],
         "",
         0,
         "good\nlast-sequence 2\nlog 2 2 clean\n",
+        false,
     ),
     (
         &["dump", "DIR"],
         "",
         0,
         "log 2 6a 1 put -\nlog 2 61 2 put 31\n",
+        false,
     ),
     (
         &["run", "--write-buffer", "1", "DIR"],
         "open new\nopen\ndel 6a\n",
         0,
         "refused 4 Exists\nok\nok\n",
+        false,
     ),
     (
         &["dump", "DIR"],
         "",
         0,
         "log 2 6a 1 put -\nlog 2 61 2 put 31\nlog 4 6a 3 delete\n",
+        false,
     ),
     (
         &["run", "--order", "reverse", "DIR"],
         "open\n",
         0,
         "refused 6 Unsupported\n",
+        false,
     ),
     (
         &["check", "--order", "reverse", "DIR"],
         "",
         1,
         "refused 6 Unsupported\n",
+        false,
     ),
     (
         &["dump", "--order=reverse", "DIR"],
         "",
         1,
         "refused 6 Unsupported\n",
+        false,
     ),
     (
         &["run", "--order", "bytes", "DIR"],
         "open\nget 61\n",
         0,
         "ok\nvalue 31\n",
+        false,
     ),
     (
         &["check", "--order", "bytes", "DIR"],
         "",
         0,
         "good\nlast-sequence 3\nlog 2 2 clean\nlog 4 1 clean\nlog 6 0 clean\n",
+        false,
+    ),
+    (&["get", "DIR", "61"], "", 0, "31\n", false),
+    (&["get", "--text", "DIR", "a"], "", 0, "1\n", false),
+    (&["get", "DIR", "6a"], "", 4, "", false),
+    (&["scan", "--values", "DIR"], "", 0, "61 31\n", false),
+    (&["export", "DIR"], "", 0, "put 61 31\n", false),
+    (
+        &["import", "DIR"],
+        "put 62 32\ndel 61\n",
+        0,
+        "taken 2\n",
+        false,
+    ),
+    (
+        &["import", "--batch", "1", "DIR"],
+        "put 63 33\nx\n",
+        1,
+        "refused 20 BadLine\ntaken 1\n",
+        false,
+    ),
+    (
+        &["scan", "--reverse", "--limit", "1", "DIR"],
+        "",
+        0,
+        "63\n",
+        false,
+    ),
+    (
+        &["scan", "--from", "-", "--to", "63", "--prefix", "62", "DIR"],
+        "",
+        0,
+        "62\n",
+        false,
+    ),
+    (&["compact", "DIR"], "", 0, "ok\n", false),
+    (
+        &["run", "--strict", "DIR"],
+        "open\nx\nget 63\n",
+        3,
+        "ok\nrefused 20 BadLine\n",
+        false,
+    ),
+    (
+        &["run", "--work", "auto", "DIR"],
+        "open\nput 64 34\nget 64\n",
+        0,
+        "ok\nok\nvalue 34\n",
+        false,
     ),
 ];
 
-// Whether a start ends so and writes this.
+// Whether a start ends so, writes this, and says something on the side or nothing.
 fn is_done(
     rt: &HostRuntime,
     folder: &str,
@@ -132,12 +224,13 @@ fn is_done(
     script: &str,
     status: u8,
     wanted: &str,
+    says: bool,
 ) -> bool {
     match ran(rt, words, folder, script) {
         Ok(ran) => {
             ran.status == status
                 && ran.answers.as_slice() == wanted.as_bytes()
-                && ran.faults.is_empty() != wanted.is_empty()
+                && ran.faults.is_empty() != says
         }
         Err(_) => false,
     }
@@ -158,9 +251,9 @@ fn empty_folder(rt: &HostRuntime, name: &str) -> Result<String, Fail> {
 #[test]
 fn a_folder_is_written_checked_and_dumped(rt: HostRuntime) -> Result<(), Fail> {
     let folder = empty_folder(&rt, "steps")?;
-    for (words, script, status, wanted) in STEPS {
+    for (words, script, status, wanted, says) in STEPS {
         assert!(rt;
-            is_done(&rt, folder.as_str(), words, script, status, wanted),
+            is_done(&rt, folder.as_str(), words, script, status, wanted, says),
             "{words:?}"
         );
     }
@@ -181,7 +274,8 @@ fn a_refused_directory_has_status_one(rt: HostRuntime) -> Result<(), Fail> {
                 &[verb, "DIR"],
                 "",
                 1,
-                "refused 5 Corrupt\n"
+                "refused 5 Corrupt\n",
+                false
             ),
             "{verb}"
         );

@@ -1,5 +1,6 @@
-//! The command line of the database: `run` answers a script of commands, `check` says whether a directory is good, and
-//! `dump` prints its entries. `ldbtool help run` shows what a line of a script looks like.
+//! The command line of the database: `get`, `scan` and `export` print what it has, `check` says whether a directory is good,
+//! and `dump` prints its entries; `run` answers a script of commands, `import` writes lines, and `compact` merges tables.
+//! `ldbtool help VERB` has the rest.
 #![tactic(auto)]
 
 use std::alloc::AllocGlobal;
@@ -7,7 +8,7 @@ use std::io::IsTerminal;
 use std::process::ExitCode;
 use std::rt::Env;
 use std::{env, io};
-use tool::{refuse_words, start};
+use tool::{Terminals, refuse_words, start};
 
 fn main(rt: HostRuntime) -> ExitCode {
     let mut faults = rt.stderr();
@@ -16,12 +17,16 @@ fn main(rt: HostRuntime) -> ExitCode {
         Err(error) => return ExitCode::from(refuse_words(&mut faults, &error)),
     };
     let mut answers = rt.stdout();
-    let watched = faults.is_terminal();
+    let input = rt.stdin();
+    let terminals = Terminals {
+        input: input.is_terminal(),
+        faults: faults.is_terminal(),
+    };
     ExitCode::from(start(
         &rt,
         words.as_slice(),
-        watched,
-        rt.stdin(),
+        terminals,
+        input,
         &mut answers,
         &mut faults,
     ))

@@ -1,6 +1,7 @@
 -- What was found for a subcommand and its options.
 use Rattle.std.proofs.Common.{◌≡◌, List, ℕ, sym, ◌∙◌, refl, subst}
 use Rattle.std.specs.Prelude.{Option, Some, None, Result, Ok, IfSome, option_map}
+use Rattle.std.specs.Borrow.{Bor}
 use Rattle.std.specs.Str.Parse.{ParsesUnsigned}
 use Rattle.std.proofs.lemmas.Option.{none-some}
 use Rattle.clap.specs.Words.{ReadsOne, Row, Text, first_of, first_value, one_text, rows_of, subcommand_name_of, subcommand_rows, subcommand_rows_of}
@@ -13,7 +14,7 @@ use Rattle.std.specs.Prelude.{Box}
 use Rattle.std.specs.Box.{box_value}
 use Rattle.std.proofs.Common.{Global}
 use Rattle.tool.specs.declared.task.Task.{Task}
-use Rattle.tool.specs.CommandLine.{AsksFor, AsksForIn, IsNumberOf}
+use Rattle.tool.specs.Tasks.{AsksFor, AsksForIn, IsNumberOf}
 
 pub number_found : (E : Type 0) (gives : List ℕ → Result ℕ E → Type 0) (f : Found) (name : Text) (result : Option ℕ)
     → ((t : List ℕ) (n : ℕ) → gives t (Ok n) → ParsesUnsigned {E = ℕ} 64 10 t (Ok n))
@@ -42,3 +43,7 @@ asks_for m name rows task named found asks =
 -- a word, by the rows
 pub word_by_rows : (f : Found) (name word : Text) → Some word ≡ first_value f name → first_of name (rows_of f) ≡ Some word
 word_by_rows f name word e = sym (first_value-rows f name) ∙ sym e
+
+-- a word that may be left out
+pub word_given : (f : Found) (name : Text) (word : Option (Bor Text)) → option_map (λ (w : Bor Text). w.now) word ≡ first_value f name → first_of name (rows_of f) ≡ option_map (λ (w : Bor Text). w.now) word
+word_given f name word e = sym (first_value-rows f name) ∙ sym e

@@ -1,11 +1,15 @@
 // The command line, as `clap` is told of it.
 
-ghost use Rattle.std.specs.Prelude.{◌≡◌, ◌≤◌, ◌^◌, IfOk, codes};
-ghost use Rattle.tool.specs.CommandLine.{the_app, run_app, reading_app, number_rule, order_rule, folder_rule, IsArg, IsCommand};
+ghost use Rattle.std.specs.Prelude.{◌≡◌, IfOk};
+ghost use Rattle.clap.specs.Words.{App, new_app, with_subcommand};
+ghost use Rattle.tool.specs.CommandLine.{the_app, get_app, scan_app, reading_app, run_app, import_app, compact_app, with_readers, with_writers, with_place, with_options, with_range, with_style, IsCommand};
 
+use crate::arguments::{
+    base_bytes, batch, block_bytes, bound, cache_blocks, file_bytes, flag, folder, key, level,
+    level0_files, limit, order, work, write_buffer,
+};
 use crate::help;
-use clap::builder::ValueParser;
-use clap::{Arg, Command};
+use clap::Command;
 use std::alloc::{AllocError, Global};
 
 /// The whole command.
@@ -18,9 +22,62 @@ pub fn command<'a>(alloc: Global) -> Result<Command<'a>, AllocError>
         .after_help(help::AFTER)
         .subcommand_required(true)
         .arg_required_else_help(true);
-    let with_run = bare.subcommand(run(alloc)?)?;
-    let with_check = with_run.subcommand(reading(alloc, "check", help::CHECK, help::REPORT)?)?;
-    let whole = with_check.subcommand(reading(alloc, "dump", help::DUMP, help::ENTRIES)?)?;
+    let reads = add_readers(alloc, bare)?;
+    let whole = add_writers(alloc, reads)?;
+    Ok(whole)
+}
+
+// The subcommands that change nothing.
+fn add_readers<'a>(alloc: Global, command: Command<'a>) -> Result<Command<'a>, AllocError>
+    ensures { IfOk result (λ whole. (app : App) → IsCommand command.entry app → IsCommand whole (with_readers app)) }
+{
+    let first = add(command, get(alloc))?;
+    let second = add(first, scan(alloc))?;
+    let third = add(second, reading(alloc, "export", help::EXPORT, help::PUTS))?;
+    let fourth = add(third, reading(alloc, "check", help::CHECK, help::REPORT))?;
+    let whole = add(fourth, reading(alloc, "dump", help::DUMP, help::ENTRIES))?;
+    Ok(whole)
+}
+
+// The subcommands that write.
+fn add_writers<'a>(alloc: Global, command: Command<'a>) -> Result<Command<'a>, AllocError>
+    ensures { IfOk result (λ whole. (app : App) → IsCommand command.entry app → IsCommand whole (with_writers app)) }
+{
+    let first = add(command, run(alloc))?;
+    let second = add(first, import(alloc))?;
+    let whole = add(second, compact(alloc))?;
+    Ok(whole)
+}
+
+// A subcommand more, where there was memory for it. (Its Result comes in, so that a caller owns nothing where it leaves.)
+fn add<'a>(
+    command: Command<'a>,
+    subcommand: Result<Command<'a>, AllocError>,
+) -> Result<Command<'a>, AllocError>
+    ensures { IfOk result (λ whole. (app inner : App) → IsCommand command.entry app → IfOk subcommand.entry (λ it. IsCommand it inner) → IsCommand whole (with_subcommand app inner.top)) }
+{
+    let subcommand = subcommand?;
+    let whole = command.subcommand(subcommand)?;
+    Ok(whole)
+}
+
+fn get<'a>(alloc: Global) -> Result<Command<'a>, AllocError>
+    ensures { IfOk result (λ command. IsCommand command get_app) }
+{
+    let bare = named(alloc, "get", help::GET, help::VALUE);
+    let first = bare.arg(flag(alloc, "text", help::GET_TEXT))?;
+    let placed = add_place(alloc, first)?;
+    let whole = placed.arg(key(alloc))?;
+    Ok(whole)
+}
+
+fn scan<'a>(alloc: Global) -> Result<Command<'a>, AllocError>
+    ensures { IfOk result (λ command. IsCommand command scan_app) }
+{
+    let bare = named(alloc, "scan", help::SCAN, help::PAIRS);
+    let ranged = add_range(alloc, bare)?;
+    let styled = add_style(alloc, ranged)?;
+    let whole = add_place(alloc, styled)?;
     Ok(whole)
 }
 
@@ -33,101 +90,90 @@ fn reading<'a>(
 ) -> Result<Command<'a>, AllocError>
     ensures { IfOk result (λ command. IsCommand command (reading_app name.entry.now)) }
 {
-    let bare = Command::new(alloc, name).about(about).after_help(after);
-    let ordered = bare.arg(order(alloc))?;
+    let bare = named(alloc, name, about, after);
+    let whole = add_place(alloc, bare)?;
+    Ok(whole)
+}
+
+fn run<'a>(alloc: Global) -> Result<Command<'a>, AllocError>
+    ensures { IfOk result (λ command. IsCommand command run_app) }
+{
+    let bare = named(alloc, "run", help::RUN, help::SCRIPT);
+    let first = bare.arg(work(alloc))?;
+    let second = first.arg(flag(alloc, "strict", help::STRICT))?;
+    let numbered = add_options(alloc, second)?;
+    let whole = add_place(alloc, numbered)?;
+    Ok(whole)
+}
+
+fn import<'a>(alloc: Global) -> Result<Command<'a>, AllocError>
+    ensures { IfOk result (λ command. IsCommand command import_app) }
+{
+    let bare = named(alloc, "import", help::IMPORT, help::OPERATIONS);
+    let first = bare.arg(batch(alloc))?;
+    let second = first.arg(flag(alloc, "sync", help::SYNC))?;
+    let numbered = add_options(alloc, second)?;
+    let whole = add_place(alloc, numbered)?;
+    Ok(whole)
+}
+
+fn compact<'a>(alloc: Global) -> Result<Command<'a>, AllocError>
+    ensures { IfOk result (λ command. IsCommand command compact_app) }
+{
+    let bare = named(alloc, "compact", help::COMPACT, help::MERGED);
+    let first = bare.arg(level(alloc))?;
+    let numbered = add_options(alloc, first)?;
+    let whole = add_place(alloc, numbered)?;
+    Ok(whole)
+}
+
+// A subcommand that takes nothing yet.
+fn named<'a>(alloc: Global, name: &'a str, about: &'a str, after: &'a str) -> Command<'a>
+    ensures { IsCommand result (new_app name.entry.now) }
+{
+    Command::new(alloc, name).about(about).after_help(after)
+}
+
+// The folder, and the order of its keys.
+fn add_place<'a>(alloc: Global, command: Command<'a>) -> Result<Command<'a>, AllocError>
+    ensures { IfOk result (λ whole. (app : App) → IsCommand command.entry app → IsCommand whole (with_place app)) }
+{
+    let ordered = command.arg(order(alloc))?;
     let whole = ordered.arg(folder(alloc))?;
     Ok(whole)
 }
 
-// The subcommand `run`, with the options of a database.
-fn run<'a>(alloc: Global) -> Result<Command<'a>, AllocError>
-    ensures { IfOk result (λ command. IsCommand command run_app) }
+// The options of a database that is written.
+fn add_options<'a>(alloc: Global, command: Command<'a>) -> Result<Command<'a>, AllocError>
+    ensures { IfOk result (λ whole. (app : App) → IsCommand command.entry app → IsCommand whole (with_options app)) }
 {
-    let bare = Command::new(alloc, "run")
-        .about(help::RUN)
-        .after_help(help::SCRIPT);
-    let first = bare.arg(write_buffer(alloc))?;
+    let first = command.arg(write_buffer(alloc))?;
     let second = first.arg(block_bytes(alloc))?;
     let third = second.arg(file_bytes(alloc))?;
     let fourth = third.arg(level0_files(alloc))?;
     let fifth = fourth.arg(base_bytes(alloc))?;
-    let sixth = fifth.arg(cache_blocks(alloc))?;
-    let seventh = sixth.arg(order(alloc))?;
-    let whole = seventh.arg(folder(alloc))?;
+    let whole = fifth.arg(cache_blocks(alloc))?;
     Ok(whole)
 }
 
-fn write_buffer<'a>(alloc: Global) -> Arg<'a>
-    ensures { IsArg result (number_rule (codes "write-buffer") (codes "4194304") (2 ^ 30)) }
+// Which keys of a scan.
+fn add_range<'a>(alloc: Global, command: Command<'a>) -> Result<Command<'a>, AllocError>
+    ensures { IfOk result (λ whole. (app : App) → IsCommand command.entry app → IsCommand whole (with_range app)) }
 {
-    number(alloc, "write-buffer", "4194304", 1 << 30).help(
-        "Bytes of entries in memory before a table is written of them, from 1 to 1073741824",
-    )
+    let first = command.arg(bound(alloc, "from", help::FROM))?;
+    let second = first.arg(bound(alloc, "to", help::TO))?;
+    let third = second.arg(bound(alloc, "prefix", help::PREFIX))?;
+    let fourth = third.arg(limit(alloc))?;
+    let whole = fourth.arg(flag(alloc, "reverse", help::BACKWARDS))?;
+    Ok(whole)
 }
 
-fn block_bytes<'a>(alloc: Global) -> Arg<'a>
-    ensures { IsArg result (number_rule (codes "block-bytes") (codes "4096") (2 ^ 20)) }
+// What of a pair a scan prints, and how.
+fn add_style<'a>(alloc: Global, command: Command<'a>) -> Result<Command<'a>, AllocError>
+    ensures { IfOk result (λ whole. (app : App) → IsCommand command.entry app → IsCommand whole (with_style app)) }
 {
-    number(alloc, "block-bytes", "4096", 1 << 20).help(
-        "Bytes of a table's data block, from 1 to 1048576",
-    )
-}
-
-fn file_bytes<'a>(alloc: Global) -> Arg<'a>
-    ensures { IsArg result (number_rule (codes "file-bytes") (codes "2097152") (2 ^ 30)) }
-{
-    number(alloc, "file-bytes", "2097152", 1 << 30).help(
-        "Bytes of a table that a compaction writes, from 1 to 1073741824",
-    )
-}
-
-fn level0_files<'a>(alloc: Global) -> Arg<'a>
-    ensures { IsArg result (number_rule (codes "level0-files") (codes "4") (1024)) }
-{
-    number(alloc, "level0-files", "4", 1024).help(
-        "Files of level 0 that are compacted, from 1 to 1024",
-    )
-}
-
-fn base_bytes<'a>(alloc: Global) -> Arg<'a>
-    ensures { IsArg result (number_rule (codes "base-bytes") (codes "10485760") (2 ^ 40)) }
-{
-    number(alloc, "base-bytes", "10485760", 1 << 40).help(
-        "Bytes of level 1, from 1 to 1099511627776; each deeper level has ten times as many",
-    )
-}
-
-fn cache_blocks<'a>(alloc: Global) -> Arg<'a>
-    ensures { IsArg result (number_rule (codes "cache-blocks") (codes "1024") (65536)) }
-{
-    number(alloc, "cache-blocks", "1024", 65_536).help(
-        "Blocks that are kept in memory, from 1 to 65536",
-    )
-}
-
-// An option with a number from 1 to `most`.
-fn number<'a>(alloc: Global, name: &'a str, default: &'a str, most: u64) -> Arg<'a>
-    ensures { IsArg result (number_rule name.entry.now default.entry.now most) }
-{
-    Arg::new(alloc, name)
-        .long(name)
-        .value_name("N")
-        .value_parser(ValueParser::unsigned(1, most))
-        .default_value(default)
-}
-
-fn order<'a>(alloc: Global) -> Arg<'a>
-    ensures { IsArg result (order_rule) }
-{
-    Arg::new(alloc, "order")
-        .long("order")
-        .value_name("ORDER")
-        .default_value("bytes")
-        .help(help::ORDER)
-}
-
-fn folder<'a>(alloc: Global) -> Arg<'a>
-    ensures { IsArg result (folder_rule) }
-{
-    Arg::new(alloc, "DIR").required(true).help(help::FOLDER)
+    let first = command.arg(flag(alloc, "values", help::VALUES))?;
+    let second = first.arg(flag(alloc, "text", help::SCAN_TEXT))?;
+    let whole = second.arg(flag(alloc, "json", help::JSON))?;
+    Ok(whole)
 }

@@ -7,16 +7,105 @@ pub const ABOUT: &str = "A key-value database over the files of a LevelDB direct
 pub const AFTER: &str = "\
 Examples:
   mkdir mydb
-  printf 'open new\\nput 6b6579 76616c7565\\nget 6b6579\\n' | ldbtool run mydb
+  printf 'put 6b6579 76616c7565\\n' | ldbtool import mydb
+  ldbtool get mydb 6b6579
+  ldbtool scan --values --text mydb
+  ldbtool export mydb | ldbtool import copy
   ldbtool check mydb
-  ldbtool dump mydb
-`ldbtool help run` says what the lines of a script are.
+Keys and values are in hexadecimal, `-` for the empty one; --text, where a command has it, takes and prints them as text.
+get, scan, export, check and dump change nothing; run, import and compact write.
 
 Exit status:
   0  all was done. A command of a script that is refused has its answer line, and changes no status
-  1  the folder can't be opened, the script can't be read, the output can't be written, there is no memory; or check or
-     dump printed a refusal
-  2  the command line is wrong";
+  1  the folder can't be opened, the input can't be read, the output can't be written, there is no memory; or a command
+     other than run printed a refusal
+  2  the command line is wrong
+  3  run --strict was ended by a refusal
+  4  get found no value";
+
+pub const KEY: &str = "The key, in hexadecimal or - for the empty one; with --text as it is";
+
+pub const GET: &str = "Prints the value of a key";
+
+pub const GET_TEXT: &str =
+    "Take the key as it is, and print the value as text, bytes outside of ' '..'~' as \\xNN";
+
+pub const VALUE: &str = "\
+The value is printed in hexadecimal, `-` where it has no bytes, and a newline behind it; where the key has none nothing is
+printed. A directory that is refused has its refusal printed, as `refused 3 NoDatabase` or `refused 5 Corrupt`. No file is
+changed, and no lock taken: a database that is written meanwhile may be refused. A key that begins with a hyphen stands
+behind `--`.
+
+Exit status:
+  0  the key has a value
+  1  the directory was refused, DIR can't be opened, or the value not be written
+  2  the command line is wrong
+  4  the key has no value
+
+Example:
+  $ ldbtool get mydb 6b6579
+  76616c7565
+  $ ldbtool get --text mydb key
+  value";
+
+pub const SCAN: &str = "Prints the keys of a database in their order, or its pairs, one line each";
+
+pub const FROM: &str = "Only keys from this one on";
+
+pub const TO: &str = "Only keys in front of this one";
+
+pub const PREFIX: &str = "Only keys that begin so (not with --order reverse)";
+
+pub const LIMIT: &str = "At most so many, from 0 to 18446744073709551615";
+
+pub const BACKWARDS: &str = "From the last one on backwards";
+
+pub const VALUES: &str = "Print the values too";
+
+pub const SCAN_TEXT: &str =
+    "Take keys as they are, and print keys and values as text, bytes outside of ' '..'~' as \\xNN";
+
+pub const JSON: &str = "Print each as a JSON object, keys and values in hexadecimal";
+
+pub const PAIRS: &str = "\
+A line is one of
+  KEY                                 in hexadecimal, `-` for the empty one
+  KEY VALUE                           with --values
+  {\"key\":\"KEY\"}                       with --json, the digits alone
+  {\"key\":\"KEY\",\"value\":\"VALUE\"}       with --json and --values
+K is a key in the same form, `-` for the empty one. --from, --to and --prefix may stand together, and --limit counts from
+where the scan begins. A directory that is refused has its refusal printed, behind what was printed before. No file is
+changed, and no lock taken: a database that is written meanwhile may be refused.
+
+Exit status:
+  0  all pairs that are asked for were printed
+  1  the directory was refused, DIR can't be opened, or the lines not be written
+  2  the command line is wrong
+
+Example:
+  $ ldbtool scan mydb
+  6b6579
+  $ ldbtool scan --prefix k --values --text mydb
+  key value
+  $ ldbtool scan --from 61 --limit 1 --json mydb
+  {\"key\":\"6b6579\"}";
+
+pub const EXPORT: &str = "Prints every pair as a line that `import` reads";
+
+pub const PUTS: &str = "\
+A line is `put KEY VALUE`, in hexadecimal or `-` for no bytes, in the order of the keys; they are the pairs that a `get`
+would find, with no history. So `ldbtool export A | ldbtool import B` copies a database into an empty folder, whole and
+freshly written. A directory that is refused has its refusal printed, behind what was printed before, which an import
+takes for no line of its own. No file is changed, and no lock taken: a database that is written meanwhile may be refused.
+
+Exit status:
+  0  every pair was printed
+  1  the directory was refused, DIR can't be opened, or the lines not be written
+  2  the command line is wrong
+
+Example:
+  $ ldbtool export mydb
+  put 6b6579 76616c7565";
 
 pub const RUN: &str =
     "Answers the commands of a script, which it reads from standard input, one line each";
@@ -54,6 +143,7 @@ Exit status:
   0  each line was answered, also where commands were refused
   1  DIR can't be opened, the script not be read, the answers not be written, or memory was refused
   2  the command line is wrong
+  3  --strict, and a line was refused: its answer is the last
 
 Examples:
   $ mkdir mydb
@@ -67,6 +157,63 @@ Examples:
   at 6b6579 76616c7565
   end";
 
+pub const WORK: &str =
+    "auto: behind each write that is done, six entries of work for each of its operations";
+
+pub const STRICT: &str = "End at the first line that is refused, with status 3";
+
+pub const IMPORT: &str =
+    "Writes the lines `put K V` and `del K` of standard input, in batches, to a database";
+
+pub const BATCH: &str = "Operations of a batch, from 1 to 65536";
+
+pub const SYNC: &str =
+    "Have the device keep each batch before the next one, and not the last one alone";
+
+pub const OPERATIONS: &str = "\
+K and V are bytes in hexadecimal, as 6b6579, or - for none. Where DIR has no database one is made. The lines are written
+in batches of --batch operations, fewer where their keys and values have 1 MiB or more, each whole or not at all; behind
+each comes work, so that memory and the log stay small, and no `work` or `compact` is wanted. At the end the device has
+kept everything. What was done is told by a line
+
+  taken N                             so many of the first lines are in the database
+
+with the refusal in front of it, if there was one: `refused 20 BadLine` where a line is none of the two, behind which
+nothing is read.
+
+Exit status:
+  0  every line was taken
+  1  a line or a batch was refused, DIR can't be opened, the input not be read, or memory was refused
+  2  the command line is wrong
+
+Examples:
+  $ mkdir copy
+  $ ldbtool export mydb | ldbtool import copy
+  taken 1
+  $ printf 'put 61 31\\ndel 6b6579\\n' | ldbtool import copy
+  taken 2
+  $ ldbtool scan --values copy
+  61 31";
+
+pub const COMPACT: &str = "Merges the tables of a database, all of them or those of one level";
+
+pub const LEVEL: &str =
+    "Merge this level's tables into the next, from 0 to 5; without it all there is, into level 6";
+
+pub const MERGED: &str = "\
+It opens the database, merges, works until there is nothing to do, and closes. Then what is overwritten or deleted takes
+no room any more, and files of no more use are gone. `ok` is printed, or the refusal that ended it. Without --level what
+is in memory and in logs goes into tables too.
+
+Exit status:
+  0  it was merged
+  1  a refusal was printed, DIR can't be opened, or the line not be written
+  2  the command line is wrong
+
+Example:
+  $ ldbtool compact copy
+  ok";
+
 pub const CHECK: &str =
     "Reads every file of a directory, and prints `good` and what it has, `empty`, or the refusal";
 
@@ -76,9 +223,10 @@ Of a consistent directory it prints
   last-sequence SEQUENCE
   table LEVEL NUMBER ENTRIES          for each table, by level and number
   log NUMBER BATCHES clean | torn     for each live log, by number
-of a folder without a database `empty`, and otherwise the refusal: `refused 5 Corrupt`, where a file contradicts the format
-or another file; `refused 6 Unsupported`, where it has compressed blocks, another order of keys or a block that is too long;
-`refused 2 Io`, where a file can't be read; `refused 1 OutOfMemory`. No file is changed, and no lock taken: a database that
+of a folder without a database `empty`, and standard error says that there is no CURRENT; otherwise the refusal:
+`refused 5 Corrupt`, where a file contradicts the format or another file; `refused 6 Unsupported`, where it has compressed
+blocks, another order of keys or a block that is too long; `refused 2 Io`, where a file can't be read; `refused 1
+OutOfMemory`. No file is changed, and no lock taken: a database that
 is written meanwhile may be refused.
 
 Exit status:

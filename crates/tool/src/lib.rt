@@ -1,16 +1,23 @@
-//! What `ldbtool` does: the reading of its command line, and scripts, checks and dumps over a folder, with streams that
-//! are handed in.
+//! What `ldbtool` does: the reading of its command line, and its tasks over a folder, with streams that are handed in.
 #![tactic(auto)]
 
+mod arguments;
+mod changing;
 mod command_line;
 mod help;
 mod inspect;
+mod keys;
+mod looking;
 mod program;
 mod progress;
 mod report;
+mod saying;
 mod status;
 mod task;
+mod words;
 
 pub use inspect::{check, dump};
-pub use program::{refuse_words, start};
-pub use task::{Numbers, OrderName, Task, settings};
+pub use program::{Terminals, start};
+pub use saying::refuse_words;
+pub use task::{Lookup, Numbers, OrderName, Pieces, Place, Search, Task, Turns};
+pub use words::{Misuse, settings};

@@ -1,25 +1,38 @@
-// What the words of the command line ask for.
+// What the command line can ask for.
 
-ghost use Rattle.std.specs.Prelude.{◌≡◌, ◌≤◌, ◌^◌, map, option_map, IfOk, IfSome, string_bytes, codes};
+ghost use Rattle.std.specs.Prelude.{◌≡◌, IfSome};
 ghost use Rattle.engine.specs.OptionValues.{AreInRange};
-ghost use Rattle.clap.specs.Words.{app_of, found_of, is_simple, one_of, rows_of, subcommand_of, subcommand_rows_of};
-ghost use Rattle.tool.specs.CommandLine.{the_app, IsTask, AsksForIn, HaveNumbers, IsNumberOf, IsOrderOf, values_of};
+ghost use Rattle.tool.specs.Tasks.{values_of};
 
-use crate::command_line::command;
-use clap::error::ErrorKind;
-use clap::{ArgMatches, Error};
+use browse::{Form, Style};
 use engine::Options;
-use std::alloc::Global;
 
-/// What is to be done, under which order of keys and in which folder.
+/// What is to be done, and over which database.
 #[derive(Clone, Copy, Debug, PartialEq, Eq)]
 pub enum Task<'a> {
-    /// Run a script over a database with these options.
-    Run(Numbers, OrderName, &'a str),
+    /// Print the value of a key.
+    Get(Place<'a>, Lookup<'a>),
+    /// Print the pairs, or their keys.
+    Scan(Place<'a>, Search<'a>),
+    /// Print the pairs as the lines that `Import` reads.
+    Export(Place<'a>),
     /// Check the directory.
-    Check(OrderName, &'a str),
+    Check(Place<'a>),
     /// Print the entries of the directory.
-    Dump(OrderName, &'a str),
+    Dump(Place<'a>),
+    /// Run a script over a database with these options.
+    Run(Place<'a>, Numbers, Turns),
+    /// Write the operations of a file's lines.
+    Import(Place<'a>, Numbers, Pieces),
+    /// Merge the tables of this level into the next, or all of them.
+    Compact(Place<'a>, Numbers, Option<u64>),
+}
+
+/// Which database: the order of its keys, and its folder.
+#[derive(Clone, Copy, Debug, PartialEq, Eq)]
+pub struct Place<'a> {
+    pub order: OrderName,
+    pub folder: &'a str,
 }
 
 /// An order of keys, as the command line names it.
@@ -29,6 +42,39 @@ pub enum OrderName {
     Bytes,
     /// `reverse`: `ikey::ReverseBytes`.
     Reverse,
+}
+
+/// A key as a word that isn't read yet, and how it and its value are spelt.
+#[derive(Clone, Copy, Debug, PartialEq, Eq)]
+pub struct Lookup<'a> {
+    pub key: &'a str,
+    pub form: Form,
+}
+
+/// Which pairs, with keys as words that aren't read yet; at most how many; from the last one on backwards or not; and how they
+/// are printed, which is how the words are spelt too.
+#[derive(Clone, Copy, Debug, PartialEq, Eq)]
+pub struct Search<'a> {
+    pub from: Option<&'a str>,
+    pub to: Option<&'a str>,
+    pub prefix: Option<&'a str>,
+    pub limit: Option<u64>,
+    pub reverse: bool,
+    pub style: Style,
+}
+
+/// How a script is run: whether work is done behind each write, and whether the first refusal ends it.
+#[derive(Clone, Copy, Debug, PartialEq, Eq)]
+pub struct Turns {
+    pub works: bool,
+    pub strict: bool,
+}
+
+/// How an import is cut: how many operations a batch has, and whether each one is synced.
+#[derive(Clone, Copy, Debug, PartialEq, Eq)]
+pub struct Pieces {
+    pub batch: u64,
+    pub sync: bool,
 }
 
 /// The options of a database, as the command line has them.
@@ -59,72 +105,18 @@ impl Numbers {
     }
 }
 
-/// Reads the command line, whose first word is the program's name. The error is `clap`'s, also where help is asked for.
-pub fn settings<'a>(alloc: Global, words: &'a [String]) -> Result<Task<'a>, Error>
-    ensures { IfOk result (λ task. IsTask (map string_bytes words.now) task) }
-{
-    let mut command = command(alloc)?;
-    let matches = command.try_get_matches_from_mut(words)?;
-    match read_task(&matches) {
-        Some(task) => Ok(task),
-        None => Err(command.error(
-            ErrorKind::InvalidValue,
-            "the value of '--order <ORDER>' is `bytes` or `reverse`",
-        )?),
+impl<'a> Task<'a> {
+    /// The database that it is about.
+    pub fn place(&self) -> Place<'a> {
+        match self {
+            Task::Get(place, _) => *place,
+            Task::Scan(place, _) => *place,
+            Task::Export(place) => *place,
+            Task::Check(place) => *place,
+            Task::Dump(place) => *place,
+            Task::Run(place, _, _) => *place,
+            Task::Import(place, _, _) => *place,
+            Task::Compact(place, _, _) => *place,
+        }
     }
-}
-
-// What was found. A subcommand, its folder and its options are always there; the order may be none.
-fn read_task<'a>(matches: &ArgMatches<'a>) -> Option<Task<'a>>
-    ensures { IfSome result (AsksForIn (subcommand_rows_of matches.now)) }
-{
-    let (name, found) = matches.subcommand()?;
-    let folder = found.get_str("DIR")?;
-    let order = read_order(found)?;
-    if name == "run" {
-        return Some(Task::Run(read_numbers(found)?, order, folder));
-    }
-    if name == "check" {
-        return Some(Task::Check(order, folder));
-    }
-    if name == "dump" {
-        return Some(Task::Dump(order, folder));
-    }
-    None
-}
-
-// The order, where it is one.
-fn read_order(found: &ArgMatches<'_>) -> Option<OrderName>
-    ensures { IfSome result (IsOrderOf (rows_of (found_of found.now))) }
-{
-    let text = found.get_str("order")?;
-    if text == "bytes" {
-        return Some(OrderName::Bytes);
-    }
-    if text == "reverse" {
-        return Some(OrderName::Reverse);
-    }
-    None
-}
-
-// The numbers, where each is in its range.
-fn read_numbers(found: &ArgMatches<'_>) -> Option<Numbers>
-    ensures { IfSome result (HaveNumbers (rows_of (found_of found.now))) }
-{
-    let numbers = Numbers {
-        write_buffer: read_number(found, "write-buffer")?,
-        block_bytes: read_number(found, "block-bytes")?,
-        file_bytes: read_number(found, "file-bytes")?,
-        level0_files: read_number(found, "level0-files")?,
-        base_bytes: read_number(found, "base-bytes")?,
-        cache_blocks: read_number(found, "cache-blocks")?,
-    };
-    numbers.options()?;
-    Some(numbers)
-}
-
-fn read_number(found: &ArgMatches<'_>, name: &str) -> Option<u64>
-    ensures { IfSome result (IsNumberOf name.now (rows_of (found_of found.now))) }
-{
-    found.get_one::<u64>(name)
 }

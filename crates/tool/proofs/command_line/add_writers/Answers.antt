@@ -1,0 +1,7 @@
+use Rattle.tool.proofs.command_line.add_writers.Goals as goal
+
+pub returns : goal.returns
+returns c = λ app was.
+    let first = c.in_ok-first.ensures app _ was c.run.ensures in
+    let second = c.in_ok-second.ensures _ _ first c.import.ensures in
+    c.in_ok-whole.ensures _ _ second c.compact.ensures

@@ -1,0 +1,161 @@
+-- What the words of the command line ask for.
+use Rattle.std.specs.Prelude.{◌≡◌, ℕ, Bool, true, false, List, Option, Some, None, Ok, codes, option_map}
+use Rattle.std.specs.Borrow.{Bor}
+use Rattle.std.specs.Str.Parse.{ParsesUnsigned}
+use Rattle.clap.specs.Words.{Row, Text, first_of, one_of, subcommand_of}
+use Rattle.engine.specs.OptionValues.{AreInRange, OptionValues}
+use Rattle.browse.specs.declared.form.Form.{Form}
+use Rattle.browse.specs.declared.form.Form.TheVariants as form
+use Rattle.browse.specs.declared.style.Style.{Style}
+use Rattle.browse.specs.declared.style.Style.TheVariants as style
+use Rattle.script.specs.Words.{IsByteString}
+use Rattle.tool.specs.CommandLine.{the_app}
+use Rattle.tool.specs.declared.task.Lookup.{Lookup}
+use Rattle.tool.specs.declared.task.Numbers.{Numbers}
+use Rattle.tool.specs.declared.task.OrderName.{OrderName}
+use Rattle.tool.specs.declared.task.OrderName.TheVariants.{Bytes, Reverse}
+use Rattle.tool.specs.declared.task.Place.{Place}
+use Rattle.tool.specs.declared.task.Pieces.{Pieces}
+use Rattle.tool.specs.declared.task.Search.{Search}
+use Rattle.tool.specs.declared.task.Task.{Task}
+use Rattle.tool.specs.declared.task.Task.TheVariants.{Get, Scan, Export, Check, Dump, Run, Import, Compact}
+use Rattle.tool.specs.declared.task.Turns.{Turns}
+
+-- ---- an option
+
+-- its word, where it is given
+abbrev pub IsWord : Text → List Row → Option (Bor Text) → Type 0
+IsWord name rows word = first_of name rows ≡ option_map (λ (w : Bor Text). w.now) word
+
+-- its text, given or by default, is read as this number
+abbrev pub IsNumberOf : Text → List Row → ℕ → Type 0
+IsNumberOf name rows number = (text : Text) × (one_of name rows ≡ Some text) × ParsesUnsigned {E = ℕ} 64 10 text (Ok number)
+
+-- the same, where it is given
+abbrev pub IsOptional : Text → List Row → Option ℕ → Type 0
+IsOptional name rows None = first_of name rows ≡ None
+IsOptional name rows (Some number) = IsNumberOf name rows number
+
+abbrev pub flag_word : Bool → Text
+flag_word true = codes "true"
+flag_word false = codes "false"
+
+-- whether a flag is given
+abbrev pub IsFlag : Text → List Row → Bool → Type 0
+IsFlag name rows given = first_of name rows ≡ Some (flag_word given)
+
+-- ---- what several tasks have
+
+abbrev pub word_of : OrderName → Text
+word_of Bytes = codes "bytes"
+word_of Reverse = codes "reverse"
+
+-- the word of --order, given or by default, is this order's
+abbrev pub IsOrderOf : List Row → OrderName → Type 0
+IsOrderOf rows order = first_of (codes "order") rows ≡ Some (word_of order)
+
+pub record IsPlace (rows : List Row) (place : Place) : Type 0 where
+  pub order : IsOrderOf rows place.order
+  pub folder : first_of (codes "DIR") rows ≡ Some place.folder.now
+
+-- the numbers as a database is told them
+abbrev pub values_of : Numbers → OptionValues
+values_of numbers = record {
+  write_buffer = numbers.write_buffer;
+  block_bytes = numbers.block_bytes;
+  file_bytes = numbers.file_bytes;
+  level0_files = numbers.level0_files;
+  base_bytes = numbers.base_bytes;
+  cache_blocks = numbers.cache_blocks;
+}
+
+pub record HaveNumbers (rows : List Row) (numbers : Numbers) : Type 0 where
+  pub write_buffer : IsNumberOf (codes "write-buffer") rows numbers.write_buffer
+  pub block_bytes : IsNumberOf (codes "block-bytes") rows numbers.block_bytes
+  pub file_bytes : IsNumberOf (codes "file-bytes") rows numbers.file_bytes
+  pub level0_files : IsNumberOf (codes "level0-files") rows numbers.level0_files
+  pub base_bytes : IsNumberOf (codes "base-bytes") rows numbers.base_bytes
+  pub cache_blocks : IsNumberOf (codes "cache-blocks") rows numbers.cache_blocks
+  pub ranges : AreInRange (values_of numbers)
+
+-- ---- keys and pairs
+
+-- --text, or not
+abbrev pub form_of : Bool → Form
+form_of true = form.Text
+form_of false = form.Hex
+
+-- the bytes that a word is: two hexadecimal digits each, or its own
+abbrev pub IsKey : Form → Text → List ℕ → Type 0
+IsKey form.Hex word key = IsByteString word key
+IsKey form.Text word key = key ≡ word
+
+pub record IsLookup (rows : List Row) (lookup : Lookup) : Type 0 where
+  pub key : first_of (codes "KEY") rows ≡ Some lookup.key.now
+  pub text : Bool
+  pub given : IsFlag (codes "text") rows text
+  pub form : lookup.form ≡ form_of text
+
+-- what --json, --text and --values ask for: not the first two at once
+abbrev pub style_of : (json text values : Bool) → Option Style
+style_of false text true = Some (style.Pairs (form_of text))
+style_of false text false = Some (style.Keys (form_of text))
+style_of true false true = Some style.JsonPairs
+style_of true false false = Some style.JsonKeys
+style_of true true values = None
+
+pub record IsStyle (rows : List Row) (s : Style) : Type 0 where
+  pub values : Bool
+  pub text : Bool
+  pub json : Bool
+  pub values_given : IsFlag (codes "values") rows values
+  pub text_given : IsFlag (codes "text") rows text
+  pub json_given : IsFlag (codes "json") rows json
+  pub style : style_of json text values ≡ Some s
+
+-- which pairs: a prefix is a range in the order of bytes alone
+pub record IsSearch (rows : List Row) (order : OrderName) (search : Search) : Type 0 where
+  pub from : IsWord (codes "from") rows search.from
+  pub to : IsWord (codes "to") rows search.to
+  pub prefix : IsWord (codes "prefix") rows search.prefix
+  pub limit : IsOptional (codes "limit") rows search.limit
+  pub reverse : IsFlag (codes "reverse") rows search.reverse
+  pub style : IsStyle rows search.style
+  pub ranged : order ≡ Reverse → search.prefix ≡ None
+
+-- ---- scripts, imports, compactions
+
+-- --work auto, or none
+abbrev pub work_word : Bool → Option Text
+work_word true = Some (codes "auto")
+work_word false = None
+
+pub record AreTurns (rows : List Row) (turns : Turns) : Type 0 where
+  pub works : first_of (codes "work") rows ≡ work_word turns.works
+  pub strict : IsFlag (codes "strict") rows turns.strict
+
+pub record ArePieces (rows : List Row) (pieces : Pieces) : Type 0 where
+  pub batch : IsNumberOf (codes "batch") rows pieces.batch
+  pub sync : IsFlag (codes "sync") rows pieces.sync
+
+-- ---- tasks
+
+-- a subcommand's name and what was found for it ask for this
+abbrev pub AsksFor : Option Text → Option (List Row) → Task → Type 0
+AsksFor (Some name) (Some rows) (Get place lookup) = (name ≡ codes "get") × IsPlace rows place × IsLookup rows lookup
+AsksFor (Some name) (Some rows) (Scan place search) = (name ≡ codes "scan") × IsPlace rows place × IsSearch rows place.order search
+AsksFor (Some name) (Some rows) (Export place) = (name ≡ codes "export") × IsPlace rows place
+AsksFor (Some name) (Some rows) (Check place) = (name ≡ codes "check") × IsPlace rows place
+AsksFor (Some name) (Some rows) (Dump place) = (name ≡ codes "dump") × IsPlace rows place
+AsksFor (Some name) (Some rows) (Run place numbers turns) = (name ≡ codes "run") × IsPlace rows place × HaveNumbers rows numbers × AreTurns rows turns
+AsksFor (Some name) (Some rows) (Import place numbers pieces) = (name ≡ codes "import") × IsPlace rows place × HaveNumbers rows numbers × ArePieces rows pieces
+AsksFor (Some name) (Some rows) (Compact place numbers level) =
+    (name ≡ codes "compact") × IsPlace rows place × HaveNumbers rows numbers × IsOptional (codes "level") rows level
+AsksFor _ _ task = ⊥
+
+abbrev pub AsksForIn : Option (Text × List Row) → Task → Type 0
+AsksForIn found task = AsksFor (option_map (λ p. p.0) found) (option_map (λ p. p.1) found) task
+
+-- what clap reads from the words
+abbrev pub IsTask : List Text → Task → Type 0
+IsTask words task = AsksForIn (subcommand_of the_app words) task

@@ -1,0 +1,276 @@
+// What the words of the command line ask for.
+
+ghost use Rattle.std.specs.Prelude.{◌≡◌, map, option_map, IfOk, IfSome, Some, None, string_bytes, codes};
+ghost use Rattle.clap.specs.Words.{app_of, found_of, first_of, is_simple, rows_of, subcommand_of, subcommand_rows_of};
+ghost use Rattle.browse.specs.declared.style.Style.TheVariants as style;
+ghost use Rattle.tool.specs.CommandLine.{the_app};
+ghost use Rattle.tool.specs.Tasks.{IsTask, AsksForIn, ArePieces, AreTurns, HaveNumbers, IsFlag, IsLookup, IsNumberOf, IsOptional, IsOrderOf, IsPlace, IsSearch, IsStyle, IsWord, form_of, style_of, work_word};
+
+use crate::command_line::command;
+use crate::task::{Lookup, Numbers, OrderName, Pieces, Place, Search, Task, Turns};
+use browse::{Form, Style};
+use clap::{ArgMatches, Error};
+use std::alloc::Global;
+
+/// Why the words ask for nothing that can be done.
+#[derive(Debug, Drop)]
+pub enum Misuse {
+    /// What `clap` says of them, also where help is asked for.
+    Words(Error),
+    /// What is wanted in the place of one of them.
+    Wanted(&'static str),
+}
+
+impl From<Error> for Misuse {
+    fn from(error: Error) -> Self {
+        Misuse::Words(error)
+    }
+}
+
+/// Reads the command line, whose first word is the program's name.
+pub fn settings<'a>(alloc: Global, words: &'a [String]) -> Result<Task<'a>, Misuse>
+    ensures { IfOk result (λ task. IsTask (map string_bytes words.now) task) }
+{
+    let matches = matches(alloc, words)?;
+    match read_task(&matches) {
+        Some(task) => Ok(task),
+        None => Err(Misuse::Wanted(wanted(&matches))),
+    }
+}
+
+fn matches<'a>(alloc: Global, words: &'a [String]) -> Result<ArgMatches<'a>, Error>
+    ensures { IfOk result (λ matches. subcommand_rows_of matches ≡ subcommand_of the_app (map string_bytes words.now)) }
+{
+    let mut command = command(alloc)?;
+    let matches = command.try_get_matches_from_mut(words)?;
+    Ok(matches)
+}
+
+// What was found. A subcommand, its folder and what has a default are always there.
+fn read_task<'a>(matches: &ArgMatches<'a>) -> Option<Task<'a>>
+    ensures { IfSome result (AsksForIn (subcommand_rows_of matches.now)) }
+{
+    let (name, found) = matches.subcommand()?;
+    let place = read_place(found)?;
+    if name == "get" {
+        return Some(Task::Get(place, read_lookup(found)?));
+    }
+    if name == "scan" {
+        return Some(Task::Scan(place, read_search(found, place.order)?));
+    }
+    if name == "export" {
+        return Some(Task::Export(place));
+    }
+    if name == "check" {
+        return Some(Task::Check(place));
+    }
+    if name == "dump" {
+        return Some(Task::Dump(place));
+    }
+    let numbers = read_numbers(found)?;
+    if name == "run" {
+        return Some(Task::Run(place, numbers, read_turns(found)?));
+    }
+    if name == "import" {
+        return Some(Task::Import(place, numbers, read_pieces(found)?));
+    }
+    if name == "compact" {
+        return Some(Task::Compact(place, numbers, read_optional(found, "level")?));
+    }
+    None
+}
+
+fn read_place<'a>(found: &ArgMatches<'a>) -> Option<Place<'a>>
+    ensures { IfSome result (IsPlace (rows_of (found_of found.now))) }
+{
+    let order = read_order(found)?;
+    let folder = found.get_str("DIR")?;
+    Some(Place { order, folder })
+}
+
+// The order, where it is one.
+fn read_order(found: &ArgMatches<'_>) -> Option<OrderName>
+    ensures { IfSome result (IsOrderOf (rows_of (found_of found.now))) }
+{
+    let text = found.get_str("order")?;
+    if text == "bytes" {
+        return Some(OrderName::Bytes);
+    }
+    if text == "reverse" {
+        return Some(OrderName::Reverse);
+    }
+    None
+}
+
+fn read_lookup<'a>(found: &ArgMatches<'a>) -> Option<Lookup<'a>>
+    ensures { IfSome result (IsLookup (rows_of (found_of found.now))) }
+{
+    let key = found.get_str("KEY")?;
+    let text = read_flag(found, "text")?;
+    let form = form_of(text);
+    Some(Lookup { key, form })
+}
+
+// Which pairs, where the range is one of this order.
+fn read_search<'a>(found: &ArgMatches<'a>, order: OrderName) -> Option<Search<'a>>
+    ensures { IfSome result (IsSearch (rows_of (found_of found.now)) order) }
+{
+    let prefix = read_prefix(found, order)?;
+    let limit = read_optional(found, "limit")?;
+    let reverse = read_flag(found, "reverse")?;
+    let style = read_style(found)?;
+    Some(Search {
+        from: read_word(found, "from"),
+        to: read_word(found, "to"),
+        prefix,
+        limit,
+        reverse,
+        style,
+    })
+}
+
+// The prefix, where this order has ranges of them.
+fn read_prefix<'a>(found: &ArgMatches<'a>, order: OrderName) -> Option<Option<&'a str>>
+    ensures given { IfSome result (IsWord (codes "prefix") (rows_of (found_of found.now))) }
+    ensures ranged { IfSome result (λ prefix. order ≡ OrderName.Reverse → prefix ≡ None) }
+{
+    let Some(prefix) = read_word(found, "prefix") else {
+        return Some(None);
+    };
+    match order {
+        OrderName::Bytes => Some(Some(prefix)),
+        OrderName::Reverse => None,
+    }
+}
+
+fn read_style(found: &ArgMatches<'_>) -> Option<Style>
+    ensures { IfSome result (IsStyle (rows_of (found_of found.now))) }
+{
+    let values = read_flag(found, "values")?;
+    let text = read_flag(found, "text")?;
+    let json = read_flag(found, "json")?;
+    let style = style_of(json, text, values)?;
+    Some(style)
+}
+
+fn style_of(json: bool, text: bool, values: bool) -> Option<Style>
+    ensures { result ≡ style_of json text values }
+{
+    match (json, text, values) {
+        (false, text, true) => Some(Style::Pairs(form_of(text))),
+        (false, text, false) => Some(Style::Keys(form_of(text))),
+        (true, false, true) => Some(Style::JsonPairs),
+        (true, false, false) => Some(Style::JsonKeys),
+        (true, true, _) => None,
+    }
+}
+
+fn form_of(text: bool) -> Form
+    ensures { result ≡ form_of text }
+{
+    match text {
+        true => Form::Text,
+        false => Form::Hex,
+    }
+}
+
+fn read_turns(found: &ArgMatches<'_>) -> Option<Turns>
+    ensures { IfSome result (AreTurns (rows_of (found_of found.now))) }
+{
+    let works = read_work(found)?;
+    let strict = read_flag(found, "strict")?;
+    Some(Turns { works, strict })
+}
+
+// Whether --work is given, where its word is `auto`.
+fn read_work(found: &ArgMatches<'_>) -> Option<bool>
+    ensures { IfSome result (λ works. first_of (codes "work") (rows_of (found_of found.now)) ≡ work_word works) }
+{
+    let Some(word) = read_word(found, "work") else {
+        return Some(false);
+    };
+    if word == "auto" {
+        return Some(true);
+    }
+    None
+}
+
+fn read_pieces(found: &ArgMatches<'_>) -> Option<Pieces>
+    ensures { IfSome result (ArePieces (rows_of (found_of found.now))) }
+{
+    let batch = read_number(found, "batch")?;
+    let sync = read_flag(found, "sync")?;
+    Some(Pieces { batch, sync })
+}
+
+// The numbers, where each is in its range.
+fn read_numbers(found: &ArgMatches<'_>) -> Option<Numbers>
+    ensures { IfSome result (HaveNumbers (rows_of (found_of found.now))) }
+{
+    let numbers = Numbers {
+        write_buffer: read_number(found, "write-buffer")?,
+        block_bytes: read_number(found, "block-bytes")?,
+        file_bytes: read_number(found, "file-bytes")?,
+        level0_files: read_number(found, "level0-files")?,
+        base_bytes: read_number(found, "base-bytes")?,
+        cache_blocks: read_number(found, "cache-blocks")?,
+    };
+    numbers.options()?;
+    Some(numbers)
+}
+
+fn read_number(found: &ArgMatches<'_>, name: &str) -> Option<u64>
+    ensures { IfSome result (IsNumberOf name.now (rows_of (found_of found.now))) }
+{
+    found.get_one::<u64>(name)
+}
+
+// A number that may be left out.
+fn read_optional(found: &ArgMatches<'_>, name: &str) -> Option<Option<u64>>
+    ensures { IfSome result (IsOptional name.now (rows_of (found_of found.now))) }
+{
+    match read_word(found, name) {
+        Some(_) => {
+            let number = read_number(found, name)?;
+            Some(Some(number))
+        }
+        None => Some(None),
+    }
+}
+
+// A word that may be left out.
+fn read_word<'a>(found: &ArgMatches<'a>, name: &str) -> Option<&'a str>
+    ensures { IsWord name.now (rows_of (found_of found.now)) result }
+{
+    found.get_str(name)
+}
+
+fn read_flag(found: &ArgMatches<'_>, name: &str) -> Option<bool>
+    ensures { IfSome result (IsFlag name.now (rows_of (found_of found.now))) }
+{
+    let text = found.get_str(name)?;
+    if text == "true" {
+        return Some(true);
+    }
+    if text == "false" {
+        return Some(false);
+    }
+    None
+}
+
+// What is wanted, where the options that `clap` found ask for no task.
+fn wanted(matches: &ArgMatches<'_>) -> &'static str {
+    let Some((_, found)) = matches.subcommand() else {
+        return "a command is wanted";
+    };
+    let Some(order) = read_order(found) else {
+        return "--order: `bytes` or `reverse` is wanted";
+    };
+    if read_work(found).is_none() {
+        return "--work: `auto` is wanted, or no such option";
+    }
+    if read_prefix(found, order).is_none() {
+        return "--prefix: --order bytes is wanted, since a prefix is no range of keys in another order";
+    }
+    "--text or --json is wanted, not both"
+}
