@@ -2,9 +2,23 @@
 
 # What a verb takes, an option a word; an option that takes a value ends with '='.
 _ldbtool_options() {
+    local sizes="--write-buffer= --block-bytes= --file-bytes= --level0-files= --base-bytes= --cache-blocks="
     case $1 in
-        run) echo "--write-buffer= --block-bytes= --file-bytes= --level0-files= --base-bytes= --cache-blocks= --order= --help" ;;
-        check | dump) echo "--order= --help" ;;
+        get) echo "--text --order= --help" ;;
+        scan) echo "--from= --to= --prefix= --limit= --reverse --values --text --json --order= --help" ;;
+        export | check | dump) echo "--order= --help" ;;
+        run) echo "--work= --strict $sizes --order= --help" ;;
+        import) echo "--batch= --sync $sizes --order= --help" ;;
+        compact) echo "--level= $sizes --order= --help" ;;
+    esac
+}
+
+# The values of an option that has few.
+_ldbtool_values() {
+    case $1 in
+        --order) echo "bytes reverse" ;;
+        --work) echo "auto" ;;
+        --level) echo "0 1 2 3 4 5" ;;
     esac
 }
 
@@ -49,12 +63,13 @@ _ldbtool_rest() {
         elif [[ ! $ended && $word == --* ]]; then
             [[ $left == *" $word= "* ]] && value=$word
             left=${left/ $word= / }
+            left=${left/ $word / }
         elif [[ $ended || $word != -* ]]; then
             folder=$word
         fi
     done
     if [[ $value ]]; then
-        [[ $value != --order ]] || _ldbtool_offer "bytes reverse"
+        _ldbtool_offer "$(_ldbtool_values "$value")"
     elif [[ ! $ended && $last == -* ]]; then
         _ldbtool_offer "${left//=/}"
     elif [[ ! $folder ]]; then
@@ -63,13 +78,13 @@ _ldbtool_rest() {
 }
 
 _ldbtool() {
-    local words last
+    local words last verbs="get scan export check dump run import compact"
     COMPREPLY=()
     _ldbtool_words
     case ${words[0]-} in
-        "") if [[ $last == -* ]]; then _ldbtool_offer "--help --version"; else _ldbtool_offer "run check dump help"; fi ;;
-        help) [[ ${#words[@]} -gt 1 ]] || _ldbtool_offer "run check dump" ;;
-        run | check | dump) _ldbtool_rest "${words[@]}" ;;
+        "") if [[ $last == -* ]]; then _ldbtool_offer "--help --version"; else _ldbtool_offer "$verbs help"; fi ;;
+        help) [[ ${#words[@]} -gt 1 ]] || _ldbtool_offer "$verbs" ;;
+        *) [[ " $verbs " != *" ${words[0]} "* ]] || _ldbtool_rest "${words[@]}" ;;
     esac
 }
 

@@ -214,7 +214,8 @@ def logs_alone(room):
 def no_lock(room):
     empty = os.path.join(room, "empty")
     os.mkdir(empty)
-    want(prints("check", empty) == "empty\n" and prints("dump", empty) == "", "an empty folder isn't empty")
+    ran = ldbtool("check", empty)
+    want((ran.returncode, ran.stdout) == (0, "empty\n") and "no CURRENT" in ran.stderr and prints("dump", empty) == "", "an empty folder isn't empty")
     held = copied(history(seeds()[0]), room)
     holder = subprocess.Popen([Programs.leveldb, "hold", *Programs.order.theirs, "--reuse", held], stdin=subprocess.PIPE, stdout=subprocess.PIPE, text=True)
     try:

@@ -16,37 +16,50 @@ from listed import Wrong, check
 from repository import ROOT
 from running import SECONDS, ldbtool, want
 
-VERBS = ["run", "check", "dump"]
-NUMBERS = ["--write-buffer", "--block-bytes", "--file-bytes", "--level0-files", "--base-bytes", "--cache-blocks"]
-RUN = [*NUMBERS, "--order", "--help"]
+VERBS = ["get", "scan", "export", "check", "dump", "run", "import", "compact"]
+SIZES = ["--write-buffer", "--block-bytes", "--file-bytes", "--level0-files", "--base-bytes", "--cache-blocks"]
+COMMON = ["--order", "--help"]
+RUN = ["--work", "--strict", *SIZES, *COMMON]
+SCAN = ["--from", "--to", "--prefix", "--limit", "--reverse", "--values", "--text", "--json", *COMMON]
 FOLDERS = ["one", "some folder", "two"]
 
 # The words in front, the beginning of the next one, and what is offered for it. (The long one of two spellings is enough.)
 OFFERED = [
     ([], "", [*VERBS, "help"]),
     ([], "r", ["run"]),
-    ([], "c", ["check"]),
+    ([], "c", ["check", "compact"]),
     ([], "x", []),
     ([], "--", ["--help", "--version"]),
     (["help"], "", VERBS),
     (["help"], "d", ["dump"]),
     (["help", "run"], "", []),
-    (["run"], "", FOLDERS),
+    *[([verb], "", FOLDERS) for verb in VERBS],
     (["run"], "o", ["one"]),
-    (["check"], "", FOLDERS),
     (["dump"], "t", ["two"]),
+    (["get"], "--", ["--text", *COMMON]),
+    (["scan"], "--", SCAN),
+    (["export"], "--", COMMON),
+    (["check"], "--", COMMON),
+    (["dump"], "--", COMMON),
     (["run"], "--", RUN),
-    (["check"], "--", ["--order", "--help"]),
-    (["dump"], "--", ["--order", "--help"]),
+    (["import"], "--", ["--batch", "--sync", *SIZES, *COMMON]),
+    (["compact"], "--", ["--level", *SIZES, *COMMON]),
     (["run"], "--b", ["--block-bytes", "--base-bytes"]),
+    (["import"], "--b", ["--batch", "--block-bytes", "--base-bytes"]),
     (["run", "--order"], "", ["bytes", "reverse"]),
     (["dump", "--order"], "r", ["reverse"]),
+    (["run", "--work"], "", ["auto"]),
+    (["compact", "--level"], "", ["0", "1", "2", "3", "4", "5"]),
     (["run", "--order", "reverse"], "--", [it for it in RUN if it != "--order"]),
     (["run", "--order=reverse"], "--", [it for it in RUN if it != "--order"]),
     (["run", "--order=reverse"], "o", ["one"]),
+    (["scan", "--reverse", "--values"], "--", [it for it in SCAN if it not in ("--reverse", "--values")]),
+    (["scan", "--reverse"], "t", ["two"]),
     (["run", "--cache-blocks", "16"], "t", ["two"]),
     (["run", "--cache-blocks"], "", []),
+    (["scan", "--from"], "", []),
     (["run", "one"], "--f", ["--file-bytes"]),
+    (["get", "one"], "--t", ["--text"]),
 ]
 
 # What bash is asked beside these: an '=' is a word to it; and behind DIR it offers nothing, where zsh offers what is left of the options.

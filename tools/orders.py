@@ -5,8 +5,9 @@ from files import Manifest, bytes_of, log_file, new_folder, write_directory
 from listed import Wrong, check
 from machine import Machine, after_all, word
 from running import ldbtool, lines, want, want_answers, want_entries, want_ran, want_report
-from scripts import SCRIPTS, WORKED
+from scripts import SCRIPTS, VERBS, WORKED
 from sessions import SESSIONS
+from told import words_of
 
 REVERSE = ("--order", "reverse")
 BYTES = ("--order", "bytes")
@@ -138,11 +139,11 @@ def scripts(room):
 @check("reverse: the option stands in the help and on the manual page, and takes `bytes` and `reverse` alone")
 def told(room):
     folder = new_folder(room)
-    for verb in ("run", "check", "dump"):
+    for verb in VERBS:
         help_text = ldbtool("help", verb).stdout.decode()
         want("--order <ORDER>" in help_text and "[default: bytes]" in help_text, True, f"the help of {verb} tells --order")
         for order in ("bytes", "reverse"):
-            want(ldbtool(verb, f"--order={order}", folder).returncode, 0, f"{verb} --order={order}")
+            want(ldbtool(*words_of(verb, folder), f"--order={order}").returncode in (0, 1), True, f"{verb} --order={order}")
         for order in ("", "byte", "REVERSE", "bytes "):
-            ran = ldbtool(verb, f"--order={order}", folder)
+            ran = ldbtool(*words_of(verb, folder), f"--order={order}")
             want((ran.returncode, ran.stdout, ran.stderr != b""), (2, b"", True), f"{verb} --order={order}")

@@ -59,12 +59,24 @@ def want_answers(folder, script, answers, *options):
     want_ran(ldbtool("run", *options, folder, script=script), 0, wanted, f"the script {short(script)}")
 
 
+def no_current(folder):
+    """What a check says of a folder that it prints as `empty`."""
+    return f"ldbtool: {folder}: no CURRENT here: no database, or an empty one\n".encode()
+
+
 def want_report(folder, *wanted, status=0, options=()):
-    want_ran(ldbtool("check", *options, folder), status, lines(*wanted), "check")
+    ran = ldbtool("check", *options, folder)
+    said = no_current(folder) if wanted == ("empty",) else b""
+    want((ran.returncode, ran.stdout, ran.stderr), (status, lines(*wanted), said), "check")
 
 
 def want_entries(folder, *wanted, status=0, options=()):
     want_ran(ldbtool("dump", *options, folder), status, lines(*wanted), "dump")
+
+
+def want_printed(words, status, *printed, script=b""):
+    """Runs a command that prints these lines, and says nothing."""
+    want_ran(ldbtool(*words, script=script), status, lines(*printed), " ".join(words))
 
 
 def want_fault(ran, status, what):

@@ -68,12 +68,38 @@ WORKED = [
      "ok; ok; worked; worked; ok; worked; worked; value 31; value 32; value 31", ["table 0 4 61 1 put 31", "table 0 6 62 2 put 32"]),
 ]  # fmt: skip
 
+VERBS = ("get", "scan", "export", "check", "dump", "run", "import", "compact")
+
 # command lines that are wrong
 MISUSES = [
-    [], ["frob", "DIR"], ["run"], ["check"], ["dump"], ["check", "A", "B"], ["run", "A", "B"], ["dump", "--cache-blocks", "1", "DIR"], ["dump", "--write-buffer", "1", "DIR"],
-    ["run", "--frob", "DIR"], ["run", "--cache-blocks", "DIR"], ["--cache-blocks", "1", "run", "DIR"], ["help", "frob"],
-    ["run", "--order", "DIR"], ["run", "--order", "backwards", "DIR"], ["check", "--order", "Bytes", "DIR"], ["dump", "--order", "", "DIR"],
+    [], ["frob", "DIR"], *[[it] for it in VERBS], *[[it, "A", "B"] for it in VERBS if it != "get"], *[[it, "--frob", "DIR"] for it in VERBS],
+    ["get", "DIR"], ["get", "DIR", "61", "62"], ["get", "61", "--text"], ["get", "--json", "DIR", "61"], ["get", "--values", "DIR", "61"], ["get", "--limit", "1", "DIR", "61"],
+    ["scan", "--limit", "DIR"], ["scan", "--limit", "-1", "DIR"], ["scan", "--limit", "18446744073709551616", "DIR"], ["scan", "--limit", "x", "DIR"], ["scan", "--limit", "", "DIR"],
+    ["scan", "--limit", "1", "--limit", "2", "DIR"], ["scan", "--from", "DIR"], ["scan", "--from", "61", "--from", "62", "DIR"], ["scan", "--reverse=yes", "DIR"],
+    ["scan", "--values", "--values", "DIR"], ["export", "--values", "DIR"], ["export", "--from", "61", "DIR"], ["export", "--text", "DIR"],
+    ["dump", "--cache-blocks", "1", "DIR"], ["dump", "--write-buffer", "1", "DIR"], ["get", "--cache-blocks", "1", "DIR", "61"], ["scan", "--cache-blocks", "1", "DIR"],
+    ["run", "--cache-blocks", "DIR"], ["--cache-blocks", "1", "run", "DIR"], ["help", "frob"],
+    ["run", "--work", "DIR"], ["run", "--work", "always", "DIR"], ["run", "--work", "", "DIR"], ["run", "--work", "auto", "--work", "auto", "DIR"], ["run", "--strict=1", "DIR"],
+    ["run", "--batch", "1", "DIR"], ["run", "--sync", "DIR"], ["run", "--level", "1", "DIR"],
+    ["import", "--batch", "0", "DIR"], ["import", "--batch", "65537", "DIR"], ["import", "--batch", "x", "DIR"], ["import", "--strict", "DIR"], ["import", "--level", "1", "DIR"],
+    ["import", "--sync", "--sync", "DIR"], ["compact", "--level", "6", "DIR"], ["compact", "--level", "-1", "DIR"], ["compact", "--level", "all", "DIR"], ["compact", "--level", "DIR"],
+    ["compact", "--batch", "1", "DIR"], ["compact", "--work", "auto", "DIR"],
+    *[[it, "--order", "DIR"] for it in VERBS], ["run", "--order", "backwards", "DIR"], ["check", "--order", "Bytes", "DIR"], ["dump", "--order", "", "DIR"],
+    ["get", "--order", "bytes ", "DIR", "61"], ["scan", "--order", "REVERSE", "DIR"], ["import", "--order", "none", "DIR"], ["compact", "--order", "byte", "DIR"],
     ["dump", "--order", "bytes", "--order", "reverse", "DIR"], ["--order", "bytes", "check", "DIR"],
+]  # fmt: skip
+
+# command lines that are wrong in a way that one line tells: the words, and what stands in that line
+TOLD_MISUSES = [
+    (["check", "--order", "backwards", "DIR"], "--order: `bytes` or `reverse` is wanted"),
+    (["run", "--work", "always", "DIR"], "--work: `auto` is wanted"),
+    (["scan", "--text", "--json", "DIR"], "--text or --json is wanted, not both"),
+    (["scan", "--text", "--json", "--values", "--limit", "1", "DIR"], "--text or --json is wanted, not both"),
+    (["scan", "--order", "reverse", "--prefix", "61", "DIR"], "--prefix: --order bytes is wanted"),
+    (["scan", "--order", "reverse", "--prefix", "-", "DIR"], "--prefix: --order bytes is wanted"),
+    *[(["get", "DIR", it], "KEY: a key in hexadecimal is wanted") for it in ("", "6", "6x", "616", "key", "6 1", " 61", "0x61")],
+    *[(["scan", f"--{name}", it, "DIR"], f"--{name}: a key in hexadecimal is wanted") for name in ("from", "to", "prefix") for it in ("", "6", "6x", "0x61")],
+    (["scan", "--json", "--from", "key", "DIR"], "--from: a key in hexadecimal is wanted"),
 ]  # fmt: skip
 
 # the options of `run`: the name, the default and the greatest number of each
@@ -82,8 +108,12 @@ OPTIONS = [
     ("level0-files", 4, 1_024), ("base-bytes", 10_485_760, 2**40), ("cache-blocks", 1_024, 65_536),
 ]  # fmt: skip
 
+# the same of one verb alone
+OTHER_OPTIONS = [("import", "batch", 1_000, 65_536)]
+
 # words that ask for help, and what it has
 TOLD = [
+    ("help get", "76616c7565"), ("get -h", "Usage"), ("scan --help", "--prefix <K>"), ("export --help", "put 6b6579 76616c7565"), ("import --help", "taken N"), ("compact --help", "--level <L>"),
     ("--help", "Exit status"), ("help run", "refused 20 BadLine"), ("run --help", "value 76616c7565"), ("check -h", "Usage"),
     ("dump --help", "table LEVEL NUMBER KEY SEQUENCE put VALUE"), ("--version", "ldbtool 0.1.0"),
 ]  # fmt: skip

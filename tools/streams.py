@@ -64,7 +64,7 @@ def failing_scripts(room):
 @check("a device without room is said, with status 1")
 def full_device(room):
     folder = with_table(room, "folder", ONE_TABLE)
-    for words in (["dump", folder], ["check", folder], ["run", folder], ["--help"], ["--version"]):
+    for words in (["dump", folder], ["check", folder], ["run", folder], ["--help"], ["help", "scan"], ["--version"]):
         with open("/dev/full", "wb") as full:
             ran = subprocess.run([under_test(), *words], input=b"get 61\n", stdout=full, stderr=subprocess.PIPE, timeout=SECONDS)
         want((ran.returncode, ran.stderr[:9]), (1, b"ldbtool: "), f"{words} to /dev/full")

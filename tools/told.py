@@ -9,10 +9,15 @@ from files import new_folder
 from listed import check
 from repository import ROOT
 from running import SECONDS, ldbtool, lines, under_test, want, want_answers, want_fault, want_ran
-from scripts import MISUSES, OPTIONS, TOLD
+from scripts import MISUSES, OPTIONS, OTHER_OPTIONS, TOLD, TOLD_MISUSES, VERBS
 
 
 # ---- the command line
+
+
+def words_of(verb, folder):
+    """A verb with what it can't be without."""
+    return [verb, folder, "61"] if verb == "get" else [verb, folder]
 
 
 @check("a folder that is missing, or none, is said on standard error, with status 1")
@@ -20,8 +25,8 @@ def wrong_folders(room):
     with open(f"{room}/file", "wb"):
         pass
     for folder in (f"{room}/missing", f"{room}/file", f"{room}/file/below", ""):
-        for verb in ("run", "check", "dump"):
-            ran = ldbtool(verb, folder, script=b"open new\n")
+        for verb in VERBS:
+            ran = ldbtool(*words_of(verb, folder), script=b"open new\n")
             want_fault(ran, 1, f"{verb} over {folder!r}")
             want(ran.stderr[:9], b"ldbtool: ", f"what {verb} over {folder!r} says")
 
@@ -44,6 +49,29 @@ def misuses(_room):
         want_fault(ldbtool(*words), 2, f"the words {words}")
 
 
+@check("what is wanted in the place of an order, a key or two options that go not together is said in one line, before a folder is opened")
+def told_misuses(_room):
+    for words, told in TOLD_MISUSES:
+        ran = ldbtool(*words)
+        said = ran.stderr.decode()
+        want((ran.returncode, ran.stdout, said.count("\n"), said.startswith(f"ldbtool: {told}")), (2, b"", 1, True), f"the words {words}")
+
+
+@check("no name or word that comes from outside steers a terminal: what isn't printable is said as its two digits")
+def escaped_names(room):
+    name, told = "\x1b[31mred\x07\n\x7f\u6587\x9f", "\\x1b[31mred\\x07\\x0a\\x7f\\xe6\\x96\\x87\\xc2\\x9f"
+    for verb in VERBS:
+        ran = ldbtool(*words_of(verb, name), cwd=room)
+        want((ran.returncode, ran.stderr.decode()), (1, f"ldbtool: {told}: there is no such folder\n"), f"{verb} over a name that isn't printable")
+    os.mkdir(f"{room}/{name}")
+    ran = ldbtool("check", name, cwd=room)
+    want((ran.stdout, ran.stderr.decode()), (b"empty\n", f"ldbtool: {told}: no CURRENT here: no database, or an empty one\n"), "check of such a folder")
+    for words in ([name], [f"--{name}"], ["check", f"--{name}"], ["run", "--order", name, "DIR"], ["run", "--cache-blocks", name, "DIR"], ["check", "DIR", name], ["help", name]):
+        ran = ldbtool(*words)
+        want((ran.returncode, ran.stdout), (2, b""), f"the words {words}")
+        want(all(it == 10 or 32 <= it <= 126 for it in ran.stderr), True, f"what is said of {words} is printable")
+
+
 @check("each option takes the numbers from 1 to its greatest, and no other word")
 def options(room):
     folder = new_folder(room)
@@ -54,16 +82,33 @@ def options(room):
         for word in ("0", str(most + 1), "-1", "x", "", "1.5", str(2**64)):
             want_fault(ldbtool("run", f"--{name}={word}", folder), 2, f"--{name}={word}")
             want_fault(ldbtool("run", f"--{name}", word, folder), 2, f"--{name} {word!r}")
+        for verb, printed in (("import", b"refused 20 BadLine\ntaken 0\n"), ("compact", b"refused 3 NoDatabase\n")):
+            for number in (1, most):
+                empty = new_folder(room, f"{verb} {name} {number}")
+                want_ran(ldbtool(verb, f"--{name}", str(number), empty, script=b"open\n"), 1, printed, f"{verb} --{name} {number}")
+            for word in ("0", str(most + 1), "x"):
+                want_fault(ldbtool(verb, f"--{name}", word, folder), 2, f"{verb} --{name} {word!r}")
 
 
 @check("the options' defaults and ranges stand in the help and on the manual page")
 def told_options(_room):
-    told = ldbtool("help", "run").stdout.decode()
     with open(f"{ROOT}/man/ldbtool.1", encoding="utf-8") as file:
         page = file.read().replace("\\-", "-")
-    for name, default, most in OPTIONS:
+    for verb, name, default, most in [*[(verb, *it) for verb in ("run", "import", "compact") for it in OPTIONS], *OTHER_OPTIONS]:
+        told = ldbtool("help", verb).stdout.decode()
         for text, wanted in ((told, f"--{name} <N>.*from 1 to {most}.*\\[default: {default}\\]"), (page, f"--{name} .*(\n.*)?\nFrom 1 to {most}; {default} where")):
-            want(bool(re.search(wanted, text)), True, f"--{name} is told with its range and default")
+            want(bool(re.search(wanted, text)), True, f"--{name} of {verb} is told with its range and default")
+
+
+@check("each verb stands in the synopsis, and each option of its help on the manual page")
+def told_verbs(_room):
+    with open(f"{ROOT}/man/ldbtool.1", encoding="utf-8") as file:
+        page = file.read().replace("\\-", "-")
+    synopsis = page.split(".SH SYNOPSIS")[1].split(".SH DESCRIPTION")[0]
+    want(re.findall(r"^\.B ldbtool ([a-z]+)$", synopsis, re.M), [*VERBS, "help"], "the verbs of the synopsis")
+    for verb in VERBS:
+        found = re.findall(r"--[a-z0-9-]+", ldbtool("help", verb).stdout.decode().split("\nOptions:\n")[1].split("\n\n")[0])
+        want({it for it in found if it not in page}, set(), f"options of {verb} that aren't on the page")
 
 
 @check("help and version go to standard output, with status 0")
@@ -75,11 +120,11 @@ def helps(_room):
     want(bool(re.fullmatch(r"ldbtool \d+\.\d+\.\d+\n", version)), True, f"the version {version!r}")
     with open(f"{ROOT}/man/ldbtool.1", encoding="utf-8") as file:
         want(f'"{version.strip()}"' in file.read(), True, "the manual page has this version")
-    for words in (["--help"], ["-h"], ["help"], ["-V"], *[[verb, "--help"] for verb in ("run", "check", "dump")]):
+    for words in (["--help"], ["-h"], ["help"], ["-V"], *[[verb, "--help"] for verb in VERBS]):
         ran = ldbtool(*words)
         want((ran.returncode, ran.stderr), (0, b""), f"the words {words}")
         want(words == ["-V"] or b"Exit status" in ran.stdout, True, f"{words} tells the statuses")
-    for verb in ("run", "check", "dump"):
+    for verb in VERBS:
         want(ldbtool("help", verb).stdout, ldbtool(verb, "--help").stdout, f"help {verb}")
 
 
@@ -128,15 +173,15 @@ def want_examples(room, found, least):
 
 @check("the examples of the manual page print what they say")
 def examples_page(room):
-    want_examples(room, examples_of_page(), 8)
+    want_examples(room, examples_of_page(), 30)
 
 
 @check("the examples of the README print what they say")
 def examples_readme(room):
-    want_examples(room, examples_of_readme(), 4)
+    want_examples(room, examples_of_readme(), 7)
 
 
 @check("the examples of the help print what they say")
 def examples_help(room):
-    told = {verb: ldbtool("help", verb).stdout.decode() for verb in ("run", "check", "dump")}
-    want_examples(room, [it for verb in told for it in examples_of_help(told[verb])], 5)
+    told = {verb: ldbtool("help", verb).stdout.decode() for verb in ("run", *[it for it in VERBS if it != "run"])}
+    want_examples(room, [it for verb in told for it in examples_of_help(told[verb])], 14)

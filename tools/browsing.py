@@ -1,0 +1,298 @@
+"""The checks of tools/program that are about `get`, `scan` and `export`: what they print, and that they change nothing, whatever
+stands in the folder."""
+import os
+import subprocess
+
+from files import ONE_TABLE, Manifest, bytes_of, log_file, new_folder, spelled, table_file, with_table, write_directory
+from folders import as_a_user
+from listed import check
+from running import SECONDS, ldbtool, lines, under_test, want, want_answers, want_fault, want_printed, want_ran
+from streams import at_hand, want_beginning, want_next
+
+REVERSE = ("--order", "reverse")
+
+# the pairs of a small database, by key: one without bytes, some that begin alike, some that are no text
+PAIRS = {"": "76", "00": "", "61": "31", "6100": "3100", "6161": "-", "61ff": "33", "6b6579": "76616c7565", "7f20": "5c7e", "ff": "ff", "ffff": "00"}
+WORDS = {key or "-": "-" if value in ("", "-") else value for key, value in PAIRS.items()}
+
+
+def filled(room, name="folder", *options):
+    """A folder with these pairs, in tables and in a log, beside what was overwritten and deleted."""
+    folder = new_folder(room, name)
+    keys = list(WORDS)
+    script = ["open new", "put 6162 39", "put 61 39", *[f"put {key} {WORDS[key]}" for key in keys[::2]], "compact all", "del 6162", *[f"put {key} {WORDS[key]}" for key in keys[1::2]]]
+    want_answers(folder, lines(*script), "; ".join(["ok"] * len(script)), *options)
+    return folder
+
+
+def in_order(turned=False):
+    """The keys as the order has them; turned round, a prefix comes last."""
+    return sorted(WORDS, key=spelled, reverse=turned)
+
+
+# ---- get
+
+
+@check("get prints the value of a key that has one, in each form, and ends with status 4 where it has none")
+def gets(room):
+    folder = filled(room)
+    for key, value in WORDS.items():
+        want_printed(["get", folder, key], 0, value)
+        want_printed(["get", folder, key.upper()], 0, value)
+        want_printed(["get", "--order=bytes", folder, key], 0, value)
+    for key in ("6162", "6101", "62", "fffe", "ffffff", "0000", "61" * 30_000):
+        want_printed(["get", folder, key], 4)
+    for key, value in (("a", "1"), ("key", "value"), ("", "v"), ("\x7f ", "\\~")):
+        want_printed(["get", "--text", folder, key], 0, value)
+        want_printed(["get", folder, key, "--text"], 0, value)
+    for key in ("b", "61", "-", "key "):
+        want_printed(["get", "--text", "--", folder, key], 4)
+    raw = write_directory(room, "raw", Manifest(log=2, next_file=3), {"000002.log": log_file([(1, [("2d78", "00097f80ff5c2022"), ("c3a9", "c3a9"), ("62", None)])])})
+    want_printed(["get", "--text", "--", raw, "-x"], 0, '\\x00\\x09\\x7f\\x80\\xff\\ "')
+    want_printed(["get", "--text", raw, "\u00e9"], 0, "\\xc3\\xa9")
+    want_printed(["get", raw, "c3a9"], 0, "c3a9")
+    want_printed(["get", raw, "62"], 4)
+
+
+@check("reverse: get finds what the order has, and scan walks it")
+def turned(room):
+    folder = filled(room, "folder", *REVERSE)
+    for key, value in WORDS.items():
+        want_printed(["get", *REVERSE, folder, key], 0, value)
+    want_printed(["scan", *REVERSE, folder], 0, *in_order(True))
+    want_printed(["scan", *REVERSE, "--reverse", folder], 0, *in_order(True)[::-1])
+    want_printed(["scan", *REVERSE, "--from", "61ff", "--to", "61", folder], 0, "61ff", "6161", "6100")
+
+
+# ---- scan
+
+
+def ranged(turned, first, last, prefix):
+    """Those of the keys that a scan with these bounds has."""
+
+    def is_before(key, other):
+        return spelled(key) > spelled(other) if turned else spelled(key) < spelled(other)
+
+    found = [it for it in in_order(turned) if not (first and is_before(it, first)) and (last is None or is_before(it, last))]
+    return [it for it in found if prefix is None or spelled(it).startswith(spelled(prefix))]
+
+
+BOUNDS = (None, "-", "00", "61", "6100", "6101", "62", "ff", "ffff", "ffffff")
+
+
+def want_scan(folder, turned, first, last, prefix, limit, backwards):
+    options = [*(REVERSE if turned else ()), *(["--reverse"] if backwards else [])]
+    for name, value in (("from", first), ("to", last), ("prefix", prefix), ("limit", limit)):
+        options += [] if value is None else [f"--{name}", str(value)]
+    wanted = ranged(turned, first, last, prefix)
+    wanted = (wanted[::-1] if backwards else wanted)[: None if limit is None else limit]
+    want_printed(["scan", *options, folder], 0, *wanted)
+
+
+@check("a scan has the keys from one on and in front of another, forwards and backwards, at most so many, in both orders")
+def ranges(room):
+    for turned_round in (False, True):
+        folder = filled(room, f"folder {turned_round}", *(REVERSE if turned_round else ()))
+        for number, (first, last) in enumerate((first, last) for first in BOUNDS for last in BOUNDS):
+            for backwards in (False, True):
+                want_scan(folder, turned_round, first, last, None, (None, 0, 1, 3, 2**64 - 1)[number % 5], backwards)
+
+
+@check("a scan has the keys that begin so, within its bounds, forwards and backwards")
+def prefixes(room):
+    folder = filled(room)
+    for prefix in BOUNDS[1:]:
+        for number, (first, last) in enumerate(((None, None), ("6100", None), (None, "61ff"), ("00", "ffff"), ("ff", "61"))):
+            want_scan(folder, False, first, last, prefix, (None, 2)[number % 2], number % 3 == 0)
+            want_scan(folder, False, first, last, prefix, None, True)
+    want_printed(["scan", "--prefix", "a", "--text", folder], 0, "a", "a\\x00", "aa", "a\\xff")
+    want_printed(["scan", "--prefix", "", "--text", "--limit", "1", folder], 0, "")
+
+
+# the options of a scan, and the lines that it prints of the pairs `-` to 76, 00 to none and 61 to 31
+STYLES = [
+    ("", ["-", "00", "61"]),
+    ("--values", ["- 76", "00 -", "61 31"]),
+    ("--text", ["", "\\x00", "a"]),
+    ("--text --values", [" v", "\\x00 ", "a 1"]),
+    ("--json", ['{"key":""}', '{"key":"00"}', '{"key":"61"}']),
+    ("--json --values", ['{"key":"","value":"76"}', '{"key":"00","value":""}', '{"key":"61","value":"31"}']),
+]
+
+
+@check("a scan prints keys or pairs in hexadecimal, as text or as JSON")
+def styles(room):
+    folder = filled(room)
+    for options, wanted in STYLES:
+        behind = "a\x01" if "--text" in options else "6101"
+        want_printed(["scan", *options.split(), "--limit", "3", folder], 0, *wanted)
+        want_printed(["scan", *options.split(), "--limit", "0", folder], 0)
+        found = ldbtool("scan", *options.split(), "--reverse", "--to", behind, folder).stdout.decode().splitlines()
+        want(found[1:], wanted[::-1], f"a scan with {options} backwards")
+
+
+@check("export prints each pair as a put, in the order of the keys")
+def exports(room):
+    want_printed(["export", filled(room)], 0, *[f"put {key} {WORDS[key]}" for key in in_order()])
+    want_printed(["export", *REVERSE, filled(room, "turned", *REVERSE)], 0, *[f"put {key} {WORDS[key]}" for key in in_order(True)])
+
+
+@check("many pairs come whole and in order, forwards, backwards and in parts, out of several levels")
+def many(room):
+    folder = new_folder(room)
+    keys = [f"{(n * 7_919) % 20_000:08x}" for n in range(20_000)]
+    script = ["open new", *[line for n, key in enumerate(keys) for line in ([f"put {key} {n:06x}"] + (["work 600"] if n % 100 == 99 else []))]]
+    ran = ldbtool("run", "--write-buffer", "20000", "--file-bytes", "30000", "--base-bytes", "60000", folder, script=lines(*script))
+    want((ran.returncode, ran.stdout.count(b"refused")), (0, 0), "the script")
+    wanted = sorted((key, f"{n:06x}") for n, key in enumerate(keys))
+    want_printed(["scan", "--values", folder], 0, *[f"{key} {value}" for key, value in wanted])
+    want_printed(["scan", "--reverse", folder], 0, *[key for key, _ in wanted[::-1]])
+    want_printed(["scan", "--from", wanted[777][0], "--limit", "1000", folder], 0, *[key for key, _ in wanted[777:1777]])
+    want_printed(["scan", "--to", wanted[777][0], "--limit", "500", "--reverse", folder], 0, *[key for key, _ in wanted[277:777][::-1]])
+    want_printed(["scan", "--prefix", "000012", folder], 0, *[key for key, _ in wanted if key.startswith("000012")])
+    want_printed(["export", folder], 0, *[f"put {key} {value}" for key, value in wanted])
+
+
+# ---- refusals
+
+
+def want_each(folder, status, *printed, options=(), key="61"):
+    for words in (["get", *options, folder, key], ["scan", *options, folder], ["scan", *options, "--reverse", folder], ["export", *options, folder]):
+        want_printed(words, status, *printed)
+
+
+@check("an empty folder, a damaged one, and one of another order or with compressed blocks are refused by get, scan and export")
+def refused(room):
+    want_each(new_folder(room, "empty"), 1, "refused 3 NoDatabase")
+    want_each(filled(room, "bytes"), 1, "refused 6 Unsupported", options=REVERSE)
+    want_each(write_directory(room, "no manifest", None, {"CURRENT": b"MANIFEST-000009\n"}), 1, "refused 5 Corrupt")
+    want_each(write_directory(room, "rubbish", None, {"CURRENT": b"MANIFEST-000001\n", "MANIFEST-000001": b"rubbish"}), 1, "refused 5 Corrupt")
+    want_each(with_table(room, "table", ONE_TABLE[:5] + b"\x00" + ONE_TABLE[6:]), 1, "refused 5 Corrupt")
+    # (a script's bad log)
+    log = log_file([(1, [("61", "31")])])
+    want_each(write_directory(room, "log", Manifest(log=2, next_file=3), {"000002.log": b"\x00" + log[1:] + log}), 1, "refused 5 Corrupt")
+
+
+@check("a refusal that a scan meets stands behind the lines of what came before it")
+def refused_behind(room):
+    folder = new_folder(room)
+    want_answers(folder, "open new; put 61 31; put 62 32; put 63 33; compact all; close", "ok; ok; ok; ok; ok; ok", "--block-bytes", "1")
+    table = bytearray(bytes_of(folder, "000005.ldb"))
+    at = table.index(b"\x63\x01\x03")
+    table[at] ^= 1
+    with open(f"{folder}/000005.ldb", "wb") as file:
+        file.write(table)
+    want_printed(["scan", "--values", folder], 1, "61 31", "62 32", "refused 5 Corrupt")
+    want_printed(["export", folder], 1, "put 61 31", "put 62 32", "refused 5 Corrupt")
+    want_printed(["scan", "--reverse", folder], 1, "refused 5 Corrupt")
+    want_printed(["scan", "--limit", "2", folder], 0, "61", "62")
+    want_printed(["get", folder, "61"], 0, "31")
+    want_printed(["get", folder, "63"], 1, "refused 5 Corrupt")
+
+
+# ---- nothing is changed
+
+
+READERS = (["get", "61"], ["get", "7a"], ["scan"], ["scan", "--values", "--reverse"], ["export"], ["check"], ["dump"])
+
+
+def words_over(words, folder):
+    return [words[0], folder, *words[1:]]
+
+
+def seen(folder):
+    """Each file's bytes and times, and the folder's own."""
+    times = [os.stat(folder).st_mtime_ns]
+    return times, {name: (bytes_of(folder, name), os.stat(f"{folder}/{name}").st_mtime_ns, os.stat(f"{folder}/{name}").st_ino) for name in os.listdir(folder)}
+
+
+@check("get, scan, export, check and dump leave every file as it was, in good folders, empty ones and damaged ones")
+def unchanged(room):
+    torn = log_file([(1, [("61", "31")]), (2, [("62", "32")])])
+    stray = {"000009.ldb": b"rubbish", "000001.log": b"", "000007.dbtmp": b"x", "LOG": b"x", "other": b"x", "MANIFEST-000000": b""}
+    folders = [
+        filled(room, "good"), new_folder(room, "empty"), with_table(room, "one", ONE_TABLE), with_table(room, "damaged", ONE_TABLE[:-1] + b"x"),
+        write_directory(room, "torn", Manifest(log=2, next_file=3), {"000002.log": torn[:-1]}), write_directory(room, "stray", None, stray),
+        with_table(room, "one with strays", ONE_TABLE, **stray), write_directory(room, "no lock", Manifest(log=2, next_file=3), {"000002.log": torn}),
+    ]  # fmt: skip
+    for folder in folders:
+        before = seen(folder)
+        for words in READERS:
+            for options in ((), REVERSE):
+                ldbtool(*words_over(words, folder), *options)
+                want(seen(folder), before, f"{os.path.basename(folder)} behind {words}")
+
+
+@check("beside a process that has the database open they print what is there, and its work goes on")
+def beside(room):
+    folder = new_folder(room)
+    with at_hand(folder) as ran:
+        want_next(ran, b"open new\nput 61 31\nput 62 32\ncompact all\nput 63 33\n", b"ok\n" * 5)
+        before = seen(folder)
+        want_printed(["get", folder, "61"], 0, "31")
+        want_printed(["scan", "--values", folder], 0, "61 31", "62 32", "63 33")
+        want_printed(["export", folder], 0, "put 61 31", "put 62 32", "put 63 33")
+        for words in READERS:
+            ldbtool(*words_over(words, folder))
+        want(seen(folder), before, "the files")
+        want_next(ran, b"put 61 39\nget 61\n", b"ok\nvalue 39\n")
+        want_printed(["get", folder, "61"], 0, "39")
+
+
+@check("in a folder that is read-only they print the same")
+def read_only(room):
+    program, how = as_a_user(room)
+    folder = filled(room)
+    wanted = [ldbtool(*words_over(words, folder)).stdout for words in READERS]
+    for path in (*[f"{folder}/{name}" for name in os.listdir(folder)], folder):
+        os.chmod(path, 0o555 if path == folder else 0o444)
+        if how:
+            os.chown(path, how["user"], how["group"])
+    before = seen(folder)
+    for words, printed in zip(READERS, wanted):
+        ran = subprocess.run([program, *words_over(words, folder)], capture_output=True, timeout=SECONDS, **how)
+        want((ran.stdout, ran.stderr), (printed, b""), f"{words} of a read-only folder")
+    want(seen(folder), before, "the files")
+    os.chmod(folder, 0o755)
+
+
+# ---- streams
+
+
+@check("a get, a scan or an export whose output fails behind any byte has written the bytes before, and ends with status 1")
+def failing_outputs(room):
+    folder = filled(room)
+    for words in (["get", folder, "6b6579"], ["scan", "--values", folder], ["scan", "--json", "--reverse", folder], ["export", folder]):
+        whole = ldbtool(*words).stdout
+        for count in range(0, len(whole) + 2, 1 if len(whole) < 100 else 7):
+            want_beginning(room, words, b"", whole, count)
+
+
+@check("a scan or an export whose pipe is closed ends with status 1, without a word")
+def closed_pipe(room):
+    folder = new_folder(room)
+    want_answers(folder, lines("open new", *[f"put {n:08x} {'ab' * 500}" for n in range(300)]), "; ".join(["ok"] * 301))
+    for words in (["scan", "--values", folder], ["export", folder], ["scan", "--values", "--reverse", "--json", folder]):
+        ran = subprocess.run(["sh", "-c", '"$@" | head -n 1; exit 0', "sh", *[under_test(), *words]], capture_output=True, timeout=SECONDS)
+        want((ran.stdout.count(b"\n"), ran.stderr), (1, b""), f"{words[0]} into head")
+    reading, writing = os.pipe()
+    os.close(reading)
+    for words in (["get", folder, "00000001"], ["scan", folder]):
+        ran = subprocess.run([under_test(), *words], stdout=writing, stderr=subprocess.PIPE, timeout=SECONDS)
+        want((ran.returncode, ran.stderr), (1, b""), f"{words[0]} into a closed pipe")
+    os.close(writing)
+    for words in (["get", folder, "00000001"], ["scan", folder], ["export", folder]):
+        with open("/dev/full", "wb") as full:
+            ran = subprocess.run([under_test(), *words], stdout=full, stderr=subprocess.PIPE, timeout=SECONDS)
+        want((ran.returncode, ran.stderr[:9]), (1, b"ldbtool: "), f"{words} to /dev/full")
+
+
+@check("a get of a missing key says nothing, and a wrong folder is said on standard error")
+def statuses(room):
+    folder = filled(room)
+    want_ran(ldbtool("get", folder, "6163"), 4, b"", "a missing key")
+    for words in (["get", f"{room}/none", "61"], ["scan", f"{room}/none"], ["export", f"{room}/none"]):
+        want_fault(ldbtool(*words), 1, f"{words}")
+    two = table_file([("61", 2, "32"), ("62", 1, "31")])
+    table = write_directory(room, "table", Manifest(log=3, next_file=6, last_sequence=2, tables=[(6, 5, len(two), ("61", 2), ("62", 1))]), {"000003.log": b"", "000005.ldb": two})
+    want_printed(["scan", "--values", table], 0, "61 32", "62 31")
