@@ -16,7 +16,7 @@ use Rattle.engine.specs.Outcomes.{AreAnswersTo}
 use Rattle.engine.specs.Applied.{Applied, AllApplied}
 use Rattle.script.specs.Words.{Reads}
 use Rattle.script.specs.Script.{Says, line_of}
-use Rattle.script.specs.Drive.{lines_of, AreSaid, commands_of, text_of, Answered, EndsScript, Stopped, TakesLine, AppendsFront, Shows, LeavesLines}
+use Rattle.script.specs.Drive.{lines_of, AreSaid, commands_of, text_of, Answered, EndsEarly, EndsScript, Stopped, TakesLine, AppendsFront, Shows, LeavesLines}
 use Rattle.script.proofs.Written.{appends_none, appends_then}
 
 run_then : (order : Order) (m k n : Machine) (cs ds : List Op) (xs ys : List Answer) → Run order m cs xs k → Run order k ds ys n → Run order m (cs ++ ds) (xs ++ ys) n
@@ -195,6 +195,18 @@ script_stops order facts old now script left before after later waiting p front 
   unseen = front.1;
   text = p.text ∙ ap (λ (t : List ℕ). p.shown ++ t) front.2 ∙ sym (append_assoc p.shown front.0 front.1);
   written = appends_then before after later p.shown front.0 p.written front.3;
+}
+
+-- the lines so far were answered, and what waited of their text was written
+pub script_early : {S K : Type 0} {g : _} (order : Order) (facts : S → Facts) (old now : Session S K g) (script left before after later : Option (List ℕ)) (waiting : List ℕ)
+    → Progress order facts old now script left before after waiting → Appends after later waiting → EndsEarly order facts old now script before later
+script_early order facts old now script left before after later waiting p written = record {
+  lines = p.lines;
+  said = p.said;
+  answers = p.answers;
+  first = leaves_some script left p.lines p.leaves;
+  answered = p.answered;
+  written = subst (Appends before later) (sym p.text) (appends_then before after later p.shown waiting p.written written);
 }
 
 -- the text stays, whether the line was answered or not

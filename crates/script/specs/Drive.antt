@@ -16,6 +16,8 @@ use Rattle.engine.specs.Outcomes.{AreAnswersTo}
 use Rattle.engine.specs.Applied.{Applied, AllApplied}
 use Rattle.script.specs.Words.{Reads}
 use Rattle.script.specs.Script.{Says, line_of}
+use Rattle.script.specs.declared.way.Ended.{Ended}
+use Rattle.script.specs.declared.way.Ended.TheVariants.{Whole, Refused as EndedEarly}
 
 -- The lines of a script: each is ended by a newline, the last one perhaps without.
 abbrev pub lines_of : List ℕ → List (List ℕ)
@@ -59,10 +61,24 @@ pub record EndsScript {S K : Type 0} {g : _} (order : Order) (facts : S → Fact
   pub answered : Answered order facts old new lines said answers
   pub written : Appends before after (text_of said answers)
 
+-- Some first lines were answered, and the text of their answers was written.
+pub record EndsEarly {S K : Type 0} {g : _} (order : Order) (facts : S → Facts) (old new : Session S K g) (script before after : Option (List ℕ)) : Type 0 where
+  pub lines : List (List ℕ)
+  pub said : List (Option Op)
+  pub answers : List Answer
+  pub first : IfSome script (λ bytes. (later : List (List ℕ)) × (lines_of bytes ≡ lines ++ later))
+  pub answered : Answered order facts old new lines said answers
+  pub written : Appends before after (text_of said answers)
+
+-- all lines, or some first ones
+abbrev pub EndsAs : {S K : Type 0} {g : _} → Ended → Order → (S → Facts) → Session S K g → Session S K g → Option (List ℕ) → Option (List ℕ) → Option (List ℕ) → Type 0
+EndsAs Whole order facts old new script before after = EndsScript order facts old new script before after
+EndsAs EndedEarly order facts old new script before after = EndsEarly order facts old new script before after
+
 -- And then the session was closed, without an answer line.
-pub record Finished {S K : Type 0} {g : _} (order : Order) (facts : S → Facts) (old new : Session S K g) (script before after : Option (List ℕ)) : Type 0 where
+pub record Finished {S K : Type 0} {g : _} (how : Ended) (order : Order) (facts : S → Facts) (old new : Session S K g) (script before after : Option (List ℕ)) : Type 0 where
   pub between : Session S K g
-  pub ended : EndsScript order facts old between script before after
+  pub ended : EndsAs how order facts old between script before after
   pub closing : Answer
   pub closed : Applied order facts Close between new closing
 

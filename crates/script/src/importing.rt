@@ -30,8 +30,8 @@ use store::Store;
 // How many bytes of the lines are read at once.
 const INPUT_BYTES: usize = 65_536;
 
-// How many entries of work are done for each operation: each is merged a few times on its way down the levels.
-const WORK_PER_OPERATION: u32 = 6;
+/// How many entries of work are done for each operation: each is merged a few times on its way down the levels.
+pub const WORK_PER_OPERATION: u32 = 6;
 
 /// Imports lines, each a `put` with a key and a value or a `del` with a key, into the database that is there, or into a new one.
 /// They are written as batches, each when it has as many operations as it may have, or 1 MiB of keys and values, and behind each

@@ -15,6 +15,7 @@ mod output;
 mod run;
 mod steps;
 mod verb;
+mod way;
 mod word;
 
 pub use answer::{answer_line, bytes_text, push_bytes};
@@ -24,5 +25,6 @@ pub use import_options::Importing;
 pub use importing::import;
 pub use line::{one_command, read_line, read_operation_line};
 pub use output::{show, write_all};
-pub use run::drive;
+pub use run::{drive, drive_in};
+pub use way::{Ended, Way};
 pub use word::read_bytes;

@@ -6,7 +6,7 @@ use crate::status::{DONE, MISUSED, STRICT};
 use crate::task::{Numbers, Pieces, Turns};
 use engine::{Options, Session};
 use ikey::KeyOrder;
-use script::{Ended, Importing, Way, drive};
+use script::{Ended, Importing, Way, drive_in};
 use std::alloc::Global;
 use std::io::{Read, Write};
 use std::num::TryFromIntError;
@@ -30,7 +30,7 @@ pub fn run<K: KeyOrder, R: Read + Drop, W: Write, F: Write>(
         strict: turns.strict,
         works: turns.works,
     };
-    match drive(rt.alloc(), &mut session, way, reader, writer) {
+    match drive_in(rt.alloc(), &mut session, way, reader, writer) {
         Ok(Ended::Whole) => DONE,
         Ok(Ended::Refused) => STRICT,
         Err(fault) => stop(faults, &fault),

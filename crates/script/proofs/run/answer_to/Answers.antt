@@ -1,27 +1,25 @@
-use Rattle.std.proofs.Common.{[], ◌∷◌, inl, inr, refl}
+use Rattle.std.proofs.Common.{[], ◌∷◌, inl, inr, refl, sym, subst}
 use Rattle.std.specs.Prelude.{Some, None}
 use Rattle.ikey.specs.Orders.{order_of}
-use Rattle.script.proofs.Written.{on_err, on_ok_so, on_err_so}
+use Rattle.script.specs.Drive.{Answered}
+use Rattle.script.proofs.Written.{on_err}
 use Rattle.script.proofs.Runs.{answered_none, answered_bad, answered_one}
 use Rattle.script.proofs.run.answer_to.Goals as goal
 
 pub returns-in_err-read_line-clause-stopped : goal.returns-in_err-read_line-clause-stopped
-returns-in_err-read_line-clause-stopped g c =
-    on_err c.from_residual.result _ ([], [], [], inl refl, answered_none (order_of g.K.KeyOrder.name g.K.KeyOrder.cmp) g.S.Store.facts c.args.session.now, refl)
+returns-in_err-read_line-clause-stopped g c = λ plain. on_err c.from_residual.result _ ([], [], [], inl refl, answered_none (order_of g.K.KeyOrder.name g.K.KeyOrder.cmp) g.S.Store.facts c.args.session.now, refl)
 
-pub returns-in-None-clause-done : goal.returns-in-None-clause-done
-returns-in-None-clause-done g c =
+pub returns-in_ok-push_answer-in-None-clause-done : goal.returns-in_ok-push_answer-in-None-clause-done
+returns-in_ok-push_answer-in-None-clause-done g c = λ plain.
     let says = rw c.in-None.is at c.in_ok-read_line.ensures in
-    on_ok_so c.push_answer.result _ _
-    (λ text. (None ∷ [], [], answered_bad (order_of g.K.KeyOrder.name g.K.KeyOrder.cmp) g.S.Store.facts c.args.session.now c.args.line.now says, text)) c.push_answer.ensures.ok
+    (None ∷ [], [], answered_bad (order_of g.K.KeyOrder.name g.K.KeyOrder.cmp) g.S.Store.facts c.args.session.now c.args.line.now says, c.in_ok-push_answer-in-None.ensures.ok)
 
-pub returns-in-None-clause-stopped : goal.returns-in-None-clause-stopped
-returns-in-None-clause-stopped g c =
-    on_err_so c.push_answer.result _ _
-    (λ text. ([], [], [], inl refl, answered_none (order_of g.K.KeyOrder.name g.K.KeyOrder.cmp) g.S.Store.facts c.args.session.now, text)) c.push_answer.ensures.err
+pub returns-in_err-push_answer-in-None-clause-stopped : goal.returns-in_err-push_answer-in-None-clause-stopped
+returns-in_err-push_answer-in-None-clause-stopped g c = λ plain.
+    on_err c.from_residual-in_err-push_answer-in-None.result _ ([], [], [], inl refl, answered_none (order_of g.K.KeyOrder.name g.K.KeyOrder.cmp) g.S.Store.facts c.args.session.now, c.in_err-push_answer-in-None.ensures.err)
 
-pub returns-in-Some-clause-done : goal.returns-in-Some-clause-done
-returns-in-Some-clause-done g c =
+pub returns-in_ok-push_answer-in-Some-clause-done : goal.returns-in_ok-push_answer-in-Some-clause-done
+returns-in_ok-push_answer-in-Some-clause-done g c = λ plain.
     let says = rw c.in-Some.is at c.in_ok-read_line.ensures in
     let one = answered_one (order_of g.K.KeyOrder.name g.K.KeyOrder.cmp) g.S.Store.facts c.args.session.now c.apply-answer.new.self c.args.line.now c.in-Some.command c.apply-answer.result
     says record {
@@ -39,10 +37,11 @@ returns-in-Some-clause-done g c =
       shut = c.apply-answer.ensures.shut;
       options = c.apply-answer.ensures.options;
     } in
-    on_ok_so c.push_answer-in-Some.result _ _ (λ text. (Some c.in-Some.command ∷ [], c.apply-answer.result ∷ [], one, text)) c.push_answer-in-Some.ensures.ok
+    let same = sym (c.work_behind.ensures.none plain) in
+    (Some c.in-Some.command ∷ [], c.apply-answer.result ∷ [], subst (λ s. Answered (order_of g.K.KeyOrder.name g.K.KeyOrder.cmp) g.S.Store.facts c.args.session.now s (c.args.line.now ∷ []) (Some c.in-Some.command ∷ []) (c.apply-answer.result ∷ [])) same one, c.in_ok-push_answer-in-Some.ensures.ok)
 
-pub returns-in-Some-clause-stopped : goal.returns-in-Some-clause-stopped
-returns-in-Some-clause-stopped g c =
+pub returns-in_err-push_answer-in-Some-clause-stopped : goal.returns-in_err-push_answer-in-Some-clause-stopped
+returns-in_err-push_answer-in-Some-clause-stopped g c = λ plain.
     let says = rw c.in-Some.is at c.in_ok-read_line.ensures in
     let one = answered_one (order_of g.K.KeyOrder.name g.K.KeyOrder.cmp) g.S.Store.facts c.args.session.now c.apply-answer.new.self c.args.line.now c.in-Some.command c.apply-answer.result
     says record {
@@ -60,4 +59,12 @@ returns-in-Some-clause-stopped g c =
       shut = c.apply-answer.ensures.shut;
       options = c.apply-answer.ensures.options;
     } in
-    on_err_so c.push_answer-in-Some.result _ _ (λ text. (c.args.line.now ∷ [], Some c.in-Some.command ∷ [], c.apply-answer.result ∷ [], inr refl, one, text)) c.push_answer-in-Some.ensures.err
+    let same = sym (c.work_behind.ensures.none plain) in
+    on_err c.from_residual-in_err-push_answer-in-Some.result _ (
+      c.args.line.now ∷ [],
+      Some c.in-Some.command ∷ [],
+      c.apply-answer.result ∷ [],
+      inr refl,
+      subst (λ s. Answered (order_of g.K.KeyOrder.name g.K.KeyOrder.cmp) g.S.Store.facts c.args.session.now s (c.args.line.now ∷ []) (Some c.in-Some.command ∷ []) (c.apply-answer.result ∷ [])) same one,
+      c.in_err-push_answer-in-Some.ensures.err,
+    )

@@ -1,0 +1,19 @@
+//! How a script is run, and how it ends.
+
+/// How a script is run.
+#[derive(Clone, Copy, Debug, PartialEq, Eq)]
+pub struct Way {
+    /// Whether the first line that is refused is the last one that is answered.
+    pub strict: bool,
+    /// Whether work is done behind each write that was answered `ok`: six entries for each of its operations, without a line of answer.
+    pub works: bool,
+}
+
+/// How a script ended.
+#[derive(Clone, Copy, Debug, PartialEq, Eq)]
+pub enum Ended {
+    /// Each line was answered.
+    Whole,
+    /// A line was refused, and those behind it weren't read as commands.
+    Refused,
+}
