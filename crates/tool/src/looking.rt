@@ -15,6 +15,9 @@ use std::alloc::Global;
 use std::io::Write;
 use store::{FileStore, Store, StoreError};
 
+// A folder that is only read, and perhaps watched.
+type Folder = Watched<ReadOnly<FileStore>>;
+
 /// Prints the value of a key.
 pub fn get<K: KeyOrder, W: Write, F: Write>(
     rt: &HostRuntime,
@@ -93,7 +96,7 @@ pub fn check_folder<K: KeyOrder, W: Write, F: Write>(
         Ok(store) => watched_store(rt, store, watched, 1),
         Err(status) => return status,
     };
-    let done = check::<K, Watched<FileStore>, W>(rt.alloc(), &mut store, writer);
+    let done = check::<K, Folder, W>(rt.alloc(), &mut store, writer);
     let status = status_of(done, faults);
     // (a directory that is good has one)
     if status == DONE && has_no_current(&mut store) {
@@ -121,7 +124,7 @@ pub fn dump_folder<K: KeyOrder, W: Write, F: Write>(
         Ok(store) => watched_store(rt, store, watched, 2),
         Err(status) => return status,
     };
-    let done = dump::<K, Watched<FileStore>, W>(rt.alloc(), &mut store, writer);
+    let done = dump::<K, Folder, W>(rt.alloc(), &mut store, writer);
     status_of(done, faults)
 }
 
@@ -131,11 +134,11 @@ fn watched_store(
     store: FileStore,
     watched: bool,
     times: u64,
-) -> Watched<FileStore> {
+) -> Folder {
+    let mut store = ReadOnly::over(store);
     if !watched {
         return Watched::over(store, None);
     }
-    let mut store = store;
     let total = bytes_of(rt.alloc(), &mut store).saturating_mul(times);
     Watched::over(store, Meter::new(rt, total))
 }
