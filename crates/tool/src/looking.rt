@@ -129,12 +129,7 @@ pub fn dump_folder<K: KeyOrder, W: Write, F: Write>(
 }
 
 // The files, read from end to end so many times, and where somebody watches a meter beside them.
-fn watched_store(
-    rt: &HostRuntime,
-    store: FileStore,
-    watched: bool,
-    times: u64,
-) -> Folder {
+fn watched_store(rt: &HostRuntime, store: FileStore, watched: bool, times: u64) -> Folder {
     let mut store = ReadOnly::over(store);
     if !watched {
         return Watched::over(store, None);

@@ -109,7 +109,10 @@ fn assert_imported(
 ) -> Result<(), Fail> {
     let alloc = rt.alloc();
     let mut session = session(alloc, MemStore::new(alloc), DEFAULTS)?;
-    assert!(rt; is_told(imported(alloc, &mut session, 2, lines), status, wanted), "{lines}");
+    assert!(rt;
+        is_told(imported(alloc, &mut session, 2, lines), status, wanted),
+        "{lines}"
+    );
     assert!(rt; is_answered(alloc, &mut session, LOOK, there), "{lines}");
     Ok(())
 }
@@ -135,11 +138,29 @@ fn a_batch_has_1_to_65536_operations(rt: HostRuntime) {
 fn compactions_are_done_or_refused(rt: HostRuntime) -> Result<(), Fail> {
     let alloc = rt.alloc();
     let mut session = session(alloc, MemStore::new(alloc), DEFAULTS)?;
-    assert!(rt; is_told(compacted(alloc, &mut session, None), 1, "refused 3 NoDatabase\n"));
-    assert!(rt; is_told(imported(alloc, &mut session, 1, "put 61 31\nput 62 32\ndel 62\n"), 0, "taken 3\n"));
+    assert!(rt;
+        is_told(
+            compacted(alloc, &mut session, None),
+            1,
+            "refused 3 NoDatabase\n"
+        )
+    );
+    assert!(rt;
+        is_told(
+            imported(alloc, &mut session, 1, "put 61 31\nput 62 32\ndel 62\n"),
+            0,
+            "taken 3\n"
+        )
+    );
     assert!(rt; is_told(compacted(alloc, &mut session, Some(0)), 0, "ok\n"));
     assert!(rt; is_told(compacted(alloc, &mut session, None), 0, "ok\n"));
-    assert!(rt; is_told(compacted(alloc, &mut session, Some(6)), 1, "refused 19 BadLevel\n"));
+    assert!(rt;
+        is_told(
+            compacted(alloc, &mut session, Some(6)),
+            1,
+            "refused 19 BadLevel\n"
+        )
+    );
     assert!(rt; is_answered(alloc, &mut session, LOOK, "ok\nvalue 31\nnone\n"));
     Ok(())
 }
