@@ -14,6 +14,7 @@ pub const NONE: u8 = 4;
 // How many blocks of tables are kept in memory, as they are read: as many as of a database that is opened.
 const BLOCKS: usize = 1024;
 
+/// How many blocks a reader keeps.
 pub fn cache_blocks() -> NonZeroUsize {
     NonZeroUsize::new(BLOCKS).unwrap_or(NonZeroUsize::MIN)
 }

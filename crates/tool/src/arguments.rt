@@ -15,6 +15,7 @@ pub fn folder<'a>(alloc: Global) -> Arg<'a>
     Arg::new(alloc, "DIR").required(true).help(help::FOLDER)
 }
 
+/// The order of the keys.
 pub fn order<'a>(alloc: Global) -> Arg<'a>
     ensures { IsArg result (order_rule) }
 {
@@ -49,18 +50,21 @@ pub fn bound<'a>(alloc: Global, name: &'a str, help: &'a str) -> Arg<'a>
     Arg::new(alloc, name).long(name).value_name("K").help(help)
 }
 
+/// How many pairs at most, which may be left out.
 pub fn limit<'a>(alloc: Global) -> Arg<'a>
     ensures { IsArg result (optional_rule (codes "limit") 0 (2 ^ 64 - 1)) }
 {
     optional(alloc, "limit", "N", 0, u64::MAX).help(help::LIMIT)
 }
 
+/// The level that is compacted, which may be left out: all are then.
 pub fn level<'a>(alloc: Global) -> Arg<'a>
     ensures { IsArg result (optional_rule (codes "level") 0 5) }
 {
     optional(alloc, "level", "L", 0, 5).help(help::LEVEL)
 }
 
+/// Whether work is done behind each write, by the word `auto`; it may be left out.
 pub fn work<'a>(alloc: Global) -> Arg<'a>
     ensures { IsArg result (word_rule (codes "work")) }
 {
@@ -70,12 +74,14 @@ pub fn work<'a>(alloc: Global) -> Arg<'a>
         .help(help::WORK)
 }
 
+/// How many operations a batch has.
 pub fn batch<'a>(alloc: Global) -> Arg<'a>
     ensures { IsArg result (number_rule (codes "batch") (codes "1000") (65536)) }
 {
     number(alloc, "batch", "1000", 65_536).help(help::BATCH)
 }
 
+/// The option of a database of this name.
 pub fn write_buffer<'a>(alloc: Global) -> Arg<'a>
     ensures { IsArg result (number_rule (codes "write-buffer") (codes "4194304") (2 ^ 30)) }
 {
@@ -84,6 +90,7 @@ pub fn write_buffer<'a>(alloc: Global) -> Arg<'a>
     )
 }
 
+/// The option of a database of this name.
 pub fn block_bytes<'a>(alloc: Global) -> Arg<'a>
     ensures { IsArg result (number_rule (codes "block-bytes") (codes "4096") (2 ^ 20)) }
 {
@@ -92,6 +99,7 @@ pub fn block_bytes<'a>(alloc: Global) -> Arg<'a>
     )
 }
 
+/// The option of a database of this name.
 pub fn file_bytes<'a>(alloc: Global) -> Arg<'a>
     ensures { IsArg result (number_rule (codes "file-bytes") (codes "2097152") (2 ^ 30)) }
 {
@@ -100,6 +108,7 @@ pub fn file_bytes<'a>(alloc: Global) -> Arg<'a>
     )
 }
 
+/// The option of a database of this name.
 pub fn level0_files<'a>(alloc: Global) -> Arg<'a>
     ensures { IsArg result (number_rule (codes "level0-files") (codes "4") (1024)) }
 {
@@ -108,6 +117,7 @@ pub fn level0_files<'a>(alloc: Global) -> Arg<'a>
     )
 }
 
+/// The option of a database of this name.
 pub fn base_bytes<'a>(alloc: Global) -> Arg<'a>
     ensures { IsArg result (number_rule (codes "base-bytes") (codes "10485760") (2 ^ 40)) }
 {
@@ -116,6 +126,7 @@ pub fn base_bytes<'a>(alloc: Global) -> Arg<'a>
     )
 }
 
+/// The option of a database of this name.
 pub fn cache_blocks<'a>(alloc: Global) -> Arg<'a>
     ensures { IsArg result (number_rule (codes "cache-blocks") (codes "1024") (65536)) }
 {
