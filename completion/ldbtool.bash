@@ -6,7 +6,8 @@ _ldbtool_options() {
     case $1 in
         get) echo "--text --order= --help" ;;
         scan) echo "--from= --to= --prefix= --limit= --reverse --values --text --json --order= --help" ;;
-        export | check | dump) echo "--order= --help" ;;
+        export | check) echo "--order= --help" ;;
+        dump) echo "--text --json --order= --help" ;;
         run) echo "--work= --strict $sizes --order= --help" ;;
         import) echo "--batch= --sync $sizes --order= --help" ;;
         compact) echo "--level= $sizes --order= --help" ;;

@@ -1,5 +1,6 @@
-"""The checks of tools/program that are about `get`, `scan` and `export`: what they print, and that they change nothing, whatever
-stands in the folder."""
+"""The checks of tools/program that are about `get`, `scan` and `export`, and about the forms of `dump`: what they print, and that they
+change nothing, whatever stands in the folder."""
+import json
 import os
 import subprocess
 
@@ -153,6 +154,59 @@ def many(room):
     want_printed(["export", folder], 0, *[f"put {key} {value}" for key, value in wanted])
 
 
+# ---- dump
+
+
+# entries of a table and of a log: keys and values of no bytes, with control characters, that are no UTF-8, and a delete
+ENTRIES = "open new; put - 76; put 0a1b 095b; put 225c 22; compact all; put c3a9 -; del 0a1b; put ff20 ff7f; put 6b6579 76616c7565"
+
+# the options of a dump, and the lines that it prints of them
+DUMPS = [
+    ("", ["table 6 5 - 1 put 76", "table 6 5 0a1b 2 put 095b", "table 6 5 225c 3 put 22",
+          "log 3 c3a9 4 put -", "log 3 0a1b 5 delete", "log 3 ff20 6 put ff7f", "log 3 6b6579 7 put 76616c7565"]),
+    ("--text", ["table 6 5  1 put v", "table 6 5 \\x0a\\x1b 2 put \\x09[", 'table 6 5 "\\ 3 put "',
+                "log 3 \\xc3\\xa9 4 put ", "log 3 \\x0a\\x1b 5 delete", "log 3 \\xff  6 put \\xff\\x7f", "log 3 key 7 put value"]),
+    ("--json", ['{"file":"table","level":6,"number":5,"key":"","sequence":1,"kind":"put","value":"76"}',
+                '{"file":"table","level":6,"number":5,"key":"0a1b","sequence":2,"kind":"put","value":"095b"}',
+                '{"file":"table","level":6,"number":5,"key":"225c","sequence":3,"kind":"put","value":"22"}',
+                '{"file":"log","number":3,"key":"c3a9","sequence":4,"kind":"put","value":""}',
+                '{"file":"log","number":3,"key":"0a1b","sequence":5,"kind":"delete"}',
+                '{"file":"log","number":3,"key":"ff20","sequence":6,"kind":"put","value":"ff7f"}',
+                '{"file":"log","number":3,"key":"6b6579","sequence":7,"kind":"put","value":"76616c7565"}']),
+]  # fmt: skip
+
+
+@check("a dump prints entries in hexadecimal, as text or as JSON, and of a directory that is refused the refusal alone")
+def dumps(room):
+    folder = new_folder(room)
+    want_answers(folder, ENTRIES, "; ".join(["ok"] * 9))
+    damaged = with_table(room, "damaged", ONE_TABLE[:5] + b"\x00" + ONE_TABLE[6:])
+    for options, wanted in DUMPS:
+        want_printed(["dump", *options.split(), folder], 0, *wanted)
+        want_printed(["dump", folder, *options.split(), "--order=bytes"], 0, *wanted)
+        want_printed(["dump", *options.split(), new_folder(room, f"empty {options}")], 0)
+        want_printed(["dump", *options.split(), damaged], 1, "refused 5 Corrupt")
+
+
+def words_of_object(line):
+    """The line of words that says what this object does."""
+    found = json.loads(line)
+    place = ["table", found.pop("level"), found.pop("number")] if found["file"] == "table" else ["log", found.pop("number")]
+    change = ["put", found.pop("value") or "-"] if found["kind"] == "put" else ["delete"]
+    words = [*place, found.pop("key") or "-", found.pop("sequence"), *change]
+    want(found, {"file": place[0], "kind": change[0]}, f"what is left of {line}")
+    return " ".join(str(it) for it in words)
+
+
+@check("each object of a dump says what its line of words does, in both orders")
+def dumped_objects(room):
+    for options in ((), REVERSE):
+        folder = filled(room, f"folder {len(options)}", *options)
+        words, objects = (ldbtool("dump", *more, *options, folder).stdout.decode().splitlines() for more in ((), ("--json",)))
+        want([words_of_object(it) for it in objects], words, "the objects")
+        want(len(words) > len(PAIRS), True, "there are entries")
+
+
 # ---- refusals
 
 
@@ -193,7 +247,7 @@ def refused_behind(room):
 # ---- nothing is changed
 
 
-READERS = (["get", "61"], ["get", "7a"], ["scan"], ["scan", "--values", "--reverse"], ["export"], ["check"], ["dump"])
+READERS = (["get", "61"], ["get", "7a"], ["scan"], ["scan", "--values", "--reverse"], ["export"], ["check"], ["dump"], ["dump", "--text"], ["dump", "--json"])
 
 
 def words_over(words, folder):
@@ -259,10 +313,10 @@ def read_only(room):
 # ---- streams
 
 
-@check("a get, a scan or an export whose output fails behind any byte has written the bytes before, and ends with status 1")
+@check("a get, a scan, an export or a dump whose output fails behind any byte has written the bytes before, and ends with status 1")
 def failing_outputs(room):
     folder = filled(room)
-    for words in (["get", folder, "6b6579"], ["scan", "--values", folder], ["scan", "--json", "--reverse", folder], ["export", folder]):
+    for words in (["get", folder, "6b6579"], ["scan", "--values", folder], ["scan", "--json", "--reverse", folder], ["export", folder], ["dump", "--json", folder]):
         whole = ldbtool(*words).stdout
         for count in range(0, len(whole) + 2, 1 if len(whole) < 100 else 7):
             want_beginning(room, words, b"", whole, count)

@@ -40,7 +40,7 @@ OFFERED = [
     (["scan"], "--", SCAN),
     (["export"], "--", COMMON),
     (["check"], "--", COMMON),
-    (["dump"], "--", COMMON),
+    (["dump"], "--", ["--text", "--json", *COMMON]),
     (["run"], "--", RUN),
     (["import"], "--", ["--batch", "--sync", *SIZES, *COMMON]),
     (["compact"], "--", ["--level", *SIZES, *COMMON]),
@@ -60,6 +60,7 @@ OFFERED = [
     (["scan", "--from"], "", []),
     (["run", "one"], "--f", ["--file-bytes"]),
     (["get", "one"], "--t", ["--text"]),
+    (["dump", "--text", "one"], "--j", ["--json"]),
 ]
 
 # What bash is asked beside these: an '=' is a word to it; and behind DIR it offers nothing, where zsh offers what is left of the options.

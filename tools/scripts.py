@@ -77,6 +77,7 @@ MISUSES = [
     ["scan", "--limit", "DIR"], ["scan", "--limit", "-1", "DIR"], ["scan", "--limit", "18446744073709551616", "DIR"], ["scan", "--limit", "x", "DIR"], ["scan", "--limit", "", "DIR"],
     ["scan", "--limit", "1", "--limit", "2", "DIR"], ["scan", "--from", "DIR"], ["scan", "--from", "61", "--from", "62", "DIR"], ["scan", "--reverse=yes", "DIR"],
     ["scan", "--values", "--values", "DIR"], ["export", "--values", "DIR"], ["export", "--from", "61", "DIR"], ["export", "--text", "DIR"],
+    ["dump", "--values", "DIR"], ["dump", "--json", "--json", "DIR"], ["dump", "--text=no", "DIR"], ["check", "--json", "DIR"],
     ["dump", "--cache-blocks", "1", "DIR"], ["dump", "--write-buffer", "1", "DIR"], ["get", "--cache-blocks", "1", "DIR", "61"], ["scan", "--cache-blocks", "1", "DIR"],
     ["run", "--cache-blocks", "DIR"], ["--cache-blocks", "1", "run", "DIR"], ["help", "frob"],
     ["run", "--work", "DIR"], ["run", "--work", "always", "DIR"], ["run", "--work", "", "DIR"], ["run", "--work", "auto", "--work", "auto", "DIR"], ["run", "--strict=1", "DIR"],
@@ -95,6 +96,7 @@ TOLD_MISUSES = [
     (["run", "--work", "always", "DIR"], "--work: `auto` is wanted"),
     (["scan", "--text", "--json", "DIR"], "--text or --json is wanted, not both"),
     (["scan", "--text", "--json", "--values", "--limit", "1", "DIR"], "--text or --json is wanted, not both"),
+    *[(["dump", *words, "DIR"], "--text or --json is wanted, not both") for words in (["--text", "--json"], ["--json", "--order", "reverse", "--text"])],
     (["scan", "--order", "reverse", "--prefix", "61", "DIR"], "--prefix: --order bytes is wanted"),
     (["scan", "--order", "reverse", "--prefix", "-", "DIR"], "--prefix: --order bytes is wanted"),
     *[(["get", "DIR", it], "KEY: a key in hexadecimal is wanted") for it in ("", "6", "6x", "616", "key", "6 1", " 61", "0x61")],
@@ -115,5 +117,5 @@ OTHER_OPTIONS = [("import", "batch", 1_000, 65_536)]
 TOLD = [
     ("help get", "76616c7565"), ("get -h", "Usage"), ("scan --help", "--prefix <K>"), ("export --help", "put 6b6579 76616c7565"), ("import --help", "taken N"), ("compact --help", "--level <L>"),
     ("--help", "Exit status"), ("help run", "refused 20 BadLine"), ("run --help", "value 76616c7565"), ("check -h", "Usage"),
-    ("dump --help", "table LEVEL NUMBER KEY SEQUENCE put VALUE"), ("--version", "ldbtool 0.1.0"),
+    ("dump --help", "table LEVEL NUMBER KEY SEQUENCE put VALUE"), ("dump --help", '"kind":"delete"}'), ("--version", "ldbtool 0.1.0"),
 ]  # fmt: skip

@@ -15,7 +15,7 @@ mod style;
 mod walking;
 
 pub use choice::Choice;
-pub use form::Form;
+pub use form::{Form, push_digits, push_in_form};
 pub use getting::get;
 pub use limits::range_of;
 pub use line::puts_are_read;

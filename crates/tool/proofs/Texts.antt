@@ -20,6 +20,12 @@ push_line text_of xs i d before now new line lt so_far is e =
     e ∙ ap (λ (t : List ℕ). t ++ line) so_far ∙ append_assoc before (texts text_of (take i xs)) line
     ∙ ap (λ (t : List ℕ). before ++ (texts text_of (take i xs) ++ t)) is ∙ ap (λ (t : List ℕ). before ++ t) (sym (texts-more text_of xs i d lt))
 
+-- three texts
+pub texts_more : (old a b c one two new : List ℕ) → one ≡ old ++ a → two ≡ one ++ b → new ≡ two ++ c → new ≡ old ++ (a ++ (b ++ c))
+texts_more old a b c one two new first second third =
+    third ∙ ap (λ (t : List ℕ). t ++ c) (second ∙ ap (λ (t : List ℕ). t ++ b) first ∙ append_assoc old a b) ∙ append_assoc old (a ++ b) c
+    ∙ ap (λ (t : List ℕ). old ++ t) (append_assoc a b c)
+
 pub appends_then : (a b c : Option (List ℕ)) (xs ys : List ℕ) → Appends a b xs → Appends b c ys → Appends a c (xs ++ ys)
 appends_then None b c xs ys h g = tt
 appends_then (Some x) None c xs ys h g = absurd h

@@ -77,9 +77,13 @@ with_range app =
     (optional_rule (codes "limit") 0 (2 ^ 64 - 1)))
     (flag_rule (codes "reverse"))
 
+-- as what keys and values are printed
+abbrev pub with_notation : App → App
+with_notation app = with_rule (with_rule app (flag_rule (codes "text"))) (flag_rule (codes "json"))
+
 -- what of a pair is printed, and how
 abbrev pub with_style : App → App
-with_style app = with_rule (with_rule (with_rule app (flag_rule (codes "values"))) (flag_rule (codes "text"))) (flag_rule (codes "json"))
+with_style app = with_notation (with_rule app (flag_rule (codes "values")))
 
 abbrev pub scan_app : App
 scan_app = with_place (with_style (with_range (new_app (codes "scan"))))
@@ -87,6 +91,9 @@ scan_app = with_place (with_style (with_range (new_app (codes "scan"))))
 -- a command that has a folder alone
 abbrev pub reading_app : Text → App
 reading_app name = with_place (new_app name)
+
+abbrev pub dump_app : App
+dump_app = with_place (with_notation (new_app (codes "dump")))
 
 abbrev pub run_app : App
 run_app = with_place (with_options (with_rule (with_rule (new_app (codes "run")) (word_rule (codes "work"))) (flag_rule (codes "strict"))))
@@ -113,7 +120,7 @@ with_readers app =
     scan_app.top)
     (reading_app (codes "export")).top)
     (reading_app (codes "check")).top)
-    (reading_app (codes "dump")).top
+    dump_app.top
 
 -- those that write
 abbrev pub with_writers : App → App

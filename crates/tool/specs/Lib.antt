@@ -1,4 +1,5 @@
 pub mod CommandLine
 pub mod Tasks
 pub mod Reports
+pub mod EntryLines
 pub mod Inspecting

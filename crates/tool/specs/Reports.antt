@@ -1,8 +1,7 @@
 -- What `check` and `dump` print.
-use Rattle.std.specs.Prelude.{◌≡◌, ◌++◌, ℕ, List, [], ◌∷◌, codes, map, Option, Some, None, Result, Ok, Err}
+use Rattle.std.specs.Prelude.{◌≡◌, ◌++◌, ℕ, List, [], ◌∷◌, codes, map, Result, Ok, Err}
 use Rattle.std.specs.Fmt.{decimal}
 use Rattle.coding.specs.declared.error.DbError.{DbError}
-use Rattle.ikey.specs.declared.entry.Entry.{Entry}
 use Rattle.logfile.specs.declared.record.Tail.{Tail}
 use Rattle.logfile.specs.declared.record.Tail.TheVariants.{Clean, Torn}
 use Rattle.recover.specs.declared.report.Report.{Report}
@@ -12,7 +11,6 @@ use Rattle.recover.specs.declared.report.TableSummary.{TableSummary}
 use Rattle.recover.specs.declared.report.LogSummary.{LogSummary}
 use Rattle.recover.specs.declared.origins.Origin.{Origin}
 use Rattle.recover.specs.declared.origins.Origin.TheVariants.{Table, Log}
-use Rattle.script.specs.Words.{text_of_bytes}
 use Rattle.script.specs.Script.{refusal_of}
 
 -- what each is written as, one after the other
@@ -48,20 +46,6 @@ check_text_of (Ok report) = report_text_of report
 check_text_of (Err error) = refusal_of error ++ 10 ∷ []
 
 -- ---- of a dump
-
--- the file of an entry
-abbrev pub origin_text_of : Origin → List ℕ
-origin_text_of (Table level number) = codes "table " ++ decimal level ++ 32 ∷ decimal number
-origin_text_of (Log number) = codes "log " ++ decimal number
-
--- what the entry does to its key
-abbrev pub change_text_of : Option (List ℕ) → List ℕ
-change_text_of None = codes "delete"
-change_text_of (Some value) = codes "put " ++ text_of_bytes value
-
-abbrev pub entry_line_of : Origin → Entry → List ℕ
-entry_line_of origin entry =
-    (origin_text_of origin ++ 32 ∷ text_of_bytes entry.key ++ 32 ∷ decimal entry.sequence ++ 32 ∷ change_text_of entry.value) ++ 10 ∷ []
 
 -- the files of a directory: tables by level and number, then logs by number
 abbrev pub origins_of_summary : Summary → List Origin

@@ -11,6 +11,8 @@ use Rattle.browse.specs.declared.style.Style.TheVariants as style
 use Rattle.script.specs.Words.{IsByteString}
 use Rattle.tool.specs.CommandLine.{the_app}
 use Rattle.tool.specs.declared.task.Lookup.{Lookup}
+use Rattle.tool.specs.declared.task.Notation.{Notation}
+use Rattle.tool.specs.declared.task.Notation.TheVariants.{Words, Json}
 use Rattle.tool.specs.declared.task.Numbers.{Numbers}
 use Rattle.tool.specs.declared.task.OrderName.{OrderName}
 use Rattle.tool.specs.declared.task.OrderName.TheVariants.{Bytes, Reverse}
@@ -96,22 +98,32 @@ pub record IsLookup (rows : List Row) (lookup : Lookup) : Type 0 where
   pub given : IsFlag (codes "text") rows text
   pub form : lookup.form ≡ form_of text
 
--- what --json, --text and --values ask for: not the first two at once
-abbrev pub style_of : (json text values : Bool) → Option Style
-style_of false text true = Some (style.Pairs (form_of text))
-style_of false text false = Some (style.Keys (form_of text))
-style_of true false true = Some style.JsonPairs
-style_of true false false = Some style.JsonKeys
-style_of true true values = None
+-- what --json and --text ask for: not both at once
+abbrev pub notation_of : (json text : Bool) → Option Notation
+notation_of false text = Some (Words (form_of text))
+notation_of true false = Some Json
+notation_of true true = None
 
-pub record IsStyle (rows : List Row) (s : Style) : Type 0 where
-  pub values : Bool
+pub record IsNotation (rows : List Row) (notation : Notation) : Type 0 where
   pub text : Bool
   pub json : Bool
-  pub values_given : IsFlag (codes "values") rows values
   pub text_given : IsFlag (codes "text") rows text
   pub json_given : IsFlag (codes "json") rows json
-  pub style : style_of json text values ≡ Some s
+  pub asked : notation_of json text ≡ Some notation
+
+-- keys, or with --values pairs
+abbrev pub style_of : Notation → (values : Bool) → Style
+style_of (Words form) true = style.Pairs form
+style_of (Words form) false = style.Keys form
+style_of Json true = style.JsonPairs
+style_of Json false = style.JsonKeys
+
+pub record IsStyle (rows : List Row) (s : Style) : Type 0 where
+  pub notation : Notation
+  pub values : Bool
+  pub noted : IsNotation rows notation
+  pub values_given : IsFlag (codes "values") rows values
+  pub style : s ≡ style_of notation values
 
 -- which pairs: a prefix is a range in the order of bytes alone
 pub record IsSearch (rows : List Row) (order : OrderName) (search : Search) : Type 0 where
@@ -146,7 +158,7 @@ AsksFor (Some name) (Some rows) (Get place lookup) = (name ≡ codes "get") × I
 AsksFor (Some name) (Some rows) (Scan place search) = (name ≡ codes "scan") × IsPlace rows place × IsSearch rows place.order search
 AsksFor (Some name) (Some rows) (Export place) = (name ≡ codes "export") × IsPlace rows place
 AsksFor (Some name) (Some rows) (Check place) = (name ≡ codes "check") × IsPlace rows place
-AsksFor (Some name) (Some rows) (Dump place) = (name ≡ codes "dump") × IsPlace rows place
+AsksFor (Some name) (Some rows) (Dump place notation) = (name ≡ codes "dump") × IsPlace rows place × IsNotation rows notation
 AsksFor (Some name) (Some rows) (Run place numbers turns) = (name ≡ codes "run") × IsPlace rows place × HaveNumbers rows numbers × AreTurns rows turns
 AsksFor (Some name) (Some rows) (Import place numbers pieces) = (name ≡ codes "import") × IsPlace rows place × HaveNumbers rows numbers × ArePieces rows pieces
 AsksFor (Some name) (Some rows) (Compact place numbers level) =

@@ -2,7 +2,7 @@
 
 ghost use Rattle.std.specs.Prelude.{◌≡◌, IfOk};
 ghost use Rattle.clap.specs.Words.{App, new_app, with_subcommand};
-ghost use Rattle.tool.specs.CommandLine.{the_app, get_app, scan_app, reading_app, run_app, import_app, compact_app, with_readers, with_writers, with_place, with_options, with_range, with_style, IsCommand};
+ghost use Rattle.tool.specs.CommandLine.{the_app, get_app, scan_app, reading_app, dump_app, run_app, import_app, compact_app, with_readers, with_writers, with_place, with_options, with_range, with_notation, with_style, IsCommand};
 
 use crate::arguments::{
     base_bytes, batch, block_bytes, bound, cache_blocks, file_bytes, flag, folder, key, level,
@@ -35,7 +35,7 @@ fn add_readers<'a>(alloc: Global, command: Command<'a>) -> Result<Command<'a>, A
     let second = add(first, scan(alloc))?;
     let third = add(second, reading(alloc, "export", help::EXPORT, help::PUTS))?;
     let fourth = add(third, reading(alloc, "check", help::CHECK, help::REPORT))?;
-    let whole = add(fourth, reading(alloc, "dump", help::DUMP, help::ENTRIES))?;
+    let whole = add(fourth, dump(alloc))?;
     Ok(whole)
 }
 
@@ -92,6 +92,15 @@ fn reading<'a>(
 {
     let bare = named(alloc, name, about, after);
     let whole = add_place(alloc, bare)?;
+    Ok(whole)
+}
+
+fn dump<'a>(alloc: Global) -> Result<Command<'a>, AllocError>
+    ensures { IfOk result (λ command. IsCommand command dump_app) }
+{
+    let bare = named(alloc, "dump", help::DUMP, help::ENTRIES);
+    let noted = add_notation(alloc, bare, help::DUMP_TEXT)?;
+    let whole = add_place(alloc, noted)?;
     Ok(whole)
 }
 
@@ -173,7 +182,19 @@ fn add_style<'a>(alloc: Global, command: Command<'a>) -> Result<Command<'a>, All
     ensures { IfOk result (λ whole. (app : App) → IsCommand command.entry app → IsCommand whole (with_style app)) }
 {
     let first = command.arg(flag(alloc, "values", help::VALUES))?;
-    let second = first.arg(flag(alloc, "text", help::SCAN_TEXT))?;
-    let whole = second.arg(flag(alloc, "json", help::JSON))?;
+    let whole = add_notation(alloc, first, help::SCAN_TEXT)?;
+    Ok(whole)
+}
+
+// As what keys and values are printed, with this help for text.
+fn add_notation<'a>(
+    alloc: Global,
+    command: Command<'a>,
+    text: &'a str,
+) -> Result<Command<'a>, AllocError>
+    ensures { IfOk result (λ whole. (app : App) → IsCommand command.entry app → IsCommand whole (with_notation app)) }
+{
+    let first = command.arg(flag(alloc, "text", text))?;
+    let whole = first.arg(flag(alloc, "json", help::JSON))?;
     Ok(whole)
 }

@@ -243,13 +243,19 @@ Example:
 
 pub const DUMP: &str = "Prints the entries of a directory's tables and live logs, one line each";
 
+pub const DUMP_TEXT: &str = "Print keys and values as text, bytes outside of ' '..'~' as \\xNN";
+
 pub const ENTRIES: &str = "\
 A line is one of
   table LEVEL NUMBER KEY SEQUENCE put VALUE
   table LEVEL NUMBER KEY SEQUENCE delete
-and the same with `log NUMBER`. Tables come by level and number, each in the order of its keys, then the live logs by number,
-each as it was written. KEY and VALUE are in hexadecimal, or - for none. A directory that `ldbtool check` refuses has its
-refusal printed alone, as `refused 5 Corrupt`. No file is changed, and no lock taken.
+and the same with `log NUMBER`; with --json one of
+  {\"file\":\"table\",\"level\":LEVEL,\"number\":NUMBER,\"key\":\"KEY\",\"sequence\":SEQUENCE,\"kind\":\"put\",\"value\":\"VALUE\"}
+  {\"file\":\"table\",\"level\":LEVEL,\"number\":NUMBER,\"key\":\"KEY\",\"sequence\":SEQUENCE,\"kind\":\"delete\"}
+and the same with \"log\", without a level. Tables come by level and number, each in the order of its keys, then the live logs
+by number, each as it was written. KEY and VALUE are in hexadecimal, `-` for none; with --text as text, and with --json the
+digits alone. A directory that `ldbtool check` refuses has its refusal printed alone, as `refused 5 Corrupt`. No file is
+changed, and no lock taken.
 
 Exit status:
   0  each entry was printed
@@ -258,7 +264,11 @@ Exit status:
 
 Example:
   $ ldbtool dump mydb
-  log 2 6b6579 1 put 76616c7565";
+  log 2 6b6579 1 put 76616c7565
+  $ ldbtool dump --text mydb
+  log 2 key 1 put value
+  $ ldbtool dump --json mydb
+  {\"file\":\"log\",\"number\":2,\"key\":\"6b6579\",\"sequence\":1,\"kind\":\"put\",\"value\":\"76616c7565\"}";
 
 pub const ORDER: &str =
     "The order of keys: `bytes`, or `reverse`, that of bytes turned round, so that a prefix comes last";

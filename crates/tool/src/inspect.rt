@@ -4,11 +4,14 @@ ghost use Rattle.std.specs.Prelude.{◌≡◌, ◌++◌, Err, IfOk, OnOk, map};
 ghost use Rattle.std.specs.Io.KnownBytes.{Appends};
 ghost use Rattle.ikey.specs.Orders.{order_of};
 ghost use Rattle.script.specs.Drive.{Shows};
-ghost use Rattle.tool.specs.Reports.{check_text_of, entry_line_of, texts, origins_of_summary, status_of_answer};
+ghost use Rattle.tool.specs.Reports.{check_text_of, texts, origins_of_summary, status_of_answer};
+ghost use Rattle.tool.specs.EntryLines.{entry_line_of};
 ghost use Rattle.tool.specs.Inspecting.{Checks, Dumps, PrintsFile, PrintsFiles};
 
-use crate::report::{check_text, entry_line, refusal_text};
+use crate::entry_line::push_entry;
+use crate::report::{check_text, refusal_text};
 use crate::status::{DONE, FAILED};
+use crate::task::Notation;
 use coding::DbError;
 use ikey::{Entry, KeyOrder};
 use recover::{Origin, Report, Summary, file_entries};
@@ -43,21 +46,22 @@ fn status_of(answer: &Result<Report, DbError>) -> u8
     }
 }
 
-/// Prints the entries of a directory, tables by level and number and then live logs by number. A directory that is
+/// Prints the entries of a directory in this notation, tables by level and number and then live logs by number. A directory that is
 /// refused has its refusal printed alone; a refusal that is met later is printed after what is out. The entries of one
 /// file are in memory at a time.
 pub fn dump<K: KeyOrder, S: Store, W: Write>(
     alloc: Global,
     store: &mut S,
     writer: &mut W,
+    notation: Notation,
 ) -> Result<u8, Fault>
-    ensures { IfOk result (Dumps (order_of K.name K.cmp) (S.facts store.old) (S.facts store.new) (W.contents writer.old) (W.contents writer.new)) }
+    ensures { IfOk result (Dumps (order_of K.name K.cmp) notation (S.facts store.old) (S.facts store.new) (W.contents writer.old) (W.contents writer.new)) }
 {
     match recover::check::<K, S>(alloc, store) {
         Ok(Report::Empty) => Ok(DONE),
         Ok(Report::Good(summary)) => {
             let origins = origins_of(alloc, &summary)?;
-            print_files::<K, S, W>(alloc, store, writer, &origins)
+            print_files::<K, S, W>(alloc, store, writer, notation, &origins)
         }
         Err(error) => print_refusal(alloc, writer, error),
     }
@@ -82,12 +86,13 @@ fn print_files<K: KeyOrder, S: Store, W: Write>(
     alloc: Global,
     store: &mut S,
     writer: &mut W,
+    notation: Notation,
     origins: &[Origin],
 ) -> Result<u8, Fault>
-    ensures { IfOk result (PrintsFiles (order_of K.name K.cmp) origins.now (S.facts store.old) (S.facts store.new) (W.contents writer.old) (W.contents writer.new)) }
+    ensures { IfOk result (PrintsFiles (order_of K.name K.cmp) notation origins.now (S.facts store.old) (S.facts store.new) (W.contents writer.old) (W.contents writer.new)) }
 {
     for origin in origins {
-        if let Some(status) = print_file::<K, S, W>(alloc, store, writer, origin)? {
+        if let Some(status) = print_file::<K, S, W>(alloc, store, writer, notation, origin)? {
             return Ok(status);
         }
     }
@@ -99,15 +104,16 @@ fn print_file<K: KeyOrder, S: Store, W: Write>(
     alloc: Global,
     store: &mut S,
     writer: &mut W,
+    notation: Notation,
     origin: &Origin,
 ) -> Result<Option<u8>, Fault>
-    ensures { IfOk result (PrintsFile (order_of K.name K.cmp) origin.now (S.facts store.old) (S.facts store.new) (W.contents writer.old) (W.contents writer.new)) }
+    ensures { IfOk result (PrintsFile (order_of K.name K.cmp) notation origin.now (S.facts store.old) (S.facts store.new) (W.contents writer.old) (W.contents writer.new)) }
 {
     let entries = match file_entries::<K, S>(alloc, store, *origin) {
         Ok(entries) => entries,
         Err(error) => return Ok(Some(print_refusal(alloc, writer, error)?)),
     };
-    print_entries(alloc, writer, *origin, &entries)?;
+    print_entries(alloc, writer, notation, *origin, &entries)?;
     Ok(None)
 }
 
@@ -115,14 +121,15 @@ fn print_file<K: KeyOrder, S: Store, W: Write>(
 fn print_entries<W: Write>(
     alloc: Global,
     writer: &mut W,
+    notation: Notation,
     origin: Origin,
     entries: &[Entry],
 ) -> Result<(), Fault>
-    ensures { OnOk result (Appends (W.contents writer.old) (W.contents writer.new) (texts (entry_line_of origin) entries.now)) }
+    ensures { OnOk result (Appends (W.contents writer.old) (W.contents writer.new) (texts (entry_line_of notation origin) entries.now)) }
 {
     let mut text = Vec::new(alloc);
     for entry in entries {
-        print_entry(alloc, writer, &mut text, origin, entry)?;
+        print_entry(alloc, writer, &mut text, notation, origin, entry)?;
     }
     write_all(writer, text.as_slice())?;
     Ok(())
@@ -133,13 +140,13 @@ fn print_entry<W: Write>(
     alloc: Global,
     writer: &mut W,
     text: &mut Vec<u8>,
+    notation: Notation,
     origin: Origin,
     entry: &Entry,
 ) -> Result<(), Fault>
-    ensures { OnOk result (Shows (W.contents writer.old) (W.contents writer.new) (text.old.items ++ entry_line_of origin entry.now) text.new.items) }
+    ensures { OnOk result (Shows (W.contents writer.old) (W.contents writer.new) (text.old.items ++ entry_line_of notation origin entry.now) text.new.items) }
 {
-    let line = entry_line(alloc, origin, entry)?;
-    text.extend_from_slice(line.as_bytes())?;
+    push_entry(alloc, text, notation, origin, entry)?;
     let due = text.len() >= OUTPUT_BYTES;
     show(writer, text, due)?;
     Ok(())

@@ -4,6 +4,7 @@
 mod arguments;
 mod changing;
 mod command_line;
+mod entry_line;
 mod help;
 mod inspect;
 mod keys;
@@ -19,5 +20,5 @@ mod words;
 pub use inspect::{check, dump};
 pub use program::{Terminals, start};
 pub use saying::refuse_words;
-pub use task::{Lookup, Numbers, OrderName, Pieces, Place, Search, Task, Turns};
+pub use task::{Lookup, Notation, Numbers, OrderName, Pieces, Place, Search, Task, Turns};
 pub use words::{Misuse, settings};

@@ -5,7 +5,7 @@ use crate::keys::{form_for, read_key};
 use crate::progress::{Meter, Watched, bytes_of};
 use crate::saying::{folder_fault, say_no_current, status_of, stop, want_key};
 use crate::status::DONE;
-use crate::task::{Lookup, Search};
+use crate::task::{Lookup, Notation, Search};
 use browse::{Choice, Form, range_of};
 use coding::Bytes;
 use ikey::KeyOrder;
@@ -116,6 +116,7 @@ fn has_no_current<S: Store>(store: &mut S) -> bool {
 pub fn dump_folder<K: KeyOrder, W: Write, F: Write>(
     rt: &HostRuntime,
     folder: &str,
+    notation: Notation,
     watched: bool,
     writer: &mut W,
     faults: &mut F,
@@ -124,7 +125,7 @@ pub fn dump_folder<K: KeyOrder, W: Write, F: Write>(
         Ok(store) => watched_store(rt, store, watched, 2),
         Err(status) => return status,
     };
-    let done = dump::<K, Folder, W>(rt.alloc(), &mut store, writer);
+    let done = dump::<K, Folder, W>(rt.alloc(), &mut store, writer, notation);
     status_of(done, faults)
 }
 

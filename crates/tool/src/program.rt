@@ -58,7 +58,9 @@ fn perform<K: KeyOrder, R: Read + Drop, W: Write, F: Write>(
         Task::Scan(_, search) => scan::<K, W, F>(rt, folder, search, writer, faults),
         Task::Export(_) => export::<K, W, F>(rt, folder, writer, faults),
         Task::Check(_) => check_folder::<K, W, F>(rt, folder, terminals.faults, writer, faults),
-        Task::Dump(_) => dump_folder::<K, W, F>(rt, folder, terminals.faults, writer, faults),
+        Task::Dump(_, notation) => {
+            dump_folder::<K, W, F>(rt, folder, *notation, terminals.faults, writer, faults)
+        }
         Task::Run(_, numbers, turns) => {
             if terminals.input && terminals.faults {
                 greet(faults);

@@ -1,14 +1,13 @@
-// The lines that `check` and `dump` print.
+// What a check prints.
 
 ghost use Rattle.std.specs.Prelude.{◌≡◌, ◌++◌, ◌∷◌, [], IfOk, Err, string_bytes};
-ghost use Rattle.tool.specs.Reports.{check_text_of, report_text_of, texts, table_line_of, log_line_of, entry_line_of, origin_text_of, change_text_of, tail_text_of};
+ghost use Rattle.tool.specs.Reports.{check_text_of, report_text_of, texts, table_line_of, log_line_of, tail_text_of};
 
-use coding::{Bytes, DbError};
+use coding::DbError;
 use engine::Answer;
-use ikey::Entry;
 use logfile::Tail;
-use recover::{LogSummary, Origin, Report, TableSummary};
-use script::{answer_line, bytes_text};
+use recover::{LogSummary, Report, TableSummary};
+use script::answer_line;
 use std::alloc::{AllocError, Global};
 
 /// What a check prints: the report of a directory, or the refusal.
@@ -91,39 +90,5 @@ fn tail_text(alloc: Global, tail: Tail) -> Result<String, AllocError>
     match tail {
         Tail::Clean => String::from_str(alloc, "clean"),
         Tail::Torn => String::from_str(alloc, "torn"),
-    }
-}
-
-/// The line of an entry, ended by a newline.
-pub fn entry_line(alloc: Global, origin: Origin, entry: &Entry) -> Result<String, AllocError>
-    ensures { IfOk result (λ line. string_bytes line ≡ entry_line_of origin entry.now) }
-{
-    let origin = origin_text(alloc, origin)?;
-    let key = bytes_text(alloc, &entry.key)?;
-    let sequence = entry.sequence;
-    let change = change_text(alloc, &entry.value)?;
-    let mut line = format!(in alloc; "{origin} {key} {sequence} {change}")?;
-    line.push('\n')?;
-    Ok(line)
-}
-
-fn change_text(alloc: Global, value: &Option<Bytes>) -> Result<String, AllocError>
-    ensures { IfOk result (λ text. string_bytes text ≡ change_text_of value.now) }
-{
-    match value {
-        None => String::from_str(alloc, "delete"),
-        Some(value) => {
-            let value = bytes_text(alloc, value)?;
-            format!(in alloc; "put {value}")
-        }
-    }
-}
-
-fn origin_text(alloc: Global, origin: Origin) -> Result<String, AllocError>
-    ensures { IfOk result (λ text. string_bytes text ≡ origin_text_of origin) }
-{
-    match origin {
-        Origin::Table(level, number) => format!(in alloc; "table {level} {number}"),
-        Origin::Log(number) => format!(in alloc; "log {number}"),
     }
 }

@@ -18,8 +18,8 @@ pub enum Task<'a> {
     Export(Place<'a>),
     /// Check the directory.
     Check(Place<'a>),
-    /// Print the entries of the directory.
-    Dump(Place<'a>),
+    /// Print the entries of the directory, in this notation.
+    Dump(Place<'a>, Notation),
     /// Run a script over a database with these options.
     Run(Place<'a>, Numbers, Turns),
     /// Write the operations of a file's lines.
@@ -42,6 +42,15 @@ pub enum OrderName {
     Bytes,
     /// `reverse`: `ikey::ReverseBytes`.
     Reverse,
+}
+
+/// How the lines of pairs and of entries are printed.
+#[derive(Clone, Copy, Debug, PartialEq, Eq)]
+pub enum Notation {
+    /// As words, with keys and values in this form.
+    Words(Form),
+    /// As JSON objects, with the digits of keys and values.
+    Json,
 }
 
 /// A key as a word that isn't read yet, and how it and its value are spelt.
@@ -113,7 +122,7 @@ impl<'a> Task<'a> {
             Task::Scan(place, _) => *place,
             Task::Export(place) => *place,
             Task::Check(place) => *place,
-            Task::Dump(place) => *place,
+            Task::Dump(place, _) => *place,
             Task::Run(place, _, _) => *place,
             Task::Import(place, _, _) => *place,
             Task::Compact(place, _, _) => *place,

@@ -4,10 +4,10 @@ ghost use Rattle.std.specs.Prelude.{◌≡◌, map, option_map, IfOk, IfSome, So
 ghost use Rattle.clap.specs.Words.{app_of, found_of, first_of, is_simple, rows_of, subcommand_of, subcommand_rows_of};
 ghost use Rattle.browse.specs.declared.style.Style.TheVariants as style;
 ghost use Rattle.tool.specs.CommandLine.{the_app};
-ghost use Rattle.tool.specs.Tasks.{IsTask, AsksForIn, ArePieces, AreTurns, HaveNumbers, IsFlag, IsLookup, IsNumberOf, IsOptional, IsOrderOf, IsPlace, IsSearch, IsStyle, IsWord, form_of, style_of, work_word};
+ghost use Rattle.tool.specs.Tasks.{IsTask, AsksForIn, ArePieces, AreTurns, HaveNumbers, IsFlag, IsLookup, IsNotation, IsNumberOf, IsOptional, IsOrderOf, IsPlace, IsSearch, IsStyle, IsWord, form_of, notation_of, style_of, work_word};
 
 use crate::command_line::command;
-use crate::task::{Lookup, Numbers, OrderName, Pieces, Place, Search, Task, Turns};
+use crate::task::{Lookup, Notation, Numbers, OrderName, Pieces, Place, Search, Task, Turns};
 use browse::{Form, Style};
 use clap::{ArgMatches, Error};
 use std::alloc::Global;
@@ -65,7 +65,7 @@ fn read_task<'a>(matches: &ArgMatches<'a>) -> Option<Task<'a>>
         return Some(Task::Check(place));
     }
     if name == "dump" {
-        return Some(Task::Dump(place));
+        return Some(Task::Dump(place, read_notation(found)?));
     }
     let numbers = read_numbers(found)?;
     if name == "run" {
@@ -146,22 +146,39 @@ fn read_prefix<'a>(found: &ArgMatches<'a>, order: OrderName) -> Option<Option<&'
 fn read_style(found: &ArgMatches<'_>) -> Option<Style>
     ensures { IfSome result (IsStyle (rows_of (found_of found.now))) }
 {
+    let notation = read_notation(found)?;
     let values = read_flag(found, "values")?;
-    let text = read_flag(found, "text")?;
-    let json = read_flag(found, "json")?;
-    let style = style_of(json, text, values)?;
+    let style = style_of(notation, values);
     Some(style)
 }
 
-fn style_of(json: bool, text: bool, values: bool) -> Option<Style>
-    ensures { result ≡ style_of json text values }
+fn style_of(notation: Notation, values: bool) -> Style
+    ensures { result ≡ style_of notation values }
 {
-    match (json, text, values) {
-        (false, text, true) => Some(Style::Pairs(form_of(text))),
-        (false, text, false) => Some(Style::Keys(form_of(text))),
-        (true, false, true) => Some(Style::JsonPairs),
-        (true, false, false) => Some(Style::JsonKeys),
-        (true, true, _) => None,
+    match (notation, values) {
+        (Notation::Words(form), true) => Style::Pairs(form),
+        (Notation::Words(form), false) => Style::Keys(form),
+        (Notation::Json, true) => Style::JsonPairs,
+        (Notation::Json, false) => Style::JsonKeys,
+    }
+}
+
+fn read_notation(found: &ArgMatches<'_>) -> Option<Notation>
+    ensures { IfSome result (IsNotation (rows_of (found_of found.now))) }
+{
+    let text = read_flag(found, "text")?;
+    let json = read_flag(found, "json")?;
+    let notation = notation_of(json, text)?;
+    Some(notation)
+}
+
+fn notation_of(json: bool, text: bool) -> Option<Notation>
+    ensures { result ≡ notation_of json text }
+{
+    match (json, text) {
+        (false, text) => Some(Notation::Words(form_of(text))),
+        (true, false) => Some(Notation::Json),
+        (true, true) => None,
     }
 }
 

@@ -6,4 +6,4 @@ returns c = λ app was.
     let second = c.in_ok-second.ensures _ _ first c.scan.ensures in
     let third = c.in_ok-third.ensures _ _ second c.reading.ensures in
     let fourth = c.in_ok-fourth.ensures _ _ third c.reading-2.ensures in
-    c.in_ok-whole.ensures _ _ fourth c.reading-3.ensures
+    c.in_ok-whole.ensures _ _ fourth c.dump.ensures

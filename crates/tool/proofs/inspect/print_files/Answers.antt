@@ -14,7 +14,7 @@ returns-in-Some g c =
     let before = g.W.Write.contents c.loop-origin.writer in
     let after = g.W.Write.contents c.print_file.new.writer in
     c.loop-origin.invariant new after c.in-Some.status
-    (stopped_at order c.args.origins.now c.loop-origin.origin-index _ c.loop-origin-test.true old new before after c.in-Some.status
+    (stopped_at order c.args.notation c.args.origins.now c.loop-origin.origin-index _ c.loop-origin-test.true old new before after c.in-Some.status
     (rw c.in-Some.is at c.in_ok-status.ensures))
 
 pub loop-origin-preserved : goal.loop-origin-preserved
@@ -25,7 +25,7 @@ loop-origin-preserved g c = λ new after status rest.
     let before = g.W.Write.contents c.loop-origin.writer in
     let between = g.W.Write.contents c.print_file.new.writer in
     c.loop-origin.invariant new after status
-    (goes_on order c.args.origins.now c.loop-origin.origin-index _ c.loop-origin-test.true old new before after status mid between
+    (goes_on order c.args.notation c.args.origins.now c.loop-origin.origin-index _ c.loop-origin-test.true old new before after status mid between
     (rw c.in_default.is at c.in_ok-status.ensures) rest)
 
 pub returns : goal.returns
@@ -34,4 +34,4 @@ returns g c =
     let now = g.S.Store.facts c.loop-origin.store in
     let written = g.W.Write.contents c.loop-origin.writer in
     c.loop-origin.invariant now written 0
-    (subst (λ (os : List Origin). PrintsFiles order os now now written written 0) (sym (drop_all c.loop-origin.origin-index c.args.origins.now c.loop-origin-test.false)) (refl, refl, refl))
+    (subst (λ (os : List Origin). PrintsFiles order c.args.notation os now now written written 0) (sym (drop_all c.loop-origin.origin-index c.args.origins.now c.loop-origin-test.false)) (refl, refl, refl))

@@ -33,8 +33,8 @@ returns-then-eq-4 c =
 pub returns-then-eq-5 : goal.returns-then-eq-5
 returns-then-eq-5 c =
     let named = (bytes_eq-Decides c.in_ok-name.name.now (codes "dump")).0 (sym c.if-eq-5.ensures) in
-    asks_for c.args.matches.now c.in_ok-name.name.now (rows_of (found_of c.in_ok-name.found.now)) (Dump c.in_ok-place.place) c.in_ok-name.ensures.name
-    c.in_ok-name.ensures.rows (named, c.in_ok-place.ensures)
+    asks_for c.args.matches.now c.in_ok-name.name.now (rows_of (found_of c.in_ok-name.found.now)) (Dump c.in_ok-place.place c.in_ok-read_notation.field-0) c.in_ok-name.ensures.name
+    c.in_ok-name.ensures.rows (named, c.in_ok-place.ensures, c.in_ok-read_notation.ensures)
 
 pub returns-then-eq-6 : goal.returns-then-eq-6
 returns-then-eq-6 c =
