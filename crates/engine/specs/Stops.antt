@@ -1,0 +1,21 @@
+-- What a stop of the process leaves in the middle of a write.
+use Rattle.std.specs.Prelude.{◌≡◌, ◌⊎◌, List, false, IsTrue}
+use Rattle.batch.specs.declared.operation.Operation.{Operation}
+use Rattle.store.specs.Files.{Facts, Files}
+use Rattle.store.specs.Stops.{Left, moment}
+use Rattle.ikey.specs.Orders.{Order}
+use Rattle.machine.specs.Access.{accepted}
+use Rattle.machine.specs.Machine.{Machine}
+use Rattle.engine.specs.Headline.{Holds}
+use Rattle.engine.specs.StandsDb.{StandsDb, db_store_of}
+use Rattle.engine.specs.declared.db.Db.{Db}
+
+-- At any moment since, it leaves the files of what was accepted by then, with this batch as a whole or without it.
+abbrev pub StopsWrite : Order → Machine → List Operation → Facts → Facts → Type 0
+StopsWrite order m operations old new = (files : Files) → Left new (moment old) files → Holds order files m ⊎ Holds order files (accepted m operations)
+
+-- So of a write to a database that isn't broken.
+abbrev pub DbStopsWrite : {S K : Type 0} {g : _} → Order → (S → Facts) → List Operation → Db S K g → Db S K g → Type 0
+DbStopsWrite order facts operations old new =
+    IsTrue (facts (db_store_of new)).faithful → (m : Machine) → StandsDb order facts old m → m.broken ≡ false
+    → StopsWrite order m operations (facts (db_store_of old)) (facts (db_store_of new))
