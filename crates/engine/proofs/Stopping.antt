@@ -1,5 +1,5 @@
 -- What a stop leaves in the middle of a write.
-use Rattle.std.proofs.Common.{Bool, true, false, MatchBool, ◌≡◌, ◌⊎◌, ◌<◌, ◌≤◌, ◌+◌, ℕ, min, List, [], ◌∷◌, ◌++◌, length, take, IsTrue, Result, Ok, Err, OnOk, OnErr, inl, inr, refl, sym, ap, subst, ◌∙◌, arith, append_assoc, append-nil, rules}
+use Rattle.std.proofs.Common.{Bool, true, false, Option, Some, None, MatchBool, ◌≡◌, ◌⊎◌, ◌<◌, ◌≤◌, ◌+◌, ℕ, min, List, [], ◌∷◌, ◌++◌, length, take, IsTrue, Result, Ok, Err, OnOk, OnErr, inl, inr, refl, sym, ap, subst, ◌∙◌, arith, append_assoc, append-nil, rules}
 use Rattle.std.proofs.lemmas.Bool.{cases_lt}
 use Rattle.std.proofs.lemmas.List.{take_all, take-take, length-take}
 use Rattle.store.specs.Files.{Facts, Files, Call, Disk, disk_of, Change, Addition, Sync, Appends, AppendsBeginning}
@@ -20,7 +20,10 @@ use Rattle.engine.specs.OpenDb.{OpenDb}
 use Rattle.engine.specs.Stops.{StopsWrite}
 use Rattle.engine.specs.internal.Directory.{IsAtRest}
 use Rattle.engine.specs.internal.Standing.{IsBroken, IsServing}
+use Rattle.engine.specs.Stands.{StandsOver}
+use Rattle.engine.specs.declared.ids.Ids.{Ids}
 use Rattle.engine.proofs.Lasting.{holds_current, holds_with}
+use Rattle.engine.proofs.WriteSteps.{doubted_same}
 
 -- ---- some calls one behind the other
 
@@ -107,6 +110,13 @@ holds_doubted order files m operations rest = elim rest.meaning [
   | inl means ↦ inl (holds_current order files m means)
   | inr means ↦ inr (holds_with order files m operations means)
 ]
+
+-- where no call was made
+pub stops_unwritten : {K : Type 0} {g : _} → (order : Order) (source : Seen) (ids : Ids) (o : Option (OpenDb K g)) (operations : List Operation) (m : Machine) → StandsOver order source ids o m → m.opened ≡ true → m.broken ≡ false
+    → LeavesOnly source.facts source.facts (λ files. IsAtRest order files (doubted m operations))
+stops_unwritten order source ids None operations m s opened whole = absurd (let closed : m.opened ≡ false = s.opened in cc)
+stops_unwritten order source ids (Some db) operations m s opened whole =
+    leaves_same source.facts source.facts _ refl refl (doubted_same order source ids db operations (unbroken order db.broken source db m s.rest whole) m s)
 
 pub stops_write : (order : Order) (m : Machine) (operations : List Operation) (old new : Facts) → LeavesOnly old new (λ files. IsAtRest order files (doubted m operations)) → StopsWrite order m operations old new
 stops_write order m operations old new h files left = elim (since_then old new h.more files h.calls left) [
