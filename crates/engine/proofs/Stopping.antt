@@ -1,10 +1,10 @@
 -- What a stop leaves in the middle of a write.
-use Rattle.std.proofs.Common.{Bool, true, false, Option, Some, None, MatchBool, ◌≡◌, ◌⊎◌, ◌<◌, ◌≤◌, ◌+◌, ℕ, min, List, [], ◌∷◌, ◌++◌, length, take, IsTrue, Result, Ok, Err, OnOk, OnErr, inl, inr, refl, sym, ap, subst, ◌∙◌, arith, append_assoc, append-nil, rules}
+use Rattle.std.proofs.Common.{Bool, true, false, Option, Some, None, MatchBool, ◌≡◌, ◌⊎◌, ℕ, min, List, [], ◌∷◌, ◌++◌, take, IsTrue, Result, Ok, Err, OnOk, OnErr, inl, inr, refl, sym, ap, subst, ◌∙◌, arith, append_assoc, append-nil}
 use Rattle.std.proofs.lemmas.Bool.{cases_lt}
 use Rattle.std.proofs.lemmas.List.{take_all, take-take, length-take}
-use Rattle.store.specs.Files.{Facts, Files, Call, Disk, disk_of, Change, Addition, Sync, Appends, AppendsBeginning}
+use Rattle.store.specs.Files.{Facts, Files, Call, Disk, disk_of, Addition, Sync, Appends, AppendsBeginning}
 use Rattle.store.specs.Calls.{Adds, Idles}
-use Rattle.store.specs.Stops.{LeavesOnly, LeftDuring}
+use Rattle.store.specs.Stops.{LeavesOnly}
 use Rattle.store.proofs.Stopping.{both_parts, since_then}
 use Rattle.store.specs.declared.error.StoreError.{StoreError}
 use Rattle.engine.specs.declared.log.LogError.TheVariants.{Device}
