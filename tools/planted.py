@@ -21,6 +21,16 @@ def folder_unsynced(calls, folder):
     return [it for it in calls if not (isinstance(it, Synced) and it.file == folder)]
 
 
+def renaming_unsynced(calls, folder):
+    """The folder isn't synced behind the renaming of CURRENT, until another file's sync asks for it."""
+    found, is_behind = [], False
+    for it in calls:
+        is_behind = isinstance(it, Moved) and it.new == "CURRENT" or is_behind and not isinstance(it, Opened)
+        if not (is_behind and isinstance(it, Synced) and it.file == folder):
+            found.append(it)
+    return found
+
+
 def current_removed(calls, _):
     """CURRENT is taken away before its new file is renamed to it."""
     found, is_there = [], False
@@ -111,6 +121,7 @@ PLANTS = {
     "a MANIFEST is never synced": unsynced("MANIFEST-"),
     "what becomes CURRENT is never synced": unsynced(".dbtmp"),
     "the folder is never synced": folder_unsynced,
+    "the folder isn't synced behind the renaming of CURRENT": renaming_unsynced,
     "CURRENT is removed before it is renamed": current_removed,
     "the old MANIFEST is removed before CURRENT is renamed": removed_early("MANIFEST-"),
     "logs are removed before CURRENT is renamed": logs_removed,

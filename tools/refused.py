@@ -17,22 +17,20 @@ of `coding`, and of no other crate. Bodies are told by the layout that `rt fmt` 
 applies: tools/edits, with which the gate begins, says so.) Only the documentation comments of a crate that lists `clap` are, which
 makes help of them.
 """
-import fcntl
 import functools
 import hashlib
 import os
 import re
 import subprocess
-import tempfile
 
+from records import Records
 from repository import ROOT, RT, below, crates, edits_of
 
-FILE = "bugs/refused.txt"
-HEAD = """\
+RECORDS = Records("bugs/refused.txt", """\
 # The crates of which the prover refused each edit, those of crates/CRATE/must-fail and of bugs/CRATE: the crate, their number, and a sum
 # of all that it read (tools/refused.py says of what). `make bugs` writes the line of a crate at the end of a run that has tried them
 # all; never write one by hand. `make test` leaves out the edits of a crate whose line has the present sum.
-"""
+""")  # fmt: skip
 
 # Strings stay, whatever is in them; a comment goes.
 RUST = re.compile(r"""(?P<kept>b?r(?P<marks>#*)".*?"(?P=marks)|b?"(?:\\.|[^"\\])*"|(?:(?<!\w)|\bb)'(?:\\[^\n]+?|[^\\'\n])')|/\*.*?\*/|//[^\n]*""", re.S)
@@ -131,11 +129,7 @@ def sum_of(crate, root=ROOT, only=None):
 
 def recorded(root=ROOT):
     """The recorded lines: by crate the number of its edits and the sum."""
-    if not os.path.isfile(f"{root}/{FILE}"):
-        return {}
-    with open(f"{root}/{FILE}", encoding="utf-8") as lines:
-        rows = [line.split() for line in lines if line.strip() and not line.startswith("#")]
-    return {crate: (int(count), found) for crate, count, found in rows}
+    return {crate: (int(count), found) for crate, (count, found) in RECORDS.rows(root).items()}
 
 
 def state_of(crate, root=ROOT):
@@ -145,14 +139,5 @@ def state_of(crate, root=ROOT):
 
 
 def record(crate, line):
-    """Writes the line of a crate, a number of edits and a sum, or takes it away where there is none. Other runs may do so at the same time."""
-    os.makedirs(f"{ROOT}/build", exist_ok=True)
-    with open(f"{ROOT}/build/refused.lock", "w", encoding="utf-8") as lock:
-        fcntl.flock(lock, fcntl.LOCK_EX)
-        rows = recorded()
-        rows.pop(crate, None)
-        rows.update({crate: line} if line else {})
-        with tempfile.NamedTemporaryFile("w", encoding="utf-8", dir=f"{ROOT}/build", delete=False) as file:
-            file.write(HEAD + "".join(f"{it} {count} {found}\n" for it, (count, found) in sorted(rows.items())))
-        os.chmod(file.name, 0o644)
-        os.replace(file.name, f"{ROOT}/{FILE}")
+    """Writes the line of a crate, a number of edits and a sum, or takes it away where there is none."""
+    RECORDS.write(crate, line)

@@ -58,8 +58,6 @@ CASES = {
 NOT_KEPT = {
     SEALED: "a write with sync syncs the log that it goes to, and not the one that was sealed before",
     KEPT: "a write with sync syncs the log that it goes to, and not those that an open keeps since no table has their entries",
-    FIRST: "the log may be there without CURRENT, which is taken for damage",
-    RENAMED: "CURRENT may still name the MANIFEST that was removed behind its renaming",
 }
 
 

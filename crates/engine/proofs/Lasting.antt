@@ -19,10 +19,10 @@ pushed : (map : Contents) (batches : List (List Operation)) (batch : List Operat
 pushed map [] batch = refl
 pushed map (first ∷ batches) batch = pushed (after_batch map first) batches batch
 
-holds_current : (order : Order) (files : Files) (m : Machine) → MeansCurrent order files m → Holds order files m
+pub holds_current : (order : Order) (files : Files) (m : Machine) → MeansCurrent order files m → Holds order files m
 holds_current order files m means = record { entries = means.entries; directory = means.spelled; view = means.view }
 
-holds_with : (order : Order) (files : Files) (m : Machine) (operations : List Operation) → MeansWith order files m operations → Holds order files (accepted m operations)
+pub holds_with : (order : Order) (files : Files) (m : Machine) (operations : List Operation) → MeansWith order files m operations → Holds order files (accepted m operations)
 holds_with order files m [] means = record {
   entries = means.entries;
   directory = subst (λ (n : ℕ). IsDirectory order files means.entries n) (let same : m.used + 0 ≡ m.used = omega arith in same) means.spelled;

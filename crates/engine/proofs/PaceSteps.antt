@@ -1,8 +1,7 @@
 -- Pieces of work one behind the other.
-use Rattle.std.proofs.Common.{◌≡◌, ℕ, ◌≤◌, Option, Some, None, MatchOption, refl, sym, ap, ◌∙◌, arith}
+use Rattle.std.proofs.Common.{◌≡◌, ℕ, Option, Some, None, MatchOption, refl, sym, ap, ◌∙◌, arith}
 use Rattle.coding.specs.declared.error.DbError.{DbError}
 use Rattle.coding.specs.declared.error.DbError.TheVariants as error
-use Rattle.machine.specs.declared.command.Answer.{Answer}
 use Rattle.machine.specs.declared.command.Answer.TheVariants.{Worked, Idle, Refused}
 use Rattle.machine.specs.Causes.{not_serving, status_of}
 use Rattle.machine.specs.Machine.{Machine}

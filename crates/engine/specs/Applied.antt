@@ -38,6 +38,7 @@ use Rattle.engine.specs.Outcomes.{IsAnswerTo, Outcome, Succeeds, keeps_of, stood
 use Rattle.machine.specs.Causes.{Status, cause_of}
 use Rattle.engine.specs.Opened.{OpenedTidy}
 use Rattle.engine.specs.Causes.{IsCaused, IsCausedIn, open_status, status_in}
+use Rattle.engine.specs.Stops.{StopsBy}
 use Rattle.engine.specs.Touching.{SyncsLog, LeavesStore, CloseTouches, Touches}
 use Rattle.engine.specs.Telling.{CommandTells}
 
@@ -193,6 +194,7 @@ pub record Applied {S K : Type 0} {g : _} (order : Order) (facts : S → Facts) 
   pub shown : ShownBy op old answer
   pub leaves : LeavesBy op new answer
   pub lets_go : LetsGo op new answer
+  pub stops : StopsBy op order facts old new
   pub works : WorkDoneBy op order facts old new answer
   pub needed : NeededBy op order facts old new answer
   pub shut : ShutBy op new

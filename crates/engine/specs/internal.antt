@@ -14,4 +14,5 @@ pub mod Pieces
 pub mod Resting
 pub mod Shorthands
 pub mod Standing
+pub mod Stopping
 pub mod TakingAll

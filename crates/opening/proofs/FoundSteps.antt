@@ -1,26 +1,22 @@
 -- What an open finds.
-use Rattle.std.proofs.Common.{◌≡◌, ℕ, ◌+◌, ◌-◌, ◌<◌, ◌≤◌, ◌^◌, Bool, true, false, List, [], ◌∷◌, Contains, length, Option, Some, None, is_some, Result, Ok, Err, IfErr, IsTrue, MatchBool, inl, inr, refl, sym, ap, subst, ◌∙◌, arith}
-use Rattle.std.specs.FinMap.{get, contains_key}
+use Rattle.std.proofs.Common.{◌≡◌, ℕ, ◌+◌, ◌-◌, ◌<◌, ◌≤◌, ◌^◌, false, [], Option, is_some, Result, Ok, Err, IfErr, IsTrue, inr, refl, sym, ap, subst, ◌∙◌, arith}
 use Rattle.coding.specs.declared.error.DbError.{DbError}
 use Rattle.coding.specs.declared.error.DbError.TheVariants as error
 use Rattle.store.specs.Files.{Facts, Files}
 use Rattle.ikey.specs.Orders.{Order}
-use Rattle.edits.specs.Names.{name_of, IsNumbered}
 use Rattle.edits.specs.declared.layout.Layout.{Layout}
-use Rattle.edits.specs.declared.names.FileName.TheVariants.{Current, Log, Table, OldTable}
 use Rattle.recover.specs.Numbers.{IsFree, IsNextNumber}
 use Rattle.recover.specs.internal.Changes.{RecoveredLaw}
 use Rattle.recover.specs.Directory.{Directory, IsConsistent, IsEmpty, used_in}
 use Rattle.recover.specs.internal.Laws.{IsSameLayout}
 use Rattle.recover.specs.Logs.{logged}
-use Rattle.recover.specs.Reading.{IsListing, Recovers, RefusesDirectory, IsInconsistent, IsBeyondReading, IsNumberUpTo, HasTableFile, HasNoTableFile}
+use Rattle.recover.specs.Reading.{IsListing, Recovers, IsNumberUpTo}
 use Rattle.recover.specs.declared.listing.Listing.{Listing}
 use Rattle.recover.specs.declared.reading.Recovered.{Recovered}
 use Rattle.machine.specs.declared.command.Mode.{Mode}
-use Rattle.machine.specs.declared.command.Mode.TheVariants.{Existing, New, Any}
 use Rattle.opening.specs.declared.finding.Found.{Found}
-use Rattle.opening.specs.internal.Opening.{FindsDirectory, Finds, AllowsFiles, RefusesOpen, RefusesEmpty}
-use Rattle.opening.specs.Looking.{IsDamaged, IsFound}
+use Rattle.opening.specs.internal.Opening.{FindsDirectory, Finds, RefusesOpen, RefusesEmpty}
+use Rattle.opening.specs.Looking.{IsFound}
 
 -- ---- numbers
 

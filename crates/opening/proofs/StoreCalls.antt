@@ -1,5 +1,5 @@
 -- The calls by which an open writes.
-use Rattle.std.proofs.Common.{Bool, true, false, cond, ◌≡◌, ◌≢◌, ◌⊎◌, ℕ, ◌<◌, List, [], ◌++◌, take, Option, Some, None, Result, Ok, Err, IfErr, OnOk, OnErr, IsTrue, inl, inr, refl, sym, ap, ◌∙◌, arith}
+use Rattle.std.proofs.Common.{Bool, true, false, cond, ◌≡◌, ◌≢◌, ◌⊎◌, ℕ, ◌<◌, List, [], ◌++◌, take, Option, Some, None, Result, Ok, Err, IfErr, OnOk, OnErr, IsTrue, inl, inr, refl, sym, ap, subst, ◌∙◌, arith}
 use Rattle.std.specs.Cmp.Lexicographic.{slice_cmp, nat_list_cmp_total}
 use Rattle.std.specs.Ordering.{is_eq, nat_cmp, eq_by_cmp}
 use Rattle.std.specs.declared.cmp.Ordering.{Ordering}
@@ -265,3 +265,24 @@ current_made old mid new temporary bytes w counts undenied renamed = record {
   ok = λ f. renamed_sets old.files mid.files new.files temporary bytes (w.ok (counts.faithful f)) (w.others (counts.faithful f)) (renamed f);
   err = λ f. tt;
 }
+
+-- a sync of it changes no file
+set_behind : (old mid new : Files) (temporary bytes : List ℕ) → new ≡ mid → SetsCurrent old mid temporary bytes → SetsCurrent old new temporary bytes
+set_behind old mid new temporary bytes same = subst (λ (files : Files). SetsCurrent old files temporary bytes) (sym same)
+
+pub current_kept : (old mid new : Facts) (temporary bytes : List ℕ) → MakesCurrent old mid temporary bytes (Ok tt) → Counts {T = Unit {0}} mid new (Ok tt) → Unlocking mid new → Keeps mid new → MakesCurrent old new temporary bytes (Ok tt)
+current_kept old mid new temporary bytes m counts undenied same = record {
+  call = after old mid new done_so done_so went m.call (fine mid new counts undenied);
+  ok = λ f. set_behind old.files mid.files new.files temporary bytes (same f) (m.ok (counts.faithful f));
+  err = λ f. tt;
+}
+
+pub current_not_kept : (old mid new : Facts) (temporary bytes : List ℕ) (se : StoreError) (e : DbError) → MakesCurrent old mid temporary bytes (Ok tt) → Counts {T = Unit {0}} mid new (Err se) → Unlocking mid new → Keeps mid new
+    → ((se ≡ store_error.Missing) → ⊥) → IsRefusalOf se e → MakesCurrent old new temporary bytes (Err e)
+current_not_kept old mid new temporary bytes se e m counts undenied same there is =
+    let call = refused {T = Unit {0}} mid new se e counts undenied is there in
+    record {
+      call = after old mid new done_so (Err e) went m.call call;
+      ok = λ f. tt;
+      err = λ f. inr (set_behind old.files mid.files new.files temporary bytes (same f) (m.ok (call.faithful f)));
+    }

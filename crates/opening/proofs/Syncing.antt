@@ -139,6 +139,25 @@ module _ (old mid new : Facts) (temporary bytes : List ℕ) where
     ];
   }
 
+-- what is said of it holds behind a sync of it
+module _ (old mid new : Facts) (temporary bytes : List ℕ) (back : IsTrue new.faithful → IsTrue mid.faithful) (same : IsTrue new.faithful → new.files ≡ mid.files) (made : MakesSynced old mid temporary bytes (Ok tt)) where
+  there_still : IsTrue new.faithful → get new.files (name_of Current) ≡ Some bytes
+  there_still f = ap (λ (fs : Files). get fs (name_of Current)) (same f) ∙ (made.ok (back f)).0
+
+  pub synced_again : (IsTrue new.faithful → new.synced ≡ with_synced mid.synced (name_of Current) (get mid.files (name_of Current))) → MakesSynced old new temporary bytes (Ok tt)
+  synced_again is = record {
+    ok = λ f. (there_still f, ap (λ (t : Synced). t (name_of Current)) (is f) ∙ with_same mid.synced (name_of Current) (get mid.files (name_of Current)) ∙ (made.ok (back f)).0);
+    err = λ f. tt;
+    others = λ f q apart other. only_with mid.synced new.synced (name_of Current) (get mid.files (name_of Current)) (is f) q other ∙ made.others (back f) q apart other;
+  }
+
+  pub not_synced_again : (e : DbError) → (IsTrue new.faithful → new.synced ≡ mid.synced) → MakesSynced old new temporary bytes (Err e)
+  not_synced_again e is = record {
+    ok = λ f. tt;
+    err = λ f apart. inr (there_still f, ap (λ (t : Synced). t (name_of Current)) (is f) ∙ (made.ok (back f)).1);
+    others = λ f q apart other. ap (λ (t : Synced). t q) (is f) ∙ made.others (back f) q apart other;
+  }
+
 -- ---- the writing of an open
 
 leaves_both : (old mid new : Facts) (name : List ℕ) → LeavesFile old mid name → LeavesFile mid new name → LeavesFile old new name

@@ -26,7 +26,7 @@ done_is_none answer done refused = subst IsRefusal done refused
 
 -- ---- what is taken
 
-write_done : (answer : Answer) → IsWriteAnswer answer → (IsRefusal answer → ⊥) → answer ≡ Done
+pub write_done : (answer : Answer) → IsWriteAnswer answer → (IsRefusal answer → ⊥) → answer ≡ Done
 write_done Done may well = refl
 write_done (Refused e) may well = absurd (well tt)
 write_done _ may well = absurd may

@@ -3,9 +3,10 @@
 /// How a script is run.
 #[derive(Clone, Copy, Debug, PartialEq, Eq)]
 pub struct Way {
-    /// Whether the first line that is refused is the last one that is answered.
+    /// Whether the first line that is refused, or that says no command, is the last one that is answered.
     pub strict: bool,
-    /// Whether work is done behind each write that was answered `ok`: six entries for each of its operations, without a line of answer.
+    /// Whether work is done behind each write that was answered `ok`: six entries for each of its operations, of which 1,048,576 count at
+    /// most, without a line of answer.
     pub works: bool,
 }
 

@@ -3,7 +3,6 @@ use Rattle.std.specs.Prelude.{ℕ, Option, List}
 use Rattle.store.specs.Files.{Facts}
 use Rattle.ikey.specs.Orders.{Order}
 use Rattle.machine.specs.declared.command.Answer.{Answer}
-use Rattle.machine.specs.declared.command.Answer.TheVariants as answer
 use Rattle.engine.specs.OpenDb.{OpenDb}
 use Rattle.engine.specs.Stands.{Stands, store_of, open_in, seen_in}
 use Rattle.engine.specs.declared.session.Session.{Session}

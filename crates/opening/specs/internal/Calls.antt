@@ -1,6 +1,6 @@
 -- What the calls by which an open writes leave, over any store and while it is faithful.
-use Rattle.std.specs.Prelude.{◌≡◌, ◌≢◌, ◌⊎◌, ◌<◌, ◌≤◌, ℕ, Some, true, IsTrue, List, [], Result, Err, OnOk, OnErr, IfErr}
-use Rattle.std.specs.FinMap.{get, insert}
+use Rattle.std.specs.Prelude.{◌≡◌, ◌≢◌, ◌⊎◌, ◌<◌, ◌≤◌, ℕ, Some, true, IsTrue, List, Result, Err, OnOk, OnErr, IfErr}
+use Rattle.std.specs.FinMap.{get}
 use Rattle.coding.specs.declared.error.DbError.{DbError}
 use Rattle.coding.specs.declared.error.DbError.TheVariants.{OutOfMemory, Io, Locked}
 use Rattle.store.specs.Files.{Facts, Files, Locks, MayLock}

@@ -1,5 +1,5 @@
 use Rattle.ikey.specs.Orders.{order_of}
-use Rattle.std.proofs.Common.{◌≡◌, Result, Ok, Err, inl, inr, refl, sym, subst, ◌∙◌, arith, rules}
+use Rattle.std.proofs.Common.{◌≡◌, Result, Err, inl, inr, refl, sym, subst, ◌∙◌, arith, rules}
 use Rattle.coding.specs.declared.error.DbError.{DbError}
 use Rattle.coding.specs.declared.error.DbError.TheVariants.{OutOfMemory}
 use Rattle.store.specs.Files.{Files}

@@ -2,8 +2,8 @@ use Rattle.std.proofs.Common.{◌≡◌, Result, Err, sym, subst, rules}
 use Rattle.coding.specs.declared.error.DbError.{DbError}
 use Rattle.opening.specs.internal.Calls.{MakesCurrent}
 use Rattle.opening.specs.internal.Durable.{MakesSynced}
-use Rattle.opening.proofs.Syncing.{current_unwritten, current_unset, current_set}
-use Rattle.opening.proofs.StoreCalls.{current_not_written, not_renamed, current_made}
+use Rattle.opening.proofs.Syncing.{current_unwritten, current_unset, current_set, synced_again, not_synced_again}
+use Rattle.opening.proofs.StoreCalls.{current_not_written, not_renamed, current_made, current_kept, current_not_kept}
 use Rattle.opening.proofs.files.make_current.Goals as goal
 
 pub returns-in_err-write_file-clause-files : goal.returns-in_err-write_file-clause-files
@@ -18,10 +18,19 @@ returns-in-Err-clause-files g c =
     not_renamed (g.S.Store.facts c.args.store.now) (g.S.Store.facts c.write_file.new.store) (g.S.Store.facts c.rename.new.self) c.args.temporary.now c.args.bytes.now c.in-Err.error c.refusal_of.result
     c.in_ok-write_file.ensures.files c.in-Err.ensures.counts (c.in-Err.ensures.undenied, c.in-Err.ensures.lock) c.in-Err.ensures.files (λ e. c.in-Err.ensures.missing (λ i. Err (e i))) c.refusal_of.ensures
 
+pub returns-in-Err-sync-clause-files : goal.returns-in-Err-sync-clause-files
+returns-in-Err-sync-clause-files g c =
+    current_not_kept (g.S.Store.facts c.args.store.now) (g.S.Store.facts c.rename.new.self) (g.S.Store.facts c.sync.new.self) c.args.temporary.now c.args.bytes.now c.in-Err-sync.error c.refusal_of-in-Err-sync.result
+    (current_made (g.S.Store.facts c.args.store.now) (g.S.Store.facts c.write_file.new.store) (g.S.Store.facts c.rename.new.self) c.args.temporary.now c.args.bytes.now
+    c.in_ok-write_file.ensures.files c.in_default.ensures.counts (c.in_default.ensures.undenied, c.in_default.ensures.lock) c.in_default.ensures.files.ok)
+    c.in-Err-sync.ensures.counts (c.sync.ensures.undenied, c.sync.ensures.lock) c.sync.ensures.same (λ e. c.in-Err-sync.ensures.missing (λ i. Err (e i))) c.refusal_of-in-Err-sync.ensures
+
 pub returns-clause-files : goal.returns-clause-files
 returns-clause-files g c =
-    current_made (g.S.Store.facts c.args.store.now) (g.S.Store.facts c.write_file.new.store) (g.S.Store.facts c.rename.new.self) c.args.temporary.now c.args.bytes.now
-    c.in_ok-write_file.ensures.files c.in_default.ensures.counts (c.in_default.ensures.undenied, c.in_default.ensures.lock) c.in_default.ensures.files.ok
+    current_kept (g.S.Store.facts c.args.store.now) (g.S.Store.facts c.rename.new.self) (g.S.Store.facts c.sync.new.self) c.args.temporary.now c.args.bytes.now
+    (current_made (g.S.Store.facts c.args.store.now) (g.S.Store.facts c.write_file.new.store) (g.S.Store.facts c.rename.new.self) c.args.temporary.now c.args.bytes.now
+    c.in_ok-write_file.ensures.files c.in_default.ensures.counts (c.in_default.ensures.undenied, c.in_default.ensures.lock) c.in_default.ensures.files.ok)
+    c.in_default-sync.ensures.counts (c.sync.ensures.undenied, c.sync.ensures.lock) c.sync.ensures.same
 
 pub returns-in_err-write_file-clause-synced : goal.returns-in_err-write_file-clause-synced
 returns-in_err-write_file-clause-synced g c =
@@ -36,7 +45,16 @@ returns-in-Err-clause-synced g c =
     current_unset (g.S.Store.facts c.args.store.now) (g.S.Store.facts c.write_file.new.store) (g.S.Store.facts c.rename.new.self) c.args.temporary.now c.args.bytes.now c.in-Err.error c.refusal_of.result
     c.in-Err.ensures.counts.faithful c.in_ok-write_file.ensures.files c.in_ok-write_file.ensures.synced c.in-Err.ensures.files c.in-Err.ensures.synced (λ e. c.in-Err.ensures.missing (λ i. Err (e i)))
 
+pub returns-in-Err-sync-clause-synced : goal.returns-in-Err-sync-clause-synced
+returns-in-Err-sync-clause-synced g c =
+    not_synced_again (g.S.Store.facts c.args.store.now) (g.S.Store.facts c.rename.new.self) (g.S.Store.facts c.sync.new.self) c.args.temporary.now c.args.bytes.now c.in-Err-sync.ensures.counts.faithful c.sync.ensures.same
+    (current_set (g.S.Store.facts c.args.store.now) (g.S.Store.facts c.write_file.new.store) (g.S.Store.facts c.rename.new.self) c.args.temporary.now c.args.bytes.now
+    c.in_default.ensures.counts.faithful c.in_ok-write_file.ensures.files c.in_ok-write_file.ensures.synced c.in_default.ensures.files.ok c.in_default.ensures.synced.ok)
+    c.refusal_of-in-Err-sync.result c.in-Err-sync.ensures.unsynced
+
 pub returns-clause-synced : goal.returns-clause-synced
 returns-clause-synced g c =
-    current_set (g.S.Store.facts c.args.store.now) (g.S.Store.facts c.write_file.new.store) (g.S.Store.facts c.rename.new.self) c.args.temporary.now c.args.bytes.now
-    c.in_default.ensures.counts.faithful c.in_ok-write_file.ensures.files c.in_ok-write_file.ensures.synced c.in_default.ensures.files.ok c.in_default.ensures.synced.ok
+    synced_again (g.S.Store.facts c.args.store.now) (g.S.Store.facts c.rename.new.self) (g.S.Store.facts c.sync.new.self) c.args.temporary.now c.args.bytes.now c.in_default-sync.ensures.counts.faithful c.sync.ensures.same
+    (current_set (g.S.Store.facts c.args.store.now) (g.S.Store.facts c.write_file.new.store) (g.S.Store.facts c.rename.new.self) c.args.temporary.now c.args.bytes.now
+    c.in_default.ensures.counts.faithful c.in_ok-write_file.ensures.files c.in_ok-write_file.ensures.synced c.in_default.ensures.files.ok c.in_default.ensures.synced.ok)
+    c.in_default-sync.ensures.synced

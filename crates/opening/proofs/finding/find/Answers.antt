@@ -1,9 +1,5 @@
-use Rattle.std.proofs.Common.{◌≡◌, Option, None, Some, IsTrue, sym, subst}
+use Rattle.std.proofs.Common.{None, Some}
 use Rattle.ikey.specs.Orders.{order_of}
-use Rattle.store.specs.Files.{Files}
-use Rattle.recover.specs.Directory.{IsEmpty}
-use Rattle.recover.specs.Reading.{IsListing, Recovers}
-use Rattle.opening.specs.Looking.{IsFound}
 use Rattle.opening.proofs.FoundSteps.{database_found, empty_refuses, found_before, number_spent}
 use Rattle.opening.proofs.finding.find.Goals as goal
 

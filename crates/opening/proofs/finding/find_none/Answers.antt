@@ -1,4 +1,4 @@
-use Rattle.std.proofs.Common.{inl, refl, arith}
+use Rattle.std.proofs.Common.{inl, refl}
 use Rattle.ikey.specs.Orders.{order_of}
 use Rattle.opening.proofs.FoundSteps.{no_current_in, number_is, number_spent}
 use Rattle.opening.proofs.finding.find_none.Goals as goal
