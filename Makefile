@@ -30,7 +30,7 @@ help:
 	echo 'make demo      runs quickstart before any proof: it opens, writes, reads, closes and shows the log (under a minute)'
 	echo 'make quick     what needs no proof: each test and program, and over what is in build/ the checks of ldbtool and those beside LevelDB (minutes)'
 	echo 'make test      everything: each proof from nothing, each test, the edits of crates that have changed since all were refused, the checks of ldbtool'
-	echo '               and those beside LevelDB itself (two hours; make test FULL=1 tries the edits of every crate)'
+	echo '               and those beside LevelDB itself (one to two hours; make test FULL=1 tries the edits of every crate, and proves all tests)'
 	echo 'make build     proves the programs and leaves them in build/'
 	echo 'make install   puts ldbtool, proved, its manual page, completion for bash and zsh, licences and README below PREFIX (/usr/local),'
 	echo '               which lies in DESTDIR (none)'
