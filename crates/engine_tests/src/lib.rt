@@ -1,9 +1,6 @@
-//! Tests of directories: what is read of them and checked in them, and what sessions answer and leave there,
-//! and scripts as text.
+//! Tests of directories: what is read of them and checked in them, and what sessions answer and leave there.
 #![tactic(auto)]
 
-#[cfg(test)]
-mod browsing;
 #[cfg(test)]
 mod checks;
 #[cfg(test)]
@@ -17,13 +14,9 @@ mod orders;
 #[cfg(test)]
 mod origins;
 #[cfg(test)]
-mod programs;
-#[cfg(test)]
 mod ranges;
 #[cfg(test)]
 mod readings;
-#[cfg(test)]
-mod scripts;
 #[cfg(test)]
 mod sessions;
 #[cfg(test)]

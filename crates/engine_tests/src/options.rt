@@ -1,25 +1,10 @@
 // Options: the defaults, and what each setter changes and refuses.
-use crate::programs::words_of;
 use crate::sessions::{DEFAULTS, Sizes, options_of};
 use engine::{Ids, Options};
-use std::alloc::{AllocGlobal, Global};
-use std::test::Fail;
-use tool::{Task, settings};
-
-// The options that `ldbtool run DIR` has.
-fn of_the_program(alloc: Global) -> Result<Option<Options>, Fail> {
-    let words = words_of(alloc, &["run", "DIR"], "db")?;
-    match settings(alloc, &words) {
-        Ok(Task::Run(_, numbers, _)) => Ok(numbers.options()),
-        _ => Err(Fail::from("these words were refused")),
-    }
-}
 
 #[test]
-fn the_defaults_are_those_of_the_program(rt: HostRuntime) -> Result<(), Fail> {
+fn the_defaults_are_these(rt: HostRuntime) {
     assert!(rt; options_of(DEFAULTS) == Some(Options::default()));
-    assert!(rt; of_the_program(rt.alloc())? == Some(Options::default()));
-    Ok(())
 }
 
 // The defaults with this value in the place of the one of this index.

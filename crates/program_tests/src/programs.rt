@@ -1,9 +1,10 @@
 // What `ldbtool` does for words and streams that are handed in: text and a status.
+use engine::Options;
 use std::alloc::{AllocError, AllocGlobal, Global};
 use std::process::Abort;
 use std::test::Fail;
 use std::{env, fs, process};
-use tool::{Terminals, start};
+use tool::{Task, Terminals, settings, start};
 
 // What a start wrote, and its status.
 #[derive(Drop)]
@@ -14,7 +15,7 @@ struct Outcome {
 }
 
 // The words of a command line, where `DIR` stands for the folder.
-pub fn words_of(alloc: Global, words: &[&str], folder: &str) -> Result<Vec<String>, AllocError> {
+fn words_of(alloc: Global, words: &[&str], folder: &str) -> Result<Vec<String>, AllocError> {
     let mut owned = vec![in alloc; String::from_str(alloc, "ldbtool")?]?;
     for word in words {
         let word = if *word == "DIR" { folder } else { *word };
@@ -281,5 +282,20 @@ fn a_refused_directory_has_status_one(rt: HostRuntime) -> Result<(), Fail> {
         );
     }
     fs::remove_dir_all(&rt, folder.as_str())?;
+    Ok(())
+}
+
+// The options that `ldbtool run DIR` has.
+fn options_of_run(alloc: Global) -> Result<Option<Options>, Fail> {
+    let words = words_of(alloc, &["run", "DIR"], "db")?;
+    match settings(alloc, &words) {
+        Ok(Task::Run(_, numbers, _)) => Ok(numbers.options()),
+        _ => Err(Fail::from("these words were refused")),
+    }
+}
+
+#[test]
+fn a_run_has_the_default_options(rt: HostRuntime) -> Result<(), Fail> {
+    assert!(rt; options_of_run(rt.alloc())? == Some(Options::default()));
     Ok(())
 }

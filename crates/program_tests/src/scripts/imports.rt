@@ -1,11 +1,9 @@
 // Imports of lines, and compactions, over stores in memory: what is written, and the exit status.
-use crate::sessions::{DEFAULTS, session};
-use engine::Session;
+use engine::{Options, Session};
 use ikey::Bytewise;
 use script::{Importing, compact, drive, import};
 use std::alloc::{AllocGlobal, Global};
 use std::process::Abort;
-use std::test::Fail;
 use store::{Extent, Fault, FaultStore, MemStore, Plan, Store};
 
 // Lines that are imported by batches of two operations, what is written, the exit status, and what a script says of the database
@@ -106,23 +104,21 @@ fn assert_imported(
     wanted: &str,
     status: u8,
     there: &str,
-) -> Result<(), Fail> {
+) {
     let alloc = rt.alloc();
-    let mut session = session(alloc, MemStore::new(alloc), DEFAULTS)?;
+    let mut session = Session::new(alloc, MemStore::new(alloc), Options::default());
     assert!(rt;
         is_told(imported(alloc, &mut session, 2, lines), status, wanted),
         "{lines}"
     );
     assert!(rt; is_answered(alloc, &mut session, LOOK, there), "{lines}");
-    Ok(())
 }
 
 #[test]
-fn imports_take_the_lines_in_front_of_a_bad_one(rt: HostRuntime) -> Result<(), Fail> {
+fn imports_take_the_lines_in_front_of_a_bad_one(rt: HostRuntime) {
     for (lines, wanted, status, there) in IMPORTS {
-        assert_imported(&rt, lines, wanted, status, there)?;
+        assert_imported(&rt, lines, wanted, status, there);
     }
-    Ok(())
 }
 
 #[test]
@@ -135,9 +131,9 @@ fn a_batch_has_1_to_65536_operations(rt: HostRuntime) {
 
 // Compactions of an empty folder, of one with an import in it, of a level of that, and of a level that can't be.
 #[test]
-fn compactions_are_done_or_refused(rt: HostRuntime) -> Result<(), Fail> {
+fn compactions_are_done_or_refused(rt: HostRuntime) {
     let alloc = rt.alloc();
-    let mut session = session(alloc, MemStore::new(alloc), DEFAULTS)?;
+    let mut session = Session::new(alloc, MemStore::new(alloc), Options::default());
     assert!(rt;
         is_told(
             compacted(alloc, &mut session, None),
@@ -162,7 +158,6 @@ fn compactions_are_done_or_refused(rt: HostRuntime) -> Result<(), Fail> {
         )
     );
     assert!(rt; is_answered(alloc, &mut session, LOOK, "ok\nvalue 31\nnone\n"));
-    Ok(())
 }
 
 const FOUR: &str = "put 61 31\nput 62 32\nput 63 33\nput 64 34\n";
@@ -177,22 +172,20 @@ fn is_refused_at(alloc: Global, session: &mut Session<FaultStore, Bytewise>) -> 
     }
 }
 
-fn assert_refused_at(rt: &(impl Abort + AllocGlobal), call: u64) -> Result<(), Fail> {
+fn assert_refused_at(rt: &(impl Abort + AllocGlobal), call: u64) {
     let alloc = rt.alloc();
     let plan = Plan {
         call,
         fault: Fault::Fail(Extent::Before),
     };
     let store = FaultStore::new(MemStore::new(alloc), Some(plan));
-    let mut session = session(alloc, store, DEFAULTS)?;
+    let mut session = Session::new(alloc, store, Options::default());
     assert!(rt; is_refused_at(alloc, &mut session), "{call}");
-    Ok(())
 }
 
 #[test]
-fn a_store_that_fails_ends_an_import(rt: HostRuntime) -> Result<(), Fail> {
+fn a_store_that_fails_ends_an_import(rt: HostRuntime) {
     for call in 1..24 {
-        assert_refused_at(&rt, call)?;
+        assert_refused_at(&rt, call);
     }
-    Ok(())
 }

@@ -1,5 +1,4 @@
-use crate::sessions::{DEFAULTS, session};
-use engine::Session;
+use engine::{Options, Session};
 use ikey::Bytewise;
 use script::{Fault, drive};
 use std::alloc::{AllocError, AllocGlobal, Global};
@@ -38,8 +37,8 @@ const SCRIPTS: [(&str, &str); 9] = [
 
 type InMemory = Session<MemStore, Bytewise>;
 
-fn in_memory(alloc: Global) -> Result<InMemory, Fail> {
-    session(alloc, MemStore::new(alloc), DEFAULTS)
+fn in_memory(alloc: Global) -> InMemory {
+    Session::new(alloc, MemStore::new(alloc), Options::default())
 }
 
 // Runs a script. Nothing is claimed of it, so that a caller's proof needn't read what is claimed of `drive`.
@@ -65,25 +64,19 @@ fn is_answered(alloc: Global, session: &mut InMemory, script: &str, wanted: &str
     matches!(written(alloc, session, script), Some(out) if out.as_slice() == wanted.as_bytes())
 }
 
-fn assert_answered(
-    rt: &(impl Abort + AllocGlobal),
-    script: &str,
-    wanted: &str,
-) -> Result<(), Fail> {
-    let mut session = in_memory(rt.alloc())?;
+fn assert_answered(rt: &(impl Abort + AllocGlobal), script: &str, wanted: &str) {
+    let mut session = in_memory(rt.alloc());
     assert!(rt;
         is_answered(rt.alloc(), &mut session, script, wanted),
         "{script}"
     );
-    Ok(())
 }
 
 #[test]
-fn scripts_are_answered(rt: HostRuntime) -> Result<(), Fail> {
+fn scripts_are_answered(rt: HostRuntime) {
     for (script, wanted) in SCRIPTS {
-        assert_answered(&rt, script, wanted)?;
+        assert_answered(&rt, script, wanted);
     }
-    Ok(())
 }
 
 // A line of so many letters says no command, and decides where in the buffer of 65,536 bytes the three lines behind it lie.
@@ -103,7 +96,7 @@ fn assert_answered_behind_letters(
     rt: &(impl Abort + AllocGlobal),
     length: usize,
 ) -> Result<(), Fail> {
-    let mut session = in_memory(rt.alloc())?;
+    let mut session = in_memory(rt.alloc());
     assert!(rt;
         is_answered_behind_letters(rt.alloc(), &mut session, length)?,
         "{length}"
@@ -131,10 +124,9 @@ fn is_answered_behind(alloc: Global, session: &mut InMemory) -> bool {
 }
 
 #[test]
-fn an_open_database_is_closed_at_the_end(rt: HostRuntime) -> Result<(), Fail> {
-    let mut session = in_memory(rt.alloc())?;
+fn an_open_database_is_closed_at_the_end(rt: HostRuntime) {
+    let mut session = in_memory(rt.alloc());
     assert!(rt; is_answered_behind(rt.alloc(), &mut session));
-    Ok(())
 }
 
 // A writer that takes so many bytes, and then fails.
@@ -182,18 +174,16 @@ fn is_cut(alloc: Global, session: &mut InMemory, room: usize) -> bool {
     is_write && has_beginning(&writer, room)
 }
 
-fn assert_cut(rt: &(impl Abort + AllocGlobal), room: usize) -> Result<(), Fail> {
-    let mut session = in_memory(rt.alloc())?;
+fn assert_cut(rt: &(impl Abort + AllocGlobal), room: usize) {
+    let mut session = in_memory(rt.alloc());
     assert!(rt; is_cut(rt.alloc(), &mut session, room), "{room}");
-    Ok(())
 }
 
 #[test]
-fn a_writer_that_fails_has_a_beginning_of_the_text(rt: HostRuntime) -> Result<(), Fail> {
+fn a_writer_that_fails_has_a_beginning_of_the_text(rt: HostRuntime) {
     for room in 0..TEXT.len() {
-        assert_cut(&rt, room)?;
+        assert_cut(&rt, room);
     }
-    Ok(())
 }
 
 // A writer that is interrupted at every second call, takes a byte at each other, and passes on what it has when it is told to.
@@ -235,10 +225,9 @@ fn is_passed_on(alloc: Global, session: &mut InMemory) -> bool {
 }
 
 #[test]
-fn a_writer_that_is_interrupted_passes_on_the_whole_text(rt: HostRuntime) -> Result<(), Fail> {
-    let mut session = in_memory(rt.alloc())?;
+fn a_writer_that_is_interrupted_passes_on_the_whole_text(rt: HostRuntime) {
+    let mut session = in_memory(rt.alloc());
     assert!(rt; is_passed_on(rt.alloc(), &mut session));
-    Ok(())
 }
 
 // A reader that gives so many bytes one by one, and then fails.
@@ -273,9 +262,9 @@ fn is_broken_off(alloc: Global, session: &mut InMemory, script: &[u8], wanted: &
 
 // The session stays open.
 #[test]
-fn a_reader_that_fails_has_its_whole_lines_answered(rt: HostRuntime) -> Result<(), Fail> {
+fn a_reader_that_fails_has_its_whole_lines_answered(rt: HostRuntime) {
     let alloc = rt.alloc();
-    let mut session = in_memory(alloc)?;
+    let mut session = in_memory(alloc);
     assert!(rt;
         is_broken_off(
             alloc,
@@ -285,5 +274,4 @@ fn a_reader_that_fails_has_its_whole_lines_answered(rt: HostRuntime) -> Result<(
         )
     );
     assert!(rt; is_answered(alloc, &mut session, "get 61", "value 31\n"));
-    Ok(())
 }
