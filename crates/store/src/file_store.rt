@@ -21,6 +21,7 @@ use std::alloc::Global;
 /// `fcntl` on `LOCK`, as LevelDB's own (`LockOrUnlock` in util/env_posix.cc), so the two keep each other out; a store
 /// that is dropped gives it back. It is taken by `sqlite_std_file`, the one crate of the toolchain that takes such a
 /// lock and may be used here: this makes an empty `LOCK-wal` beside it and takes it away again, which no other call does.
+/// A file of that name that has bytes stays as it is; where a folder or a link has it, the lock can't be taken.
 ///
 /// An error of the system is Memory only where it is one and nothing was changed. Where 2^64 - 1 failures were counted
 /// no further one can be, and Device would promise it: such a failure is answered by Memory, or by Ok where that may

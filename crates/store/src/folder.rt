@@ -167,12 +167,19 @@ impl Folder {
         }
         let path = self.path_of(LOCK)?;
         let log = self.path_of(LOCK_LOG)?;
+        // what the taking of the lock makes there has no bytes: what has some is somebody's
+        let is_of_others = match fs::metadata(&self.rt, log.as_str()) {
+            Ok(found) => found.len() > 0,
+            Err(_) => false,
+        };
         let files = match sqlite_std_file::open(&self.rt, path.as_str(), Unknown) {
             Ok(files) => files,
             Err(OpenError::Busy) => return Ok(false),
             Err(_) => return Err(StoreError::Device),
         };
-        fs::remove_file(&self.rt, log.as_str()).map_err(|_| StoreError::Device)?;
+        if !is_of_others {
+            fs::remove_file(&self.rt, log.as_str()).map_err(|_| StoreError::Device)?;
+        }
         self.lock = Some(files.db);
         Ok(true)
     }
