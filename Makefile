@@ -58,11 +58,7 @@ build: needs-rt
 	echo 'Proving $(PROGRAMS) and all below: half an hour to an hour from nothing on four processors, and minutes where nothing has changed.'
 	mkdir -p build
 	tools/libraries $(PROGRAMS)
-	for program in $(PROGRAMS); do \
-	  (cd crates/$$program && set -- && if [ -f args ]; then set -- -- $$(cat args); fi && $(RT) run "$$@" < /dev/null > /dev/null) && \
-	    install -m 755 crates/$$program/out/$$program build/ || exit 1; \
-	  echo "build/$$program"; \
-	done
+	for program in $(PROGRAMS); do tools/proved $$program || exit 1; done
 
 build/ldbtool: $(SOURCES)
 	$(MAKE) --no-print-directory build PROGRAMS=ldbtool

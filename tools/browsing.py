@@ -7,7 +7,7 @@ import subprocess
 from files import ONE_TABLE, Manifest, bytes_of, log_file, new_folder, spelled, table_file, with_table, write_directory
 from folders import as_a_user
 from listed import check
-from running import SECONDS, ldbtool, lines, under_test, want, want_answers, want_fault, want_printed, want_ran
+from running import SECONDS, ldbtool, lines, no_current, under_test, want, want_answers, want_fault, want_printed, want_ran
 from streams import at_hand, want_beginning, want_next
 
 REVERSE = ("--order", "reverse")
@@ -184,7 +184,9 @@ def dumps(room):
     for options, wanted in DUMPS:
         want_printed(["dump", *options.split(), folder], 0, *wanted)
         want_printed(["dump", folder, *options.split(), "--order=bytes"], 0, *wanted)
-        want_printed(["dump", *options.split(), new_folder(room, f"empty {options}")], 0)
+        empty = new_folder(room, f"empty {options}")
+        ran = ldbtool("dump", *options.split(), empty)
+        want((ran.returncode, ran.stdout, ran.stderr), (0, b"", no_current(empty)), "a dump of an empty folder")
         want_printed(["dump", *options.split(), damaged], 1, "refused 5 Corrupt")
 
 

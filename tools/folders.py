@@ -6,11 +6,11 @@ import os
 import shutil
 import subprocess
 
-from files import new_folder
+from files import bytes_of, new_folder
 from judged import want_held
 from listed import Wrong, check
 from machine import after_all
-from running import SECONDS, lines, under_test
+from running import SECONDS, lines, under_test, want, want_answers, want_entries
 from streams import failing_behind
 
 OPTIONS = ["--write-buffer", "300", "--level0-files", "2", "--block-bytes", "64", "--file-bytes", "400"]
@@ -139,3 +139,18 @@ def read_only(room):
             raise Wrong(f"read-only from line {place} on: {fault}") from fault
     if refused < 10:
         raise Wrong(f"{refused} sessions met a refusal")
+
+
+@check("a file of somebody's beside the lock, LOCK-wal, keeps its bytes, and a folder of that name is left alone")
+def beside_the_lock(room):
+    folder = new_folder(room, "file")
+    with open(f"{folder}/LOCK-wal", "wb") as file:
+        file.write(b"mine")
+    for script in ("open new; put 61 31; close", "open; put 62 32; close"):
+        want_answers(folder, script, "ok; ok; ok")
+        want(bytes_of(folder, "LOCK-wal"), b"mine", "its bytes")
+    want_entries(folder, "log 2 61 1 put 31", "log 4 62 2 put 32")
+    other = new_folder(room, "folder")
+    os.mkdir(f"{other}/LOCK-wal")
+    want_answers(other, "open new", "refused 2 Io")
+    want(sorted(os.listdir(other)), ["LOCK", "LOCK-wal"], "what is in it")

@@ -263,7 +263,8 @@ def work_auto(room):
 # ---- a terminal
 
 
-HINT = b"ldbtool: keys and values are hexadecimal, Ctrl-D ends; `ldbtool help run` tells the lines\r\n"
+HINT = b"ldbtool: begin with `open` or `open new`; keys and values are hexadecimal, Ctrl-D ends; `ldbtool help run` tells the lines\r\n"
+IMPORT_HINT = b"ldbtool: lines are `put K V` and `del K`; keys and values are hexadecimal, Ctrl-D ends\r\n"
 
 
 def at_terminal(words, typed, **how):
@@ -291,7 +292,7 @@ def at_terminal(words, typed, **how):
     return seen, status
 
 
-@check("at a terminal a run begins with a word on what may be typed, and in a pipe it doesn't")
+@check("at a terminal a run and an import begin with a word on what may be typed, and in a pipe they don't")
 def hint(room):
     folder = new_folder(room)
     seen, status = at_terminal(["run", folder], b"open new\nput 61 31\nget 61\n\x04")
@@ -300,6 +301,9 @@ def hint(room):
     for how in ({"stdin": subprocess.DEVNULL}, {"stderr": subprocess.DEVNULL}):
         seen, status = at_terminal(["run", folder], b"\x04", **how)
         want((status, seen.count(b"ldbtool:")), (0, 0), f"a run with {how}: {seen}")
-    for words in (["check", folder], ["scan", folder], ["import", folder]):
+    seen, status = at_terminal(["import", folder], b"put 62 32\n\x04")
+    want((status, seen.count(IMPORT_HINT), b"taken 1\r\n" in seen), (0, 1, True), f"an import at a terminal: {seen}")
+    want_ran(ldbtool("import", folder, script=b"del 62\n"), 0, b"taken 1\n", "an import in a pipe")
+    for words in (["check", folder], ["scan", folder], ["compact", folder]):
         seen, status = at_terminal(words, b"\x04")
         want((status, seen.count(b"ldbtool:")), (0, 0), f"{words[0]} at a terminal: {seen}")

@@ -71,7 +71,9 @@ def want_report(folder, *wanted, status=0, options=()):
 
 
 def want_entries(folder, *wanted, status=0, options=()):
-    want_ran(ldbtool("dump", *options, folder), status, lines(*wanted), "dump")
+    ran = ldbtool("dump", *options, folder)
+    said = b"" if os.path.lexists(f"{folder}/CURRENT") else no_current(folder)
+    want((ran.returncode, ran.stdout, ran.stderr), (status, lines(*wanted), said), "dump")
 
 
 def want_printed(words, status, *printed, script=b""):

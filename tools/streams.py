@@ -11,7 +11,7 @@ import time
 
 from files import ONE_TABLE, bytes_of, log_file, new_folder, with_table
 from listed import check
-from running import SECONDS, ldbtool, lines, under_test, want, want_answers, want_entries, want_report
+from running import SECONDS, ldbtool, lines, under_test, want, want_answers, want_entries, want_ran, want_report
 
 
 def failing_behind(count):
@@ -179,3 +179,34 @@ def progress(room):
         with open(f"{room}/said", "wb") as file:
             said_when_held(verb, folder, file)
         want(bytes_of(room, "said"), b"", f"what {verb} says where nobody watches")
+
+
+WRITTEN = rb"ldbtool: \d+ MB read and \d+ MB written after [1-9]\d* s\r\n"
+
+
+def compaction_is_held(room, number, error):
+    folder = new_folder(room, f"folder {number}")
+    want_ran(ldbtool("import", folder, script=lines(*[f"put {n:04x} {'5a' * 10_000}" for n in range(800)])), 0, b"taken 800\n", "an import")
+    return is_held("compact", folder, error)
+
+
+@check("an import or a compaction that takes longer than a second says at a terminal what it has read and written, and nowhere else")
+def progress_of_writers(room):
+    ours, theirs = os.openpty()
+    want(any(compaction_is_held(room, number, theirs) for number in range(20)), True, "a compaction is held before it ends")
+    os.close(theirs)
+    want(bool(re.match(WRITTEN, os.read(ours, 65_536))), True, "a compaction says how far it is")
+    os.close(ours)
+    for watched in (True, False):
+        ours, theirs = os.openpty()
+        how = {"stdin": subprocess.PIPE, "stdout": subprocess.PIPE, "stderr": theirs if watched else subprocess.PIPE}
+        with subprocess.Popen([under_test(), "import", "--batch", "1", new_folder(room, f"slow {watched}")], **how) as ran:
+            os.close(theirs)
+            ran.stdin.write(b"put 61 31\n")
+            ran.stdin.flush()
+            time.sleep(1.2)
+            out, said = ran.communicate(b"put 62 32\n", SECONDS)
+        want((ran.returncode, out, said), (0, b"taken 2\n", None if watched else b""), "an import that takes a while")
+        if watched:
+            want(bool(re.match(WRITTEN, os.read(ours, 65_536))), True, "an import says how far it is")
+        os.close(ours)

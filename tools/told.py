@@ -109,6 +109,7 @@ def told_verbs(_room):
     for verb in VERBS:
         found = re.findall(r"--[a-z0-9-]+", ldbtool("help", verb).stdout.decode().split("\nOptions:\n")[1].split("\n\n")[0])
         want({it for it in found if it not in page}, set(), f"options of {verb} that aren't on the page")
+        want([it for it in ldbtool("help", verb).stdout.decode().splitlines() if len(it) > 100], [], f"lines of the help of {verb} that are too long")
 
 
 @check("help and version go to standard output, with status 0")
@@ -116,10 +117,12 @@ def helps(_room):
     for words, told in TOLD:
         ran = ldbtool(*words.split())
         want((ran.returncode, ran.stderr, told in ran.stdout.decode()), (0, b"", True), f"{words} tells {told!r}")
+    want([it for it in ldbtool("help").stdout.decode().splitlines() if len(it) > 100], [], "lines of the help that are too long")
     version = ldbtool("--version").stdout.decode()
-    want(bool(re.fullmatch(r"ldbtool \d+\.\d+\.\d+\n", version)), True, f"the version {version!r}")
+    found = re.fullmatch(r"(ldbtool \d+\.\d+\.\d+) \((an unnamed build|(of no commit|commit [0-9a-f]{12}( with changes)?), proved)\)\n", version)
+    want(bool(found), True, f"the version {version!r}")
     with open(f"{ROOT}/man/ldbtool.1", encoding="utf-8") as file:
-        want(f'"{version.strip()}"' in file.read(), True, "the manual page has this version")
+        want(f'"{found[1]}"' in file.read(), True, "the manual page has this version")
     for words in (["--help"], ["-h"], ["help"], ["-V"], *[[verb, "--help"] for verb in VERBS]):
         ran = ldbtool(*words)
         want((ran.returncode, ran.stderr), (0, b""), f"the words {words}")

@@ -3,6 +3,9 @@
 //! `ldbtool help VERB` has the rest.
 #![tactic(auto)]
 
+mod version;
+
+use crate::version::VERSION;
 use std::alloc::AllocGlobal;
 use std::io::IsTerminal;
 use std::process::ExitCode;
@@ -25,6 +28,7 @@ fn main(rt: HostRuntime) -> ExitCode {
     ExitCode::from(start(
         &rt,
         words.as_slice(),
+        VERSION,
         terminals,
         input,
         &mut answers,

@@ -36,6 +36,7 @@ fn ran(
     let status = start(
         rt,
         &owned,
+        "0.0.0",
         Terminals {
             input: false,
             faults: false,
@@ -288,7 +289,7 @@ fn a_refused_directory_has_status_one(rt: HostRuntime) -> Result<(), Fail> {
 // The options that `ldbtool run DIR` has.
 fn options_of_run(alloc: Global) -> Result<Option<Options>, Fail> {
     let words = words_of(alloc, &["run", "DIR"], "db")?;
-    match settings(alloc, &words) {
+    match settings(alloc, &words, "") {
         Ok(Task::Run(_, numbers, _)) => Ok(numbers.options()),
         _ => Err(Fail::from("these words were refused")),
     }

@@ -86,7 +86,7 @@ pub fn write_buffer<'a>(alloc: Global) -> Arg<'a>
     ensures { IsArg result (number_rule (codes "write-buffer") (codes "4194304") (2 ^ 30)) }
 {
     number(alloc, "write-buffer", "4194304", 1 << 30).help(
-        "Bytes of entries in memory before a table is written of them, from 1 to 1073741824",
+        "Bytes before a table is made, from 1 to 1073741824",
     )
 }
 
@@ -104,7 +104,7 @@ pub fn file_bytes<'a>(alloc: Global) -> Arg<'a>
     ensures { IsArg result (number_rule (codes "file-bytes") (codes "2097152") (2 ^ 30)) }
 {
     number(alloc, "file-bytes", "2097152", 1 << 30).help(
-        "Bytes of a table that a compaction writes, from 1 to 1073741824",
+        "Bytes of a compaction's table, from 1 to 1073741824",
     )
 }
 
@@ -122,7 +122,7 @@ pub fn base_bytes<'a>(alloc: Global) -> Arg<'a>
     ensures { IsArg result (number_rule (codes "base-bytes") (codes "10485760") (2 ^ 40)) }
 {
     number(alloc, "base-bytes", "10485760", 1 << 40).help(
-        "Bytes of level 1, from 1 to 1099511627776; each deeper level has ten times as many",
+        "Level 1's bytes, from 1 to 1099511627776, then tenfold",
     )
 }
 

@@ -1,6 +1,7 @@
 // The tasks that write to a folder.
 
 use crate::looking::open;
+use crate::progress::{Meter, Target, Watched};
 use crate::saying::{status_of, stop};
 use crate::status::{DONE, MISUSED, STRICT};
 use crate::task::{Numbers, Pieces, Turns};
@@ -12,6 +13,9 @@ use std::io::{Read, Write};
 use std::num::TryFromIntError;
 use store::FileStore;
 
+// A folder that is written, and perhaps watched.
+type Folder = Watched<FileStore>;
+
 /// Runs a script.
 pub fn run<K: KeyOrder, R: Read + Drop, W: Write, F: Write>(
     rt: &HostRuntime,
@@ -22,7 +26,11 @@ pub fn run<K: KeyOrder, R: Read + Drop, W: Write, F: Write>(
     writer: &mut W,
     faults: &mut F,
 ) -> u8 {
-    let mut session = match begin::<K, F>(rt, folder, numbers, faults) {
+    let unwatched = Target {
+        folder,
+        watched: false,
+    };
+    let mut session = match begin::<K, F>(rt, unwatched, numbers, faults) {
         Ok(session) => session,
         Err(status) => return status,
     };
@@ -40,7 +48,7 @@ pub fn run<K: KeyOrder, R: Read + Drop, W: Write, F: Write>(
 /// Writes the operations of lines.
 pub fn import<K: KeyOrder, R: Read + Drop, W: Write, F: Write>(
     rt: &HostRuntime,
-    folder: &str,
+    target: Target<'_>,
     numbers: Numbers,
     pieces: Pieces,
     reader: R,
@@ -50,7 +58,7 @@ pub fn import<K: KeyOrder, R: Read + Drop, W: Write, F: Write>(
     let Some(how) = Importing::new(pieces.batch, pieces.sync) else {
         return MISUSED;
     };
-    let mut session = match begin::<K, F>(rt, folder, numbers, faults) {
+    let mut session = match begin::<K, F>(rt, target, numbers, faults) {
         Ok(session) => session,
         Err(status) => return status,
     };
@@ -61,7 +69,7 @@ pub fn import<K: KeyOrder, R: Read + Drop, W: Write, F: Write>(
 /// Merges the tables of a level into the next, or all of them.
 pub fn compact<K: KeyOrder, W: Write, F: Write>(
     rt: &HostRuntime,
-    folder: &str,
+    target: Target<'_>,
     numbers: Numbers,
     level: Option<u64>,
     writer: &mut W,
@@ -70,7 +78,7 @@ pub fn compact<K: KeyOrder, W: Write, F: Write>(
     let Ok(level) = small_level(level) else {
         return MISUSED;
     };
-    let mut session = match begin::<K, F>(rt, folder, numbers, faults) {
+    let mut session = match begin::<K, F>(rt, target, numbers, faults) {
         Ok(session) => session,
         Err(status) => return status,
     };
@@ -92,22 +100,23 @@ fn small_level(level: Option<u64>) -> Result<Option<u32>, TryFromIntError> {
 // A session over the folder, or the status where that can't be opened, which is said.
 fn begin<K: KeyOrder, F: Write>(
     rt: &HostRuntime,
-    folder: &str,
+    target: Target<'_>,
     numbers: Numbers,
     faults: &mut F,
-) -> Result<Session<FileStore, K>, u8> {
+) -> Result<Session<Folder, K>, u8> {
     let Some(options) = numbers.options() else {
         return Err(MISUSED);
     };
-    let store = open(rt, folder, faults)?;
-    Ok(new_session::<K>(rt.alloc(), store, options))
+    let store = open(rt, target.folder, faults)?;
+    let meter = if target.watched {
+        Meter::new(rt, None)
+    } else {
+        None
+    };
+    Ok(new_session::<K>(rt.alloc(), Watched::over(store, meter), options))
 }
 
 // The one place where a session is made.
-fn new_session<K: KeyOrder>(
-    alloc: Global,
-    store: FileStore,
-    options: Options,
-) -> Session<FileStore, K> {
+fn new_session<K: KeyOrder>(alloc: Global, store: Folder, options: Options) -> Session<Folder, K> {
     Session::new(alloc, store, options)
 }

@@ -12,12 +12,12 @@ use crate::help;
 use clap::Command;
 use std::alloc::{AllocError, Global};
 
-/// The whole command.
-pub fn command<'a>(alloc: Global) -> Result<Command<'a>, AllocError>
+/// The whole command, of this version.
+pub fn command<'a>(alloc: Global, version: &'a str) -> Result<Command<'a>, AllocError>
     ensures { IfOk result (λ command. IsCommand command the_app) }
 {
     let bare = Command::new(alloc, "ldbtool")
-        .version(help::VERSION)
+        .version(version)
         .about(help::ABOUT)
         .after_help(help::AFTER)
         .subcommand_required(true)

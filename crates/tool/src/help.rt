@@ -1,7 +1,5 @@
 // The texts of help.
 
-pub const VERSION: &str = "0.1.0";
-
 pub const ABOUT: &str = "A key-value database over the files of a LevelDB directory";
 
 pub const AFTER: &str = "\
@@ -12,13 +10,14 @@ Examples:
   ldbtool scan --values --text mydb
   ldbtool export mydb | ldbtool import copy
   ldbtool check mydb
-Keys and values are in hexadecimal, `-` for the empty one; --text, where a command has it, takes and prints them as text.
-get, scan, export, check and dump change nothing; run, import and compact write.
+Keys and values are in hexadecimal, `-` for the empty one; --text, where a
+command has it, takes and prints them as text. get, scan, export, check and dump
+change nothing; run, import and compact write.
 
 Exit status:
   0  all was done. A command of a script that is refused has its answer line, and changes no status
-  1  the folder can't be opened, the input can't be read, the output can't be written, there is no memory; or a command
-     other than run printed a refusal
+  1  the folder can't be opened, the input can't be read, the output can't be written,
+     there is no memory; or a command other than run printed a refusal
   2  the command line is wrong
   3  run --strict was ended by a refusal
   4  get found no value";
@@ -28,13 +27,14 @@ pub const KEY: &str = "The key, in hexadecimal or - for the empty one; with --te
 pub const GET: &str = "Prints the value of a key";
 
 pub const GET_TEXT: &str =
-    "Take the key as it is, and print the value as text, bytes outside of ' '..'~' as \\xNN";
+    "Take the key as it is; print the value as text, bytes outside of ' '..'~' as \\xNN";
 
 pub const VALUE: &str = "\
-The value is printed in hexadecimal, `-` where it has no bytes, and a newline behind it; where the key has none nothing is
-printed. A directory that is refused has its refusal printed, as `refused 3 NoDatabase` or `refused 5 Corrupt`. No file is
-changed, and no lock taken: a database that is written meanwhile may be refused. A key that begins with a hyphen stands
-behind `--`.
+The value is printed in hexadecimal, `-` where it has no bytes, and a newline
+behind it; where the key has none nothing is printed. A directory that is
+refused has its refusal printed, as `refused 3 NoDatabase` or `refused 5
+Corrupt`. No file is changed, and no lock taken: a database that is written
+meanwhile may be refused. A key that begins with a hyphen stands behind `--`.
 
 Exit status:
   0  the key has a value
@@ -63,7 +63,7 @@ pub const BACKWARDS: &str = "From the last one on backwards";
 pub const VALUES: &str = "Print the values too";
 
 pub const SCAN_TEXT: &str =
-    "Take keys as they are, and print keys and values as text, bytes outside of ' '..'~' as \\xNN";
+    "Take keys as they are; print all as text, bytes outside of ' '..'~' as \\xNN";
 
 pub const JSON: &str = "Print each as a JSON object, keys and values in hexadecimal";
 
@@ -73,9 +73,11 @@ A line is one of
   KEY VALUE                           with --values
   {\"key\":\"KEY\"}                       with --json, the digits alone
   {\"key\":\"KEY\",\"value\":\"VALUE\"}       with --json and --values
-K is a key in the same form, `-` for the empty one. --from, --to and --prefix may stand together, and --limit counts from
-where the scan begins. A directory that is refused has its refusal printed, behind what was printed before. No file is
-changed, and no lock taken: a database that is written meanwhile may be refused.
+K is a key in the same form, `-` for the empty one. --from, --to and --prefix
+may stand together, and --limit counts from where the scan begins. A directory
+that is refused has its refusal printed, behind what was printed before. No file
+is changed, and no lock taken: a database that is written meanwhile may be
+refused.
 
 Exit status:
   0  all pairs that are asked for were printed
@@ -93,10 +95,13 @@ Example:
 pub const EXPORT: &str = "Prints every pair as a line that `import` reads";
 
 pub const PUTS: &str = "\
-A line is `put KEY VALUE`, in hexadecimal or `-` for no bytes, in the order of the keys; they are the pairs that a `get`
-would find, with no history. So `ldbtool export A | ldbtool import B` copies a database into an empty folder, whole and
-freshly written. A directory that is refused has its refusal printed, behind what was printed before, which an import
-takes for no line of its own. No file is changed, and no lock taken: a database that is written meanwhile may be refused.
+A line is `put KEY VALUE`, in hexadecimal or `-` for no bytes, in the order of
+the keys; they are the pairs that a `get` would find, with no history. So
+`ldbtool export A | ldbtool import B` copies a database into an empty folder,
+whole and freshly written. A directory that is refused has its refusal printed,
+behind what was printed before, which an import takes for no line of its own. No
+file is changed, and no lock taken: a database that is written meanwhile may be
+refused.
 
 Exit status:
   0  every pair was printed
@@ -111,26 +116,29 @@ pub const RUN: &str =
     "Answers the commands of a script, which it reads from standard input, one line each";
 
 pub const SCRIPT: &str = "\
-Each line of the script is one command, and has one line of answer. K and V are bytes in hexadecimal, as 6b6579, or - for
-none; N is the number of a snapshot or of an iterator, as it was answered, or how many entries a piece of work may have;
-L is a level, from 0 to 5.
+Each line of the script is one command, and has one line of answer. K and V are
+bytes in hexadecimal, as 6b6579, or - for none; N is the number of a snapshot or
+of an iterator, as it was answered, or how many entries a piece of work may
+have; L is a level, from 0 to 5.
 
-  line                                          answer
-  open | open new | open any                    ok            a database that is there, a new one, or either
-  put K V | del K                               ok
-  write [sync] [put K V | del K] ..             ok            all of it or nothing; with sync the device keeps it first
-  get K | get K N                               value V | none    now, or as snapshot N saw it
-  snapshot                                      snapshot N
-  release N                                     ok            lets snapshot N go
-  iter | iter N                                 iter N        over what is there now, or as snapshot N saw it
-  first N | last N | seek N K | next N | prev N at K V | end  moves iterator N; seek to the first key not before K
-  drop N                                        ok            lets iterator N go
-  work N                                        worked | idle removes files of no use, and does a piece of work
-  compact L | compact all                       ok            merges level L's tables into the next; all there is into 6
-  close                                         ok
+  line                               answer
+  open | open new | open any         ok              one that is there, a new one, or either
+  put K V | del K                    ok
+  write [sync] [put K V | del K] ..  ok              all or nothing; with sync it is on the device
+  get K | get K N                    value V | none  now, or as snapshot N saw it
+  snapshot                           snapshot N
+  release N                          ok              lets snapshot N go
+  iter | iter N                      iter N          over what is there, or as snapshot N saw it
+  first N | last N | seek N K        at K V | end    moves iterator N; seek to the first key from K on
+  next N | prev N                    at K V | end
+  drop N                             ok              lets iterator N go
+  work N                             worked | idle   removes files of no use, does a piece of work
+  compact L | compact all            ok              level L into the next; all there is into level 6
+  close                              ok
 
-The words of a line are parted by single spaces; numbers are decimal. A script may end without a newline. At its end the
-database is closed. A command that is refused is answered `refused NUMBER NAME`, and the script goes on:
+The words of a line are parted by single spaces; numbers are decimal. A script
+may end without a newline. At its end the database is closed. A command that is
+refused is answered `refused NUMBER NAME`, and the script goes on:
 
    1 OutOfMemory      2 Io               3 NoDatabase       4 Exists           5 Corrupt
    6 Unsupported      7 Broken           8 NoSnapshot       9 NoIterator      10 NoPlace
@@ -141,7 +149,8 @@ Any line that is no command is answered `refused 20 BadLine`.
 
 Exit status:
   0  each line was answered, also where commands were refused
-  1  DIR can't be opened, the script not be read, the answers not be written, or memory was refused
+  1  DIR can't be opened, the script not be read, the answers not be written, or memory
+     was refused
   2  the command line is wrong
   3  --strict, and a line was refused: its answer is the last
 
@@ -157,8 +166,7 @@ Examples:
   at 6b6579 76616c7565
   end";
 
-pub const WORK: &str =
-    "auto: behind each write that is done, six entries of work for each of its operations";
+pub const WORK: &str = "auto: behind each write that is done, six entries of work an operation";
 
 pub const STRICT: &str = "End at the first line that is refused, with status 3";
 
@@ -167,23 +175,25 @@ pub const IMPORT: &str =
 
 pub const BATCH: &str = "Operations of a batch, from 1 to 65536";
 
-pub const SYNC: &str =
-    "Have the device keep each batch before the next one, and not the last one alone";
+pub const SYNC: &str = "Have the device keep each batch before the next, not the last alone";
 
 pub const OPERATIONS: &str = "\
-K and V are bytes in hexadecimal, as 6b6579, or - for none. Where DIR has no database one is made. The lines are written
-in batches of --batch operations, fewer where their keys and values have 1 MiB or more, each whole or not at all; behind
-each comes work, so that memory and the log stay small, and no `work` or `compact` is wanted. At the end the device has
-kept everything. What was done is told by a line
+K and V are bytes in hexadecimal, as 6b6579, or - for none. Where DIR has no
+database one is made. The lines are written in batches of --batch operations,
+fewer where their keys and values have 1 MiB or more, each whole or not at all;
+behind each comes work, six entries for each of its operations; what is left to
+merge then, `ldbtool compact` does. At the end the device has kept everything.
+What was done is told by a line
 
   taken N                             so many of the first lines are in the database
 
-with the refusal in front of it, if there was one: `refused 20 BadLine` where a line is none of the two, behind which
-nothing is read.
+with the refusal in front of it, if there was one: `refused 20 BadLine` where a
+line is none of the two, behind which nothing is read.
 
 Exit status:
   0  every line was taken
-  1  a line or a batch was refused, DIR can't be opened, the input not be read, or memory was refused
+  1  a line or a batch was refused, DIR can't be opened, the input not be read, or
+     memory was refused
   2  the command line is wrong
 
 Examples:
@@ -197,13 +207,13 @@ Examples:
 
 pub const COMPACT: &str = "Merges the tables of a database, all of them or those of one level";
 
-pub const LEVEL: &str =
-    "Merge this level's tables into the next, from 0 to 5; without it all there is, into level 6";
+pub const LEVEL: &str = "Merge this level's tables into the next, from 0 to 5; else all, into 6";
 
 pub const MERGED: &str = "\
-It opens the database, merges, works until there is nothing to do, and closes. Then what is overwritten or deleted takes
-no room any more, and files of no more use are gone. `ok` is printed, or the refusal that ended it. Without --level what
-is in memory and in logs goes into tables too.
+It opens the database, merges, works until there is nothing to do, and closes.
+Then what is overwritten or deleted takes no room any more, and files of no more
+use are gone. `ok` is printed, or the refusal that ended it. Without --level
+what is in memory and in logs goes into tables too.
 
 Exit status:
   0  it was merged
@@ -215,7 +225,7 @@ Example:
   ok";
 
 pub const CHECK: &str =
-    "Reads every file of a directory, and prints `good` and what it has, `empty`, or the refusal";
+    "Reads every file, and prints `good` and what there is, `empty`, or the refusal";
 
 pub const REPORT: &str = "\
 Of a consistent directory it prints
@@ -223,11 +233,12 @@ Of a consistent directory it prints
   last-sequence SEQUENCE
   table LEVEL NUMBER ENTRIES          for each table, by level and number
   log NUMBER BATCHES clean | torn     for each live log, by number
-of a folder without a database `empty`, and standard error says that there is no CURRENT; otherwise the refusal:
-`refused 5 Corrupt`, where a file contradicts the format or another file; `refused 6 Unsupported`, where it has compressed
-blocks, another order of keys or a block that is too long; `refused 2 Io`, where a file can't be read; `refused 1
-OutOfMemory`. No file is changed, and no lock taken: a database that
-is written meanwhile may be refused.
+of a folder without a database `empty`, and standard error says that there is no
+CURRENT; otherwise the refusal: `refused 5 Corrupt`, where a file contradicts
+the format or another file; `refused 6 Unsupported`, where it has compressed
+blocks, another order of keys or a block that is too long; `refused 2 Io`, where
+a file can't be read; `refused 1 OutOfMemory`. No file is changed, and no lock
+taken: a database that is written meanwhile may be refused.
 
 Exit status:
   0  the directory is good, or empty
@@ -250,12 +261,14 @@ A line is one of
   table LEVEL NUMBER KEY SEQUENCE put VALUE
   table LEVEL NUMBER KEY SEQUENCE delete
 and the same with `log NUMBER`; with --json one of
-  {\"file\":\"table\",\"level\":LEVEL,\"number\":NUMBER,\"key\":\"KEY\",\"sequence\":SEQUENCE,\"kind\":\"put\",\"value\":\"VALUE\"}
-  {\"file\":\"table\",\"level\":LEVEL,\"number\":NUMBER,\"key\":\"KEY\",\"sequence\":SEQUENCE,\"kind\":\"delete\"}
-and the same with \"log\", without a level. Tables come by level and number, each in the order of its keys, then the live logs
-by number, each as it was written. KEY and VALUE are in hexadecimal, `-` for none; with --text as text, and with --json the
-digits alone. A directory that `ldbtool check` refuses has its refusal printed alone, as `refused 5 Corrupt`. No file is
-changed, and no lock taken.
+  {\"file\":\"table\",\"level\":L,\"number\":N,\"key\":\"KEY\",\"sequence\":S,\"kind\":\"put\",\"value\":\"VALUE\"}
+  {\"file\":\"table\",\"level\":L,\"number\":N,\"key\":\"KEY\",\"sequence\":S,\"kind\":\"delete\"}
+and the same with \"log\", without a level. Tables come by level and number, each
+in the order of its keys, then the live logs by number, each as it was written.
+KEY and VALUE are in hexadecimal, `-` for none; with --text as text, and with
+--json the digits alone. A directory that `ldbtool check` refuses has its
+refusal printed alone, as `refused 5 Corrupt`. No file is changed, and no lock
+taken.
 
 Exit status:
   0  each entry was printed
@@ -270,7 +283,6 @@ Example:
   $ ldbtool dump --json mydb
   {\"file\":\"log\",\"number\":2,\"key\":\"6b6579\",\"sequence\":1,\"kind\":\"put\",\"value\":\"76616c7565\"}";
 
-pub const ORDER: &str =
-    "The order of keys: `bytes`, or `reverse`, that of bytes turned round, so that a prefix comes last";
+pub const ORDER: &str = "Order of keys: `bytes`, or `reverse` (bytes turned round)";
 
 pub const FOLDER: &str = "The folder of the database, which must exist";

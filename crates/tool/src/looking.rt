@@ -2,7 +2,7 @@
 
 use crate::inspect::{check, dump};
 use crate::keys::{form_for, read_key};
-use crate::progress::{Meter, Watched, bytes_of};
+use crate::progress::{Meter, Target, Watched, bytes_of};
 use crate::saying::{folder_fault, say_no_current, status_of, stop, want_key};
 use crate::status::DONE;
 use crate::task::{Lookup, Notation, Search};
@@ -87,22 +87,25 @@ fn print_pairs<K: KeyOrder, W: Write, F: Write>(
 /// database is such a one.
 pub fn check_folder<K: KeyOrder, W: Write, F: Write>(
     rt: &HostRuntime,
-    folder: &str,
-    watched: bool,
+    target: Target<'_>,
     writer: &mut W,
     faults: &mut F,
 ) -> u8 {
-    let mut store = match open(rt, folder, faults) {
-        Ok(store) => watched_store(rt, store, watched, 1),
+    let mut store = match open(rt, target.folder, faults) {
+        Ok(store) => watched_store(rt, store, target.watched, 1),
         Err(status) => return status,
     };
     let done = check::<K, Folder, W>(rt.alloc(), &mut store, writer);
     let status = status_of(done, faults);
-    // (a directory that is good has one)
-    if status == DONE && has_no_current(&mut store) {
+    say_if_none(status, &mut store, target.folder, faults);
+    status
+}
+
+// Says that there is no database, where one that was done found none. (A directory that is good has a `CURRENT`.)
+fn say_if_none<S: Store, F: Write>(status: u8, store: &mut S, folder: &str, faults: &mut F) {
+    if status == DONE && has_no_current(store) {
         say_no_current(faults, folder);
     }
-    status
 }
 
 fn has_no_current<S: Store>(store: &mut S) -> bool {
@@ -112,21 +115,22 @@ fn has_no_current<S: Store>(store: &mut S) -> bool {
     }
 }
 
-/// Prints the entries of a directory.
+/// Prints the entries of a directory, and says as a check does where there is none.
 pub fn dump_folder<K: KeyOrder, W: Write, F: Write>(
     rt: &HostRuntime,
-    folder: &str,
+    target: Target<'_>,
     notation: Notation,
-    watched: bool,
     writer: &mut W,
     faults: &mut F,
 ) -> u8 {
-    let mut store = match open(rt, folder, faults) {
-        Ok(store) => watched_store(rt, store, watched, 2),
+    let mut store = match open(rt, target.folder, faults) {
+        Ok(store) => watched_store(rt, store, target.watched, 2),
         Err(status) => return status,
     };
     let done = dump::<K, Folder, W>(rt.alloc(), &mut store, writer, notation);
-    status_of(done, faults)
+    let status = status_of(done, faults);
+    say_if_none(status, &mut store, target.folder, faults);
+    status
 }
 
 // The files, read from end to end so many times, and where somebody watches a meter beside them.
@@ -136,7 +140,7 @@ fn watched_store(rt: &HostRuntime, store: FileStore, watched: bool, times: u64) 
         return Watched::over(store, None);
     }
     let total = bytes_of(rt.alloc(), &mut store).saturating_mul(times);
-    Watched::over(store, Meter::new(rt, total))
+    Watched::over(store, Meter::new(rt, Some(total)))
 }
 
 /// Opens the folder, or says why it can't be and answers the status for it.

@@ -2,7 +2,8 @@
 
 use crate::changing::{compact, import, run};
 use crate::looking::{check_folder, dump_folder, export, get, scan};
-use crate::saying::{greet, refuse};
+use crate::progress::Target;
+use crate::saying::{greet, greet_import, refuse};
 use crate::task::{OrderName, Task};
 use crate::words::settings;
 use ikey::{Bytewise, KeyOrder, ReverseBytes};
@@ -17,18 +18,20 @@ pub struct Terminals {
     pub faults: bool,
 }
 
-/// Does what the words ask for, of which the first is the program's name, and answers the exit status. What has no place
-/// on `writer` is said on `faults`. Where somebody watches, a check or a dump that takes longer than a second says on standard
-/// error how far it is, and a script that is typed is begun with a word on its lines.
+/// Does what the words ask for, of which the first is the program's name, and answers the exit status; `version` is what
+/// `--version` says behind that name. What has no place on `writer` is said on `faults`. Where somebody watches, a check, dump,
+/// import or compaction that takes longer than a second says on standard error how far it is, and lines that are typed are begun
+/// with a word on them.
 pub fn start<R: Read + Drop, W: Write, F: Write>(
     rt: &HostRuntime,
     words: &[String],
+    version: &str,
     terminals: Terminals,
     reader: R,
     writer: &mut W,
     faults: &mut F,
 ) -> u8 {
-    let task = match settings(rt.alloc(), words) {
+    let task = match settings(rt.alloc(), words, version) {
         Ok(task) => task,
         Err(misuse) => return refuse(rt.alloc(), &misuse, writer, faults),
     };
@@ -53,25 +56,31 @@ fn perform<K: KeyOrder, R: Read + Drop, W: Write, F: Write>(
     faults: &mut F,
 ) -> u8 {
     let folder = task.place().folder;
+    let target = Target {
+        folder,
+        watched: terminals.faults,
+    };
+    let typed = terminals.input && terminals.faults;
     match task {
         Task::Get(_, lookup) => get::<K, W, F>(rt, folder, lookup, writer, faults),
         Task::Scan(_, search) => scan::<K, W, F>(rt, folder, search, writer, faults),
         Task::Export(_) => export::<K, W, F>(rt, folder, writer, faults),
-        Task::Check(_) => check_folder::<K, W, F>(rt, folder, terminals.faults, writer, faults),
-        Task::Dump(_, notation) => {
-            dump_folder::<K, W, F>(rt, folder, *notation, terminals.faults, writer, faults)
-        }
+        Task::Check(_) => check_folder::<K, W, F>(rt, target, writer, faults),
+        Task::Dump(_, notation) => { dump_folder::<K, W, F>(rt, target, *notation, writer, faults) }
         Task::Run(_, numbers, turns) => {
-            if terminals.input && terminals.faults {
+            if typed {
                 greet(faults);
             }
             run::<K, R, W, F>(rt, folder, *numbers, *turns, reader, writer, faults)
         }
         Task::Import(_, numbers, pieces) => {
-            import::<K, R, W, F>(rt, folder, *numbers, *pieces, reader, writer, faults)
+            if typed {
+                greet_import(faults);
+            }
+            import::<K, R, W, F>(rt, target, *numbers, *pieces, reader, writer, faults)
         }
         Task::Compact(_, numbers, level) => {
-            compact::<K, W, F>(rt, folder, *numbers, *level, writer, faults)
+            compact::<K, W, F>(rt, target, *numbers, *level, writer, faults)
         }
     }
 }

@@ -1,19 +1,26 @@
-// How far a reading of a whole directory is, said to a person who waits for it.
+// How far a task over a whole directory is, said to a person who waits for it.
 
 use std::alloc::Global;
 use std::io::Write;
 use std::time::Instant;
 use store::{Store, StoreError};
 
-/// The files of a store. With a meter, standard error says how much of them was read: after a second, and then whenever as much
-/// time again has passed. Each call is the store's own.
+/// A folder, and whether somebody watches what is done with it.
+#[derive(Clone, Copy)]
+pub struct Target<'a> {
+    pub folder: &'a str,
+    pub watched: bool,
+}
+
+/// The files of a store. With a meter, standard error says how much was read and written: after a second, and then whenever as
+/// much time again has passed. Each call is the store's own.
 #[derive(Drop)]
 pub struct Watched<S> {
     inner: S,
     meter: Option<Meter>,
 }
 
-/// How much of how much was read, and since when.
+/// How much was read and written, and since when.
 #[derive(Drop)]
 pub struct Meter {
     rt: HostRuntime,
@@ -21,14 +28,16 @@ pub struct Meter {
     // the second after which the next line is due
     due: u64,
     read: u64,
-    total: u64,
+    written: u64,
+    // of how many bytes, where the task is to read these
+    total: Option<u64>,
 }
 
 const MEGABYTE: u64 = 1_000_000;
 
 impl Meter {
-    /// One that has read nothing of so many bytes; nothing where there is no clock.
-    pub fn new(rt: &HostRuntime, total: u64) -> Option<Meter> {
+    /// One that has read nothing yet, of so many bytes where they are to be read; nothing where there is no clock.
+    pub fn new(rt: &HostRuntime, total: Option<u64>) -> Option<Meter> {
         let Ok(started) = Instant::now(rt) else {
             return None;
         };
@@ -40,13 +49,23 @@ impl Meter {
             started,
             due: 1,
             read: 0,
+            written: 0,
             total,
         })
     }
 
-    // Counts bytes that were read, and says how far that is where a line is due.
-    fn count(&mut self, bytes: u64) {
+    fn count_read(&mut self, bytes: u64) {
         self.read = self.read.saturating_add(bytes);
+        self.say_if_due();
+    }
+
+    fn count_written(&mut self, bytes: u64) {
+        self.written = self.written.saturating_add(bytes);
+        self.say_if_due();
+    }
+
+    // Says how far that is, where a line is due.
+    fn say_if_due(&mut self) {
         let Ok(passed) = self.started.elapsed(&self.rt) else {
             return;
         };
@@ -55,12 +74,25 @@ impl Meter {
             return;
         }
         self.due = seconds.saturating_add(seconds);
+        self.say(seconds);
+    }
+
+    // (a file that is read twice counts twice, and never as more than there is)
+    fn say(&self, seconds: u64) {
         let read = self.read / MEGABYTE;
-        let total = self.total / MEGABYTE;
-        let _ = writeln!(
-            self.rt.stderr(),
-            "ldbtool: {read} of {total} MB read after {seconds} s"
-        );
+        let written = self.written / MEGABYTE;
+        let mut said = self.rt.stderr();
+        let _ = match self.total {
+            Some(total) => {
+                let total = total / MEGABYTE;
+                let read = read.min(total);
+                writeln!(said, "ldbtool: {read} of {total} MB read after {seconds} s")
+            }
+            None => writeln!(
+                said,
+                "ldbtool: {read} MB read and {written} MB written after {seconds} s"
+            ),
+        };
     }
 }
 
@@ -109,7 +141,7 @@ impl<S: Store> Store for Watched<S> {
     ) -> Result<Vec<u8>, StoreError> {
         let read = self.inner.read_at(alloc, name, offset, count)?;
         if let Some(meter) = &mut self.meter {
-            meter.count(read.len() as u64);
+            meter.count_read(read.len() as u64);
         }
         Ok(read)
     }
@@ -119,7 +151,11 @@ impl<S: Store> Store for Watched<S> {
     }
 
     fn append(&mut self, name: &str, bytes: &[u8]) -> Result<(), StoreError> {
-        self.inner.append(name, bytes)
+        self.inner.append(name, bytes)?;
+        if let Some(meter) = &mut self.meter {
+            meter.count_written(bytes.len() as u64);
+        }
+        Ok(())
     }
 
     fn sync(&mut self, name: &str) -> Result<(), StoreError> {

@@ -119,7 +119,15 @@ pub fn say_no_current<F: Write>(faults: &mut F, folder: &str) {
 pub fn greet<F: Write>(faults: &mut F) {
     let _ = writeln!(
         faults,
-        "ldbtool: keys and values are hexadecimal, Ctrl-D ends; `ldbtool help run` tells the lines"
+        "ldbtool: begin with `open` or `open new`; keys and values are hexadecimal, Ctrl-D ends; `ldbtool help run` tells the lines"
+    );
+}
+
+/// The same of the lines of an import.
+pub fn greet_import<F: Write>(faults: &mut F) {
+    let _ = writeln!(
+        faults,
+        "ldbtool: lines are `put K V` and `del K`; keys and values are hexadecimal, Ctrl-D ends"
     );
 }
 

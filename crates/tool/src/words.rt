@@ -27,21 +27,29 @@ impl From<Error> for Misuse {
     }
 }
 
-/// Reads the command line, whose first word is the program's name.
-pub fn settings<'a>(alloc: Global, words: &'a [String]) -> Result<Task<'a>, Misuse>
+/// Reads the command line, whose first word is the program's name; `--version` says this one.
+pub fn settings<'a>(
+    alloc: Global,
+    words: &'a [String],
+    version: &'a str,
+) -> Result<Task<'a>, Misuse>
     ensures { IfOk result (λ task. IsTask (map string_bytes words.now) task) }
 {
-    let matches = matches(alloc, words)?;
+    let matches = matches(alloc, words, version)?;
     match read_task(&matches) {
         Some(task) => Ok(task),
         None => Err(Misuse::Wanted(wanted(&matches))),
     }
 }
 
-fn matches<'a>(alloc: Global, words: &'a [String]) -> Result<ArgMatches<'a>, Error>
+fn matches<'a>(
+    alloc: Global,
+    words: &'a [String],
+    version: &'a str,
+) -> Result<ArgMatches<'a>, Error>
     ensures { IfOk result (λ matches. subcommand_rows_of matches ≡ subcommand_of the_app (map string_bytes words.now)) }
 {
-    let mut command = command(alloc)?;
+    let mut command = command(alloc, version)?;
     let matches = command.try_get_matches_from_mut(words)?;
     Ok(matches)
 }
