@@ -34,6 +34,8 @@
 //   --file-bytes=N       max_file_size
 //   --write-buffer=N     write_buffer_size (LevelDB takes 65,536 for less)
 //   --lenient            no paranoid_checks
+//   --unverified         no verify_checksums
+//   --on                 `get` goes on behind a key that is refused, for which it prints "refused"
 //   --backwards          `dump` goes from the last pair to the first
 //   --seed=N             which history
 //   --operations=N       how many operations a history has (10000)
@@ -115,7 +117,9 @@ class ReverseComparator : public leveldb::Comparator {
 struct Database {
   std::string folder;
   leveldb::Options options;
+  leveldb::ReadOptions reads;
   bool backwards = false;
+  bool goes_on = false;
   uint64_t seed = 0;
   int operations = 10000;
 };
@@ -149,6 +153,10 @@ bool TakeFlag(const std::string& flag, Database* database) {
     options.write_buffer_size = number;
   } else if (name == "--lenient") {
     options.paranoid_checks = false;
+  } else if (name == "--unverified") {
+    database->reads.verify_checksums = false;
+  } else if (name == "--on") {
+    database->goes_on = true;
   } else if (name == "--backwards") {
     database->backwards = true;
   } else if (name == "--seed") {
@@ -159,12 +167,6 @@ bool TakeFlag(const std::string& flag, Database* database) {
     return false;
   }
   return true;
-}
-
-leveldb::ReadOptions Checked() {
-  leveldb::ReadOptions options;
-  options.verify_checksums = true;
-  return options;
 }
 
 leveldb::Status Open(const Database& database, bool may_create, std::unique_ptr<leveldb::DB>* db) {
@@ -180,7 +182,7 @@ leveldb::Status Print(const Database& database, bool may_create) {
   std::unique_ptr<leveldb::DB> db;
   leveldb::Status status = Open(database, may_create, &db);
   if (!status.ok()) return status;
-  std::unique_ptr<leveldb::Iterator> pairs(db->NewIterator(Checked()));
+  std::unique_ptr<leveldb::Iterator> pairs(db->NewIterator(database.reads));
   if (database.backwards) {
     pairs->SeekToLast();
   } else {
@@ -219,9 +221,10 @@ int Get(const Database& database) {
       std::cerr << "no key: " << line << "\n";
       return kMisused;
     }
-    status = db->Get(Checked(), key, &value);
-    if (!status.ok() && !status.IsNotFound()) return Refuse(status);
-    std::cout << (status.ok() ? ToHex(value) : "none") << "\n";
+    status = db->Get(database.reads, key, &value);
+    const bool refused = !status.ok() && !status.IsNotFound();
+    if (refused && !database.goes_on) return Refuse(status);
+    std::cout << (refused ? "refused" : status.ok() ? ToHex(value) : "none") << "\n";
   }
   return 0;
 }
@@ -230,7 +233,7 @@ int Seek(const Database& database) {
   std::unique_ptr<leveldb::DB> db;
   const leveldb::Status status = Open(database, false, &db);
   if (!status.ok()) return Refuse(status);
-  std::unique_ptr<leveldb::Iterator> pairs(db->NewIterator(Checked()));
+  std::unique_ptr<leveldb::Iterator> pairs(db->NewIterator(database.reads));
   for (std::string line, key; std::getline(std::cin, line);) {
     if (!FromHex(line, &key)) {
       std::cerr << "no key: " << line << "\n";
@@ -497,6 +500,7 @@ int main(int argc, char** argv) {
   }
   Database database;
   database.options.paranoid_checks = true;
+  database.reads.verify_checksums = true;
   database.options.compression = leveldb::kNoCompression;
   bool misused = false;
   for (int i = 2; i < argc; i++) {
