@@ -76,7 +76,7 @@ const STEPS: [(&[&str], &str, u8, &str, bool); 41] = [
         true,
     ),
     (&["check", "/tmp/ldbtool-there-is-none"], "", 1, "", true),
-    (&["--version"], "", 0, "ldbtool 0.1.0\n", false),
+    (&["--version"], "", 0, "ldbtool 0.0.0\n", false),
     (&["get", "DIR"], "", 2, "", true),
     (&["get", "DIR", "6x"], "", 2, "", true),
     (&["scan", "--text", "--json", "DIR"], "", 2, "", true),
