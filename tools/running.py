@@ -72,7 +72,7 @@ def want_report(folder, *wanted, status=0, options=()):
 
 def want_entries(folder, *wanted, status=0, options=()):
     ran = ldbtool("dump", *options, folder)
-    said = b"" if os.path.lexists(f"{folder}/CURRENT") else no_current(folder)
+    said = no_current(folder) if status == 0 and not os.path.lexists(f"{folder}/CURRENT") else b""
     want((ran.returncode, ran.stdout, ran.stderr), (status, lines(*wanted), said), "dump")
 
 

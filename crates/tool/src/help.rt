@@ -27,7 +27,7 @@ pub const KEY: &str = "The key, in hexadecimal or - for the empty one; with --te
 pub const GET: &str = "Prints the value of a key";
 
 pub const GET_TEXT: &str =
-    "Take the key as it is; print the value as text, bytes outside of ' '..'~' as \\xNN";
+    "Take the key as it is; print the value as text, bytes not in ' '..'~' as \\xNN";
 
 pub const VALUE: &str = "\
 The value is printed in hexadecimal, `-` where it has no bytes, and a newline
@@ -129,11 +129,11 @@ have; L is a level, from 0 to 5.
   snapshot                           snapshot N
   release N                          ok              lets snapshot N go
   iter | iter N                      iter N          over what is there, or as snapshot N saw it
-  first N | last N | seek N K        at K V | end    moves iterator N; seek to the first key from K on
+  first N | last N | seek N K        at K V | end    moves iterator N; seek to the first key from K
   next N | prev N                    at K V | end
   drop N                             ok              lets iterator N go
   work N                             worked | idle   removes files of no use, does a piece of work
-  compact L | compact all            ok              level L into the next; all there is into level 6
+  compact L | compact all            ok              level L into the next; all there is to level 6
   close                              ok
 
 The words of a line are parted by single spaces; numbers are decimal. A script
