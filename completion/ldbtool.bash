@@ -6,8 +6,10 @@ _ldbtool_options() {
     case $1 in
         get) echo "--text --order= --help" ;;
         scan) echo "--from= --to= --prefix= --limit= --reverse --values --text --json --order= --help" ;;
-        export | check) echo "--order= --help" ;;
-        dump) echo "--text --json --order= --help" ;;
+        export) echo "--order= --help" ;;
+        check) echo "--keep-going --order= --help" ;;
+        stats) echo "--json --order= --help" ;;
+        dump) echo "--text --json --keep-going --order= --help" ;;
         run) echo "--work= --strict $sizes --order= --help" ;;
         import) echo "--batch= --sync $sizes --order= --help" ;;
         compact) echo "--level= $sizes --order= --help" ;;
@@ -79,7 +81,7 @@ _ldbtool_rest() {
 }
 
 _ldbtool() {
-    local words last verbs="get scan export check dump run import compact"
+    local words last verbs="get scan export stats check dump run import compact"
     COMPREPLY=()
     _ldbtool_words
     case ${words[0]-} in

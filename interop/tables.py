@@ -183,8 +183,8 @@ def tables_from_leveldb(room):
 def want_refused(folder, refusal):
     for verb in ("check", "dump"):
         ran = ldbtool(verb, folder)
-        said = (ran.returncode, ran.stdout, ran.stderr)
-        want(said == (1, f"refused {refusal}\n", ""), f"{verb} of what is to be refused as {refusal}: {short(str(said))}")
+        told = ran.stderr.startswith("ldbtool: ") and f"refused {refusal}" in ran.stderr
+        want((ran.returncode, ran.stdout, told) == (1, f"refused {refusal}\n", True), f"{verb} of what is to be refused as {refusal}: {short(ran.stdout + ran.stderr)}")
 
 
 @check("tables: compressed ones are refused as Unsupported")
@@ -208,7 +208,7 @@ def want_right_or_refused(folder, wanted, what):
     if ran.returncode == 0:
         want_lines(ran.stdout, wanted, what)
         return False
-    refused = ran.returncode == 1 and REFUSED.fullmatch(ran.stdout) is not None and ran.stderr == ""
+    refused = ran.returncode == 1 and REFUSED.fullmatch(ran.stdout) is not None and ran.stderr.startswith("ldbtool: ")
     want(refused, f"{what}: status {ran.returncode}, {short(ran.stdout + ran.stderr)}")
     return True
 

@@ -1,4 +1,4 @@
-"""The checks of tools/program that are about `get`, `scan` and `export`, and about the forms of `dump`: what they print, and that they
+"""The checks of tools/program that are about `get`, `scan`, `export` and `stats`, and about the forms of `dump`: what they print, and that they
 change nothing, whatever stands in the folder."""
 import json
 import os
@@ -190,6 +190,102 @@ def dumps(room):
         want_printed(["dump", *options.split(), damaged], 1, "refused 5 Corrupt")
 
 
+# two tables of one entry, and a log of one
+SECOND_TABLE = table_file([("62", 2, "32")])
+
+
+def damaged_directory(room, name, first=ONE_TABLE, second=SECOND_TABLE, log=log_file([(3, [("63", "33")])])):
+    tables = [(1, 5, len(ONE_TABLE), ("61", 1), ("61", 1)), (1, 6, len(SECOND_TABLE), ("62", 2), ("62", 2))]
+    return write_directory(room, name, Manifest(log=7, next_file=8, last_sequence=2, tables=tables), {"000005.ldb": first, "000006.ldb": second, "000007.log": log})
+
+
+# what of such a directory is damaged, and what is said of it; behind it the entries of the others are printed
+EACH_ENTRY = {"table 1 5": "table 1 5 61 1 put 31", "table 1 6": "table 1 6 62 2 put 32", "log 7": "log 7 63 3 put 33"}
+DAMAGES = [
+    ({}, []),
+    ({"first": ONE_TABLE[:5] + b"\x00" + ONE_TABLE[6:]}, ["table 1 5: refused 5 Corrupt, a table: a checksum isn't that of its bytes"]),
+    ({"second": SECOND_TABLE[:-1] + b"x"}, ["table 1 6: refused 5 Corrupt, a table: "]),
+    ({"first": b"", "log": b"\x00" * 7 + b"rubbish" * 9}, ["table 1 5: refused 5 Corrupt, a table: it ends too soon", "log 7: refused 5 Corrupt, a log: "]),
+    ({"first": b"x", "second": b"y", "log": b"\x00" * 7 + b"rubbish" * 9}, ["table 1 5: refused 5", "table 1 6: refused 5", "log 7: refused 5"]),
+]  # fmt: skip
+
+
+def want_said(ran, folder, said, what):
+    lines_said = ran.stderr.decode().splitlines()
+    want(len(lines_said), len(said), f"{what}: {lines_said}")
+    for line, wanted in zip(lines_said, said):
+        want(line.startswith(f"ldbtool: {folder}: {wanted}"), True, f"{what}: {line}")
+
+
+# the lines of a script that are refused, and what is said of each
+REASONS = [
+    ("put 6g 31", "word 2: two hexadecimal digits a byte are wanted"),
+    ("write put 61 31 sync", "word 5: put or del is wanted"),
+    ("", "word 1: the name of a command is wanted"),
+    ("get 61 9", None),
+    ("compact 6", None),
+    ("open now", "word 2: new, any or nothing more is wanted"),
+]
+
+
+@check("why a line was refused is said by its number: which word is wrong, or what kind of file is damaged")
+def reasons_of_lines(room):
+    folder = new_folder(room)
+    ran = ldbtool("run", folder, script=lines("open new", *(line for line, _ in REASONS)))
+    want(ran.stdout.count(b"refused"), len(REASONS), "the refusals")
+    said = [f"ldbtool: line {number}: {why}" for number, (_, why) in enumerate(REASONS, 2) if why]
+    found = ran.stderr.decode().splitlines()
+    want([it.startswith(start) for it, start in zip(found, said)], [True] * len(said), f"{found}")
+    want(len(found), len(said), f"{found}")
+    ran = ldbtool("import", folder, script=lines("put 61 31", "del", "put 62 32"))
+    want((ran.stdout, ran.stderr), (b"refused 20 BadLine\ntaken 0\n", b"ldbtool: line 2: word 2: two hexadecimal digits a byte are wanted, or - for none\n"), "an import")
+
+
+@check("why a directory was refused is said by each command: what kind of file is damaged and how, and which one it is or how to see that")
+def reasons_of_directories(room):
+    damage = {"first": ONE_TABLE[:5] + b"\x00" + ONE_TABLE[6:]}
+    why = "refused 5 Corrupt, a table: a checksum isn't that of its bytes"
+    for n, words in enumerate([["get", "61"], ["scan"], ["export"], ["compact"], ["check"], ["dump"]]):
+        folder = damaged_directory(room, f"folder {n}", **damage)
+        ran = ldbtool(words[0], folder, *words[1:])
+        want((ran.returncode, ran.stdout.splitlines()[-1]), (1, b"refused 5 Corrupt"), f"{words}")
+        said = [f"table 1 5: {why}"] if words[0] in ("check", "dump") else [why, "`ldbtool check --keep-going"]
+        want_said(ran, folder, said, f"{words}")
+    folder = damaged_directory(room, "script", **damage)
+    ran = ldbtool("run", folder, script=lines("open", "get 62", "get 61"))
+    want(ran.stdout, lines("ok", "value 32", "refused 5 Corrupt"), "the script")
+    want(ran.stderr.decode().splitlines()[0], f"ldbtool: line 3: {why}", "what is said of it")
+    none = write_directory(room, "no manifest", None, {"CURRENT": b"MANIFEST-000009\n"})
+    for command in ("get", "scan", "export", "stats", "check", "dump", "compact"):
+        ran = ldbtool(command, none, *(["61"] if command == "get" else []))
+        want(ran.stderr.decode().splitlines()[0], f"ldbtool: {none}: refused 5 Corrupt, the MANIFEST: a file or a field that has to be there is missing", command)
+    want_said(ldbtool("get", new_folder(room, "empty"), "61"), f"{room}/empty", ["refused 3 NoDatabase: there is no database"], "no database")
+
+
+@check("--keep-going: a dump prints the files that are sound, and of the others it is said what is wrong, as a check says it")
+def kept_going(room):
+    for n, (damage, said) in enumerate(DAMAGES):
+        folder = damaged_directory(room, f"folder {n}", **damage)
+        sound = [line for name, line in EACH_ENTRY.items() if not any(it.startswith(f"{name}:") for it in said)]
+        ran = ldbtool("dump", "--keep-going", folder)
+        want((ran.returncode, ran.stdout.decode().splitlines()), (1 if said else 0, sound), f"a dump of {n}")
+        want_said(ran, folder, said, f"a dump of {n}")
+        checked, plain = ldbtool("check", "--keep-going", folder), ldbtool("check", folder)
+        want((checked.returncode, checked.stdout), (plain.returncode, plain.stdout), f"a check of {n}")
+        want_said(checked, folder, said, f"a check of {n}")
+        want_said(plain, folder, said[:1], f"a plain check of {n}")
+    # files that contradict one another, a MANIFEST that can't be read, and none
+    twice = damaged_directory(room, "twice", log=log_file([(1, [("61", "33")])]))
+    want_said(ldbtool("check", "--keep-going", twice), twice, ["each file is sound by itself"], "a log that is older than a table")
+    want_printed(["dump", "--keep-going", twice], 0, *list(EACH_ENTRY.values())[:2], "log 7 61 1 put 33")
+    none = write_directory(room, "no manifest", None, {"CURRENT": b"MANIFEST-000009\n"})
+    want_printed(["dump", "--keep-going", none], 1, "refused 5 Corrupt")
+    want_said(ldbtool("check", "--keep-going", none), none, ["refused 5 Corrupt, the MANIFEST: a file or a field"], "no MANIFEST")
+    empty = new_folder(room, "empty")
+    for words in (["check"], ["dump"]):
+        want(ldbtool(*words, "--keep-going", empty).stderr, no_current(empty), f"{words} of an empty folder")
+
+
 def words_of_object(line):
     """The line of words that says what this object does."""
     found = json.loads(line)
@@ -207,6 +303,81 @@ def dumped_objects(room):
         words, objects = (ldbtool("dump", *more, *options, folder).stdout.decode().splitlines() for more in ((), ("--json",)))
         want([words_of_object(it) for it in objects], words, "the objects")
         want(len(words) > len(PAIRS), True, "there are entries")
+
+
+# ---- stats
+
+
+def described(folder, *options):
+    """What stats prints: the head's values, each level's files, bytes and whether a compaction is due, and each log's bytes."""
+    ran = ldbtool("stats", *options, folder)
+    want((ran.returncode, ran.stderr), (0, b""), f"stats of {os.path.basename(folder)}")
+    words = [line.split() for line in ran.stdout.decode().splitlines()]
+    head = {it[0]: it[1] for it in words if it[0] not in ("level", "log")}
+    levels = {int(it[1]): (int(it[3]), int(it[5]), it[6:] == ["due"]) for it in words if it[0] == "level"}
+    want(list(levels), list(range(7)), "the levels")
+    return head, levels, {int(it[1]): int(it[3]) for it in words if it[0] == "log"}
+
+
+def lengths(folder, ending):
+    return {int(name[:6]): os.path.getsize(f"{folder}/{name}") for name in os.listdir(folder) if name.endswith(ending)}
+
+
+def levels_by_check(folder):
+    """The same of each level, by the tables that a check names and the lengths of their files; due is level 0 with four files."""
+    found, sizes = {level: (0, 0, False) for level in range(7)}, lengths(folder, ".ldb")
+    for line in ldbtool("check", folder).stdout.decode().splitlines():
+        word, level, number, *_ = line.split() + ["", "", ""]
+        if word == "table":
+            files, length, _ = found[int(level)]
+            found[int(level)] = files + 1, length + sizes[int(number)], int(level) == 0 and files + 1 >= 4
+    return found
+
+
+@check("stats says of each level what a check and the files' lengths say, and how long the logs are, in both orders")
+def counted(room):
+    for options in ((), REVERSE):
+        folder = filled(room, f"folder {len(options)}", *options)
+        head, levels, logs = described(folder, *options)
+        want((head["comparator"], head["next-file"]), ("ldbtool.ReverseBytewiseComparator" if options else "leveldb.BytewiseComparator", "6"), "the head")
+        want(logs, {number: length for number, length in lengths(folder, ".log").items() if number in logs}, "the logs")
+        want((levels[6][0], sum(logs.values()) > 0), (1, True), "what there is")
+    for count in (3, 4, 5):
+        folder = new_folder(room, f"{count} tables")
+        script = ["open new", *[line for n in range(count) for line in (f"put 61 {n:02x}", "work 1")], "put 62 -"]
+        ran = ldbtool("run", "--write-buffer", "1", "--level0-files", "100", folder, script=lines(*script))
+        want((ran.returncode, ran.stdout.count(b"refused")), (0, 0), "the script")
+        want(described(folder)[1], levels_by_check(folder), f"the levels of {count} tables")
+        want(described(folder)[1][0][2], levels_by_check(folder)[0][0] >= 4, "level 0 is due")
+
+
+@check("each level is due from its own number of bytes on, by the sizes that the MANIFEST tells, though no table is there")
+def due_levels(room):
+    for level in range(1, 7):
+        limit = 10 * 2**20 * 10 ** (level - 1)
+        for size, is_due in ((limit, False), (limit + 1, level < 6)):
+            folder = write_directory(room, f"{level} {size}", Manifest(log=9, next_file=10, last_sequence=2, tables=[(level, 5, size - 7, ("61", 1), ("62", 2)), (level, 6, 7, ("63", 1), ("64", 2))]), {})
+            head, levels, logs = described(folder)
+            want((head["recorded-sequence"], levels[level], logs), ("2", (2, size, is_due), {}), f"level {level}")
+
+
+@check("each object of stats says what its line of words does; of a folder without a database nothing is said, of a refused one the refusal")
+def objects_of_stats(room):
+    folder = filled(room)
+    head, levels, logs = described(folder)
+    found = [json.loads(line) for line in ldbtool("stats", "--json", folder).stdout.decode().splitlines()]
+    want({name: str(value) for name, value in found[0].items()}, head, "the first object")
+    want({it["level"]: (it["files"], it["bytes"], it["due"]) for it in found[1:8]}, levels, "the levels")
+    want({it["log"]: it["bytes"] for it in found[8:]}, logs, "the logs")
+    empty = new_folder(room, "empty")
+    for options in ((), ("--json",)):
+        ran = ldbtool("stats", *options, empty)
+        want((ran.returncode, ran.stdout, ran.stderr), (0, b"", no_current(empty)), "stats of an empty folder")
+    want_printed(["stats", *REVERSE, folder], 1, "refused 6 Unsupported")
+    want_printed(["stats", write_directory(room, "no manifest", None, {"CURRENT": b"MANIFEST-000009\n"})], 1, "refused 5 Corrupt")
+    want_printed(["stats", write_directory(room, "no CURRENT", None, {"000005.ldb": b"x"})], 1, "refused 5 Corrupt")
+    # (damage in a table or a log isn't looked for)
+    want(ldbtool("stats", with_table(room, "table", ONE_TABLE[:5] + b"\x00" + ONE_TABLE[6:])).returncode, 0, "a damaged table")
 
 
 # ---- refusals
@@ -249,7 +420,7 @@ def refused_behind(room):
 # ---- nothing is changed
 
 
-READERS = (["get", "61"], ["get", "7a"], ["scan"], ["scan", "--values", "--reverse"], ["export"], ["check"], ["dump"], ["dump", "--text"], ["dump", "--json"])
+READERS = (["get", "61"], ["get", "7a"], ["scan"], ["scan", "--values", "--reverse"], ["export"], ["stats"], ["stats", "--json"], ["check"], ["check", "--keep-going"], ["dump"], ["dump", "--keep-going"], ["dump", "--text"], ["dump", "--json"])
 
 
 def words_over(words, folder):
@@ -262,7 +433,7 @@ def seen(folder):
     return times, {name: (bytes_of(folder, name), os.stat(f"{folder}/{name}").st_mtime_ns, os.stat(f"{folder}/{name}").st_ino) for name in os.listdir(folder)}
 
 
-@check("get, scan, export, check and dump leave every file as it was, in good folders, empty ones and damaged ones")
+@check("get, scan, export, stats, check and dump leave every file as it was, in good folders, empty ones and damaged ones")
 def unchanged(room):
     torn = log_file([(1, [("61", "31")]), (2, [("62", "32")])])
     stray = {"000009.ldb": b"rubbish", "000001.log": b"", "000007.dbtmp": b"x", "LOG": b"x", "other": b"x", "MANIFEST-000000": b""}
@@ -347,7 +518,7 @@ def closed_pipe(room):
 def statuses(room):
     folder = filled(room)
     want_ran(ldbtool("get", folder, "6163"), 4, b"", "a missing key")
-    for words in (["get", f"{room}/none", "61"], ["scan", f"{room}/none"], ["export", f"{room}/none"]):
+    for words in (["get", f"{room}/none", "61"], ["scan", f"{room}/none"], ["export", f"{room}/none"], ["stats", f"{room}/none"]):
         want_fault(ldbtool(*words), 1, f"{words}")
     two = table_file([("61", 2, "32"), ("62", 1, "31")])
     table = write_directory(room, "table", Manifest(log=3, next_file=6, last_sequence=2, tables=[(6, 5, len(two), ("61", 2), ("62", 1))]), {"000003.log": b"", "000005.ldb": two})

@@ -16,7 +16,7 @@ from listed import Wrong, check
 from repository import ROOT
 from running import SECONDS, ldbtool, want
 
-VERBS = ["get", "scan", "export", "check", "dump", "run", "import", "compact"]
+VERBS = ["get", "scan", "export", "stats", "check", "dump", "run", "import", "compact"]
 SIZES = ["--write-buffer", "--block-bytes", "--file-bytes", "--level0-files", "--base-bytes", "--cache-blocks"]
 COMMON = ["--order", "--help"]
 RUN = ["--work", "--strict", *SIZES, *COMMON]
@@ -39,8 +39,9 @@ OFFERED = [
     (["get"], "--", ["--text", *COMMON]),
     (["scan"], "--", SCAN),
     (["export"], "--", COMMON),
-    (["check"], "--", COMMON),
-    (["dump"], "--", ["--text", "--json", *COMMON]),
+    (["stats"], "--", ["--json", *COMMON]),
+    (["check"], "--", ["--keep-going", *COMMON]),
+    (["dump"], "--", ["--text", "--json", "--keep-going", *COMMON]),
     (["run"], "--", RUN),
     (["import"], "--", ["--batch", "--sync", *SIZES, *COMMON]),
     (["compact"], "--", ["--level", *SIZES, *COMMON]),

@@ -41,7 +41,7 @@ def full_disk(room):
     refused = 0
     for count in (*range(0, 700, 23), *range(700, 1_500, 101), 2_000, 10_000):
         folder = new_folder(room, f"{count}")
-        ran = subprocess.run([under_test(), "run", *OPTIONS, folder], input=lines(*SESSION), stdout=subprocess.PIPE, preexec_fn=failing_behind(count), timeout=SECONDS)
+        ran = subprocess.run([under_test(), "run", *OPTIONS, folder], input=lines(*SESSION), stdout=subprocess.PIPE, stderr=subprocess.DEVNULL, preexec_fn=failing_behind(count), timeout=SECONDS)
         answers = ran.stdout.decode().splitlines()
         if (ran.returncode, len(answers)) != (0, len(SESSION)):
             raise Wrong(f"files of {count} bytes: status {ran.returncode}, {len(answers)} answers")
@@ -70,7 +70,7 @@ class Typed:
 
 @contextlib.contextmanager
 def typing(folder, program=None, **how):
-    with subprocess.Popen([program or under_test(), "run", *OPTIONS, folder], stdin=subprocess.PIPE, stdout=subprocess.PIPE, **how) as process:
+    with subprocess.Popen([program or under_test(), "run", *OPTIONS, folder], stdin=subprocess.PIPE, stdout=subprocess.PIPE, stderr=subprocess.DEVNULL, **how) as process:
         yield Typed(process)
         process.stdin.close()
         if process.wait(SECONDS):

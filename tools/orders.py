@@ -4,7 +4,7 @@ import os
 from files import Manifest, bytes_of, log_file, new_folder, write_directory
 from listed import Wrong, check
 from machine import Machine, after_all, word
-from running import ldbtool, lines, want, want_answers, want_entries, want_ran, want_report
+from running import ldbtool, lines, said_beside, want, want_answers, want_entries, want_ran, want_report
 from scripts import SCRIPTS, VERBS, WORKED
 from sessions import SESSIONS
 from told import words_of
@@ -106,7 +106,7 @@ def run_turned(folder, options, script, answers, states):
     commands, known = [[it.strip() for it in text.split(";")] for text in (script, answers)]
     ran = ldbtool("run", *REVERSE, *options.split(), folder, script=lines(*commands))
     found = ran.stdout.decode().splitlines()
-    want((ran.returncode, len(found), ran.stderr), (0, len(commands), b""), f"the script {script}")
+    want((ran.returncode, len(found), said_beside(ran.stdout, ran.stderr)), (0, len(commands), b""), f"the script {script}")
     of_both = [it in OF_BOTH for it in known]
     want([a for a, it in zip(found, of_both) if it], [a for a, it in zip(known, of_both) if it], f"lines of {script}")
     told = [(line, answer) for line, answer, it in zip(commands, found, of_both) if not it]

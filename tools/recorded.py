@@ -8,6 +8,7 @@ import threading
 from dataclasses import dataclass
 
 from listed import Wrong
+from running import said_beside
 
 SECONDS = 60
 
@@ -126,7 +127,7 @@ class Recording:
                 said = process.communicate()
             finally:
                 killer.cancel()
-        if process.returncode or said != (b"", b""):
+        if process.returncode or said[0] or said_beside("\n".join(answers).encode(), said[1]):
             raise Wrong(f"it ended with status {process.returncode}, and said {said}")
         self.script += script
         self.answers += answers

@@ -1,5 +1,6 @@
 """How tools/program runs ldbtool and compares what it prints."""
 import os
+import re
 import subprocess
 
 from listed import Wrong
@@ -47,8 +48,18 @@ def lines(*texts):
     return "".join(f"{text}\n" for text in texts).encode()
 
 
+# why there was a refusal: of a line of a script, of a folder, of a file of it
+REASON = re.compile(rb"ldbtool: (line \d+: |.*: (refused \d|(table|log) \d|each file is sound|`ldbtool check --keep-going))")
+
+
+def said_beside(printed, said):
+    """What was said on standard error, but for why there are refusals among what was printed."""
+    return b"".join(it for it in said.splitlines(keepends=True) if b"refused" not in printed or not REASON.match(it))
+
+
 def want_ran(ran, status, printed, what):
-    want((ran.returncode, ran.stdout, ran.stderr), (status, printed, b""), what)
+    """It printed this, and said nothing, but for why there are refusals."""
+    want((ran.returncode, ran.stdout, said_beside(printed, ran.stderr)), (status, printed, b""), what)
 
 
 def want_answers(folder, script, answers, *options):
@@ -67,13 +78,13 @@ def no_current(folder):
 def want_report(folder, *wanted, status=0, options=()):
     ran = ldbtool("check", *options, folder)
     said = no_current(folder) if wanted == ("empty",) else b""
-    want((ran.returncode, ran.stdout, ran.stderr), (status, lines(*wanted), said), "check")
+    want((ran.returncode, ran.stdout, said_beside(ran.stdout, ran.stderr)), (status, lines(*wanted), said), "check")
 
 
 def want_entries(folder, *wanted, status=0, options=()):
     ran = ldbtool("dump", *options, folder)
     said = no_current(folder) if status == 0 and not os.path.lexists(f"{folder}/CURRENT") else b""
-    want((ran.returncode, ran.stdout, ran.stderr), (status, lines(*wanted), said), "dump")
+    want((ran.returncode, ran.stdout, said_beside(ran.stdout, ran.stderr)), (status, lines(*wanted), said), "dump")
 
 
 def want_printed(words, status, *printed, script=b""):

@@ -68,7 +68,7 @@ WORKED = [
      "ok; ok; worked; worked; ok; worked; worked; value 31; value 32; value 31", ["table 0 4 61 1 put 31", "table 0 6 62 2 put 32"]),
 ]  # fmt: skip
 
-VERBS = ("get", "scan", "export", "check", "dump", "run", "import", "compact")
+VERBS = ("get", "scan", "export", "stats", "check", "dump", "run", "import", "compact")
 
 # command lines that are wrong
 MISUSES = [

@@ -11,7 +11,7 @@ import time
 
 from files import ONE_TABLE, bytes_of, log_file, new_folder, with_table
 from listed import check
-from running import SECONDS, ldbtool, lines, under_test, want, want_answers, want_entries, want_ran, want_report
+from running import SECONDS, ldbtool, lines, said_beside, under_test, want, want_answers, want_entries, want_ran, want_report
 
 
 def failing_behind(count):
@@ -33,7 +33,7 @@ def want_beginning(room, words, script, whole, count):
     wanted = (0, whole) if count >= len(whole) else (1, whole[:count])
     want((ran.returncode, bytes_of(room, "output")), wanted, f"{words[0]} behind byte {count} of {len(whole)}")
     # the limit holds for standard error too, but that is a pipe
-    want(ran.stderr != b"", count < len(whole), f"{words[0]} says the fault behind byte {count}")
+    want(said_beside(whole, ran.stderr) != b"", count < len(whole), f"{words[0]} says the fault behind byte {count}")
 
 
 @check("an output that fails behind any byte has got the bytes before, and the status is 1")
@@ -74,7 +74,7 @@ def full_device(room):
 def closed_pipe(room):
     folder = new_folder(room)
     want_answers(folder, lines("open new", *[f"put {n:08x} {'ab' * 500}" for n in range(300)]), "; ".join(["ok"] * 301))
-    for words, script in ((["dump", folder], b""), (["run", folder], b"x\n" * 100_000), (["--help"], b"")):
+    for words, script in ((["dump", folder], b""), (["run", folder], b"close\n" * 100_000), (["--help"], b"")):
         reading, writing = os.pipe()
         if words[0] != "dump":
             # (a short text would be written before a later close)
@@ -91,7 +91,7 @@ def closed_pipe(room):
 @contextlib.contextmanager
 def at_hand(folder, *options):
     """The program with its input and output at hand; at the end the input is closed, and the rest of the output read."""
-    with subprocess.Popen([under_test(), "run", *options, folder], stdin=subprocess.PIPE, stdout=subprocess.PIPE, bufsize=0) as ran:
+    with subprocess.Popen([under_test(), "run", *options, folder], stdin=subprocess.PIPE, stdout=subprocess.PIPE, stderr=subprocess.DEVNULL, bufsize=0) as ran:
         yield ran
         ran.stdin.close()
         want((ran.stdout.read(), ran.wait(SECONDS)), (b"", 0), "the end of a script that was typed")

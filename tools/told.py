@@ -169,8 +169,9 @@ def want_examples(room, found, least):
     work = new_folder(room, "work")
     environment = {**os.environ, "PATH": f"{room}/bin:{os.environ['PATH']}"}
     for command, wanted in found:
-        ran = subprocess.run(["sh", "-c", command], cwd=work, env=environment, capture_output=True, text=True, timeout=SECONDS)
-        want((ran.stdout, ran.stderr), (wanted, ""), f"the example {command!r}")
+        # (as both streams come at a terminal)
+        ran = subprocess.run(["sh", "-c", command], cwd=work, env=environment, stdout=subprocess.PIPE, stderr=subprocess.STDOUT, text=True, timeout=SECONDS)
+        want(ran.stdout, wanted, f"the example {command!r}")
     want(len(found) >= least, True, f"{len(found)} examples are all")
 
 

@@ -1,3 +1,4 @@
+pub mod Between
 pub mod BlockLaws
 pub mod BuilderLaws
 pub mod EntryLaws

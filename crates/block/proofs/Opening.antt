@@ -1,5 +1,5 @@
 -- A block from its parts.
-use Rattle.std.proofs.Common.{◌≡◌, ℕ, ◌*◌, ◌^◌, ◌<◌, None, List, ◌++◌, length, take, refl, sym, ap, ◌∙◌, subst, arith}
+use Rattle.std.proofs.Common.{◌≡◌, ℕ, ◌*◌, ◌^◌, ◌<◌, None, List, [], ◌++◌, length, take, refl, sym, ap, ◌∙◌, subst, arith}
 use Rattle.std.proofs.lemmas.List.{length-append, take_at}
 use Rattle.std.specs.List.{flat_map}
 use Rattle.coding.specs.declared.error.ReadError.{ReadError}
@@ -7,7 +7,7 @@ use Rattle.coding.specs.declared.error.ReadError.TheVariants.{Memory, Corrupt, U
 use Rattle.coding.specs.Errors.{RefusesOnly}
 use Rattle.coding.specs.Fixed.{fixed32}
 use Rattle.ikey.specs.Entries.{Pair}
-use Rattle.block.specs.Block.{IsBody, IsLaidOut, IsBlock, AreAbove, Refuses, trailer}
+use Rattle.block.specs.Block.{IsBody, IsLaidOut, IsBlock, AreAbove, Refuses, last_key_from, trailer}
 use Rattle.block.specs.Opened.{IsOpened}
 use Rattle.block.specs.Reading.{pairs_of}
 use Rattle.block.proofs.BlockLaws.{length-restarts, body_pairs, one_body, count_fits}
@@ -21,6 +21,19 @@ Entries below restarts body = (pairs : List Pair) × (list : List ℕ) × (resta
 
 abbrev pub NoEntries : (List ℕ → List ℕ → Type 0) → List ℕ → List ℕ → Type 0
 NoEntries below restarts body = (pairs : List Pair) (list : List ℕ) → restarts ≡ flat_map fixed32 list → IsBody pairs list body → AreAbove below None pairs → ⊥
+
+-- the same, where this is the last key
+abbrev pub EntriesTo : (List ℕ → List ℕ → Type 0) → List ℕ → List ℕ → List ℕ → Type 0
+EntriesTo below restarts body last = (pairs : List Pair) × (list : List ℕ) × (restarts ≡ flat_map fixed32 list) × IsBody pairs list body × AreAbove below None pairs × (last_key_from [] pairs ≡ last)
+
+pub entries_to : (below : List ℕ → List ℕ → Type 0) (restarts body last : List ℕ) → EntriesTo below restarts body last → Entries below restarts body
+entries_to below restarts body last (pairs, list, encoded, entries, rises, ends) = (pairs, list, encoded, entries, rises)
+
+-- so of the block that is opened
+pub last_of_block : (below : List ℕ → List ℕ → Type 0) (bytes body restarts last : List ℕ) → Parts bytes body restarts → EntriesTo below restarts body last → last_key_from [] (pairs_of (take (length body) bytes)) ≡ last
+last_of_block below bytes body restarts last p (pairs, list, encoded, entries, rises, ends) =
+    let same : take (length body) bytes ≡ body = ap (take (length body)) p.2 ∙ take_at body (restarts ++ fixed32 p.0) (length body) refl in
+    ap (λ (b : List ℕ). last_key_from [] (pairs_of b)) same ∙ ap (last_key_from []) (body_pairs pairs list body entries) ∙ ends
 
 pub open_block : (below : List ℕ → List ℕ → Type 0) (bytes body restarts : List ℕ) → length bytes < 2 ^ 32 → Parts bytes body restarts → Entries below restarts body → IsOpened below bytes (length body)
 open_block below bytes body restarts fits p e =

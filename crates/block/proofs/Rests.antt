@@ -5,7 +5,7 @@ use Rattle.std.specs.List.{flat_map}
 use Rattle.coding.specs.Fixed.{fixed32}
 use Rattle.coding.proofs.Fronts.{fixed32_front}
 use Rattle.ikey.specs.Entries.{Pair}
-use Rattle.block.specs.Block.{IsEntry, IsKeyBehind, TakesRestart, AreEntries, AreAbove, IsBody}
+use Rattle.block.specs.Block.{IsEntry, IsKeyBehind, TakesRestart, AreEntries, AreAbove, IsBody, last_key_from}
 use Rattle.block.proofs.EntryLaws.{entry_front, entry_some}
 
 -- the key before this offset, if there is one
@@ -17,6 +17,10 @@ key_before (suc offset) previous = Some previous
 abbrev pub RestOf : (List ℕ → List ℕ → Type 0) → ℕ → List ℕ → List ℕ → List ℕ → Type 0
 RestOf below offset previous waiting rest =
     (pairs : List Pair) × (later : List ℕ) × (waiting ≡ flat_map fixed32 later) × AreEntries offset previous pairs later rest × AreAbove below (key_before offset previous) pairs
+
+-- and the last of their keys is this one, where there is one, or else the one before
+abbrev pub RestEnds : (List ℕ → List ℕ → Type 0) → ℕ → List ℕ → List ℕ → List ℕ → List ℕ → Type 0
+RestEnds below offset previous waiting rest last = (h : RestOf below offset previous waiting rest) × (last_key_from previous h.0 ≡ last)
 
 head_at : (offset x : ℕ) (later xs : List ℕ) → offset ∷ later ≡ x ∷ xs → offset ≡ x
 head_at offset x later xs e = cc
@@ -146,24 +150,27 @@ above_more below (suc offset) previous key value pairs f a = (f (omega arith), a
 
 back : (below : List ℕ → List ℕ → Type 0) (offset : ℕ) (previous waiting rest : List ℕ) (s : ℕ) (r v front behind key more : List ℕ) → IsEntry s r v front → rest ≡ front ++ behind → s ≤ length previous → key ≡ take s previous ++ r → (0 < offset → below previous key)
     → ((later : List ℕ) → more ≡ flat_map fixed32 later → (all : List ℕ) × (waiting ≡ flat_map fixed32 all) × TakesRestart offset s all later)
-    → RestOf below (offset + length front) key more behind → RestOf below offset previous waiting rest
-back below offset previous waiting rest s r v front behind key more i e le k up f h =
+    → (last : List ℕ) → RestEnds below (offset + length front) key more behind last → RestEnds below offset previous waiting rest last
+back below offset previous waiting rest s r v front behind key more i e le k up f last (h, is_last) =
     let some : 0 < offset + length front = omega (arith, entry_some s r v front i) in
     let all = f h.1 h.2 in (
-      record { key = key; value = v } ∷ h.0,
-      all.0,
-      all.1,
-      (s, r, front, behind, h.1, i, (le, k), e, all.2, h.3),
-      above_more below offset previous key v h.0 up (subst (λ (z : Option (List ℕ)). AreAbove below z h.0) (before_some (offset + length front) key some) h.4),
+      (
+        record { key = key; value = v } ∷ h.0,
+        all.0,
+        all.1,
+        (s, r, front, behind, h.1, i, (le, k), e, all.2, h.3),
+        above_more below offset previous key v h.0 up (subst (λ (z : Option (List ℕ)). AreAbove below z h.0) (before_some (offset + length front) key some) h.4),
+      ),
+      is_last,
     )
 
 pub back_taken : (below : List ℕ → List ℕ → Type 0) (offset : ℕ) (previous waiting rest : List ℕ) (s : ℕ) (r v front behind key more : List ℕ) → IsEntry s r v front → rest ≡ front ++ behind → s ≤ length previous → key ≡ take s previous ++ r → (0 < offset → below previous key)
-    → s ≡ 0 → waiting ≡ fixed32 offset ++ more → RestOf below (offset + length front) key more behind → RestOf below offset previous waiting rest
+    → s ≡ 0 → waiting ≡ fixed32 offset ++ more → (last : List ℕ) → RestEnds below (offset + length front) key more behind last → RestEnds below offset previous waiting rest last
 back_taken below offset previous waiting rest s r v front behind key more i e le k up zero-shared here =
     back below offset previous waiting rest s r v front behind key more i e le k up (λ later w. (offset ∷ later, here ∙ ap (λ (z : List ℕ). fixed32 offset ++ z) w, inr (zero-shared, refl)))
 
 pub back_skipped : (below : List ℕ → List ℕ → Type 0) (offset : ℕ) (previous waiting rest : List ℕ) (s : ℕ) (r v front behind key : List ℕ) → IsEntry s r v front → rest ≡ front ++ behind → s ≤ length previous → key ≡ take s previous ++ r → (0 < offset → below previous key)
-    → RestOf below (offset + length front) key waiting behind → RestOf below offset previous waiting rest
+    → (last : List ℕ) → RestEnds below (offset + length front) key waiting behind last → RestEnds below offset previous waiting rest last
 back_skipped below offset previous waiting rest s r v front behind key i e le k up =
     back below offset previous waiting rest s r v front behind key waiting i e le k up (λ later w. (later, w, inl refl))
 
@@ -173,17 +180,17 @@ pub rest_of_body : (below : List ℕ → List ℕ → Type 0) (restarts body : L
 rest_of_body below restarts body [] list some w h a = absurd (omega (arith, some, ap length h.0))
 rest_of_body below restarts body (pair ∷ pairs) list some w h a = (pair ∷ pairs, list, w, h.2, a)
 
-pub body_of_rest : (below : List ℕ → List ℕ → Type 0) (restarts body behind : List ℕ) → 0 < length body → length body < 2 ^ 32 → restarts ≡ fixed32 0 ++ behind → RestOf below 0 [] restarts body
-    → (pairs : List Pair) × (list : List ℕ) × (restarts ≡ flat_map fixed32 list) × IsBody pairs list body × AreAbove below None pairs
-body_of_rest below restarts body behind some fits first ([], list, w, h, a) = absurd (omega (arith, some, ap length h.0))
-body_of_rest below restarts body behind some fits first (pair ∷ pairs, [], w, h, a) = absurd (omega (arith, ap length (sym first ∙ w), length-append (fixed32 0) behind))
-body_of_rest below restarts body behind some fits first (pair ∷ pairs, x ∷ xs, w, h, a) =
+pub body_of_rest : (below : List ℕ → List ℕ → Type 0) (restarts body behind last : List ℕ) → 0 < length body → length body < 2 ^ 32 → restarts ≡ fixed32 0 ++ behind → RestEnds below 0 [] restarts body last
+    → (pairs : List Pair) × (list : List ℕ) × (restarts ≡ flat_map fixed32 list) × IsBody pairs list body × AreAbove below None pairs × (last_key_from [] pairs ≡ last)
+body_of_rest below restarts body behind last some fits first (([], list, w, h, a), is_last) = absurd (omega (arith, some, ap length h.0))
+body_of_rest below restarts body behind last some fits first ((pair ∷ pairs, [], w, h, a), is_last) = absurd (omega (arith, ap length (sym first ∙ w), length-append (fixed32 0) behind))
+body_of_rest below restarts body behind last some fits first ((pair ∷ pairs, x ∷ xs, w, h, a), is_last) =
     let head = head_fits 0 [] (pair ∷ pairs) (x ∷ xs) body x xs refl h (omega (arith, fits)) in
     let same = fixed32_front 0 x behind (flat_map fixed32 xs) (omega arith) head.1 (sym first ∙ w) in
-    (pair ∷ pairs, x ∷ xs, w, (xs, (λ i. sym same.0 i ∷ xs), h), a)
+    (pair ∷ pairs, x ∷ xs, w, (xs, (λ i. sym same.0 i ∷ xs), h), a, is_last)
 
-pub rest_at_end : (below : List ℕ → List ℕ → Type 0) (offset : ℕ) (previous : List ℕ) → RestOf below offset previous [] []
-rest_at_end below offset previous = ([], [], refl, (refl, refl), tt)
+pub rest_at_end : (below : List ℕ → List ℕ → Type 0) (offset : ℕ) (previous : List ℕ) → RestEnds below offset previous [] [] previous
+rest_at_end below offset previous = (([], [], refl, (refl, refl), tt), refl)
 
 pub none_at_end : (below : List ℕ → List ℕ → Type 0) (offset : ℕ) (previous waiting : List ℕ) → 0 < length waiting → RestOf below offset previous waiting [] → ⊥
 none_at_end below offset previous waiting some ([], later, w, h, a) = omega (arith, some, ap length (w ∙ ap (flat_map fixed32) h.1))

@@ -48,6 +48,11 @@ AreAbove below previous [] = Unit {0}
 AreAbove below None (pair ∷ pairs) = AreAbove below (Some pair.key) pairs
 AreAbove below (Some key) (pair ∷ pairs) = below key pair.key × AreAbove below (Some pair.key) pairs
 
+-- the last key, or this one where there is no pair
+abbrev pub last_key_from : List ℕ → List Pair → List ℕ
+last_key_from key [] = key
+last_key_from key (pair ∷ pairs) = last_key_from pair.key pairs
+
 -- the restarts and their number, as they stand behind the entries
 abbrev pub trailer : List ℕ → List ℕ
 trailer restarts = flat_map fixed32 restarts ++ fixed32 (length restarts)

@@ -1,11 +1,11 @@
 //! Checking the entries of a block against its restarts and its order.
 
-ghost use Rattle.std.specs.Prelude.{◌≡◌, ◌<◌, ◌≤◌, ◌^◌, ◌++◌, List, ℕ, None, length, take, IfErr, IfOk, IfNone, IfSome, MatchBool, OnOk};
+ghost use Rattle.std.specs.Prelude.{◌≡◌, ◌<◌, ◌≤◌, ◌^◌, ◌++◌, List, ℕ, [], None, length, take, IfErr, IfOk, IfNone, IfSome, MatchBool, OnOk};
 ghost use Rattle.std.specs.List.{flat_map};
 ghost use Rattle.coding.specs.Errors.{RefusesOnly};
 ghost use Rattle.coding.specs.Fixed.{fixed32};
 ghost use Rattle.ikey.specs.Entries.{Pair};
-ghost use Rattle.block.specs.Block.{IsBody, AreAbove};
+ghost use Rattle.block.specs.Block.{IsBody, AreAbove, last_key_from};
 
 use crate::entry::entry_at;
 use coding::{Damage, ReadError, get_fixed32};
@@ -14,20 +14,22 @@ use std::alloc::{AllocError, Global};
 use std::mem;
 
 /// Whether the bytes are entries whose keys rise in the order O, and the restarts are offsets of entries that
-/// share nothing, the first of them 0. At most two keys are kept at a time.
+/// share nothing, the first of them 0: the last key, which has no bytes where there is no entry. At most two keys are kept at a
+/// time.
 pub fn check_entries<O: EntryOrder>(
     alloc: Global,
     body: &[u8],
     restarts: &[u8],
-) -> Result<(), ReadError>
+) -> Result<Vec<u8>, ReadError>
     requires { length body.now < 2 ^ 32 }
-    ensures found { IfOk result (λ _. (pairs : List Pair) × (list : List ℕ) × (restarts.now ≡ flat_map fixed32 list) × IsBody pairs list body.now × AreAbove O.below None pairs) }
+    ensures found { IfOk result (λ last. (pairs : List Pair) × (list : List ℕ) × (restarts.now ≡ flat_map fixed32 list) × IsBody pairs list body.now × AreAbove O.below None pairs
+        × (last_key_from [] pairs ≡ last.items)) }
     ensures refused { IfErr result (λ e. RefusesOnly e ((pairs : List Pair) (list : List ℕ) → restarts.now ≡ flat_map fixed32 list → IsBody pairs list body.now → AreAbove O.below None pairs → ⊥)) }
 {
     // Where there is no entry, the restart 0 stands all the same.
     if body.is_empty() {
         return match restarts {
-            [0, 0, 0, 0] => Ok(()),
+            [0, 0, 0, 0] => Ok(Vec::new(alloc)),
             _ => Err(ReadError::Corrupt(Damage::Order)),
         };
     }
@@ -59,7 +61,7 @@ pub fn check_entries<O: EntryOrder>(
         return Err(ReadError::Corrupt(Damage::Order));
     }
     match behind_restart(restarts, 0) {
-        Some(_) => Ok(()),
+        Some(_) => Ok(key),
         None => Err(ReadError::Corrupt(Damage::Order)),
     }
 }

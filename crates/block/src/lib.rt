@@ -11,4 +11,4 @@ mod trailer;
 
 pub use block_builder::BlockBuilder;
 pub use block_cursor::BlockCursor;
-pub use sorted_block::{Block, MAX_BLOCK_LENGTH, one_block};
+pub use sorted_block::{Block, Bounds, MAX_BLOCK_LENGTH, one_block};

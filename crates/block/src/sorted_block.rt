@@ -1,10 +1,12 @@
 //! A block that is read.
 
-ghost use Rattle.std.specs.Prelude.{◌≡◌, List, ℕ};
+ghost use Rattle.std.specs.Prelude.{◌≡◌, ◌⊎◌, List, ℕ, MatchBool, option_copied};
+ghost use Rattle.std.specs.Option.{ForSome};
 ghost use Rattle.ikey.specs.Entries.{Pair};
 ghost use Rattle.block.specs.Block.{IsBlock};
 
 use crate::checking::check_entries;
+use crate::entry::entry_at;
 use crate::trailer::parts_of;
 use coding::{Damage, Feature, ReadError};
 use ikey::EntryOrder;
@@ -13,6 +15,13 @@ use std::marker::{Model, PhantomData};
 
 /// The most bytes of a block that is read: a longer one isn't supported.
 pub const MAX_BLOCK_LENGTH: usize = 1 << 30;
+
+/// Between which bounds the keys of a block have to lie: above the first, where there is one, and not above the second.
+#[derive(Clone, Copy, Debug)]
+pub struct Bounds<'a> {
+    pub floor: Option<&'a [u8]>,
+    pub most: &'a [u8],
+}
 
 /// A block, checked once when it is opened, whose keys rise in the order O. Contracts see the bytes of its
 /// entries and the list of its pairs.
@@ -39,9 +48,10 @@ impl<O: EntryOrder> Model for Block<O> {
 }
 
 impl<O: EntryOrder> Block<O> {
-    ghost use Rattle.std.specs.Prelude.{◌≡◌, ◌<◌, ◌≤◌, ◌^◌, List, ℕ, None, length, IfOk, IfErr};
+    ghost use Rattle.std.specs.Prelude.{◌≡◌, ◌<◌, ◌≤◌, ◌^◌, List, ℕ, [], None, length, IfOk, IfErr, MatchBool, MatchOption, option_copied};
     ghost use Rattle.ikey.specs.Entries.{Pair};
-    ghost use Rattle.block.specs.Block.{IsBlock, Refuses, AreAbove};
+    ghost use Rattle.block.specs.Block.{IsBlock, Refuses, AreAbove, last_key_from};
+    ghost use Rattle.block.specs.Bounds.{AreBetween, IsFirstKey};
     ghost use Rattle.block.specs.Reading.{pairs_of};
     ghost use Rattle.block.specs.Spots.{HasRestarts};
 
@@ -55,21 +65,80 @@ impl<O: EntryOrder> Block<O> {
         // Bytes that are refused are no block, or pass the limit.
         ensures refused { IfErr result (λ e. Refuses e ((pairs : List Pair) → IsBlock O.below bytes.items pairs → ⊥) (2 ^ 30 < length bytes.items)) }
     {
+        let (block, _) = Self::open_with_last(alloc, bytes)?;
+        Ok(block)
+    }
+
+    /// The same, where its keys lie between these bounds: as corrupt a block is refused that has another one, too.
+    pub fn open_between(
+        alloc: Global,
+        bytes: Vec<u8>,
+        bounds: Bounds<'_>,
+    ) -> Result<Self, ReadError>
+        ensures found { IfOk result (λ block. IsBlock O.below bytes.items block.pairs) }
+        ensures between { IfOk result (λ block. AreBetween O.below (option_copied bounds.entry.floor) bounds.entry.most.now block.pairs) }
+        ensures short { IfOk result (λ _. length bytes.items ≤ 2 ^ 30) }
+        ensures refused { IfErr result (λ e. Refuses e
+            ((pairs : List Pair) → IsBlock O.below bytes.items pairs → AreBetween O.below (option_copied bounds.entry.floor) bounds.entry.most.now pairs → ⊥)
+            (2 ^ 30 < length bytes.items)) }
+    {
+        let (block, last) = Self::open_with_last(alloc, bytes)?;
+        if !block.lies_between(&last, bounds) {
+            return Err(ReadError::Corrupt(Damage::Order));
+        }
+        Ok(block)
+    }
+
+    /// The first key, where there is an entry.
+    pub fn first_key(&self) -> Option<&[u8]>
+        ensures { MatchOption result (self.now.pairs ≡ []) (λ key. IsFirstKey key.now self.now.pairs) }
+    {
+        let (body, _) = self.parts();
+        match entry_at(body) {
+            Some((first, _)) => Some(first.rest),
+            None => None,
+        }
+    }
+
+    // Whether all keys lie between the bounds, of which the last is this one.
+    fn lies_between(&self, last: &[u8], bounds: Bounds<'_>) -> bool
+        requires rises { AreAbove O.below None self.now.pairs }
+        requires ends { last_key_from [] self.now.pairs ≡ last.now }
+        ensures { MatchBool result (AreBetween O.below (option_copied bounds.entry.floor) bounds.entry.most.now self.now.pairs)
+            (AreBetween O.below (option_copied bounds.entry.floor) bounds.entry.most.now self.now.pairs → ⊥) }
+    {
+        let Some(first) = self.first_key() else {
+            return true;
+        };
+        if !is_above::<O>(bounds.floor, first) {
+            return false;
+        }
+        is_at_most::<O>(last, bounds.most)
+    }
+
+    // The block, and its last key, which has no bytes where there is no entry.
+    fn open_with_last(alloc: Global, bytes: Vec<u8>) -> Result<(Self, Vec<u8>), ReadError>
+        ensures found { IfOk result (λ opened. IsBlock O.below bytes.items opened.0.pairs) }
+        ensures last { IfOk result (λ opened. last_key_from [] opened.0.pairs ≡ opened.1.items) }
+        ensures short { IfOk result (λ _. length bytes.items ≤ 2 ^ 30) }
+        ensures refused { IfErr result (λ e. Refuses e ((pairs : List Pair) → IsBlock O.below bytes.items pairs → ⊥) (2 ^ 30 < length bytes.items)) }
+    {
         if bytes.len() > MAX_BLOCK_LENGTH {
             return Err(ReadError::Unsupported(Feature::BlockSize));
         }
-        let body_length = {
+        let (body_length, last) = {
             let Some((body, restarts)) = parts_of(&bytes) else {
                 return Err(ReadError::Corrupt(Damage::Length));
             };
-            check_entries::<O>(alloc, body, restarts)?;
-            body.len()
+            let last = check_entries::<O>(alloc, body, restarts)?;
+            (body.len(), last)
         };
-        Ok(Block {
+        let block = Block {
             bytes,
             body_length,
             order: PhantomData,
-        })
+        };
+        Ok((block, last))
     }
 
     // The bytes of the entries and those of the restarts.
@@ -83,6 +152,27 @@ impl<O: EntryOrder> Block<O> {
         let (front, _) = self.bytes.split_at(self.bytes.len() - 4);
         front.split_at(self.body_length)
     }
+}
+
+// Whether a key is above the bound, where there is one.
+fn is_above<O: EntryOrder>(floor: Option<&[u8]>, key: &[u8]) -> bool
+    ensures { MatchBool result (ForSome (option_copied floor.entry) (λ (bound : List ℕ). O.below bound key.now))
+        (ForSome (option_copied floor.entry) (λ (bound : List ℕ). O.below bound key.now) → ⊥) }
+{
+    match floor {
+        None => true,
+        Some(bound) => O::is_below(bound, key),
+    }
+}
+
+// Whether it isn't above the bound.
+fn is_at_most<O: EntryOrder>(key: &[u8], most: &[u8]) -> bool
+    ensures { MatchBool result ((key.now ≡ most.now) ⊎ O.below key.now most.now) ((key.now ≡ most.now) ⊎ O.below key.now most.now → ⊥) }
+{
+    if key == most {
+        return true;
+    }
+    O::is_below(key, most)
 }
 
 /// Law: no bytes are the encoding of two lists of pairs.

@@ -10,29 +10,31 @@ ghost use Rattle.browse.specs.Forms.{text_in};
 
 use crate::ending::{FOUND, NONE, REFUSED, cache_blocks};
 use crate::form::{Form, push_in_form};
-use crate::refusal::push_refusal;
+use crate::refusal::{push_refusal, tell};
 use coding::{Bytes, DbError};
 use ikey::KeyOrder;
 use reader::{ReadOnly, Reader};
-use script::{Fault, write_all};
+use script::{Fault, Listener, write_all};
 use std::alloc::{AllocError, Global};
 use std::io::Write;
 use store::Store;
 
 /// Prints the value of a key, and answers the exit status: 0 where there is one, 4 where there is none, 1 where the directory is refused.
-/// The store comes back, of which only the reading calls were used.
-pub fn get<K: KeyOrder, S: Store, W: Write>(
+/// The store comes back, of which only the reading calls were used. The listener is told of a refusal.
+pub fn get<K: KeyOrder, S: Store, W: Write, L: Listener>(
     alloc: Global,
     store: ReadOnly<S>,
     key: &[u8],
     form: Form,
     writer: &mut W,
+    listener: &mut L,
 ) -> (Result<u8, Fault>, ReadOnly<S>)
     ensures told { IfOk result.0 (Gets (order_of K.name K.cmp) (looked_at S.facts store) (looked_at S.facts result.1) key.now form (W.contents writer.old) (W.contents writer.new)) }
     // Over any store, and where the value couldn't be written:
     ensures reads { Reads (looked_at S.facts store) (looked_at S.facts result.1) }
 {
     let (answer, store) = read_value::<K, S>(alloc, store, key);
+    tell(listener, &answer);
     let status = print_value(alloc, &answer, form, writer);
     (status, store)
 }

@@ -5,14 +5,13 @@ use Rattle.std.specs.Map.{lookup_entry, remove_entry}
 use Rattle.std.proofs.lemmas.List.{take-map}
 use Rattle.lru.specs.LruCache.{LruCache, lru_cache, promoted, put_entries}
 use Rattle.lru.proofs.CallerLemmas.{IsPut, Contains-lookup_entry}
+use Rattle.block.specs.Reading.{Contents}
 use Rattle.ikey.specs.Entries.{Pair}
 use Rattle.std.specs.declared.alloc.Global.{Global}
 use Rattle.std.specs.declared.rc.Rc.{Rc}
 use Rattle.table.specs.Frame.{Opened}
-use Rattle.table.specs.declared.handle.Handle.{Handle}
 use Rattle.cache.specs.Blocks.{KeptBlock, IsOf, blocks_when_used, kept_block}
 use Rattle.cache.specs.Shared.{blocks_of}
-use Rattle.cache.specs.declared.slot.SharedBlock.{SharedBlock}
 use Rattle.cache.specs.declared.slot.Slot.{Slot}
 use Rattle.cache.specs.Tables.{KeptTable, IsKeptOf, kept_table, tables_of, tables_when_used}
 use Rattle.cache.specs.Uses.{first_that, all_others, when_used, IsPutFirst}
@@ -56,17 +55,17 @@ module _ {K V X : Type 0} (f : K × V → X) (test : K → Bool) (passes : X →
     put-map new (Err e) done undone = inl (ap (λ (c : LruCache K V). map f c.entries) undone)
 
 -- what is put is this block
-pub block_is : (kept : KeptBlock) (file : ℕ) (handle : Handle) (pairs : List Pair) → IsOf kept file handle pairs → kept ≡ kept_block file handle.offset handle.size pairs
-block_is kept file handle pairs is = λ i. record { file = is.0 i; handle = is.1 i; pairs = is.2 i }
+pub block_is : (kept : KeptBlock) (file index : ℕ) (pairs : List Pair) → IsOf kept file index pairs → kept ≡ kept_block file index pairs
+block_is kept file index pairs is = λ i. record { file = is.0 i; index = is.1 i; pairs = is.2 i }
 
 -- or this table
 pub table_is : (kept : KeptTable) (number : ℕ) (table : Opened) → IsKeptOf kept number table → kept ≡ kept_table number table
 table_is kept number table is = λ i. record { number = is.0 i; table = is.1 i }
 
 -- where nothing is ever kept, a use changes nothing
-pub none_used : {K : Type 0} (blocks : Option (LruCache Slot (SharedBlock K))) (file : ℕ) (handle : Handle) → blocks ≡ None → (blocks_of blocks).blocks ≡ blocks_when_used file handle (blocks_of blocks).blocks
-none_used None file handle e = refl
-none_used (Some cache) file handle e = cc
+pub none_used : (blocks : Option (LruCache Slot (Rc Contents Global))) (file index : ℕ) → blocks ≡ None → (blocks_of blocks).blocks ≡ blocks_when_used file index (blocks_of blocks).blocks
+none_used None file index e = refl
+none_used (Some cache) file index e = cc
 
 pub no_table_used : (tables : Option (LruCache ℕ (Rc Opened Global))) (number : ℕ) → tables ≡ None → (tables_of tables).tables ≡ tables_when_used number (tables_of tables).tables
 no_table_used None number e = refl

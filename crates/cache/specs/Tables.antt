@@ -13,18 +13,18 @@ use Rattle.ikey.specs.Entries.{Pair}
 use Rattle.lru.specs.LruCache.{LruCache}
 use Rattle.store.specs.Files.{Files, Facts}
 use Rattle.table.specs.Frame.{Frame, Opened, IsFrame, IsOversized}
+use Rattle.table.specs.Intact.{IsIntact, IsTornAt, IsUnsupportedAt}
 use Rattle.table.specs.Reading.{Reads, Finds, Refuses}
-use Rattle.table.specs.Refusals.{IsDamaged, IsUnsupported, IsFrameDamaged, IsFrameUnsupported}
-use Rattle.table.specs.Table.{HasBlock}
-use Rattle.table.specs.declared.handle.Handle.{Handle}
+use Rattle.table.specs.Refusals.{IsFrameDamaged, IsFrameUnsupported}
 use Rattle.cache.specs.Uses.{when_used, IsPutFirst}
 
--- what a table that is open answers of the block at a handle, and what becomes of the store
-pub record ReadsBlock (cmp : List ℕ → List ℕ → Ordering) (table : Opened) (old new : Facts) (handle : Handle) (answer : Result (List Pair) DbError) : Type 0 where
+-- what a table that is open answers of the block of an index, and what becomes of the store
+pub record ReadsBlock (cmp : List ℕ → List ℕ → Ordering) (table : Opened) (old new : Facts) (index : ℕ) (answer : Result (List Pair) DbError) : Type 0 where
   pub reads : Reads old new
-  pub found : IfOk answer (λ pairs. Finds old new table.name (λ file. HasBlock cmp file handle pairs))
+  pub found : IfOk answer (λ pairs. Finds old new table.name (λ file. IsIntact cmp file table.frame.places index pairs))
   pub stood : IfOk answer (λ _. new.failures ≡ old.failures)
-  pub refused : IfErr answer (λ e. Refuses e old new table.name (λ file. IsDamaged cmp file handle) (λ file. IsUnsupported file handle))
+  pub refused : IfErr answer (λ e. Refuses e old new table.name (λ file. IsTornAt cmp file table.frame.places index)
+      (λ file. IsUnsupportedAt file table.frame.places index))
 
 -- The bytes of a table: of the file that ends in `.ldb` or, where there is none, of the one that ends in `.sst`,
 -- as older writers named it.

@@ -6,7 +6,7 @@ ghost use Rattle.cache.specs.Holding.{BlocksLast};
 ghost use Rattle.cache.specs.Shared.{blocks_in};
 
 use crate::read_block::ReadBlock;
-use crate::slot::{SharedBlock, Slot};
+use crate::slot::Slot;
 use block::Block;
 use coding::DbError;
 use ikey::{Internal, KeyOrder};
@@ -16,15 +16,15 @@ use std::marker::Model;
 use std::num::NonZeroUsize;
 use std::rc::Rc;
 use store::Store;
-use table::{Handle, Table};
+use table::Table;
 
-/// Blocks that were read, up to a number of them, by the number of their table and their place in it (LevelDB's
+/// Blocks that were read, up to a number of them, by the number of their table and their index in it (LevelDB's
 /// util/cache.cc). Where there are too many, the least recently used goes. Contracts see the blocks that are kept, the
 /// most recently used first, and how many there may be.
 #[derive(Drop)]
 pub struct BlockCache<K: KeyOrder> {
     // None where nothing is ever kept.
-    blocks: Option<LruCache<Slot, SharedBlock<K>>>,
+    blocks: Option<LruCache<Slot, Rc<Block<Internal<K>>>>>,
 }
 
 impl<K: KeyOrder> Model for BlockCache<K> {
@@ -40,7 +40,7 @@ impl<K: KeyOrder> BlockCache<K> {
     ghost use Rattle.std.specs.Prelude.{◌≡◌, ◌==◌, ◌≤◌, ◌⊎◌, ℕ, List, Option, [], length, IsTrue, Contains, IfOk, IfErr, OnOk, IsSome, MatchOption};
     ghost use Rattle.std.specs.NonZero.{non_zero_usize_get};
     ghost use Rattle.ikey.specs.Entries.{Pair};
-    ghost use Rattle.table.specs.Refusals.{IsDamaged, IsUnsupported};
+    ghost use Rattle.table.specs.Intact.{IsTornAt, IsUnsupportedAt};
     ghost use Rattle.table.specs.Reading.{Reads, Refuses};
     ghost use Rattle.cache.specs.Holding.{HoldsBlocks, HasContent, IsBlockOf};
     ghost use Rattle.cache.specs.Blocks.{KeptBlock, answer_of, answer_if, blocks_when_used, kept_at, Hits, IsAnswered, IsAnswerPut, IsBlockPut, IsOf};
@@ -82,7 +82,7 @@ impl<K: KeyOrder> BlockCache<K> {
         self.len() == 0
     }
 
-    /// The block at a handle of the table of this number: the one that is kept or, where none is, what the reader
+    /// The block of an index of the table of this number: the one that is kept or, where none is, what the reader
     /// answers, which is kept from then on where it is a block and there is memory to keep it. OutOfMemory, for a kept
     /// block, where it has as many owners as can be counted.
     pub fn fetch<Source, R: ReadBlock<K, Source>>(
@@ -91,134 +91,121 @@ impl<K: KeyOrder> BlockCache<K> {
         source: &mut Source,
         reader: &R,
         file: u64,
-        handle: Handle,
+        index: usize,
     ) -> Result<Rc<Block<Internal<K>>>, DbError>
         // A kept block is answered, and the source isn't asked. Else the answer is the reader's.
-        ensures answer { MatchOption (kept_at self.old.blocks file handle)
-            (R.reads reader.now source.old source.new handle (answer_of result))
+        ensures answer { MatchOption (kept_at self.old.blocks file index)
+            (R.reads reader.now source.old source.new index (answer_of result))
             (λ pairs. Hits pairs (answer_of result) × (source.new ≡ source.old)) }
         // What is kept was kept before, or is what was answered. So a refusal isn't kept.
-        ensures kept { (kept : KeptBlock) → Contains self.new.blocks kept → Contains self.old.blocks kept ⊎ IsAnswered kept file handle (answer_of result) }
+        ensures kept { (kept : KeptBlock) → Contains self.new.blocks kept → Contains self.old.blocks kept ⊎ IsAnswered kept file index (answer_of result) }
         // The block goes first, so that the last one is let go where there are too many.
-        ensures order { MatchOption (kept_at self.old.blocks file handle)
-            (IsAnswerPut file handle (answer_of result) self.old.capacity (blocks_when_used file handle self.old.blocks) self.new.blocks)
-            (λ _. self.new.blocks ≡ blocks_when_used file handle self.old.blocks) }
+        ensures order { MatchOption (kept_at self.old.blocks file index)
+            (IsAnswerPut file index (answer_of result) self.old.capacity (blocks_when_used file index self.old.blocks) self.new.blocks)
+            (λ _. self.new.blocks ≡ blocks_when_used file index self.old.blocks) }
         ensures capacity { self.new.capacity ≡ self.old.capacity }
     {
-        if let Some(block) = self.find(file, handle)? {
+        if let Some(block) = self.find(file, index)? {
             return Ok(block);
         }
-        let block = reader.read(alloc, source, handle)?;
-        self.keep(file, handle, &block);
+        let block = reader.read(alloc, source, index)?;
+        self.keep(file, index, &block);
         Ok(block)
     }
 
-    /// The data block at a handle of this open table, which has this number: by `fetch`. Corrupt and Unsupported as
-    /// `Table::read_block`.
+    /// The data block of an index of this open table, which has this number: by `fetch`. Corrupt and Unsupported as
+    /// `Table::block_at`.
     pub fn read_block<S: Store>(
         &mut self,
         alloc: Global,
         store: &mut S,
         table: &Table<K>,
         file: u64,
-        handle: Handle,
+        index: usize,
     ) -> Result<Rc<Block<Internal<K>>>, DbError>
         ensures reads { Reads (S.facts store.old) (S.facts store.new) }
         // Where each kept block is that of its table, so is the one that is answered, and so are those kept afterwards.
-        ensures found { (content : ℕ → Option (List ℕ)) → HoldsBlocks K.cmp content self.old.blocks → HasContent content file (S.facts store.old) table.now.name
-            → IsTrue (S.facts store.new).faithful → IfOk (answer_of result) (λ pairs. IsBlockOf K.cmp content file handle pairs) }
-        ensures holds { (content : ℕ → Option (List ℕ)) → HoldsBlocks K.cmp content self.old.blocks → HasContent content file (S.facts store.old) table.now.name
+        ensures found { (content : ℕ → Option (List ℕ)) → HoldsBlocks K.cmp content self.old.blocks → HasContent K.cmp content file (S.facts store.old) table.now
+            → IsTrue (S.facts store.new).faithful → IfOk (answer_of result) (λ pairs. IsBlockOf K.cmp content file index pairs) }
+        ensures holds { (content : ℕ → Option (List ℕ)) → HoldsBlocks K.cmp content self.old.blocks → HasContent K.cmp content file (S.facts store.old) table.now
             → IsTrue (S.facts store.new).faithful → HoldsBlocks K.cmp content self.new.blocks }
         // What is kept was kept before, or is of this table.
         ensures kept { (kept : KeptBlock) → Contains self.new.blocks kept → Contains self.old.blocks kept ⊎ (kept.file ≡ file) }
         ensures stood { OnOk result ((S.facts store.new).failures ≡ (S.facts store.old).failures) }
         ensures refused { IfErr (answer_of result) (λ e. Refuses e (S.facts store.old) (S.facts store.new) table.now.name
-            (λ bytes. IsDamaged K.cmp bytes handle) (λ bytes. IsUnsupported bytes handle)) }
+            (λ bytes. IsTornAt K.cmp bytes table.now.frame.places index) (λ bytes. IsUnsupportedAt bytes table.now.frame.places index)) }
         ensures capacity { self.new.capacity ≡ self.old.capacity }
     {
-        self.fetch(alloc, store, table, file, handle)
+        self.fetch(alloc, store, table, file, index)
     }
 
     // The block that is kept.
     fn find(
         &mut self,
         file: u64,
-        handle: Handle,
+        index: usize,
     ) -> Result<Option<Rc<Block<Internal<K>>>>, AllocError>
-        ensures found { IfOk result (λ found. kept_at self.old.blocks file handle ≡ answer_if found) }
-        ensures refused { IfErr result (λ _. IsSome (kept_at self.old.blocks file handle)) }
+        ensures found { IfOk result (λ found. kept_at self.old.blocks file index ≡ answer_if found) }
+        ensures refused { IfErr result (λ _. IsSome (kept_at self.old.blocks file index)) }
         ensures kept { (kept : KeptBlock) → Contains self.new.blocks kept → Contains self.old.blocks kept }
-        ensures order { self.new.blocks ≡ blocks_when_used file handle self.old.blocks }
+        ensures order { self.new.blocks ≡ blocks_when_used file index self.old.blocks }
         ensures capacity { self.new.capacity ≡ self.old.capacity }
     {
         let Some(blocks) = &mut self.blocks else {
             return Ok(None);
         };
-        find_in(blocks, file, handle)
+        find_in(blocks, file, index)
     }
 
     // Keeps the block, where there is memory for it.
-    fn keep(&mut self, file: u64, handle: Handle, block: &Rc<Block<Internal<K>>>)
-        ensures kept { (kept : KeptBlock) → Contains self.new.blocks kept → Contains self.old.blocks kept ⊎ IsOf kept file handle block.now.value.pairs }
-        ensures order { IsBlockPut file handle block.now.value.pairs self.old.capacity self.old.blocks self.new.blocks }
+    fn keep(&mut self, file: u64, index: usize, block: &Rc<Block<Internal<K>>>)
+        ensures kept { (kept : KeptBlock) → Contains self.new.blocks kept → Contains self.old.blocks kept ⊎ IsOf kept file index block.now.value.pairs }
+        ensures order { IsBlockPut file index block.now.value.pairs self.old.capacity self.old.blocks self.new.blocks }
         ensures capacity { self.new.capacity ≡ self.old.capacity }
     {
         let Some(blocks) = &mut self.blocks else {
             return;
         };
-        keep_in(blocks, file, handle, block);
+        keep_in(blocks, file, index, block);
     }
 }
 
 // The block that is kept.
 fn find_in<K: KeyOrder>(
-    blocks: &mut LruCache<Slot, SharedBlock<K>>,
+    blocks: &mut LruCache<Slot, Rc<Block<Internal<K>>>>,
     file: u64,
-    handle: Handle,
+    index: usize,
 ) -> Result<Option<Rc<Block<Internal<K>>>>, AllocError>
-    ensures found { IfOk result (λ found. kept_at (blocks_in blocks.old.entries) file handle ≡ answer_if found) }
-    ensures refused { IfErr result (λ _. IsSome (kept_at (blocks_in blocks.old.entries) file handle)) }
+    ensures found { IfOk result (λ found. kept_at (blocks_in blocks.old.entries) file index ≡ answer_if found) }
+    ensures refused { IfErr result (λ _. IsSome (kept_at (blocks_in blocks.old.entries) file index)) }
     ensures kept { (kept : KeptBlock) → Contains (blocks_in blocks.new.entries) kept → Contains (blocks_in blocks.old.entries) kept }
-    ensures order { blocks_in blocks.new.entries ≡ blocks_when_used file handle (blocks_in blocks.old.entries) }
+    ensures order { blocks_in blocks.new.entries ≡ blocks_when_used file index (blocks_in blocks.old.entries) }
     ensures capacity { blocks.new.cap ≡ blocks.old.cap }
 {
-    let slot = Slot {
-        file,
-        offset: handle.offset,
-    };
+    let slot = Slot { file, index };
     let Some(shared) = blocks.get(&slot) else {
         return Ok(None);
     };
-    if shared.size != handle.size {
-        return Ok(None);
-    }
-    let block = shared.block.clone()?;
+    let block = shared.clone()?;
     Ok(Some(block))
 }
 
 // Keeps the block, where there is memory for it.
 fn keep_in<K: KeyOrder>(
-    blocks: &mut LruCache<Slot, SharedBlock<K>>,
+    blocks: &mut LruCache<Slot, Rc<Block<Internal<K>>>>,
     file: u64,
-    handle: Handle,
+    index: usize,
     block: &Rc<Block<Internal<K>>>,
 )
-    ensures kept { (kept : KeptBlock) → Contains (blocks_in blocks.new.entries) kept → Contains (blocks_in blocks.old.entries) kept ⊎ IsOf kept file handle block.now.value.pairs }
-    ensures order { IsBlockPut file handle block.now.value.pairs blocks.old.cap (blocks_in blocks.old.entries) (blocks_in blocks.new.entries) }
+    ensures kept { (kept : KeptBlock) → Contains (blocks_in blocks.new.entries) kept → Contains (blocks_in blocks.old.entries) kept ⊎ IsOf kept file index block.now.value.pairs }
+    ensures order { IsBlockPut file index block.now.value.pairs blocks.old.cap (blocks_in blocks.old.entries) (blocks_in blocks.new.entries) }
     ensures capacity { blocks.new.cap ≡ blocks.old.cap }
 {
-    let slot = Slot {
-        file,
-        offset: handle.offset,
-    };
+    let slot = Slot { file, index };
     let Ok(block) = block.clone() else {
         return;
     };
-    let shared = SharedBlock {
-        size: handle.size,
-        block,
-    };
-    let _ = blocks.put(slot, shared);
+    let _ = blocks.put(slot, block);
 }
 
 /// Law: what is kept stays right while tables come into use under new numbers and go out of use.

@@ -1,5 +1,5 @@
 -- The cursor beneath a walk comes beside the walk's pair.
-use Rattle.std.proofs.Common.{◌≡◌, ℕ, zero, suc, Bool, true, false, List, Option, Some, None, is_some, refl, sym, ap, ◌∙◌, subst}
+use Rattle.std.proofs.Common.{◌≡◌, ℕ, zero, suc, Bool, true, false, List, Option, Some, None, is_some, refl, sym, ap, ◌∙◌, subst, arith, inl, inr}
 use Rattle.std.specs.List.{slice_get}
 use Rattle.std.specs.FinMap.{IsAntisymmetric}
 use Rattle.std.specs.Cmp.{IsTotalOrder}
@@ -13,6 +13,8 @@ use Rattle.cursor.specs.Views.{IsVisible, is_user_below}
 use Rattle.cursor.specs.Searches.{StandsBetween, FromOn}
 use Rattle.cursor.proofs.Leading.{within_some}
 use Rattle.cursor.proofs.Beginnings.{at_entry, behind_entry, user_between, again_at}
+use Rattle.cursor.proofs.Befores.{same_get, no_less_itself}
+use Rattle.cursor.proofs.Onwards.{index_cases}
 
 -- from the last in front to the first behind
 pub ahead_next : {A : Type 0} (xs : List A) (n : ℕ) → is_some (index_before n) ≡ true → (i : ℕ) × (index_before n ≡ Some i) × (within xs n ≡ index_behind xs i)
@@ -55,6 +57,25 @@ module _ {C S : Type 0} (cmp : Cmp) (total : IsTotalOrder cmp) (exact : IsAntisy
           at.0,
           subst (λ (p : Option ℕ). lists c s (listed entries p)) (at.1 ∙ sym (within_some entries at.0 less)) l,
           subst (StandsBetween cmp entries at.0) (sym same) (at_entry cmp total exact entries (rises c s (listed entries place) l) sequence at.0 entry at.2),
+        )
+
+    -- from the entry itself to the one behind it
+    pub here_past : (place : Option ℕ) (i : ℕ) → lists c s (listed entries place) → slice_get entries i ≡ Some entry → lists d t (listed entries (within entries (suc i)))
+        → (index : ℕ) × lists d t (listed entries (within entries index)) × StandsBetween cmp entries index user
+    here_past place i l e behind =
+        let h = at_entry cmp total exact entries (rises c s (listed entries place) l) sequence i entry e in (
+          suc i,
+          behind,
+          subst (StandsBetween cmp entries (suc i)) (sym same) (record {
+            front = λ k other less f. elim (index_cases k i) [
+              | inl before ↦ h.front k other before f
+              | inr (inl is) ↦
+                  let it : other ≡ entry = same_get entries i other entry (subst (λ (n : ℕ). slice_get entries n ≡ Some other) is f) e in
+                  ap (λ (y : InternalEntry). is_less (cmp entry.key.user y.key.user)) it ∙ no_less_itself cmp total exact entry.key.user
+              | inr (inr after) ↦ absurd (omega (arith, less, after))
+            ];
+            rest = λ k other le f. h.rest k other (omega (arith, le)) f;
+          }),
         )
 
     pub here_behind : (place : Option ℕ) → lists c s (listed entries place) → entry_at entries place ≡ Some entry

@@ -12,7 +12,7 @@ ghost use Rattle.cursor.specs.Searches.{Wanders, StandsBetween, FromOn};
 ghost use Rattle.cursor.specs.Standing.{StandsAt, bound_if};
 
 use crate::cursor::Cursor;
-use crate::stepping::step_ahead;
+use crate::stepping::{step_ahead, step_off};
 use coding::DbError;
 use ikey::{KeyOrder, seek_key};
 use std::alloc::Global;
@@ -29,7 +29,7 @@ pub enum Position {
 }
 
 /// Has the cursor stand behind all entries of lower user keys, and in front of those that are older than the pair's or of
-/// higher user keys.
+/// higher user keys: not on the pair's own, which needn't be looked at again.
 pub fn stand_ahead<K: KeyOrder, S, C: Cursor<K, S>>(
     cursor: &mut C,
     alloc: Global,
@@ -50,7 +50,10 @@ pub fn stand_ahead<K: KeyOrder, S, C: Cursor<K, S>>(
     ensures refused { RefusesMove C.facts C.lists C.limited cursor.old source.old source.new result }
 {
     match position {
-        Position::Here => Ok(()),
+        Position::Here => {
+            step_off(cursor, alloc, source)?;
+            Ok(())
+        }
         Position::Behind => {
             step_ahead(cursor, alloc, source)?;
             Ok(())

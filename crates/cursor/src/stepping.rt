@@ -1,6 +1,7 @@
 //! Steps over a place in a list: the entries in front of it pass a test, and those behind it don't.
 
-ghost use Rattle.std.specs.Prelude.{List, Bool, IsTrue};
+ghost use Rattle.std.specs.Prelude.{List, Bool, ℕ, suc, Some, OnOk, IsTrue};
+ghost use Rattle.cursor.specs.Places.{within};
 ghost use Rattle.ikey.specs.Entries.{InternalEntry};
 ghost use Rattle.table.specs.Reading.{IsStill};
 ghost use Rattle.cursor.specs.Moves.{Stays, place_after, RefusesMove};
@@ -29,6 +30,26 @@ pub fn step_ahead<K: KeyOrder, S, C: Cursor<K, S>>(
         return cursor.next(alloc, source);
     }
     cursor.first(alloc, source)
+}
+
+/// From an entry to the one behind it.
+pub fn step_off<K: KeyOrder, S, C: Cursor<K, S>>(
+    cursor: &mut C,
+    alloc: Global,
+    source: &mut S,
+) -> Result<(), DbError>
+    ensures moves { IsTrue (C.facts source.new).faithful → (list : List InternalEntry) (index : ℕ)
+        → C.lists cursor.old source.old (listed list (Some index))
+        → OnOk result (C.lists cursor.new source.new (listed list (within list (suc index)))) }
+    ensures wanders { Wanders C.facts C.lists C.keeps C.limited C.leaves C.over cursor.old cursor.new source.old source.new }
+    ensures still { IsStill (C.facts source.old) (C.facts source.new) result }
+    ensures refused { RefusesMove C.facts C.lists C.limited cursor.old source.old source.new result }
+{
+    if !cursor.stands() {
+        // (only over a store that isn't faithful)
+        return Ok(());
+    }
+    cursor.next(alloc, source)
 }
 
 /// From the first entry that isn't in front of a place to the last that is.

@@ -151,14 +151,23 @@ impl<K: KeyOrder> DbState<K> {
         // Laws, for the proof alone.
         sound_lasts();
         one_directory();
-        let Some(mut job) = self.job.take() else {
+        let Some(running) = &mut self.job else {
             unreachable!()
         };
-        let progress = job.step(alloc, source, &mut self.directory.numbers, budget)?;
+        let stepped = running.step(alloc, source, &mut self.directory.numbers, budget);
+        let progress = match stepped {
+            Ok(progress) => progress,
+            Err(error) => {
+                self.job = None;
+                return Err(error);
+            }
+        };
         if !progress.ended {
-            self.job = Some(job);
             return Ok(false);
         }
+        let Some(job) = self.job.take() else {
+            unreachable!()
+        };
         source.memory.are_bounded();
         let last_sequence = source.memory.last();
         match job.install(

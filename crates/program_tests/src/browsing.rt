@@ -5,6 +5,7 @@ use coding::DbError;
 use engine::{Db, Ids, KeyRange, Mode, Options};
 use ikey::{Bytewise, KeyOrder, ReverseBytes};
 use reader::ReadOnly;
+use script::Nobody;
 use std::alloc::{AllocGlobal, Global};
 use std::test::Fail;
 use store::{MemStore, Store, StoreError};
@@ -49,7 +50,7 @@ fn put_all<K: KeyOrder>(alloc: Global, db: &mut Db<MemStore, K>) -> Result<(), D
 }
 
 // (one way out while the database is owned: more are dear to prove)
-fn written<K: KeyOrder>(alloc: Global) -> Result<MemStore, DbError> {
+pub fn written<K: KeyOrder>(alloc: Global) -> Result<MemStore, DbError> {
     let mut db = opened::<K>(alloc)?;
     let done = put_all(alloc, &mut db);
     let (store, _) = db.close();
@@ -100,7 +101,13 @@ const CASES: [Case<'static>; 21] = [
 // Whether a scan prints this; the store comes back.
 fn scans<K: KeyOrder>(alloc: Global, store: Looked, choice: &Choice, text: &str) -> (bool, Looked) {
     let mut printed = Vec::new(alloc);
-    let (status, store) = scan::<K, MemStore, Vec<u8>>(alloc, store, choice, &mut printed);
+    let (status, store) = scan::<K, MemStore, Vec<u8>, Nobody>(
+        alloc,
+        store,
+        choice,
+        &mut printed,
+        &mut Nobody,
+    );
     let same = matches!(status, Ok(0)) && printed.as_slice() == text.as_bytes();
     (same, store)
 }
@@ -184,7 +191,14 @@ fn gets(
     wanted: (&str, u8),
 ) -> (bool, Looked) {
     let mut printed = Vec::new(alloc);
-    let (status, store) = get::<Bytewise, MemStore, Vec<u8>>(alloc, store, key, form, &mut printed);
+    let (status, store) = get::<Bytewise, MemStore, Vec<u8>, Nobody>(
+        alloc,
+        store,
+        key,
+        form,
+        &mut printed,
+        &mut Nobody,
+    );
     let same = matches!(status, Ok(code) if code == wanted.1)
         && printed.as_slice() == wanted.0.as_bytes();
     (same, store)
@@ -239,7 +253,13 @@ fn refusals(alloc: Global, store: MemStore, text: &str) -> (bool, bool) {
     let (first, store) = gets(alloc, store, b"a", Form::Hex, (text, 1));
     let mut printed = Vec::new(alloc);
     let all = Choice::of_all_puts();
-    let (status, _) = scan::<Bytewise, MemStore, Vec<u8>>(alloc, store, &all, &mut printed);
+    let (status, _) = scan::<Bytewise, MemStore, Vec<u8>, Nobody>(
+        alloc,
+        store,
+        &all,
+        &mut printed,
+        &mut Nobody,
+    );
     let second = matches!(status, Ok(1)) && printed.as_slice() == text.as_bytes();
     (first, second)
 }

@@ -5,6 +5,8 @@
 #[cfg(test)]
 mod browsing;
 #[cfg(test)]
+mod looking;
+#[cfg(test)]
 mod programs;
 #[cfg(test)]
 mod scripts;

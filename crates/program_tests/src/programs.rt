@@ -96,15 +96,9 @@ const STEPS: [(&[&str], &str, u8, &str, bool); 41] = [
         true,
     ),
     (&["check", "DIR"], "", 0, "empty\n", true),
-    (
-        &["get", "DIR", "61"],
-        "",
-        1,
-        "refused 3 NoDatabase\n",
-        false,
-    ),
-    (&["compact", "DIR"], "", 1, "refused 3 NoDatabase\n", false),
-    (&["run", "DIR"], SCRIPT, 0, ANSWERS, false),
+    (&["get", "DIR", "61"], "", 1, "refused 3 NoDatabase\n", true),
+    (&["compact", "DIR"], "", 1, "refused 3 NoDatabase\n", true),
+    (&["run", "DIR"], SCRIPT, 0, ANSWERS, true),
     (
         &["check", "DIR"],
         "",
@@ -138,21 +132,21 @@ const STEPS: [(&[&str], &str, u8, &str, bool); 41] = [
         "open\n",
         0,
         "refused 6 Unsupported\n",
-        false,
+        true,
     ),
     (
         &["check", "--order", "reverse", "DIR"],
         "",
         1,
         "refused 6 Unsupported\n",
-        false,
+        true,
     ),
     (
         &["dump", "--order=reverse", "DIR"],
         "",
         1,
         "refused 6 Unsupported\n",
-        false,
+        true,
     ),
     (
         &["run", "--order", "bytes", "DIR"],
@@ -185,7 +179,7 @@ const STEPS: [(&[&str], &str, u8, &str, bool); 41] = [
         "put 63 33\nx\n",
         1,
         "refused 20 BadLine\ntaken 1\n",
-        false,
+        true,
     ),
     (
         &["scan", "--reverse", "--limit", "1", "DIR"],
@@ -207,7 +201,7 @@ const STEPS: [(&[&str], &str, u8, &str, bool); 41] = [
         "open\nx\nget 63\n",
         3,
         "ok\nrefused 20 BadLine\n",
-        false,
+        true,
     ),
     (
         &["run", "--work", "auto", "DIR"],
@@ -277,7 +271,7 @@ fn a_refused_directory_has_status_one(rt: HostRuntime) -> Result<(), Fail> {
                 "",
                 1,
                 "refused 5 Corrupt\n",
-                false
+                true
             ),
             "{verb}"
         );

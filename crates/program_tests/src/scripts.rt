@@ -2,3 +2,4 @@
 mod imports;
 mod lines;
 mod runs;
+mod tellings;

@@ -24,7 +24,7 @@ use Rattle.recover.specs.Report.{IsSummary, IsLongTable, AnyHasBytes, table_summ
 use Rattle.recover.specs.Tables.{TableContent, HasTables, InTables, AreTables}
 use Rattle.recover.proofs.Memberships.{from_tabled, to_tabled}
 use Rattle.recover.proofs.PairChecks.{newer_from, newer_to}
-use Rattle.recover.proofs.Refused.{refuses_later, refuses_bytes}
+use Rattle.recover.proofs.Refused.{refuses_later, refuses_bytes, refuses_more}
 use Rattle.recover.proofs.SaidNumbers.{beyond_past}
 use Rattle.recover.proofs.WholeReading.{recovered_parts}
 
@@ -138,14 +138,6 @@ IsRefused order files = (IsEmpty files → ⊥) × PassesLimit order files
 
 pub current_there : (files : Files) (listing : Listing) → IsListing files listing → listing.has_current ≡ true → IsEmpty files → ⊥
 current_there files listing l there e = let t : is_some {T = List ℕ} None ≡ true = ap is_some (sym e.current) ∙ sym l.current ∙ there in cc
-
-pub unchanged_of : {T : Type 0} (a b : Facts) (result : Result T DbError) → ReadsDirectory a b result → IsUnchanged a b
-unchanged_of a b result h = record { faithful = h.faithful; failures = h.failures; denials = h.denials; locked = h.locked; same = h.same; synced = h.synced }
-
-pub not_listed : {T : Type 0} (order : Order) (e : DbError) (a b : Facts) (result : Result T DbError) → ReadsDirectory a b result → result ≡ Err e → (e ≡ OutOfMemory) ⊎ (e ≡ Io) → RefusesDirectory e a b (IsDamagedAll order a.files) (IsRefused order a.files)
-not_listed order e a b result h is (inl memory) = subst (λ (x : DbError). RefusesDirectory x a b (IsDamagedAll order a.files) (IsRefused order a.files)) (sym memory) tt
-not_listed order e a b result h is (inr io) =
-    subst (λ (x : DbError). RefusesDirectory x a b (IsDamagedAll order a.files) (IsRefused order a.files)) (sym io) (h.io (is ∙ ap (λ (x : DbError). Err x) io))
 
 pub not_none : (order : Order) (e : DbError) (a b : Facts) (listing : Listing) → IsUnchanged a b → (IsTrue b.faithful → IsListing a.files listing) → listing.has_current ≡ false
     → RefusesBytes e ((o : Order) (files : Files) → IsListing files listing → listing.has_current ≡ false → (IsEmpty files → ⊥) × IsInconsistent o files) ⊥ → RefusesDirectory e a b (IsDamagedAll order a.files) (IsRefused order a.files)

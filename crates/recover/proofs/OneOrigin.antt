@@ -15,8 +15,8 @@ use Rattle.recover.specs.Entries.{RiseAbove, greatest}
 use Rattle.recover.specs.Limits.{TellsUnsupported}
 use Rattle.recover.specs.Logs.{LogContent, HasLog, HasLogs, InLogs, IsLive, batch_entries, logged}
 use Rattle.recover.specs.Origins.{HasEntries, HasNoEntries, PassesLimitAt, IsPlacedAt, IsOriginRead, IsUnreadable, IsUnsupportedAt, IsBeyondOrigin}
-use Rattle.recover.specs.internal.Parts.{IsUnchanged, HasNoManifest, SaysManifest}
-use Rattle.recover.specs.Reading.{RefusesDirectory, IsBeyondReading}
+use Rattle.recover.specs.internal.Parts.{IsUnchanged, SaysManifest}
+use Rattle.recover.specs.Reading.{HasNoManifest, RefusesDirectory, IsBeyondReading}
 use Rattle.recover.specs.Report.{IsLongTable, HasBytes, AnyHasBytes}
 use Rattle.recover.specs.Tables.{TableContent, HasTable, HasTables, InTables}
 use Rattle.recover.proofs.Keeping.{live_of, same_live}

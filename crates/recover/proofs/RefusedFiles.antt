@@ -12,8 +12,8 @@ use Rattle.edits.proofs.FileNames.{length-padded}
 use Rattle.store.specs.Files.{Files, Facts}
 use Rattle.recover.specs.Entries.{RiseAbove}
 use Rattle.recover.specs.Logs.{LogContent, HasLog, batch_entries}
-use Rattle.recover.specs.internal.Parts.{IsUnchanged, HoldsNoLog, HasNoManifest}
-use Rattle.recover.specs.Reading.{RefusesDirectory, IsBeyondReading}
+use Rattle.recover.specs.internal.Parts.{IsUnchanged, HoldsNoLog}
+use Rattle.recover.specs.Reading.{HasNoManifest, RefusesDirectory, IsBeyondReading}
 use Rattle.recover.proofs.OneMeaning.{same_current}
 use Rattle.recover.proofs.Refused.{unchanged_itself, refuses_later}
 

@@ -18,10 +18,10 @@ use Rattle.std.specs.FinMap.{get}
 use Rattle.store.specs.Files.{Files, Facts}
 use Rattle.edits.specs.Names.{name_of, IsNumbered}
 use Rattle.edits.specs.declared.names.FileName.TheVariants.{Current, Manifest}
-use Rattle.recover.specs.Reading.{RefusesDirectory, SpellsBeyond, IsBeyondReading}
+use Rattle.recover.specs.Reading.{HasNoManifest, RefusesDirectory, SpellsBeyond, IsBeyondReading}
 use Rattle.recover.specs.internal.Changes.{BeyondLaw}
 use Rattle.recover.specs.Directory.{AreEdits, IsManifest, HasManifest}
-use Rattle.recover.specs.internal.Parts.{number_in, highest_in, RefusesBytes, in_file, IsUnchanged, ArePastLimit, SpellsNone, HasNoManifest}
+use Rattle.recover.specs.internal.Parts.{number_in, highest_in, RefusesBytes, in_file, IsUnchanged, ArePastLimit, SpellsNone}
 use Rattle.recover.proofs.OneMeaning.{same_edits, same_current, same_content}
 use Rattle.recover.proofs.Refused.{refuses_for, refuses_more, refuses_bytes}
 

@@ -12,6 +12,7 @@ use Rattle.edits.specs.Edit.{HasPastLimit}
 use Rattle.edits.specs.Layout.{fields_of, AreOfOther}
 use Rattle.edits.specs.Names.{name_of, IsFileName, IsNumbered}
 use Rattle.edits.specs.declared.field.Field.{Field}
+use Rattle.edits.specs.declared.layout.Layout.{Layout}
 use Rattle.edits.specs.declared.names.FileName.{FileName}
 use Rattle.edits.specs.declared.names.FileName.TheVariants.{Current, Log, Table, OldTable, Manifest}
 use Rattle.recover.specs.declared.listing.Listing.{Listing}
@@ -110,6 +111,10 @@ RefusesDirectory _ old new damaged unsupported = ⊥
 
 abbrev pub IsInconsistent : Order → Files → Type 0
 IsInconsistent order files = (d : Directory) → IsConsistent order files d → ⊥
+
+-- no MANIFEST that can be read
+abbrev pub HasNoManifest : Order → Files → Type 0
+HasNoManifest order files = (number : ℕ) (edits : List (List Field)) (layout : Layout) → HasManifest order files number edits layout → ⊥
 
 -- The bytes are a log, and so many of its first records are edits that name a table past the limit of numbers, or all
 -- of them are edits, of another order of keys.

@@ -9,6 +9,7 @@ mod listing;
 mod log_files;
 mod manifest;
 mod origins;
+mod overview;
 mod ranges;
 mod reading;
 mod replay;
@@ -25,6 +26,7 @@ pub use laws::{
 };
 pub use listing::{Listing, first_number, list_directory};
 pub use origins::{Origin, file_entries};
+pub use overview::{LogLength, Overview, overview_of};
 pub use reading::{Recovered, read_directory};
 pub use report::{LogSummary, Report, Summary, TableSummary};
 pub use tables::{FoundTable, find_table};

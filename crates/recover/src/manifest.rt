@@ -9,8 +9,8 @@ ghost use Rattle.edits.specs.Names.{name_of, IsNumbered};
 ghost use Rattle.edits.specs.Snapshot.{IsKept};
 ghost use Rattle.edits.specs.declared.field.Field.{Field as FieldValue};
 ghost use Rattle.recover.specs.Directory.{AreEdits};
-ghost use Rattle.recover.specs.Reading.{IsCounted, RefusesDirectory, SpellsBeyond, IsBeyondReading};
-ghost use Rattle.recover.specs.internal.Parts.{IsUnchanged, RefusesBytes, number_in, highest_in, SpellsManifest, SpellsNone, ArePastLimit, SaysManifest, HasNoManifest};
+ghost use Rattle.recover.specs.Reading.{HasNoManifest, IsCounted, RefusesDirectory, SpellsBeyond, IsBeyondReading};
+ghost use Rattle.recover.specs.internal.Parts.{IsUnchanged, RefusesBytes, number_in, highest_in, SpellsManifest, SpellsNone, ArePastLimit, SaysManifest};
 
 use crate::files::{read_short_file, refusal_in};
 use crate::log_files::read_log_file;

@@ -10,6 +10,7 @@ ghost use Rattle.script.specs.Commands.{GoesOn, IsRefusal};
 ghost use Rattle.script.specs.Compacting.{compaction_of as compaction_value, AreWorks, AreCompaction, Compacts, StopsCompaction};
 
 use crate::fault::Fault;
+use crate::listener::{Listener, tell_of_answer};
 use crate::output::{push_answer, write_all};
 use crate::steps::{give, is_refusal, shut, status_of};
 use engine::{Answer, Mode, Op, Session};
@@ -23,15 +24,17 @@ const WORK_ENTRIES: u32 = 4_096;
 
 /// Compacts a level, or all of them, of the database that is there: opens it, compacts, works until there is no work,
 /// and closes it. The first refusal ends it, and a database that is open is closed behind that too. Writes `ok`, or the
-/// line of the refusal, and answers the exit status: 0, or 1 where it was refused.
+/// line of the refusal, and answers the exit status: 0, or 1 where it was refused. The listener is told of the
+/// refusal.
 ///
 /// A fault comes of the writer, or for want of memory for the line: all was done then, or refused. (Or work didn't end
 /// within as many pieces as 64 bits count.)
-pub fn compact<S: Store, K: KeyOrder, W: Write>(
+pub fn compact<S: Store, K: KeyOrder, W: Write, L: Listener>(
     alloc: Global,
     session: &mut Session<S, K>,
     level: Option<u32>,
     writer: &mut W,
+    listener: &mut L,
 ) -> Result<u8, Fault>
     ensures done { IfOk result (λ status. Compacts (order_of K.name K.cmp) S.facts level session.old session.new (W.contents writer.old) (W.contents writer.new) status) }
     ensures stopped { OnErr result (StopsCompaction (order_of K.name K.cmp) S.facts level session.old session.new (W.contents writer.old) (W.contents writer.new)) }
@@ -39,6 +42,7 @@ pub fn compact<S: Store, K: KeyOrder, W: Write>(
 {
     let ended = compact_opened(alloc, session, level);
     let _ = shut(alloc, session);
+    tell_of_answer(listener, None, &ended);
     if !is_end(&ended) {
         return Err(Fault::Memory);
     }

@@ -18,6 +18,8 @@ use crate::gathered::Gathered;
 use crate::import_options::Importing;
 use crate::input::read_next_line;
 use crate::line::read_operation_line;
+use crate::listener::{Listener, tell_of_answer, tell_of_bad_line};
+use crate::misread::misread_operation_line;
 use crate::output::{push_answer, write_all};
 use crate::steps::{give, is_refusal, shut, status_of};
 use coding::DbError;
@@ -41,20 +43,21 @@ pub const WORK_PER_OPERATION: u32 = 6;
 /// then, and a database that is open is closed. Writes the line of the refusal, if there was one, and `taken` with the number of
 /// operations of the batches that were taken. Answers the exit status: 0, or 1 where it was refused.
 ///
-/// On a fault some first lines were taken, and the database is closed too.
-pub fn import<S: Store, K: KeyOrder, R: Read + Drop, W: Write>(
+/// On a fault some first lines were taken, and the database is closed too. The listener is told of the refusal.
+pub fn import<S: Store, K: KeyOrder, R: Read + Drop, W: Write, L: Listener>(
     alloc: Global,
     session: &mut Session<S, K>,
     how: &Importing,
     reader: R,
     writer: &mut W,
+    listener: &mut L,
 ) -> Result<u8, Fault>
     ensures done { IfOk result (λ status. Imports (order_of K.name K.cmp) S.facts how.now session.old session.new (R.remaining reader) (W.contents writer.old) (W.contents writer.new) status) }
     ensures stopped { OnErr result (StopsImport (order_of K.name K.cmp) S.facts how.now session.old session.new (R.remaining reader) (W.contents writer.old) (W.contents writer.new)) }
     ensures shut { IsShut session.new }
 {
     let mut taken = 0;
-    let ended = import_closed(alloc, session, how, reader, &mut taken)?;
+    let ended = import_closed(alloc, session, how, reader, &mut taken, listener)?;
     let mut text = Vec::new(alloc);
     push_report(alloc, &mut text, &ended, taken)?;
     write_all(writer, text.as_slice())?;
@@ -62,44 +65,49 @@ pub fn import<S: Store, K: KeyOrder, R: Read + Drop, W: Write>(
 }
 
 // All but the report.
-fn import_closed<S: Store, K: KeyOrder, R: Read + Drop>(
+fn import_closed<S: Store, K: KeyOrder, R: Read + Drop, L: Listener>(
     alloc: Global,
     session: &mut Session<S, K>,
     how: &Importing,
     reader: R,
     taken: &mut u64,
+    listener: &mut L,
 ) -> Result<Answer, Fault>
     requires none { taken.old ≡ 0 }
     ensures ended { IfOk result (λ outcome. EndsClosed (order_of K.name K.cmp) S.facts how.now session.old session.new (R.remaining reader) outcome taken.new) }
     ensures stopped { OnErr result (TakesClosed (order_of K.name K.cmp) S.facts how.now session.old session.new (R.remaining reader)) }
     ensures shut { IsShut session.new }
 {
-    let imported = import_opened(alloc, session, how, reader, taken);
+    let imported = import_opened(alloc, session, how, reader, taken, listener);
     let _ = shut(alloc, session);
     imported
 }
 
 // All but the close.
-fn import_opened<S: Store, K: KeyOrder, R: Read + Drop>(
+fn import_opened<S: Store, K: KeyOrder, R: Read + Drop, L: Listener>(
     alloc: Global,
     session: &mut Session<S, K>,
     how: &Importing,
     reader: R,
     taken: &mut u64,
+    listener: &mut L,
 ) -> Result<Answer, Fault>
     requires none { taken.old ≡ 0 }
     ensures ended { IfOk result (λ outcome. EndsImport (order_of K.name K.cmp) S.facts how.now session.old session.new (R.remaining reader) outcome taken.new) }
     ensures stopped { OnErr result (TakesSome (order_of K.name K.cmp) S.facts how.now session.old session.new (R.remaining reader)) }
 {
     match open_any(alloc, session) {
-        Some(refused) => return Ok(refused),
+        Some(refused) => {
+            tell_of_answer(listener, None, &refused);
+            return Ok(refused);
+        }
         None => {}
     }
     let mut input = match BufReader::with_capacity(alloc, INPUT_BYTES, reader) {
         Ok(input) => input,
         Err(error) => return Err(Fault::Read(error)),
     };
-    let ended = take_lines(alloc, session, how, &mut input, taken)?;
+    let ended = take_lines(alloc, session, how, &mut input, taken, listener)?;
     Ok(ended)
 }
 
@@ -116,30 +124,45 @@ fn open_any<S: Store, K: KeyOrder>(alloc: Global, session: &mut Session<S, K>) -
 }
 
 // Takes the lines that are left, and writes what waits behind them.
-fn take_lines<S: Store, K: KeyOrder, R: Read>(
+fn take_lines<S: Store, K: KeyOrder, R: Read, L: Listener>(
     alloc: Global,
     session: &mut Session<S, K>,
     how: &Importing,
     input: &mut BufReader<R>,
     taken: &mut u64,
+    listener: &mut L,
 ) -> Result<Answer, Fault>
     ensures ended { IfOk result (λ outcome. EndsRest (order_of K.name K.cmp) S.facts how.now session.old session.new (reader_remaining R.remaining input.old) taken.old taken.new outcome) }
     ensures stopped { OnErr result (TakesRest (order_of K.name K.cmp) S.facts how.now session.old session.new (reader_remaining R.remaining input.old) taken.old) }
 {
     let mut line = Vec::new(alloc);
     let mut gathered = Gathered::with_room(alloc, how.batch())?;
+    let mut number = 0_u64;
     // A loop without a measure: as many turns as 64 bits count, which no input has.
     for _ in 0..u64::MAX {
         if !read_next_line(input, &mut line)? {
             let last = write_gathered(alloc, session, how, &mut gathered, true, taken)?;
+            tell_of_answer(listener, None, &last);
             return Ok(last);
         }
+        number = number.saturating_add(1);
         let ended = take_line(alloc, session, how, line.as_slice(), &mut gathered, taken)?;
         if is_refusal(&ended) {
+            tell_of_line(listener, number, line.as_slice(), &ended);
             return Ok(ended);
         }
     }
     Err(Fault::Memory)
+}
+
+// Tells why no line behind this one is taken.
+fn tell_of_line<L: Listener>(listener: &mut L, number: u64, line: &[u8], ended: &Answer) {
+    match ended {
+        Answer::Refused(DbError::BadLine) => {
+            tell_of_bad_line(listener, number, misread_operation_line(line));
+        }
+        _ => tell_of_answer(listener, Some(number), ended),
+    }
 }
 
 // Takes a line: `Done`, or why no more are taken.

@@ -1,10 +1,11 @@
 //! Data blocks, read from a store (LevelDB's `doc/table_format.md`, "data block").
 
-ghost use Rattle.std.specs.Prelude.{◌≡◌, ◌<◌, ◌≤◌, ◌^◌, ◌++◌, ℕ, List, length, map, IfOk, IfErr, OnOk};
+ghost use Rattle.std.specs.Prelude.{◌≡◌, ◌<◌, ◌≤◌, ◌^◌, ◌++◌, ℕ, List, length, map, IfOk, IfErr, OnOk, MatchBool, option_copied};
 ghost use Rattle.std.specs.List.{flat_map};
 ghost use Rattle.block.specs.Block.{IsBlock, Refuses as RefusesBlock};
 ghost use Rattle.ikey.specs.Below.{IsBelowInternal};
 ghost use Rattle.ikey.specs.Entries.{Pair};
+ghost use Rattle.table.specs.Intact.{AreWithin, BeginsWithKey};
 ghost use Rattle.table.specs.Reading.{Reads, Finds, Answers, Refuses};
 ghost use Rattle.table.specs.Refusals.{IsDamaged, IsUnsupported, IsOfOne};
 ghost use Rattle.table.specs.Table.{HasBlock, AreData, IsTable, ArePairs};
@@ -14,9 +15,9 @@ ghost use Rattle.table.specs.declared.handle.Place.{Place as PlaceValue};
 use crate::handle::{Handle, Place};
 use crate::pair::{KeyValue, pairs_in};
 use crate::reading::{read_stored, table_refusal};
-use block::Block;
-use coding::DbError;
-use ikey::{Internal, KeyOrder};
+use block::{Block, Bounds};
+use coding::{Damage, DbError, FileKind};
+use ikey::{Internal, KeyOrder, unpack};
 use std::alloc::{AllocError, Global};
 use store::Store;
 
@@ -39,6 +40,52 @@ pub fn read_data<K: KeyOrder, S: Store>(
     match Block::<Internal<K>>::open(alloc, bytes) {
         Ok(block) => Ok(block),
         Err(e) => Err(table_refusal(e)),
+    }
+}
+
+/// The data block of a place, behind one of this bound. Corrupt and Unsupported as `read_data`; Corrupt too where a key is no internal
+/// key, isn't above that bound, or is above its own.
+pub fn read_within<K: KeyOrder, S: Store>(
+    alloc: Global,
+    store: &mut S,
+    name: &str,
+    known: u64,
+    place: &Place,
+    floor: Option<&[u8]>,
+) -> Result<Block<Internal<K>>, DbError>
+    ensures reads { Reads (S.facts store.old) (S.facts store.new) }
+    ensures found { IfOk result (λ block. Finds (S.facts store.old) (S.facts store.new) name.now (λ file. HasBlock K.cmp file place.now.handle block.pairs)) }
+    ensures within { IfOk result (λ block. AreWithin K.cmp (option_copied floor.entry) place.now.key block.pairs) }
+    ensures stood { OnOk result ((S.facts store.new).failures ≡ (S.facts store.old).failures) }
+    ensures refused { IfErr result (λ e. Refuses e (S.facts store.old) (S.facts store.new) name.now
+        (λ file. ((pairs : List Pair) → HasBlock K.cmp file place.now.handle pairs → AreWithin K.cmp (option_copied floor.entry) place.now.key pairs → ⊥)
+        × (IsUnsupported file place.now.handle → ⊥)) (λ file. IsUnsupported file place.now.handle)) }
+{
+    let bytes = read_stored(alloc, store, name, known, place.handle)?;
+    let bounds = Bounds {
+        floor,
+        most: place.key.as_slice(),
+    };
+    let block = match Block::<Internal<K>>::open_between(alloc, bytes, bounds) {
+        Ok(block) => block,
+        Err(e) => return Err(table_refusal(e)),
+    };
+    if !begins_with_key::<K>(&block) {
+        return Err(DbError::Corrupt(FileKind::Table, Damage::Kind));
+    }
+    Ok(block)
+}
+
+// Whether its first key is an internal key, where it has one.
+fn begins_with_key<K: KeyOrder>(block: &Block<Internal<K>>) -> bool
+    ensures { MatchBool result (BeginsWithKey block.now.pairs) (BeginsWithKey block.now.pairs → ⊥) }
+{
+    match block.first_key() {
+        None => true,
+        Some(key) => match unpack(key) {
+            Some(_) => true,
+            None => false,
+        },
     }
 }
 

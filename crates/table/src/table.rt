@@ -1,9 +1,11 @@
 //! A table that is open.
 
+ghost use Rattle.std.specs.Prelude.{◌≡◌, option_copied};
+ghost use Rattle.table.specs.Intact.{floor_of as floor_value};
 ghost use Rattle.table.specs.Table.{OneTable};
 
 use crate::checking::{admits, check_all};
-use crate::data::{read_all, read_data};
+use crate::data::{read_all, read_within};
 use crate::frame::read_ends;
 use crate::handle::{Handle, Place};
 use crate::index::read_places;
@@ -44,6 +46,7 @@ impl<K: KeyOrder> Table<K> {
     ghost use Rattle.std.specs.Prelude.{◌≡◌, ◌<◌, ◌≤◌, ◌+◌, ◌^◌, ◌⊎◌, ℕ, List, Option, Some, None, IfOk, IfErr, OnOk, MatchBool, length};
     ghost use Rattle.filter.specs.Hash.{hash_of};
     ghost use Rattle.table.specs.Frame.{Frame, IsFrame, IsOversized, TableAdmits, TableDenies, AnyLong, handles};
+    ghost use Rattle.table.specs.Intact.{IsIntact, IsTornAt, IsUnsupportedAt};
     ghost use Rattle.table.specs.Reading.{Reads, Finds, Answers, Refuses};
     ghost use Rattle.table.specs.Refusals.{IsDamaged, IsUnsupported, IsOfOne, IsOfOneFrom, IsFirstPlace, IsWrong, AreEmpty, IsFrameDamaged, IsFrameUnsupported};
     ghost use Rattle.ikey.specs.Entries.{InternalEntry, Pair};
@@ -107,26 +110,34 @@ impl<K: KeyOrder> Table<K> {
         first_place::<K>(&self.places, target)
     }
 
-    /// The data block at a handle. Corrupt, where there is none; Unsupported, where it has a type other than 0 or more
-    /// than 2^30 bytes.
-    pub fn read_block<S: Store>(
+    /// The data block of this index, held against its place. Corrupt, where there is none: its checksum, its restarts or the order of its
+    /// keys is wrong, or one of them is no internal key, isn't above the bound of the place in front, or is above its own; Unsupported,
+    /// where it has a type other than 0 or more than 2^30 bytes.
+    pub fn block_at<S: Store>(
         &self,
         alloc: Global,
         store: &mut S,
-        handle: Handle,
+        index: usize,
     ) -> Result<Block<Internal<K>>, DbError>
         ensures reads { Reads (S.facts store.old) (S.facts store.new) }
-        ensures found { IfOk result (λ block. Finds (S.facts store.old) (S.facts store.new) self.now.name (λ file. HasBlock K.cmp file handle block.pairs)) }
-        ensures short { OnOk result (handle.size ≤ 2 ^ 30) }
+        ensures found { IfOk result (λ block. Finds (S.facts store.old) (S.facts store.new) self.now.name
+            (λ file. IsIntact K.cmp file self.now.frame.places index block.pairs)) }
         ensures stood { OnOk result ((S.facts store.new).failures ≡ (S.facts store.old).failures) }
         ensures refused { IfErr result (λ e. Refuses e (S.facts store.old) (S.facts store.new) self.now.name
-            (λ file. IsDamaged K.cmp file handle) (λ file. IsUnsupported file handle)) }
+            (λ file. IsTornAt K.cmp file self.now.frame.places index) (λ file. IsUnsupportedAt file self.now.frame.places index)) }
     {
-        read_data::<K, S>(alloc, store, &self.name, self.before, handle)
+        let Some(place) = self.places.get(index) else {
+            return Err(DbError::Corrupt(FileKind::Table, Damage::Missing));
+        };
+        let floor = floor_of(&self.places, index);
+        match read_within::<K, S>(alloc, store, &self.name, self.before, place, floor) {
+            Ok(block) => Ok(block),
+            Err(e) => Err(e),
+        }
     }
 
     /// The entries, in order, as the bytes of their internal keys and their values. What bounds, filter and the order
-    /// of the blocks say isn't checked. Corrupt and Unsupported as `read_block`.
+    /// of the blocks say isn't checked. Corrupt and Unsupported as `read_data`.
     pub fn entries<S: Store>(&self, alloc: Global, store: &mut S) -> Result<Vec<KeyValue>, DbError>
         ensures reads { Reads (S.facts store.old) (S.facts store.new) }
         ensures found { IfOk result (λ found. Answers (S.facts store.old) (S.facts store.new) self.now.name
@@ -147,7 +158,7 @@ impl<K: KeyOrder> Table<K> {
 
     /// The entries as `entries`, with all else that makes the file a table: there is one at least, their keys are internal
     /// keys, each is within the bounds of its block, and its filter admits it. Corrupt, where that isn't so, and
-    /// Corrupt and Unsupported as `read_block`.
+    /// Corrupt and Unsupported as `read_data`.
     pub fn check_entries<S: Store>(
         &self,
         alloc: Global,
@@ -183,7 +194,7 @@ impl<K: KeyOrder> Table<K> {
 
     /// The first entry whose internal key isn't below the target, an internal key, as the bytes of its key and its
     /// value, if there is one. Of the blocks only those are read that can have it. Corrupt and Unsupported as
-    /// `read_block`.
+    /// `read_data`.
     pub fn seek<S: Store>(
         &self,
         alloc: Global,
@@ -219,6 +230,15 @@ impl<K: KeyOrder> Table<K> {
     {
         admits(&self.filter, handle.offset, key)
     }
+}
+
+// The bound of the place in front of the one of this index.
+fn floor_of(places: &[Place], index: usize) -> Option<&[u8]>
+    ensures { option_copied result ≡ floor_value places.now index }
+{
+    let before = index.checked_sub(1)?;
+    let place = places.get(before)?;
+    Some(place.key.as_slice())
 }
 
 /// Law: no file is two tables.

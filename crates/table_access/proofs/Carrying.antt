@@ -41,4 +41,5 @@ still_data cmp old new number frame groups carries t h = record {
   table = still_has cmp old new number h.file carries t h.table;
   open_is = h.open_is;
   data_is = h.data_is;
+  within = h.within;
 }

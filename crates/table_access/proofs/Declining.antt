@@ -1,7 +1,9 @@
 -- Why a look-up in a table is refused, and what it reads.
-use Rattle.std.proofs.Common.{◌≤◌, ℕ, List, length, IsTrue, subst, arith, inl, inr}
+use Rattle.std.proofs.Common.{◌≡◌, ◌⊎◌, ◌≤◌, ℕ, List, length, IsTrue, sym, subst, arith, inl, inr}
 use Rattle.cache.specs.Tables.{RefusesTable}
+use Rattle.coding.specs.declared.error.Damage.{Damage}
 use Rattle.coding.specs.declared.error.DbError.{DbError}
+use Rattle.coding.specs.declared.error.FileKind.{FileKind}
 use Rattle.coding.specs.declared.error.DbError.TheVariants.{OutOfMemory, Io, Corrupt, Unsupported}
 use Rattle.cursor.specs.Moves.{Refuses}
 use Rattle.cursor.specs.Places.{Cmp}
@@ -11,6 +13,7 @@ use Rattle.table_access.specs.Values.{IsNoTable, IsTablePastLimit}
 use Rattle.table_access.proofs.Carrying.{still_has}
 use Rattle.table_access.proofs.Placing.{data_length}
 use Rattle.table_access.proofs.Searching.{Lacks}
+use Rattle.table.proofs.Within.{filled_within}
 use Rattle.table.proofs.FrameParts.{one_frame}
 use Rattle.table.specs.Frame.{AnyLong, Frame, IsFrame, handles}
 use Rattle.table.specs.Refusals.{IsFirstPlace, IsFrameDamaged, IsFrameUnsupported}
@@ -27,6 +30,7 @@ data_of cmp old mid number file frame entries carries m has open_is filled = rec
   table = still_has cmp old mid number file carries m has;
   open_is = open_is;
   data_is = filled.data_is;
+  within = filled_within cmp frame.places filled.blocks entries filled.bounds filled.entries_are;
 }
 
 pub starts_inside : (cmp : Cmp) (file target : List ℕ) (frame : Frame) (entries : List InternalEntry) (start : ℕ) → IsFirstPlace cmp target frame.places start → (filled : IsFilled cmp file frame entries) → start ≤ length filled.blocks
@@ -46,6 +50,11 @@ module _ (cmp : Cmp) (old : Seen) (number : ℕ) where
   not_opened (Corrupt kind what) new h = λ t file has entries table. (h t file has.file_is).0 table.0 table.1
   not_opened (Unsupported what) new h = λ t. inr (λ file has. inl (h t file has.file_is))
   not_opened e new h = absurd h
+
+  -- what was found isn't answered
+  pub not_valued : (e : DbError) (new : Seen) (kind : FileKind) (what : Damage) → (e ≡ OutOfMemory) ⊎ ((e ≡ Corrupt kind what) × (IsTrue new.facts.faithful → NoTableThere)) → Refuses e old.facts new.facts NoTableThere LimitThere
+  not_valued e new kind what (inl memory) = subst (λ (r : DbError). Refuses r old.facts new.facts NoTableThere LimitThere) (sym memory) tt
+  not_valued e new kind what (inr corrupt) = subst (λ (r : DbError). Refuses r old.facts new.facts NoTableThere LimitThere) (sym corrupt.0) corrupt.1
 
   module _ {numbers : ℕ → Type 0} (mid new : Seen) (first_reads : Carries cmp numbers old mid) (second : Carries cmp numbers mid new) (target : List ℕ) (frame : Frame) (start : ℕ) (first : IsFirstPlace cmp target frame.places start)
       (says : IsTrue mid.facts.faithful → (file : List ℕ) → HasSoundTable cmp old number file → IsOpenFrame cmp file frame) where

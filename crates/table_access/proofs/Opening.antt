@@ -14,6 +14,7 @@ use Rattle.table_access.specs.Tables.{Seen, Carries, HasSoundTable, IsOpenFrame}
 use Rattle.table_access.proofs.Carrying.{still_has}
 use Rattle.table.specs.Frame.{Frame}
 use Rattle.table.specs.Table.{ArePairs, IsFilled, IsTable}
+use Rattle.table.proofs.Within.{filled_within}
 use Rattle.table.proofs.FrameParts.{one_frame}
 
 module _ (cmp : Cmp) (total : IsTotalOrder cmp) where
@@ -47,7 +48,7 @@ module _ (cmp : Cmp) (total : IsTotalOrder cmp) where
       let filled = subst (λ (f : Frame). IsFilled cmp file f entries) (one_frame cmp file table.0 frame table.1 open_is.0) table.2 in
       record {
         groups = filled.blocks;
-        has = record { file = file; table = still_has cmp old new number file carries t has; open_is = open_is; data_is = filled.data_is };
+        has = record { file = file; table = still_has cmp old new number file carries t has; open_is = open_is; data_is = filled.data_is; within = filled_within cmp frame.places filled.blocks entries filled.bounds filled.entries_are };
         bounds = filled.bounds;
         entries_are = filled.entries_are;
         rises = entries_rise (joined filled.blocks) entries filled.rises filled.entries_are;

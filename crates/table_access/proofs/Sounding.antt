@@ -12,13 +12,13 @@ use Rattle.cursor.specs.Places.{Cmp}
 use Rattle.edits.specs.Names.{name_of}
 use Rattle.edits.specs.declared.names.FileName.TheVariants.{Table, OldTable}
 use Rattle.ikey.specs.Entries.{Pair}
-use Rattle.table_access.specs.Tables.{Seen, IsSound, Carries, HasSoundTable, SaysOf, IsOpenFrame, IsBlockDamaged, IsBlockUnsupported}
+use Rattle.table_access.specs.Tables.{Seen, IsSound, Carries, HasSoundTable, SaysOf, IsOpenFrame, HasIntact, IsBlockDamaged, IsBlockUnsupported}
 use Rattle.store.specs.Files.{Facts, Files}
-use Rattle.table.specs.Frame.{Opened}
+use Rattle.table.specs.Frame.{Frame, Opened}
+use Rattle.table.specs.Intact.{IsTornAt, IsUnsupportedAt}
 use Rattle.table.specs.Reading.{Reads, HasFile, Refuses}
-use Rattle.table.specs.Refusals.{IsDamaged, IsUnsupported, IsFrameDamaged, IsFrameUnsupported}
-use Rattle.table.specs.Table.{HasBlock}
-use Rattle.table.specs.declared.handle.Handle.{Handle}
+use Rattle.table.specs.Refusals.{IsFrameDamaged, IsFrameUnsupported}
+use Rattle.table.proofs.FrameParts.{one_frame}
 
 -- ---- a table is opened
 
@@ -56,9 +56,9 @@ same_file old new number name is table old_table = elim is [
 
 -- the file of the table is that of its name
 pub content_of : {numbers : ℕ → Type 0} (cmp : Cmp) (old mid : Seen) (number : ℕ) (table : Opened) → IsTrue mid.facts.faithful → IsSound cmp old → Carries cmp numbers old mid
-    → SaysOf cmp old mid number (λ file. HasFile mid.facts table.name file × IsOpenFrame cmp file table.frame) → HasContent (table_at mid.facts.files) number mid.facts table.name
+    → SaysOf cmp old mid number (λ file. HasFile mid.facts table.name file × IsOpenFrame cmp file table.frame) → HasContent cmp (table_at mid.facts.files) number mid.facts table
 content_of cmp old mid number table t sound carries says file there =
-    (says t file (record { sound = sound; file_is = ap (λ (files : Files). table_at files number) (sym (carries.reads.files t)) ∙ there })).0
+    let is = says t file (record { sound = sound; file_is = ap (λ (files : Files). table_at files number) (sym (carries.reads.files t)) ∙ there }) in (is.0, is.1.0)
 
 pub sound_read : (cmp : Cmp) (mid : Seen) (facts : Facts) (blocks : List KeptBlock) → Reads mid.facts facts → IsTrue facts.faithful → HoldsBlocks cmp (table_at mid.facts.files) blocks → IsSound cmp mid
     → IsSound cmp (record { facts = facts; tables = mid.tables; blocks = blocks })
@@ -70,12 +70,12 @@ sound_read cmp mid facts blocks reads t holds sound =
       blocks = subst (λ (files : Files). HoldsBlocks cmp (table_at files) blocks) same holds;
     }
 
-pub says_block : {numbers : ℕ → Type 0} (cmp : Cmp) (old mid new : Seen) (number : ℕ) (handle : Handle) (table : Opened) (answer : Result (List Pair) DbError) → Carries cmp numbers old mid → Reads mid.facts new.facts
+pub says_block : {numbers : ℕ → Type 0} (cmp : Cmp) (old mid new : Seen) (number index : ℕ) (table : Opened) (answer : Result (List Pair) DbError) → Carries cmp numbers old mid → Reads mid.facts new.facts
     → SaysOf cmp old mid number (λ file. HasFile mid.facts table.name file × IsOpenFrame cmp file table.frame)
-    → ((content : ℕ → Option (List ℕ)) → HoldsBlocks cmp content mid.blocks → HasContent content number mid.facts table.name → IsTrue new.facts.faithful → IfOk answer (λ pairs. IsBlockOf cmp content number handle pairs))
-    → IfOk answer (λ pairs. SaysOf cmp old new number (λ file. HasBlock cmp file handle pairs))
-says_block cmp old mid new number handle table (Err e) carries reads says found = tt
-says_block cmp old mid new number handle table (Ok pairs) carries reads says found = λ t file has.
+    → ((content : ℕ → Option (List ℕ)) → HoldsBlocks cmp content mid.blocks → HasContent cmp content number mid.facts table → IsTrue new.facts.faithful → IfOk answer (λ pairs. IsBlockOf cmp content number index pairs))
+    → IfOk answer (λ pairs. SaysOf cmp old new number (HasIntact cmp index pairs))
+says_block cmp old mid new number index table (Err e) carries reads says found = tt
+says_block cmp old mid new number index table (Ok pairs) carries reads says found = λ t file has.
     let m = reads.faithful t in
     let sound = carries.sound m has.sound in
     found (table_at mid.facts.files) sound.blocks (content_of cmp old mid number table m has.sound carries says) t file (ap (λ (files : Files). table_at files number) (carries.reads.files m) ∙ has.file_is)
@@ -91,29 +91,33 @@ refuses_as (Unsupported what) old new number a b c d f k h = λ t file there. k 
 refuses_as e old new number a b c d f k h = absurd h
 
 -- the table isn't opened
-pub no_table : (cmp : Cmp) (e : DbError) (old new : Seen) (number : ℕ) (handle : Handle) → RefusesTable e old.facts new.facts number (IsFrameDamaged cmp) IsFrameUnsupported
-    → RefusesTable e old.facts new.facts number (λ file. HasSoundTable cmp old number file → IsBlockDamaged cmp handle file) (λ file. HasSoundTable cmp old number file → IsBlockUnsupported handle file)
-no_table cmp e old new number handle h =
-    refuses_as e old.facts new.facts number (IsFrameDamaged cmp) IsFrameUnsupported (λ file. HasSoundTable cmp old number file → IsBlockDamaged cmp handle file) (λ file. HasSoundTable cmp old number file → IsBlockUnsupported handle file)
+pub no_table : (cmp : Cmp) (e : DbError) (old new : Seen) (number index : ℕ) → RefusesTable e old.facts new.facts number (IsFrameDamaged cmp) IsFrameUnsupported
+    → RefusesTable e old.facts new.facts number (λ file. HasSoundTable cmp old number file → IsBlockDamaged cmp index file) (λ file. HasSoundTable cmp old number file → IsBlockUnsupported cmp index file)
+no_table cmp e old new number index h =
+    refuses_as e old.facts new.facts number (IsFrameDamaged cmp) IsFrameUnsupported (λ file. HasSoundTable cmp old number file → IsBlockDamaged cmp index file) (λ file. HasSoundTable cmp old number file → IsBlockUnsupported cmp index file)
     (λ file d has. inl d) (λ file d has. inl d) h
 
-module _ {numbers : ℕ → Type 0} (cmp : Cmp) (old mid new : Seen) (number : ℕ) (handle : Handle) (table : Opened) (carries : Carries cmp numbers old mid) (stood : mid.facts.failures ≡ old.facts.failures) (reads : Reads mid.facts new.facts)
+module _ {numbers : ℕ → Type 0} (cmp : Cmp) (old mid new : Seen) (number index : ℕ) (table : Opened) (carries : Carries cmp numbers old mid) (stood : mid.facts.failures ≡ old.facts.failures) (reads : Reads mid.facts new.facts)
     (says : SaysOf cmp old mid number (λ file. HasFile mid.facts table.name file × IsOpenFrame cmp file table.frame)) where
-  pub no_block : (e : DbError) → Refuses e mid.facts new.facts table.name (λ file. IsDamaged cmp file handle) (λ file. IsUnsupported file handle)
-      → RefusesTable e old.facts new.facts number (λ file. HasSoundTable cmp old number file → IsBlockDamaged cmp handle file) (λ file. HasSoundTable cmp old number file → IsBlockUnsupported handle file)
+  pub no_block : (e : DbError) → Refuses e mid.facts new.facts table.name (λ file. IsTornAt cmp file table.frame.places index) (λ file. IsUnsupportedAt file table.frame.places index)
+      → RefusesTable e old.facts new.facts number (λ file. HasSoundTable cmp old number file → IsBlockDamaged cmp index file) (λ file. HasSoundTable cmp old number file → IsBlockUnsupported cmp index file)
   no_block OutOfMemory h = h ∙ stood
   no_block Io h = omega (arith, h, stood)
-  no_block (Corrupt kind what) h = λ t file there has. inr (h t file (says (reads.faithful t) file has).0)
-  no_block (Unsupported what) h = λ t file there has. inr (h t file (says (reads.faithful t) file has).0)
+  no_block (Corrupt kind what) h = λ t file there has.
+      let is = says (reads.faithful t) file has in
+      inr (λ frame framed. subst (λ (f : Frame). IsTornAt cmp file f.places index) (one_frame cmp file table.frame frame is.1.0 framed) (h t file is.0))
+  no_block (Unsupported what) h = λ t file there has.
+      let is = says (reads.faithful t) file has in
+      inr (λ frame framed. subst (λ (f : Frame). IsUnsupportedAt file f.places index) (one_frame cmp file table.frame frame is.1.0 framed) (h t file is.0))
   no_block e h = absurd h
 
-  pub no_block_of : (answer : Result (List Pair) DbError) → IfErr answer (λ e. Refuses e mid.facts new.facts table.name (λ file. IsDamaged cmp file handle) (λ file. IsUnsupported file handle))
-      → IfErr answer (λ e. RefusesTable e old.facts new.facts number (λ file. HasSoundTable cmp old number file → IsBlockDamaged cmp handle file) (λ file. HasSoundTable cmp old number file → IsBlockUnsupported handle file))
+  pub no_block_of : (answer : Result (List Pair) DbError) → IfErr answer (λ e. Refuses e mid.facts new.facts table.name (λ file. IsTornAt cmp file table.frame.places index) (λ file. IsUnsupportedAt file table.frame.places index))
+      → IfErr answer (λ e. RefusesTable e old.facts new.facts number (λ file. HasSoundTable cmp old number file → IsBlockDamaged cmp index file) (λ file. HasSoundTable cmp old number file → IsBlockUnsupported cmp index file))
   no_block_of (Ok pairs) h = tt
   no_block_of (Err e) h = no_block e h
 
   pub carries_block : (blocks : List KeptBlock) → new ≡ record { facts = new.facts; tables = mid.tables; blocks = blocks }
-      → ((content : ℕ → Option (List ℕ)) → HoldsBlocks cmp content mid.blocks → HasContent content number mid.facts table.name → IsTrue new.facts.faithful → HoldsBlocks cmp content blocks) → IsTrue new.facts.faithful
+      → ((content : ℕ → Option (List ℕ)) → HoldsBlocks cmp content mid.blocks → HasContent cmp content number mid.facts table → IsTrue new.facts.faithful → HoldsBlocks cmp content blocks) → IsTrue new.facts.faithful
       → IsSound cmp old → IsSound cmp (record { facts = new.facts; tables = mid.tables; blocks = blocks })
   carries_block blocks is holds t sound =
       let m = reads.faithful t in

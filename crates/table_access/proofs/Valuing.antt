@@ -18,7 +18,7 @@ use Rattle.ikey.specs.Keys.{Key, IsKey, IsFirstKey, key_cmp}
 use Rattle.ikey.specs.Views.{IsUnseen}
 use Rattle.table_access.specs.declared.in_block.InBlock.{InBlock}
 use Rattle.table_access.specs.TablePlaces.{IsInBlock, StopsAt, joined, pairs_before}
-use Rattle.table_access.specs.Values.{DeniesKey, IsLookUp, SaysOfEntry}
+use Rattle.table_access.specs.Values.{DeniesKey, IsLookUp, SaysOfEntry, StandsOnNone}
 use Rattle.table_access.proofs.Denying.{above_bound, admitted_at, bounds_rise}
 use Rattle.table_access.proofs.Entering.{pair_at}
 use Rattle.table_access.proofs.LookingUp.{below_by_user, found_there, nothing_there, seen_not_below, unseen}
@@ -102,6 +102,20 @@ module _ (cmp : Cmp) (total : IsTotalOrder cmp) (exact : IsAntisymmetric cmp) (f
       | inr y ↦
           let count = pairs_length (joined filled.blocks) entries filled.entries_are in
           nothing_there cmp total exact user sequence target h entries rising n all_front stops_here (let l = y.0 in omega (arith, l, count))
+    ]
+
+    -- it stands on an entry's key
+    pub stands_on_key : (in_block : InBlock Placed) → IsInBlock filled.blocks in_block.index in_block.cursor (within (joined filled.blocks) n) → StandsOnNone in_block.cursor → ⊥
+    stands_on_key in_block at none = elim (within_cases (joined filled.blocks) n) [
+      | inr y ↦ absurd (let bad : None ≡ Some (pairs_before filled.blocks in_block.index + at.inside) = sym y.1 ∙ at.place_is in cc)
+      | inl y ↦
+          let both : Some n ≡ Some (pairs_before filled.blocks in_block.index + at.inside) = sym y.1 ∙ at.place_is in
+          let same : n ≡ pairs_before filled.blocks in_block.index + at.inside = cc in
+          let count = pairs_length (joined filled.blocks) entries filled.entries_are in
+          let x = some_at entries n (let l = y.0 in omega (arith, l, count)) in
+          let p = some_at in_block.cursor.pairs at.inside at.less in
+          let there = ap (slice_get (joined filled.blocks)) same ∙ item_in filled.blocks in_block.index in_block.cursor.pairs at.inside p.0 at.block_is p.1 in
+          none at.inside p.0 x.0.key at.stands p.1 (pair_at (joined filled.blocks) entries n p.0 x.0 filled.entries_are there x.1).key
     ]
 
     pub one_found : (in_block : InBlock Placed) (value : Option (Option (List ℕ))) → IsInBlock filled.blocks in_block.index in_block.cursor (within (joined filled.blocks) n)

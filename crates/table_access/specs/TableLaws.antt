@@ -25,6 +25,7 @@ lists_kept cmp number frame here old new at keeps lists = record {
     table = record { sound = keeps.sound lists.has.table.sound; file_is = keeps.same ∙ lists.has.table.file_is };
     open_is = lists.has.open_is;
     data_is = lists.has.data_is;
+    within = lists.has.within;
   };
   bounds = lists.bounds;
   entries_are = lists.entries_are;

@@ -1,6 +1,6 @@
 -- A store whose tables are read through caches.
 use Rattle.std.specs.FinMap.{get}
-use Rattle.std.specs.Prelude.{◌≡◌, ◌⊎◌, ℕ, List, Some, [], IsSome, IsTrue, Contains}
+use Rattle.std.specs.Prelude.{◌≡◌, ◌⊎◌, ℕ, List, Some, None, [], IsSome, IsTrue, Contains}
 use Rattle.cache.specs.Blocks.{BlockCache, KeptBlock}
 use Rattle.cache.specs.Holding.{HoldsBlocks, HoldsTables}
 use Rattle.cache.specs.Tables.{TableCache, KeptTable, table_at}
@@ -10,10 +10,10 @@ use Rattle.edits.specs.declared.names.FileName.TheVariants.{Table, OldTable}
 use Rattle.ikey.specs.Entries.{Pair}
 use Rattle.store.specs.Files.{Facts}
 use Rattle.table.specs.Frame.{Frame, IsFrame}
+use Rattle.table.specs.Intact.{AreAllWithin, IsIntact, IsTornAt, IsUnsupportedAt}
 use Rattle.table.specs.Reading.{Reads, HasFile}
-use Rattle.table.specs.Refusals.{IsDamaged, IsUnsupported, IsFrameDamaged, IsFrameUnsupported}
+use Rattle.table.specs.Refusals.{IsFrameDamaged, IsFrameUnsupported}
 use Rattle.table.specs.Table.{AreData}
-use Rattle.table.specs.declared.handle.Handle.{Handle}
 use Rattle.table_access.specs.declared.tables.Tables.{Tables}
 
 -- what is known of the store, and what is kept of its tables
@@ -74,19 +74,24 @@ abbrev pub IsOpenFrame : Cmp → List ℕ → Frame → Type 0
 IsOpenFrame cmp file frame = IsFrame cmp file frame × (IsFrameUnsupported file → ⊥)
 
 -- frame or block are damaged
-abbrev pub IsBlockDamaged : Cmp → Handle → List ℕ → Type 0
-IsBlockDamaged cmp handle file = IsFrameDamaged cmp file ⊎ IsDamaged cmp file handle
+abbrev pub IsBlockDamaged : Cmp → ℕ → List ℕ → Type 0
+IsBlockDamaged cmp index file = IsFrameDamaged cmp file ⊎ ((frame : Frame) → IsFrame cmp file frame → IsTornAt cmp file frame.places index)
 
 -- one of them isn't supported
-abbrev pub IsBlockUnsupported : Handle → List ℕ → Type 0
-IsBlockUnsupported handle file = IsFrameUnsupported file ⊎ IsUnsupported file handle
+abbrev pub IsBlockUnsupported : Cmp → ℕ → List ℕ → Type 0
+IsBlockUnsupported cmp index file = IsFrameUnsupported file ⊎ ((frame : Frame) → IsFrame cmp file frame → IsUnsupportedAt file frame.places index)
 
--- The store has, as the table of this number, a file of this frame with the data blocks of these pairs.
+-- the file has the data block of these pairs as that of this index, whole and in its place
+abbrev pub HasIntact : Cmp → ℕ → List Pair → List ℕ → Type 0
+HasIntact cmp index pairs file = (frame : Frame) → IsFrame cmp file frame → IsIntact cmp file frame.places index pairs
+
+-- The store has, as the table of this number, a file of this frame with the data blocks of these pairs, each within the bounds of its place.
 pub record HasData (cmp : Cmp) (source : Seen) (number : ℕ) (frame : Frame) (groups : List (List Pair)) : Type 0 where
   pub file : List ℕ
   pub table : HasSoundTable cmp source number file
   pub open_is : IsOpenFrame cmp file frame
   pub data_is : AreData cmp file frame.places groups
+  pub within : AreAllWithin cmp None frame.places groups
 
 -- ---- laws
 

@@ -1,9 +1,10 @@
 -- What a table says of a user key.
 use Rattle.std.specs.Prelude.{◌≡◌, ◌⊎◌, ℕ, List, Option, Some, None, map, slice_get}
+use Rattle.block.specs.Places.{Placed}
 use Rattle.cursor.specs.Places.{Cmp}
 use Rattle.filter.specs.Hash.{hash_of}
 use Rattle.ikey.specs.declared.entry.Entry.{Entry}
-use Rattle.ikey.specs.Entries.{InternalEntry, entry_of, value_of}
+use Rattle.ikey.specs.Entries.{InternalEntry, Pair, entry_of, value_of}
 use Rattle.ikey.specs.Keys.{Key, IsKey, IsFirstKey}
 use Rattle.ikey.specs.Views.{IsNewest, IsUnseen}
 use Rattle.table.specs.declared.handle.Place.{Place}
@@ -27,6 +28,14 @@ HasValue cmp file key sequence value = (entries : List InternalEntry) → IsTabl
 abbrev pub SaysOfEntry : InternalEntry → List ℕ → Option (Option (List ℕ)) → Type 0
 SaysOfEntry entry key None = entry.key.user ≡ key → ⊥
 SaysOfEntry entry key (Some value) = (entry.key.user ≡ key) × (value ≡ value_of entry.key.kind entry.value)
+
+-- the pair that the cursor stands on has an internal key
+abbrev pub StandsOnKey : Placed → Type 0
+StandsOnKey cursor = (index : ℕ) (pair : Pair) → cursor.place ≡ Some index → slice_get cursor.pairs index ≡ Some pair → (key : Key) × IsKey pair.key key
+
+-- or it has none
+abbrev pub StandsOnNone : Placed → Type 0
+StandsOnNone cursor = (index : ℕ) (pair : Pair) (key : Key) → cursor.place ≡ Some index → slice_get cursor.pairs index ≡ Some pair → IsKey pair.key key → ⊥
 
 -- the filter says that the block of this index has no entry of the user key, and the block's bound is of another one
 pub record DeniesKey (frame : Frame) (start : ℕ) (key : List ℕ) : Type 0 where

@@ -1,20 +1,23 @@
 //! The newest entry of a user key in a table (LevelDB's table/table.cc, Table::InternalGet).
 
-ghost use Rattle.std.specs.Prelude.{◌≡◌, ◌<◌, ◌^◌, ℕ, List, Some, IsSome, IfOk, IfErr, MatchBool, slice_get};
+ghost use Rattle.std.specs.Prelude.{◌≡◌, ◌⊎◌, ◌<◌, ◌^◌, ℕ, List, Some, IsSome, IfOk, IfErr, OnOk, MatchBool, slice_get};
+ghost use Rattle.coding.specs.declared.error.Damage.TheVariants.{Kind as KindDamage};
+ghost use Rattle.coding.specs.declared.error.DbError.TheVariants.{Corrupt, OutOfMemory};
+ghost use Rattle.coding.specs.declared.error.FileKind.TheVariants.{Table as TableFile};
 ghost use Rattle.cache.specs.Tables.{kept_table_at};
 ghost use Rattle.cursor.specs.Moves.{Refuses};
 ghost use Rattle.ikey.specs.Entries.{InternalEntry, Pair, IsPair};
 ghost use Rattle.table_access.specs.Tables.{Carries, HasSoundTable, Only, SaysOf, seen_through};
-ghost use Rattle.table_access.specs.Values.{DeniesKey, HasValue, IsDenied, IsNoTable, IsTablePastLimit, SaysOfEntry};
+ghost use Rattle.table_access.specs.Values.{DeniesKey, HasValue, IsDenied, IsNoTable, IsTablePastLimit, SaysOfEntry, StandsOnKey, StandsOnNone};
 ghost use Rattle.table.specs.Frame.{IsFrame, Opened};
 ghost use Rattle.table.specs.Reading.{IsStill};
 
 use crate::table_search::{Aim, search_on};
 use crate::tables::Tables;
 use block::BlockCursor;
-use coding::{Bytes, DbError};
+use coding::{Bytes, Damage, DbError, FileKind};
 use ikey::{Internal, KeyOrder, Kind, same_bytes, seek_key, unpack};
-use std::alloc::{AllocError, Global};
+use std::alloc::Global;
 use store::Store;
 use table::Table;
 
@@ -79,19 +82,22 @@ fn is_denied<K: KeyOrder>(table: &Table<K>, start: usize, key: &[u8]) -> bool
     true
 }
 
-// What the entry at a cursor's place put, where it is one of the user key.
+// What the entry at a cursor's place put, where it is one of the user key. Corrupt, where its key is no internal key.
 fn value_at<K: KeyOrder>(
     alloc: Global,
     cursor: &BlockCursor<Internal<K>>,
     key: &[u8],
-) -> Result<Option<Option<Bytes>>, AllocError>
+) -> Result<Option<Option<Bytes>>, DbError>
     requires { IsSome cursor.now.place }
-    ensures { IfOk result (λ value. (index : ℕ) (pair : Pair) (entry : InternalEntry) → cursor.now.place ≡ Some index
+    ensures found { IfOk result (λ value. (index : ℕ) (pair : Pair) (entry : InternalEntry) → cursor.now.place ≡ Some index
         → slice_get cursor.now.pairs index ≡ Some pair → IsPair pair entry
         → SaysOfEntry entry key.now value) }
+    // What is answered is so of an entry.
+    ensures keyed { OnOk result (StandsOnKey cursor.now) }
+    ensures refused { IfErr result (λ e. (e ≡ OutOfMemory) ⊎ ((e ≡ Corrupt TableFile KindDamage) × StandsOnNone cursor.now)) }
 {
     let Some(found) = unpack(cursor.key()) else {
-        return Ok(None);
+        return Err(DbError::Corrupt(FileKind::Table, Damage::Kind));
     };
     if !same_bytes(found.user, key) {
         return Ok(None);

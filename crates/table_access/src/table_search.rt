@@ -7,14 +7,14 @@ ghost use Rattle.cursor.specs.Places.{index_before};
 ghost use Rattle.cursor.specs.Places.{within as within_list};
 ghost use Rattle.ikey.specs.Entries.{Pair};
 ghost use Rattle.table_access.specs.TablePlaces.{IsPlacedIn, Passed, StopsAt, joined, pairs_before};
-ghost use Rattle.table_access.specs.Tables.{Carries, HasData, Only, seen_through};
+ghost use Rattle.table_access.specs.Tables.{Carries, HasData, HasIntact, Only, SaysOf, seen_through};
 ghost use Rattle.table.specs.Frame.{AnyLong, handles};
 ghost use Rattle.table.specs.Reading.{IsStill};
 
 use crate::in_block::InBlock;
 use crate::tables::Tables;
 use block::{Block, BlockCursor};
-use coding::{Damage, DbError, FileKind};
+use coding::DbError;
 use ikey::{Internal, KeyOrder};
 use std::alloc::{AllocError, Global};
 use std::rc::Rc;
@@ -115,7 +115,7 @@ fn enter<K: KeyOrder>(
     }
 }
 
-// The data block of this index.
+// The data block of this index, held against its place when it comes from the store.
 fn read_index<K: KeyOrder, S: Store>(
     alloc: Global,
     source: &mut Tables<K, S>,
@@ -127,14 +127,14 @@ fn read_index<K: KeyOrder, S: Store>(
     ensures carries { Carries K.cmp (Only number) (seen_through S.facts source.old) (seen_through S.facts source.new) }
     ensures found { IfOk result (λ block. IsTrue (S.facts source.new.store).faithful → (groups : List (List Pair))
         → HasData K.cmp (seen_through S.facts source.old) number table.now.frame groups → slice_get groups index ≡ Some block.value.pairs) }
+    // Whatever the table holds beside, the block is whole and in its place.
+    ensures intact { IfOk result (λ block. SaysOf K.cmp (seen_through S.facts source.old) (seen_through S.facts source.new)
+        number (HasIntact K.cmp index block.value.pairs)) }
     ensures still { IsStill (S.facts source.old.store) (S.facts source.new.store) result }
     ensures refused { IfErr result (λ e. Refuses e (S.facts source.old.store) (S.facts source.new.store)
         ((groups : List (List Pair)) → HasData K.cmp (seen_through S.facts source.old) number table.now.frame groups → index < length groups → ⊥)
         (AnyLong (handles table.now.frame))) }
 {
-    let Some(place) = table.places().get(index) else {
-        return Err(DbError::Corrupt(FileKind::Table, Damage::Missing));
-    };
-    let block = source.read_block(alloc, number, place.handle)?;
+    let block = source.read_block(alloc, number, index)?;
     Ok(block)
 }

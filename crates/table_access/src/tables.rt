@@ -10,7 +10,7 @@ use std::alloc::{AllocError, Global};
 use std::num::NonZeroUsize;
 use std::rc::Rc;
 use store::Store;
-use table::{Handle, Table};
+use table::Table;
 
 // How many tables stay open: LevelDB's `max_open_files`, 1000, less ten for its other files (db/db_impl.cc,
 // `TableCacheSize`).
@@ -29,11 +29,10 @@ impl<K: KeyOrder, S: Store> Tables<K, S> {
     ghost use Rattle.std.specs.NonZero.{non_zero_usize_get};
     ghost use Rattle.cache.specs.Blocks.{answer_of};
     ghost use Rattle.cache.specs.Tables.{HitsTable, RefusesTable, kept_table_at, table_answer_of};
-    ghost use Rattle.table_access.specs.Tables.{Carries, HasSoundTable, IsBlockDamaged, IsBlockUnsupported, IsOpenFrame};
+    ghost use Rattle.table_access.specs.Tables.{Carries, HasIntact, HasSoundTable, IsBlockDamaged, IsBlockUnsupported, IsOpenFrame};
     ghost use Rattle.table_access.specs.Tables.{Knows, Only, SaysOf, open_tables, seen_through};
     ghost use Rattle.table.specs.Reading.{HasFile};
     ghost use Rattle.table.specs.Refusals.{IsFrameDamaged, IsFrameUnsupported};
-    ghost use Rattle.table.specs.Table.{HasBlock};
 
     /// This store, of which nothing is kept: no table stays open and no block in memory, until `begin`.
     pub fn over(store: S) -> Self
@@ -96,26 +95,26 @@ impl<K: KeyOrder, S: Store> Tables<K, S> {
         self.tables.get_table(alloc, &mut self.store, number)
     }
 
-    /// The data block at a handle of the table of this number, as `get_table` and `BlockCache::read_block`.
+    /// The data block of an index of the table of this number, as `get_table` and `BlockCache::read_block`.
     pub fn read_block(
         &mut self,
         alloc: Global,
         number: u64,
-        handle: Handle,
+        index: usize,
     ) -> Result<Rc<Block<Internal<K>>>, DbError>
         requires { 0 < number }
         ensures carries { Carries K.cmp (Only number) (seen_through S.facts self.old) (seen_through S.facts self.new) }
         ensures found { IfOk (answer_of result) (λ pairs. SaysOf K.cmp (seen_through S.facts self.old) (seen_through S.facts self.new)
-            number (λ file. HasBlock K.cmp file handle pairs)) }
+            number (HasIntact K.cmp index pairs)) }
         ensures stood { OnOk result ((S.facts self.new.store).failures ≡ (S.facts self.old.store).failures) }
         // What it says of a table that the store has, it says where what is kept is right.
         ensures refused { IfErr (answer_of result) (λ e. RefusesTable e (S.facts self.old.store) (S.facts self.new.store) number
-            (λ file. HasSoundTable K.cmp (seen_through S.facts self.old) number file → IsBlockDamaged K.cmp handle file)
-            (λ file. HasSoundTable K.cmp (seen_through S.facts self.old) number file → IsBlockUnsupported handle file)) }
+            (λ file. HasSoundTable K.cmp (seen_through S.facts self.old) number file → IsBlockDamaged K.cmp index file)
+            (λ file. HasSoundTable K.cmp (seen_through S.facts self.old) number file → IsBlockUnsupported K.cmp index file)) }
     {
         let table = self.get_table(alloc, number)?;
         self.blocks
-            .read_block(alloc, &mut self.store, &table, number, handle)
+            .read_block(alloc, &mut self.store, &table, number, index)
     }
 }
 

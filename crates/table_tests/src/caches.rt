@@ -8,19 +8,8 @@ use std::num::NonZeroUsize;
 use std::rc::Rc;
 use std::test::*;
 use store::{FaultStore, MemStore, Store, StoreError};
-use table::{Handle, Table};
+use table::Table;
 use table_access::Tables;
-
-// The first blocks of both tables lie there; the second block of the second one lies at 26.
-const FIRST: Handle = Handle {
-    offset: 0,
-    size: 21,
-};
-
-const SECOND: Handle = Handle {
-    offset: 26,
-    size: 21,
-};
 
 // A store that counts its calls: table 5 has one entry, and table 7, under its old name, two blocks.
 fn two_tables(alloc: Global) -> Result<FaultStore, DbError> {
@@ -66,53 +55,37 @@ fn first_value(alloc: Global, block: Rc<Block<Internal<Bytewise>>>) -> Option<u8
 // whether the store is asked for it, and how many blocks are kept behind that.
 struct Fetch {
     number: u64,
-    handle: Handle,
+    index: usize,
     value: Option<u8>,
     is_read: bool,
     kept: usize,
 }
 
-const SHORTER: Handle = Handle {
-    offset: 0,
-    size: 20,
-};
-
-const NOWHERE: Handle = Handle {
-    offset: 1,
-    size: 20,
-};
-
 #[rattlefmt::skip]
 const TWO_TABLES: [Fetch; 3] = [
-    Fetch { number: 5, handle: FIRST, value: Some(0x31), is_read: true, kept: 1 },
-    Fetch { number: 7, handle: FIRST, value: Some(0x31), is_read: true, kept: 2 },
-    Fetch { number: 7, handle: SECOND, value: Some(0x33), is_read: true, kept: 3 },
+    Fetch { number: 5, index: 0, value: Some(0x31), is_read: true, kept: 1 },
+    Fetch { number: 7, index: 0, value: Some(0x31), is_read: true, kept: 2 },
+    Fetch { number: 7, index: 1, value: Some(0x33), is_read: true, kept: 3 },
 ];
 
 #[rattlefmt::skip]
 const ROOM_FOR_ONE: [Fetch; 4] = [
-    Fetch { number: 7, handle: FIRST, value: Some(0x31), is_read: true, kept: 1 },
-    Fetch { number: 7, handle: SECOND, value: Some(0x33), is_read: true, kept: 1 },
-    Fetch { number: 7, handle: SECOND, value: Some(0x33), is_read: false, kept: 1 },
-    Fetch { number: 7, handle: FIRST, value: Some(0x31), is_read: true, kept: 1 },
+    Fetch { number: 7, index: 0, value: Some(0x31), is_read: true, kept: 1 },
+    Fetch { number: 7, index: 1, value: Some(0x33), is_read: true, kept: 1 },
+    Fetch { number: 7, index: 1, value: Some(0x33), is_read: false, kept: 1 },
+    Fetch { number: 7, index: 0, value: Some(0x31), is_read: true, kept: 1 },
 ];
 
 #[rattlefmt::skip]
 const NOTHING_KEPT: [Fetch; 2] = [
-    Fetch { number: 5, handle: FIRST, value: Some(0x31), is_read: true, kept: 0 },
-    Fetch { number: 5, handle: FIRST, value: Some(0x31), is_read: true, kept: 0 },
+    Fetch { number: 5, index: 0, value: Some(0x31), is_read: true, kept: 0 },
+    Fetch { number: 5, index: 0, value: Some(0x31), is_read: true, kept: 0 },
 ];
 
 #[rattlefmt::skip]
 const REFUSED: [Fetch; 2] = [
-    Fetch { number: 5, handle: NOWHERE, value: None, is_read: true, kept: 0 },
-    Fetch { number: 5, handle: NOWHERE, value: None, is_read: true, kept: 0 },
-];
-
-#[rattlefmt::skip]
-const OF_TWO_SIZES: [Fetch; 2] = [
-    Fetch { number: 5, handle: FIRST, value: Some(0x31), is_read: true, kept: 1 },
-    Fetch { number: 5, handle: SHORTER, value: None, is_read: true, kept: 1 },
+    Fetch { number: 5, index: 2, value: None, is_read: false, kept: 0 },
+    Fetch { number: 5, index: 2, value: None, is_read: false, kept: 0 },
 ];
 
 // Whether a block with this first value was answered, or refused where there is none.
@@ -136,7 +109,7 @@ fn is_so(
     wanted: &Fetch,
 ) -> bool {
     let calls = store.calls();
-    let found = blocks.fetch(alloc, store, table, wanted.number, wanted.handle);
+    let found = blocks.fetch(alloc, store, table, wanted.number, wanted.index);
     let is_read = calls < store.calls();
     let kept = blocks.len();
     has_value(alloc, found, wanted.value) && is_read == wanted.is_read && kept == wanted.kept
@@ -173,16 +146,15 @@ fn are_so(alloc: Global, capacity: usize, fetches: &[Fetch]) -> Result<bool, DbE
 }
 
 // How many blocks a cache keeps, and what is asked of it.
-const FETCHES: [(usize, &[Fetch]); 5] = [
+const FETCHES: [(usize, &[Fetch]); 4] = [
     (4, &TWO_TABLES),
     (1, &ROOM_FOR_ONE),
     (0, &NOTHING_KEPT),
     (2, &REFUSED),
-    (2, &OF_TWO_SIZES),
 ];
 
 #[test]
-fn blocks_are_kept_by_table_place_and_size(rt: HostRuntime) {
+fn blocks_are_kept_by_table_and_index(rt: HostRuntime) {
     for (capacity, fetches) in FETCHES {
         assert_eq!(rt;
             are_so(rt.alloc(), capacity, fetches),
@@ -200,9 +172,9 @@ fn is_kept(
     table: &Table<Bytewise>,
 ) -> bool {
     let is_empty = blocks.is_empty();
-    let first = blocks.fetch(alloc, store, table, 5, FIRST);
+    let first = blocks.fetch(alloc, store, table, 5, 0);
     let calls = store.calls();
-    let again = blocks.read_block(alloc, store, table, 5, FIRST);
+    let again = blocks.read_block(alloc, store, table, 5, 0);
     let are_read = has_value(alloc, first, Some(0x31)) && has_value(alloc, again, Some(0x31));
     is_empty && are_read && blocks.len() == 1 && store.calls() == calls
 }
@@ -316,7 +288,7 @@ fn take(alloc: Global, source: &mut Tables<Bytewise, FaultStore>, turn: Turn) ->
             source.end();
             true
         }
-        Turn::Read => has_value(alloc, source.read_block(alloc, 5, FIRST), Some(0x31)),
+        Turn::Read => has_value(alloc, source.read_block(alloc, 5, 0), Some(0x31)),
     }
 }
 

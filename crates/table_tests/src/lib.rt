@@ -36,6 +36,8 @@ mod memory_cursors;
 #[cfg(test)]
 mod memory_tables;
 #[cfg(test)]
+mod misplaced;
+#[cfg(test)]
 mod reading;
 #[cfg(test)]
 mod row_cursors;

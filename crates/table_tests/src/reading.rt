@@ -61,22 +61,17 @@ const FIRST: Handle = Handle {
     size: 21,
 };
 
-const OTHER: Handle = Handle {
-    offset: 1,
-    size: 20,
-};
-
 fn opened(alloc: Global, store: &mut MemStore) -> Result<Table<Bytewise>, DbError> {
     Table::open(alloc, store, NAME)
 }
 
-// Whether the index has the one data block, which is read by its handle, and none by another.
+// Whether the index has the one data block, which is read by its index, and none by another.
 fn has_the_block(alloc: Global) -> Result<bool, DbError> {
     let mut store = stored(store_with(alloc, &ONE_ENTRY))?;
     let table = opened(alloc, &mut store)?;
     let is_indexed = table.index(alloc)?.as_slice() == [FIRST].as_slice();
-    let first = table.read_block(alloc, &mut store, FIRST).is_ok();
-    let other = table.read_block(alloc, &mut store, OTHER);
+    let first = table.block_at(alloc, &mut store, 0).is_ok();
+    let other = table.block_at(alloc, &mut store, 1);
     Ok(is_indexed && first && matches!(other, Err(DbError::Corrupt(_, _))))
 }
 
@@ -187,7 +182,7 @@ fn changed_bytes_give_no_wrong_entry(rt: HostRuntime) {
 fn is_refused(alloc: Global, behind: &[u8; 5], is_unsupported: bool) -> Result<bool, DbError> {
     let mut store = stored(changed(alloc, 21, 26, behind))?;
     let table = opened(alloc, &mut store)?;
-    Ok(match table.read_block(alloc, &mut store, FIRST) {
+    Ok(match table.block_at(alloc, &mut store, 0) {
         Ok(_) => false,
         Err(DbError::Unsupported(_)) => is_unsupported,
         Err(DbError::Corrupt(_, _)) => !is_unsupported,

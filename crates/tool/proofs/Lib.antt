@@ -2,3 +2,5 @@ pub mod Commands
 pub mod Dumping
 pub mod Found
 pub mod Texts
+pub mod LookingOver
+pub mod SoundFiles

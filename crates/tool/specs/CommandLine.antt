@@ -92,8 +92,18 @@ scan_app = with_place (with_style (with_range (new_app (codes "scan"))))
 abbrev pub reading_app : Text → App
 reading_app name = with_place (new_app name)
 
+abbrev pub stats_app : App
+stats_app = with_place (with_rule (new_app (codes "stats")) (flag_rule (codes "json")))
+
+-- that may go on behind a refusal
+abbrev pub with_keep_going : App → App
+with_keep_going app = with_rule app (flag_rule (codes "keep-going"))
+
+abbrev pub check_app : App
+check_app = with_place (with_keep_going (new_app (codes "check")))
+
 abbrev pub dump_app : App
-dump_app = with_place (with_notation (new_app (codes "dump")))
+dump_app = with_place (with_keep_going (with_notation (new_app (codes "dump"))))
 
 abbrev pub run_app : App
 run_app = with_place (with_options (with_rule (with_rule (new_app (codes "run")) (word_rule (codes "work"))) (flag_rule (codes "strict"))))
@@ -115,11 +125,12 @@ bare_app = record {
 -- those that change nothing
 abbrev pub with_readers : App → App
 with_readers app =
-    with_subcommand (with_subcommand (with_subcommand (with_subcommand (with_subcommand app
+    with_subcommand (with_subcommand (with_subcommand (with_subcommand (with_subcommand (with_subcommand app
     get_app.top)
     scan_app.top)
     (reading_app (codes "export")).top)
-    (reading_app (codes "check")).top)
+    stats_app.top)
+    check_app.top)
     dump_app.top
 
 -- those that write

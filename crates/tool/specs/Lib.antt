@@ -3,3 +3,5 @@ pub mod Tasks
 pub mod Reports
 pub mod EntryLines
 pub mod Inspecting
+pub mod Statistics
+pub mod EachFile

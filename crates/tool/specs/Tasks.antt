@@ -20,7 +20,7 @@ use Rattle.tool.specs.declared.task.Place.{Place}
 use Rattle.tool.specs.declared.task.Pieces.{Pieces}
 use Rattle.tool.specs.declared.task.Search.{Search}
 use Rattle.tool.specs.declared.task.Task.{Task}
-use Rattle.tool.specs.declared.task.Task.TheVariants.{Get, Scan, Export, Check, Dump, Run, Import, Compact}
+use Rattle.tool.specs.declared.task.Task.TheVariants.{Get, Scan, Export, Check, Stats, Dump, Run, Import, Compact}
 use Rattle.tool.specs.declared.task.Turns.{Turns}
 
 -- ---- an option
@@ -157,8 +157,9 @@ abbrev pub AsksFor : Option Text → Option (List Row) → Task → Type 0
 AsksFor (Some name) (Some rows) (Get place lookup) = (name ≡ codes "get") × IsPlace rows place × IsLookup rows lookup
 AsksFor (Some name) (Some rows) (Scan place search) = (name ≡ codes "scan") × IsPlace rows place × IsSearch rows place.order search
 AsksFor (Some name) (Some rows) (Export place) = (name ≡ codes "export") × IsPlace rows place
-AsksFor (Some name) (Some rows) (Check place) = (name ≡ codes "check") × IsPlace rows place
-AsksFor (Some name) (Some rows) (Dump place notation) = (name ≡ codes "dump") × IsPlace rows place × IsNotation rows notation
+AsksFor (Some name) (Some rows) (Check place on) = (name ≡ codes "check") × IsPlace rows place × IsFlag (codes "keep-going") rows on
+AsksFor (Some name) (Some rows) (Stats place json) = (name ≡ codes "stats") × IsPlace rows place × IsFlag (codes "json") rows json
+AsksFor (Some name) (Some rows) (Dump place notation on) = (name ≡ codes "dump") × IsPlace rows place × IsNotation rows notation × IsFlag (codes "keep-going") rows on
 AsksFor (Some name) (Some rows) (Run place numbers turns) = (name ≡ codes "run") × IsPlace rows place × HaveNumbers rows numbers × AreTurns rows turns
 AsksFor (Some name) (Some rows) (Import place numbers pieces) = (name ≡ codes "import") × IsPlace rows place × HaveNumbers rows numbers × ArePieces rows pieces
 AsksFor (Some name) (Some rows) (Compact place numbers level) =

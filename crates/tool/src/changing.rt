@@ -5,6 +5,7 @@ use crate::progress::{Meter, Target, Watched};
 use crate::saying::{status_of, stop};
 use crate::status::{DONE, MISUSED, STRICT};
 use crate::task::{Numbers, Pieces, Turns};
+use crate::telling::Telling;
 use engine::{Options, Session};
 use ikey::KeyOrder;
 use script::{Ended, Importing, Way, drive_in};
@@ -38,7 +39,10 @@ pub fn run<K: KeyOrder, R: Read + Drop, W: Write, F: Write>(
         strict: turns.strict,
         works: turns.works,
     };
-    match drive_in(rt.alloc(), &mut session, way, reader, writer) {
+    let mut telling = Telling::of(folder, faults);
+    let done = drive_in(rt.alloc(), &mut session, way, reader, writer, &mut telling);
+    telling.end();
+    match done {
         Ok(Ended::Whole) => DONE,
         Ok(Ended::Refused) => STRICT,
         Err(fault) => stop(faults, &fault),
@@ -62,7 +66,9 @@ pub fn import<K: KeyOrder, R: Read + Drop, W: Write, F: Write>(
         Ok(session) => session,
         Err(status) => return status,
     };
-    let done = script::import(rt.alloc(), &mut session, &how, reader, writer);
+    let mut telling = Telling::of(target.folder, faults);
+    let done = script::import(rt.alloc(), &mut session, &how, reader, writer, &mut telling);
+    telling.end();
     status_of(done, faults)
 }
 
@@ -82,7 +88,9 @@ pub fn compact<K: KeyOrder, W: Write, F: Write>(
         Ok(session) => session,
         Err(status) => return status,
     };
-    let done = script::compact(rt.alloc(), &mut session, level, writer);
+    let mut telling = Telling::of(target.folder, faults);
+    let done = script::compact(rt.alloc(), &mut session, level, writer, &mut telling);
+    telling.end();
     status_of(done, faults)
 }
 

@@ -2,7 +2,7 @@
 
 ghost use Rattle.std.specs.Prelude.{◌≡◌, IfOk};
 ghost use Rattle.clap.specs.Words.{App, new_app, with_subcommand};
-ghost use Rattle.tool.specs.CommandLine.{the_app, get_app, scan_app, reading_app, dump_app, run_app, import_app, compact_app, with_readers, with_writers, with_place, with_options, with_range, with_notation, with_style, IsCommand};
+ghost use Rattle.tool.specs.CommandLine.{the_app, get_app, scan_app, reading_app, stats_app, check_app, dump_app, run_app, import_app, compact_app, with_readers, with_writers, with_place, with_options, with_range, with_notation, with_style, IsCommand};
 
 use crate::arguments::{
     base_bytes, batch, block_bytes, bound, cache_blocks, file_bytes, flag, folder, key, level,
@@ -34,8 +34,9 @@ fn add_readers<'a>(alloc: Global, command: Command<'a>) -> Result<Command<'a>, A
     let first = add(command, get(alloc))?;
     let second = add(first, scan(alloc))?;
     let third = add(second, reading(alloc, "export", help::EXPORT, help::PUTS))?;
-    let fourth = add(third, reading(alloc, "check", help::CHECK, help::REPORT))?;
-    let whole = add(fourth, dump(alloc))?;
+    let fourth = add(third, stats(alloc))?;
+    let fifth = add(fourth, check(alloc))?;
+    let whole = add(fifth, dump(alloc))?;
     Ok(whole)
 }
 
@@ -95,12 +96,31 @@ fn reading<'a>(
     Ok(whole)
 }
 
+fn stats<'a>(alloc: Global) -> Result<Command<'a>, AllocError>
+    ensures { IfOk result (λ command. IsCommand command stats_app) }
+{
+    let bare = named(alloc, "stats", help::STATS, help::OVERVIEW);
+    let first = bare.arg(flag(alloc, "json", help::STATS_JSON))?;
+    let whole = add_place(alloc, first)?;
+    Ok(whole)
+}
+
+fn check<'a>(alloc: Global) -> Result<Command<'a>, AllocError>
+    ensures { IfOk result (λ command. IsCommand command check_app) }
+{
+    let bare = named(alloc, "check", help::CHECK, help::REPORT);
+    let first = bare.arg(flag(alloc, "keep-going", help::CHECK_ON))?;
+    let whole = add_place(alloc, first)?;
+    Ok(whole)
+}
+
 fn dump<'a>(alloc: Global) -> Result<Command<'a>, AllocError>
     ensures { IfOk result (λ command. IsCommand command dump_app) }
 {
     let bare = named(alloc, "dump", help::DUMP, help::ENTRIES);
     let noted = add_notation(alloc, bare, help::DUMP_TEXT)?;
-    let whole = add_place(alloc, noted)?;
+    let second = noted.arg(flag(alloc, "keep-going", help::DUMP_ON))?;
+    let whole = add_place(alloc, second)?;
     Ok(whole)
 }
 

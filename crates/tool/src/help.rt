@@ -11,8 +11,8 @@ Examples:
   ldbtool export mydb | ldbtool import copy
   ldbtool check mydb
 Keys and values are in hexadecimal, `-` for the empty one; --text, where a
-command has it, takes and prints them as text. get, scan, export, check and dump
-change nothing; run, import and compact write.
+command has it, takes and prints them as text. get, scan, export, stats, check
+and dump change nothing; run, import and compact write.
 
 Exit status:
   0  all was done. A command of a script that is refused has its answer line, and changes no status
@@ -145,7 +145,8 @@ refused is answered `refused NUMBER NAME`, and the script goes on:
   11 KeyTooLong      12 ValueTooLong    13 BatchTooLarge   14 SequenceFull    15 NumbersSpent
   16 NotOpen         17 AlreadyOpen     18 Locked          19 BadLevel        20 BadLine
 
-Any line that is no command is answered `refused 20 BadLine`.
+Any line that is no command is answered `refused 20 BadLine`. Why a line was refused
+standard error says: which word is wrong, or what kind of file was damaged and how.
 
 Exit status:
   0  each line was answered, also where commands were refused
@@ -227,6 +228,8 @@ Example:
 pub const CHECK: &str =
     "Reads every file, and prints `good` and what there is, `empty`, or the refusal";
 
+pub const CHECK_ON: &str = "Behind a refusal say of each file what is wrong with it";
+
 pub const REPORT: &str = "\
 Of a consistent directory it prints
   good
@@ -237,8 +240,10 @@ of a folder without a database `empty`, and standard error says that there is no
 CURRENT; otherwise the refusal: `refused 5 Corrupt`, where a file contradicts
 the format or another file; `refused 6 Unsupported`, where it has compressed
 blocks, another order of keys or a block that is too long; `refused 2 Io`, where
-a file can't be read; `refused 1 OutOfMemory`. No file is changed, and no lock
-taken: a database that is written meanwhile may be refused.
+a file can't be read; `refused 1 OutOfMemory`. Standard error says then which file
+is the first that is refused by itself, and what is wrong with it; with
+--keep-going it says so of each. No file is changed, and no lock taken: a database
+that is written meanwhile may be refused.
 
 Exit status:
   0  the directory is good, or empty
@@ -252,9 +257,52 @@ Example:
   log 2 1 clean
   log 4 0 clean";
 
+pub const STATS: &str = "Prints what a database has by level, without reading tables or logs";
+
+pub const STATS_JSON: &str = "Print a JSON object a line";
+
+pub const OVERVIEW: &str = "\
+It reads CURRENT and the MANIFEST that it names, and asks how long the logs are:
+that takes milliseconds, however large the database is. It prints
+  comparator NAME
+  recorded-sequence SEQUENCE          the last one used when the MANIFEST was written
+  next-file NUMBER
+  level LEVEL files N bytes N [due]   for each level, from 0 to 6
+  log NUMBER bytes N                  for each live log, by number
+`due` where a compaction of the level is due by LevelDB's thresholds: 4 files in
+level 0, 10 MiB in level 1 and tenfold in each further one. With --json one of
+  {\"comparator\":\"NAME\",\"recorded-sequence\":S,\"next-file\":N}
+  {\"level\":L,\"files\":N,\"bytes\":N,\"due\":true}
+  {\"log\":N,\"bytes\":N}
+A folder without a database has nothing printed, and standard error says that
+there is no CURRENT. What is damaged in tables and logs isn't found: `ldbtool
+check` reads them. No file is changed, and no lock taken.
+
+Exit status:
+  0  it was printed, or there is no database
+  1  the MANIFEST was refused, DIR can't be opened, or the lines not be written
+  2  the command line is wrong
+
+Example:
+  $ ldbtool stats mydb
+  comparator leveldb.BytewiseComparator
+  recorded-sequence 1
+  next-file 5
+  level 0 files 0 bytes 0
+  level 1 files 0 bytes 0
+  level 2 files 0 bytes 0
+  level 3 files 0 bytes 0
+  level 4 files 0 bytes 0
+  level 5 files 0 bytes 0
+  level 6 files 0 bytes 0
+  log 2 bytes 30
+  log 4 bytes 0";
+
 pub const DUMP: &str = "Prints the entries of a directory's tables and live logs, one line each";
 
 pub const DUMP_TEXT: &str = "Print keys and values as text, bytes outside of ' '..'~' as \\xNN";
+
+pub const DUMP_ON: &str = "Print what is sound, and say on standard error what isn't";
 
 pub const ENTRIES: &str = "\
 A line is one of
@@ -267,12 +315,14 @@ and the same with \"log\", without a level. Tables come by level and number, eac
 in the order of its keys, then the live logs by number, each as it was written.
 KEY and VALUE are in hexadecimal, `-` for none; with --text as text, and with
 --json the digits alone. A directory that `ldbtool check` refuses has its
-refusal printed alone, as `refused 5 Corrupt`. No file is changed, and no lock
-taken.
+refusal printed alone, as `refused 5 Corrupt`; with --keep-going each table and
+log that can be read whole is printed, as far as the MANIFEST tells them, and
+standard error says what is wrong with each other one. No file is changed, and
+no lock taken.
 
 Exit status:
   0  each entry was printed
-  1  the directory was refused, DIR can't be opened, or the lines not be written
+  1  the directory or a file was refused, DIR can't be opened, or the lines not be written
   2  the command line is wrong
 
 Example:

@@ -117,8 +117,8 @@ fn print_file<K: KeyOrder, S: Store, W: Write>(
     Ok(None)
 }
 
-// Prints the entries of one file.
-fn print_entries<W: Write>(
+/// Prints the entries of one file.
+pub fn print_entries<W: Write>(
     alloc: Global,
     writer: &mut W,
     notation: Notation,
@@ -152,7 +152,8 @@ fn print_entry<W: Write>(
     Ok(())
 }
 
-fn print_refusal<W: Write>(alloc: Global, writer: &mut W, error: DbError) -> Result<u8, Fault>
+/// Prints the line of a refusal.
+pub fn print_refusal<W: Write>(alloc: Global, writer: &mut W, error: DbError) -> Result<u8, Fault>
     ensures written { OnOk result (Appends (W.contents writer.old) (W.contents writer.new) (check_text_of (Err error))) }
     ensures status { IfOk result (λ status. status ≡ 1) }
 {

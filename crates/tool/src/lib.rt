@@ -4,6 +4,8 @@
 mod arguments;
 mod changing;
 mod command_line;
+mod counts;
+mod each_file;
 mod entry_line;
 mod help;
 mod inspect;
@@ -15,8 +17,11 @@ mod report;
 mod saying;
 mod status;
 mod task;
+mod telling;
 mod words;
 
+pub use counts::stats;
+pub use each_file::dump_sound;
 pub use inspect::{check, dump};
 pub use program::{Terminals, start};
 pub use saying::refuse_words;

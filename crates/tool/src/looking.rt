@@ -1,11 +1,14 @@
 // The tasks that change nothing in a folder: none takes the lock.
 
+use crate::counts::stats;
+use crate::each_file::{dump_sound, say_refused};
 use crate::inspect::{check, dump};
 use crate::keys::{form_for, read_key};
 use crate::progress::{Meter, Target, Watched, bytes_of};
 use crate::saying::{folder_fault, say_no_current, status_of, stop, want_key};
-use crate::status::DONE;
+use crate::status::{DONE, FAILED};
 use crate::task::{Lookup, Notation, Search};
+use crate::telling::Telling;
 use browse::{Choice, Form, range_of};
 use coding::Bytes;
 use ikey::KeyOrder;
@@ -34,13 +37,16 @@ pub fn get<K: KeyOrder, W: Write, F: Write>(
         Ok(store) => ReadOnly::over(store),
         Err(status) => return status,
     };
-    let found = browse::get::<K, FileStore, W>(
+    let mut telling = Telling::of(folder, faults);
+    let found = browse::get::<K, FileStore, W, Telling<'_, F>>(
         rt.alloc(),
         store,
         key.as_slice(),
         lookup.form,
         writer,
+        &mut telling,
     );
+    telling.end();
     status_of(found.0, faults)
 }
 
@@ -79,15 +85,25 @@ fn print_pairs<K: KeyOrder, W: Write, F: Write>(
         Ok(store) => ReadOnly::over(store),
         Err(status) => return status,
     };
-    let printed = browse::scan::<K, FileStore, W>(rt.alloc(), store, choice, writer);
+    let mut telling = Telling::of(folder, faults);
+    let printed = browse::scan::<K, FileStore, W, Telling<'_, F>>(
+        rt.alloc(),
+        store,
+        choice,
+        writer,
+        &mut telling,
+    );
+    telling.end();
     status_of(printed.0, faults)
 }
 
 /// Prints the report of a directory. Where there is none, and no `CURRENT` either, it says so too, since any folder that was never a
-/// database is such a one.
+/// database is such a one. A refusal is followed on standard error by what is wrong with the
+/// first file that is refused by itself, or with each.
 pub fn check_folder<K: KeyOrder, W: Write, F: Write>(
     rt: &HostRuntime,
     target: Target<'_>,
+    keep_going: bool,
     writer: &mut W,
     faults: &mut F,
 ) -> u8 {
@@ -96,9 +112,20 @@ pub fn check_folder<K: KeyOrder, W: Write, F: Write>(
         Err(status) => return status,
     };
     let done = check::<K, Folder, W>(rt.alloc(), &mut store, writer);
+    if is_refused(&done) {
+        say_refused::<K, Folder, F>(rt.alloc(), &mut store, target.folder, keep_going, faults);
+    }
     let status = status_of(done, faults);
     say_if_none(status, &mut store, target.folder, faults);
     status
+}
+
+// Whether a refusal was printed.
+fn is_refused(done: &Result<u8, Fault>) -> bool {
+    match done {
+        Ok(status) => *status == FAILED,
+        Err(_) => false,
+    }
 }
 
 // Says that there is no database, where one that was done found none. (A directory that is good has a `CURRENT`.)
@@ -115,6 +142,27 @@ fn has_no_current<S: Store>(store: &mut S) -> bool {
     }
 }
 
+/// Prints what is known of a directory by its MANIFEST, and says as a check does where there is none.
+pub fn stats_folder<K: KeyOrder, W: Write, F: Write>(
+    rt: &HostRuntime,
+    folder: &str,
+    json: bool,
+    writer: &mut W,
+    faults: &mut F,
+) -> u8 {
+    let mut store = match open(rt, folder, faults) {
+        Ok(store) => ReadOnly::over(store),
+        Err(status) => return status,
+    };
+    let done = stats::<K, ReadOnly<FileStore>, W>(rt.alloc(), &mut store, writer, json);
+    if is_refused(&done) {
+        say_refused::<K, ReadOnly<FileStore>, F>(rt.alloc(), &mut store, folder, false, faults);
+    }
+    let status = status_of(done, faults);
+    say_if_none(status, &mut store, folder, faults);
+    status
+}
+
 /// Prints the entries of a directory, and says as a check does where there is none.
 pub fn dump_folder<K: KeyOrder, W: Write, F: Write>(
     rt: &HostRuntime,
@@ -128,8 +176,37 @@ pub fn dump_folder<K: KeyOrder, W: Write, F: Write>(
         Err(status) => return status,
     };
     let done = dump::<K, Folder, W>(rt.alloc(), &mut store, writer, notation);
+    if is_refused(&done) {
+        say_refused::<K, Folder, F>(rt.alloc(), &mut store, target.folder, false, faults);
+    }
     let status = status_of(done, faults);
     say_if_none(status, &mut store, target.folder, faults);
+    status
+}
+
+/// Prints the entries of the files of a directory that are sound, and says of each other one what is wrong with it.
+pub fn dump_sound_files<K: KeyOrder, W: Write, F: Write>(
+    rt: &HostRuntime,
+    target: Target<'_>,
+    notation: Notation,
+    writer: &mut W,
+    faults: &mut F,
+) -> u8 {
+    let mut store = match open(rt, target.folder, faults) {
+        Ok(store) => watched_store(rt, store, target.watched, 1),
+        Err(status) => return status,
+    };
+    let folder = target.folder;
+    let done = dump_sound::<K, Folder, W, F>(
+        rt.alloc(),
+        &mut store,
+        writer,
+        notation,
+        folder,
+        faults,
+    );
+    let status = status_of(done, faults);
+    say_if_none(status, &mut store, folder, faults);
     status
 }
 

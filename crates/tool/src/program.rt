@@ -1,7 +1,9 @@
 // The program, over streams that are handed in.
 
 use crate::changing::{compact, import, run};
-use crate::looking::{check_folder, dump_folder, export, get, scan};
+use crate::looking::{
+    check_folder, dump_folder, dump_sound_files, export, get, scan, stats_folder,
+};
 use crate::progress::Target;
 use crate::saying::{greet, greet_import, refuse};
 use crate::task::{OrderName, Task};
@@ -65,8 +67,16 @@ fn perform<K: KeyOrder, R: Read + Drop, W: Write, F: Write>(
         Task::Get(_, lookup) => get::<K, W, F>(rt, folder, lookup, writer, faults),
         Task::Scan(_, search) => scan::<K, W, F>(rt, folder, search, writer, faults),
         Task::Export(_) => export::<K, W, F>(rt, folder, writer, faults),
-        Task::Check(_) => check_folder::<K, W, F>(rt, target, writer, faults),
-        Task::Dump(_, notation) => { dump_folder::<K, W, F>(rt, target, *notation, writer, faults) }
+        Task::Check(_, keep_going) => {
+            check_folder::<K, W, F>(rt, target, *keep_going, writer, faults)
+        }
+        Task::Stats(_, json) => stats_folder::<K, W, F>(rt, folder, *json, writer, faults),
+        Task::Dump(_, notation, false) => {
+            dump_folder::<K, W, F>(rt, target, *notation, writer, faults)
+        }
+        Task::Dump(_, notation, true) => {
+            dump_sound_files::<K, W, F>(rt, target, *notation, writer, faults)
+        }
         Task::Run(_, numbers, turns) => {
             if typed {
                 greet(faults);

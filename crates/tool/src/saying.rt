@@ -5,7 +5,9 @@ ghost use Rattle.std.specs.Prelude.{◌≡◌, ◌⊎◌};
 use crate::status::{DONE, FAILED, MISUSED};
 use crate::words::Misuse;
 use clap::error::ErrorKind;
-use script::Fault;
+use coding::{Damage, DbError, Feature, FileKind};
+use recover::Origin;
+use script::{Fault, Misread, Wanted};
 use std::alloc::Global;
 use std::fmt;
 use std::io::{self, Write};
@@ -113,6 +115,118 @@ pub fn say_no_current<F: Write>(faults: &mut F, folder: &str) {
         "ldbtool: {}: no CURRENT here: no database, or an empty one",
         Escaped(folder)
     );
+}
+
+/// Says what is wrong with a file of a folder.
+pub fn say_of_file<F: Write>(faults: &mut F, folder: &str, origin: Origin, error: DbError) {
+    let folder = Escaped(folder);
+    let why = Why(error);
+    let _ = match origin {
+        Origin::Table(level, number) => {
+            writeln!(faults, "ldbtool: {folder}: table {level} {number}: {why}")
+        }
+        Origin::Log(number) => writeln!(faults, "ldbtool: {folder}: log {number}: {why}"),
+    };
+}
+
+/// Says what is wrong with `CURRENT`, the MANIFEST that it names or the names of the files.
+pub fn say_of_directory<F: Write>(faults: &mut F, folder: &str, error: DbError) {
+    let _ = writeln!(faults, "ldbtool: {}: {}", Escaped(folder), Why(error));
+}
+
+/// Says why a line of a script was refused.
+pub fn say_of_line<F: Write>(faults: &mut F, line: u64, error: DbError) {
+    let _ = writeln!(faults, "ldbtool: line {line}: {}", Why(error));
+}
+
+/// Says what is wrong with a line that says no command.
+pub fn say_of_misread<F: Write>(faults: &mut F, line: u64, misread: Misread) {
+    let word = misread.word;
+    let _ = writeln!(
+        faults,
+        "ldbtool: line {line}: word {word}: {}",
+        wanted_words(misread.wanted)
+    );
+}
+
+/// Says how to see which file it is that was refused.
+pub fn say_how_to_see<F: Write>(faults: &mut F, folder: &str) {
+    let folder = Escaped(folder);
+    let _ = writeln!(
+        faults,
+        "ldbtool: {folder}: `ldbtool check --keep-going {folder}` says of each file what is wrong with it"
+    );
+}
+
+/// Says that a directory was refused though no file is damaged.
+pub fn say_all_sound<F: Write>(faults: &mut F, folder: &str) {
+    let _ = writeln!(
+        faults,
+        "ldbtool: {}: each file is sound by itself: they contradict one another, or what was refused has passed",
+        Escaped(folder)
+    );
+}
+
+// A refusal, with what is wrong.
+#[derive(Clone, Copy)]
+struct Why(DbError);
+
+impl fmt::Display for Why {
+    fn fmt<W: fmt::Write>(&self, f: &mut fmt::Formatter<W>) -> fmt::Result {
+        write!(f, "refused {} {}", self.0.number(), self.0.name())?;
+        match self.0 {
+            DbError::Corrupt(kind, damage) => {
+                write!(f, ", {}: {}", kind_words(kind), damage_words(damage))
+            }
+            DbError::Unsupported(feature) => write!(f, ": {}", feature_words(feature)),
+            error => write!(f, ": {error}"),
+        }
+    }
+}
+
+fn kind_words(kind: FileKind) -> &'static str {
+    match kind {
+        FileKind::Current => "CURRENT",
+        FileKind::Manifest => "the MANIFEST",
+        FileKind::Log => "a log",
+        FileKind::Table => "a table",
+        FileKind::Directory => "the directory",
+    }
+}
+
+fn damage_words(damage: Damage) -> &'static str {
+    match damage {
+        Damage::Length => "it ends too soon, or something in it is longer than there is room",
+        Damage::Checksum => "a checksum isn't that of its bytes",
+        Damage::Kind => "a tag, a kind or a type that there is none of",
+        Damage::Number => "a number that isn't in its shortest form, or out of its range",
+        Damage::Order => "parts in another order than they have to have",
+        Damage::Padding => "other bytes where zeros belong",
+        Damage::Missing => "a file or a field that has to be there is missing",
+    }
+}
+
+fn wanted_words(wanted: Wanted) -> &'static str {
+    match wanted {
+        Wanted::Command => "the name of a command is wanted",
+        Wanted::Operation => "put or del is wanted",
+        Wanted::Bytes => "two hexadecimal digits a byte are wanted, or - for none",
+        Wanted::Number => "a number below 2^64 is wanted",
+        Wanted::SmallNumber => "a number below 2^32 is wanted",
+        Wanted::Level => "all or the number of a level is wanted",
+        Wanted::Mode => "new, any or nothing more is wanted",
+        Wanted::End => "nothing more is wanted",
+    }
+}
+
+fn feature_words(feature: Feature) -> &'static str {
+    match feature {
+        Feature::BlockType => "a compressed block",
+        Feature::Comparator => "another order of keys",
+        Feature::BlockSize => "a block of more than 2^30 bytes",
+        Feature::TableNumber => "a table of number 2^62 or more",
+        Feature::Tables => "tables",
+    }
 }
 
 /// Says to a person who is about to type a script how its lines look.

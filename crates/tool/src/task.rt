@@ -16,10 +16,12 @@ pub enum Task<'a> {
     Scan(Place<'a>, Search<'a>),
     /// Print the pairs as the lines that `Import` reads.
     Export(Place<'a>),
-    /// Check the directory.
-    Check(Place<'a>),
-    /// Print the entries of the directory, in this notation.
-    Dump(Place<'a>, Notation),
+    /// Check the directory, and where it is refused go on to each file or not.
+    Check(Place<'a>, bool),
+    /// Print what is known of the directory by its MANIFEST, as JSON objects or as words.
+    Stats(Place<'a>, bool),
+    /// Print the entries of the directory, in this notation: where it is refused those of the files that are sound, or none.
+    Dump(Place<'a>, Notation, bool),
     /// Run a script over a database with these options.
     Run(Place<'a>, Numbers, Turns),
     /// Write the operations of a file's lines.
@@ -121,8 +123,9 @@ impl<'a> Task<'a> {
             Task::Get(place, _) => *place,
             Task::Scan(place, _) => *place,
             Task::Export(place) => *place,
-            Task::Check(place) => *place,
-            Task::Dump(place, _) => *place,
+            Task::Check(place, _) => *place,
+            Task::Stats(place, _) => *place,
+            Task::Dump(place, _, _) => *place,
             Task::Run(place, _, _) => *place,
             Task::Import(place, _, _) => *place,
             Task::Compact(place, _, _) => *place,

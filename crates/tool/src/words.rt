@@ -70,10 +70,14 @@ fn read_task<'a>(matches: &ArgMatches<'a>) -> Option<Task<'a>>
         return Some(Task::Export(place));
     }
     if name == "check" {
-        return Some(Task::Check(place));
+        return Some(Task::Check(place, read_flag(found, "keep-going")?));
+    }
+    if name == "stats" {
+        return Some(Task::Stats(place, read_flag(found, "json")?));
     }
     if name == "dump" {
-        return Some(Task::Dump(place, read_notation(found)?));
+        let notation = read_notation(found)?;
+        return Some(Task::Dump(place, notation, read_flag(found, "keep-going")?));
     }
     let numbers = read_numbers(found)?;
     if name == "run" {

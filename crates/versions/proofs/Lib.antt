@@ -19,3 +19,5 @@ pub mod Searched
 pub mod Reached
 pub mod Inputs
 pub mod Deeper
+pub mod InPlace
+pub mod LevelUses

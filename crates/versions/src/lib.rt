@@ -7,6 +7,7 @@ mod choosing;
 mod copying;
 mod key_range;
 mod laws;
+mod level_uses;
 mod live;
 mod ordering;
 mod plan;
@@ -19,6 +20,7 @@ mod user_key;
 mod version;
 
 pub use laws::{inputs_in_order, one_more_edit, plans_of_tables, searches_reach};
+pub use level_uses::{LevelUse, uses_of_levels};
 pub use live::LiveNumbers;
 pub use plan::JobPlan;
 pub use searching::covers;

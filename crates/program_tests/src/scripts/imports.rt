@@ -1,7 +1,7 @@
 // Imports of lines, and compactions, over stores in memory: what is written, and the exit status.
 use engine::{Options, Session};
 use ikey::Bytewise;
-use script::{Importing, compact, drive, import};
+use script::{Importing, Nobody, compact, drive, import};
 use std::alloc::{AllocGlobal, Global};
 use std::process::Abort;
 use store::{Extent, Fault, FaultStore, MemStore, Plan, Store};
@@ -63,7 +63,14 @@ fn imported<S: Store>(
 ) -> Option<(u8, Vec<u8>)> {
     let how = Importing::new(batch, false)?;
     let mut out = Vec::new(alloc);
-    match import(alloc, session, &how, lines.as_bytes(), &mut out) {
+    match import(
+        alloc,
+        session,
+        &how,
+        lines.as_bytes(),
+        &mut out,
+        &mut Nobody,
+    ) {
         Ok(status) => Some((status, out)),
         Err(_) => None,
     }
@@ -76,7 +83,7 @@ fn compacted<S: Store>(
     level: Option<u32>,
 ) -> Option<(u8, Vec<u8>)> {
     let mut out = Vec::new(alloc);
-    match compact(alloc, session, level, &mut out) {
+    match compact(alloc, session, level, &mut out, &mut Nobody) {
         Ok(status) => Some((status, out)),
         Err(_) => None,
     }

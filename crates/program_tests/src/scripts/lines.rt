@@ -1,7 +1,9 @@
 use batch::Operation;
 use coding::{Bytes, Damage, DbError, FileKind};
 use engine::{Answer, Mode, Op};
-use script::{answer_line, read_line};
+use script::{
+    Misread, Wanted as Word, answer_line, misread_line, misread_operation_line, read_line,
+};
 use std::alloc::{AllocError, AllocGlobal, Global};
 
 // What a batch does to one key.
@@ -126,7 +128,8 @@ fn is(op: &Op, wanted: &Command) -> bool {
 }
 
 fn says(alloc: Global, line: &str, wanted: &Command) -> bool {
-    matches!(read_line(alloc, line.as_bytes()), Ok(Some(op)) if is(&op, wanted))
+    misread_line(line.as_bytes()).is_none()
+        && matches!(read_line(alloc, line.as_bytes()), Ok(Some(op)) if is(&op, wanted))
 }
 
 #[test]
@@ -213,13 +216,57 @@ const BAD_LINES: [&[u8]; 72] = [
 ];
 
 fn says_nothing(alloc: Global, line: &[u8]) -> bool {
-    matches!(read_line(alloc, line), Ok(None))
+    misread_line(line).is_some() && matches!(read_line(alloc, line), Ok(None))
 }
 
 #[test]
 fn other_lines_say_nothing(rt: HostRuntime) {
     for line in BAD_LINES {
         assert!(rt; says_nothing(rt.alloc(), line), "{line:?}");
+    }
+}
+
+// The first word that is wrong, and what belongs there.
+#[rattlefmt::skip]
+const MISREAD: &[(&[u8], usize, Word)] = &[
+    (b"", 1, Word::Command),
+    (b"PUT 61 31", 1, Word::Command),
+    (b"open old", 2, Word::Mode),
+    (b"open new any", 3, Word::End),
+    (b"put 61", 3, Word::Bytes),
+    (b"put 6 31", 2, Word::Bytes),
+    (b"put 61 31 32", 4, Word::End),
+    (b"write get 61", 2, Word::Operation),
+    (b"write put 61 31 sync", 5, Word::Operation),
+    (b"write sync del", 4, Word::Bytes),
+    (b"get 61 x", 3, Word::Number),
+    (b"seek x 61", 2, Word::Number),
+    (b"work 4294967296", 2, Word::SmallNumber),
+    (b"compact ALL", 2, Word::Level),
+    (b"close ", 2, Word::End),
+];
+
+#[rattlefmt::skip]
+const MISREAD_OPERATIONS: &[(&[u8], usize, Word)] = &[
+    (b"get 61", 1, Word::Operation),
+    (b"put 61", 3, Word::Bytes),
+    (b"del 61 62", 3, Word::End),
+];
+
+fn is_misread(misread: Option<Misread>, word: usize, wanted: Word) -> bool {
+    misread == Some(Misread { word, wanted })
+}
+
+#[test]
+fn the_first_wrong_word_is_told(rt: HostRuntime) {
+    for (line, word, wanted) in MISREAD {
+        assert!(rt; is_misread(misread_line(line), *word, *wanted), "{line:?}");
+    }
+    for (line, word, wanted) in MISREAD_OPERATIONS {
+        assert!(rt;
+            is_misread(misread_operation_line(line), *word, *wanted),
+            "{line:?}"
+        );
     }
 }
 

@@ -1,6 +1,7 @@
 -- What the steps of reading a directory hand to one another.
-use Rattle.std.specs.Prelude.{◌≡◌, ◌≤◌, ℕ, max, Bool, ◌&&◌, ◌||◌, ◌==◌, nat_lt, nat_le, List, [], ◌∷◌, ◌++◌, map, take, Some, IsTrue}
+use Rattle.std.specs.Prelude.{◌≡◌, ◌≤◌, ℕ, max, Bool, ◌&&◌, ◌||◌, ◌==◌, nat_lt, nat_le, List, [], ◌∷◌, ◌++◌, map, take, Some, None, IsTrue, Contains}
 use Rattle.std.specs.FinMap.{get}
+use Rattle.std.specs.List.{AllByRecursion}
 use Rattle.coding.specs.declared.error.DbError.{DbError}
 use Rattle.coding.specs.declared.error.DbError.TheVariants as error
 use Rattle.coding.specs.declared.error.FileKind.{FileKind}
@@ -13,6 +14,8 @@ use Rattle.logfile.specs.declared.record.Tail.{Tail}
 use Rattle.ikey.specs.declared.entry.Entry.{Entry}
 use Rattle.edits.specs.Edit.{HasPastLimit}
 use Rattle.edits.specs.Layout.{fields_of}
+use Rattle.edits.specs.Names.{name_of}
+use Rattle.edits.specs.declared.names.FileName.TheVariants.{Log}
 use Rattle.edits.specs.declared.field.Field.{Field}
 use Rattle.edits.specs.declared.field.Field.TheVariants.{LogNumber, DeletedFile, NewFile, PreviousLogNumber}
 use Rattle.edits.specs.declared.layout.Layout.{Layout}
@@ -21,7 +24,9 @@ use Rattle.recover.specs.declared.replay.Replay.{Replay}
 use Rattle.recover.specs.Entries.{RiseAbove, greatest}
 use Rattle.recover.specs.Logs.{LogContent, HasLogs, logged}
 use Rattle.recover.specs.Directory.{AreEdits, IsManifest, HasManifest}
+use Rattle.recover.specs.Overviews.{HasLength, numbers_of}
 use Rattle.recover.specs.Report.{log_summary}
+use Rattle.recover.specs.declared.overview.LogLength.{LogLength}
 
 -- ---- the store
 
@@ -83,9 +88,6 @@ SpellsNone order bytes = (edits : List (List Field)) (layout : Layout) → IsMan
 abbrev pub SaysManifest : Order → Files → Manifest → Type 0
 SaysManifest order files manifest = (number : ℕ) × (edits : List (List Field)) × HasManifest order files number edits manifest.layout × (manifest.highest ≡ highest_in (fields_of edits))
 
-abbrev pub HasNoManifest : Order → Files → Type 0
-HasNoManifest order files = (number : ℕ) (edits : List (List Field)) (layout : Layout) → HasManifest order files number edits layout → ⊥
-
 -- ---- the logs
 
 -- the log of this number is live, where there are logs from number 1 on
@@ -118,3 +120,13 @@ pub record HasReplayed (files : Files) (numbers : List ℕ) (replay : Replay) : 
 -- no logs of these numbers have sequences that rise
 abbrev pub HasNoReplay : Files → List ℕ → Type 0
 HasNoReplay files numbers = (contents : List LogContent) → HasLogs files contents → numbers_in contents ≡ numbers → RiseAbove 0 (logged contents) → ⊥
+
+-- ---- their lengths
+
+-- the logs of these numbers, each with its length
+abbrev pub HaveLengths : Files → List ℕ → List LogLength → Type 0
+HaveLengths files numbers logs = (numbers_of logs ≡ numbers) × AllByRecursion (HasLength files) logs
+
+-- one of them isn't there
+abbrev pub LacksLog : Files → List ℕ → Type 0
+LacksLog files numbers = (n : ℕ) × Contains numbers n × (get files (name_of (Log n)) ≡ None)

@@ -1,10 +1,10 @@
-use Rattle.std.proofs.Common.{◌≡◌, ◌+◌, ◌-◌, ◌<◌, ◌≤◌, ◌++◌, List, ℕ, [], length, sym, ap, subst, ◌∙◌, arith}
+use Rattle.std.proofs.Common.{rules, ◌≡◌, ◌+◌, ◌-◌, ◌<◌, ◌≤◌, ◌++◌, List, ℕ, [], length, refl, sym, ap, subst, ◌∙◌, arith}
 use Rattle.std.proofs.lemmas.Bool.{eqb-true}
 use Rattle.std.proofs.lemmas.List.{length-append, nil_from_length}
 use Rattle.coding.specs.Fixed.{fixed32}
 use Rattle.std.proofs.Common.{append_assoc}
 use Rattle.block.proofs.checking.check_entries.Goals.{else-offset-gt0-via-then-offset-gt0+else-not-rises, else-offset-gt0-via-else-offset-gt0}
-use Rattle.block.proofs.Rests.{RestOf, some_left, no_entry, shares_too_much, does_not_rise, on_taken, on_skipped, shares_at_restart, back_taken, back_skipped, rest_of_body, body_of_rest, rest_at_end, none_at_end}
+use Rattle.block.proofs.Rests.{RestOf, RestEnds, some_left, no_entry, shares_too_much, does_not_rise, on_taken, on_skipped, shares_at_restart, back_taken, back_skipped, rest_of_body, body_of_rest, rest_at_end, none_at_end}
 use Rattle.block.proofs.checking.check_entries.Goals as goal
 
 pub returns-in_default-entry_at-clause-refused : goal.returns-in_default-entry_at-clause-refused
@@ -74,8 +74,8 @@ loop-rest-preserved-else-entry-gt0 g c =
     record {
       front = front ++ e.0;
       parts = c.loop-rest.invariant.parts ∙ ap (λ (z : List ℕ). front ++ z) e.2 ∙ sym (append_assoc front e.0 behind);
-      back = λ h. c.loop-rest.invariant.back (back_taken below (length front) previous waiting rest s r v e.0 behind key later e.1 e.2 le key_is up (omega (arith, c.if-entry-gt0.false)) here
-          (subst (λ (n : ℕ). RestOf below n key later behind) long h));
+      back = λ last h. c.loop-rest.invariant.back last (back_taken below (length front) previous waiting rest s r v e.0 behind key later e.1 e.2 le key_is up (omega (arith, c.if-entry-gt0.false)) here last
+          (subst (λ (n : ℕ). RestEnds below n key later behind last) long h));
       onward = λ h. subst (λ (n : ℕ). RestOf below n key later behind) (sym long) (on_taken below (length front) previous waiting rest s r v e.0 behind key later e.1 e.2 key_is (omega (arith, c.requires, front_is)) here (c.loop-rest.invariant.onward h));
     }
 
@@ -105,8 +105,8 @@ loop-rest-preserved g c =
     record {
       front = front ++ e.0;
       parts = c.loop-rest.invariant.parts ∙ ap (λ (z : List ℕ). front ++ z) e.2 ∙ sym (append_assoc front e.0 behind);
-      back = λ h. c.loop-rest.invariant.back (back_skipped below (length front) previous waiting rest s r v e.0 behind key e.1 e.2 le key_is up
-          (subst (λ (n : ℕ). RestOf below n key waiting behind) long h));
+      back = λ last h. c.loop-rest.invariant.back last (back_skipped below (length front) previous waiting rest s r v e.0 behind key e.1 e.2 le key_is up last
+          (subst (λ (n : ℕ). RestEnds below n key waiting behind last) long h));
       onward = λ h. subst (λ (n : ℕ). RestOf below n key waiting behind) (sym long) (on_skipped below (length front) previous waiting rest s r v e.0 behind key e.1 e.2 key_is none (c.loop-rest.invariant.onward h));
     }
 
@@ -127,5 +127,16 @@ returns-in-Some-behind_restart-2-clause-found g c =
     let taken : c.loop-rest.waiting.now ≡ [] = nil_from_length c.loop-rest.waiting.now (eqb-true _ _ (sym c.if-not-is_empty.ensures)) in
     let front = c.loop-rest.invariant.front in
     let previous = c.loop-rest.key.items in
-    body_of_rest below c.args.restarts.now c.args.body.now c.in-Some-behind_restart-2.field-0.now some c.requires c.in-Some-behind_restart-2.ensures.found
-    (c.loop-rest.invariant.back (subst (λ (v : List ℕ). RestOf below (length front) previous c.loop-rest.waiting.now v) (sym ended) (subst (λ (v : List ℕ). RestOf below (length front) previous v []) (sym taken) (rest_at_end below (length front) previous))))
+    body_of_rest below c.args.restarts.now c.args.body.now c.in-Some-behind_restart-2.field-0.now previous some c.requires c.in-Some-behind_restart-2.ensures.found
+    (c.loop-rest.invariant.back previous (subst (λ (v : List ℕ). RestEnds below (length front) previous c.loop-rest.waiting.now v previous) (sym ended) (subst (λ (v : List ℕ). RestEnds below (length front) previous v [] previous) (sym taken) (rest_at_end below (length front) previous))))
+
+pub loop-rest-init : goal.loop-rest-init
+loop-rest-init g c =
+    let below = g.O.EntryOrder.below in
+    let none : c.new-key.result.items ≡ [] = search rules in
+    record {
+      front = [];
+      parts = refl;
+      back = λ last h. subst (λ (k : List ℕ). RestEnds below 0 k c.args.restarts.now c.args.body.now last) none h;
+      onward = λ h. subst (λ (k : List ℕ). RestOf below 0 k c.args.restarts.now c.args.body.now) (sym none) h;
+    }

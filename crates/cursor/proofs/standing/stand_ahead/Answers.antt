@@ -1,16 +1,16 @@
+use Rattle.std.proofs.Common.{ℕ, Option, subst}
+use Rattle.cursor.specs.Merging.{listed}
 use Rattle.cursor.specs.Views.{is_user_below}
-use Rattle.cursor.proofs.Wanderings.{wanders_still}
 use Rattle.cursor.proofs.Befores.{get_among}
-use Rattle.cursor.proofs.Standings.{here_ahead, ahead_there}
+use Rattle.cursor.proofs.Standings.{here_ahead, here_past, ahead_there, entry_place}
 use Rattle.cursor.proofs.standing.stand_ahead.Goals as goal
 
-pub returns-in-Here-clause-wanders : goal.returns-in-Here-clause-wanders
-returns-in-Here-clause-wanders g c = wanders_still g.C.Cursor.facts g.C.Cursor.lists g.C.Cursor.keeps g.C.Cursor.limited g.C.Cursor.leaves g.C.Cursor.over g.met.C.Cursor.still g.C.Cursor.leaves_still c.args.cursor.now c.args.source.now
-
-pub returns-in-Here-clause-stands : goal.returns-in-Here-clause-stands
-returns-in-Here-clause-stands g c = λ t entries entry value v same h.
+pub returns-in_ok-step_off-in-Here-clause-stands : goal.returns-in_ok-step_off-in-Here-clause-stands
+returns-in_ok-step_off-in-Here-clause-stands g c = λ t entries entry value v same h.
     let here = rw c.in-Here.is at h in
-    here_ahead g.K.KeyOrder.cmp g.met.K.KeyOrder.total g.met.K.KeyOrder.exact g.C.Cursor.lists g.C.Cursor.stands g.met.C.Cursor.rises g.met.C.Cursor.placed c.args.cursor.now c.args.cursor.now c.args.source.now c.args.source.now entries c.args.sequence entry c.args.user.now same here.0 here.1 here.2
+    let at = entry_place entries here.0 entry here.2 in
+    here_past g.K.KeyOrder.cmp g.met.K.KeyOrder.total g.met.K.KeyOrder.exact g.C.Cursor.lists g.C.Cursor.stands g.met.C.Cursor.rises g.met.C.Cursor.placed c.args.cursor.now c.step_off.new.cursor c.args.source.now c.step_off.new.source entries c.args.sequence entry c.args.user.now same here.0 at.0 here.1 at.2
+    (c.in_ok-step_off-in-Here.ensures.moves t entries at.0 (subst (λ (place : Option ℕ). g.C.Cursor.lists c.args.cursor.now c.args.source.now (listed entries place)) at.1 here.1))
 
 pub returns-in_ok-step_ahead-in-Behind-clause-stands : goal.returns-in_ok-step_ahead-in-Behind-clause-stands
 returns-in_ok-step_ahead-in-Behind-clause-stands g c = λ t entries entry value v same h.

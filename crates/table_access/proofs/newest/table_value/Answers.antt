@@ -1,10 +1,14 @@
+use Rattle.std.proofs.Common.{IsTrue, inl, inr}
 use Rattle.std.proofs.lemmas.Result.{err_from_is_err_and}
+use Rattle.coding.specs.declared.error.Damage.TheVariants.{Kind}
+use Rattle.coding.specs.declared.error.FileKind.TheVariants.{Table}
 use Rattle.table_access.specs.TableLaws.{carries_both}
 use Rattle.table_access.specs.Tables.{seen}
-use Rattle.table_access.proofs.Declining.{data_of, filled_of, not_opened, not_searched, starts_inside}
+use Rattle.table_access.specs.Values.{StandsOnNone}
+use Rattle.table_access.proofs.Declining.{NoTableThere, data_of, filled_of, not_opened, not_searched, not_valued, starts_inside}
 use Rattle.table_access.proofs.Ruling.{undenied}
 use Rattle.table_access.proofs.Standing.{still_later, table_still}
-use Rattle.table_access.proofs.Valuing.{denied_unseen, none_found, one_found}
+use Rattle.table_access.proofs.Valuing.{denied_unseen, none_found, one_found, stands_on_key}
 use Rattle.table_access.proofs.newest.table_value.Goals as goal
 
 pub returns-in_err-table-clause-refused : goal.returns-in_err-table-clause-refused
@@ -49,7 +53,30 @@ returns-in-Some-clause-found g c = λ t file has entries table.
     let found = search t filled.blocks (data_of g.K.KeyOrder.cmp old mid c.args.number file frame entries c.get_table.ensures.carries m has open_is filled)
     (starts_inside g.K.KeyOrder.cmp file c.in_ok-target.target.items frame entries c.first_place-start.result first filled) in
     one_found g.K.KeyOrder.cmp g.met.K.KeyOrder.total g.met.K.KeyOrder.exact file frame entries open_is.0 filled c.args.key.now c.args.sequence c.in_ok-target.target.items c.in_ok-target.ensures
-    c.first_place-start.result first found.0 found.1 c.in-Some.here c.in_ok-value-in-Some.value found.2 c.in_ok-value-in-Some.ensures
+    c.first_place-start.result first found.0 found.1 c.in-Some.here c.in_ok-value-in-Some.value found.2 c.in_ok-value-in-Some.ensures.found
+
+pub returns-in_err-value-in-Some-clause-refused : goal.returns-in_err-value-in-Some-clause-refused
+returns-in_err-value-in-Some-clause-refused g c =
+    let p = err_from_is_err_and c.from_residual-in_err-value-in-Some.result c.from_residual-in_err-value-in-Some.ensures.1 in
+    let cmp = g.K.KeyOrder.cmp in
+    let old = seen (g.S.Store.facts c.args.source.now.store) c.args.source.now.tables c.args.source.now.blocks in
+    let mid = seen (g.S.Store.facts c.get_table.new.self.store) c.get_table.new.self.tables c.get_table.new.self.blocks in
+    let new = seen (g.S.Store.facts c.search_on.new.source.store) c.search_on.new.source.tables c.search_on.new.source.blocks in
+    let frame = c.in_ok-table.table.value.frame in
+    let none : StandsOnNone c.in-Some.here.cursor → IsTrue new.facts.faithful → NoTableThere cmp old c.args.number = λ none t file has entries table.
+    let m = c.search_on.ensures.carries.reads.faithful t in
+    let open_is = (c.in_ok-table.ensures.found m file has).1 in
+    let filled = filled_of cmp file frame entries open_is.0 table in
+    let first = rw (c.deref.ensures, c.deref-2.ensures.value) at c.first_place-start.ensures in
+    let search = rw (c.deref-4.ensures, c.deref-5.ensures.value, c.in-Some.is) at c.in_ok-found.ensures.found in
+    let found = search t filled.blocks (data_of cmp old mid c.args.number file frame entries c.get_table.ensures.carries m has open_is filled)
+    (starts_inside cmp file c.in_ok-target.target.items frame entries c.first_place-start.result first filled) in
+    stands_on_key cmp g.met.K.KeyOrder.total g.met.K.KeyOrder.exact file frame entries open_is.0 filled c.args.key.now c.args.sequence c.in_ok-target.target.items c.in_ok-target.ensures
+    c.first_place-start.result first found.0 found.1 c.in-Some.here found.2 none in
+    rw (p.1, p.2) (not_valued cmp old c.args.number c.in_err-value-in-Some.field-0.0 new Table Kind (elim c.in_err-value-in-Some.ensures.refused [
+      | inl memory ↦ inl memory
+      | inr corrupt ↦ inr (corrupt.0, none corrupt.1)
+    ]))
 
 pub returns-clause-found : goal.returns-clause-found
 returns-clause-found g c = λ t file has entries table.

@@ -5,5 +5,6 @@ returns c = λ app was.
     let first = c.in_ok-first.ensures app _ was c.get.ensures in
     let second = c.in_ok-second.ensures _ _ first c.scan.ensures in
     let third = c.in_ok-third.ensures _ _ second c.reading.ensures in
-    let fourth = c.in_ok-fourth.ensures _ _ third c.reading-2.ensures in
-    c.in_ok-whole.ensures _ _ fourth c.dump.ensures
+    let fourth = c.in_ok-fourth.ensures _ _ third c.stats.ensures in
+    let fifth = c.in_ok-fifth.ensures _ _ fourth c.check.ensures in
+    c.in_ok-whole.ensures _ _ fifth c.dump.ensures

@@ -1,7 +1,8 @@
-use Rattle.std.proofs.Common.{◌≡◌, ◌≤◌, ◌+◌, ◌∷◌, ℕ, Bool, true, false, List, Option, Some, None, Ok, Err, Result, MatchOption, max, min, refl, sym, ap, subst, ◌∙◌, arith, rules}
+use Rattle.std.proofs.Common.{◌≡◌, ◌≤◌, ◌+◌, ◌∷◌, ℕ, Bool, true, false, List, Option, Some, None, Ok, Err, MatchOption, max, min, refl, sym, ap, subst, ◌∙◌, arith, rules}
 use Rattle.coding.specs.declared.error.DbError.{DbError}
 use Rattle.ikey.specs.Orders.{order_of}
 use Rattle.running_job.specs.declared.open_job.OpenJob.{OpenJob}
+use Rattle.running_job.specs.internal.Ending.{EndLeaves}
 use Rattle.db_cursor.proofs.ScanSteps.{scan_kept}
 use Rattle.std.specs.Map.{values_of}
 use Rattle.edits.specs.declared.field.PlacedTable.{PlacedTable}
@@ -25,61 +26,46 @@ use Rattle.engine.proofs.NeededEntries.{takes_on, taking}
 use Rattle.engine.proofs.WithinBudget.{few_left, more_left, not_some}
 use Rattle.engine.proofs.state.DbState.step_job.Goals as goal
 
-pub returns-in_err-progress-clause-step : goal.returns-in_err-progress-clause-step
-returns-in_err-progress-clause-step g c ids =
+pub returns-in-Err-clause-step : goal.returns-in-Err-clause-step
+returns-in-Err-clause-step g c ids =
     let order = order_of g.K.KeyOrder.name g.K.KeyOrder.cmp in
     let old = seen_of g.S.Store.facts c.args.source.now in
-    let new = seen_of g.S.Store.facts c.step.new.source in
+    let new = seen_of g.S.Store.facts c.step-stepped.new.source in
     let state = c.args.self.now in
-    let memory = c.args.source.now.memory in
-    let after_memory = c.step.new.source.memory in
-    let numbers = c.step.new.numbers in
-    let most = max c.args.budget 1 in
-    let s = c.in_err-progress.ensures in
-    let e = c.in_err-progress.field-0.0 in
-    let is : state.job ≡ Some c.in-Some.job = search rules in
-    let none : c.take.new.self ≡ None = search rules in
-    let said : c.from_residual.result ≡ Err e = search rules in
-    let After : Option (OpenJob g.row.K.Denot g.K.KeyOrder) → Result Bool DbError → Type 0 = λ o r. LeadsOpen order old new ids (open_db memory state) (open_db after_memory (record state { directory = record state.directory { numbers = numbers }; job = o })) (λ m n. IsPiece m most r n) in
-    subst (After c.take.new.self) (sym said)
-    (subst (λ (o : Option (OpenJob g.row.K.Denot g.K.KeyOrder)). After o (Err e)) (sym none)
-    (ends_stopped order g.met.K.KeyOrder.total (λ scan. scan_kept order.cmp scan) c.one_directory.ensures c.sound_lasts.ensures old new ids state memory after_memory numbers most c.in-Some.job c.step.new.self is c.requires.whole
-    s.numbers s.drawn s.touches s.keeps e s.refused))
+    let s = c.in-Err.ensures in
+    let is : state.job ≡ Some c.in-Some.running = search rules in
+    ends_stopped order g.met.K.KeyOrder.total (λ scan. scan_kept order.cmp scan) c.one_directory.ensures c.sound_lasts.ensures old new ids state c.args.source.now.memory c.step-stepped.new.source.memory c.step-stepped.new.numbers (max c.args.budget 1) c.in-Some.running c.step-stepped.new.self is c.requires.whole
+    s.numbers s.drawn s.touches s.keeps c.in-Err.error s.refused
 
-pub returns-in_err-progress-clause-outcome : goal.returns-in_err-progress-clause-outcome
-returns-in_err-progress-clause-outcome g c =
+pub returns-in-Err-clause-outcome : goal.returns-in-Err-clause-outcome
+returns-in-Err-clause-outcome g c =
     let old = g.S.Store.facts c.args.source.now.tables.store in
-    let new = g.S.Store.facts c.step.new.source.tables.store in
-    let state = c.args.self.now in
-    let s = c.in_err-progress.ensures in
-    let e = c.in_err-progress.field-0.0 in
-    let said : c.from_residual.result ≡ Err e = search rules in
-    let after : DbState g.row.K.Denot g.K.KeyOrder = record state { directory = record state.directory { numbers = c.step.new.numbers }; job = c.take.new.self } in
-    subst (λ (r : Result Bool DbError). DbOutcome MayRefusePiece old new (open_db c.args.source.now.memory state) (open_db c.step.new.source.memory after) r) (sym said)
-    (stopped_outcome _ _ _ old new state c.args.source.now.memory c.step.new.source.memory c.step.new.numbers c.take.new.self e s.refused s.touches.writes.failures s.touches.writes.denials s.touches.memory)
+    let new = g.S.Store.facts c.step-stepped.new.source.tables.store in
+    let s = c.in-Err.ensures in
+    stopped_outcome _ _ _ old new c.args.self.now c.args.source.now.memory c.step-stepped.new.source.memory c.step-stepped.new.numbers None c.in-Err.error s.refused s.touches.writes.failures s.touches.writes.denials s.touches.memory
 
 pub returns-then-not-progress-clause-step : goal.returns-then-not-progress-clause-step
 returns-then-not-progress-clause-step g c ids =
     let order = order_of g.K.KeyOrder.name g.K.KeyOrder.cmp in
     let old = seen_of g.S.Store.facts c.args.source.now in
-    let new = seen_of g.S.Store.facts c.step.new.source in
+    let new = seen_of g.S.Store.facts c.step-stepped.new.source in
     let state = c.args.self.now in
-    let s = c.in_ok-progress.ensures in
-    let is : state.job ≡ Some c.in-Some.job = search rules in
-    ends_gone_on order g.met.K.KeyOrder.total (λ scan. scan_kept order.cmp scan) c.one_directory.ensures c.sound_lasts.ensures old new ids state c.args.source.now.memory c.step.new.source.memory c.step.new.numbers (max c.args.budget 1) c.in-Some.job c.step.new.self is c.requires.whole
-    s.numbers s.drawn s.touches s.keeps c.args.budget c.in_ok-progress.progress s.goes_on s.snapshots s.owns _
+    let s = c.in-Ok.ensures in
+    let is : state.job ≡ Some c.in-Some.running = search rules in
+    ends_gone_on order g.met.K.KeyOrder.total (λ scan. scan_kept order.cmp scan) c.one_directory.ensures c.sound_lasts.ensures old new ids state c.args.source.now.memory c.step-stepped.new.source.memory c.step-stepped.new.numbers (max c.args.budget 1) c.in-Some.running c.step-stepped.new.self is c.requires.whole
+    s.numbers s.drawn s.touches s.keeps c.args.budget c.in-Ok.progress s.goes_on s.snapshots s.owns _
 
 pub returns-then-not-progress-clause-on : goal.returns-then-not-progress-clause-on
 returns-then-not-progress-clause-on g c =
-    let is : c.args.self.now.job ≡ Some c.in-Some.job = search rules in
-    let going : c.in_ok-progress.progress.ended ≡ false = search rules in
-    let s = c.in_ok-progress.ensures in
+    let is : c.args.self.now.job ≡ Some c.in-Some.running = search rules in
+    let going : c.in-Ok.progress.ended ≡ false = search rules in
+    let s = c.in-Ok.ensures in
     let exactly = s.going_on going in
-    record { work = c.in-Some.job; was = is; on = ((s.plan, omega (arith, s.merged, exactly), s.snapshots, s.version), refl) }
+    record { work = c.in-Some.running; was = is; on = ((s.plan, omega (arith, s.merged, exactly), s.snapshots, s.version), refl) }
 
 pub returns-then-not-progress-clause-serves : goal.returns-then-not-progress-clause-serves
 returns-then-not-progress-clause-serves g c =
-    let s = c.in_ok-progress.ensures in
+    let s = c.in-Ok.ensures in
     record {
       stood = s.stood;
       undenied = s.touches.writes.denials;
@@ -91,85 +77,88 @@ returns-then-not-progress-clause-serves g c =
 pub returns-then-not-progress-clause-all : goal.returns-then-not-progress-clause-all
 returns-then-not-progress-clause-all g c said takes =
     let state = c.args.self.now in
-    let s = c.in_ok-progress.ensures in
-    let is : state.job ≡ Some c.in-Some.job = search rules in
-    let after : DbState g.row.K.Denot g.K.KeyOrder = record state { directory = record state.directory { numbers = c.step.new.numbers }; job = Some c.step.new.self } in
-    takes_on (open_db c.args.source.now.memory state) (open_db c.step.new.source.memory after) c.in-Some.job c.step.new.self s.plan s.version s.snapshots refl (ap (λ (n : ℕ). n ∷ values_of state.snapshots.entries) s.touches.memory.last)
-    (taking (open_db c.args.source.now.memory state) c.in-Some.job is takes)
+    let s = c.in-Ok.ensures in
+    let is : state.job ≡ Some c.in-Some.running = search rules in
+    let after : DbState g.row.K.Denot g.K.KeyOrder = record state { directory = record state.directory { numbers = c.step-stepped.new.numbers }; job = Some c.step-stepped.new.self } in
+    takes_on (open_db c.args.source.now.memory state) (open_db c.step-stepped.new.source.memory after) c.in-Some.running c.step-stepped.new.self s.plan s.version s.snapshots refl (ap (λ (n : ℕ). n ∷ values_of state.snapshots.entries) s.touches.memory.last)
+    (taking (open_db c.args.source.now.memory state) c.in-Some.running is takes)
 
 pub returns-then-not-progress-clause-few : goal.returns-then-not-progress-clause-few
 returns-then-not-progress-clause-few g c f =
     let order = order_of g.K.KeyOrder.name g.K.KeyOrder.cmp in
     let old = seen_of g.S.Store.facts c.args.source.now in
-    let progress = c.in_ok-progress.progress in
-    let is : c.args.self.now.job ≡ Some c.in-Some.job = search rules in
+    let progress = c.in-Ok.progress in
+    let is : c.args.self.now.job ≡ Some c.in-Some.running = search rules in
     let going : progress.ended ≡ false = search rules in
-    more_left order old (whole_in g.S.Store.facts c.step.new.source) (open_db c.args.source.now.memory c.args.self.now) c.in-Some.job c.step.new.self c.step.new.numbers.next c.args.budget progress is going c.in_ok-progress.ensures.goes_on f
+    more_left order old (whole_in g.S.Store.facts c.step-stepped.new.source) (open_db c.args.source.now.memory c.args.self.now) c.in-Some.running c.step-stepped.new.self c.step-stepped.new.numbers.next c.args.budget progress is going c.in-Ok.ensures.goes_on f
 
 pub returns-then-not-progress-clause-beside : goal.returns-then-not-progress-clause-beside
 returns-then-not-progress-clause-beside g c said f =
     let order = order_of g.K.KeyOrder.name g.K.KeyOrder.cmp in
     let old = seen_of g.S.Store.facts c.args.source.now in
-    let new = seen_of g.S.Store.facts c.step.new.source in
+    let new = seen_of g.S.Store.facts c.step-stepped.new.source in
     let state = c.args.self.now in
-    let s = c.in_ok-progress.ensures in
-    let is : state.job ≡ Some c.in-Some.job = search rules in
-    steps_beside order g.met.K.KeyOrder.total (λ scan. scan_kept order.cmp scan) c.one_directory.ensures c.sound_lasts.ensures old new no_ids state c.args.source.now.memory c.step.new.source.memory c.step.new.numbers (max c.args.budget 1) c.in-Some.job c.step.new.self is c.requires.whole
+    let s = c.in-Ok.ensures in
+    let is : state.job ≡ Some c.in-Some.running = search rules in
+    steps_beside order g.met.K.KeyOrder.total (λ scan. scan_kept order.cmp scan) c.one_directory.ensures c.sound_lasts.ensures old new no_ids state c.args.source.now.memory c.step-stepped.new.source.memory c.step-stepped.new.numbers (max c.args.budget 1) c.in-Some.running c.step-stepped.new.self is c.requires.whole
     s.numbers s.drawn s.touches s.keeps f
 
-pub returns-in-Ok-clause-step : goal.returns-in-Ok-clause-step
-returns-in-Ok-clause-step g c ids =
+pub returns-in-Ok-install-clause-step : goal.returns-in-Ok-install-clause-step
+returns-in-Ok-install-clause-step g c ids =
     let order = order_of g.K.KeyOrder.name g.K.KeyOrder.cmp in
     let old = seen_of g.S.Store.facts c.args.source.now in
-    let new = seen_of g.S.Store.facts c.step.new.source in
+    let new = seen_of g.S.Store.facts c.step-stepped.new.source in
     let facts = g.S.Store.facts c.install.new.store in
     let state = c.args.self.now in
     let memory = c.args.source.now.memory in
-    let after_memory = c.step.new.source.memory in
-    let numbers = c.step.new.numbers in
+    let after_memory = c.step-stepped.new.source.memory in
+    let numbers = c.step-stepped.new.numbers in
     let most = max c.args.budget 1 in
-    let s = c.in_ok-progress.ensures in
-    let i = c.in-Ok.ensures in
-    let installed = c.in-Ok.installed in
-    let is : state.job ≡ Some c.in-Some.job = search rules in
+    let s = c.in-Ok.ensures in
+    let taken_out : c.in-Some-take.job ≡ c.step-stepped.new.self = search rules in
+    let i = rw taken_out at c.in-Ok-install.ensures in
+    let installed = c.in-Ok-install.installed in
+    let is : state.job ≡ Some c.in-Some.running = search rules in
     let none : c.take.new.self ≡ None = search rules in
-    let ended : c.in_ok-progress.progress.ended ≡ true = search rules in
+    let ended : c.in-Ok.progress.ended ≡ true = search rules in
     let after : Option (OpenJob g.row.K.Denot g.K.KeyOrder) → DbState g.row.K.Denot g.K.KeyOrder =
     λ o. record state { version = installed.version; directory = record state.directory { numbers = numbers; manifest = record state.directory.manifest { end = installed.manifest_end } }; job = o } in
     let taken : c.take_installed.new.self ≡ after c.take.new.self = c.take_installed.ensures in
     subst (λ (t : DbState g.row.K.Denot g.K.KeyOrder). LeadsOpen order old (record new { facts = facts }) ids (open_db memory state) (open_db after_memory t) (λ m n. IsPiece m most (Ok true) n)) (sym (taken ∙ ap after none))
-    (ends_installed order g.met.K.KeyOrder.total (λ scan. scan_kept order.cmp scan) c.one_directory.ensures c.sound_lasts.ensures old new ids state memory after_memory numbers most c.in-Some.job c.step.new.self is c.requires.whole
-    s.numbers s.drawn s.touches s.keeps c.args.budget c.in_ok-progress.progress s.goes_on s.snapshots s.owns facts ended c.last-last_sequence.result c.last-last_sequence.ensures.is c.deref.result.now.tables (ap (λ (p : Placement). p.tables) c.deref.ensures) (Ok installed)
+    (ends_installed order g.met.K.KeyOrder.total (λ scan. scan_kept order.cmp scan) c.one_directory.ensures c.sound_lasts.ensures old new ids state memory after_memory numbers most c.in-Some.running c.step-stepped.new.self is c.requires.whole
+    s.numbers s.drawn s.touches s.keeps c.args.budget c.in-Ok.progress s.goes_on s.snapshots s.owns facts ended c.last-last_sequence.result c.last-last_sequence.ensures.is c.deref.result.now.tables (ap (λ (p : Placement). p.tables) c.deref.ensures) (Ok installed)
     i.call i.leaves true installed refl i.version.in_order)
 
-pub returns-in-Ok-clause-on : goal.returns-in-Ok-clause-on
-returns-in-Ok-clause-on g c =
+pub returns-in-Ok-install-clause-on : goal.returns-in-Ok-install-clause-on
+returns-in-Ok-install-clause-on g c =
     let state = c.args.self.now in
-    let s = c.in_ok-progress.ensures in
-    let installed = c.in-Ok.installed in
-    let work = c.in-Some.job in
+    let s = c.in-Ok.ensures in
+    let installed = c.in-Ok-install.installed in
+    let work = c.in-Some.running in
     let is : state.job ≡ Some work = search rules in
     let none : c.take.new.self ≡ None = search rules in
     let tables_are : c.deref.result.now.tables ≡ state.version.value.tables = ap (λ (p : Placement). p.tables) c.deref.ensures in
     let new = installed.version.value.tables in
+    let taken_out : c.in-Some-take.job ≡ c.step-stepped.new.self = search rules in
     let done : ReplacesInputs work.job.plan state.version.value.tables new =
-    subst (λ (plan : JobPlan). ReplacesInputs plan state.version.value.tables new) s.plan (subst (λ (ts : List PlacedTable). ReplacesInputs c.step.new.self.job.plan ts new) tables_are c.in-Ok.ensures.version.replaces) in
+    subst (λ (plan : JobPlan). ReplacesInputs plan state.version.value.tables new) s.plan (subst (λ (ts : List PlacedTable). ReplacesInputs c.step-stepped.new.self.job.plan ts new) tables_are (rw taken_out at c.in-Ok-install.ensures.version.replaces)) in
     let after : Option (OpenJob g.row.K.Denot g.K.KeyOrder) → DbState g.row.K.Denot g.K.KeyOrder =
-    λ o. record state { version = installed.version; directory = record state.directory { numbers = c.step.new.numbers; manifest = record state.directory.manifest { end = installed.manifest_end } }; job = o } in
+    λ o. record state { version = installed.version; directory = record state.directory { numbers = c.step-stepped.new.numbers; manifest = record state.directory.manifest { end = installed.manifest_end } }; job = o } in
     let taken : c.take_installed.new.self ≡ after c.take.new.self = c.take_installed.ensures in
     let On : DbState g.row.K.Denot g.K.KeyOrder → Type 0 = λ t. MatchOption t.job (ReplacesInputs work.job.plan state.version.value.tables t.version.value.tables) (λ more. IsFurther work (max c.args.budget 1) more × (t.version.value.tables ≡ state.version.value.tables)) in
     record { work = work; was = is; on = subst On (sym (taken ∙ ap after none)) done }
 
-pub returns-in-Ok-clause-serves : goal.returns-in-Ok-clause-serves
-returns-in-Ok-clause-serves g c =
+pub returns-in-Ok-install-clause-serves : goal.returns-in-Ok-install-clause-serves
+returns-in-Ok-install-clause-serves g c =
     let state = c.args.self.now in
-    let s = c.in_ok-progress.ensures in
-    let i = c.in-Ok.ensures in
-    let installed = c.in-Ok.installed in
+    let s = c.in-Ok.ensures in
+    let taken_out : c.in-Some-take.job ≡ c.step-stepped.new.self = search rules in
+    let i = rw taken_out at c.in-Ok-install.ensures in
+    let installed = c.in-Ok-install.installed in
     let after : DbState g.row.K.Denot g.K.KeyOrder =
-    record state { version = installed.version; directory = record state.directory { numbers = c.step.new.numbers; manifest = record state.directory.manifest { end = installed.manifest_end } }; job = c.take.new.self } in
+    record state { version = installed.version; directory = record state.directory { numbers = c.step-stepped.new.numbers; manifest = record state.directory.manifest { end = installed.manifest_end } }; job = c.take.new.self } in
     let taken : c.take_installed.new.self ≡ after = c.take_installed.ensures in
-    subst (λ (t : DbState g.row.K.Denot g.K.KeyOrder). ServesOn (g.S.Store.facts c.args.source.now.tables.store) (g.S.Store.facts c.install.new.store) (open_db c.args.source.now.memory state) (open_db c.step.new.source.memory t)) (sym taken)
+    subst (λ (t : DbState g.row.K.Denot g.K.KeyOrder). ServesOn (g.S.Store.facts c.args.source.now.tables.store) (g.S.Store.facts c.install.new.store) (open_db c.args.source.now.memory state) (open_db c.step-stepped.new.source.memory t)) (sym taken)
     (record {
       stood = i.stood ∙ s.stood;
       undenied = i.call.denials ∙ s.touches.writes.denials;
@@ -178,139 +167,147 @@ returns-in-Ok-clause-serves g c =
       views = record { sequence = s.touches.memory.last; snapshots = λ q. refl; iterators = λ q. refl };
     })
 
-pub returns-in-Ok-clause-come : goal.returns-in-Ok-clause-come
-returns-in-Ok-clause-come g c said ids =
+pub returns-in-Ok-install-clause-come : goal.returns-in-Ok-install-clause-come
+returns-in-Ok-install-clause-come g c said ids =
     let order = order_of g.K.KeyOrder.name g.K.KeyOrder.cmp in
     let old = seen_of g.S.Store.facts c.args.source.now in
-    let new = seen_of g.S.Store.facts c.step.new.source in
+    let new = seen_of g.S.Store.facts c.step-stepped.new.source in
     let facts = g.S.Store.facts c.install.new.store in
     let state = c.args.self.now in
     let memory = c.args.source.now.memory in
-    let after_memory = c.step.new.source.memory in
-    let numbers = c.step.new.numbers in
-    let progress = c.in_ok-progress.progress in
+    let after_memory = c.step-stepped.new.source.memory in
+    let numbers = c.step-stepped.new.numbers in
+    let progress = c.in-Ok.progress in
     let most = min progress.merged (max c.args.budget 1) in
-    let s = c.in_ok-progress.ensures in
-    let i = c.in-Ok.ensures in
-    let installed = c.in-Ok.installed in
-    let is : state.job ≡ Some c.in-Some.job = search rules in
+    let s = c.in-Ok.ensures in
+    let upto : numbers.next ≤ state.directory.numbers.next + most = omega (arith, s.drawn, s.drawn_merged) in
+    let no_more : most ≤ max c.args.budget 1 = omega arith in
+    let no_fewer : most ≤ progress.merged = omega arith in
+    let taken_out : c.in-Some-take.job ≡ c.step-stepped.new.self = search rules in
+    let i = rw taken_out at c.in-Ok-install.ensures in
+    let installed = c.in-Ok-install.installed in
+    let is : state.job ≡ Some c.in-Some.running = search rules in
     let none : c.take.new.self ≡ None = search rules in
     let ended : progress.ended ≡ true = search rules in
-    let upto : numbers.next ≤ state.directory.numbers.next + most = omega (arith, s.drawn, s.drawn_merged) in
     let after : Option (OpenJob g.row.K.Denot g.K.KeyOrder) → DbState g.row.K.Denot g.K.KeyOrder =
     λ o. record state { version = installed.version; directory = record state.directory { numbers = numbers; manifest = record state.directory.manifest { end = installed.manifest_end } }; job = o } in
     let taken : c.take_installed.new.self ≡ after c.take.new.self = c.take_installed.ensures in
     subst (λ (t : DbState g.row.K.Denot g.K.KeyOrder). LeadsOpen order old (record new { facts = facts }) ids (open_db memory state) (open_db after_memory t) (λ m n. HasCome c.args.budget (open_db memory state) m (Ok true) n)) (sym (taken ∙ ap after none))
-    (ends_counted order g.met.K.KeyOrder.total (λ scan. scan_kept order.cmp scan) c.one_directory.ensures c.sound_lasts.ensures old new ids state memory after_memory numbers most c.in-Some.job c.step.new.self is c.requires.whole
+    (ends_counted order g.met.K.KeyOrder.total (λ scan. scan_kept order.cmp scan) c.one_directory.ensures c.sound_lasts.ensures old new ids state memory after_memory numbers most c.in-Some.running c.step-stepped.new.self is c.requires.whole
     s.numbers upto s.touches s.keeps c.args.budget progress s.goes_on s.snapshots s.owns facts ended c.last-last_sequence.result c.last-last_sequence.ensures.is c.deref.result.now.tables (ap (λ (p : Placement). p.tables) c.deref.ensures) (Ok installed)
-    i.call i.leaves (omega arith) s.merged (omega arith) true installed refl i.version.in_order)
+    i.call i.leaves no_more s.merged no_fewer true installed refl i.version.in_order)
 
-pub returns-in-Ok-clause-needed : goal.returns-in-Ok-clause-needed
-returns-in-Ok-clause-needed g c said takes =
+pub returns-in-Ok-install-clause-needed : goal.returns-in-Ok-install-clause-needed
+returns-in-Ok-install-clause-needed g c said takes =
     let order = order_of g.K.KeyOrder.name g.K.KeyOrder.cmp in
     let old = seen_of g.S.Store.facts c.args.source.now in
-    let new = seen_of g.S.Store.facts c.step.new.source in
+    let new = seen_of g.S.Store.facts c.step-stepped.new.source in
     let facts = g.S.Store.facts c.install.new.store in
     let state = c.args.self.now in
     let memory = c.args.source.now.memory in
-    let after_memory = c.step.new.source.memory in
-    let numbers = c.step.new.numbers in
+    let after_memory = c.step-stepped.new.source.memory in
+    let numbers = c.step-stepped.new.numbers in
     let most = max c.args.budget 1 in
-    let s = c.in_ok-progress.ensures in
-    let i = c.in-Ok.ensures in
-    let installed = c.in-Ok.installed in
-    let is : state.job ≡ Some c.in-Some.job = search rules in
+    let s = c.in-Ok.ensures in
+    let taken_out : c.in-Some-take.job ≡ c.step-stepped.new.self = search rules in
+    let i = rw taken_out at c.in-Ok-install.ensures in
+    let installed = c.in-Ok-install.installed in
+    let is : state.job ≡ Some c.in-Some.running = search rules in
     let none : c.take.new.self ≡ None = search rules in
-    let ended : c.in_ok-progress.progress.ended ≡ true = search rules in
+    let ended : c.in-Ok.progress.ended ≡ true = search rules in
     let after : Option (OpenJob g.row.K.Denot g.K.KeyOrder) → DbState g.row.K.Denot g.K.KeyOrder =
     λ o. record state { version = installed.version; directory = record state.directory { numbers = numbers; manifest = record state.directory.manifest { end = installed.manifest_end } }; job = o } in
     let taken : c.take_installed.new.self ≡ after c.take.new.self = c.take_installed.ensures in
     subst (λ (t : DbState g.row.K.Denot g.K.KeyOrder). EndsNeeded order old (record new { facts = facts }) (open_db memory state) (open_db after_memory t)) (sym (taken ∙ ap after none))
-    (ends_needed order g.met.K.KeyOrder.total (λ scan. scan_kept order.cmp scan) c.one_directory.ensures c.sound_lasts.ensures old new no_ids state memory after_memory numbers most c.in-Some.job c.step.new.self is c.requires.whole
-    s.numbers s.drawn s.touches s.keeps c.args.budget c.in_ok-progress.progress s.goes_on s.snapshots s.owns facts ended c.last-last_sequence.result c.last-last_sequence.ensures.is c.deref.result.now.tables (ap (λ (p : Placement). p.tables) c.deref.ensures) (Ok installed)
-    i.call i.leaves installed refl s.plan s.version (taking (open_db memory state) c.in-Some.job is takes))
+    (ends_needed order g.met.K.KeyOrder.total (λ scan. scan_kept order.cmp scan) c.one_directory.ensures c.sound_lasts.ensures old new no_ids state memory after_memory numbers most c.in-Some.running c.step-stepped.new.self is c.requires.whole
+    s.numbers s.drawn s.touches s.keeps c.args.budget c.in-Ok.progress s.goes_on s.snapshots s.owns facts ended c.last-last_sequence.result c.last-last_sequence.ensures.is c.deref.result.now.tables (ap (λ (p : Placement). p.tables) c.deref.ensures) (Ok installed)
+    i.call i.leaves installed refl s.plan s.version (taking (open_db memory state) c.in-Some.running is takes))
 
-pub returns-in-Ok-clause-few : goal.returns-in-Ok-clause-few
-returns-in-Ok-clause-few g c f =
+pub returns-in-Ok-install-clause-few : goal.returns-in-Ok-install-clause-few
+returns-in-Ok-install-clause-few g c f =
     let order = order_of g.K.KeyOrder.name g.K.KeyOrder.cmp in
     let old = seen_of g.S.Store.facts c.args.source.now in
     let state = c.args.self.now in
     let db = open_db c.args.source.now.memory state in
-    let progress = c.in_ok-progress.progress in
-    let is : state.job ≡ Some c.in-Some.job = search rules in
+    let progress = c.in-Ok.progress in
+    let is : state.job ≡ Some c.in-Some.running = search rules in
     let none : c.take.new.self ≡ None = search rules in
     let ended : progress.ended ≡ true = search rules in
     let gone : c.take_installed.new.self.job ≡ None = ap (λ (t : DbState g.row.K.Denot g.K.KeyOrder). t.job) c.take_installed.ensures ∙ none in
     subst (λ (o : Option (OpenJob g.row.K.Denot g.K.KeyOrder)). HasLeftBy order old db (max c.args.budget 1) o) (sym gone)
-    (few_left order old (whole_in g.S.Store.facts c.step.new.source) db c.in-Some.job c.step.new.self c.step.new.numbers.next c.args.budget progress is ended c.in_ok-progress.ensures.goes_on (c.in-Ok.ensures.call.faithful f))
+    (few_left order old (whole_in g.S.Store.facts c.step-stepped.new.source) db c.in-Some.running c.step-stepped.new.self c.step-stepped.new.numbers.next c.args.budget progress is ended c.in-Ok.ensures.goes_on (c.in-Ok-install.ensures.call.faithful f))
 
 pub returns-then-not-progress-clause-merges : goal.returns-then-not-progress-clause-merges
-returns-then-not-progress-clause-merges g c none = absurd (not_some (Some c.step.new.self) none refl)
+returns-then-not-progress-clause-merges g c none = absurd (not_some (Some c.step-stepped.new.self) none refl)
 
-pub returns-in-Ok-clause-merges : goal.returns-in-Ok-clause-merges
-returns-in-Ok-clause-merges g c gone =
+pub returns-in-Ok-install-clause-merges : goal.returns-in-Ok-install-clause-merges
+returns-in-Ok-install-clause-merges g c gone =
     let order = order_of g.K.KeyOrder.name g.K.KeyOrder.cmp in
     let old = seen_of g.S.Store.facts c.args.source.now in
-    let new = seen_of g.S.Store.facts c.step.new.source in
+    let new = seen_of g.S.Store.facts c.step-stepped.new.source in
     let facts = g.S.Store.facts c.install.new.store in
     let state = c.args.self.now in
     let memory = c.args.source.now.memory in
-    let after_memory = c.step.new.source.memory in
-    let numbers = c.step.new.numbers in
+    let after_memory = c.step-stepped.new.source.memory in
+    let numbers = c.step-stepped.new.numbers in
     let most = max c.args.budget 1 in
-    let s = c.in_ok-progress.ensures in
-    let i = c.in-Ok.ensures in
-    let installed = c.in-Ok.installed in
-    let is : state.job ≡ Some c.in-Some.job = search rules in
+    let s = c.in-Ok.ensures in
+    let taken_out : c.in-Some-take.job ≡ c.step-stepped.new.self = search rules in
+    let i = rw taken_out at c.in-Ok-install.ensures in
+    let installed = c.in-Ok-install.installed in
+    let is : state.job ≡ Some c.in-Some.running = search rules in
     let none : c.take.new.self ≡ None = search rules in
-    let ended : c.in_ok-progress.progress.ended ≡ true = search rules in
+    let ended : c.in-Ok.progress.ended ≡ true = search rules in
     let after : Option (OpenJob g.row.K.Denot g.K.KeyOrder) → DbState g.row.K.Denot g.K.KeyOrder =
     λ o. record state { version = installed.version; directory = record state.directory { numbers = numbers; manifest = record state.directory.manifest { end = installed.manifest_end } }; job = o } in
     let taken : c.take_installed.new.self ≡ after c.take.new.self = c.take_installed.ensures in
     subst (λ (t : DbState g.row.K.Denot g.K.KeyOrder). PutsMerged order old (record new { facts = facts }) (open_db memory state) (open_db after_memory t)) (sym (taken ∙ ap after none))
-    (ends_merged order g.met.K.KeyOrder.total (λ scan. scan_kept order.cmp scan) c.one_directory.ensures c.sound_lasts.ensures old new no_ids state memory after_memory numbers most c.in-Some.job c.step.new.self is c.requires.whole
-    s.numbers s.drawn s.touches s.keeps c.args.budget c.in_ok-progress.progress s.goes_on s.snapshots s.owns facts ended c.last-last_sequence.result c.last-last_sequence.ensures.is c.deref.result.now.tables (ap (λ (p : Placement). p.tables) c.deref.ensures) (Ok installed)
+    (ends_merged order g.met.K.KeyOrder.total (λ scan. scan_kept order.cmp scan) c.one_directory.ensures c.sound_lasts.ensures old new no_ids state memory after_memory numbers most c.in-Some.running c.step-stepped.new.self is c.requires.whole
+    s.numbers s.drawn s.touches s.keeps c.args.budget c.in-Ok.progress s.goes_on s.snapshots s.owns facts ended c.last-last_sequence.result c.last-last_sequence.ensures.is c.deref.result.now.tables (ap (λ (p : Placement). p.tables) c.deref.ensures) (Ok installed)
     i.call i.leaves installed refl s.plan s.version)
 
-pub returns-in-Err-clause-step : goal.returns-in-Err-clause-step
-returns-in-Err-clause-step g c ids =
+pub returns-in-Err-install-clause-step : goal.returns-in-Err-install-clause-step
+returns-in-Err-install-clause-step g c ids =
     let order = order_of g.K.KeyOrder.name g.K.KeyOrder.cmp in
     let old = seen_of g.S.Store.facts c.args.source.now in
-    let new = seen_of g.S.Store.facts c.step.new.source in
+    let new = seen_of g.S.Store.facts c.step-stepped.new.source in
     let facts = g.S.Store.facts c.install.new.store in
     let state = c.args.self.now in
     let memory = c.args.source.now.memory in
-    let after_memory = c.step.new.source.memory in
-    let numbers = c.step.new.numbers in
+    let after_memory = c.step-stepped.new.source.memory in
+    let numbers = c.step-stepped.new.numbers in
     let most = max c.args.budget 1 in
-    let s = c.in_ok-progress.ensures in
-    let i = c.in-Err.ensures in
-    let e = c.in-Err.error in
-    let is : state.job ≡ Some c.in-Some.job = search rules in
+    let s = c.in-Ok.ensures in
+    let taken_out : c.in-Some-take.job ≡ c.step-stepped.new.self = search rules in
+    let i = rw taken_out at c.in-Err-install.ensures in
+    let e = c.in-Err-install.error in
+    let leaves = subst (λ (w : OpenJob g.row.K.Denot g.K.KeyOrder). EndLeaves order new.facts facts numbers.next c.last-last_sequence.result state.directory.manifest c.deref.result.now.tables w (Err e)) taken_out c.in-Err-install.ensures.leaves in
+    let is : state.job ≡ Some c.in-Some.running = search rules in
     let none : c.take.new.self ≡ None = search rules in
-    let ended : c.in_ok-progress.progress.ended ≡ true = search rules in
+    let ended : c.in-Ok.progress.ended ≡ true = search rules in
     let before : Option (OpenJob g.row.K.Denot g.K.KeyOrder) → DbState g.row.K.Denot g.K.KeyOrder = λ o. record state { directory = record state.directory { numbers = numbers }; job = o } in
     let After : DbState g.row.K.Denot g.K.KeyOrder → DbError → Type 0 = λ t r. LeadsOpen order old (record new { facts = facts }) ids (open_db memory state) (open_db after_memory t) (λ m n. IsPiece {T = Bool} m most (Err r) n) in
     subst (After c.flush_refusal.new.self) (sym c.flush_refusal.ensures.answer)
     (subst (λ (t : DbState g.row.K.Denot g.K.KeyOrder). After t (flush_answer e)) (sym c.flush_refusal.ensures.broken)
     (subst (λ (o : Option (OpenJob g.row.K.Denot g.K.KeyOrder)). After (broken_by (before o) (flush_answer e)) (flush_answer e)) (sym none)
-    (ends_unended order g.met.K.KeyOrder.total (λ scan. scan_kept order.cmp scan) c.one_directory.ensures c.sound_lasts.ensures old new ids state memory after_memory numbers most c.in-Some.job c.step.new.self is c.requires.whole
-    s.numbers s.drawn s.touches s.keeps c.args.budget c.in_ok-progress.progress s.goes_on s.snapshots s.owns facts ended c.last-last_sequence.result c.last-last_sequence.ensures.is c.deref.result.now.tables (ap (λ (p : Placement). p.tables) c.deref.ensures) (Err e)
-    i.call i.leaves e refl i.refused)))
+    (ends_unended order g.met.K.KeyOrder.total (λ scan. scan_kept order.cmp scan) c.one_directory.ensures c.sound_lasts.ensures old new ids state memory after_memory numbers most c.in-Some.running c.step-stepped.new.self is c.requires.whole
+    s.numbers s.drawn s.touches s.keeps c.args.budget c.in-Ok.progress s.goes_on s.snapshots s.owns facts ended c.last-last_sequence.result c.last-last_sequence.ensures.is c.deref.result.now.tables (ap (λ (p : Placement). p.tables) c.deref.ensures) (Err e)
+    i.call leaves e refl i.refused)))
 
-pub returns-in-Err-clause-outcome : goal.returns-in-Err-clause-outcome
-returns-in-Err-clause-outcome g c =
+pub returns-in-Err-install-clause-outcome : goal.returns-in-Err-install-clause-outcome
+returns-in-Err-install-clause-outcome g c =
     let order = order_of g.K.KeyOrder.name g.K.KeyOrder.cmp in
     let old = g.S.Store.facts c.args.source.now.tables.store in
-    let mid = g.S.Store.facts c.step.new.source.tables.store in
+    let mid = g.S.Store.facts c.step-stepped.new.source.tables.store in
     let new = g.S.Store.facts c.install.new.store in
     let state = c.args.self.now in
     let memory = c.args.source.now.memory in
-    let after_memory = c.step.new.source.memory in
-    let s = c.in_ok-progress.ensures in
-    let i = c.in-Err.ensures in
-    let e = c.in-Err.error in
+    let after_memory = c.step-stepped.new.source.memory in
+    let s = c.in-Ok.ensures in
+    let taken_out : c.in-Some-take.job ≡ c.step-stepped.new.self = search rules in
+    let i = rw taken_out at c.in-Err-install.ensures in
+    let e = c.in-Err-install.error in
     let After : DbState g.row.K.Denot g.K.KeyOrder → DbError → Type 0 = λ t r. DbOutcome {T = Bool} MayRefusePiece old new (open_db memory state) (open_db after_memory t) (Err r) in
     subst (After c.flush_refusal.new.self) (sym c.flush_refusal.ensures.answer)
     (subst (λ (t : DbState g.row.K.Denot g.K.KeyOrder). After t (flush_answer e)) (sym c.flush_refusal.ensures.broken)
-    (unended_outcome order old mid new state memory after_memory c.step.new.numbers c.take.new.self _ _ _ _ _ e i.refused (sym s.stood) i.call.failures (i.call.denials ∙ s.touches.writes.denials) s.touches.memory))
+    (unended_outcome order old mid new state memory after_memory c.step-stepped.new.numbers c.take.new.self _ _ _ _ _ e i.refused (sym s.stood) i.call.failures (i.call.denials ∙ s.touches.writes.denials) s.touches.memory))

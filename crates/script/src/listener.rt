@@ -1,0 +1,59 @@
+//! Who is told of what was refused, beside its answer line.
+
+use crate::misread::Misread;
+use coding::DbError;
+use engine::Answer;
+
+/// A refusal, and where it was met.
+#[derive(Clone, Copy, Debug, PartialEq, Eq)]
+pub struct Refusal {
+    /// The number of the line, from 1 on, or `None` where no line asked for it, as for the open in front of an import.
+    pub line: Option<u64>,
+    /// The refusal.
+    pub error: DbError,
+    /// What is wrong with the line, where it is `BadLine`.
+    pub misread: Option<Misread>,
+}
+
+/// Who is told of refusals as they are answered. What it does with them changes no answer.
+pub trait Listener {
+    /// Told of each refusal, in their order.
+    fn refused(&mut self, refusal: &Refusal);
+}
+
+/// Nobody, who is told nothing.
+#[derive(Clone, Copy, Debug, Drop, PartialEq, Eq)]
+pub struct Nobody;
+
+impl Listener for Nobody {
+    fn refused(&mut self, refusal: &Refusal) {
+        let _ = refusal;
+    }
+}
+
+/// Tells of a line that says no command, and of what is wrong with it.
+pub fn tell_of_bad_line<L: Listener>(listener: &mut L, number: u64, misread: Option<Misread>) {
+    listener.refused(&Refusal {
+        line: Some(number),
+        error: DbError::BadLine,
+        misread,
+    });
+}
+
+/// Tells of an answer that is a refusal, of a line or of none.
+pub fn tell_of_answer<L: Listener>(listener: &mut L, line: Option<u64>, answer: &Answer) {
+    match answer {
+        Answer::Refused(error) => listener.refused(&Refusal {
+            line,
+            error: *error,
+            misread: None,
+        }),
+        Answer::Done => {}
+        Answer::Value(_) => {}
+        Answer::Snapshot(_) => {}
+        Answer::Iterator(_) => {}
+        Answer::Pair(_) => {}
+        Answer::Worked => {}
+        Answer::Idle => {}
+    }
+}

@@ -1,0 +1,63 @@
+// What is said on standard error of refusals, as they are answered.
+
+use crate::saying::{say_how_to_see, say_of_directory, say_of_line, say_of_misread};
+use coding::DbError;
+use script::{Listener, Refusal};
+use std::io::Write;
+
+/// Says why what was asked for was refused: of a line of a script where a file, the disk or the line itself is the cause, and of whatever
+/// no line asked for. Any other refusal of a line says all by its name.
+#[derive(Drop)]
+pub struct Telling<'a, F> {
+    folder: &'a str,
+    faults: &'a mut F,
+    // whether a file was refused
+    damaged: bool,
+}
+
+impl<'a, F: Write> Telling<'a, F> {
+    /// Says it of a database in this folder.
+    pub fn of(folder: &'a str, faults: &'a mut F) -> Self {
+        Telling {
+            folder,
+            faults,
+            damaged: false,
+        }
+    }
+
+    /// Says at the end how to see which file it is that was refused, if one was.
+    pub fn end(&mut self) {
+        let folder = self.folder;
+        if self.damaged {
+            say_how_to_see(self.faults, folder);
+        }
+    }
+}
+
+impl<F: Write> Listener for Telling<'_, F> {
+    fn refused(&mut self, refusal: &Refusal) {
+        self.damaged = self.damaged || is_of_a_file(refusal.error);
+        match refusal.line {
+            None => say_of_directory(self.faults, self.folder, refusal.error),
+            Some(line) => tell_line(self.faults, line, refusal),
+        }
+    }
+}
+
+fn tell_line<F: Write>(faults: &mut F, line: u64, refusal: &Refusal) {
+    if let Some(misread) = refusal.misread {
+        say_of_misread(faults, line, misread);
+        return;
+    }
+    if is_of_a_file(refusal.error) || refusal.error == DbError::Io {
+        say_of_line(faults, line, refusal.error);
+    }
+}
+
+fn is_of_a_file(error: DbError) -> bool {
+    match error {
+        DbError::Corrupt(_, _) => true,
+        DbError::Unsupported(_) => true,
+        _ => false,
+    }
+}
