@@ -9,6 +9,9 @@ EVERY = 1.0
 
 PROOF, TESTS, EDITS = "proof", "tests", "edits"
 
+# a crate that is proved by every gate, in half a minute
+MEASURE = "ikey"
+
 
 def words_of(process):
     with open(f"/proc/{process}/cmdline", "rb") as it:
@@ -67,16 +70,27 @@ class Spent(threading.Thread):
         start, seconds = used_by(process)
         self.seen[int(process), start] = words[words.index("--crate-name") + 1], what, start, seconds
 
+    def paid(self):
+        """The seconds of each crate's proof, of that of its tests and of each of its edits, in their order, where there are any."""
+        self.ended.set()
+        if self.is_alive():
+            self.join()
+        found = {}
+        for crate, kind, _, seconds in sorted(self.seen.values(), key=lambda it: it[2]):
+            found.setdefault(crate, {what: [] for what in (PROOF, TESTS, EDITS)})[kind].append(seconds)
+        return {it: found[it] for it in crates() if it in found}
+
     def rows(self):
         """A line for each crate of which something was proved: its proof, the proof of its tests, the first of its edits and each further one."""
-        self.ended.set()
-        self.join()
-        for crate in crates():
-            mine = [it for it in self.seen.values() if it[0] == crate]
-            if not mine:
-                continue
-            paid = {what: [seconds for _, kind, _, seconds in sorted(mine, key=lambda it: it[2]) if kind == what] for what in (PROOF, TESTS, EDITS)}
+        for crate, paid in self.paid().items():
             first, further = paid[EDITS][:1], paid[EDITS][1:]
             tried = f"{first[0]:.0f} + {sum(further) / max(1, len(further)):.0f}" if first else "-"
             shown = [f"{sum(paid[it]):.0f}" if paid[it] else "-" for it in (PROOF, TESTS)]
             yield f"| `{crate}` | {shown[0]} | {shown[1]} | {tried} |"
+
+    def told(self):
+        """The minutes of all proofs, of those of tests and of edits, and the seconds of the crate by which one machine is told from another."""
+        paid = self.paid()
+        sums = [sum(sum(it[what]) for it in paid.values()) / 60 for what in (PROOF, TESTS, EDITS)]
+        measure = f"{sum(paid[MEASURE][PROOF]):.0f} s" if MEASURE in paid else "none"
+        return f"{sums[0]:.0f} of them proofs, {sums[1]:.0f} those of tests, {sums[2]:.0f} edits; {MEASURE} took {measure}"
