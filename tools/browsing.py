@@ -211,7 +211,8 @@ DAMAGES = [
 
 
 def want_said(ran, folder, said, what):
-    lines_said = ran.stderr.decode().splitlines()
+    # (tools/whys.py has the lines that say where a refusal comes from)
+    lines_said = [it for it in ran.stderr.decode().splitlines() if not it.startswith(f"ldbtool: {folder}/")]
     want(len(lines_said), len(said), f"{what}: {lines_said}")
     for line, wanted in zip(lines_said, said):
         want(line.startswith(f"ldbtool: {folder}: {wanted}"), True, f"{what}: {line}")

@@ -1,5 +1,5 @@
-"""Damages of a table whose checksums are made to fit: blocks in each other's place, and keys out of their block's place. No checksum finds
-one, and none is a table that anybody wrote."""
+"""Damages of a table whose checksums are made to fit: blocks in each other's place, keys out of their block's place, and other keys at the ends
+of a table than its edit says. No checksum finds one, and none is a table that anybody wrote."""
 import struct
 from dataclasses import dataclass
 
@@ -110,6 +110,21 @@ def misplaced(chance, text):
     return text
 
 
+def ended(chance, text):
+    """The first key of a table, or its last, is another one, where it belongs by the index."""
+    index = index_of(text)[1]
+    for _ in range(100):
+        last = chance.choice((False, True))
+        at = len(index) - 1 if last else 0
+        handle = handle_at(index[at].value, 0)
+        entry = entries_of(text, handle)[-1 if last else 0]
+        place = chance.choice(entry.own)
+        found = replaced(text, place, bytes([chance.randrange(256)]))
+        if found != text and is_in_place(found, handle, index[at - 1].key if at else None, index[at].key):
+            return fitting(found, handle)
+    return text
+
+
 def is_in_place(text, handle, bound, last):
     """Whether the keys of a block are internal keys that rise, behind the bound of the block in front and up to this one's own."""
     keys = [*([bound] if bound is not None else []), *[it.key for it in entries_of(text, handle)]]
@@ -124,4 +139,4 @@ def rank(key):
     return key[:-8], -int.from_bytes(key[-8:], "little")
 
 
-FITTED = (exchanged, doubled, repointed, misplaced, misplaced, misplaced)
+FITTED = (exchanged, doubled, repointed, misplaced, misplaced, misplaced, ended)

@@ -48,8 +48,11 @@ def lines(*texts):
     return "".join(f"{text}\n" for text in texts).encode()
 
 
-# why there was a refusal: of a line of a script, of a folder, of a file of it
-REASON = re.compile(rb"ldbtool: (line \d+: |.*: (refused \d|(table|log) \d|each file is sound|`ldbtool check --keep-going))")
+# why there was a refusal: of a line of a script, of a folder, of a file of it; and where that comes from
+REASON = re.compile(
+    rb"ldbtool: (line \d+: |.*: (refused \d|(table|log) \d|each file is sound|`ldbtool check --keep-going|can't be listed|a name in it)"
+    rb"|.*/(CURRENT|LOCK|MANIFEST-\d+|\d+\.(log|ldb|sst|dbtmp)): )"
+)
 
 
 def said_beside(printed, said):

@@ -119,7 +119,7 @@ module _ {S K : Type 0} {g : _} (cmp : Cmp) (facts : S → Facts) (choice : Choi
     came = [];
     count = refl;
     shown = shows_none choice.style before text;
-    reads = record { faithful = λ f. f; files = λ f. refl; failures = omega arith; denials = refl; locked = refl; synced = λ f. refl };
+    reads = record { faithful = λ f. f; files = λ f. refl; failures = omega arith; writes = refl; denials = refl; locked = refl; synced = λ f. refl; calls = λ f. refl };
     stood = refl;
     left = λ f pairs over. (over.0, over.1, over.2, starting cmp choice over.0.pairs, refl, ap (λ (ps : List Pair). reach cmp choice (starting cmp choice ps)) (sym over.2));
   }
@@ -201,7 +201,7 @@ module _ {S K : Type 0} {g : _} (order : Order) (total : IsTotalOrder order.cmp)
   refused_of walk (Ok done) reads begins h = tt
   refused_of walk (Err e) reads begins h =
       refused_later order.cmp e (facts_of facts old) (facts_of facts old) (facts_of facts new) (λ P. (m : Contents) → ShowsMap order facts old m → P) (λ P. (pairs : List Pair) → GoesOver order.cmp facts old walk pairs → P)
-      (record { faithful = λ f. f; files = λ f. refl; failures = omega arith; denials = refl; locked = refl; synced = λ f. refl }) refl
+      (record { faithful = λ f. f; files = λ f. refl; failures = omega arith; writes = refl; denials = refl; locked = refl; synced = λ f. refl; calls = λ f. refl }) refl
       reads.faithful (λ P Q goes f later m shows. let b = begins m shows in goes (later b.0 (record { pairs = b.0; place = None }, b.2, refl))) h
 
   pub prints_map : (walk : ReaderWalk K g) (answer : Result (Unit {0}) DbError) → Reads (facts_of facts old) (facts_of facts new) → ((m : Contents) → ShowsMap order facts old m → BeginsWalk order.cmp true m (whole_of facts old) (scan_of walk))

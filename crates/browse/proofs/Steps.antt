@@ -182,7 +182,7 @@ module _ {S K : Type 0} {g : _} (cmp : Cmp) (facts : S → Facts) (choice : Choi
   }
     where
       itself : Reads (facts_of facts old) (facts_of facts old)
-      itself = record { faithful = λ f. f; files = λ f. refl; failures = omega arith; denials = refl; locked = refl; synced = λ f. refl }
+      itself = record { faithful = λ f. f; files = λ f. refl; failures = omega arith; writes = refl; denials = refl; locked = refl; synced = λ f. refl; calls = λ f. refl }
 
       refused_on : (r : Result (Option Pair) DbError) → IfErr r (λ e. RefusesMove cmp e (facts_of facts old) (facts_of facts new) (λ P. (at : Walk) (ahead : List Pair) → Stands cmp facts old before at → Before at ahead → P))
           → IfErr r (λ e. RefusesMove cmp e (facts_of facts old) (facts_of facts new) (λ P. (at : Walk) (ahead : List Pair) → Stands cmp facts old before at → Fewer at ahead → P))

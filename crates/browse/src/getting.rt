@@ -34,7 +34,7 @@ pub fn get<K: KeyOrder, S: Store, W: Write, L: Listener>(
     ensures reads { Reads (looked_at S.facts store) (looked_at S.facts result.1) }
 {
     let (answer, store) = read_value::<K, S>(alloc, store, key);
-    tell(listener, &answer);
+    tell(listener, &answer, &store);
     let status = print_value(alloc, &answer, form, writer);
     (status, store)
 }

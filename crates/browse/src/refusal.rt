@@ -7,6 +7,7 @@ use coding::DbError;
 use engine::Answer;
 use script::{Listener, Refusal, answer_line};
 use std::alloc::{AllocError, Global};
+use store::Store;
 
 /// Puts the line of a refusal behind the text, with a newline.
 pub fn push_refusal(alloc: Global, text: &mut Vec<u8>, error: DbError) -> Result<(), AllocError>
@@ -18,19 +19,20 @@ pub fn push_refusal(alloc: Global, text: &mut Vec<u8>, error: DbError) -> Result
     Ok(())
 }
 
-/// Tells of a refusal, if it is one.
-pub fn tell<T, L: Listener>(listener: &mut L, answer: &Result<T, DbError>) {
+/// Tells of an answer over this store, if it is a refusal.
+pub fn tell<T, L: Listener, S: Store>(listener: &mut L, answer: &Result<T, DbError>, store: &S) {
     match answer {
         Ok(_) => {}
-        Err(error) => tell_error(listener, *error),
+        Err(error) => tell_error(listener, *error, store),
     }
 }
 
-/// Tells of a refusal.
-pub fn tell_error<L: Listener>(listener: &mut L, error: DbError) {
-    listener.refused(&Refusal {
+/// Tells of a refusal over this store.
+pub fn tell_error<L: Listener, S: Store>(listener: &mut L, error: DbError, store: &S) {
+    let refusal = Refusal {
         line: None,
         error,
         misread: None,
-    });
+    };
+    listener.refused(&refusal, store.noted());
 }

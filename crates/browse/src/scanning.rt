@@ -40,7 +40,10 @@ pub fn scan<K: KeyOrder, S: Store, W: Write, L: Listener>(
             let status = tell_map(alloc, &mut reader, choice, writer, listener);
             (status, reader.into_store())
         }
-        Err((error, store)) => (tell_refusal(alloc, error, writer, listener), store),
+        Err((error, store)) => {
+            tell_error(listener, error, &store);
+            (print_refusal(alloc, error, writer), store)
+        }
     }
 }
 
@@ -57,21 +60,15 @@ fn tell_map<K: KeyOrder, S: Store, W: Write, L: Listener>(
 {
     let mut text = Vec::new(alloc);
     let answer = print_map(alloc, reader, choice, writer, &mut text)?;
-    tell(listener, &answer);
+    tell(listener, &answer, reader.store());
     print_end(alloc, answer, writer, &mut text)
 }
 
 // Prints the refusal alone.
-fn tell_refusal<W: Write, L: Listener>(
-    alloc: Global,
-    error: DbError,
-    writer: &mut W,
-    listener: &mut L,
-) -> Result<u8, Fault>
+fn print_refusal<W: Write>(alloc: Global, error: DbError, writer: &mut W) -> Result<u8, Fault>
     ensures written { OnOk result (Appends (W.contents writer.old) (W.contents writer.new) (end_text (Err error))) }
     ensures ended { IfOk result (λ status. status ≡ end_status (Err error)) }
 {
-    tell_error(listener, error);
     let mut text = Vec::new(alloc);
     print_end(alloc, Err(error), writer, &mut text)
 }

@@ -71,7 +71,7 @@ holds_more cmp content before after number index answer kept holds answered k th
 
 -- whether a block is kept or read, the store is only read, and what is refused is as the reader says
 pub reads_none : (facts : Facts) → Reads facts facts
-reads_none facts = record { faithful = λ t. t; files = λ t. refl; failures = omega arith; denials = refl; locked = refl; synced = λ f. refl }
+reads_none facts = record { faithful = λ t. t; files = λ t. refl; failures = omega arith; writes = refl; denials = refl; locked = refl; synced = λ f. refl; calls = λ f. refl }
 
 pub reads_any : (cmp : List ℕ → List ℕ → Ordering) (index : ℕ) (table : Opened) (old new : Facts) (answer : Result (List Pair) DbError)
     (X : Type 0) (same : X → new ≡ old) (o : Option (List Pair))

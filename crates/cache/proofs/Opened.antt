@@ -28,9 +28,11 @@ reads_both old mid new first second =
       faithful = λ t. first.faithful (second.faithful t);
       files = λ t. second.files t ∙ first.files (second.faithful t);
       failures = omega (arith, a, b);
+      writes = second.writes ∙ first.writes;
       denials = second.denials ∙ first.denials;
       locked = second.locked ∙ first.locked;
       synced = λ t. second.synced t ∙ first.synced (second.faithful t);
+      calls = λ t. second.calls t ∙ first.calls (second.faithful t);
     }
 
 pub not_opened : (cmp : List ℕ → List ℕ → Ordering) (e : DbError) (old mid new : Facts) (number : ℕ) (name : List ℕ) → Reads old mid → mid.failures ≡ old.failures → Reads mid new → FindsName old mid number name

@@ -10,7 +10,7 @@ use Rattle.edits.specs.declared.field.Field.{Field}
 use Rattle.edits.specs.declared.field.Field.TheVariants.{NextFileNumber, LastSequence, CompactPointer}
 use Rattle.edits.specs.declared.field.PlacedTable.{PlacedTable}
 use Rattle.edits.specs.declared.field.TableFile.{TableFile}
-use Rattle.edits.specs.Edit.{IsProper, IsInOrder, IsTableProper, IsPlacedBefore, field_tag}
+use Rattle.edits.specs.Edit.{IsInternal, IsProper, IsInOrder, IsTableProper, IsPlacedBefore, field_tag}
 use Rattle.edits.proofs.Folds.{all_append}
 use Rattle.edits.proofs.Snapshots.{all_from}
 use Rattle.versions.specs.declared.plan.JobPlan.{JobPlan}
@@ -117,8 +117,8 @@ new_proper level (t ∷ tables) fits h = ((fits, h.0), new_proper level tables f
 front_proper : (plan : JobPlan) (next last : ℕ) (pointer : Option (List ℕ)) → plan.compact_pointer ≡ pointer → IsPlanProper plan → next < 2 ^ 64 → last < 2 ^ 56 → AllByRecursion IsProper (NextFileNumber next ∷ LastSequence last ∷ pointer_fields plan.output_level pointer)
 front_proper plan next last None is planned fits small = (fits, (small, tt))
 front_proper plan next last (Some key) is planned fits small =
-    let short : length key < 2 ^ 32 = subst (λ (o : Option (List ℕ)). MatchOption o (Unit {0}) (λ (k : List ℕ). length k < 2 ^ 32)) is planned.pointer in
-    (fits, (small, ((omega (arith, planned.output), short), tt)))
+    let held : (length key < 2 ^ 32) × IsInternal key = subst (λ (o : Option (List ℕ)). MatchOption o (Unit {0}) (λ (k : List ℕ). (length k < 2 ^ 32) × IsInternal k)) is planned.pointer in
+    (fits, (small, ((omega (arith, planned.output), held.0, held.1), tt)))
 
 pub proper : (plan : JobPlan) (tables : List TableFile) (next last : ℕ) (edit : List Field) → IsEditOf plan.output_level plan.inputs.items plan.compact_pointer tables next last edit
     → IsPlanProper plan → AllByRecursion IsTableProper tables → next < 2 ^ 64 → last < 2 ^ 56 → All IsProper edit

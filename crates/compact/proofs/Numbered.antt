@@ -5,7 +5,7 @@ use Rattle.std.specs.Prelude.{IfSome, Any, MatchOption}
 use Rattle.std.specs.List.{AllByRecursion}
 use Rattle.std.specs.Option.{option_to_list}
 use Rattle.edits.specs.declared.field.TableFile.{TableFile}
-use Rattle.edits.specs.Edit.{IsTableProper}
+use Rattle.edits.specs.Edit.{IsInternal, IsTableProper}
 use Rattle.compact.specs.Outputs.{Filling, TablesWritten, IsDrawnNumber, TableNumbersRise, IsNext, AreNumbered, NumbersOn, IsSaidOf, table_name}
 
 pub numbers-same : (w : TablesWritten) (next : ℕ) → NumbersOn w next w next
@@ -45,6 +45,10 @@ any-push (first ∷ cs) table number (suc k, x, lt, is, e) = elim (any-push cs t
 
 -- ---- the table at hand is ended
 
+-- an edit can hold the key
+abbrev Fits : List ℕ → Type 0
+Fits key = (length key < 2 ^ 32) × IsInternal key
+
 pub numbers-closed : (cs : List TableFile) (t : Filling) (out : Option TableFile) (next : ℕ) → IfSome out (IsSaidOf t) → NumbersOn (record { closed = cs; at_hand = Some t }) next (record { closed = cs ++ option_to_list out; at_hand = None }) next
 numbers-closed cs t None next said =
     let W : List TableFile → Type 0 = λ xs. NumbersOn (record { closed = cs; at_hand = Some t }) next (record { closed = xs; at_hand = None }) next in
@@ -57,7 +61,7 @@ numbers-closed cs t None next said =
     })
 numbers-closed cs t (Some table) next said = record {
   keeps = λ h. record {
-    proper = all-push IsTableProper cs table h.proper (said.fits.0, said.fits.1, said.fits.2, subst (λ (k : List ℕ). length k < 2 ^ 32) (sym said.smallest) h.at_hand.smallest, subst (λ (k : List ℕ). length k < 2 ^ 32) (sym said.largest) h.at_hand.largest);
+    proper = all-push IsTableProper cs table h.proper (said.fits.0, said.fits.1, said.fits.2, (subst Fits (sym said.smallest) h.at_hand.smallest).0, (subst Fits (sym said.largest) h.at_hand.largest).0, (subst Fits (sym said.smallest) h.at_hand.smallest).1, (subst Fits (sym said.largest) h.at_hand.largest).1);
     rise = rise-push cs table h.rise (subst (λ (n : ℕ). AllByRecursion (λ (other : TableFile). other.number < n) cs) (sym said.number) h.at_hand.above);
     below = all-push (λ (other : TableFile). other.number < next) cs table h.below (omega (arith, said.number, h.at_hand.number.1));
     at_hand = tt;
@@ -73,9 +77,9 @@ numbers-closed cs t (Some table) next said = record {
 
 -- ---- a table is begun
 
-pub numbers-begun : (w : TablesWritten) (u : Filling) (next : ℕ) (key : List ℕ) → w.at_hand ≡ None → 0 < next → u.number ≡ next → u.building.name ≡ table_name u.number → u.smallest ≡ key → u.largest ≡ key → length key < 2 ^ 32
+pub numbers-begun : (w : TablesWritten) (u : Filling) (next : ℕ) (key : List ℕ) → w.at_hand ≡ None → 0 < next → u.number ≡ next → u.building.name ≡ table_name u.number → u.smallest ≡ key → u.largest ≡ key → Fits key
     → NumbersOn w next (record { closed = w.closed; at_hand = Some u }) (next + 1)
-numbers-begun w u next key none some number named smallest largest short = record {
+numbers-begun w u next key none some number named smallest largest fits = record {
   keeps = λ h. record {
     proper = h.proper;
     rise = h.rise;
@@ -84,8 +88,8 @@ numbers-begun w u next key none some number named smallest largest short = recor
       number = (omega (arith, some, number), omega (arith, number));
       named = named;
       above = subst (λ (n : ℕ). AllByRecursion (λ (other : TableFile). other.number < n) w.closed) (sym number) h.below;
-      smallest = subst (λ (k : List ℕ). length k < 2 ^ 32) (sym smallest) short;
-      largest = subst (λ (k : List ℕ). length k < 2 ^ 32) (sym largest) short;
+      smallest = subst Fits (sym smallest) fits;
+      largest = subst Fits (sym largest) fits;
     };
   };
   owns = λ n is. elim is [
@@ -96,9 +100,9 @@ numbers-begun w u next key none some number named smallest largest short = recor
 
 -- ---- or added to
 
-pub numbers-added : (cs : List TableFile) (t u : Filling) (next : ℕ) (key : List ℕ) → u.number ≡ t.number → u.building.name ≡ table_name u.number → u.smallest ≡ t.smallest → u.largest ≡ key → length key < 2 ^ 32
+pub numbers-added : (cs : List TableFile) (t u : Filling) (next : ℕ) (key : List ℕ) → u.number ≡ t.number → u.building.name ≡ table_name u.number → u.smallest ≡ t.smallest → u.largest ≡ key → Fits key
     → NumbersOn (record { closed = cs; at_hand = Some t }) next (record { closed = cs; at_hand = Some u }) next
-numbers-added cs t u next key number named smallest largest short = record {
+numbers-added cs t u next key number named smallest largest fits = record {
   keeps = λ h. record {
     proper = h.proper;
     rise = h.rise;
@@ -107,8 +111,8 @@ numbers-added cs t u next key number named smallest largest short = record {
       number = subst (IsDrawnNumber next) (sym number) h.at_hand.number;
       named = named;
       above = subst (λ (n : ℕ). AllByRecursion (λ (other : TableFile). other.number < n) cs) (sym number) h.at_hand.above;
-      smallest = subst (λ (k : List ℕ). length k < 2 ^ 32) (sym smallest) h.at_hand.smallest;
-      largest = subst (λ (k : List ℕ). length k < 2 ^ 32) (sym largest) short;
+      smallest = subst Fits (sym smallest) h.at_hand.smallest;
+      largest = subst Fits (sym largest) fits;
     };
   };
   owns = λ n is. elim is [

@@ -10,6 +10,7 @@ use Rattle.edits.specs.declared.field.TableFile.{TableFile}
 use Rattle.ikey.specs.Entries.{Pair}
 use Rattle.ikey.specs.Keys.{Key, IsKey}
 use Rattle.store.specs.Files.{Facts}
+use Rattle.store.proofs.Stopping.{others_both, others_more}
 use Rattle.table.specs.Building.{Building, Builds, MayFollow, last_added}
 use Rattle.table.specs.Reading.{HasFile}
 use Rattle.table.specs.Writing.{Writes, WriteRefuses}
@@ -72,10 +73,13 @@ pub then-syncs : (a b d : Facts) (name same : List ℕ) → same ≡ name → Wr
 then-syncs a b d name same is w v = record {
   faithful = λ t. w.faithful (v.faithful t);
   failures = omega (arith, w.failures, v.failures);
+  writes = omega (arith, w.writes, v.writes);
   denials = v.denials ∙ w.denials;
   locked = v.locked ∙ w.locked;
   others = λ t other apart. v.others t other (λ e. apart (e ∙ is)) ∙ w.others (v.faithful t) other apart;
   synced = λ t other apart. v.synced t other (λ e. apart (e ∙ is)) ∙ w.synced (v.faithful t) other apart;
+  calls = λ t. others_both a b d (λ (other : List ℕ). other ≡ name) (w.calls (v.faithful t))
+      (others_more b d (λ (other : List ℕ). other ≡ same) (λ (other : List ℕ). other ≡ name) (λ other e. e ∙ is) (v.calls t));
 }
 
 pub refuses-writing : (e : DbError) (a b : Facts) (falls too_long spent : Type 0) → WriteRefuses e a b too_long → RefusesEntry e a b falls too_long spent

@@ -58,6 +58,7 @@ impl<K: KeyOrder, C: Drop> Job<K, C> {
     ghost use Rattle.compact.specs.Merging.{KeepsMine, ReadsApart, AreDisjoint, HaveOwnSequences};
     ghost use Rattle.compact.specs.JobEdits.{IsEditOfPlan, IsPlanProper, IsOwnIn};
     ghost use Rattle.compact.specs.Outputs.{AreNumbered, IsMineUpTo, IsNumberAtHand, IsOwn};
+    ghost use Rattle.store.specs.Calls.{FailsAsWrite};
     ghost use Rattle.compact.specs.Outputs.{IsToCome, NumbersOn, WritesTables, RefusesEntry};
     ghost use Rattle.compact.specs.Leaving.{LeavesOthers};
     ghost use Rattle.compact.specs.Rooms.{AreLarge};
@@ -184,6 +185,7 @@ impl<K: KeyOrder, C: Drop> Job<K, C> {
         last_sequence: u64,
     ) -> Result<Edit, DbError>
         ensures writes { WritesTables (S.facts store.old) (S.facts store.new) (IsNumberAtHand self.outputs) }
+        ensures fails { FailsAsWrite (S.facts store.old) (S.facts store.new) }
         ensures finished { IfOk result (λ edit. (deep : List ℕ → Bool) (came : List InternalEntry) → IsTrue (S.facts store.new).faithful
             → IsMerging K.cmp deep self.last.items self.selection self.outputs (S.facts store.old) numbers.now.next came
             → IsFinished K.cmp deep self.plan self.last.items self.selection (S.facts store.new) numbers.now.next last_sequence came edit) }

@@ -45,6 +45,7 @@ impl<K: KeyOrder> Model for NewTable<K> {
 
 impl<K: KeyOrder> NewTable<K> {
     ghost use Rattle.std.specs.Prelude.{◌≡◌, ◌≢◌, ◌<◌, ◌≤◌, ◌∷◌, ◌++◌, [], ℕ, List, IsTrue, IfSome, IfOk, IfErr, OnOk, MatchBool};
+    ghost use Rattle.edits.specs.Edit.{IsInternal};
     ghost use Rattle.ikey.specs.Keys.{Key, IsKey};
     ghost use Rattle.ikey.specs.Entries.{Pair};
     ghost use Rattle.store.specs.Files.{Facts};
@@ -88,6 +89,7 @@ impl<K: KeyOrder> NewTable<K> {
         ensures named { self.new.building.name ≡ table_name self.new.number }
         ensures smallest { self.new.smallest ≡ self.old.smallest }
         ensures largest { OnOk result (self.new.largest ≡ key.now) }
+        ensures internal { OnOk result (IsInternal key.now) }
         ensures writes { Writes (S.facts store.old) (S.facts store.new) (table_name self.old.number) }
         ensures added { OnOk result ((pairs : List Pair) → IsTrue (S.facts store.new).faithful → (pairs ≡ [] → key.now ≡ self.old.smallest)
             → IsFilling K.cmp self.old (S.facts store.old) pairs

@@ -37,7 +37,7 @@ fn words(rt: &HostRuntime) -> Result<Vec<Bytes>> {
 }
 
 fn open(rt: &HostRuntime) -> Result<Database> {
-    let store = FileStore::open(rt, ".").map_err(|error| anyhow!("{error:?}"))?;
+    let store = FileStore::open(rt, ".").map_err(|error| anyhow!("{error}"))?;
     Ok(Db::open(
         rt.alloc(),
         store,

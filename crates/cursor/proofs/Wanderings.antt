@@ -20,7 +20,7 @@ use Rattle.cursor.proofs.Backwards.{looks_back, ends_back, front_back}
 
 pub stays_still : {C S : Type 0} (facts : S → Facts) (keeps : C → S → S → Type 0) (limited : C → S → Type 0) (leaves : (ℕ → Type 0) → S → S → Type 0) (over : C → ℕ → Type 0) → ((cursor : C) (source : S) → keeps cursor source source) → ((numbers : ℕ → Type 0) (source : S) → leaves numbers source source) → (cursor : C) (source : S) → Stays facts keeps limited leaves over cursor cursor source source
 stays_still facts keeps limited leaves over still leaves_still cursor source = record {
-  reads = record { faithful = λ t. t; files = λ t. refl; failures = omega arith; denials = refl; locked = refl; synced = λ f. refl };
+  reads = record { faithful = λ t. t; files = λ t. refl; failures = omega arith; writes = refl; denials = refl; locked = refl; synced = λ f. refl; calls = λ f. refl };
   left = leaves_still (over cursor) source;
   others = λ f other. still other source;
   same = λ s t k. k;

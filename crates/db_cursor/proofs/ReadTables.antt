@@ -48,7 +48,7 @@ table_before old new same within number (inr over) = inr (within number over)
 
 open_kept : {K : Type 0} {g : _} (cmp : Cmp) (numbers : ℕ → Type 0) (old new : Seen) (here : Option (InTable K g)) → ((number : ℕ) → IsOpenNumber here number → numbers number) → KeepsFiles cmp numbers old new → KeepsOpen cmp here old new
 open_kept cmp numbers old new None over k = tt
-open_kept cmp numbers old new (Some here) over k = record { same = k.files here.cursor.number (over here.cursor.number refl); sound = k.sound }
+open_kept cmp numbers old new (Some here) over k = record { same = k.files here.cursor.placed.table.number (over here.cursor.placed.table.number refl); sound = k.sound }
 
 -- a cursor over a row reads what it read where the files of its tables stay
 pub row_kept : {K : Type 0} {g : _} (cmp : Cmp) (numbers : ℕ → Type 0) (old new : Seen) (row : RowCursor K g) → ((number : ℕ) → GoesOver (Row row) number → numbers number) → KeepsFiles cmp numbers old new → KeepsRow cmp row old new

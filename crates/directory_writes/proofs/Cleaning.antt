@@ -1,5 +1,5 @@
 -- The removal of files that aren't live.
-use Rattle.std.proofs.Common.{◌≡◌, ◌≢◌, ◌⊎◌, ℕ, ◌+◌, ◌<◌, ◌&&◌, Bool, true, false, not, cond, List, [], ◌∷◌, ◌++◌, map, take, get_or, length, string_bytes, String, Option, Some, None, is_some, IsSome, Result, Ok, Err, IsTrue, MatchBool, inl, inr, refl, sym, ap, subst, ◌∙◌, arith}
+use Rattle.std.proofs.Common.{◌≡◌, ◌≢◌, ◌⊎◌, ◌↔◌, ℕ, ◌+◌, ◌<◌, ◌&&◌, Bool, true, false, not, cond, List, [], ◌∷◌, ◌++◌, map, take, get_or, length, string_bytes, String, Option, Some, None, is_some, IsSome, Result, Ok, Err, IsTrue, MatchBool, inl, inr, refl, sym, ap, subst, ◌∙◌, arith}
 use Rattle.std.proofs.Math.Bool.{beq}
 use Rattle.std.specs.Option.{option_or}
 use Rattle.std.specs.Prelude.{Contains}
@@ -21,12 +21,12 @@ use Rattle.edits.specs.declared.names.FileName.{FileName}
 use Rattle.edits.specs.declared.names.FileName.TheVariants.{Current, Lock, Log, Manifest, Table, OldTable, Temporary}
 use Rattle.edits.proofs.FileNames.{one_file}
 use Rattle.versions.specs.declared.live.LiveNumbers.{LiveNumbers}
-use Rattle.recover.proofs.NameScan.{name_listed, first_in, in_cons, in_none}
+use Rattle.recover.proofs.NameScan.{name_listed, name_there, first_in, in_cons, in_none}
 use Rattle.recover.proofs.NamedFiles.{same_name}
 use Rattle.directory_writes.specs.internal.Calls.{Touches, LeavesFile}
 use Rattle.recover.specs.Tables.{table_at}
-use Rattle.directory_writes.specs.internal.Removal.{AreOlder, AreUnused, HasOtherTurn, HasTwo, IsLeft, IsListed, KeepsTable, ListsUnused, RemovesNamed, RemovesDead, older_number, table_number}
-use Rattle.directory_writes.specs.Removal.{IsDead, IsLiveFile}
+use Rattle.directory_writes.specs.internal.Removal.{AreBoth, AreOlder, AreToClose, HasOtherTurn, HasTwo, IsLeft, IsListed, KeepsTable, ListsToClose, MayLose, RemovesNamed, RemovesDead, newer_number, older_number, table_number}
+use Rattle.directory_writes.specs.Removal.{HasBoth, IsDead, IsLiveAmong, IsLiveFile}
 use Rattle.directory_writes.specs.declared.removal.Removal.{Removal}
 
 -- ---- one file
@@ -43,7 +43,7 @@ removed_at true files s name q is = inl (same_name q name is, refl)
 removed_at false files s name q is = inr (refl, refl)
 
 -- it is gone, and all others stay
-removed : (files : Files) (s : Synced) (name q : List ℕ) → ((q ≡ name) × (get (remove files name) q ≡ None)) ⊎ ((get (remove files name) q ≡ get files q) × (with_synced s name None q ≡ s q))
+pub removed : (files : Files) (s : Synced) (name q : List ℕ) → ((q ≡ name) × (get (remove files name) q ≡ None)) ⊎ ((get (remove files name) q ≡ get files q) × (with_synced s name None q ≡ s q))
 removed files s name q = elim (removed_at (eq_by_cmp (slice_cmp nat_cmp) q name) files s name q refl) [
   | inl gone ↦ inl (gone.0, get-remove nat_list_cmp_total files name q ∙ gone.1)
   | inr stays ↦ inr (get-remove nat_list_cmp_total files name q ∙ stays.0, stays.1)
@@ -216,16 +216,25 @@ either_alone : (newer older first second : Option (List ℕ)) → first ≡ newe
 either_alone (Some bytes) older first second same none = inl (ap (λ (o : Option (List ℕ)). option_or o second) same)
 either_alone None older first second same none = inr (λ i. option_or (same i) (none i))
 
--- a file of a table is as before, or the table isn't in use and the file is gone
-abbrev pub LeavesOrGoes : Facts → Facts → Type 0 → List ℕ → Type 0
-LeavesOrGoes old new used name = LeavesFile old new name ⊎ ((used → ⊥) × (get new.files name ≡ None))
+pub read_newer : (newer older first second : Option (List ℕ)) → first ≡ newer → is_some newer ≡ true → option_or first second ≡ option_or newer older
+read_newer (Some bytes) older first second same there = ap (λ (o : Option (List ℕ)). option_or o second) same
+read_newer None older first second same there = absurd (let clash : false ≡ true = there in cc)
 
-by_files : (in_use : ℕ → Type 0) (old new : Facts) (n : ℕ) → LeavesFile old new (name_of (Table n)) ⊎ ((in_use n → ⊥) × (get new.files (name_of (Table n)) ≡ None) × (get new.files (name_of (OldTable n)) ≡ None))
-    → LeavesOrGoes old new (in_use n) (name_of (OldTable n)) → KeepsTable old new in_use n
+-- a file is as before, or may go and is gone
+abbrev pub SameOrGone : Facts → Facts → Type 0 → List ℕ → Type 0
+SameOrGone old new may name = (get new.files name ≡ get old.files name) ⊎ (may × (get new.files name ≡ None))
+
+by_files : (in_use : ℕ → Type 0) (old new : Facts) (n : ℕ)
+    → (get new.files (name_of (Table n)) ≡ get old.files (name_of (Table n))) ⊎ ((in_use n → ⊥) × (get new.files (name_of (Table n)) ≡ None) × (get new.files (name_of (OldTable n)) ≡ None))
+    → SameOrGone old new (MayLose old.files in_use n) (name_of (OldTable n)) → KeepsTable old new in_use n
 by_files in_use old new n (inl newer) (inl older) = inl (newer, older)
-by_files in_use old new n (inl newer) (inr older) =
-    inr (older.0, either_alone (get old.files (name_of (Table n))) (get old.files (name_of (OldTable n))) (get new.files (name_of (Table n))) (get new.files (name_of (OldTable n))) newer.0 older.1)
-by_files in_use old new n (inr both) older = inr (both.0, inr (λ i. option_or (both.1 i) (both.2 i)))
+by_files in_use old new n (inl newer) (inr older) = elim older.0 [
+  | inl unused ↦
+      inr (inl (unused, either_alone (get old.files (name_of (Table n))) (get old.files (name_of (OldTable n))) (get new.files (name_of (Table n))) (get new.files (name_of (OldTable n))) newer older.1))
+  | inr both ↦
+      inr (inr (both, newer, read_newer (get old.files (name_of (Table n))) (get old.files (name_of (OldTable n))) (get new.files (name_of (Table n))) (get new.files (name_of (OldTable n))) newer both.0))
+]
+by_files in_use old new n (inr gone) older = inr (inl (gone.0, inr (λ i. option_or (gone.1 i) (gone.2 i))))
 
 named_dead : (live : FileName → Type 0) (file : FileName) → IsFileName file → IsDead live (name_of file) → live file → ⊥
 named_dead live file is dead alive = dead.3 (subst live (one_file file dead.0 is dead.1 dead.2) alive)
@@ -234,38 +243,52 @@ missing : (o : Option (List ℕ)) → (is_some o ≡ true → ⊥) → o ≡ Non
 missing None h = refl
 missing (Some bytes) h = absurd (h refl)
 
-module _ (numbers : LiveNumbers) (in_use : ℕ → Type 0) (names : List (List ℕ)) (older : List ℕ) (n : ℕ) (num : IsNumbered n) where
+-- these are the numbers of the tables that have a file under both names
+abbrev pub Knows : Files → List ℕ → Type 0
+Knows files both = (n : ℕ) → IsNumbered n → Contains both n ↔ HasBoth files n
+
+module _ (numbers : LiveNumbers) (in_use : ℕ → Type 0) (names : List (List ℕ)) (both : List ℕ) (n : ℕ) (num : IsNumbered n) where
   abbrev lives : FileName → Type 0
-  lives = IsLiveFile numbers in_use
+  lives = IsLiveFile numbers in_use (λ k. Contains both k)
 
   abbrev has : ℕ → Type 0
-  has k = Contains older k
+  has k = Contains both k
 
-  older_state : (old new : Facts) → LeavesFile old new (name_of (OldTable n)) ⊎ (IsDead lives (name_of (OldTable n)) × (get new.files (name_of (OldTable n)) ≡ None)) → LeavesOrGoes old new (in_use n) (name_of (OldTable n))
-  older_state old new (inl same) = inl same
-  older_state old new (inr dead) = inr (named_dead lives (OldTable n) num dead.0, dead.1)
+  older_state : (old new : Facts) → Knows old.files both → LeavesFile old new (name_of (OldTable n)) ⊎ (IsDead lives (name_of (OldTable n)) × (get new.files (name_of (OldTable n)) ≡ None))
+      → SameOrGone old new (MayLose old.files in_use n) (name_of (OldTable n))
+  older_state old new knows (inl same) = inl same.0
+  older_state old new knows (inr dead) = by (contains_key old.files (name_of (OldTable n))) (contains_key old.files (name_of (Table n))) refl refl
+    where
+      by : (t s : Bool) → contains_key old.files (name_of (OldTable n)) ≡ t → contains_key old.files (name_of (Table n)) ≡ s → SameOrGone old new (MayLose old.files in_use n) (name_of (OldTable n))
+      by false s absent is = inl (dead.1 ∙ sym (missing (get old.files (name_of (OldTable n))) (λ there. let clash : true ≡ false = sym there ∙ absent in cc)))
+      by true true there newer = inr (inr (newer, there), dead.1)
+      by true false there single = inr (inl (λ used. named_dead lives (OldTable n) num dead.0 (used, λ i. let clash : true ≡ false = sym ((knows n num).0 i).0 ∙ single in cc)), dead.1)
 
-  pub table_first : (old new : Facts) (c : Bool) → RemovesNamed old new (IsLeft lives has false) names c → AreOlder names older → Lists old.files names → IsTrue new.faithful → KeepsTable old new in_use n
-  table_first old new c r are lists f =
+  pub table_first : (old new : Facts) (c : Bool) → RemovesNamed old new (IsLeft lives has false) names c → Knows old.files both → IsTrue new.faithful → KeepsTable old new in_use n
+  table_first old new c r knows f =
       by_files in_use old new n
       (elim (r.files f (name_of (Table n))) [
-        | inl same ↦ inl same
-        | inr dead ↦
-            let out : IsLeft lives has false (Table n) → ⊥ = named_dead (IsLeft lives has false) (Table n) num dead.0 in
-            let absent : get old.files (name_of (OldTable n)) ≡ None = missing (get old.files (name_of (OldTable n))) (λ there. out (inr ((are n num).1 (name_listed old.files names (name_of (OldTable n)) lists there)))) in
-            inr (λ used. out (inl used), dead.1, gone_later old new (IsLeft lives has false) (name_of (OldTable n)) (r.files f (name_of (OldTable n))) absent)
+        | inl same ↦ inl same.0
+        | inr dead ↦ by (named_dead (IsLeft lives has false) (Table n) num dead.0) dead.1 (contains_key old.files (name_of (Table n))) refl
       ])
-      (older_state old new (gone_of lives has old new false (name_of (OldTable n)) (r.files f (name_of (OldTable n)))))
+      (older_state old new knows (gone_of lives has old new false (name_of (OldTable n)) (r.files f (name_of (OldTable n)))))
+    where
+      by : (IsLeft lives has false (Table n) → ⊥) → get new.files (name_of (Table n)) ≡ None → (s : Bool) → contains_key old.files (name_of (Table n)) ≡ s
+          → (get new.files (name_of (Table n)) ≡ get old.files (name_of (Table n))) ⊎ ((in_use n → ⊥) × (get new.files (name_of (Table n)) ≡ None) × (get new.files (name_of (OldTable n)) ≡ None))
+      by out gone false absent = inl (gone ∙ sym (missing (get old.files (name_of (Table n))) (λ there. let clash : true ≡ false = sym there ∙ absent in cc)))
+      by out gone true newer =
+          let absent : get old.files (name_of (OldTable n)) ≡ None = missing (get old.files (name_of (OldTable n))) (λ there. out (inr ((knows n num).1 (newer, there)))) in
+          inr (λ used. out (inl used), gone, gone_later old new (IsLeft lives has false) (name_of (OldTable n)) (r.files f (name_of (OldTable n))) absent)
 
   module _ (old mid new : Facts) (behind : Touches mid new) (a b : Bool) (whole : a ≡ true) (first : RemovesNamed old mid (IsLeft lives has false) names a) (next : RemovesNamed mid new (IsLeft lives has true) names b)
-      (both : IsTrue new.faithful → (q : List ℕ) → LeavesFile old new q ⊎ (IsDead lives q × (get new.files q ≡ None))) (lists : Lists old.files names) (f : IsTrue new.faithful) where
+      (after : IsTrue new.faithful → (q : List ℕ) → LeavesFile old new q ⊎ (IsDead lives q × (get new.files q ≡ None))) (knows : Knows old.files both) (lists : Lists old.files names) (f : IsTrue new.faithful) where
     older_gone : (in_use n → ⊥) → get new.files (name_of (OldTable n)) ≡ None
     older_gone unused = gone_later mid new (IsLeft lives has true) (name_of (OldTable n)) (next.files f (name_of (OldTable n))) (by (contains_key old.files (name_of (OldTable n))) refl)
       where
         by : (t : Bool) → contains_key old.files (name_of (OldTable n)) ≡ t → get mid.files (name_of (OldTable n)) ≡ None
         by true there = elim (first.all (behind.faithful f) whole (OldTable n) num (name_listed old.files names (name_of (OldTable n)) lists there)) [
           | inl left ↦ elim left [
-            | inl used ↦ absurd (unused used)
+            | inl used ↦ absurd (unused used.0)
             | inr two ↦ absurd two
           ]
           | inr gone ↦ gone
@@ -277,25 +300,58 @@ module _ (numbers : LiveNumbers) (in_use : ℕ → Type 0) (names : List (List �
     pub table_both : KeepsTable old new in_use n
     table_both =
         by_files in_use old new n
-        (elim (both f (name_of (Table n))) [
-          | inl same ↦ inl same
+        (elim (after f (name_of (Table n))) [
+          | inl same ↦ inl same.0
           | inr dead ↦ (let unused : in_use n → ⊥ = named_dead lives (Table n) num dead.0 in inr (unused, dead.1, older_gone unused))
         ])
-        (older_state old new (both f (name_of (OldTable n))))
+        (older_state old new knows (after f (name_of (OldTable n))))
 
-pub table_from : (in_use : ℕ → Type 0) (old mid new : Facts) (n : ℕ) → mid.files ≡ old.files → mid.synced ≡ old.synced → KeepsTable mid new in_use n → KeepsTable old new in_use n
-table_from in_use old mid new n files synced (inl both) =
-    inl (leaves_both old mid new (name_of (Table n)) (leaves old mid (name_of (Table n)) files synced) both.0, leaves_both old mid new (name_of (OldTable n)) (leaves old mid (name_of (OldTable n)) files synced) both.1)
-table_from in_use old mid new n files synced (inr gone) = inr (
+pub table_from : (in_use : ℕ → Type 0) (old mid new : Facts) (n : ℕ) → mid.files ≡ old.files → KeepsTable mid new in_use n → KeepsTable old new in_use n
+table_from in_use old mid new n files (inl kept) =
+    inl (kept.0 ∙ ap (λ (fs : Files). get fs (name_of (Table n))) files, kept.1 ∙ ap (λ (fs : Files). get fs (name_of (OldTable n))) files)
+table_from in_use old mid new n files (inr (inl gone)) = inr (inl (
   gone.0,
   elim gone.1 [
     | inl same ↦ inl (same ∙ ap (λ (fs : Files). table_at fs n) files)
     | inr none ↦ inr none
   ],
-)
+))
+table_from in_use old mid new n files (inr (inr two)) =
+    inr (inr (subst (λ (fs : Files). HasBoth fs n) files two.0, two.1 ∙ ap (λ (fs : Files). get fs (name_of (Table n))) files, two.2 ∙ ap (λ (fs : Files). table_at fs n) files))
 
-pub table_kept : (in_use : ℕ → Type 0) (old new : Facts) (n : ℕ) → new.files ≡ old.files → new.synced ≡ old.synced → KeepsTable old new in_use n
-table_kept in_use old new n files synced = inl (leaves old new (name_of (Table n)) files synced, leaves old new (name_of (OldTable n)) files synced)
+pub table_kept : (in_use : ℕ → Type 0) (old new : Facts) (n : ℕ) → new.files ≡ old.files → KeepsTable old new in_use n
+table_kept in_use old new n files = inl (ap (λ (fs : Files). get fs (name_of (Table n))) files, ap (λ (fs : Files). get fs (name_of (OldTable n))) files)
+
+-- ---- what is live, by the numbers and by the files
+
+module _ (numbers : LiveNumbers) (in_use : ℕ → Type 0) (files : Files) (both : List ℕ) (knows : Knows files both) where
+  pub same_live : (file : FileName) → IsFileName file → IsLiveFile numbers in_use (λ n. Contains both n) file ↔ IsLiveAmong files numbers in_use file
+  same_live (OldTable n) is = (λ alive. (alive.0, λ has. alive.1 ((knows n is).1 has)), λ alive. (alive.0, λ i. alive.1 ((knows n is).0 i)))
+  same_live (Table n) is = (λ alive. alive, λ alive. alive)
+  same_live Current is = (λ alive. alive, λ alive. alive)
+  same_live Lock is = (λ alive. alive, λ alive. alive)
+  same_live (Log n) is = (λ alive. alive, λ alive. alive)
+  same_live (Manifest n) is = (λ alive. alive, λ alive. alive)
+  same_live (Temporary n) is = (λ alive. alive, λ alive. alive)
+
+module _ (old new : Facts) (live other : FileName → Type 0) (same : IsTrue new.faithful → (file : FileName) → IsFileName file → live file ↔ other file) where
+  pub removes_as : (removal : Removal) → RemovesDead old new live (Ok removal) → RemovesDead old new other (Ok removal)
+  removes_as removal r = record {
+    files = λ f q. elim (r.files f q) [
+      | inl stays ↦ inl stays
+      | inr dead ↦ inr ((dead.0.0, dead.0.1, dead.0.2, λ alive. dead.0.3 ((same f dead.0.0 dead.0.1).1 alive)), dead.1)
+    ];
+    all = λ f whole file is there. (same f file is).0 (r.all f whole file is there);
+    unfailed = r.unfailed;
+    stood = r.stood;
+    err = r.err;
+  }
+
+pub knows_both : (files : Files) (names : List (List ℕ)) (older both : List ℕ) → Lists files names → AreOlder names older → AreBoth older names both → Knows files both
+knows_both files names older both lists are has n num = (
+  λ i. let one = (has n num).0 i in (name_there files names (name_of (Table n)) lists one.0, name_there files names (name_of (OldTable n)) lists ((are n num).0 one.1)),
+  λ there. (has n num).1 (name_listed files names (name_of (Table n)) lists there.0, (are n num).1 (name_listed files names (name_of (OldTable n)) lists there.1)),
+)
 
 -- ---- the numbers of tables
 
@@ -348,16 +404,66 @@ older_name names name numbers file m is e said h n num =
       ],
     )
 
--- ---- those of tables that aren't in use
+-- ---- those that have both names
 
-pub none_unused : (in_use : ℕ → Type 0) → AreUnused in_use [] []
-none_unused in_use = record {
-  unused = λ n i. absurd (in_none n i);
-  all = λ n num free listed. elim listed [
-    | inl newer ↦ absurd (in_none (name_of (Table n)) newer)
-    | inr older ↦ absurd (in_none (name_of (OldTable n)) older)
-  ];
-}
+newer_of : (file : FileName) (n : ℕ) → newer_number file ≡ Some n → file ≡ Table n
+newer_of (Table m) n e = let same : m ≡ n = cc in ap Table same
+newer_of Current n e = cc
+newer_of Lock n e = cc
+newer_of (Log m) n e = cc
+newer_of (OldTable m) n e = cc
+newer_of (Manifest m) n e = cc
+newer_of (Temporary m) n e = cc
+
+pub none_both : (older : List ℕ) → AreBoth older [] []
+none_both older n num = (λ i. absurd (in_none n i), λ has. absurd (in_none (name_of (Table n)) has.0))
+
+-- a name that is none of such a table changes nothing
+pub both_same : (older : List ℕ) (names : List (List ℕ)) (name : List ℕ) (numbers : List ℕ) → ((n : ℕ) → IsNumbered n → name ≡ name_of (Table n) → Contains older n → ⊥)
+    → AreBoth older names numbers → AreBoth older (names ++ name ∷ []) numbers
+both_same older names name numbers other h n num = (
+  λ i. let one = (h n num).0 i in (Contains-append_left names (name ∷ []) (name_of (Table n)) one.0, one.1),
+  λ has. elim (Contains-push_cases names name (name_of (Table n)) has.0) [
+    | inl before ↦ (h n num).1 (before, has.1)
+    | inr same ↦ absurd (other n num same has.1)
+  ],
+)
+
+named_newer : (name : List ℕ) (file : FileName) → IsFileName file → name ≡ name_of file → (n : ℕ) → IsNumbered n → name ≡ name_of (Table n) → newer_number file ≡ Some n
+named_newer name file is e n num same = ap newer_number (one_file file (Table n) is num (sym e ∙ same))
+
+pub no_newer : (older : List ℕ) (name : List ℕ) (file : FileName) → IsFileName file → name ≡ name_of file → newer_number file ≡ None → (n : ℕ) → IsNumbered n → name ≡ name_of (Table n) → Contains older n → ⊥
+no_newer older name file is e none n num same i = (let clash : None ≡ Some n = sym none ∙ named_newer name file is e n num same in cc)
+
+pub single_newer : (older : List ℕ) (name : List ℕ) (file : FileName) (m : ℕ) → IsFileName file → name ≡ name_of file → newer_number file ≡ Some m → (Contains older m → ⊥)
+    → (n : ℕ) → IsNumbered n → name ≡ name_of (Table n) → Contains older n → ⊥
+single_newer older name file m is e said single n num same i =
+    let two : Some m ≡ Some n = sym said ∙ named_newer name file is e n num same in
+    let one : m ≡ n = cc in
+    single (subst (λ (k : ℕ). Contains older k) (sym one) i)
+
+pub both_more : (older : List ℕ) (names : List (List ℕ)) (name : List ℕ) (numbers : List ℕ) (file : FileName) (m : ℕ) → IsFileName file → name ≡ name_of file → newer_number file ≡ Some m → Contains older m
+    → AreBoth older names numbers → AreBoth older (names ++ name ∷ []) (numbers ++ m ∷ [])
+both_more older names name numbers file m is e said has_older h n num =
+    let table : file ≡ Table m = newer_of file m said in
+    let here : name ≡ name_of (Table m) = e ∙ ap name_of table in
+    let P : ℕ → Type 0 = λ k. Contains (names ++ name ∷ []) (name_of (Table k)) × Contains older k in
+    let Q : List ℕ → Type 0 = λ q. Contains (names ++ name ∷ []) q in
+    let R : ℕ → Type 0 = λ k. Contains (numbers ++ m ∷ []) k in (
+      λ i. elim (Contains-push_cases numbers m n i) [
+        | inl before ↦ let one = (h n num).0 before in (Contains-append_left names (name ∷ []) (name_of (Table n)) one.0, one.1)
+        | inr same ↦ subst P same (subst Q here (Contains-push names name), has_older)
+      ],
+      λ has. elim (Contains-push_cases names name (name_of (Table n)) has.0) [
+        | inl before ↦ Contains-append_left numbers (m ∷ []) n ((h n num).1 (before, has.1))
+        | inr same ↦
+            let two : Some m ≡ Some n = sym said ∙ named_newer name file is e n num same in
+            let k : m ≡ n = cc in
+            subst R k (Contains-push numbers m)
+      ],
+    )
+
+-- ---- those to close
 
 -- what is listed with one name more
 listed_more : (names : List (List ℕ)) (name : List ℕ) (n : ℕ) → IsListed (names ++ name ∷ []) n → IsListed names n ⊎ ((name ≡ name_of (Table n)) ⊎ (name ≡ name_of (OldTable n)))
@@ -370,59 +476,64 @@ listed_more names name n (inr older) = elim (Contains-push_cases names name (nam
   | inr same ↦ inr (inr same)
 ]
 
-pub unused_same : (in_use : ℕ → Type 0) (names : List (List ℕ)) (name : List ℕ) (numbers : List ℕ) → ((n : ℕ) → IsNumbered n → (in_use n → ⊥) → (name ≡ name_of (Table n)) ⊎ (name ≡ name_of (OldTable n)) → ⊥)
-    → AreUnused in_use names numbers → AreUnused in_use (names ++ name ∷ []) numbers
-unused_same in_use names name numbers other h = record {
-  unused = h.unused;
-  all = λ n num free listed. elim (listed_more names name n listed) [
-    | inl before ↦ h.all n num free before
-    | inr here ↦ absurd (other n num free here)
-  ];
-}
-
 pub named_number : (name : List ℕ) (file : FileName) → IsFileName file → name ≡ name_of file → (n : ℕ) → IsNumbered n → (name ≡ name_of (Table n)) ⊎ (name ≡ name_of (OldTable n)) → table_number file ≡ Some n
 named_number name file is e n num (inl same) = ap table_number (one_file file (Table n) is num (sym e ∙ same))
 named_number name file is e n num (inr same) = ap table_number (one_file file (OldTable n) is num (sym e ∙ same))
 
-pub no_table : (in_use : ℕ → Type 0) (name : List ℕ) (file : FileName) → IsFileName file → name ≡ name_of file → table_number file ≡ None → (n : ℕ) → IsNumbered n → (in_use n → ⊥) → (name ≡ name_of (Table n)) ⊎ (name ≡ name_of (OldTable n)) → ⊥
-no_table in_use name file is e none n num free here = (let clash : None ≡ Some n = sym none ∙ named_number name file is e n num here in cc)
+module _ (in_use : ℕ → Type 0) (both : List ℕ) where
+  pub none_to_close : AreToClose in_use both [] []
+  none_to_close n num may listed = elim listed [
+    | inl newer ↦ absurd (in_none (name_of (Table n)) newer)
+    | inr older ↦ absurd (in_none (name_of (OldTable n)) older)
+  ]
 
-pub used_table : (in_use : ℕ → Type 0) (name : List ℕ) (file : FileName) (m : ℕ) → IsFileName file → name ≡ name_of file → table_number file ≡ Some m → in_use m → (n : ℕ) → IsNumbered n → (in_use n → ⊥) → (name ≡ name_of (Table n)) ⊎ (name ≡ name_of (OldTable n)) → ⊥
-used_table in_use name file m is e said used n num free here =
-    let both : Some m ≡ Some n = sym said ∙ named_number name file is e n num here in
-    let same : m ≡ n = cc in
-    free (subst in_use same used)
+  -- a name of a table that stays open, or of none
+  pub close_same : (names : List (List ℕ)) (name : List ℕ) (numbers : List ℕ) → ((n : ℕ) → IsNumbered n → (in_use n → ⊥) ⊎ Contains both n → (name ≡ name_of (Table n)) ⊎ (name ≡ name_of (OldTable n)) → ⊥)
+      → AreToClose in_use both names numbers → AreToClose in_use both (names ++ name ∷ []) numbers
+  close_same names name numbers other h n num may listed = elim (listed_more names name n listed) [
+    | inl before ↦ h n num may before
+    | inr here ↦ absurd (other n num may here)
+  ]
 
-pub unused_more : (in_use : ℕ → Type 0) (names : List (List ℕ)) (name : List ℕ) (numbers : List ℕ) (file : FileName) (m : ℕ) → IsFileName file → name ≡ name_of file → table_number file ≡ Some m → (in_use m → ⊥)
-    → AreUnused in_use names numbers → AreUnused in_use (names ++ name ∷ []) (numbers ++ m ∷ [])
-unused_more in_use names name numbers file m is e said free h = record {
-  unused = λ n i. elim (Contains-push_cases numbers m n i) [
-    | inl before ↦ h.unused n before
-    | inr same ↦ subst (λ (k : ℕ). in_use k → ⊥) same free
-  ];
-  all = λ n num open_one listed. elim (listed_more names name n listed) [
-    | inl before ↦ Contains-append_left numbers (m ∷ []) n (h.all n num open_one before)
+  pub no_table : (name : List ℕ) (file : FileName) → IsFileName file → name ≡ name_of file → table_number file ≡ None
+      → (n : ℕ) → IsNumbered n → (in_use n → ⊥) ⊎ Contains both n → (name ≡ name_of (Table n)) ⊎ (name ≡ name_of (OldTable n)) → ⊥
+  no_table name file is e none n num may here = (let clash : None ≡ Some n = sym none ∙ named_number name file is e n num here in cc)
+
+  pub open_table : (name : List ℕ) (file : FileName) (m : ℕ) → IsFileName file → name ≡ name_of file → table_number file ≡ Some m → in_use m × (Contains both m → ⊥)
+      → (n : ℕ) → IsNumbered n → (in_use n → ⊥) ⊎ Contains both n → (name ≡ name_of (Table n)) ⊎ (name ≡ name_of (OldTable n)) → ⊥
+  open_table name file m is e said stays n num may here =
+      let two : Some m ≡ Some n = sym said ∙ named_number name file is e n num here in
+      let same : m ≡ n = cc in
+      elim may [
+        | inl free ↦ free (subst in_use same stays.0)
+        | inr has ↦ stays.1 (subst (λ (k : ℕ). Contains both k) (sym same) has)
+      ]
+
+  pub close_more : (names : List (List ℕ)) (name : List ℕ) (numbers : List ℕ) (file : FileName) (m : ℕ) → IsFileName file → name ≡ name_of file → table_number file ≡ Some m
+      → AreToClose in_use both names numbers → AreToClose in_use both (names ++ name ∷ []) (numbers ++ m ∷ [])
+  close_more names name numbers file m is e said h n num may listed = elim (listed_more names name n listed) [
+    | inl before ↦ Contains-append_left numbers (m ∷ []) n (h n num may before)
     | inr here ↦
-        let both : Some m ≡ Some n = sym said ∙ named_number name file is e n num here in
+        let two : Some m ≡ Some n = sym said ∙ named_number name file is e n num here in
         let same : m ≡ n = cc in
         subst (λ (k : ℕ). Contains (numbers ++ m ∷ []) k) same (Contains-push numbers m)
-  ];
-}
+  ]
 
 some_of : (a b : Option (List ℕ)) → IsSome (option_or a b) → (is_some a ≡ true) ⊎ (is_some b ≡ true)
 some_of (Some bytes) b is = inl refl
 some_of None b is = inr is
 
-pub lists_unused : (in_use : ℕ → Type 0) (old mid new : Facts) (names : List (List ℕ)) (numbers : List ℕ) → Touches mid new → (IsTrue mid.faithful → Lists old.files names) → AreUnused in_use names numbers → ListsUnused old new in_use numbers
-lists_unused in_use old mid new names numbers call lists h = record {
-  unused = h.unused;
-  all = λ f n num free there.
-      let listing = lists (call.faithful f) in
-      h.all n num free (elim (some_of (get old.files (name_of (Table n))) (get old.files (name_of (OldTable n))) there) [
-        | inl newer ↦ inl (name_listed old.files names (name_of (Table n)) listing newer)
-        | inr older ↦ inr (name_listed old.files names (name_of (OldTable n)) listing older)
-      ]);
-}
+pub lists_to_close : (in_use : ℕ → Type 0) (old mid new : Facts) (names : List (List ℕ)) (both numbers : List ℕ) → Touches mid new → (IsTrue mid.faithful → Lists old.files names) → (IsTrue mid.faithful → Knows old.files both)
+    → AreToClose in_use both names numbers → ListsToClose old new in_use numbers
+lists_to_close in_use old mid new names both numbers call lists knows h f n num may there =
+    let listing = lists (call.faithful f) in
+    h n num (elim may [
+      | inl free ↦ inl free
+      | inr has ↦ inr ((knows (call.faithful f) n num).1 has)
+    ]) (elim (some_of (get old.files (name_of (Table n))) (get old.files (name_of (OldTable n))) there) [
+      | inl newer ↦ inl (name_listed old.files names (name_of (Table n)) listing newer)
+      | inr older ↦ inr (name_listed old.files names (name_of (OldTable n)) listing older)
+    ])
 
 -- ---- all names
 
@@ -468,3 +579,20 @@ pub names_more : (xs : List (String Global)) (i : ℕ) (x : String Global) (byte
     → map string_bytes (take i xs) ++ bytes ∷ [] ≡ map string_bytes (take (i + 1) xs)
 names_more xs i x bytes lt is e =
     ap (λ (b : List ℕ). map string_bytes (take i xs) ++ b ∷ []) (e ∙ ap string_bytes is) ∙ sym (ap (map string_bytes) (take_more xs i x lt) ∙ map-append string_bytes (take i xs) (get_or xs i x ∷ []))
+
+-- What is there behind a removal is live by what is there.
+module _ (numbers : LiveNumbers) (in_use : ℕ → Type 0) (old new : Facts) (removal : Removal) (r : RemovesDead old new (IsLiveAmong old.files numbers in_use) (Ok removal)) (f : IsTrue new.faithful) where
+  still : (q : List ℕ) → contains_key new.files q ≡ true → contains_key old.files q ≡ true
+  still q = there_still old new (IsLiveAmong old.files numbers in_use) q (r.files f q)
+
+  live_still : (file : FileName) → IsLiveAmong old.files numbers in_use file → IsLiveAmong new.files numbers in_use file
+  live_still (OldTable n) alive = (alive.0, λ has. alive.1 (still (name_of (Table n)) has.0, still (name_of (OldTable n)) has.1))
+  live_still (Table n) alive = alive
+  live_still Current alive = alive
+  live_still Lock alive = alive
+  live_still (Log n) alive = alive
+  live_still (Manifest n) alive = alive
+  live_still (Temporary n) alive = alive
+
+  pub all_live : IsTrue removal.complete → (file : FileName) → IsFileName file → contains_key new.files (name_of file) ≡ true → IsLiveAmong new.files numbers in_use file
+  all_live whole file is there = live_still file (r.all f whole file is there)

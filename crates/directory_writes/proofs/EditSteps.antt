@@ -9,6 +9,8 @@ use Rattle.std.proofs.lemmas.List.{take_all}
 use Rattle.coding.specs.declared.error.DbError.{DbError}
 use Rattle.coding.specs.declared.error.DbError.TheVariants.{OutOfMemory, Io}
 use Rattle.store.specs.Files.{Files, Facts, Appends, AppendsBeginning}
+use Rattle.store.specs.Stops.{LeavesOnly, stopped_at}
+use Rattle.store.proofs.Stopping.{leaves_same, leaves_so}
 use Rattle.ikey.specs.Orders.{Order}
 use Rattle.logfile.specs.Log.{IsLog, IsWritten}
 use Rattle.logfile.specs.Appends.{room_behind, tail_after}
@@ -223,3 +225,22 @@ module _ (order : Order) (old new : Facts) (number : ℕ) (name : List ℕ) (end
               | inr some ↦ part_free edits layout next some.0 can some.1 n free recorded
             ];
       }
+
+-- ---- a stop in the middle
+
+module _ (order : Order) (old : Facts) (number : ℕ) (name : List ℕ) (end : ℕ) (edit : List Field) where
+  abbrev pub StoppedEdit : Files → Type 0
+  StoppedEdit files = AppendsEdit order old (stopped_at old files) number name end edit (Err Io)
+
+  -- nothing was done yet
+  pub edit_unstopped : (new : Facts) → new ≡ old → LeavesOnly old new StoppedEdit
+  edit_unstopped new is =
+      leaves_same old new StoppedEdit (ap (λ (f : Facts). f.calls) is) (ap (λ (f : Facts). f.files) is) (edit_unchanged order old (stopped_at old old.files) number name end edit Io (λ f. refl))
+
+  pub edit_stopped : (payload added : List ℕ) → IsEdit payload edit → AddsRecord end payload added → OneManifestLaw → FailedEditLaw → FailedWriteLaw → IsWritten (32768 - end % 32768) payload added
+      → (new : Facts) → LeavesOnly old new (λ files. AppendsBeginning old.files files name added) → LeavesOnly old new StoppedEdit
+  edit_stopped payload added spelled adds one law part written new h =
+      leaves_so old new (λ files. AppendsBeginning old.files files name added) StoppedEdit
+      (λ files left.
+      edit_refused order old (stopped_at old files) number name end edit payload added spelled adds one law part written Io (inr refl)
+      (record { ok = λ f. tt; io = λ f e. left; memory = λ f e. absurd (cc); unsynced = λ f. refl; others = λ f q apart. refl })) h

@@ -1,5 +1,5 @@
 -- How many of the files that aren't live a removal leaves.
-use Rattle.std.proofs.Common.{◌≡◌, ◌≢◌, ◌⊎◌, ℕ, ◌+◌, ◌<◌, ◌≤◌, Bool, true, false, List, [], ◌∷◌, ◌++◌, length, length-append, Result, Ok, Err, None, IsTrue, inl, inr, refl, sym, ap, subst, ◌∙◌, arith}
+use Rattle.std.proofs.Common.{◌≡◌, ◌≢◌, ◌⊎◌, ◌↔◌, ℕ, ◌+◌, ◌<◌, ◌≤◌, Bool, true, false, List, [], ◌∷◌, ◌++◌, length, length-append, Result, Ok, Err, None, IsTrue, inl, inr, refl, sym, ap, subst, ◌∙◌, arith}
 use Rattle.std.specs.Prelude.{Contains}
 use Rattle.std.specs.FinMap.{get, contains_key}
 use Rattle.std.specs.Result.{is_ok}
@@ -12,11 +12,11 @@ use Rattle.store.specs.declared.error.StoreError.TheVariants as store_error
 use Rattle.edits.specs.Names.{name_of, IsFileName}
 use Rattle.edits.specs.declared.names.FileName.{FileName}
 use Rattle.edits.specs.declared.names.FileName.TheVariants.{Current, Lock, Log, Manifest, Table, OldTable, Temporary}
-use Rattle.recover.proofs.NameScan.{first_in, in_cons, in_none, name_listed, name_there}
+use Rattle.recover.proofs.NameScan.{first_in, in_cons, in_none, name_listed}
 use Rattle.directory_writes.specs.internal.Calls.{LeavesFile, Touches}
-use Rattle.directory_writes.specs.internal.Removal.{AreOlder, HasOlderToo, HasTwo, IsLeft, LeavesFew, RemovesNamed}
+use Rattle.directory_writes.specs.internal.Removal.{HasOlderToo, HasTwo, IsLeft, LeavesFew, RemovesNamed}
 use Rattle.directory_writes.specs.Removal.{IsDead}
-use Rattle.directory_writes.proofs.Cleaning.{gone_later}
+use Rattle.directory_writes.proofs.Cleaning.{Knows, gone_later}
 
 -- nothing waits in a turn
 abbrev pub NoneWaits : FileName → Type 0
@@ -171,18 +171,30 @@ module _ (live : FileName → Type 0) (has_older : ℕ → Type 0) where
 
 -- ---- all files
 
-newer_of_two : (files : Files) (names : List (List ℕ)) (older : List ℕ) → Lists files names → AreOlder names older → (file : FileName) → IsFileName file → HasTwo (λ n. Contains older n) file → HasOlderToo files file
-newer_of_two files names older lists are (Table n) is has = name_there files names (name_of (OldTable n)) lists ((are n is).0 has)
-newer_of_two files names older lists are Current is has = has
-newer_of_two files names older lists are Lock is has = has
-newer_of_two files names older lists are (Log n) is has = has
-newer_of_two files names older lists are (OldTable n) is has = has
-newer_of_two files names older lists are (Manifest n) is has = has
-newer_of_two files names older lists are (Temporary n) is has = has
+newer_of_two : (files : Files) (both : List ℕ) → Knows files both → (file : FileName) → IsFileName file → HasTwo (λ n. Contains both n) file → HasOlderToo files file
+newer_of_two files both knows (Table n) is has = ((knows n is).0 has).1
+newer_of_two files both knows Current is has = has
+newer_of_two files both knows Lock is has = has
+newer_of_two files both knows (Log n) is has = has
+newer_of_two files both knows (OldTable n) is has = has
+newer_of_two files both knows (Manifest n) is has = has
+newer_of_two files both knows (Temporary n) is has = has
 
-pub few_all : (live : FileName → Type 0) (old mid new : Facts) (names : List (List ℕ)) (older : List ℕ) → (IsTrue mid.faithful → Lists old.files names) → mid.failures ≡ old.failures → AreOlder names older → Touches mid new
-    → LeavesFew mid new live (HasTwo (λ n. Contains older n)) (Among names) → LeavesFew old new live (HasOlderToo old.files) (λ name. contains_key old.files name ≡ true)
-few_all live old mid new names older lists unfailed are call few f =
+pub few_as : (old new : Facts) (live other waits : FileName → Type 0) (listed : List ℕ → Type 0) → (IsTrue new.faithful → (file : FileName) → IsFileName file → live file ↔ other file)
+    → LeavesFew old new live waits listed → LeavesFew old new other waits listed
+few_as old new live other waits listed same few f =
+    let one = few f in (
+      one.0,
+      one.1,
+      λ file is i. elim (one.2 file is i) [
+        | inl alive ↦ inl ((same f file is).0 alive)
+        | inr more ↦ inr more
+      ],
+    )
+
+pub few_all : (live : FileName → Type 0) (old mid new : Facts) (names : List (List ℕ)) (both : List ℕ) → (IsTrue mid.faithful → Lists old.files names) → mid.failures ≡ old.failures → (IsTrue mid.faithful → Knows old.files both) → Touches mid new
+    → LeavesFew mid new live (HasTwo (λ n. Contains both n)) (Among names) → LeavesFew old new live (HasOlderToo old.files) (λ name. contains_key old.files name ≡ true)
+few_all live old mid new names both lists unfailed knows call few f =
     let one = few f in
     let listing = lists (call.faithful f) in (
       one.0,
@@ -193,7 +205,7 @@ few_all live old mid new names older lists unfailed are call few f =
           | inl gone ↦ inr (inl gone)
           | inr other ↦ elim other [
             | inl left ↦ inr (inr (inl left))
-            | inr waits ↦ inr (inr (inr (newer_of_two old.files names older listing are file is waits.0, omega (arith, waits.1, unfailed))))
+            | inr waits ↦ inr (inr (inr (newer_of_two old.files both (knows (call.faithful f)) file is waits.0, omega (arith, waits.1, unfailed))))
           ]
         ]
       ],

@@ -1,9 +1,11 @@
 -- A whole flush, by what its calls say.
-use Rattle.std.proofs.Common.{◌≡◌, ◌⊎◌, ◌<◌, ◌+◌, ◌^◌, ℕ, List, Ok, Err, IsTrue, string_bytes, inl, inr, sym, ap, subst, ◌∙◌, arith}
+use Rattle.std.proofs.Common.{◌≡◌, ◌⊎◌, ◌<◌, ◌+◌, ◌^◌, ℕ, List, Ok, Err, IsTrue, string_bytes, inl, inr, refl, sym, ap, subst, ◌∙◌, arith}
 use Rattle.std.specs.FinMap.{get}
 use Rattle.coding.specs.declared.error.DbError.{DbError}
 use Rattle.coding.specs.declared.error.DbError.TheVariants.{OutOfMemory, Io}
 use Rattle.store.specs.Files.{Files, Facts}
+use Rattle.store.specs.Stops.{KeepsBut, LeavesOnly, WritesOnly, stopped_at}
+use Rattle.store.proofs.Stopping.{leaves_both, leaves_same, leaves_so}
 use Rattle.ikey.specs.declared.entry.Entry.{Entry}
 use Rattle.ikey.specs.Orders.{Order}
 use Rattle.edits.specs.Names.{name_of, IsNumbered}
@@ -15,7 +17,7 @@ use Rattle.recover.specs.Logs.{LogContent}
 use Rattle.recover.specs.Directory.{Directory}
 use Rattle.recover.specs.internal.Changes.{FlushLaw, SameManifestLaw, UnreadLaw}
 use Rattle.directory_writes.specs.internal.Calls.{Touches}
-use Rattle.directory_writes.specs.internal.Flush.{CanFlush, DrawsTable, FlushTouches, FlushLeaves, FlushMeans, HasPrepared, IsUnflushed, RefusesNewTable, SyncsFlush, edit_refusal}
+use Rattle.directory_writes.specs.internal.Flush.{CanFlush, DrawsTable, FlushTouches, FlushLeaves, FlushMayLeave, FlushMeans, MayBeFlushed, HasPrepared, IsUnflushed, RefusesNewTable, SyncsFlush, edit_refusal}
 use Rattle.directory_writes.specs.internal.Level0.{IsLevel0}
 use Rattle.directory_writes.specs.internal.Manifest.{AppendsEdit, SyncsEdit}
 use Rattle.directory_writes.specs.declared.flush.FlushError.TheVariants.{Before}
@@ -113,3 +115,40 @@ module _ {K : Type 0} (order : Order) (old : Facts) (next after : ℕ) (plan : F
           | inr io ↦ subst M (sym io) (maybe_flushed order old.files mid next after few more plan manifest entries placement.tables d sealed current can (still g d sealed current can) p.table (p.number_is ∙ number)
               (written g) prepared.edit p.fields p.limit flush same new f (subst A io r))
         ]
+
+-- ---- a stop in the middle
+
+module _ (order : Order) (old : Facts) (next after : ℕ) (plan : FlushPlan) (manifest : CurrentManifest) (entries : List Entry) (tables : List PlacedTable) where
+  abbrev pub StoppedFlush : Files → Type 0
+  StoppedFlush = FlushMayLeave order old.files next after plan manifest entries tables
+
+  still_same : (files : Files) (d : Directory) (sealed : List LogContent) (current : LogContent) → IsUnflushed order old.files files after plan manifest entries tables d sealed current
+      → MayBeFlushed order old.files files next after entries d sealed current
+  still_same files d sealed current h = record { either = inl (h.can.consistent, h.kept); free = h.can.free }
+
+  -- while the table is written
+  pub table_stopped : UnreadLaw → (new : Facts) → DrawsTable old new next after → WritesOnly old new (λ (q : List ℕ). q ≡ name_of (Table next)) → LeavesOnly old new StoppedFlush
+  table_stopped law new (inl none) w =
+      leaves_same old new StoppedFlush (ap (λ (x : Facts). x.calls) none.1) (ap (λ (x : Facts). x.files) none.1)
+      (λ d sealed current can.
+      let N : ℕ → Type 0 = λ k. IsUnflushed order old.files old.files k plan manifest entries tables d sealed current in
+      still_same old.files d sealed current (subst N (sym none.0) (unflushed_yet order old.files next plan manifest entries tables d sealed current can)))
+  table_stopped law new (inr drawn) w =
+      leaves_so old new (KeepsBut old.files (λ (q : List ℕ). q ≡ name_of (Table next))) StoppedFlush
+      (λ files kept d sealed current can.
+      let N : ℕ → Type 0 = λ k. IsUnflushed order old.files files k plan manifest entries tables d sealed current in
+      still_same files d sealed current (subst N (sym drawn.0) (unflushed order old.files files next (numbered_by next drawn.1 drawn.2) kept plan manifest entries tables d sealed current can law))) w
+
+-- while the edit is
+pub flush_stopped : {K : Type 0} (order : Order) (old : Facts) (next after : ℕ) (plan : FlushPlan) (manifest : CurrentManifest) (entries : List Entry) → UnreadLaw → FlushLaw → SameManifestLaw → (mid new : Facts) (placement : Placement) (prepared : Prepared K)
+    → Writes old mid (name_of (Table next)) → DrawsTable old mid next after → (Touches mid new) → prepared.number ≡ next → after ≡ next + 1 → 0 < next → next < 2 ^ 62 → HasPrepared order mid after plan entries placement prepared
+    → LeavesOnly mid new (λ files. AppendsEdit order mid (stopped_at mid files) manifest.number (string_bytes manifest.name) manifest.end prepared.edit (Err Io))
+    → IsTrue new.faithful → LeavesOnly old new (StoppedFlush order old next after plan manifest entries placement.tables)
+flush_stopped {K} order old next after plan manifest entries law flush same mid new placement prepared w drawn t number more some few p edit f =
+    let faithful = t.faithful f in
+    let P = StoppedFlush order old next after plan manifest entries placement.tables in
+    leaves_both old mid new P (table_stopped order old next after plan manifest entries placement.tables law mid drawn (w.calls faithful))
+    (leaves_so mid new _ P
+    (λ files left.
+    leaves_maybe {K = K} order old next after plan manifest entries law flush same mid (stopped_at mid files) placement prepared w
+    (record { faithful = λ g. faithful; failures = omega arith; denials = refl; locked = refl }) number more some few p Io (inr refl) left refl) edit)

@@ -1,5 +1,5 @@
 -- The whole end of a job, by what its calls say.
-use Rattle.std.proofs.Common.{◌≡◌, ◌⊎◌, ◌<◌, ◌^◌, ℕ, Bool, List, [], ◌∷◌, Some, Ok, Err, IsTrue, string_bytes, inl, inr, sym, subst, ◌∙◌, arith}
+use Rattle.std.proofs.Common.{◌≡◌, ◌⊎◌, ◌<◌, ◌^◌, ℕ, Bool, List, [], ◌∷◌, Some, Ok, Err, IsTrue, string_bytes, inl, inr, refl, sym, subst, ◌∙◌, arith}
 use Rattle.std.specs.Cmp.{IsTotalOrder}
 use Rattle.std.specs.List.{AllByRecursion, Contains}
 use Rattle.std.specs.declared.cmp.Ordering.{Ordering}
@@ -9,6 +9,9 @@ use Rattle.edits.specs.declared.field.Field.TheVariants as field
 use Rattle.coding.specs.declared.error.DbError.{DbError}
 use Rattle.coding.specs.declared.error.DbError.TheVariants.{OutOfMemory, Io, Corrupt}
 use Rattle.store.specs.Files.{Facts}
+use Rattle.store.specs.Stops.{KeepsBut, LeavesOnly, stopped_at}
+use Rattle.store.proofs.Stopping.{leaves_both, leaves_so}
+use Rattle.compact.proofs.Writing.{writes-stopped}
 use Rattle.ikey.specs.Entries.{InternalEntry}
 use Rattle.ikey.specs.Orders.{Order}
 use Rattle.edits.specs.Layout.{after_edit}
@@ -21,13 +24,13 @@ use Rattle.recover.specs.Tables.{TableContent, HasTable, InTables}
 use Rattle.recover.specs.Directory.{Directory}
 use Rattle.recover.specs.internal.Changes.{SameManifestLaw}
 use Rattle.recover.proofs.Memberships.{from_rest, in_part, one_of_tables}
-use Rattle.compact.specs.Outputs.{TablesWritten, AreNumbered, IsNumberAtHand, IsOwn, WritesTables}
+use Rattle.compact.specs.Outputs.{TablesWritten, AreNumbered, IsNumberAtHand, IsOwn, IsTableName, WritesTables}
 use Rattle.compact.specs.JobEdits.{IsOwnIn}
 use Rattle.compact.specs.declared.job.Job.{Job}
 use Rattle.directory_writes.specs.internal.Calls.{Touches}
 use Rattle.directory_writes.specs.Replacing.{placed_in}
 use Rattle.directory_writes.specs.internal.Flush.{IsCorrupt, RefusesVersion, edit_refusal}
-use Rattle.directory_writes.specs.internal.Install.{AreOldOrOwn, CanInstall, HasPreparedJob, InstallLeaves, InstallMeans, InstallTouches, IsJobEdit, RefusesEdit}
+use Rattle.directory_writes.specs.internal.Install.{AreOldOrOwn, CanInstall, HasPreparedJob, InstallLeaves, InstallMayLeave, InstallMeans, InstallTouches, IsJobEdit, RefusesEdit}
 use Rattle.directory_writes.specs.internal.Manifest.{AppendsEdit}
 use Rattle.directory_writes.specs.declared.flush.FlushError.TheVariants.{Before}
 use Rattle.directory_writes.specs.declared.install.PreparedJob.{PreparedJob}
@@ -132,3 +135,27 @@ module _ {K C : Type 0} (order : Order) (job : Job K C) (next last_sequence : �
           )
           | inr io ↦ subst M (sym io) (maybe_installed order job next last_sequence fits numbered old mid w (t.faithful g) deep manifest version.tables came d inputs rest can prepared.edit p.edit same new g (subst A io r))
         ]
+
+-- ---- a stop in the middle
+
+module _ {K C : Type 0} (order : Order) (job : Job K C) (next last_sequence : ℕ) (fits : next < 2 ^ 64) (numbered : AreNumbered job.outputs next) (old mid : Facts) (w : WritesTables old mid (IsNumberAtHand job.outputs)) (manifest : CurrentManifest) (f : IsTrue mid.faithful) where
+  -- while the last table is ended
+  pub table_stopped : (tables : List PlacedTable) → LeavesOnly old mid (InstallMayLeave order job old next last_sequence manifest tables)
+  table_stopped tables =
+      leaves_so old mid (KeepsBut old.files (IsTableName (IsNumberAtHand job.outputs))) (InstallMayLeave order job old next last_sequence manifest tables)
+      (λ files kept deep came d inputs rest can.
+      let stopped = writes-stopped old files (IsNumberAtHand job.outputs) (w.faithful f) kept in
+      let left = uninstalled order job next last_sequence fits numbered old (stopped_at old files) stopped refl deep manifest tables came d inputs rest can in
+      record { either = inl (left.served.consistent, left.kept); free = left.served.free }) (w.calls f)
+
+  -- while the edit is put behind the MANIFEST
+  pub install_stopped : SameManifestLaw → (new : Facts) (version : Placement) (prepared : PreparedJob K) (p : HasPreparedJob order.cmp job old mid next last_sequence version prepared)
+      → LeavesOnly mid new (λ files. AppendsEdit order mid (stopped_at mid files) manifest.number (string_bytes manifest.name) manifest.end prepared.edit (Err Io))
+      → LeavesOnly old new (InstallMayLeave order job old next last_sequence manifest version.tables)
+  install_stopped same new version prepared p edit =
+      let P = InstallMayLeave order job old next last_sequence manifest version.tables in
+      leaves_both old mid new P (table_stopped version.tables)
+      (leaves_so mid new _ P
+      (λ files left deep came d inputs rest can.
+      leaves_maybe order job next last_sequence fits numbered old mid w manifest (stopped_at mid files) (record { faithful = λ g. f; failures = omega arith; denials = refl; locked = refl }) version prepared p
+      same Io (inr refl) left refl deep came d inputs rest can) edit)

@@ -15,6 +15,7 @@ pub mod JobsDeep
 pub mod JobsDone
 pub mod JobsPut
 pub mod KeyEnds
+pub mod Losing
 pub mod Made
 pub mod Meaning
 pub mod NewLogFiles

@@ -1,10 +1,12 @@
 -- What the removal of files that aren't live leaves of the meaning.
-use Rattle.std.proofs.Common.{◌≡◌, ◌⊎◌, ℕ, true, false, List, Some, None, is_some, Result, IsTrue, inl, inr, sym, ap, subst, ◌∙◌, arith}
+use Rattle.std.proofs.Common.{◌≡◌, ◌⊎◌, ℕ, Bool, true, false, List, Some, None, is_some, Result, IsTrue, inl, inr, refl, sym, ap, subst, ◌∙◌, arith}
 use Rattle.std.specs.Option.{option_or}
 use Rattle.std.specs.FinMap.{get, contains_key}
 use Rattle.ikey.specs.Orders.{Order}
 use Rattle.coding.specs.declared.error.DbError.{DbError}
 use Rattle.store.specs.Files.{Files, Facts}
+use Rattle.store.specs.Stops.{LeavesOnly}
+use Rattle.store.proofs.Stopping.{leaves_both, leaves_same, leaves_so}
 use Rattle.edits.specs.Names.{name_of, IsFileName, IsNumbered}
 use Rattle.edits.specs.declared.field.Field.{Field}
 use Rattle.edits.specs.declared.layout.Layout.{Layout}
@@ -22,26 +24,34 @@ use Rattle.recover.proofs.Adding.{last_in, table_of}
 use Rattle.recover.proofs.Keeping.{keep_manifest, live_of}
 use Rattle.recover.proofs.NewLogs.{log_there}
 use Rattle.directory_writes.specs.internal.Calls.{LeavesFile}
-use Rattle.directory_writes.specs.Removal.{IsLiveFile, IsDead}
-use Rattle.directory_writes.specs.internal.Removal.{RemovesDead, AreOfDirectory, KeepsParts}
+use Rattle.directory_writes.specs.Removal.{IsLiveAmong, IsDead}
+use Rattle.directory_writes.specs.internal.Removal.{LosesOnly, RemovesDead, AreOfDirectory, KeepsParts, StaysConsistent}
 use Rattle.directory_writes.specs.declared.removal.Removal.{Removal}
+use Rattle.directory_writes.proofs.Cleaning.{read_newer}
+use Rattle.directory_writes.proofs.Losing.{loses_as}
 
 -- each file is as before, or isn't live and is gone
 abbrev pub StaysOrGoes : Files → Files → (FileName → Type 0) → Type 0
 StaysOrGoes old new live = (name : List ℕ) → (get new name ≡ get old name) ⊎ (IsDead live name × (get new name ≡ None))
 
-module _ (order : Order) (numbers : LiveNumbers) (in_use : ℕ → Type 0) (old new : Files) (change : StaysOrGoes old new (IsLiveFile numbers in_use)) where
-  live_kept : (file : FileName) → IsFileName file → IsLiveFile numbers in_use file → get new (name_of file) ≡ get old (name_of file)
+module _ (order : Order) (numbers : LiveNumbers) (in_use : ℕ → Type 0) (old new : Files) (change : StaysOrGoes old new (IsLiveAmong old numbers in_use)) where
+  live_kept : (file : FileName) → IsFileName file → IsLiveAmong old numbers in_use file → get new (name_of file) ≡ get old (name_of file)
   live_kept file is alive = elim (change (name_of file)) [
     | inl same ↦ same
-    | inr dead ↦ absurd (dead.0.3 (subst (IsLiveFile numbers in_use) (one_file file dead.0.0 is dead.0.1 dead.0.2) alive))
+    | inr dead ↦ absurd (dead.0.3 (subst (IsLiveAmong old numbers in_use) (one_file file dead.0.0 is dead.0.1 dead.0.2) alive))
   ]
 
   table_kept : (n : ℕ) → IsNumbered n → in_use n → table_at new n ≡ table_at old n
-  table_kept n num used =
-      let newer = live_kept (Table n) num used in
-      let older = live_kept (OldTable n) num used in
-      λ i. option_or (newer i) (older i)
+  table_kept n num used = by (contains_key old (name_of (Table n))) refl
+    where
+      newer : get new (name_of (Table n)) ≡ get old (name_of (Table n))
+      newer = live_kept (Table n) num used
+
+      by : (t : Bool) → contains_key old (name_of (Table n)) ≡ t → table_at new n ≡ table_at old n
+      by true there = read_newer (get old (name_of (Table n))) (get old (name_of (OldTable n))) (get new (name_of (Table n))) (get new (name_of (OldTable n))) newer there
+      by false absent =
+          let older = live_kept (OldTable n) num (used, λ has. let clash : true ≡ false = sym has.0 ∙ absent in cc) in
+          λ i. option_or (newer i) (older i)
 
   there_before : (q : List ℕ) → contains_key new q ≡ true → contains_key old q ≡ true
   there_before q there = elim (change q) [
@@ -113,7 +123,23 @@ stays_or_goes old new live files q = elim (files q) [
 ]
 
 -- what is left of the files keeps the parts
-pub keeps_meaning : (numbers : LiveNumbers) (in_use : ℕ → Type 0) (old new : Facts) (r : Result Removal DbError) → RemovesDead old new (IsLiveFile numbers in_use) r → FreeChangeLaw → IsTrue new.faithful
+pub keeps_meaning : (numbers : LiveNumbers) (in_use : ℕ → Type 0) (old new : Facts) (r : Result Removal DbError) → RemovesDead old new (IsLiveAmong old.files numbers in_use) r → FreeChangeLaw → IsTrue new.faithful
     → (order : Order) (d : Directory) → IsConsistent order old.files d → AreOfDirectory numbers in_use d → KeepsParts order old.files new.files in_use d
 keeps_meaning numbers in_use old new r removes law f order d h are =
-    keeps_parts order numbers in_use old.files new.files (stays_or_goes old new (IsLiveFile numbers in_use) (removes.files f)) d h are law
+    keeps_parts order numbers in_use old.files new.files (stays_or_goes old new (IsLiveAmong old.files numbers in_use) (removes.files f)) d h are law
+
+-- ---- a stop in the middle
+
+module _ (numbers : LiveNumbers) (in_use : ℕ → Type 0) (old mid : Facts) (calls : mid.calls ≡ old.calls) (same : mid.files ≡ old.files) where
+  -- before anything is removed
+  pub meaning_unstopped : LeavesOnly old mid (StaysConsistent numbers in_use old.files)
+  meaning_unstopped = leaves_same old mid (StaysConsistent numbers in_use old.files) calls same (λ order d h are. h)
+
+  pub meaning_stopped : FreeChangeLaw → (live : FileName → Type 0) → ((file : FileName) → IsFileName file → IsLiveAmong old.files numbers in_use file → live file) → (new : Facts) → LeavesOnly mid new (LosesOnly mid.files live)
+      → LeavesOnly old new (StaysConsistent numbers in_use old.files)
+  meaning_stopped law live back new h =
+      leaves_both old mid new (StaysConsistent numbers in_use old.files) meaning_unstopped
+      (leaves_so mid new (LosesOnly mid.files live) (StaysConsistent numbers in_use old.files)
+      (λ files left order d h are.
+      (keeps_parts order numbers in_use old.files files
+      (loses_as live (IsLiveAmong old.files numbers in_use) back old.files files (subst (λ (fs : Files). LosesOnly fs live files) same left)) d h are law).consistent) h)

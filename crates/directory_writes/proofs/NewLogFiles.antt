@@ -7,6 +7,8 @@ use Rattle.std.specs.FinMap.{get, insert, contains_key, get-insert}
 use Rattle.coding.specs.declared.error.DbError.{DbError}
 use Rattle.coding.specs.declared.error.DbError.TheVariants.{OutOfMemory, Io}
 use Rattle.store.specs.Files.{Files, Facts}
+use Rattle.store.specs.Stops.{LeavesOnly}
+use Rattle.store.proofs.Stopping.{leaves_same, leaves_so}
 use Rattle.ikey.specs.Orders.{Order}
 use Rattle.edits.specs.Layout.{fields_of}
 use Rattle.edits.specs.Names.{name_of, IsNumbered}
@@ -23,7 +25,7 @@ use Rattle.recover.proofs.NamedFiles.{get_other, same_name}
 use Rattle.recover.proofs.Adding.{current_apart, manifest_apart}
 use Rattle.recover.proofs.Keeping.{keep_manifest}
 use Rattle.directory_writes.specs.internal.Calls.{Creates}
-use Rattle.directory_writes.specs.internal.LogFile.{HasNewLog, BeginsLog}
+use Rattle.directory_writes.specs.internal.LogFile.{HasNewLog, BeginsLog, MayHaveLog}
 
 -- ---- the MANIFEST stays
 
@@ -152,3 +154,15 @@ module _ (order : Order) (law : BeginLogLaw) (number : ℕ) (numbered : IsNumber
 pub maybe_made : (old new : Facts) (number : ℕ) (e : DbError) → (e ≡ OutOfMemory) ⊎ (e ≡ Io) → Creates old new (name_of (Log number)) (Err e) → IsTrue new.faithful → MayBegin old.files new.files number
 maybe_made old new number e (inl memory) made f = inl (made.memory f (ap (λ (x : DbError). Err x) memory)).0
 maybe_made old new number e (inr io) made f = made.io f (ap (λ (x : DbError). Err x) io)
+
+-- ---- a stop in the middle
+
+module _ (order : Order) (number : ℕ) (old : Facts) where
+  pub log_unstopped : (new : Facts) → new ≡ old → LeavesOnly old new (MayHaveLog order old.files number)
+  log_unstopped new is = leaves_same old new (MayHaveLog order old.files number) (ap (λ (f : Facts). f.calls) is) (ap (λ (f : Facts). f.files) is) (λ d h free. inl h)
+
+  pub log_stopped : BeginLogLaw → IsNumbered number → (name : List ℕ) → name ≡ name_of (Log number) → (new : Facts) → LeavesOnly old new (λ files. (files ≡ old.files) ⊎ (files ≡ insert old.files name []))
+      → LeavesOnly old new (MayHaveLog order old.files number)
+  log_stopped law numbered name named new h =
+      leaves_so old new (λ files. (files ≡ old.files) ⊎ (files ≡ insert old.files name [])) (MayHaveLog order old.files number)
+      (λ files left. maybe_new order law number numbered old.files files (subst (λ (q : List ℕ). (files ≡ old.files) ⊎ (files ≡ insert old.files q [])) named left)) h

@@ -7,6 +7,7 @@ use Rattle.std.specs.List.{AllByRecursion}
 use Rattle.std.specs.List.Sorted.{IsPermutation}
 use Rattle.std.specs.declared.cmp.Ordering.{Ordering}
 use Rattle.edits.proofs.Orders.{unused}
+use Rattle.edits.specs.Edit.{IsInternal}
 use Rattle.edits.specs.Layout.{is_used}
 use Rattle.edits.specs.Snapshot.{AreInPlace, IsKept, IsPlacedProper}
 use Rattle.edits.specs.declared.field.PlacedTable.{PlacedTable}
@@ -42,17 +43,21 @@ use Rattle.directory_writes.proofs.PlansClosed.{closed_plan}
 
 -- ---- a pointer
 
-some_pointer : (cmp : List ℕ → List ℕ → Ordering) (level : ℕ) (plan : JobPlan) → MovesPointer cmp level plan → ((p : PlacedTable) → Contains plan.inputs.items p → length p.table.largest < 2 ^ 32)
-    → MatchOption plan.compact_pointer (Unit {0}) (λ (key : List ℕ). length key < 2 ^ 32)
-some_pointer cmp zero plan none short = subst (λ (p : Option (List ℕ)). MatchOption p (Unit {0}) (λ (key : List ℕ). length key < 2 ^ 32)) (sym none) tt
-some_pointer cmp (suc above) plan (key, is, greatest) short =
-    let one = greatest.0 in
-    let fits : length one.1.table.largest < 2 ^ 32 = short one.1 (one.0, one.2, one.3) in
-    let fits_key : length key < 2 ^ 32 = subst (λ (bytes : List ℕ). length bytes < 2 ^ 32) one.4.1 fits in
-    subst (λ (p : Option (List ℕ)). MatchOption p (Unit {0}) (λ (key : List ℕ). length key < 2 ^ 32)) (sym is) fits_key
+-- an edit can hold the key
+abbrev Fits : List ℕ → Type 0
+Fits key = (length key < 2 ^ 32) × IsInternal key
 
-no_pointer : (plan : JobPlan) → plan.compact_pointer ≡ None → MatchOption plan.compact_pointer (Unit {0}) (λ (key : List ℕ). length key < 2 ^ 32)
-no_pointer plan none = subst (λ (p : Option (List ℕ)). MatchOption p (Unit {0}) (λ (key : List ℕ). length key < 2 ^ 32)) (sym none) tt
+some_pointer : (cmp : List ℕ → List ℕ → Ordering) (level : ℕ) (plan : JobPlan) → MovesPointer cmp level plan → ((p : PlacedTable) → Contains plan.inputs.items p → Fits p.table.largest)
+    → MatchOption plan.compact_pointer (Unit {0}) Fits
+some_pointer cmp zero plan none fit = subst (λ (p : Option (List ℕ)). MatchOption p (Unit {0}) Fits) (sym none) tt
+some_pointer cmp (suc above) plan (key, is, greatest) fit =
+    let one = greatest.0 in
+    let fits : Fits one.1.table.largest = fit one.1 (one.0, one.2, one.3) in
+    let fits_key : Fits key = subst Fits one.4.1 fits in
+    subst (λ (p : Option (List ℕ)). MatchOption p (Unit {0}) Fits) (sym is) fits_key
+
+no_pointer : (plan : JobPlan) → plan.compact_pointer ≡ None → MatchOption plan.compact_pointer (Unit {0}) Fits
+no_pointer plan none = subst (λ (p : Option (List ℕ)). MatchOption p (Unit {0}) Fits) (sym none) tt
 
 each_at : {X : Type 0} (P : X → Type 0) (xs : List X) (x : X) → AllByRecursion P xs → Among xs x → P x
 each_at P [] x h i = absurd i
@@ -130,11 +135,11 @@ module _ (order : Order) (files : Files) (d : Directory) (tables : List PlacedTa
   proper_of : (p : PlacedTable) → Contains chosen p → IsPlacedProper p
   proper_of p c = each_at IsPlacedProper (placed_in d.tables) p (subst (λ (ts : List PlacedTable). AllByRecursion IsPlacedProper ts) (sym h.placed) kept.proper) (in_directory p c)
 
-  pointer_by : IsPlanOf order.cmp tables plan → MatchOption plan.compact_pointer (Unit {0}) (λ (key : List ℕ). length key < 2 ^ 32)
+  pointer_by : IsPlanOf order.cmp tables plan → MatchOption plan.compact_pointer (Unit {0}) Fits
   pointer_by (inr all) = no_pointer plan all.pointer
   pointer_by (inl some) = elim some.moves [
     | inl none ↦ no_pointer plan none
-    | inr moves ↦ some_pointer order.cmp some.level plan moves (λ p c. (proper_of p c).1.4)
+    | inr moves ↦ some_pointer order.cmp some.level plan moves (λ p c. ((proper_of p c).1.4, (proper_of p c).1.6))
   ]
 
   output_by : IsPlanOf order.cmp tables plan → (0 < plan.output_level) × (plan.output_level < 7)

@@ -1,19 +1,30 @@
 -- Which files of a directory are live (LevelDB's db/db_impl.cc, DBImpl::RemoveObsoleteFiles).
-use Rattle.std.specs.Prelude.{◌≡◌, ◌⊎◌, ◌≤◌, ℕ, List}
+use Rattle.std.specs.Prelude.{◌≡◌, ◌⊎◌, ◌≤◌, ℕ, true, List}
+use Rattle.std.specs.FinMap.{contains_key}
+use Rattle.store.specs.Files.{Files}
 use Rattle.edits.specs.Names.{name_of, IsFileName}
 use Rattle.edits.specs.declared.names.FileName.{FileName}
 use Rattle.edits.specs.declared.names.FileName.TheVariants.{Current, Lock, Log, Table, OldTable, Manifest, Temporary}
 use Rattle.versions.specs.declared.live.LiveNumbers.{LiveNumbers}
 
--- `CURRENT`, the lock, the MANIFEST, the live logs, and the tables in use, by either name.
-abbrev pub IsLiveFile : LiveNumbers → (ℕ → Type 0) → FileName → Type 0
-IsLiveFile numbers in_use Current = Unit {0}
-IsLiveFile numbers in_use Lock = Unit {0}
-IsLiveFile numbers in_use (Log n) = (numbers.log_number ≤ n) ⊎ (n ≡ numbers.previous_log_number)
-IsLiveFile numbers in_use (Table n) = in_use n
-IsLiveFile numbers in_use (OldTable n) = in_use n
-IsLiveFile numbers in_use (Manifest n) = n ≡ numbers.manifest_number
-IsLiveFile numbers in_use (Temporary n) = ⊥
+-- `CURRENT`, the lock, the MANIFEST, the live logs, and the tables in use: where such a table has a file under both names, that with the
+-- newer one, which is the one that is read.
+abbrev pub IsLiveFile : LiveNumbers → (ℕ → Type 0) → (ℕ → Type 0) → FileName → Type 0
+IsLiveFile numbers in_use has_both Current = Unit {0}
+IsLiveFile numbers in_use has_both Lock = Unit {0}
+IsLiveFile numbers in_use has_both (Log n) = (numbers.log_number ≤ n) ⊎ (n ≡ numbers.previous_log_number)
+IsLiveFile numbers in_use has_both (Table n) = in_use n
+IsLiveFile numbers in_use has_both (OldTable n) = in_use n × (has_both n → ⊥)
+IsLiveFile numbers in_use has_both (Manifest n) = n ≡ numbers.manifest_number
+IsLiveFile numbers in_use has_both (Temporary n) = ⊥
+
+-- the table of this number has a file under each of its two names
+abbrev pub HasBoth : Files → ℕ → Type 0
+HasBoth files n = (contains_key files (name_of (Table n)) ≡ true) × (contains_key files (name_of (OldTable n)) ≡ true)
+
+-- so of a directory of these files
+abbrev pub IsLiveAmong : Files → LiveNumbers → (ℕ → Type 0) → FileName → Type 0
+IsLiveAmong files numbers in_use file = IsLiveFile numbers in_use (HasBoth files) file
 
 -- The name is of a known shape, and its file isn't live.
 abbrev pub IsDead : (FileName → Type 0) → List ℕ → Type 0

@@ -1,8 +1,12 @@
 //! Calls of the store, with the database's refusals.
 
-ghost use Rattle.std.specs.Prelude.{◌≡◌, ◌⊎◌, IfErr};
+ghost use Rattle.std.specs.Prelude.{◌≡◌, ◌⊎◌, [], IfErr, IsTrue};
+ghost use Rattle.std.specs.FinMap.{insert};
 ghost use Rattle.coding.specs.declared.error.DbError.TheVariants.{OutOfMemory, Io};
 ghost use Rattle.recover.specs.Reading.{IsCounted};
+ghost use Rattle.store.specs.Calls.{FailsAsWrite};
+ghost use Rattle.store.specs.Files.{AppendsBeginning};
+ghost use Rattle.store.specs.Stops.{LeavesOnly};
 ghost use Rattle.directory_writes.specs.internal.Calls.{Touches, IsRefusalOf, Creates, AppendsSynced};
 
 use coding::DbError;
@@ -22,9 +26,12 @@ pub fn refusal_of(error: StoreError) -> DbError
 /// Makes an empty file.
 pub fn create_file<S: Store>(store: &mut S, name: &str) -> Result<(), DbError>
     ensures call { Touches (S.facts store.old) (S.facts store.new) }
+    ensures fails { FailsAsWrite (S.facts store.old) (S.facts store.new) }
     ensures counted { IsCounted (S.facts store.old) (S.facts store.new) result }
     ensures refused { IfErr result (λ error. (error ≡ OutOfMemory) ⊎ (error ≡ Io)) }
     ensures creates { Creates (S.facts store.old) (S.facts store.new) name.now result }
+    ensures stops { IsTrue (S.facts store.new).faithful → LeavesOnly (S.facts store.old) (S.facts store.new)
+        (λ files. (files ≡ (S.facts store.old).files) ⊎ (files ≡ insert (S.facts store.old).files name.now [])) }
 {
     match store.create(name) {
         Ok(()) => Ok(()),
@@ -35,9 +42,12 @@ pub fn create_file<S: Store>(store: &mut S, name: &str) -> Result<(), DbError>
 /// Puts bytes behind a file, and has the device keep it.
 pub fn append_synced<S: Store>(store: &mut S, name: &str, bytes: &[u8]) -> Result<(), DbError>
     ensures call { Touches (S.facts store.old) (S.facts store.new) }
+    ensures fails { FailsAsWrite (S.facts store.old) (S.facts store.new) }
     ensures counted { IsCounted (S.facts store.old) (S.facts store.new) result }
     ensures refused { IfErr result (λ error. (error ≡ OutOfMemory) ⊎ (error ≡ Io)) }
     ensures appends { AppendsSynced (S.facts store.old) (S.facts store.new) name.now bytes.now result }
+    ensures stops { IsTrue (S.facts store.new).faithful → LeavesOnly (S.facts store.old) (S.facts store.new)
+        (λ files. AppendsBeginning (S.facts store.old).files files name.now bytes.now) }
 {
     if let Err(error) = store.append(name, bytes) {
         return Err(refusal_of(error));

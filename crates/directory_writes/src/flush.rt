@@ -1,7 +1,7 @@
 //! A flush: a sealed memory table becomes a table file, in place of the logs in front of the current one (LevelDB's
 //! db/db_impl.cc, DBImpl::CompactMemTable).
 
-ghost use Rattle.std.specs.Prelude.{◌≡◌, ◌<◌, ◌^◌, IfOk, IfErr, OnOk, length, string_bytes};
+ghost use Rattle.std.specs.Prelude.{◌≡◌, ◌<◌, ◌^◌, IfOk, IfErr, IsTrue, OnOk, length, string_bytes};
 ghost use Rattle.edits.specs.Layout.{after_edit};
 ghost use Rattle.edits.specs.Names.{name_of};
 ghost use Rattle.edits.specs.declared.names.FileName.TheVariants.{Table};
@@ -9,8 +9,10 @@ ghost use Rattle.ikey.specs.Orders.{order_of};
 ghost use Rattle.table.specs.Writing.{Writes};
 ghost use Rattle.versions.specs.Applying.{LeadsLayout, LeadsAstray};
 ghost use Rattle.versions.specs.Levels.{AreInOrder, pointers_after};
+ghost use Rattle.store.specs.Calls.{FailsAsWrite};
+ghost use Rattle.store.specs.Stops.{LeavesOnly};
 ghost use Rattle.directory_writes.specs.internal.Flush.{DrawsTable, Prepares, RefusesNewTable, RefusesVersion, edit_refusal};
-ghost use Rattle.directory_writes.specs.internal.Flush.{FlushTouches, RefusesFlush, SyncsFlush, AnswersVersion, FlushLeaves};
+ghost use Rattle.directory_writes.specs.internal.Flush.{FlushTouches, RefusesFlush, SyncsFlush, AnswersVersion, FlushLeaves, FlushMayLeave};
 ghost use Rattle.directory_writes.specs.internal.Level0.{HaveSequences};
 
 use crate::flush_edits::flush_edit;
@@ -88,6 +90,7 @@ pub fn flush_memory<K: KeyOrder, S: Store>(
     requires sequence { plan.last_sequence < 2 ^ 56 }
     ensures call { FlushTouches (S.facts store.old) (S.facts store.new) (name_of (Table numbers.old.next))
         (string_bytes manifest.now.name) }
+    ensures fails { FailsAsWrite (S.facts store.old) (S.facts store.new) }
     ensures stood { OnOk result ((S.facts store.new).failures ≡ (S.facts store.old).failures) }
     ensures refused { IfErr result (λ error. RefusesFlush error (S.facts store.old)
         (S.facts store.new) memory.now.inserts version.now.tables numbers.old.next numbers.new.next) }
@@ -96,6 +99,9 @@ pub fn flush_memory<K: KeyOrder, S: Store>(
     ensures syncs { SyncsFlush (S.facts store.new) (name_of (Table numbers.old.next)) (string_bytes manifest.now.name) result }
     ensures leaves { FlushLeaves (order_of K.name K.cmp) (S.facts store.old)
         (S.facts store.new) numbers.old.next numbers.new.next plan manifest.now memory.now.inserts version.now.tables result }
+    ensures stops { IsTrue (S.facts store.new).faithful → LeavesOnly (S.facts store.old) (S.facts store.new)
+        (FlushMayLeave (order_of K.name K.cmp) (S.facts store.old).files numbers.old.next numbers.new.next plan manifest.now
+        memory.now.inserts version.now.tables) }
 {
     // Laws, for the proof alone.
     flush_law();

@@ -5,7 +5,9 @@ ghost use Rattle.std.specs.FinMap.{get};
 ghost use Rattle.ikey.specs.Orders.{order_of};
 ghost use Rattle.compact.specs.JobEdits.{IsPlanProper};
 ghost use Rattle.compact.specs.Outputs.{AreNumbered, IsNumberAtHand, WritesTables};
-ghost use Rattle.directory_writes.specs.internal.Install.{HasJobVersion, HasPreparedJob, InstallLeaves, InstallTouches, RefusesEdit, RefusesInstall};
+ghost use Rattle.store.specs.Calls.{FailsAsWrite};
+ghost use Rattle.store.specs.Stops.{LeavesOnly};
+ghost use Rattle.directory_writes.specs.internal.Install.{HasJobVersion, HasPreparedJob, InstallLeaves, InstallMayLeave, InstallTouches, RefusesEdit, RefusesInstall};
 
 use crate::flush::{FlushError, edit_refusal, version_after};
 use crate::manifest::{CurrentManifest, append_edit};
@@ -54,6 +56,7 @@ pub fn install_job<K: KeyOrder, C: Drop, S: Store>(
     requires plan { IsPlanProper job.plan }
     requires numbered { AreNumbered job.outputs numbers.now.next }
     ensures call { InstallTouches (S.facts store.old) (S.facts store.new) job.outputs (string_bytes manifest.now.name) }
+    ensures fails { FailsAsWrite (S.facts store.old) (S.facts store.new) }
     ensures stood { OnOk result ((S.facts store.new).failures ≡ (S.facts store.old).failures) }
     ensures refused { IfErr result (λ error. RefusesInstall error K.cmp job (S.facts store.old)
         (S.facts store.new) numbers.now.next last_sequence version.now.tables) }
@@ -62,6 +65,8 @@ pub fn install_job<K: KeyOrder, C: Drop, S: Store>(
         → (S.facts store.new).synced (string_bytes manifest.now.name) ≡ get (S.facts store.new).files (string_bytes manifest.now.name)) }
     ensures leaves { InstallLeaves (order_of K.name K.cmp) job (S.facts store.old)
         (S.facts store.new) numbers.now.next last_sequence manifest.now version.now.tables result }
+    ensures stops { IsTrue (S.facts store.new).faithful → LeavesOnly (S.facts store.old) (S.facts store.new)
+        (InstallMayLeave (order_of K.name K.cmp) job (S.facts store.old) numbers.now.next last_sequence manifest.now version.now.tables) }
 {
     // Laws, for the proof alone.
     same_manifest_law();
@@ -91,6 +96,7 @@ fn prepare_job<K: KeyOrder, C: Drop, S: Store>(
     requires plan { IsPlanProper job.plan }
     requires numbered { AreNumbered job.outputs numbers.now.next }
     ensures writes { WritesTables (S.facts store.old) (S.facts store.new) (IsNumberAtHand job.outputs) }
+    ensures fails { FailsAsWrite (S.facts store.old) (S.facts store.new) }
     ensures stood { OnOk result ((S.facts store.new).failures ≡ (S.facts store.old).failures) }
     ensures refused { IfErr result (λ error. RefusesEdit error K.cmp job (S.facts store.old)
         (S.facts store.new) numbers.now.next last_sequence version.now.tables) }

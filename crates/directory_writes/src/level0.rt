@@ -3,7 +3,7 @@
 ghost use Rattle.std.specs.Prelude.{◌≡◌, ◌<◌, ◌≤◌, ◌^◌, ◌++◌, ◌∷◌, [], ℕ, List, Some, None, IsTrue, IsSome, IfOk, IfErr, OnOk, length};
 ghost use Rattle.std.specs.FinMap.{get};
 ghost use Rattle.compact.specs.Rooms.{AreLarge};
-ghost use Rattle.edits.specs.Edit.{IsTableProper};
+ghost use Rattle.edits.specs.Edit.{IsInternal, IsTableProper};
 ghost use Rattle.filter.specs.Builder.{GivesUpOnly};
 ghost use Rattle.ikey.specs.declared.entry.Entry.{Entry};
 ghost use Rattle.ikey.specs.Entries.{Pair, internal_key_of, value_kept};
@@ -85,6 +85,7 @@ fn key_at<K: KeyOrder>(alloc: Global, memory: &MemTable<K>, node: Node) -> Resul
     requires sequences { HaveSequences memory.now.inserts }
     ensures key { IfOk result (λ key. (entry : Entry) → entry_at memory.now.inserts node ≡ Some entry → key ≡ internal_key entry) }
     ensures short { IfOk result (λ key. length key < 2 ^ 32) }
+    ensures internal { IfOk result IsInternal }
     ensures refused { IfErr result (λ e. GivesUpOnly e (AreLarge memory.now.inserts)) }
 {
     let mut key = Vec::new(alloc);

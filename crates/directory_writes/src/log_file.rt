@@ -6,8 +6,10 @@ ghost use Rattle.edits.specs.Names.{name_of};
 ghost use Rattle.edits.specs.declared.names.FileName.TheVariants.{Log};
 ghost use Rattle.recover.specs.Reading.{IsCounted};
 ghost use Rattle.table.specs.Writing.{SyncsOnly};
+ghost use Rattle.store.specs.Calls.{FailsAsWrite};
+ghost use Rattle.store.specs.Stops.{LeavesOnly};
 ghost use Rattle.directory_writes.specs.internal.Calls.{Touches};
-ghost use Rattle.directory_writes.specs.internal.LogFile.{DrawsLog, RefusesLog, BeginsLog};
+ghost use Rattle.directory_writes.specs.internal.LogFile.{DrawsLog, RefusesLog, BeginsLog, MayHaveLog};
 
 use crate::calls::create_file;
 use coding::DbError;
@@ -25,12 +27,15 @@ pub fn begin_log<S: Store>(
     numbers: &mut FileNumbers,
 ) -> Result<(u64, String), DbError>
     ensures call { Touches (S.facts store.old) (S.facts store.new) }
+    ensures fails { FailsAsWrite (S.facts store.old) (S.facts store.new) }
     ensures counted { IsCounted (S.facts store.old) (S.facts store.new) result }
     ensures drawn { DrawsLog (S.facts store.old) (S.facts store.new) numbers.old.next numbers.new.next result }
     ensures refused { IfErr result (λ error. RefusesLog error (S.facts store.old) (S.facts store.new) numbers.old.next numbers.new.next) }
     ensures begins { (order : Order) → BeginsLog order (S.facts store.old) (S.facts store.new) numbers.old.next numbers.new.next result }
     ensures synced { IsTrue (S.facts store.new).faithful
         → SyncsOnly (S.facts store.old).synced (S.facts store.new).synced (name_of (Log numbers.old.next)) }
+    ensures stops { IsTrue (S.facts store.new).faithful → (order : Order) → LeavesOnly (S.facts store.old) (S.facts store.new)
+        (MayHaveLog order (S.facts store.old).files numbers.old.next) }
 {
     // Laws, for the proof alone.
     begin_log_law();

@@ -1,10 +1,12 @@
 //! The MANIFEST, to which each change of the layout adds an edit.
 
-ghost use Rattle.std.specs.Prelude.{◌≡◌, ◌⊎◌, All, IfErr, string_bytes};
+ghost use Rattle.std.specs.Prelude.{◌≡◌, ◌⊎◌, All, Err, IfErr, IsTrue, string_bytes};
 ghost use Rattle.coding.specs.declared.error.DbError.TheVariants.{OutOfMemory, Io};
 ghost use Rattle.ikey.specs.Orders.{Order};
 ghost use Rattle.edits.specs.Edit.{IsProper, IsInOrder};
 ghost use Rattle.recover.specs.Reading.{IsCounted};
+ghost use Rattle.store.specs.Calls.{FailsAsWrite};
+ghost use Rattle.store.specs.Stops.{LeavesOnly, stopped_at};
 ghost use Rattle.directory_writes.specs.internal.Calls.{Touches};
 ghost use Rattle.directory_writes.specs.internal.Manifest.{AppendsEdit, SyncsEdit};
 
@@ -39,11 +41,16 @@ pub fn append_edit<S: Store>(
     requires proper { All IsProper edit.now }
     requires order { IsInOrder edit.now }
     ensures call { Touches (S.facts store.old) (S.facts store.new) }
+    ensures fails { FailsAsWrite (S.facts store.old) (S.facts store.new) }
     ensures counted { IsCounted (S.facts store.old) (S.facts store.new) result }
     ensures refused { IfErr result (λ error. (error ≡ OutOfMemory) ⊎ (error ≡ Io)) }
     ensures appends { (order : Order) → AppendsEdit order (S.facts store.old) (S.facts store.new) manifest.now.number
         (string_bytes manifest.now.name) manifest.now.end edit.now result }
     ensures syncs { SyncsEdit (S.facts store.old) (S.facts store.new) (string_bytes manifest.now.name) result }
+    // What a stop leaves in its middle is what a failure of the device does.
+    ensures stops { IsTrue (S.facts store.new).faithful → (order : Order) → LeavesOnly (S.facts store.old) (S.facts store.new)
+        (λ files. AppendsEdit order (S.facts store.old) (stopped_at (S.facts store.old) files) manifest.now.number
+        (string_bytes manifest.now.name) manifest.now.end edit.now (Err Io)) }
 {
     // Laws, for the proof alone.
     edit_law();

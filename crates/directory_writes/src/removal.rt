@@ -1,18 +1,21 @@
 //! The removal of files that aren't live.
 
-ghost use Rattle.std.specs.Prelude.{◌≡◌, ◌⊎◌, ◌≤◌, ◌∷◌, ◌++◌, [], ℕ, List, true};
+ghost use Rattle.std.specs.Prelude.{◌≡◌, ◌⊎◌, ◌↔◌, ◌≤◌, ◌∷◌, ◌++◌, [], ℕ, List, true};
 ghost use Rattle.std.specs.FinMap.{contains_key};
 ghost use Rattle.std.specs.Prelude.{Contains, IfOk, IfErr, IsTrue, MatchBool, OnOk, map, string_bytes};
 ghost use Rattle.ikey.specs.Orders.{Order};
 ghost use Rattle.store.specs.Files.{Lists};
-ghost use Rattle.edits.specs.Names.{IsNumbered};
+ghost use Rattle.edits.specs.Names.{IsFileName, IsNumbered, name_of};
+ghost use Rattle.edits.specs.declared.names.FileName.{FileName as FileNameValue};
 ghost use Rattle.recover.specs.Directory.{Directory, IsConsistent};
 ghost use Rattle.recover.specs.Reading.{ReadsDirectory, IsCounted};
+ghost use Rattle.store.specs.Calls.{FailsNoWrite};
+ghost use Rattle.store.specs.Stops.{LeavesOnly};
 ghost use Rattle.directory_writes.specs.internal.Calls.{Touches};
 ghost use Rattle.directory_writes.specs.internal.Removal as removal;
-ghost use Rattle.directory_writes.specs.internal.Removal.{AreOfDirectory, AreOlder, AreUnused, HasOlderToo, HasTwo, IsLeft};
-ghost use Rattle.directory_writes.specs.Removal.{IsLiveFile};
-ghost use Rattle.directory_writes.specs.internal.Removal.{KeepsParts, KeepsTable, LeavesFew, ListsUnused, RefusesList, RemovesNamed, RemovesDead};
+ghost use Rattle.directory_writes.specs.internal.Removal.{AreBoth, AreOfDirectory, AreOlder, AreToClose, HasOlderToo, HasTwo, IsLeft};
+ghost use Rattle.directory_writes.specs.Removal.{HasBoth, IsLiveAmong, IsLiveFile};
+ghost use Rattle.directory_writes.specs.internal.Removal.{KeepsParts, KeepsTable, LeavesFew, ListsToClose, LosesOnly, RefusesList, RemovesNamed, RemovesDead, StaysConsistent};
 
 use coding::DbError;
 use edits::{FileName, parse_name};
@@ -36,13 +39,14 @@ pub trait LiveTables {
 pub struct Removal {
     /// Whether all files of a known shape are gone that aren't live.
     pub complete: bool,
-    /// The numbers of the tables that aren't in use, once for each of their files that was there.
+    /// The numbers of the tables that aren't in use, once for each of their files that was there, and of those that had a file under both names:
+    /// whatever of them is open has to be closed.
     pub tables: Vec<u64>,
 }
 
 /// Removes each file of a known shape that isn't live (LevelDB's db/db_impl.cc, DBImpl::RemoveObsoleteFiles). One that can't
 /// be removed is left for the next time. Of a table that has both names the file with the newer one, which is the one that is
-/// read, goes last: so nobody reads other bytes under its number. Refused only where the files can't be listed: out of memory, and with Io where
+/// read, goes last, and stays where the table is in use: so nobody reads other bytes under its number. Refused only where the files can't be listed: out of memory, and with Io where
 /// the store fails; nothing is removed then.
 pub fn remove_files<S: Store, L: LiveTables>(
     alloc: Global,
@@ -51,24 +55,32 @@ pub fn remove_files<S: Store, L: LiveTables>(
     live: &L,
 ) -> Result<Removal, DbError>
     ensures call { Touches (S.facts store.old) (S.facts store.new) }
+    ensures fails { FailsNoWrite (S.facts store.old) (S.facts store.new) }
     ensures refused { IfErr result (λ error. RefusesList error (S.facts store.old) (S.facts store.new)) }
-    ensures removes { RemovesDead (S.facts store.old) (S.facts store.new) (IsLiveFile numbers.now (L.has live.now)) result }
+    ensures removes { RemovesDead (S.facts store.old) (S.facts store.new)
+        (IsLiveAmong (S.facts store.old).files numbers.now (L.has live.now)) result }
+    ensures tidy { IsTrue (S.facts store.new).faithful → IfOk result (λ removal. IsTrue removal.complete → (file : FileNameValue) → IsFileName file
+        → contains_key (S.facts store.new).files (name_of file) ≡ true → IsLiveAmong (S.facts store.new).files numbers.now (L.has live.now) file) }
     // Newer files wait where an older one couldn't be removed.
-    ensures few { OnOk result (LeavesFew (S.facts store.old) (S.facts store.new) (IsLiveFile numbers.now (L.has live.now))
+    ensures few { OnOk result (LeavesFew (S.facts store.old) (S.facts store.new)
+        (IsLiveAmong (S.facts store.old).files numbers.now (L.has live.now))
         (HasOlderToo (S.facts store.old).files) (λ name. contains_key (S.facts store.old).files name ≡ true)) }
-    ensures unused { IfOk result (λ removal. ListsUnused (S.facts store.old) (S.facts store.new) (L.has live.now) removal.tables.items) }
+    ensures close { IfOk result (λ removal. ListsToClose (S.facts store.old) (S.facts store.new) (L.has live.now) removal.tables.items) }
     ensures tables { IsTrue (S.facts store.new).faithful → (n : ℕ) → IsNumbered n
         → KeepsTable (S.facts store.old) (S.facts store.new) (L.has live.now) n }
     ensures meaning { IsTrue (S.facts store.new).faithful → (order : Order) (d : Directory)
         → IsConsistent order (S.facts store.old).files d → AreOfDirectory numbers.now (L.has live.now) d
         → KeepsParts order (S.facts store.old).files (S.facts store.new).files (L.has live.now) d }
+    ensures stops { IsTrue (S.facts store.new).faithful → LeavesOnly (S.facts store.old) (S.facts store.new)
+        (StaysConsistent numbers.now (L.has live.now) (S.facts store.old).files) }
 {
     // Laws, for the proof alone.
     free_change_law();
     let names = list_names(alloc, store)?;
     let older = older_tables(alloc, &names)?;
-    let tables = unused_tables(alloc, &names, live)?;
-    let complete = remove_listed(store, &names, numbers, live, &older);
+    let both = doubled_tables(alloc, &names, &older)?;
+    let tables = tables_to_close(alloc, &names, &both, live)?;
+    let complete = remove_listed(store, &names, numbers, live, &both);
     Ok(Removal { complete, tables })
 }
 
@@ -129,29 +141,81 @@ fn older_number(file: FileName) -> Option<u64>
     }
 }
 
-// The numbers of the tables that aren't in use, once for each of these that is the name of their file.
-fn unused_tables<L: LiveTables>(
-    alloc: Global,
-    names: &[String],
-    live: &L,
-) -> Result<Vec<u64>, AllocError>
-    ensures { IfOk result (λ numbers. AreUnused (L.has live.now) (map string_bytes names.now) numbers.items) }
+// The numbers of the tables that have a file under both names, where these are the numbers of those with the older one.
+fn doubled_tables(alloc: Global, names: &[String], older: &[u64]) -> Result<Vec<u64>, AllocError>
+    ensures { IfOk result (λ numbers. AreBoth older.now (map string_bytes names.now) numbers.items) }
 {
     let mut numbers = Vec::new(alloc);
     for name in names {
-        push_unused(&mut numbers, name.as_bytes(), live)?;
+        push_doubled(&mut numbers, name.as_bytes(), older)?;
     }
     Ok(numbers)
 }
 
 // Takes one more name in.
-fn push_unused<L: LiveTables>(
+fn push_doubled(numbers: &mut Vec<u64>, name: &[u8], older: &[u64]) -> Result<(), AllocError>
+    ensures { OnOk result ((names : List (List ℕ)) → AreBoth older.now names numbers.old.items
+        → AreBoth older.now (names ++ name.now ∷ []) numbers.new.items) }
+{
+    let Some(file) = parse_name(name) else {
+        return Ok(());
+    };
+    let Some(number) = newer_number(file) else {
+        return Ok(());
+    };
+    if !is_among(number, older) {
+        return Ok(());
+    }
+    numbers.push(number)?;
+    Ok(())
+}
+
+fn is_among(number: u64, numbers: &[u64]) -> bool
+    ensures { MatchBool result (Contains numbers.now number) (Contains numbers.now number → ⊥) }
+{
+    numbers.contains(&number)
+}
+
+// The number of a table whose file has the newer name.
+fn newer_number(file: FileName) -> Option<u64>
+    ensures { result ≡ removal.newer_number file }
+{
+    match file {
+        FileName::Table(number) => Some(number),
+        FileName::Current
+        | FileName::Lock
+        | FileName::Log(_)
+        | FileName::OldTable(_)
+        | FileName::Manifest(_)
+        | FileName::Temporary(_) => None,
+    }
+}
+
+// The numbers of the tables that aren't in use, once for each of these that is the name of their file, and those that have both.
+fn tables_to_close<L: LiveTables>(
+    alloc: Global,
+    names: &[String],
+    both: &[u64],
+    live: &L,
+) -> Result<Vec<u64>, AllocError>
+    ensures { IfOk result (λ numbers. AreToClose (L.has live.now) both.now (map string_bytes names.now) numbers.items) }
+{
+    let mut numbers = Vec::new(alloc);
+    for name in names {
+        push_to_close(&mut numbers, name.as_bytes(), both, live)?;
+    }
+    Ok(numbers)
+}
+
+// Takes one more name in.
+fn push_to_close<L: LiveTables>(
     numbers: &mut Vec<u64>,
     name: &[u8],
+    both: &[u64],
     live: &L,
 ) -> Result<(), AllocError>
-    ensures { OnOk result ((names : List (List ℕ)) → AreUnused (L.has live.now) names numbers.old.items
-        → AreUnused (L.has live.now) (names ++ name.now ∷ []) numbers.new.items) }
+    ensures { OnOk result ((names : List (List ℕ)) → AreToClose (L.has live.now) both.now names numbers.old.items
+        → AreToClose (L.has live.now) both.now (names ++ name.now ∷ []) numbers.new.items) }
 {
     let Some(file) = parse_name(name) else {
         return Ok(());
@@ -159,11 +223,21 @@ fn push_unused<L: LiveTables>(
     let Some(number) = table_number(file) else {
         return Ok(());
     };
-    if live.has_table(number) {
+    if stays_open(number, both, live) {
         return Ok(());
     }
     numbers.push(number)?;
     Ok(())
+}
+
+// Whether the table is in use and hasn't a file under both names.
+fn stays_open<L: LiveTables>(number: u64, both: &[u64], live: &L) -> bool
+    ensures { MatchBool result (L.has live.now number × (Contains both.now number → ⊥)) (L.has live.now number × (Contains both.now number → ⊥) → ⊥) }
+{
+    if is_among(number, both) {
+        return false;
+    }
+    live.has_table(number)
 }
 
 // The number of a table, by either name.
@@ -188,21 +262,24 @@ fn remove_listed<S: Store, L: LiveTables>(
     names: &[String],
     numbers: &LiveNumbers,
     live: &L,
-    older: &[u64],
+    both: &[u64],
 ) -> bool
     ensures call { Touches (S.facts store.old) (S.facts store.new) }
-    ensures removes { RemovesNamed (S.facts store.old) (S.facts store.new) (IsLiveFile numbers.now (L.has live.now))
+    ensures fails { FailsNoWrite (S.facts store.old) (S.facts store.new) }
+    ensures removes { RemovesNamed (S.facts store.old) (S.facts store.new) (IsLiveFile numbers.now (L.has live.now) (λ n. Contains both.now n))
         (map string_bytes names.now) result }
-    ensures few { LeavesFew (S.facts store.old) (S.facts store.new) (IsLiveFile numbers.now (L.has live.now))
-        (HasTwo (λ n. Contains older.now n)) (λ name. Contains (map string_bytes names.now) name) }
-    ensures tables { AreOlder (map string_bytes names.now) older.now → Lists (S.facts store.old).files (map string_bytes names.now)
-        → IsTrue (S.facts store.new).faithful → (n : ℕ) → IsNumbered n
+    ensures few { LeavesFew (S.facts store.old) (S.facts store.new) (IsLiveFile numbers.now (L.has live.now) (λ n. Contains both.now n))
+        (HasTwo (λ n. Contains both.now n)) (λ name. Contains (map string_bytes names.now) name) }
+    ensures tables { ((n : ℕ) → IsNumbered n → Contains both.now n ↔ HasBoth (S.facts store.old).files n)
+        → Lists (S.facts store.old).files (map string_bytes names.now) → IsTrue (S.facts store.new).faithful → (n : ℕ) → IsNumbered n
         → KeepsTable (S.facts store.old) (S.facts store.new) (L.has live.now) n }
+    ensures stops { IsTrue (S.facts store.new).faithful → LeavesOnly (S.facts store.old) (S.facts store.new)
+        (LosesOnly (S.facts store.old).files (IsLiveFile numbers.now (L.has live.now) (λ n. Contains both.now n))) }
 {
-    if !remove_turn(store, names, numbers, live, older, false) {
+    if !remove_turn(store, names, numbers, live, both, false) {
         return false;
     }
-    remove_turn(store, names, numbers, live, older, true)
+    remove_turn(store, names, numbers, live, both, true)
 }
 
 // Removes those that aren't live and have this turn, the first or the last. Whether they are gone.
@@ -211,18 +288,21 @@ fn remove_turn<S: Store, L: LiveTables>(
     names: &[String],
     numbers: &LiveNumbers,
     live: &L,
-    older: &[u64],
+    both: &[u64],
     last: bool,
 ) -> bool
     ensures call { Touches (S.facts store.old) (S.facts store.new) }
+    ensures fails { FailsNoWrite (S.facts store.old) (S.facts store.new) }
     ensures removes { RemovesNamed (S.facts store.old) (S.facts store.new)
-        (IsLeft (IsLiveFile numbers.now (L.has live.now)) (λ n. Contains older.now n) last) (map string_bytes names.now) result }
+        (IsLeft (IsLiveFile numbers.now (L.has live.now) (λ n. Contains both.now n)) (λ n. Contains both.now n) last) (map string_bytes names.now) result }
     ensures few { LeavesFew (S.facts store.old) (S.facts store.new)
-        (IsLeft (IsLiveFile numbers.now (L.has live.now)) (λ n. Contains older.now n) last) (λ _. ⊥) (λ name. Contains (map string_bytes names.now) name) }
+        (IsLeft (IsLiveFile numbers.now (L.has live.now) (λ n. Contains both.now n)) (λ n. Contains both.now n) last) (λ _. ⊥) (λ name. Contains (map string_bytes names.now) name) }
+    ensures stops { IsTrue (S.facts store.new).faithful → LeavesOnly (S.facts store.old) (S.facts store.new)
+        (LosesOnly (S.facts store.old).files (IsLiveFile numbers.now (L.has live.now) (λ n. Contains both.now n))) }
 {
     let mut gone = true;
     for name in names {
-        let removed = remove_dead(store, name.as_str(), numbers, live, older, last);
+        let removed = remove_dead(store, name.as_str(), numbers, live, both, last);
         gone &= removed;
     }
     gone
@@ -234,33 +314,36 @@ fn remove_dead<S: Store, L: LiveTables>(
     name: &str,
     numbers: &LiveNumbers,
     live: &L,
-    older: &[u64],
+    both: &[u64],
     last: bool,
 ) -> bool
     ensures call { Touches (S.facts store.old) (S.facts store.new) }
+    ensures fails { FailsNoWrite (S.facts store.old) (S.facts store.new) }
     ensures removes { RemovesNamed (S.facts store.old) (S.facts store.new)
-        (IsLeft (IsLiveFile numbers.now (L.has live.now)) (λ n. Contains older.now n) last) (name.now ∷ []) result }
+        (IsLeft (IsLiveFile numbers.now (L.has live.now) (λ n. Contains both.now n)) (λ n. Contains both.now n) last) (name.now ∷ []) result }
     ensures few { LeavesFew (S.facts store.old) (S.facts store.new)
-        (IsLeft (IsLiveFile numbers.now (L.has live.now)) (λ n. Contains older.now n) last) (λ _. ⊥) (λ other. Contains (name.now ∷ []) other) }
+        (IsLeft (IsLiveFile numbers.now (L.has live.now) (λ n. Contains both.now n)) (λ n. Contains both.now n) last) (λ _. ⊥) (λ other. Contains (name.now ∷ []) other) }
+    ensures stops { IsTrue (S.facts store.new).faithful → LeavesOnly (S.facts store.old) (S.facts store.new)
+        (LosesOnly (S.facts store.old).files (IsLiveFile numbers.now (L.has live.now) (λ n. Contains both.now n))) }
 {
     let Some(file) = parse_name(name.as_bytes()) else {
         return true;
     };
-    if is_live(file, numbers, live) {
+    if is_live(file, numbers, live, both) {
         return true;
     }
-    if has_two(file, older) != last {
+    if has_two(file, both) != last {
         return true;
     }
     store.remove(name).is_ok()
 }
 
 // Whether this is the newer file of a table that has two.
-fn has_two(file: FileName, older: &[u64]) -> bool
-    ensures { MatchBool result (HasTwo (λ n. Contains older.now n) file) (HasTwo (λ n. Contains older.now n) file → ⊥) }
+fn has_two(file: FileName, both: &[u64]) -> bool
+    ensures { MatchBool result (HasTwo (λ n. Contains both.now n) file) (HasTwo (λ n. Contains both.now n) file → ⊥) }
 {
     match file {
-        FileName::Table(number) => older.contains(&number),
+        FileName::Table(number) => is_among(number, both),
         FileName::Current => false,
         FileName::Lock => false,
         FileName::Log(_) => false,
@@ -271,15 +354,16 @@ fn has_two(file: FileName, older: &[u64]) -> bool
 }
 
 // Whether the file belongs to the open database.
-fn is_live<L: LiveTables>(file: FileName, numbers: &LiveNumbers, live: &L) -> bool
-    ensures { MatchBool result (IsLiveFile numbers.now (L.has live.now) file) (IsLiveFile numbers.now (L.has live.now) file → ⊥) }
+fn is_live<L: LiveTables>(file: FileName, numbers: &LiveNumbers, live: &L, both: &[u64]) -> bool
+    ensures { MatchBool result (IsLiveFile numbers.now (L.has live.now) (λ n. Contains both.now n) file)
+        (IsLiveFile numbers.now (L.has live.now) (λ n. Contains both.now n) file → ⊥) }
 {
     match file {
         FileName::Current => true,
         FileName::Lock => true,
         FileName::Log(number) => is_live_log(number, numbers),
         FileName::Table(number) => live.has_table(number),
-        FileName::OldTable(number) => live.has_table(number),
+        FileName::OldTable(number) => stays_open(number, both, live),
         FileName::Manifest(number) => number == numbers.manifest_number,
         FileName::Temporary(_) => false,
     }

@@ -5,9 +5,9 @@ use Rattle.coding.specs.Varint.{IsString}
 use Rattle.edits.specs.declared.field.Field.{Field}
 use Rattle.edits.specs.declared.field.Field.TheVariants.{Comparator, LogNumber, NextFileNumber, LastSequence, CompactPointer, DeletedFile, NewFile, PreviousLogNumber}
 use Rattle.coding.specs.Spelling.{InTurn, Begins, BeginsNone, IsPrefixFree}
-use Rattle.edits.specs.Edit.{IsLong, IsSequence, IsLevel, IsPlaced, field_tag, IsContent, IsField, IsEdit}
+use Rattle.edits.specs.Edit.{IsLong, IsSequence, IsLevel, IsPlaced, field_tag, IsContent, IsField, IsEdit, SpellsKey}
 use Rattle.coding.proofs.Spellings.{free_pair}
-use Rattle.edits.proofs.Spellings.{free_long, free_sequence, free_level, free_string, free_placed}
+use Rattle.edits.proofs.Spellings.{free_long, free_sequence, free_level, free_string, free_placed, free_key}
 
 same_content : (a b x y : List ℕ) (f g : Field) → field_tag f ≡ field_tag g → IsContent a f → IsContent b g → a ++ x ≡ b ++ y → (f ≡ g) × (x ≡ y)
 same_content a b x y (Comparator m) (Comparator n) t h k e = let s = free_string a b x y m n h k e in (ap Comparator s.0, s.1)
@@ -15,7 +15,7 @@ same_content a b x y (LogNumber m) (LogNumber n) t h k e = let s = free_long a b
 same_content a b x y (NextFileNumber m) (NextFileNumber n) t h k e = let s = free_long a b x y m n h k e in (ap NextFileNumber s.0, s.1)
 same_content a b x y (LastSequence m) (LastSequence n) t h k e = let s = free_sequence a b x y m n h k e in (ap LastSequence s.0, s.1)
 same_content a b x y (CompactPointer l m) (CompactPointer j n) t h k e =
-    let s = free_pair IsLevel IsString free_level free_string a b x y (l, m) (j, n) h k e in (λ i. CompactPointer (s.0 i).0 (s.0 i).1, s.1)
+    let s = free_pair IsLevel SpellsKey free_level free_key a b x y (l, m) (j, n) h k e in (λ i. CompactPointer (s.0 i).0 (s.0 i).1, s.1)
 same_content a b x y (DeletedFile l m) (DeletedFile j n) t h k e =
     let s = free_pair IsLevel IsLong free_level free_long a b x y (l, m) (j, n) h k e in (λ i. DeletedFile (s.0 i).0 (s.0 i).1, s.1)
 same_content a b x y (NewFile m) (NewFile n) t h k e = let s = free_placed a b x y m n h k e in (ap NewFile s.0, s.1)
@@ -66,7 +66,7 @@ unfolding NoContent
 no_sequence bytes none (LastSequence n) rest t h = none n rest h
 no_sequence bytes none field rest t h = absurd (omega (arith, t))
 
-no_pointer : (bytes : List ℕ) → BeginsNone (InTurn IsLevel IsString) bytes → NoContent 5 bytes
+no_pointer : (bytes : List ℕ) → BeginsNone (InTurn IsLevel SpellsKey) bytes → NoContent 5 bytes
 unfolding NoContent
 no_pointer bytes none (CompactPointer level key) rest t h = none (level, key) rest h
 no_pointer bytes none field rest t h = absurd (omega (arith, t))
@@ -98,7 +98,7 @@ none_next bytes none = none_field 3 bytes (no_next bytes none)
 pub none_sequence : (bytes : List ℕ) → BeginsNone IsSequence bytes → BeginsNone IsField (4 ∷ bytes)
 none_sequence bytes none = none_field 4 bytes (no_sequence bytes none)
 
-pub none_pointer : (bytes : List ℕ) → BeginsNone (InTurn IsLevel IsString) bytes → BeginsNone IsField (5 ∷ bytes)
+pub none_pointer : (bytes : List ℕ) → BeginsNone (InTurn IsLevel SpellsKey) bytes → BeginsNone IsField (5 ∷ bytes)
 none_pointer bytes none = none_field 5 bytes (no_pointer bytes none)
 
 pub none_deleted : (bytes : List ℕ) → BeginsNone (InTurn IsLevel IsLong) bytes → BeginsNone IsField (6 ∷ bytes)

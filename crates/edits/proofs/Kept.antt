@@ -10,21 +10,21 @@ use Rattle.edits.specs.declared.field.TableFile.{TableFile}
 use Rattle.edits.specs.declared.layout.Layout.{Layout}
 use Rattle.edits.specs.Edit.{IsField, IsContent, SpellsTable, IsEdit, IsProper, IsTableProper, IsPlacedBefore}
 use Rattle.edits.specs.Layout.{IsLayout, fields_of, last_said, compact_pointer_in, is_at, is_before, is_used, without, inserted, after_deleted, after_new, after_edit, after_edits}
-use Rattle.edits.specs.Snapshot.{IsKey, IsPlacedProper, IsFollowedBy, AreInPlace, IsKept, WasRead}
+use Rattle.edits.specs.Snapshot.{IsPointer, IsPlacedProper, IsFollowedBy, AreInPlace, IsKept, WasRead}
 use Rattle.edits.proofs.Folds.{all_append}
 use Rattle.edits.proofs.Orders.{before_true, before_false, before_trans, all_weaker, unused}
 
 -- ---- fields that were read
 
 proper_table : (bytes : List ℕ) (table : TableFile) → SpellsTable bytes table → IsTableProper table
-proper_table bytes table h = (h.2.1, h.2.0.1, h.3.2.1, h.3.3.2.fits, h.3.3.3.fits)
+proper_table bytes table h = (h.2.1, h.2.0.1, h.3.2.1, h.3.3.2.0.fits, h.3.3.3.0.fits, h.3.3.2.1, h.3.3.3.1)
 
 proper_content : (bytes : List ℕ) (f : Field) → IsContent bytes f → IsProper f
 proper_content bytes (Comparator name) h = h.fits
 proper_content bytes (LogNumber n) h = h.1
 proper_content bytes (NextFileNumber n) h = h.1
 proper_content bytes (LastSequence n) h = h.1
-proper_content bytes (CompactPointer level key) h = (h.2.1, h.3.fits)
+proper_content bytes (CompactPointer level key) h = (h.2.1, h.3.0.fits, h.3.1)
 proper_content bytes (DeletedFile level number) h = (h.2.1, h.3.1)
 proper_content bytes (NewFile placed) h = (h.2.1, proper_table h.1 placed.table h.3)
 proper_content bytes (PreviousLogNumber n) h = h.1
@@ -46,15 +46,15 @@ proper_fields (e ∷ es) h = all_append IsProper e (fields_of es) h.0 (proper_fi
 
 -- ---- keys
 
-key_or : (a b : Option (List ℕ)) → IsKey a → IsKey b → IsKey (option_or a b)
+key_or : (a b : Option (List ℕ)) → IsPointer a → IsPointer b → IsPointer (option_or a b)
 key_or None b h k = k
 key_or (Some key) b h k = h
 
-key_in : (level : ℕ) (f : Field) → IsProper f → IsKey (compact_pointer_in level f)
-key_in level (CompactPointer other key) h = cond_both (other == level) (Some key) None IsKey (λ _. h.1) (λ _. tt)
+key_in : (level : ℕ) (f : Field) → IsProper f → IsPointer (compact_pointer_in level f)
+key_in level (CompactPointer other key) h = cond_both (other == level) (Some key) None IsPointer (λ _. (h.1, h.2)) (λ _. tt)
 key_in level f h = tt
 
-key_said : (level : ℕ) (fs : List Field) → AllByRecursion IsProper fs → IsKey (last_said (compact_pointer_in level) fs)
+key_said : (level : ℕ) (fs : List Field) → AllByRecursion IsProper fs → IsPointer (last_said (compact_pointer_in level) fs)
 key_said level [] h = tt
 key_said level (f ∷ fs) h = key_or (last_said (compact_pointer_in level) fs) (compact_pointer_in level f) (key_said level fs h.1) (key_in level f h.0)
 
@@ -137,10 +137,10 @@ pub kept_layout : (name : List ℕ) (edits : List (List Field)) (layout : Layout
 kept_layout name edits layout read h =
     let proper = proper_edits edits read in
     let fs = fields_of edits in
-    let key : (level : ℕ) → IsKey (last_said (compact_pointer_in level) fs) = λ level. key_said level fs (proper_fields edits proper) in
+    let key : (level : ℕ) → IsPointer (last_said (compact_pointer_in level) fs) = λ level. key_said level fs (proper_fields edits proper) in
     let O : Option (List PlacedTable) → Type 0 = λ o. IfSome o AreKept in
     let tables : AreKept layout.tables.items = subst O h.tables (kept_edits edits [] proper (tt, tt)) in
-    let K : List (Option (List ℕ)) → Type 0 = λ ps. AllByRecursion IsKey ps in
+    let K : List (Option (List ℕ)) → Type 0 = λ ps. AllByRecursion IsPointer ps in
     record {
       levels = ap length h.compact_pointers;
       keys = subst K (sym h.compact_pointers) (key 0, (key 1, (key 2, (key 3, (key 4, (key 5, (key 6, tt)))))));

@@ -10,7 +10,7 @@ use Rattle.edits.specs.declared.field.PlacedTable.{PlacedTable}
 use Rattle.edits.specs.declared.layout.Layout.{Layout}
 use Rattle.edits.specs.Edit.{field_tag, place_of, IsWrittenBefore, IsInOrder, IsProper, IsPastLimit, IsWithinLimit, HasPastLimit}
 use Rattle.edits.specs.Layout.{IsLayout, IsComparator, fields_of, last_said, log_number_in, next_file_number_in, last_sequence_in, previous_log_number_in, compact_pointer_in, levels, is_before, is_used, inserted, with_table, after_deleted, after_new, after_edits}
-use Rattle.edits.specs.Snapshot.{IsRenumbered, IsKey, IsPlacedProper, IsFollowedBy, AreInPlace, IsKept, IsBelowLimit, pointer_fields, previous_fields, snapshot_fields}
+use Rattle.edits.specs.Snapshot.{IsRenumbered, IsPointer, IsPlacedProper, IsFollowedBy, AreInPlace, IsKept, IsBelowLimit, pointer_fields, previous_fields, snapshot_fields}
 use Rattle.edits.proofs.Folds.{all_append, last_said-append, or_none, level_at}
 use Rattle.edits.proofs.Orders.{before_not, all_weaker, all_map, unused_from}
 
@@ -38,10 +38,10 @@ body_all P ps ts n h k l = all_append P (pointer_fields 0 ps ++ map NewFile ts) 
 
 -- ---- in range
 
-proper_pointers : (level : ℕ) (ps : List (Option (List ℕ))) → level + length ps ≤ 7 → AllByRecursion IsKey ps → AllByRecursion IsProper (pointer_fields level ps)
+proper_pointers : (level : ℕ) (ps : List (Option (List ℕ))) → level + length ps ≤ 7 → AllByRecursion IsPointer ps → AllByRecursion IsProper (pointer_fields level ps)
 proper_pointers level [] le h = tt
 proper_pointers level (None ∷ ps) le h = proper_pointers (suc level) ps (omega (arith, le)) h.1
-proper_pointers level (Some key ∷ ps) le h = ((omega (arith, le), h.0), proper_pointers (suc level) ps (omega (arith, le)) h.1)
+proper_pointers level (Some key ∷ ps) le h = ((omega (arith, le), h.0.0, h.0.1), proper_pointers (suc level) ps (omega (arith, le)) h.1)
 
 pub all_from : {X : Type 0} (P : X → Type 0) (xs : List X) → AllByRecursion P xs → All P xs
 all_from P [] h k d lt = absurd (omega (arith, lt))
@@ -303,7 +303,7 @@ renumbered name log previous next last old new r =
 pub kept_again : (log previous next last : ℕ) (old new : Layout) → IsRenumbered log previous next last old new → IsKept old → IsKept new
 kept_again log previous next last old new r kept = record {
   levels = ap length r.compact_pointers ∙ kept.levels;
-  keys = let P : List (Option (List ℕ)) → Type 0 = λ ps. AllByRecursion IsKey ps in subst P (sym r.compact_pointers) kept.keys;
+  keys = let P : List (Option (List ℕ)) → Type 0 = λ ps. AllByRecursion IsPointer ps in subst P (sym r.compact_pointers) kept.keys;
   proper = let P : List PlacedTable → Type 0 = λ ts. AllByRecursion IsPlacedProper ts in subst P (sym r.tables) kept.proper;
   in_place = let P : List PlacedTable → Type 0 = λ ts. AreInPlace ts in subst P (sym r.tables) kept.in_place;
 }

@@ -8,6 +8,7 @@ use Rattle.edits.specs.declared.field.Field.TheVariants.{Comparator, LogNumber, 
 use Rattle.edits.specs.declared.field.PlacedTable.{PlacedTable}
 use Rattle.edits.specs.declared.field.TableFile.{TableFile}
 use Rattle.coding.specs.Spelling.{InTurn}
+use Rattle.ikey.specs.Keys.{Key, IsKey}
 
 -- a number of at most 64 bits, a sequence, a level, the number of a table
 abbrev pub IsLong : List ℕ → ℕ → Type 0
@@ -22,9 +23,17 @@ IsLevel bytes n = IsVarint bytes n × (n < 7)
 abbrev pub IsTableNumber : List ℕ → ℕ → Type 0
 IsTableNumber bytes n = IsLong bytes n × (0 < n)
 
+-- these bytes are an internal key
+abbrev pub IsInternal : List ℕ → Type 0
+IsInternal bytes = (key : Key) × IsKey bytes key
+
+-- a string that is one
+abbrev pub SpellsKey : List ℕ → List ℕ → Type 0
+SpellsKey bytes key = IsString bytes key × IsInternal key
+
 -- a table: its number, its size, its smallest and its largest key
 abbrev pub SpellsTable : List ℕ → TableFile → Type 0
-SpellsTable bytes table = InTurn IsTableNumber (InTurn IsLong (InTurn IsString IsString)) bytes (table.number, (table.size, (table.smallest, table.largest)))
+SpellsTable bytes table = InTurn IsTableNumber (InTurn IsLong (InTurn SpellsKey SpellsKey)) bytes (table.number, (table.size, (table.smallest, table.largest)))
 
 abbrev pub IsPlaced : List ℕ → PlacedTable → Type 0
 IsPlaced bytes placed = InTurn IsLevel SpellsTable bytes (placed.level, placed.table)
@@ -45,7 +54,7 @@ IsContent bytes (Comparator name) = IsString bytes name
 IsContent bytes (LogNumber n) = IsLong bytes n
 IsContent bytes (NextFileNumber n) = IsLong bytes n
 IsContent bytes (LastSequence n) = IsSequence bytes n
-IsContent bytes (CompactPointer level key) = InTurn IsLevel IsString bytes (level, key)
+IsContent bytes (CompactPointer level key) = InTurn IsLevel SpellsKey bytes (level, key)
 IsContent bytes (DeletedFile level number) = InTurn IsLevel IsLong bytes (level, number)
 IsContent bytes (NewFile placed) = IsPlaced bytes placed
 IsContent bytes (PreviousLogNumber n) = IsLong bytes n
@@ -88,14 +97,15 @@ RefusesFor (Unsupported what) damaged unsupported = unsupported
 
 -- the parts of a field are in range, so that it has an encoding
 abbrev pub IsTableProper : TableFile → Type 0
-IsTableProper table = (0 < table.number) × (table.number < 2 ^ 64) × (table.size < 2 ^ 64) × (length table.smallest < 2 ^ 32) × (length table.largest < 2 ^ 32)
+IsTableProper table =
+    (0 < table.number) × (table.number < 2 ^ 64) × (table.size < 2 ^ 64) × (length table.smallest < 2 ^ 32) × (length table.largest < 2 ^ 32) × IsInternal table.smallest × IsInternal table.largest
 
 abbrev pub IsProper : Field → Type 0
 IsProper (Comparator name) = length name < 2 ^ 32
 IsProper (LogNumber n) = n < 2 ^ 64
 IsProper (NextFileNumber n) = n < 2 ^ 64
 IsProper (LastSequence n) = n < 2 ^ 56
-IsProper (CompactPointer level key) = (level < 7) × (length key < 2 ^ 32)
+IsProper (CompactPointer level key) = (level < 7) × (length key < 2 ^ 32) × IsInternal key
 IsProper (DeletedFile level number) = (level < 7) × (number < 2 ^ 64)
 IsProper (NewFile placed) = (placed.level < 7) × IsTableProper placed.table
 IsProper (PreviousLogNumber n) = n < 2 ^ 64

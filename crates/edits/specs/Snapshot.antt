@@ -6,14 +6,14 @@ use Rattle.edits.specs.declared.field.Field.{Field}
 use Rattle.edits.specs.declared.field.Field.TheVariants.{Comparator, LogNumber, NextFileNumber, LastSequence, CompactPointer, NewFile, PreviousLogNumber}
 use Rattle.edits.specs.declared.field.PlacedTable.{PlacedTable}
 use Rattle.edits.specs.declared.layout.Layout.{Layout}
-use Rattle.edits.specs.Edit.{IsEdit, IsTableProper, IsPlacedBefore}
+use Rattle.edits.specs.Edit.{IsEdit, IsInternal, IsTableProper, IsPlacedBefore}
 
 -- ---- what the layouts that edits leave have in common
 
--- a key that an edit can hold, where there is one
-abbrev pub IsKey : Option (List ℕ) → Type 0
-IsKey None = Unit {0}
-IsKey (Some key) = length key < 2 ^ 32
+-- an internal key that an edit can hold, where there is one
+abbrev pub IsPointer : Option (List ℕ) → Type 0
+IsPointer None = Unit {0}
+IsPointer (Some key) = (length key < 2 ^ 32) × IsInternal key
 
 abbrev pub IsPlacedProper : PlacedTable → Type 0
 IsPlacedProper placed = (placed.level < 7) × IsTableProper placed.table
@@ -30,7 +30,7 @@ AreInPlace (placed ∷ tables) = AllByRecursion (IsFollowedBy placed) tables × 
 -- a pointer for each level, and tables of distinct numbers by level and number, all in range
 pub record IsKept (layout : Layout) : Type 0 where
   pub levels : length layout.compact_pointers.items ≡ 7
-  pub keys : AllByRecursion IsKey layout.compact_pointers.items
+  pub keys : AllByRecursion IsPointer layout.compact_pointers.items
   pub proper : AllByRecursion IsPlacedProper layout.tables.items
   pub in_place : AreInPlace layout.tables.items
 

@@ -9,7 +9,7 @@ ghost use Rattle.edits.specs.declared.field.Field.{Field as FieldValue};
 
 use crate::field::Field;
 use crate::numbers::NUMBER_END;
-use crate::spelling::{level_at, long_at, placed_at, sequence_at, string_at};
+use crate::spelling::{key_at, level_at, long_at, placed_at, sequence_at, string_at};
 use crate::version_edit::Edit;
 use coding::{Damage, Feature, ReadError};
 use std::alloc::Global;
@@ -19,8 +19,8 @@ use std::alloc::Global;
 /// are an edit without fields.
 ///
 /// Corrupt: an unknown tag, a field that is cut, a number that is longer than it has to be or too large, a
-/// last sequence of 2^56 or more, a level above 6, a new file numbered 0. Unsupported: a new or deleted
-/// file numbered 2^62 or above in what otherwise is an edit. The keys of fields are taken as they stand.
+/// last sequence of 2^56 or more, a level above 6, a new file numbered 0, a key that is no internal key.
+/// Unsupported: a new or deleted file numbered 2^62 or above in what otherwise is an edit.
 pub fn decode_edit(alloc: Global, bytes: &[u8]) -> Result<Edit, ReadError>
     // The bytes are the encoding of what is read, and its tables have numbers below 2 ^ 62.
     ensures found { IfOk result (λ edit. IsEdit bytes.now edit × AllByRecursion IsWithinLimit edit) }
@@ -84,7 +84,7 @@ fn content_at(alloc: Global, tag: u8, bytes: &[u8]) -> Result<(Field, &[u8]), Re
         }
         5 => {
             let (level, rest) = level_at(bytes)?;
-            let (key, rest) = string_at(alloc, rest)?;
+            let (key, rest) = key_at(alloc, rest)?;
             Ok((Field::CompactPointer(level, key), rest))
         }
         6 => {

@@ -4,13 +4,14 @@ ghost use Rattle.std.specs.Prelude.{◌≡◌, ◌<◌, ◌≤◌, ◌^◌, ◌+
 ghost use Rattle.coding.specs.Errors.{RefusesOnly};
 ghost use Rattle.coding.specs.Varint.{IsString};
 ghost use Rattle.coding.specs.Spelling.{Begins, BeginsNone, Appends, InTurn};
-ghost use Rattle.edits.specs.Edit.{IsLong, IsSequence, IsLevel, IsTableNumber, SpellsTable, IsPlaced, IsTableProper};
+ghost use Rattle.edits.specs.Edit.{IsLong, IsSequence, IsLevel, IsTableNumber, SpellsKey, SpellsTable, IsPlaced, IsTableProper};
 
 use crate::field::{PlacedTable, TableFile};
 use coding::{
     Bytes, Damage, ReadError, SEQUENCE_END, get_string, get_varint32, get_varint64, put_string,
     put_varint32, put_varint64,
 };
+use ikey::unpack;
 use std::alloc::{AllocError, Global};
 
 /// The number of at most 64 bits at the front, and the bytes behind it.
@@ -64,6 +65,20 @@ pub fn string_at(alloc: Global, bytes: &[u8]) -> Result<(Bytes, &[u8]), ReadErro
     Ok((Bytes::from_vec(Vec::from_slice(alloc, text)?), rest))
 }
 
+/// The internal key at the front, as a string, and the bytes behind it.
+pub fn key_at(alloc: Global, bytes: &[u8]) -> Result<(Bytes, &[u8]), ReadError>
+    ensures found { IfOk result (λ found. Begins SpellsKey bytes.now found.0 found.1.now) }
+    ensures refused { IfErr result (λ e. RefusesOnly e (BeginsNone SpellsKey bytes.now)) }
+{
+    let Some((key, rest)) = get_string(bytes) else {
+        return Err(ReadError::Corrupt(Damage::Length));
+    };
+    let Some(_) = unpack(key) else {
+        return Err(ReadError::Corrupt(Damage::Kind));
+    };
+    Ok((Bytes::from_vec(Vec::from_slice(alloc, key)?), rest))
+}
+
 /// The number of a table at the front, and the bytes behind it.
 pub fn table_number_at(bytes: &[u8]) -> Result<(u64, &[u8]), ReadError>
     ensures found { IfOk result (λ found. Begins IsTableNumber bytes.now found.0 found.1.now) }
@@ -78,11 +93,11 @@ pub fn table_number_at(bytes: &[u8]) -> Result<(u64, &[u8]), ReadError>
 
 /// The smallest and the largest key at the front, and the bytes behind them.
 pub fn keys_at(alloc: Global, bytes: &[u8]) -> Result<(Bytes, Bytes, &[u8]), ReadError>
-    ensures found { IfOk result (λ found. Begins (InTurn IsString IsString) bytes.now (found.0, found.1) found.2.now) }
-    ensures refused { IfErr result (λ e. RefusesOnly e (BeginsNone (InTurn IsString IsString) bytes.now)) }
+    ensures found { IfOk result (λ found. Begins (InTurn SpellsKey SpellsKey) bytes.now (found.0, found.1) found.2.now) }
+    ensures refused { IfErr result (λ e. RefusesOnly e (BeginsNone (InTurn SpellsKey SpellsKey) bytes.now)) }
 {
-    let (smallest, rest) = string_at(alloc, bytes)?;
-    let (largest, rest) = string_at(alloc, rest)?;
+    let (smallest, rest) = key_at(alloc, bytes)?;
+    let (largest, rest) = key_at(alloc, rest)?;
     Ok((smallest, largest, rest))
 }
 

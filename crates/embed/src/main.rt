@@ -25,7 +25,7 @@ fn main(rt: HostRuntime) -> Result<()> {
 }
 
 fn open(rt: &HostRuntime, folder: &str) -> Result<Database> {
-    let store = FileStore::open(rt, folder).map_err(|error| anyhow!("{folder}: {error:?}"))?;
+    let store = FileStore::open(rt, folder).map_err(|error| anyhow!("{folder}: {error}"))?;
     Ok(Db::open(
         rt.alloc(),
         store,

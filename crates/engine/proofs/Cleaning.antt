@@ -1,5 +1,5 @@
 -- What the removal of files leaves of an open database.
-use Rattle.std.proofs.Common.{◌≡◌, ℕ, ◌<◌, List, ◌++◌, Option, Some, None, IsTrue, IsSome, Contains, inl, inr, refl, sym, ap, subst, ◌∙◌, arith}
+use Rattle.std.proofs.Common.{◌≡◌, ◌⊎◌, ℕ, ◌<◌, List, ◌++◌, Option, Some, None, IsTrue, IsSome, Contains, inl, inr, refl, sym, ap, subst, ◌∙◌, arith}
 use Rattle.std.specs.FinMap.{get}
 use Rattle.std.specs.declared.cmp.Ordering.{Ordering}
 use Rattle.std.specs.Option.{option_and_then}
@@ -23,7 +23,8 @@ use Rattle.table_access.specs.Tables.{Seen, IsSound, KeepsOf, SoundLasts}
 use Rattle.table_access.proofs.Sounding.{same_file, same_table}
 use Rattle.store.specs.Files.{Facts}
 use Rattle.table.specs.Reading.{HasFile}
-use Rattle.directory_writes.specs.internal.Removal.{AreOfDirectory, KeepsParts, KeepsTable, ListsUnused}
+use Rattle.directory_writes.specs.internal.Removal.{AreOfDirectory, KeepsParts, KeepsTable, ListsToClose, MayLose}
+use Rattle.directory_writes.specs.Removal.{HasBoth}
 use Rattle.opening.specs.internal.Directories.{CanAppend}
 use Rattle.engine.specs.OpenDb.{OpenDb, whole_of}
 use Rattle.engine.specs.InUse.{IsJobTable, IsMemoryUsed, IsTableUsed}
@@ -33,7 +34,7 @@ use Rattle.machine.specs.Machine.{Machine, Walk}
 use Rattle.engine.specs.internal.Standing.{HasLog, HasTables, IsServing}
 use Rattle.engine.specs.internal.Pieces.{ClosesTables}
 use Rattle.engine.specs.Working.{numbers_of}
-use Rattle.engine.proofs.Compacting.{each_job, goes_beside, have_itself, known_itself, version_unowned}
+use Rattle.engine.proofs.Compacting.{each_job, goes_beside_read, have_itself, known_itself, version_unowned}
 use Rattle.engine.proofs.InUse.{memory_used, read_used, table_used}
 use Rattle.engine.proofs.Pieces.{limits_stay, made_still, walks_each}
 use Rattle.engine.proofs.Reading.{has_placed, read_by}
@@ -74,24 +75,34 @@ module _ {K : Type 0} {g : _} (order : Order) (kept : (scan : Scan K g) → Scan
 
     -- ---- the files
 
-    module _ (t : IsTrue facts.faithful) (each : (n : ℕ) → IsNumbered n → KeepsTable old.facts facts in_use n) (unused : ListsUnused old.facts facts in_use gone) (closes : ClosesTables old.tables tables gone) where
+    module _ (t : IsTrue facts.faithful) (each : (n : ℕ) → IsNumbered n → KeepsTable old.facts facts in_use n) (unused : ListsToClose old.facts facts in_use gone) (closes : ClosesTables old.tables tables gone) where
       -- a table of which something is kept is as before, or gone
       same_at : (n : ℕ) (file : List ℕ) → IsNumbered n → table_at facts.files n ≡ Some file → table_at old.facts.files n ≡ Some file
       same_at n file numbered there = elim (each n numbered) [
-        | inl both ↦ sym (same_table old.facts.files facts.files n both.0.0 both.1.0) ∙ there
-        | inr other ↦ elim other.1 [
-          | inl same ↦ sym same ∙ there
-          | inr none ↦ absurd (let bad : None ≡ Some file = sym none ∙ there in cc)
+        | inl both ↦ sym (same_table old.facts.files facts.files n both.0 both.1) ∙ there
+        | inr other ↦ elim other [
+          | inl free ↦ elim free.1 [
+            | inl same ↦ sym same ∙ there
+            | inr none ↦ absurd (let bad : None ≡ Some file = sym none ∙ there in cc)
+          ]
+          | inr two ↦ sym two.2 ∙ there
         ]
       ]
 
       some_file : (o : Option (List ℕ)) (file : List ℕ) → o ≡ Some file → IsSome o
       some_file o file is = subst (λ (x : Option (List ℕ)). IsSome x) (sym is) refl
 
+      -- a file of it may go
+      may_lose : (n : ℕ)
+          → ((in_use n → ⊥) × ((table_at facts.files n ≡ table_at old.facts.files n) ⊎ (table_at facts.files n ≡ None)))
+          ⊎ (HasBoth old.facts.files n × (get facts.files (name_of (Table n)) ≡ get old.facts.files (name_of (Table n))) × (table_at facts.files n ≡ table_at old.facts.files n)) → MayLose old.facts.files in_use n
+      may_lose n (inl free) = inl free.0
+      may_lose n (inr two) = inr two.0
+
       named_at : (n : ℕ) (name file : List ℕ) → IsNumbered n → IsNameOf n name → (Contains gone n → ⊥) → table_at facts.files n ≡ Some file → HasFile old.facts name file → HasFile facts name file
       named_at n name file numbered named stays there has = elim (each n numbered) [
-        | inl both ↦ same_file old.facts.files facts.files n name named both.0.0 both.1.0 ∙ has
-        | inr other ↦ absurd (stays (unused.all t n numbered other.0 (some_file (table_at old.facts.files n) file (same_at n file numbered there))))
+        | inl both ↦ same_file old.facts.files facts.files n name named both.0 both.1 ∙ has
+        | inr other ↦ absurd (stays (unused t n numbered (may_lose n other) (some_file (table_at old.facts.files n) file (same_at n file numbered there))))
       ]
 
       kept_of : (kept : KeptTable) → Contains tables kept → KeepsOf old kept.number
@@ -110,12 +121,14 @@ module _ {K : Type 0} {g : _} (order : Order) (kept : (scan : Scan K g) → Scan
       drawn_cleaned contents has number (inl (kept, is, same)) = has.drawn number (inl (kept, closes.kept kept is, same))
       drawn_cleaned contents has number (inr block) = has.drawn number (inr block)
 
-      -- a table that is used is as before, under both of its names
-      used_same : (n : ℕ) → IsNumbered n → in_use n
-          → (get facts.files (name_of (Table n)) ≡ get old.facts.files (name_of (Table n))) × (get facts.files (name_of (OldTable n)) ≡ get old.facts.files (name_of (OldTable n)))
+      -- a table that is used reads as before, and its file with the newer name is as it was
+      used_same : (n : ℕ) → IsNumbered n → in_use n → (get facts.files (name_of (Table n)) ≡ get old.facts.files (name_of (Table n))) × (table_at facts.files n ≡ table_at old.facts.files n)
       used_same n numbered used_one = elim (each n numbered) [
-        | inl both ↦ (both.0.0, both.1.0)
-        | inr other ↦ absurd (other.0 used_one)
+        | inl both ↦ (both.0, same_table old.facts.files facts.files n both.0 both.1)
+        | inr other ↦ elim other [
+          | inl free ↦ absurd (free.0 used_one)
+          | inr two ↦ (two.1, two.2)
+        ]
       ]
 
       fewer_kept : (number : ℕ) → KeepsOf new number → KeepsOf old number
@@ -204,7 +217,7 @@ module _ {K : Type 0} {g : _} (order : Order) (kept : (scan : Scan K g) → Scan
           };
           numbers = serving.numbers;
           job = each_job _ _ db.job (λ work is c.
-              goes_beside order (whole_of old db) (whole_of new after) db.directory.numbers.next db.directory.numbers.next db.snapshots db.snapshots db.iterators db.iterators db.tables d d work c
+              goes_beside_read order (whole_of old db) (whole_of new after) db.directory.numbers.next db.directory.numbers.next db.snapshots db.snapshots db.iterators db.iterators db.tables d d work c
               a.consistent serving.log.knows.free db.directory.numbers.in_range.1 (omega arith) (λ number numbered below one. used_same number numbered (inr (subst (λ (o : Option (OpenJob K g)). IsJobTable o number) (sym is) one)))
               (λ h. sound_cleaned serving.contents serving.tables) (λ number kept_now. inl (fewer_kept number kept_now)) refl refl
               (omega (arith, last_same)) (known_itself db.snapshots db.memory.last) (have_itself db.iterators db.tables)

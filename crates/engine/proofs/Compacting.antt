@@ -11,6 +11,7 @@ use Rattle.compact.specs.Outputs.{AreNumbered, IsOwn, TablesWritten}
 use Rattle.edits.proofs.Orders.{unused, unused_from}
 use Rattle.edits.specs.Edit.{IsTableProper}
 use Rattle.edits.specs.Layout.{inserted, is_before, is_used}
+use Rattle.cache.specs.Tables.{table_at}
 use Rattle.edits.specs.Names.{IsNumbered, name_of}
 use Rattle.edits.specs.declared.field.PlacedTable.{PlacedTable}
 use Rattle.edits.specs.declared.field.TableFile.{TableFile}
@@ -207,6 +208,14 @@ module _ {K : Type 0} {g : _} (order : Order) (old new : Whole) (next more : ℕ
   KeepsJobFiles = (number : ℕ) → IsNumbered number → number < next → IsJobTable (Some work) number
       → (get new.seen.facts.files (name_of (Table number)) ≡ get old.seen.facts.files (name_of (Table number))) × (get new.seen.facts.files (name_of (OldTable number)) ≡ get old.seen.facts.files (name_of (OldTable number)))
 
+  -- its tables read as they did, and the files with their newer names are as they were
+  abbrev pub KeepsJobTables : Type 0
+  KeepsJobTables = (number : ℕ) → IsNumbered number → number < next → IsJobTable (Some work) number
+      → (get new.seen.facts.files (name_of (Table number)) ≡ get old.seen.facts.files (name_of (Table number))) × (table_at new.seen.facts.files number ≡ table_at old.seen.facts.files number)
+
+  by_names : KeepsJobFiles → KeepsJobTables
+  by_names files number numbered below one = let both = files number numbered below one in (both.0, same_table old.seen.facts.files new.seen.facts.files number both.0 both.1)
+
   module _ (consistent : IsConsistent order old.seen.facts.files d) (free : IsFree order old.seen.facts.files next) (fits : next < 2 ^ 64) where
     pub is_input_number : (number : ℕ) → is_input work number → IsNumbered number × (number < next)
     is_input_number number is = input_number order old.seen.facts.files d next work.job.plan.inputs.items c.running.inputs c.running.rest consistent free c.running.planned.parted c.running.planned.planned number is
@@ -223,14 +232,13 @@ module _ {K : Type 0} {g : _} (order : Order) (old new : Whole) (next more : ℕ
     to_write_before le number (inl at) = inl at
     to_write_before le number (inr come) = inr (omega (arith, le, come.0), come.1)
 
-    pub leaves_tables : next ≤ more → KeepsJobFiles → (IsSound order.cmp old.seen → IsSound order.cmp new.seen) → ((number : ℕ) → KeepsOf new.seen number → KeepsOf old.seen number ⊎ ((number < next) × (IsOwn work.job.outputs number → ⊥)))
+    pub leaves_tables : next ≤ more → KeepsJobTables → (IsSound order.cmp old.seen → IsSound order.cmp new.seen) → ((number : ℕ) → KeepsOf new.seen number → KeepsOf old.seen number ⊎ ((number < next) × (IsOwn work.job.outputs number → ⊥)))
         → e.tables ≡ d.tables → e.layout.tables.items ≡ d.layout.tables.items → LeavesTables order work old new next more d e
     leaves_tables le files sound gathered tables_same listed = record {
       drawn = le;
       files = λ number is.
           let n = is_input_number number is in
-          let both = files number n.0 n.1 (inl (as_used work.job.plan.inputs.items number is)) in
-          same_table old.seen.facts.files new.seen.facts.files number both.0 both.1;
+          (files number n.0 n.1 (inl (as_used work.job.plan.inputs.items number is))).1;
       outputs = λ number own. let n = is_own_number number own in (files number n.0 n.1 (inr own)).0;
       sound = sound;
       unkept = λ number is mine. elim (gathered number is) [
@@ -242,8 +250,13 @@ module _ {K : Type 0} {g : _} (order : Order) (old new : Whole) (next more : ℕ
     }
 
     -- so it is where the directory has the same tables
+    pub goes_beside_read : next ≤ more → KeepsJobTables → (IsSound order.cmp old.seen → IsSound order.cmp new.seen) → ((number : ℕ) → KeepsOf new.seen number → KeepsOf old.seen number ⊎ ((number < next) × (IsOwn work.job.outputs number → ⊥)))
+        → e.tables ≡ d.tables → e.layout.tables.items ≡ d.layout.tables.items → old.memory.last ≤ new.memory.last → AreKnown snapshots old.memory.last kept → HaveKnown iterators tables open_ones
+        → ((number : ℕ) → ListsNumber tables number → IsOwn work.job.outputs number → ⊥) → IsCompacting order new more kept open_ones e work
+    goes_beside_read le files sound gathered tables_same listed last known have none =
+        goes_on_as (stays_beside order work old new next more d e c.came c.left c.running (leaves_tables le files sound gathered tables_same listed)) last known have none
+
     pub goes_beside : next ≤ more → KeepsJobFiles → (IsSound order.cmp old.seen → IsSound order.cmp new.seen) → ((number : ℕ) → KeepsOf new.seen number → KeepsOf old.seen number ⊎ ((number < next) × (IsOwn work.job.outputs number → ⊥)))
         → e.tables ≡ d.tables → e.layout.tables.items ≡ d.layout.tables.items → old.memory.last ≤ new.memory.last → AreKnown snapshots old.memory.last kept → HaveKnown iterators tables open_ones
         → ((number : ℕ) → ListsNumber tables number → IsOwn work.job.outputs number → ⊥) → IsCompacting order new more kept open_ones e work
-    goes_beside le files sound gathered tables_same listed last known have none =
-        goes_on_as (stays_beside order work old new next more d e c.came c.left c.running (leaves_tables le files sound gathered tables_same listed)) last known have none
+    goes_beside le files sound gathered tables_same listed last known have none = goes_beside_read le (by_names files) sound gathered tables_same listed last known have none

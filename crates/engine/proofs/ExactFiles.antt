@@ -72,12 +72,12 @@ module _ {K : Type 0} {g : _} (order : Order) (source : Seen) (db : OpenDb K g) 
   read_alone idle n (inl read) = read
   read_alone idle n (inr needed) = absurd (subst (λ (job : Option (OpenJob K g)). IsJobTable job n) idle needed)
 
-  live_at_ease : db.job ≡ None → db.memory.sealed ≡ None → (file : FileName) → IsFileName file → contains_key source.facts.files (name_of file) ≡ true → IsLiveIn db file → IsLiveAtEase db file
+  live_at_ease : db.job ≡ None → db.memory.sealed ≡ None → (file : FileName) → IsFileName file → contains_key source.facts.files (name_of file) ≡ true → IsLiveIn source.facts.files db file → IsLiveAtEase source.facts.files db file
   live_at_ease idle none Current named there live = tt
   live_at_ease idle none Lock named there live = tt
   live_at_ease idle none (Log n) named there live = live_log none n named there live
   live_at_ease idle none (Table n) named there live = read_alone idle n live
-  live_at_ease idle none (OldTable n) named there live = read_alone idle n live
+  live_at_ease idle none (OldTable n) named there live = (read_alone idle n live.0, λ newer. live.1 (newer, there))
   live_at_ease idle none (Manifest n) named there live = live
   live_at_ease idle none (Temporary n) named there live = live
 

@@ -10,6 +10,7 @@ use Rattle.running_job.specs.declared.open_job.OpenJob.{OpenJob}
 use Rattle.memtables.specs.PlaceLaws.{left_onward, left_there}
 use Rattle.memtables.specs.Places.{LeavesMemories}
 use Rattle.table_access.specs.Tables.{Seen}
+use Rattle.store.specs.Calls.{FailsNoWrite}
 use Rattle.store.specs.Files.{Facts}
 use Rattle.directory_writes.specs.Replacing.{ReplacesInputs}
 use Rattle.versions.specs.Levels.{HasNumber}
@@ -23,7 +24,9 @@ use Rattle.engine.specs.OpenDb.{OpenDb, whole_of}
 use Rattle.machine.specs.Machine.{Machine, entry_count}
 use Rattle.engine.specs.internal.TakingAll.{IsTakingAll}
 use Rattle.engine.specs.Outcomes.{DbOutcome, IsSame, KeepsViews, MayRefuseLevel, MayRefuseWork}
+use Rattle.engine.specs.Stands.{no_ids}
 use Rattle.engine.specs.internal.Standing.{StandsOpen}
+use Rattle.engine.specs.internal.Stopping.{KeepsOpen}
 use Rattle.machine.specs.Upkeep.{Draws}
 use Rattle.engine.specs.Working.{GoesOn, IsFurther}
 use Rattle.engine.specs.internal.Pieces.{IsPiece, MayRefusePiece}
@@ -31,6 +34,7 @@ use Rattle.engine.specs.WrittenTables.{HasMerged, KeepsTableFiles, PutsMerged}
 use Rattle.engine.proofs.InUse.{as_used}
 use Rattle.engine.proofs.JobEnds.{inputs_listed, job_counted, merged_on}
 use Rattle.engine.proofs.Steps.{serving_of}
+use Rattle.engine.proofs.StopSteps.{keeps_none, keeps_then}
 use Rattle.engine.proofs.WorkAnswers.{then_piece}
 use Rattle.engine.proofs.WorkSteps.{piece_done, piece_more, pieces_on}
 
@@ -49,6 +53,7 @@ views_on before between after first next = record {
 pub serves_then : {K : Type 0} {g : _} (old mid new : Facts) (before between after : OpenDb K g) → ServesOn old mid before between → ServesOn mid new between after → ServesOn old new before after
 serves_then old mid new before between after first next = record {
   stood = next.stood ∙ first.stood;
+  unwritten = next.unwritten ∙ first.unwritten;
   undenied = next.undenied ∙ first.undenied;
   locked = next.locked ∙ first.locked;
   whole = next.whole;
@@ -56,7 +61,7 @@ serves_then old mid new before between after first next = record {
 }
 
 pub serves_same : {K : Type 0} {g : _} (facts : Facts) (db : OpenDb K g) → db.broken ≡ false → ServesOn facts facts db db
-serves_same facts db whole = record { stood = refl; undenied = refl; locked = refl; whole = whole; views = views_same db }
+serves_same facts db whole = record { stood = refl; unwritten = refl; undenied = refl; locked = refl; whole = whole; views = views_same db }
 
 abbrev SameAnswer : {T : Type 0} → Result T DbError → Result T DbError → Type 0
 SameAnswer a b = a ≡ b
@@ -130,9 +135,10 @@ outcome_by old new before after (Ok done) whole held h serves = outcome_done May
 outcome_by old new before after (Err e) whole held h serves = outcome_of old new before after e held h
 
 -- what the first step of a compaction leaves
-pub serves_begun : {K : Type 0} {g : _} (old new : Facts) (before after : OpenDb K g) → new.failures ≡ old.failures → new.denials ≡ old.denials → new.locked ≡ old.locked → after.broken ≡ false → IsSame before after → ServesOn old new before after
-serves_begun old new before after stood undenied held whole same = record {
+pub serves_begun : {K : Type 0} {g : _} (old new : Facts) (before after : OpenDb K g) → new.failures ≡ old.failures → FailsNoWrite old new → new.denials ≡ old.denials → new.locked ≡ old.locked → after.broken ≡ false → IsSame before after → ServesOn old new before after
+serves_begun old new before after stood none undenied held whole same = record {
   stood = stood;
+  unwritten = none;
   undenied = undenied;
   locked = held;
   whole = whole;
@@ -256,6 +262,7 @@ pub record Taken {K : Type 0} {g : _} (order : Order) (old new : Seen) (before a
   pub memory : LeavesMemories before.memory after.memory
   pub all : IsTakingAll before → IsTakingAll after
   pub step : (ids : Ids) → LeadsOpen order old new ids before after (λ m n. IsPiece m steps (Ok (tt {0})) n)
+  pub stops : KeepsOpen order old new before
 
 pub taken_none : {K : Type 0} {g : _} (order : Order) (source : Seen) (db : OpenDb K g) (work : OpenJob K g) → db.broken ≡ false → db.job ≡ Some work → Taken order source source db db 0
 taken_none order source db work whole is = record {
@@ -273,6 +280,7 @@ taken_none order source db work whole is = record {
   memory = left_there db.memory;
   all = λ h. h;
   step = λ ids. stays_done order source ids db (λ e. 0) (tt {0});
+  stops = keeps_none order source db;
 }
 
 pub job_there : {X : Type 0} (o : Option X) → IsSome o → (x : X) × (o ≡ Some x)
@@ -284,8 +292,8 @@ job_in a b is = cc
 
 module _ {K : Type 0} {g : _} (order : Order) (old mid new : Seen) (before between after : OpenDb K g) (steps : ℕ) (t : Taken order old mid before between steps) where
   pub taken_more : GoesOn 1 between after → IsSome after.job → ServesOn mid.facts new.facts between after → LeavesMemories between.memory after.memory → (IsTakingAll between → IsTakingAll after)
-      → (IsTrue new.facts.faithful → KeepsTableFiles order mid new between) → ((ids : Ids) → LeadsOpen order mid new ids between after (λ m n. IsPiece m 1 (Ok false) n)) → Taken order old new before after (steps + 1)
-  taken_more goes some serves memory all beside step = at after.job refl goes.on some
+      → (IsTrue new.facts.faithful → KeepsTableFiles order mid new between) → ((ids : Ids) → LeadsOpen order mid new ids between after (λ m n. IsPiece m 1 (Ok false) n)) → KeepsOpen order mid new between → Taken order old new before after (steps + 1)
+  taken_more goes some serves memory all beside step stops = at after.job refl goes.on some
     where
       at : (o : Option (OpenJob K g)) → after.job ≡ o → MatchOption o (ReplacesInputs goes.work.job.plan between.tables after.tables) (λ more. IsFurther goes.work (max 1 1) more × (after.tables ≡ between.tables)) → IsSome o → Taken order old new before after (steps + 1)
       at None is on some = absurd (cc)
@@ -309,6 +317,7 @@ module _ {K : Type 0} {g : _} (order : Order) (old mid new : Seen) (before betwe
             memory = left_onward before.memory between.memory after.memory t.memory memory;
             all = λ h. all (t.all h);
             step = λ ids. piece_done order old new ids before after (steps + 1) false (tt {0}) (then_piece order old mid new ids before between after steps 1 (tt {0}) (Ok false) (t.step ids) (step ids));
+            stops = keeps_then order old mid new before between (λ m. steps) (tt {0}) t.step (step no_ids).faithful t.stops stops;
           }
 
   -- all came, and the outputs are in the place of the inputs

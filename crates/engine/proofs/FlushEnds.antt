@@ -24,8 +24,9 @@ use Rattle.db_cursor.specs.internal.Scanning.{ScanIsKept}
 use Rattle.db_cursor.specs.declared.scan.Scan.{Scan}
 use Rattle.table_access.specs.Tables.{Seen, IsSound, SoundLasts}
 use Rattle.store.specs.Files.{Facts}
+use Rattle.store.specs.Stops.{LeavesOnly}
 use Rattle.directory_writes.specs.Replacing.{placed_in}
-use Rattle.directory_writes.specs.internal.Flush.{CanFlush, DrawsTable, FlushMeans, FlushTouches, IsCorrupt, IsFlushed, MayBeFlushed, RefusesFlush, RefusesNewTable}
+use Rattle.directory_writes.specs.internal.Flush.{CanFlush, DrawsTable, FlushMayLeave, FlushMeans, FlushTouches, IsCorrupt, IsFlushed, MayBeFlushed, RefusesFlush, RefusesNewTable}
 use Rattle.compact.specs.Rooms.{room_of}
 use Rattle.directory_writes.specs.internal.Level0.{IsTooLarge}
 use Rattle.directory_writes.specs.declared.flush.FlushError.{FlushError}
@@ -38,6 +39,7 @@ use Rattle.engine.specs.declared.work.Progress.{Progress}
 use Rattle.engine.specs.internal.Leading.{LeadsOpen}
 use Rattle.engine.specs.OpenDb.{OpenDb, open_db, whole_of}
 use Rattle.engine.specs.internal.Standing.{entries_of, IsServing}
+use Rattle.engine.specs.internal.Stopping.{KeepsOpen}
 use Rattle.machine.specs.Machine.{Machine, entry_count, weight}
 use Rattle.machine.specs.Upkeep.{UpkeepRefused}
 use Rattle.engine.specs.internal.Pieces.{IsPiece, IsSameMemory, broken_by, flush_answer}
@@ -47,6 +49,7 @@ use Rattle.engine.proofs.Flushing.{NamesStay, names_same, names_unchanged, Flush
 use Rattle.engine.proofs.Pieces.{free_up, walks_each}
 use Rattle.engine.proofs.Reading.{has_placed}
 use Rattle.engine.proofs.Steps.{serving_of}
+use Rattle.engine.proofs.StopSteps.{keeps_serving, means_flushed}
 use Rattle.engine.proofs.Weighing.{room_within}
 use Rattle.engine.proofs.WorkSteps.{breaks, drawing, draws, serves_on}
 
@@ -202,6 +205,15 @@ module _ {K : Type 0} {g : _} (order : Order) (kept : (scan : Scan K g) → Scan
         has = one_of_tables order facts.files (with_content content d.tables) content done.has.consistent.tables there;
         entries_are = subst (λ (es : List Entry). SameEntries content.entries es) entries_are done.has.table_entries;
       }))
+
+  -- a stop in its middle
+  pub flush_keeps : (tables : List PlacedTable) → tables ≡ before.tables
+      → (IsTrue facts.faithful → LeavesOnly old.facts facts (FlushMayLeave order old.facts.files next numbers.next plan state.directory.manifest entries tables)) → KeepsOpen order old new before
+  flush_keeps tables are stops =
+      keeps_serving order old new before whole (λ m. FlushMayLeave order old.facts.files next numbers.next plan state.directory.manifest entries before.tables)
+      (λ f m serving. subst (λ (ts : List PlacedTable). LeavesOnly old.facts facts (FlushMayLeave order old.facts.files next numbers.next plan state.directory.manifest entries ts)) are (stops f))
+      (λ m files serving may.
+      means_flushed order old before m serving law files next numbers.next entries (may serving.log.directory.directory serving.log.logs.sealed serving.log.logs.current (can m serving)))
 
 -- ---- an empty sealed table
 

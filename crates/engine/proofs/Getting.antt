@@ -104,10 +104,10 @@ module _ {K : Type 0} {g : _} {numbers : ℕ → Type 0} (order : Order) (kept :
 -- ---- over any store
 
 pub reads_itself : (facts : Facts) → Reads facts facts
-reads_itself facts = record { faithful = λ f. f; files = λ f. refl; failures = omega arith; denials = refl; locked = refl; synced = λ f. refl }
+reads_itself facts = record { faithful = λ f. f; files = λ f. refl; failures = omega arith; writes = refl; denials = refl; locked = refl; synced = λ f. refl; calls = λ f. refl }
 
 pub reads_leave : (old new : Facts) → Reads old new → LeavesStore old new
-reads_leave old new reads = record { files = reads.files; synced = reads.synced; locked = reads.locked }
+reads_leave old new reads = record { writes = reads.writes; files = reads.files; synced = reads.synced; locked = reads.locked; calls = reads.calls }
 
 unseen_as : {K : Type 0} {g : _} → (db : OpenDb K g) (snapshot : Option ℕ) → no_snapshot (open_status no_ids db) snapshot ≡ cond (is_some (sequence_at db snapshot)) None (Some error.NoSnapshot)
 unseen_as db None = refl

@@ -33,7 +33,7 @@ use Rattle.db_cursor.specs.Scans.{KeepsScan}
 use Rattle.db_cursor.specs.declared.scan.Scan.{Scan}
 use Rattle.table_access.proofs.Sounding.{same_file, same_table}
 use Rattle.table_access.specs.Tables.{IsSound, KeepsOf, Seen, SoundLasts}
-use Rattle.store.specs.Files.{Facts}
+use Rattle.store.specs.Files.{Facts, Files}
 use Rattle.directory_writes.proofs.PlansMade.{planned_apart}
 use Rattle.directory_writes.specs.Replacing.{placed_in}
 use Rattle.directory_writes.specs.internal.Flush.{KeepsLogsAndTables, PassesNoLimit}
@@ -43,7 +43,7 @@ use Rattle.opening.specs.declared.directory.DirectoryState.{DirectoryState}
 use Rattle.engine.specs.internal.Accounted.{AreAccounted}
 use Rattle.engine.specs.internal.Compacting.{IsCompacting}
 use Rattle.opening.specs.internal.Directories.{CanAppend}
-use Rattle.engine.specs.internal.Directory.{IsReadable}
+use Rattle.engine.specs.internal.Directory.{IsReadable, MeansAccepted}
 use Rattle.engine.specs.OpenDb.{OpenDb, whole_of}
 use Rattle.engine.specs.internal.Standing.{entries_of, HasLog, IsBroken, IsServing}
 use Rattle.reader.specs.internal.Iterators.{IsWalk}
@@ -96,6 +96,65 @@ module _ {K : Type 0} {g : _} (order : Order) (kept : (scan : Scan K g) → Scan
   -- the machine behind it
   abbrev pub ended_by : Machine
   ended_by = drawing m 0 facts
+
+  -- ---- the outputs are in the place of the inputs
+
+  module _ (files : Files) (has : HasInstalled order (deep_of order.cmp work) work.job.plan.output_level work.job.selection.snapshots old.facts.files files c.came d ended_job.inputs ended_job.rest) where
+    abbrev installed_as : Directory
+    installed_as = compacted d (d.edits ++ has.edit ∷ []) has.next has.contents
+
+    -- every entry was there before
+    fewer : (entry : Entry) → Among (entries_in installed_as) entry → Among (entries_in d) entry
+    fewer entry i = elim (among_split (tabled has.contents) (logged d.logs) entry i) [
+      | inl in_tables ↦ among_front (tabled d.tables) (logged d.logs) entry (elim (among_contents has.contents has.outputs ended_job.rest entry has.compaction.new_tables in_tables) [
+        | inl out ↦ among_chosen d.tables ended_job.inputs ended_job.rest entry has.compaction.old_tables (has.compaction.taken entry out)
+        | inr rest ↦ among_rest d.tables ended_job.inputs ended_job.rest entry has.compaction.old_tables rest
+      ])
+      | inr in_logs ↦ among_back (tabled d.tables) (logged d.logs) entry in_logs
+    ]
+
+    fewer_held : (entry : Entry) → Among (entries_in installed_as) entry → Among (entries_of serving.contents db) entry
+    fewer_held entry i = subst (λ (es : List Entry). Among es entry) (sym entries_are) (fewer entry i)
+
+    apart : AreNewerOrDeep (tabled ended_job.inputs) (tabled ended_job.rest ++ logged d.logs) (deep_of order.cmp work)
+    apart = planned_apart order old.facts.files (deep_of order.cmp work) work.job.plan d ended_job.inputs ended_job.rest a.consistent ended_job.planned
+
+    -- a reader that sees of what came what one of its sequences sees, sees the same
+    seen_same : (p : ℕ) (contents : Contents) → SeesAsOne (map entry_of (c.came ++ c.left)) work.job.selection.snapshots p → IsView (entries_of serving.contents db) p contents → IsView (entries_in installed_as) p contents
+    seen_same p contents sees view =
+        has.alike apart p contents (sees.0, sees.1, sees.2, λ entry i le. sees.3 entry (came_of entry i) le)
+        (subst (λ (es : List Entry). IsView es p contents) entries_are view)
+      where
+        came_of : (entry : Entry) → Among (tabled ended_job.inputs) entry → Among (map entry_of (c.came ++ c.left)) entry
+        came_of entry i = subst (λ (es : List InternalEntry). Among (map entry_of (c.came ++ es)) entry) (sym ended) ((ended_job.entries entry).1 i)
+
+    now_seen : SeesAsOne (map entry_of (c.came ++ c.left)) work.job.selection.snapshots db.memory.last
+    now_seen = (c.reach, c.begun.kept, c.begun.used, λ entry i le. c.begun.above entry i)
+
+    current_view : IsView (entries_in installed_as) db.memory.last (machine.current m)
+    current_view = seen_same db.memory.last (machine.current m) now_seen serving.entries.view
+
+    snapshots_on : AreSnapshots (entries_in installed_as) db.memory.last m db.snapshots
+    snapshots_on = live_each (IsSnapshot (entries_of serving.contents db) db.memory.last m) (IsSnapshot (entries_in installed_as) db.memory.last m) db.snapshots m.snapshots
+        (λ id sequence count there is. (is.0, is.1, seen_same sequence (view_at m count) (c.seen id sequence there) is.2)) serving.snapshots
+
+    accounted_on : AreAccounted (entries_in installed_as) (entry_count m) (weight m)
+    accounted_on = let h = serving.accounted in record { all = h.all; within = λ entry i. h.within entry (fewer_held entry i); count = h.count; weight = h.weight }
+
+    logged_now : tabled has.contents ++ logged_in db.memory ≡ entries_in installed_as
+    logged_now = ap (λ (es : List Entry). tabled has.contents ++ es) a.in_logs
+
+    -- the files are what the machine stands for
+    pub means_installed : MeansAccepted order files m
+    means_installed = rests_seen order old db m serving files installed_as has.consistent current_view accounted_on (has.used ∙ sym a.spent)
+
+  -- they are or aren't
+  pub means_install : (files : Files) → MayBeInstalled order (deep_of order.cmp work) work.job.plan.output_level work.job.selection.snapshots old.facts.files files next c.came d ended_job.inputs ended_job.rest → MeansAccepted order files m
+  means_install files may = elim may.either [
+    | inl still ↦ rests_seen order old db m serving files d still.0 (subst (λ (es : List Entry). IsView es db.memory.last (machine.current m)) entries_are serving.entries.view)
+        (subst (λ (es : List Entry). AreAccounted es (entry_count m) (weight m)) entries_are serving.accounted) (sym a.spent)
+    | inr done ↦ means_installed files done
+  ]
 
   -- ---- the files
 
@@ -158,52 +217,9 @@ module _ {K : Type 0} {g : _} (order : Order) (kept : (scan : Scan K g) → Scan
         free_more : (k : ℕ) → next ≤ k → IsFree order facts.files (k + 0)
         free_more k le = free_up order facts.files next (k + 0) (omega (arith, le)) freed
 
-    -- ---- the outputs are in the place of the inputs
-
     module _ (has : HasInstalled order (deep_of order.cmp work) work.job.plan.output_level work.job.selection.snapshots old.facts.files facts.files c.came d ended_job.inputs ended_job.rest) where
       abbrev e : Directory
       e = compacted d (d.edits ++ has.edit ∷ []) has.next has.contents
-
-      -- every entry was there before
-      fewer : (entry : Entry) → Among (entries_in e) entry → Among (entries_in d) entry
-      fewer entry i = elim (among_split (tabled has.contents) (logged d.logs) entry i) [
-        | inl in_tables ↦ among_front (tabled d.tables) (logged d.logs) entry (elim (among_contents has.contents has.outputs ended_job.rest entry has.compaction.new_tables in_tables) [
-          | inl out ↦ among_chosen d.tables ended_job.inputs ended_job.rest entry has.compaction.old_tables (has.compaction.taken entry out)
-          | inr rest ↦ among_rest d.tables ended_job.inputs ended_job.rest entry has.compaction.old_tables rest
-        ])
-        | inr in_logs ↦ among_back (tabled d.tables) (logged d.logs) entry in_logs
-      ]
-
-      fewer_held : (entry : Entry) → Among (entries_in e) entry → Among (entries_of serving.contents db) entry
-      fewer_held entry i = subst (λ (es : List Entry). Among es entry) (sym entries_are) (fewer entry i)
-
-      apart : AreNewerOrDeep (tabled ended_job.inputs) (tabled ended_job.rest ++ logged d.logs) (deep_of order.cmp work)
-      apart = planned_apart order old.facts.files (deep_of order.cmp work) work.job.plan d ended_job.inputs ended_job.rest a.consistent ended_job.planned
-
-      -- a reader that sees of what came what one of its sequences sees, sees the same
-      seen_same : (p : ℕ) (contents : Contents) → SeesAsOne (map entry_of (c.came ++ c.left)) work.job.selection.snapshots p → IsView (entries_of serving.contents db) p contents → IsView (entries_in e) p contents
-      seen_same p contents sees view =
-          has.alike apart p contents (sees.0, sees.1, sees.2, λ entry i le. sees.3 entry (came_of entry i) le)
-          (subst (λ (es : List Entry). IsView es p contents) entries_are view)
-        where
-          came_of : (entry : Entry) → Among (tabled ended_job.inputs) entry → Among (map entry_of (c.came ++ c.left)) entry
-          came_of entry i = subst (λ (es : List InternalEntry). Among (map entry_of (c.came ++ es)) entry) (sym ended) ((ended_job.entries entry).1 i)
-
-      now_seen : SeesAsOne (map entry_of (c.came ++ c.left)) work.job.selection.snapshots db.memory.last
-      now_seen = (c.reach, c.begun.kept, c.begun.used, λ entry i le. c.begun.above entry i)
-
-      current_view : IsView (entries_in e) db.memory.last (machine.current m)
-      current_view = seen_same db.memory.last (machine.current m) now_seen serving.entries.view
-
-      snapshots_on : AreSnapshots (entries_in e) db.memory.last m db.snapshots
-      snapshots_on = live_each (IsSnapshot (entries_of serving.contents db) db.memory.last m) (IsSnapshot (entries_in e) db.memory.last m) db.snapshots m.snapshots
-          (λ id sequence count there is. (is.0, is.1, seen_same sequence (view_at m count) (c.seen id sequence there) is.2)) serving.snapshots
-
-      accounted_on : AreAccounted (entries_in e) (entry_count m) (weight m)
-      accounted_on = let h = serving.accounted in record { all = h.all; within = λ entry i. h.within entry (fewer_held entry i); count = h.count; weight = h.weight }
-
-      logged_now : tabled has.contents ++ logged_in db.memory ≡ entries_in e
-      logged_now = ap (λ (es : List Entry). tabled has.contents ++ es) a.in_logs
 
       module _ (tables : List PlacedTable) (pointers : List (Option (List ℕ))) (state : DirectoryState) (in_order : AreInOrder order.cmp tables) (ends : ManifestEndsAt order facts.files d.manifest state.manifest.end (d.edits ++ has.edit ∷ []) has.next) (free : IsFree order facts.files next)
           (listed : ListsSameTables (placed_in has.contents) tables) (number : state.manifest.number ≡ db.directory.manifest.number) (name : state.manifest.name ≡ db.directory.manifest.name) (first_log : state.first_log ≡ db.directory.first_log)
@@ -247,12 +263,12 @@ module _ {K : Type 0} {g : _} (order : Order) (kept : (scan : Scan K g) → Scan
           entries = record {
             used = serving.entries.used;
             fits = serving.entries.fits;
-            view = subst (λ (es : List Entry). IsView es db.memory.last (machine.current m)) (sym logged_now) current_view;
-            bounded = λ entry i. serving.entries.bounded entry (fewer_held entry (subst (λ (es : List Entry). Among es entry) logged_now i));
+            view = subst (λ (es : List Entry). IsView es db.memory.last (machine.current m)) (sym (logged_now facts.files has)) (current_view facts.files has);
+            bounded = λ entry i. serving.entries.bounded entry (fewer_held facts.files has entry (subst (λ (es : List Entry). Among es entry) (logged_now facts.files has) i));
           };
-          snapshots = subst (λ (es : List Entry). AreSnapshots es db.memory.last m db.snapshots) (sym logged_now) snapshots_on;
+          snapshots = subst (λ (es : List Entry). AreSnapshots es db.memory.last m db.snapshots) (sym (logged_now facts.files has)) (snapshots_on facts.files has);
           iterators = walks_each order kept (whole_of old db) (whole_of new installed_db) db.iterators m keeps_each (omega arith) serving.iterators;
-          accounted = subst (λ (es : List Entry). AreAccounted es (entry_count m) (weight m)) (sym logged_now) accounted_on;
+          accounted = subst (λ (es : List Entry). AreAccounted es (entry_count m) (weight m)) (sym (logged_now facts.files has)) (accounted_on facts.files has);
           readable = readable_as e has.consistent has.limits free;
           numbers = (let below : next ≤ m.numbers = serving.numbers in omega (arith, next_is, below));
           job = tt;
@@ -265,7 +281,7 @@ module _ {K : Type 0} {g : _} (order : Order) (kept : (scan : Scan K g) → Scan
           record {
             broken = refl;
             rest = record {
-              meaning = rests_seen order old db m serving facts.files e has.consistent current_view accounted_on (has.used ∙ sym a.spent);
+              meaning = means_installed facts.files has;
               readable = record { made = readable.made; numbers = readable.numbers; limits = readable.limits };
             };
           }
@@ -327,8 +343,7 @@ module _ {K : Type 0} {g : _} (order : Order) (kept : (scan : Scan K g) → Scan
           record {
             broken = refl;
             rest = record {
-              meaning = rests_seen order old db m serving facts.files d still.0 (subst (λ (es : List Entry). IsView es db.memory.last (machine.current m)) entries_are serving.entries.view)
-                  (subst (λ (es : List Entry). AreAccounted es (entry_count m) (weight m)) entries_are serving.accounted) (sym a.spent);
+              meaning = means_install facts.files may;
               readable = record { made = readable.made; numbers = readable.numbers; limits = readable.limits };
             };
           }

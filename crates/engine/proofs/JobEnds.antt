@@ -22,16 +22,16 @@ use Rattle.cursor.specs.Places.{Cmp}
 use Rattle.ikey.specs.Sources.{SameEntries}
 use Rattle.ikey.specs.Views.{Among}
 use Rattle.ikey.specs.declared.entry.Entry.{Entry}
-use Rattle.running_job.specs.internal.Ending.{CanEnd, EndLeaves, RefusesEnd}
+use Rattle.running_job.specs.internal.Ending.{CanEnd, EndLeaves, EndMayLeave, RefusesEnd}
 use Rattle.running_job.specs.Running.{deep_of, shown}
-use Rattle.running_job.specs.internal.Stepping.{GoesOn, KeepsDirectory, RefusesStep, StepTouches}
+use Rattle.running_job.specs.internal.Stepping.{GoesOn, KeepsDirectory, RefusesStep, StepStops, StepTouches}
 use Rattle.running_job.specs.declared.open_job.OpenJob.{OpenJob}
 use Rattle.memtables.specs.Memories.{Memories, logged_in}
 use Rattle.memtables.specs.PlaceLaws.{left_logged}
 use Rattle.memtables.specs.Places.{LeavesMemories}
 use Rattle.recover.proofs.Memberships.{among_chosen, from_chosen, from_rest, in_part, one_of_tables}
 use Rattle.recover.proofs.Adding.{table_of}
-use Rattle.recover.specs.Directory.{Directory}
+use Rattle.recover.specs.Directory.{Directory, IsConsistent}
 use Rattle.recover.specs.internal.Laws.{OneDirectoryLaw}
 use Rattle.recover.specs.Tables.{HasTable, InTables, IsTableFile, TableContent, tabled}
 use Rattle.db_cursor.specs.internal.Scanning.{ScanIsKept}
@@ -41,6 +41,8 @@ use Rattle.db_cursor.specs.declared.scan.Scan.{Scan}
 use Rattle.table_access.specs.Tables.{Seen, SoundLasts}
 use Rattle.table_access.specs.Values.{IsTablePastLimit}
 use Rattle.store.specs.Files.{Facts, Files}
+use Rattle.store.specs.Stops.{LeavesOnly}
+use Rattle.store.proofs.Stopping.{leaves_both, leaves_so}
 use Rattle.directory_writes.proofs.JobTables.{contains_among, content_at}
 use Rattle.directory_writes.specs.Replacing.{placed_in}
 use Rattle.directory_writes.specs.internal.Install.{InstallMeans, InstallTouches}
@@ -55,7 +57,9 @@ use Rattle.engine.specs.declared.state.DbState.{DbState}
 use Rattle.engine.specs.internal.Compacting.{IsCompacting}
 use Rattle.engine.specs.internal.Leading.{LeadsOpen}
 use Rattle.engine.specs.OpenDb.{OpenDb, open_db, whole_of}
+use Rattle.engine.specs.internal.Directory.{MeansAccepted}
 use Rattle.engine.specs.internal.Standing.{entries_of, IsBroken, IsServing, StandsOpen}
+use Rattle.engine.specs.internal.Stopping.{KeepsOpen}
 use Rattle.machine.specs.Machine.{Machine, entry_count, weight}
 use Rattle.engine.specs.internal.TakingAll.{EndsNeeded, TakesAll}
 use Rattle.engine.specs.Needed.{live_sequences}
@@ -65,13 +69,14 @@ use Rattle.engine.specs.Outcomes.{DbOutcome, IsSame}
 use Rattle.engine.specs.internal.JobsToEnd.{HasCome}
 use Rattle.engine.specs.internal.Pieces.{IsPiece, MayRefusePiece, broken_by, flush_answer}
 use Rattle.engine.proofs.InUse.{as_listed}
-use Rattle.engine.proofs.Installing.{broken_install, can_end, serving_installed, serving_uninstalled}
+use Rattle.engine.proofs.Installing.{broken_install, can_end, means_install, serving_installed, serving_uninstalled}
 use Rattle.engine.proofs.JobBounds.{count_within, merged_apart, room_apart_within}
 use Rattle.engine.proofs.NeededEntries.{installed_needed, takes_on}
 use Rattle.engine.proofs.Compacting.{all_contains}
 use Rattle.engine.proofs.Reading.{has_placed, long_table}
 use Rattle.engine.proofs.Stepping.{all_came, can_step, gone_on, kept_parts, listed_apart, serving_stepped, the_job}
 use Rattle.engine.proofs.Steps.{serving_of}
+use Rattle.engine.proofs.StopSteps.{means_still}
 use Rattle.engine.proofs.WorkSteps.{breaks, drawing, draws, serves_on}
 
 abbrev SameRefusal : {U : Type 0} → Result U DbError → Result U DbError → Type 0
@@ -325,6 +330,14 @@ module _ {K : Type 0} {g : _} (order : Order) (total : IsTotalOrder order.cmp) (
       serves_on order old new ids db (open_db after_memory (with_job None)) most (Err e) whole whole touches.writes.faithful touches.writes.failures touches.writes.denials
       (λ m f same serving. (refused m e serving f same h, serving_stepped order kept one old new db after_memory numbers most before after is le upto touches keeps m serving f None tt))
 
+  -- a stop in its middle
+  pub step_keeps : StepStops order (record { seen = old; memory = memory }) (record { seen = new; memory = after_memory }) next before → KeepsOpen order old new db
+  step_keeps stops f given m s =
+      let serving = serving_of order old given db m whole s in
+      let c = the_job order kept one old new db after_memory numbers most before after is le upto touches keeps m serving in
+      leaves_so old.facts new.facts (λ files. IsConsistent order files serving.log.directory.directory) (λ files. MeansAccepted order files m) (means_still order old db m serving)
+      (stops f serving.log.directory.directory c.came c.left (can_step order kept one old new db after_memory numbers most before after is le upto touches keeps m serving))
+
   module _ (budget : ℕ) (progress : Progress) (goes : GoesOn order (record { seen = old; memory = memory }) (record { seen = new; memory = after_memory }) next numbers.next budget before after progress)
       (snapshots : after.job.selection.snapshots ≡ before.job.selection.snapshots) (owns : (number : ℕ) → IsOwn after.job.outputs number → IsOwn before.job.outputs number ⊎ (next ≤ number)) where
     abbrev pub serving_on : (m : Machine) → IsServing order old db m → IsTrue new.facts.faithful → IsServing order new (open_db after_memory (with_job (Some after))) (drawing m most new.facts)
@@ -385,6 +398,20 @@ module _ {K : Type 0} {g : _} (order : Order) (total : IsTotalOrder order.cmp) (
 
       faithful : IsTrue facts.faithful → IsTrue old.facts.faithful
       faithful f = touches.writes.faithful (install.faithful f)
+
+      -- a stop in the middle of both
+      pub end_keeps : StepStops order (record { seen = old; memory = memory }) (record { seen = new; memory = after_memory }) next before
+          → (IsTrue facts.faithful → LeavesOnly new.facts facts (EndMayLeave order new.facts numbers.next sequence state.directory.manifest tables after)) → KeepsOpen order old last_seen db
+      end_keeps stops ends f given m s =
+          let serving = serving_of order old given db m whole s in
+          let end = drawing m most new.facts in
+          let can = can_end order kept one lasts new facts mid end (on m serving f) after (c m serving f) (none_left m serving f) in
+          leaves_both old.facts new.facts facts (λ files. MeansAccepted order files m) (step_keeps stops (install.faithful f) given m s)
+          (leaves_so new.facts facts (EndMayLeave order new.facts numbers.next sequence state.directory.manifest tables after) (λ files. MeansAccepted order files m)
+          (λ files left.
+          let said = subst (λ (n : ℕ). EndMayLeave order new.facts numbers.next n state.directory.manifest state.version.value.tables after files) sequence_is
+          (subst (λ (ts : List PlacedTable). EndMayLeave order new.facts numbers.next sequence state.directory.manifest ts after files) tables_are left) in
+          means_install order kept one lasts new facts mid end (on m serving f) after (c m serving f) (none_left m serving f) files (said (whole_of new mid) (on m serving f).log.directory.directory (c m serving f).came refl can)) (ends f))
 
       -- the outputs are in the place of the inputs
       abbrev pub installed_state : Installed K → DbState K g

@@ -34,7 +34,7 @@ holds_with order files m (operation ∷ operations) means = record {
   view = subst (λ (map : Contents). IsView means.entries (m.used + length (operation ∷ operations)) map) (sym (pushed m.base m.batches (operation ∷ operations))) means.view;
 }
 
-held : (order : Order) (files : Files) (m : Machine) (doubt : Option (List Operation))
+pub held : (order : Order) (files : Files) (m : Machine) (doubt : Option (List Operation))
     → MatchOption doubt (MeansCurrent order files m) (λ operations. MeansCurrent order files m ⊎ MeansWith order files m operations)
     → MatchOption doubt (Holds order files m) (λ batch. Holds order files m ⊎ Holds order files (accepted m batch))
 held order files m None means = holds_current order files m means

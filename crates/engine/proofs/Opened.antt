@@ -81,17 +81,17 @@ module _ {K : Type 0} {g : _} (order : Order) (old : Facts) (mid new : Seen) (id
 
 module _ {K : Type 0} {g : _} (old new : Facts) (db : OpenDb K g) (loses : LosesDead old new db) where
   -- what is live stays
-  pub live_stays : (file : FileName) → IsFileName file → IsLiveIn db file → LeavesFile old new (name_of file)
+  pub live_stays : (file : FileName) → IsFileName file → IsLiveIn old.files db file → LeavesFile old new (name_of file)
   live_stays file is live = elim (loses (name_of file)) [
     | inl same ↦ same
-    | inr gone ↦ (let dead = gone.0 in absurd (dead.3 (subst (λ (f : FileName). IsLiveIn db f) (one_file file dead.0 is dead.1 dead.2) live)))
+    | inr gone ↦ (let dead = gone.0 in absurd (dead.3 (subst (λ (f : FileName). IsLiveIn old.files db f) (one_file file dead.0 is dead.1 dead.2) live)))
   ]
 
   -- so do files of other programs, and the lock's
   spared_stays : Spares old new
   spared_stays name is = elim (loses name) [
     | inl same ↦ same
-    | inr gone ↦ (let dead = gone.0 in absurd (is dead.0 dead.1 (λ lock. dead.3 (subst (λ (f : FileName). IsLiveIn db f) (sym lock) tt)) dead.2))
+    | inr gone ↦ (let dead = gone.0 in absurd (is dead.0 dead.1 (λ lock. dead.3 (subst (λ (f : FileName). IsLiveIn old.files db f) (sym lock) tt)) dead.2))
   ]
 
   durable_stays : HasDurable db.directory.manifest.number old → IsDurable new

@@ -1,5 +1,6 @@
 -- Pieces of work one behind the other.
-use Rattle.std.proofs.Common.{◌≡◌, ℕ, Option, Some, None, MatchOption, refl, sym, ap, ◌∙◌, arith}
+use Rattle.std.proofs.Common.{◌≡◌, ◌⊎◌, ◌≤◌, ◌<◌, ◌*◌, ℕ, length, Option, Some, None, MatchOption, inl, inr, refl, sym, ap, ◌∙◌, arith}
+use Rattle.std.proofs.lemmas.Bool.{cases_lt}
 use Rattle.coding.specs.declared.error.DbError.{DbError}
 use Rattle.coding.specs.declared.error.DbError.TheVariants as error
 use Rattle.machine.specs.declared.command.Answer.TheVariants.{Worked, Idle, Refused}
@@ -7,7 +8,11 @@ use Rattle.machine.specs.Causes.{not_serving, status_of}
 use Rattle.machine.specs.Machine.{Machine}
 use Rattle.machine.specs.Serving.{◌≈◌}
 use Rattle.machine.specs.Upkeep.{Draws, UpkeepRefused, Works}
-use Rattle.engine.specs.Pace.{OnlyDraws, OnlyWorks}
+use Rattle.versions.specs.Levels.{tables_at}
+use Rattle.engine.specs.OpenDb.{OpenDb}
+use Rattle.engine.specs.OptionValues.{OptionValues}
+use Rattle.engine.specs.Pace.{HasKeptUp, OnlyDraws, OnlyWorks}
+use Rattle.engine.specs.Working.{HasNoWork}
 
 pub draws_none : (m : Machine) → OnlyDraws m m
 draws_none m = ((omega arith, refl), refl)
@@ -54,3 +59,14 @@ idle_only m n budget h = draws_only m n _ (served (not_serving (status_of m)) _ 
 
 pub refusal_only : (m n : Machine) (budget : ℕ) (e : DbError) → Works m budget (Refused e) n → OnlyWorks m n
 refusal_only m n budget e h = either (not_serving (status_of m)) _ (OnlyWorks m n) _ (refused_only m n _ e) (λ c q. same_only m n q.1) h.1
+
+-- where there is no work it keeps up
+pub rests_at_pace : {K : Type 0} {g : _} (options : OptionValues) (db : OpenDb K g) → HasNoWork options db → HasKeptUp options db
+rests_at_pace options db rests = record {
+  memory = rests.ease.small;
+  tables = low (cases_lt (length (tables_at 0 db.tables)) options.level0_files);
+}
+  where
+    low : (length (tables_at 0 db.tables) < options.level0_files) ⊎ (options.level0_files ≤ length (tables_at 0 db.tables)) → length (tables_at 0 db.tables) ≤ 3 * options.level0_files
+    low (inl few) = omega (arith, few)
+    low (inr wanted) = absurd (rests.unwanted 0 (omega arith, wanted))

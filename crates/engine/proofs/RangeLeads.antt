@@ -41,13 +41,15 @@ leads_then f first second = record {
 }
 
 pub leaves_itself : (facts : Facts) → LeavesStore facts facts
-leaves_itself facts = record { files = λ faithful. refl; synced = λ faithful. refl; locked = refl }
+leaves_itself facts = record { writes = refl; files = λ faithful. refl; synced = λ faithful. refl; locked = refl; calls = λ faithful. refl }
 
 pub leaves_then : (a b c : Facts) → (IsTrue c.faithful → IsTrue b.faithful) → LeavesStore a b → LeavesStore b c → LeavesStore a c
 leaves_then a b c faithful first second = record {
+  writes = second.writes ∙ first.writes;
   files = λ is. second.files is ∙ first.files (faithful is);
   synced = λ is. second.synced is ∙ first.synced (faithful is);
   locked = second.locked ∙ first.locked;
+  calls = λ is. second.calls is ∙ first.calls (faithful is);
 }
 
 -- ---- motions

@@ -11,7 +11,7 @@ use Rattle.machine.specs.declared.command.Answer.TheVariants.{Done, Iterator, Re
 use Rattle.machine.specs.Machine.{Machine, Walk}
 use Rattle.machine.specs.Causes.{drop_cause, iterate_cause, no_iterator, not_serving, status_of}
 use Rattle.machine.specs.Serving.{◌≈◌, ReadRefused}
-use Rattle.machine.specs.Views.{Iterated, Drops, Dropped, with_iterator, without, without_iterator}
+use Rattle.machine.specs.Views.{Iterated, Drops, Dropped, with_iterator, without_id, without_iterator}
 use Rattle.engine.specs.declared.ranges.KeyRange.{KeyRange}
 use Rattle.engine.specs.declared.ranges.RangeWalk.{RangeWalk}
 use Rattle.engine.specs.Ranges.{Pair, Begins, Fills, HasLeft, OnlyWalks, RefusesFill, RefusesScan, Scans, Steps, pairs_within, walked}
@@ -157,15 +157,15 @@ module _ (order : Order) (m : Machine) (keys : KeyRange) (snapshot : Option ℕ)
       let live_is : no_iterator (status_of last) ended.id ≡ None = ap (λ (o : Option Walk). cond (is_some o) None (Some error.NoIterator)) live.found in
       let cause : drop_cause (status_of last) ended.id ≡ None = (λ i. option_or (only_serving last only i) (live_is i)) in
       let done = dropped_as last n ended.id answer (served_as (drop_cause (status_of last) ended.id) _ _ cause drops.1) in
-      let iterators : without ended.id last.iterators ≡ without (m.last_iterator + 1) m.iterators =
-      ap (λ (id : ℕ). without id last.iterators) same
+      let iterators : without_id ended.id last.iterators ≡ without_id (m.last_iterator + 1) m.iterators =
+      ap (λ (id : ℕ). without_id id last.iterators) same
       ∙ only.0
-      ∙ ap (λ (x : Machine). without walk.id x.iterators) made.3
-      ∙ ap (λ (b : Bool). cond b (without walk.id m.iterators) ((m.last_iterator + 1, record { pairs = made.0; place = None }) ∷ without walk.id m.iterators)) (eq-eqb walk.id (m.last_iterator + 1) made.2)
-      ∙ ap (λ (id : ℕ). without id m.iterators) made.2 in
+      ∙ ap (λ (x : Machine). without_id walk.id x.iterators) made.3
+      ∙ ap (λ (b : Bool). cond b (without_id walk.id m.iterators) ((m.last_iterator + 1, record { pairs = made.0; place = None }) ∷ without_id walk.id m.iterators)) (eq-eqb walk.id (m.last_iterator + 1) made.2)
+      ∙ ap (λ (id : ℕ). without_id id m.iterators) made.2 in
       done
       ∙ (λ i. record (only.1 i) { iterators = iterators i; failures = n.failures; denials = n.denials })
-      ∙ (λ i. record (made.3 i) { iterators = without (m.last_iterator + 1) m.iterators; failures = n.failures; denials = n.denials })
+      ∙ (λ i. record (made.3 i) { iterators = without_id (m.last_iterator + 1) m.iterators; failures = n.failures; denials = n.denials })
 
   pub scanned_all : (last : Machine) (ended : RangeWalk) (found : List Pair) (n : Machine) (answer : Answer) → Fills order limit begun walk [] (Ok tt) last ended found → ended.id ≡ walk.id → Drops last ended.id answer n → Scans order m keys snapshot limit found n
   scanned_all last ended found n answer fills same drops =

@@ -14,7 +14,7 @@ use Rattle.machine.specs.declared.command.Answer.TheVariants.{Iterator, Pair as 
 use Rattle.machine.specs.Machine.{Machine, Walk, walk_under}
 use Rattle.machine.specs.Causes.{Motion, ToNext, iterate_cause, lacks_place, move_cause, no_iterator, not_serving, status_of}
 use Rattle.machine.specs.Serving.{◌≈◌, ReadRefused}
-use Rattle.machine.specs.Views.{Iterates, Iterated, without}
+use Rattle.machine.specs.Views.{Iterates, Iterated, without_id}
 use Rattle.machine.specs.Walks.{Moves, Moved, moved, pair_at, place_after, place_at}
 use Rattle.engine.specs.declared.ranges.KeyRange.{KeyRange}
 use Rattle.engine.specs.declared.ranges.RangeWalk.{RangeWalk}
@@ -31,17 +31,17 @@ Walks = List (ℕ × Walk)
 abbrev Same : Walks → Walks → Type 0
 Same xs ys = xs ≡ ys
 
-without_twice : (id : ℕ) (live : Walks) → Same (without id (without id live)) (without id live)
+without_twice : (id : ℕ) (live : Walks) → Same (without_id id (without_id id live)) (without_id id live)
 without_twice id [] = refl
 without_twice id (first ∷ live) = at (nat_eq id first.0) refl (without_twice id live)
   where
-    at : (b : Bool) → nat_eq id first.0 ≡ b → Same (without id (without id live)) (without id live) → Same (without id (cond b (without id live) (first ∷ without id live))) (cond b (without id live) (first ∷ without id live))
+    at : (b : Bool) → nat_eq id first.0 ≡ b → Same (without_id id (without_id id live)) (without_id id live) → Same (without_id id (cond b (without_id id live) (first ∷ without_id id live))) (cond b (without_id id live) (first ∷ without_id id live))
     at true is rest = rest
-    at false is rest = ap (λ (b : Bool). cond b (without id (without id live)) (first ∷ without id (without id live))) is ∙ (λ i. first ∷ rest i)
+    at false is rest = ap (λ (b : Bool). cond b (without_id id (without_id id live)) (first ∷ without_id id (without_id id live))) is ∙ (λ i. first ∷ rest i)
 
 -- what stands in front under the id is no part of it
-without_front : (id : ℕ) (walk : Walk) (live : Walks) → Same (without id ((id, walk) ∷ without id live)) (without id live)
-without_front id walk live = ap (λ (b : Bool). cond b (without id (without id live)) ((id, walk) ∷ without id (without id live))) (eq-eqb id id refl) ∙ without_twice id live
+without_front : (id : ℕ) (walk : Walk) (live : Walks) → Same (without_id id ((id, walk) ∷ without_id id live)) (without_id id live)
+without_front id walk live = ap (λ (b : Bool). cond b (without_id id (without_id id live)) ((id, walk) ∷ without_id id (without_id id live))) (eq-eqb id id refl) ∙ without_twice id live
 
 -- ---- what a served command does
 
@@ -51,11 +51,11 @@ served None P Q never h = h
 served (Some e) P Q never h = absurd (never e h)
 
 pub only_same : (id : ℕ) (m n : Machine) → (n ≈ m) → OnlyWalks id m n
-only_same id m n e = (ap (λ (x : Machine). without id x.iterators) e, e ∙ (λ i. record m { iterators = (sym (ap (λ (x : Machine). x.iterators) e)) i; failures = n.failures; denials = n.denials }))
+only_same id m n e = (ap (λ (x : Machine). without_id id x.iterators) e, e ∙ (λ i. record m { iterators = (sym (ap (λ (x : Machine). x.iterators) e)) i; failures = n.failures; denials = n.denials }))
 
 only_moved : (id : ℕ) (m n : Machine) (place : Option ℕ) → (n ≈ moved m id place) → OnlyWalks id m n
 only_moved id m n place e = (
-  ap (λ (x : Machine). without id x.iterators) e ∙ without_front id (record (walk_under m id) { place = place }) m.iterators,
+  ap (λ (x : Machine). without_id id x.iterators) e ∙ without_front id (record (walk_under m id) { place = place }) m.iterators,
   e ∙ (λ i. record m { iterators = (sym (ap (λ (x : Machine). x.iterators) e)) i; failures = n.failures; denials = n.denials }),
 )
 
@@ -157,7 +157,7 @@ module _ (order : Order) (m n : Machine) (walk next : RangeWalk) (goes : walk.st
   found_after at place under becomes same =
       ap (λ (id : ℕ). lookup (nat_eq id) n.iterators) same.0
       ∙ ap (λ (x : Machine). lookup (nat_eq walk.id) x.iterators) becomes
-      ∙ ap (λ (b : Bool). cond b (Some (record (walk_under m walk.id) { place = place })) (lookup (nat_eq walk.id) (without walk.id m.iterators))) (eq-eqb walk.id walk.id refl)
+      ∙ ap (λ (b : Bool). cond b (Some (record (walk_under m walk.id) { place = place })) (lookup (nat_eq walk.id) (without_id walk.id m.iterators))) (eq-eqb walk.id walk.id refl)
       ∙ (λ i. Some (record (under i) { place = place }))
 
   -- it is given the next pair

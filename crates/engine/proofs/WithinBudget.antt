@@ -1,10 +1,13 @@
 -- That a step ends a compaction exactly where no more entries are left than its budget has.
-use Rattle.std.proofs.Common.{◌≡◌, ◌++◌, ◌≤◌, ◌<◌, ℕ, true, false, List, [], ◌∷◌, length, max, Option, Some, None, IsSome, IsTrue, MatchOption, inl, inr, refl, sym, ap, subst, ◌∙◌, arith, append-nil}
+use Rattle.std.proofs.Common.{◌≡◌, ◌++◌, ◌≤◌, ◌<◌, ℕ, Bool, true, false, List, [], ◌∷◌, length, max, Option, Some, None, IsSome, IsTrue, MatchOption, inl, inr, refl, sym, ap, subst, ◌∙◌, arith, append-nil}
 use Rattle.std.proofs.lemmas.List.{length-append}
+use Rattle.std.specs.FinMap.{contains_key, get}
 use Rattle.std.specs.Option.{option_or}
 use Rattle.cache.specs.Tables.{table_at}
 use Rattle.compact.specs.declared.job.Progress.{Progress as Merged}
 use Rattle.cursor.specs.Places.{Cmp}
+use Rattle.directory_writes.proofs.Cleaning.{read_newer}
+use Rattle.edits.specs.Names.{IsNumbered, name_of}
 use Rattle.edits.specs.declared.names.FileName.TheVariants.{OldTable, Table}
 use Rattle.ikey.specs.Entries.{InternalEntry}
 use Rattle.ikey.specs.Orders.{Order}
@@ -25,11 +28,12 @@ use Rattle.engine.specs.declared.ids.Ids.{Ids}
 use Rattle.engine.specs.internal.Leading.{LeadsOpen}
 use Rattle.engine.specs.OpenDb.{OpenDb, version_of, whole_of}
 use Rattle.machine.specs.Machine.{Machine}
+use Rattle.opening.specs.Durable.{LeavesFile}
 use Rattle.engine.specs.OptionValues.{OptionValues}
 use Rattle.engine.specs.Needed.{IsForLive, live_sequences}
 use Rattle.engine.specs.WithinBudget.{HasLeftAbove, HasLeftBy, HasLeftUpTo, IsNewJob, StepsBy}
 use Rattle.engine.specs.InUse.{IsTableUsed}
-use Rattle.engine.specs.Working.{IsAtEase, LosesDead}
+use Rattle.engine.specs.Working.{IsAtEase, IsLiveIn, LosesDead}
 use Rattle.engine.specs.internal.Pieces.{IsSameMemory}
 use Rattle.engine.specs.WrittenTables.{KeepsTableFiles, PutsMerged}
 use Rattle.engine.proofs.ExactFiles.{table_numbered}
@@ -76,7 +80,16 @@ tables_stay order old new before between tables job iterators whole loses ids m 
     let numbered = table_numbered order old before m (serving_of order old ids before m whole s) number has in
     let live : IsTableUsed between.tables between.job between.iterators number = inl (inl (subst (HasNumber number) (sym tables) has)) in
     let stays = live_stays old.facts new.facts between loses in
-    λ i. option_or ((stays (Table number) numbered live).0 i) ((stays (OldTable number) numbered live).0 i)
+    by numbered live (stays (Table number) numbered live).0 (stays (OldTable number) numbered) (contains_key old.facts.files (name_of (Table number))) refl
+  where
+    by : IsNumbered number → IsTableUsed between.tables between.job between.iterators number → get new.facts.files (name_of (Table number)) ≡ get old.facts.files (name_of (Table number))
+        → (IsLiveIn old.facts.files between (OldTable number) → LeavesFile old.facts new.facts (name_of (OldTable number)))
+        → (t : Bool) → contains_key old.facts.files (name_of (Table number)) ≡ t → table_at new.facts.files number ≡ table_at old.facts.files number
+    by numbered live newer older true there =
+        read_newer (get old.facts.files (name_of (Table number))) (get old.facts.files (name_of (OldTable number))) (get new.facts.files (name_of (Table number))) (get new.facts.files (name_of (OldTable number))) newer there
+    by numbered live newer older false absent =
+        let same = (older (live, λ has. let clash : true ≡ false = sym has.0 ∙ absent in cc)).0 in
+        λ i. option_or (newer i) (same i)
 
 -- ---- where it began
 

@@ -21,7 +21,7 @@ use Rattle.table_access.specs.Tables.{Seen, IsSound, SoundLasts}
 use Rattle.store.specs.Files.{Files, Facts}
 use Rattle.directory_writes.specs.internal.Calls.{Touches}
 use Rattle.directory_writes.specs.internal.LogFile.{BeginsLog, DrawsLog, RefusesLog}
-use Rattle.directory_writes.specs.internal.Removal.{AreOfDirectory, KeepsParts, KeepsTable, ListsUnused, RefusesList}
+use Rattle.directory_writes.specs.internal.Removal.{AreOfDirectory, KeepsParts, KeepsTable, ListsToClose, RefusesList}
 use Rattle.engine.specs.declared.ids.Ids.{Ids}
 use Rattle.engine.specs.declared.state.DbState.{DbState}
 use Rattle.engine.specs.internal.Leading.{LeadsOpen}
@@ -160,7 +160,7 @@ module _ {K : Type 0} {g : _} (order : Order) (kept : (scan : Scan K g) → Scan
 module _ {K : Type 0} {g : _} (order : Order) (kept : (scan : Scan K g) → ScanIsKept order.cmp scan) (one : OneDirectoryLaw) (lasts : SoundLasts) (drops : DropsKept order.cmp)
     (old : Seen) (facts : Facts) (ids : Ids) (db : OpenDb K g) (tables : List KeptTable) (memory : Memories) (gone : List ℕ) where
   pub ends_cleaned : {T : Type 0} (done : T) → db.broken ≡ false → Touches old.facts facts → KeepsUsed (IsUsed (λ generation. IsMemoryUsed db.iterators generation) db.memory) db.memory memory
-      → (IsTrue facts.faithful → (n : ℕ) → IsNumbered n → KeepsTable old.facts facts (λ number. IsTableUsed db.tables db.job db.iterators number) n) → ListsUnused old.facts facts (λ number. IsTableUsed db.tables db.job db.iterators number) gone → ClosesTables old.tables tables gone
+      → (IsTrue facts.faithful → (n : ℕ) → IsNumbered n → KeepsTable old.facts facts (λ number. IsTableUsed db.tables db.job db.iterators number) n) → ListsToClose old.facts facts (λ number. IsTableUsed db.tables db.job db.iterators number) gone → ClosesTables old.tables tables gone
       → (IsTrue facts.faithful → (d : Directory) → IsConsistent order old.facts.files d → AreOfDirectory (numbers_of db.directory) (λ number. IsTableUsed db.tables db.job db.iterators number) d
       → KeepsParts order old.facts.files facts.files (λ number. IsTableUsed db.tables db.job db.iterators number) d)
       → LeadsOpen order old (record { facts = facts; tables = tables; blocks = old.blocks }) ids db (record db { memory = memory }) (λ m n. IsPiece m 0 (Ok done) n)

@@ -21,20 +21,21 @@ use Rattle.engine.specs.Reads.{kept_at}
 use Rattle.machine.specs.Machine.{Machine}
 use Rattle.engine.specs.internal.Standing.{StandsOpen}
 
--- the file is `CURRENT`, the lock, the MANIFEST, the log that writes go to, or a table of the version or of that of an open iterator
-abbrev pub IsLiveAtEase : {K : Type 0} {g : _} → OpenDb K g → FileName → Type 0
-IsLiveAtEase db Current = Unit {0}
-IsLiveAtEase db Lock = Unit {0}
-IsLiveAtEase db (Log n) = n ≡ db.log.number
-IsLiveAtEase db (Table n) = IsTableRead db.tables db.iterators n
-IsLiveAtEase db (OldTable n) = IsTableRead db.tables db.iterators n
-IsLiveAtEase db (Manifest n) = n ≡ db.directory.manifest.number
-IsLiveAtEase db (Temporary n) = ⊥
+-- the file is `CURRENT`, the lock, the MANIFEST, the log that writes go to, or a table of the version or of that of an open iterator: of one
+-- that has a file under both of its names the one that is read
+abbrev pub IsLiveAtEase : {K : Type 0} {g : _} → Files → OpenDb K g → FileName → Type 0
+IsLiveAtEase files db Current = Unit {0}
+IsLiveAtEase files db Lock = Unit {0}
+IsLiveAtEase files db (Log n) = n ≡ db.log.number
+IsLiveAtEase files db (Table n) = IsTableRead db.tables db.iterators n
+IsLiveAtEase files db (OldTable n) = IsTableRead db.tables db.iterators n × (contains_key files (name_of (Table n)) ≡ true → ⊥)
+IsLiveAtEase files db (Manifest n) = n ≡ db.directory.manifest.number
+IsLiveAtEase files db (Temporary n) = ⊥
 
 -- These are the files of a known shape, and all of them but the lock's, of which nothing is said, are there, a table's under one of its
 -- names.
 pub record HasExactlyLive {K : Type 0} {g : _} (files : Files) (db : OpenDb K g) : Type 0 where
-  pub only : (file : FileName) → IsFileName file → contains_key files (name_of file) ≡ true → IsLiveAtEase db file
+  pub only : (file : FileName) → IsFileName file → contains_key files (name_of file) ≡ true → IsLiveAtEase files db file
   pub current : IsSome (get files (name_of Current))
   pub manifest : IsSome (get files (name_of (Manifest db.directory.manifest.number)))
   pub log : IsSome (get files (name_of (Log db.log.number)))

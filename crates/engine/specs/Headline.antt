@@ -23,6 +23,10 @@ pub record Holds (order : Order) (files : Files) (m : Machine) : Type 0 where
   pub directory : IsDirectory order files entries m.used
   pub view : IsView entries m.used (current m)
 
+-- They hold it with the batch in doubt as a whole, or without it.
+abbrev pub HoldsAccepted : Order → Files → Machine → Type 0
+HoldsAccepted order files m = MatchOption m.in_doubt (Holds order files m) (λ batch. Holds order files m ⊎ Holds order files (accepted m batch))
+
 -- What else it says of them: whether there is a database, a number from which on all are free, and whether all of it can be read.
 pub record Bounds (order : Order) (files : Files) (m : Machine) : Type 0 where
   pub made : m.made ≡ contains_key files (name_of Current)
@@ -41,7 +45,7 @@ pub record IsFirst (order : Order) (facts : Facts) (m : Machine) : Type 0 where
 
 -- The machine behind the last one: the files hold what it accepted, with the batch in doubt as a whole or without it.
 pub record IsLast (order : Order) (facts : Facts) (m : Machine) : Type 0 where
-  pub holds : MatchOption m.in_doubt (Holds order facts.files m) (λ batch. Holds order facts.files m ⊎ Holds order facts.files (accepted m batch))
+  pub holds : HoldsAccepted order facts.files m
   pub bounds : Bounds order facts.files m
   pub failures : m.failures ≤ facts.failures
   pub denials : m.denials ≡ facts.denials

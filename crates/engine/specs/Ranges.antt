@@ -11,7 +11,7 @@ use Rattle.machine.specs.declared.command.Answer.TheVariants.{Iterator, Refused}
 use Rattle.machine.specs.Machine.{Machine, Walk}
 use Rattle.machine.specs.Serving.{◌≈◌, ReadRefused, visible}
 use Rattle.machine.specs.Causes.{Motion, ToFirst, ToKey, ToNext, not_serving, status_of}
-use Rattle.machine.specs.Views.{AreSortedPairs, Iterates, without, without_iterator}
+use Rattle.machine.specs.Views.{AreSortedPairs, Iterates, without_id, without_iterator}
 use Rattle.machine.specs.Walks.{count_below}
 use Rattle.engine.specs.Outcomes.{MayRefuseMove}
 use Rattle.engine.specs.declared.ranges.KeyRange.{KeyRange}
@@ -82,7 +82,7 @@ pub record HasLeft (order : Order) (m : Machine) (walk : RangeWalk) (rest : List
 
 -- Of all that the machine has, only this iterator isn't as before.
 abbrev pub OnlyWalks : ℕ → Machine → Machine → Type 0
-OnlyWalks id old new = (without id new.iterators ≡ without id old.iterators) × (new ≈ record old { iterators = new.iterators })
+OnlyWalks id old new = (without_id id new.iterators ≡ without_id id old.iterators) × (new ≈ record old { iterators = new.iterators })
 
 -- ---- a walk begins
 

@@ -4,6 +4,7 @@ use Rattle.std.specs.FinMap.{get}
 use Rattle.batch.specs.declared.operation.Operation.{Operation}
 use Rattle.coding.specs.declared.error.DbError.{DbError}
 use Rattle.coding.specs.declared.error.DbError.TheVariants.{Io}
+use Rattle.store.specs.Calls.{FailsNoWrite, KeepsCalls}
 use Rattle.store.specs.Files.{Facts, lock_name}
 use Rattle.machine.specs.declared.command.Op.{Op}
 use Rattle.machine.specs.declared.command.Op.TheVariants.{Open, Write, Work, CompactLevel, CompactAll, Close}
@@ -64,17 +65,20 @@ Frees old new = new.locked ≡ true → old.failures < new.failures
 
 -- ---- every command
 
--- Nothing is changed, synced, locked or given back.
+-- Nothing is changed, synced, locked or given back, at any moment, nor was there a call that failed at it.
 pub record LeavesStore (old new : Facts) : Type 0 where
+  pub writes : FailsNoWrite old new
   pub files : IsTrue new.faithful → new.files ≡ old.files
   pub synced : IsTrue new.faithful → new.synced ≡ old.synced
   pub locked : new.locked ≡ old.locked
+  pub calls : KeepsCalls old new
 
 -- A close changes no file either, and gives the lock back.
 pub record ClosesStore (old new : Facts) : Type 0 where
   pub files : IsTrue new.faithful → new.files ≡ old.files
   pub synced : IsTrue new.faithful → new.synced ≡ old.synced
   pub freed : Frees old new
+  pub calls : KeepsCalls old new
 
 -- An open leaves `CURRENT` and its MANIFEST synced whole wherever it changed them, and the files of other programs alone, also one that
 -- is refused.

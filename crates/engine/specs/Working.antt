@@ -13,7 +13,7 @@ use Rattle.edits.specs.Names.{IsFileName, name_of}
 use Rattle.edits.specs.declared.names.FileName.{FileName}
 use Rattle.store.specs.Files.{Facts, Files}
 use Rattle.directory_writes.specs.Replacing.{ReplacesInputs}
-use Rattle.directory_writes.specs.Removal.{IsDead, IsLiveFile}
+use Rattle.directory_writes.specs.Removal.{IsDead, IsLiveAmong}
 use Rattle.versions.specs.declared.live.LiveNumbers.{LiveNumbers}
 use Rattle.versions.specs.declared.plan.JobPlan.{JobPlan}
 use Rattle.opening.specs.declared.directory.DirectoryState.{DirectoryState}
@@ -104,18 +104,18 @@ abbrev pub numbers_of : DirectoryState → LiveNumbers
 numbers_of state = record { manifest_number = state.manifest.number; log_number = state.first_log; previous_log_number = state.previous_log }
 
 -- `CURRENT`, the lock, the MANIFEST, a log that the directory reads, or a table of the version, of that of an open iterator, or of the
--- compaction under way
-abbrev pub IsLiveIn : {K : Type 0} {g : _} → OpenDb K g → FileName → Type 0
-IsLiveIn db file = IsLiveFile (numbers_of db.directory) (λ number. IsTableUsed db.tables db.job db.iterators number) file
+-- compaction under way; of one that has a file under both of its names the one that is read
+abbrev pub IsLiveIn : {K : Type 0} {g : _} → Files → OpenDb K g → FileName → Type 0
+IsLiveIn files db file = IsLiveAmong files (numbers_of db.directory) (λ number. IsTableUsed db.tables db.job db.iterators number) file
 
 -- Each file of a known shape is live.
 abbrev pub HasLiveOnly : {K : Type 0} {g : _} → Files → OpenDb K g → Type 0
-HasLiveOnly files db = (file : FileName) → IsFileName file → contains_key files (name_of file) ≡ true → IsLiveIn db file
+HasLiveOnly files db = (file : FileName) → IsFileName file → contains_key files (name_of file) ≡ true → IsLiveIn files db file
 
 -- Each file, and what of it is synced, is as before; or it is of a known shape and not live, and is gone. So live files and files of
 -- other programs stay.
 abbrev pub LosesDead : {K : Type 0} {g : _} → Facts → Facts → OpenDb K g → Type 0
-LosesDead old new db = (name : List ℕ) → LeavesFile old new name ⊎ (IsDead (IsLiveIn db) name × (get new.files name ≡ None))
+LosesDead old new db = (name : List ℕ) → LeavesFile old new name ⊎ (IsDead (IsLiveIn old.files db) name × (get new.files name ≡ None))
 
 -- ---- answers
 

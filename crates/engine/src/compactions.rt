@@ -24,6 +24,8 @@ impl<K: KeyOrder> DbState<K> {
     ghost use Rattle.engine.specs.Needed.{LeavesNeeded};
     ghost use Rattle.engine.specs.Outcomes.{MayRefuseLevel, MayRefuseWork};
     ghost use Rattle.engine.specs.Follows.{unit_answer};
+    ghost use Rattle.engine.specs.Breaking.{BreaksLent};
+    ghost use Rattle.engine.specs.internal.Stopping.{KeepsLent};
     ghost use Rattle.engine.specs.internal.Lent.{LeadsLent, ServesLent, CompactLent};
     ghost use Rattle.engine.specs.OpenDb.{open_db};
     ghost use Rattle.db_cursor.specs.Whole.{seen_of};
@@ -46,6 +48,7 @@ impl<K: KeyOrder> DbState<K> {
         ensures step { LeadsLent (order_of K.name K.cmp) S.facts source.old self.old source.new self.new
             (λ m n. CompactsLevel m level (unit_answer result) n) }
         ensures outcome { CompactLent MayRefuseLevel S.facts source.old self.old source.new self.new result }
+        ensures breaks { self.old.broken ≡ false → BreaksLent S.facts source.old source.new self.new result }
         ensures caused { IsCausedIn (level_cause
             (open_status no_ids (open_db source.old.memory self.old)) level) source.old.tables.store source.new.tables.store result }
         // Done or refused, over any store: no entry of a memory table is touched.
@@ -55,6 +58,7 @@ impl<K: KeyOrder> DbState<K> {
         // While the store is faithful, each entry that must be kept is in what its tables have become, and no other.
         ensures merges { OnOk result (MergesLevel (order_of K.name K.cmp) level (seen_of S.facts source.old) (seen_of S.facts source.new)
             (open_db source.old.memory self.old) (open_db source.new.memory self.new)) }
+        ensures stops { KeepsLent (order_of K.name K.cmp) S.facts source.old self.old source.new }
     {
         if self.broken {
             return Err(DbError::Broken);
@@ -76,11 +80,13 @@ impl<K: KeyOrder> DbState<K> {
         ensures step { LeadsLent (order_of K.name K.cmp) S.facts source.old self.old source.new self.new
             (λ m n. CompactsAll m (unit_answer result) n) }
         ensures outcome { CompactLent MayRefuseWork S.facts source.old self.old source.new self.new result }
+        ensures breaks { self.old.broken ≡ false → BreaksLent S.facts source.old source.new self.new result }
         ensures caused { IsCausedIn (not_serving (open_status no_ids (open_db source.old.memory self.old))) source.old.tables.store source.new.tables.store result }
         ensures compacted { OnOk result (IsAllCompacted (open_db source.new.memory self.new)) }
         // While the store is faithful, each entry of the tables is one that must be kept.
         ensures needed { OnOk result (LeavesNeeded (order_of K.name K.cmp) (seen_of S.facts source.old) (seen_of S.facts source.new)
             (open_db source.old.memory self.old) (open_db source.new.memory self.new)) }
+        ensures stops { KeepsLent (order_of K.name K.cmp) S.facts source.old self.old source.new }
     {
         if self.broken {
             return Err(DbError::Broken);
@@ -101,11 +107,13 @@ impl<K: KeyOrder> DbState<K> {
         ensures step { LeadsLent (order_of K.name K.cmp) S.facts source.old self.old source.new self.new
             (λ m n. IsPiece m (most_drawn m) result n) }
         ensures outcome { CompactLent MayRefusePiece S.facts source.old self.old source.new self.new result }
+        ensures breaks { BreaksLent S.facts source.old source.new self.new result }
         ensures memory { LeavesMemories source.old.memory source.new.memory }
         ensures emptied { OnOk result (IsLevelEmpty level (open_db source.new.memory self.new)) }
         ensures moves { OnOk result (MovesLevel K.cmp level (open_db source.old.memory self.old) (open_db source.new.memory self.new)) }
         ensures merges { OnOk result (MergesLevel (order_of K.name K.cmp) level (seen_of S.facts source.old) (seen_of S.facts source.new)
             (open_db source.old.memory self.old) (open_db source.new.memory self.new)) }
+        ensures stops { KeepsLent (order_of K.name K.cmp) S.facts source.old self.old source.new }
     {
         // Laws, for the proof alone.
         plans_of_tables();
@@ -127,9 +135,11 @@ impl<K: KeyOrder> DbState<K> {
         ensures step { LeadsLent (order_of K.name K.cmp) S.facts source.old self.old source.new self.new
             (λ m n. IsPiece m (most_drawn m) result n) }
         ensures outcome { CompactLent MayRefusePiece S.facts source.old self.old source.new self.new result }
+        ensures breaks { BreaksLent S.facts source.old source.new self.new result }
         ensures compacted { OnOk result (IsAllCompacted (open_db source.new.memory self.new)) }
         ensures needed { OnOk result (EndsNeeded (order_of K.name K.cmp) (seen_of S.facts source.old) (seen_of S.facts source.new)
             (open_db source.old.memory self.old) (open_db source.new.memory self.new)) }
+        ensures stops { KeepsLent (order_of K.name K.cmp) S.facts source.old self.old source.new }
     {
         // Laws, for the proof alone.
         plans_of_tables();
@@ -152,9 +162,11 @@ impl<K: KeyOrder> DbState<K> {
         requires none { self.old.job ≡ None }
         ensures step { LeadsLent (order_of K.name K.cmp) S.facts source.old self.old source.new self.new (λ m n. IsPiece m 3 result n) }
         ensures outcome { CompactLent MayRefusePiece S.facts source.old self.old source.new self.new result }
+        ensures breaks { BreaksLent S.facts source.old source.new self.new result }
         ensures serves { OnOk result (ServesLent S.facts source.old self.old source.new self.new) }
         ensures none { OnOk result (self.new.job ≡ None) }
         ensures written { OnOk result (HasNoMemory (open_db source.new.memory self.new)) }
+        ensures stops { KeepsLent (order_of K.name K.cmp) S.facts source.old self.old source.new }
     {
         self.write_sealed(alloc, source, options)?;
         if source.memory.is_empty() {
@@ -175,9 +187,11 @@ impl<K: KeyOrder> DbState<K> {
         requires none { self.old.job ≡ None }
         ensures step { LeadsLent (order_of K.name K.cmp) S.facts source.old self.old source.new self.new (λ m n. IsPiece m 1 result n) }
         ensures outcome { CompactLent MayRefusePiece S.facts source.old self.old source.new self.new result }
+        ensures breaks { BreaksLent S.facts source.old source.new self.new result }
         ensures serves { OnOk result (ServesLent S.facts source.old self.old source.new self.new) }
         ensures none { OnOk result (self.new.job ≡ None) }
         ensures written { OnOk result (source.new.memory.sealed ≡ None) }
+        ensures stops { KeepsLent (order_of K.name K.cmp) S.facts source.old self.old source.new }
     {
         if source.memory.sealed_generation().is_none() {
             return Ok(());
@@ -198,6 +212,7 @@ impl<K: KeyOrder> DbState<K> {
         requires plan { IsPlanOf K.cmp self.old.version.value.tables plan }
         ensures step { LeadsLent (order_of K.name K.cmp) S.facts source.old self.old source.new self.new (λ m n. EndsJob m result n) }
         ensures outcome { CompactLent MayRefusePiece S.facts source.old self.old source.new self.new result }
+        ensures breaks { BreaksLent S.facts source.old source.new self.new result }
         ensures memory { LeavesMemories source.old.memory source.new.memory }
         ensures none { OnOk result (self.new.job ≡ None) }
         ensures done { OnOk result (ReplacesInputs plan self.old.version.value.tables self.new.version.value.tables) }
@@ -206,6 +221,7 @@ impl<K: KeyOrder> DbState<K> {
             (open_db source.old.memory self.old) (open_db source.new.memory self.new)) }
         ensures merges { OnOk result (MergesPlan (order_of K.name K.cmp) plan (seen_of S.facts source.old) (seen_of S.facts source.new)
             (open_db source.old.memory self.old) (open_db source.new.memory self.new)) }
+        ensures stops { KeepsLent (order_of K.name K.cmp) S.facts source.old self.old source.new }
     {
         self.begin_job(alloc, source, options, plan)?;
         self.run_job_to_end(alloc, source)
@@ -220,6 +236,7 @@ impl<K: KeyOrder> DbState<K> {
         requires whole { self.old.broken ≡ false }
         ensures step { LeadsLent (order_of K.name K.cmp) S.facts source.old self.old source.new self.new (λ m n. EndsJob m result n) }
         ensures outcome { CompactLent MayRefusePiece S.facts source.old self.old source.new self.new result }
+        ensures breaks { BreaksLent S.facts source.old source.new self.new result }
         ensures serves { OnOk result (ServesLent S.facts source.old self.old source.new self.new) }
         ensures memory { LeavesMemories source.old.memory source.new.memory }
         ensures none { OnOk result (self.new.job ≡ None) }
@@ -231,6 +248,7 @@ impl<K: KeyOrder> DbState<K> {
             (open_db source.old.memory self.old) (open_db source.new.memory self.new)) }
         ensures merges { OnOk result (IsSome self.old.job → PutsMerged (order_of K.name K.cmp) (seen_of S.facts source.old)
             (seen_of S.facts source.new) (open_db source.old.memory self.old) (open_db source.new.memory self.new)) }
+        ensures stops { KeepsLent (order_of K.name K.cmp) S.facts source.old self.old source.new }
     {
         if self.job.is_none() {
             return Ok(());
@@ -248,6 +266,7 @@ impl<K: KeyOrder> DbState<K> {
         requires job { IsSome self.old.job }
         ensures step { LeadsLent (order_of K.name K.cmp) S.facts source.old self.old source.new self.new (λ m n. EndsJob m result n) }
         ensures outcome { CompactLent MayRefusePiece S.facts source.old self.old source.new self.new result }
+        ensures breaks { BreaksLent S.facts source.old source.new self.new result }
         ensures serves { OnOk result (ServesLent S.facts source.old self.old source.new self.new) }
         ensures memory { LeavesMemories source.old.memory source.new.memory }
         ensures none { OnOk result (self.new.job ≡ None) }
@@ -258,6 +277,7 @@ impl<K: KeyOrder> DbState<K> {
             (open_db source.old.memory self.old) (open_db source.new.memory self.new)) }
         ensures merges { OnOk result (PutsMerged (order_of K.name K.cmp) (seen_of S.facts source.old)
             (seen_of S.facts source.new) (open_db source.old.memory self.old) (open_db source.new.memory self.new)) }
+        ensures stops { KeepsLent (order_of K.name K.cmp) S.facts source.old self.old source.new }
     {
         // A loop without a measure: as many turns as 64 bits count, and out of memory behind them, which no run reaches.
         for _ in 0..u64::MAX {

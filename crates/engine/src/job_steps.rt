@@ -23,7 +23,10 @@ use table_access::sound_lasts;
 use versions::{JobPlan, plans_of_tables};
 
 impl<K: KeyOrder> DbState<K> {
+    ghost use Rattle.engine.specs.Breaking.{BreaksLent};
+    ghost use Rattle.engine.specs.internal.Stopping.{KeepsLent};
     ghost use Rattle.engine.specs.internal.Lent.{LeadsLent, ServesLent, OutcomeLent};
+    ghost use Rattle.store.specs.Calls.{FailsNoWrite, KeepsCalls};
     ghost use Rattle.engine.specs.OpenDb.{open_db};
     ghost use Rattle.db_cursor.specs.Whole.{seen_of};
     ghost use Rattle.engine.specs.Outcomes.{IsSame};
@@ -51,6 +54,7 @@ impl<K: KeyOrder> DbState<K> {
         ensures step { LeadsLent (order_of K.name K.cmp) S.facts source.old self.old source.new self.new
             (λ m n. IsPiece m (max budget 1) result n) }
         ensures outcome { OutcomeLent MayRefusePiece S.facts source.old self.old source.new self.new result }
+        ensures breaks { BreaksLent S.facts source.old source.new self.new result }
         ensures begins { result ≡ Ok Worked → BeginsJob K.cmp options.now budget (open_db source.old.memory self.old)
             (open_db source.new.memory self.new) }
         ensures unwanted { result ≡ Ok Idle → (level : ℕ) → WantsCompaction options.now (open_db source.old.memory self.old) level → ⊥ }
@@ -59,6 +63,7 @@ impl<K: KeyOrder> DbState<K> {
             (open_db source.old.memory self.old) (open_db source.new.memory self.new) (max budget 1) }
         ensures idle { result ≡ Ok Idle → (source.new ≡ source.old) × (self.new ≡ self.old) }
         ensures lock { (S.facts source.new.tables.store).locked ≡ (S.facts source.old.tables.store).locked }
+        ensures stops { KeepsLent (order_of K.name K.cmp) S.facts source.old self.old source.new }
     {
         // Laws, for the proof alone.
         sound_lasts();
@@ -87,6 +92,7 @@ impl<K: KeyOrder> DbState<K> {
         requires plan { IsPlanOf K.cmp self.old.version.value.tables plan }
         ensures step { LeadsLent (order_of K.name K.cmp) S.facts source.old self.old source.new self.new (λ m n. IsPiece m 0 result n) }
         ensures outcome { OutcomeLent MayRefusePiece S.facts source.old self.old source.new self.new result }
+        ensures fails { FailsNoWrite (S.facts source.old.tables.store) (S.facts source.new.tables.store) }
         ensures begun { OnOk result (IsSome self.new.job) }
         ensures none { OnOk result (MatchOption self.new.job ⊥ (λ work. (work.merged ≡ 0) × (work.job.plan ≡ plan))) }
         ensures live { OnOk result (MatchOption self.new.job ⊥ (λ work. IsForLive work (open_db source.old.memory self.old))) }
@@ -98,6 +104,7 @@ impl<K: KeyOrder> DbState<K> {
         ensures same { IsSame (open_db source.old.memory self.old) (open_db source.new.memory self.new) }
         ensures whole { self.new.broken ≡ false }
         ensures lock { (S.facts source.new.tables.store).locked ≡ (S.facts source.old.tables.store).locked }
+        ensures calls { KeepsCalls (S.facts source.old.tables.store) (S.facts source.new.tables.store) }
     {
         // Laws, for the proof alone.
         sound_lasts();
@@ -116,7 +123,7 @@ impl<K: KeyOrder> DbState<K> {
     }
 
     /// Goes on with the compaction under way by so many entries, one for 0, and ends it where all came: whether it did. Where it is
-    /// refused it is given up, and its inputs stay. The database is broken only where the store failed at the end.
+    /// refused it is given up, and its inputs stay. The database is broken where a write of the store failed, and not where a read did.
     pub fn step_job<S: Store>(
         &mut self,
         alloc: Global,
@@ -128,6 +135,7 @@ impl<K: KeyOrder> DbState<K> {
         ensures step { LeadsLent (order_of K.name K.cmp) S.facts source.old self.old source.new self.new
             (λ m n. IsPiece m (max budget 1) result n) }
         ensures outcome { OutcomeLent MayRefusePiece S.facts source.old self.old source.new self.new result }
+        ensures breaks { BreaksLent S.facts source.old source.new self.new result }
         ensures on { OnOk result (GoesOn budget (open_db source.old.memory self.old) (open_db source.new.memory self.new)) }
         ensures ended { IfOk result (λ ended. MatchBool ended (self.new.job ≡ None) (IsSome self.new.job)) }
         ensures serves { OnOk result (ServesLent S.facts source.old self.old source.new self.new) }
@@ -147,6 +155,7 @@ impl<K: KeyOrder> DbState<K> {
         ensures come { result ≡ Ok true → LeadsLent (order_of K.name K.cmp) S.facts source.old self.old source.new self.new
             (λ m n. HasCome budget (open_db source.old.memory self.old) m result n) }
         ensures lock { (S.facts source.new.tables.store).locked ≡ (S.facts source.old.tables.store).locked }
+        ensures stops { KeepsLent (order_of K.name K.cmp) S.facts source.old self.old source.new }
     {
         // Laws, for the proof alone.
         sound_lasts();
@@ -154,12 +163,13 @@ impl<K: KeyOrder> DbState<K> {
         let Some(running) = &mut self.job else {
             unreachable!()
         };
+        let failed = source.tables.store.write_failures();
         let stepped = running.step(alloc, source, &mut self.directory.numbers, budget);
         let progress = match stepped {
             Ok(progress) => progress,
             Err(error) => {
                 self.job = None;
-                return Err(error);
+                return Err(self.refuse_since(&source.tables.store, failed, error));
             }
         };
         if !progress.ended {
@@ -182,7 +192,7 @@ impl<K: KeyOrder> DbState<K> {
                 self.take_installed(installed);
                 Ok(true)
             }
-            Err(error) => Err(self.flush_refusal(error)),
+            Err(error) => Err(self.flush_refusal(&source.tables.store, failed, error)),
         }
     }
 

@@ -3,6 +3,10 @@
 ghost use Rattle.std.specs.Prelude.{◌≡◌, true, false, IsTrue, Err, IfOk, IfErr, OnOk};
 ghost use Rattle.coding.specs.declared.error.DbError.TheVariants.{OutOfMemory};
 ghost use Rattle.ikey.specs.Orders.{order_of};
+ghost use Rattle.store.specs.Files.{MayLock};
+ghost use Rattle.store.specs.Stops.{LeavesOnly};
+ghost use Rattle.machine.specs.Machine.{Machine};
+ghost use Rattle.engine.specs.internal.Directory.{MeansAccepted};
 ghost use Rattle.opening.specs.internal.Calls.{TakesLock};
 ghost use Rattle.machine.specs.Lifetime.{Opens};
 ghost use Rattle.engine.specs.internal.Standing.{StandsClosed};
@@ -53,6 +57,10 @@ pub fn open_store<K: KeyOrder, S: Store>(
         → Tells (order_of K.name K.cmp) (S.facts source.old.tables.store).files result }
     // All files are live then, unless one couldn't be removed.
     ensures tidy { IfOk result (IsTidy (S.facts source.old.tables.store) (S.facts source.new.tables.store) source.new.memory) }
+    // A stop in its middle leaves files that stand for what they did.
+    ensures stops { IsTrue (S.facts source.new.tables.store).faithful → (ids : Ids) (m : Machine)
+        → StandsClosed (order_of K.name K.cmp) (S.facts source.old.tables.store) ids m
+        → LeavesOnly (S.facts source.old.tables.store) (S.facts source.new.tables.store) (λ files. MeansAccepted (order_of K.name K.cmp) files m) }
 {
     // Laws, for the proof alone.
     free_change_law();
@@ -67,7 +75,8 @@ pub fn open_store<K: KeyOrder, S: Store>(
 }
 
 fn take_lock<S: Store>(store: &mut S) -> Result<(), DbError>
-    ensures { TakesLock (S.facts store.old) (S.facts store.new) result }
+    ensures lock { TakesLock (S.facts store.old) (S.facts store.new) result }
+    ensures stops { IsTrue (S.facts store.new).faithful → LeavesOnly (S.facts store.old) (S.facts store.new) (MayLock (S.facts store.old).files) }
 {
     match store.lock() {
         Ok(true) => Ok(()),
@@ -99,6 +108,9 @@ fn open_and_clean<K: KeyOrder, S: Store>(
     ensures tells { IsTrue (S.facts source.new.tables.store).faithful
         → Tells (order_of K.name K.cmp) (S.facts source.old.tables.store).files result }
     ensures tidy { IfOk result (IsTidy (S.facts source.old.tables.store) (S.facts source.new.tables.store) source.new.memory) }
+    ensures stops { IsTrue (S.facts source.new.tables.store).faithful → (ids : Ids) (m : Machine)
+        → Rests (order_of K.name K.cmp) (S.facts source.old.tables.store) ids m
+        → LeavesOnly (S.facts source.old.tables.store) (S.facts source.new.tables.store) (λ files. MeansAccepted (order_of K.name K.cmp) files m) }
 {
     let state = open_locked::<K, S>(alloc, source, options, mode)?;
     match state.clean(alloc, source) {
@@ -148,6 +160,9 @@ fn open_locked<K: KeyOrder, S: Store>(
     ensures whole { IfOk result (λ state. state.broken ≡ false) }
     ensures tells { IsTrue (S.facts source.new.tables.store).faithful
         → Tells (order_of K.name K.cmp) (S.facts source.old.tables.store).files result }
+    ensures stops { IsTrue (S.facts source.new.tables.store).faithful → (m : Machine)
+        → MeansAccepted (order_of K.name K.cmp) (S.facts source.old.tables.store).files m
+        → LeavesOnly (S.facts source.old.tables.store) (S.facts source.new.tables.store) (λ files. MeansAccepted (order_of K.name K.cmp) files m) }
 {
     // Laws, for the proof alone.
     empty_is_sound();

@@ -1,20 +1,44 @@
-//! Work until there is none.
+//! Work until there is none, and as much as keeps up with what is written.
 
-ghost use Rattle.std.specs.Prelude.{◌≡◌, MatchResult, OnOk};
+ghost use Rattle.std.specs.Prelude.{◌≡◌, None, Some, length, nat_lt, if◌then◌else◌, IfErr, MatchBool, MatchResult, Ok, OnOk};
 ghost use Rattle.ikey.specs.Orders.{order_of};
 
 use crate::db::Db;
 use crate::work::Progress;
+use batch::Batch;
 use coding::DbError;
+use edits::LEVELS;
 use ikey::KeyOrder;
 use std::alloc::Global;
 use store::Store;
 
+// How many entries of work each written operation brings along: it is merged a few times on its way down the levels. Where level 0 has
+// twice as many tables as bring a compaction about it brings more, as LevelDB lets writes wait a little there (its db/dbformat.h,
+// kL0_SlowdownWritesTrigger).
+const SHARE: u32 = 6;
+
+const LARGE_SHARE: u32 = 24;
+
+// Of more operations than this the others bring none along.
+const MOST_OPERATIONS: usize = 1 << 20;
+
+/// Whether work keeps up with what is written.
+#[derive(Clone, Copy, Debug, PartialEq, Eq)]
+pub enum Pace {
+    /// The memory table that takes writes has fewer than `write_buffer` bytes, and level 0 at most three times `level0_files` tables.
+    KeepsUp,
+    /// Work was refused for this. What was written is there.
+    Refused(DbError),
+}
+
 impl<S: Store, K: KeyOrder> Db<S, K> {
-    ghost use Rattle.engine.specs.Outcomes.{MayRefuseWork};
-    ghost use Rattle.engine.specs.Pace.{OnlyDraws, OnlyWorks};
+    ghost use Rattle.engine.specs.Outcomes.{MayRefuseWork, MayRefuseWrite};
+    ghost use Rattle.engine.specs.Pace.{HasKeptUp, OnlyDraws, OnlyWorks, WorksAtPace, WritesAtPace};
     ghost use Rattle.engine.specs.StandsDb.{FollowsDb, KeepsOpening, db_ids_of, db_options_of, open_by};
+    ghost use Rattle.engine.specs.Stops.{DbStops};
     ghost use Rattle.engine.specs.Working.{HasNoWork};
+    ghost use Rattle.engine.specs.declared.pace.Pace.TheVariants.{KeepsUp, Refused};
+    ghost use Rattle.versions.specs.Levels.{tables_at};
 
     /// Works until there is nothing left to do, by pieces of so many entries: no compaction is under way then, no level wants one (so level 0
     /// has fewer files than `level0_files`), and memory has less than `write_buffer` bytes. What was done before a refusal stays done.
@@ -26,6 +50,8 @@ impl<S: Store, K: KeyOrder> Db<S, K> {
         ensures allowed { MatchResult result (λ done. Unit {0}) MayRefuseWork }
         ensures ids { db_ids_of self.new ≡ db_ids_of self.old }
         ensures opening { KeepsOpening self.old self.new }
+        // A stop in its middle leaves what was accepted.
+        ensures stops { DbStops (order_of K.name K.cmp) S.facts self.old self.new }
     {
         for _ in 0..u64::MAX {
             match self.work(alloc, budget) {
@@ -35,5 +61,79 @@ impl<S: Store, K: KeyOrder> Db<S, K> {
             }
         }
         Err(DbError::OutOfMemory)
+    }
+
+    /// How many tables a level has, from 0 to 6, or `None` for another one.
+    pub fn tables_in(&self, level: u32) -> Option<usize>
+        ensures { result ≡ (if nat_lt level 7 then Some (length (tables_at level (open_by self.now).tables)) else None) }
+    {
+        if level >= LEVELS {
+            return None;
+        }
+        Some(self.state.version.level(level).len())
+    }
+
+    /// Writes a batch, as `write` does, and then does its share of the work: six entries of it for each operation, or more where work lags
+    /// behind, and as much more as it takes until work keeps up. So a caller needs no `work` beside it, memory and level 0 are
+    /// bounded, and a call takes longer instead (LevelDB's db/db_impl.cc, DBImpl::MakeRoomForWrite, lets it wait). Refused as `write`
+    /// is; that work was refused behind a batch that was written is said by the `Pace`.
+    pub fn write_and_work(
+        &mut self,
+        alloc: Global,
+        batch: &Batch,
+        sync: bool,
+    ) -> Result<Pace, DbError>
+        ensures step { FollowsDb (order_of K.name K.cmp) S.facts self.old self.new (λ m n. WritesAtPace m batch.now result n) }
+        // Over any store:
+        ensures kept { result ≡ Ok KeepsUp → HasKeptUp (db_options_of self.new) (open_by self.new) }
+        ensures allowed { IfErr result MayRefuseWrite }
+        ensures refused { (error : DbError) → result ≡ Ok (Refused error) → MayRefuseWork error }
+        ensures ids { db_ids_of self.new ≡ db_ids_of self.old }
+        ensures opening { KeepsOpening self.old self.new }
+    {
+        self.write(alloc, batch, sync)?;
+        let share = self.share_of(batch.ops().len());
+        Ok(self.keep_up(alloc, share))
+    }
+
+    /// Works by pieces of so many entries, one at least, until work keeps up with what was written.
+    pub fn keep_up(&mut self, alloc: Global, budget: u32) -> Pace
+        ensures step { FollowsDb (order_of K.name K.cmp) S.facts self.old self.new (WorksAtPace result) }
+        // Over any store:
+        ensures kept { result ≡ KeepsUp → HasKeptUp (db_options_of self.new) (open_by self.new) }
+        ensures refused { (error : DbError) → result ≡ Refused error → MayRefuseWork error }
+        ensures ids { db_ids_of self.new ≡ db_ids_of self.old }
+        ensures opening { KeepsOpening self.old self.new }
+        ensures stops { DbStops (order_of K.name K.cmp) S.facts self.old self.new }
+    {
+        for _ in 0..u64::MAX {
+            match self.work(alloc, budget) {
+                Ok(Progress::Idle) => return Pace::KeepsUp,
+                Err(error) => return Pace::Refused(error),
+                Ok(Progress::Worked) => {}
+            }
+            if self.has_kept_up() {
+                return Pace::KeepsUp;
+            }
+        }
+        Pace::Refused(DbError::OutOfMemory)
+    }
+
+    fn has_kept_up(&self) -> bool
+        ensures { MatchBool result (HasKeptUp (db_options_of self.now) (open_by self.now)) (HasKeptUp (db_options_of self.now) (open_by self.now) → ⊥) }
+    {
+        if self.source.memory.size() as u64 >= self.options.write_buffer() {
+            return false;
+        }
+        self.state.version.level(0).len() as u64 <= 3 * self.options.level0_files()
+    }
+
+    // How many entries of work so many operations bring along.
+    fn share_of(&self, operations: usize) -> u32 {
+        let counted = operations.min(MOST_OPERATIONS) as u32;
+        if self.state.version.level(0).len() as u64 >= 2 * self.options.level0_files() {
+            return LARGE_SHARE * counted;
+        }
+        SHARE * counted
     }
 }

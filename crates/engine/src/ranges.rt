@@ -194,7 +194,7 @@ impl<S: Store, K: KeyOrder> Db<S, K> {
     ghost use Rattle.engine.specs.Follows.{pair_answer};
     ghost use Rattle.engine.specs.Outcomes.{DbOutcomeOf, MayRefuseIterate, MayRefuseMove};
     ghost use Rattle.engine.specs.Ranges.{Begins, Fills, MayRefuseScan, RefusesScan, SameWalk, Scans, Steps, next_motion};
-    ghost use Rattle.engine.specs.StandsDb.{FollowsDb, KeepsOpening, db_ids_of, db_store_of};
+    ghost use Rattle.engine.specs.StandsDb.{FollowsDb, KeepsOpening, db_ids_of, db_store_of, open_by};
 
     /// Begins a walk over the pairs of a range, as they are now or at a snapshot. It takes an iterator, and goes on seeing the same
     /// pairs whatever is written.
@@ -209,6 +209,7 @@ impl<S: Store, K: KeyOrder> Db<S, K> {
         // Over any store:
         ensures outcome { DbOutcomeOf MayRefuseIterate S.facts self.old self.new result }
         ensures caused { DbCaused (λ status. iterate_cause status snapshot) self.old self.new result }
+        ensures whole { (open_by self.new).broken ≡ (open_by self.old).broken }
         ensures leaves { DbLeaves S.facts self.old self.new }
         ensures ids { OnErr result (db_ids_of self.new ≡ db_ids_of self.old) }
         ensures opening { KeepsOpening self.old self.new }
@@ -235,6 +236,7 @@ impl<S: Store, K: KeyOrder> Db<S, K> {
         // Over any store:
         ensures kept { OnErr result (walk.new ≡ walk.old) }
         ensures outcome { DbOutcomeOf (MayRefuseMove ToNext) S.facts self.old self.new result }
+        ensures whole { (open_by self.new).broken ≡ (open_by self.old).broken }
         ensures leaves { DbLeaves S.facts self.old self.new }
         ensures ids { db_ids_of self.new ≡ db_ids_of self.old }
         ensures opening { KeepsOpening self.old self.new }
@@ -257,6 +259,7 @@ impl<S: Store, K: KeyOrder> Db<S, K> {
         ensures step { FollowsDb (order_of K.name K.cmp) S.facts self.old self.new
             (λ m n. Moves (order_of K.name K.cmp) m walk.now.id (next_motion walk.now.stage walk.now.keys) (pair_answer result) n) }
         ensures outcome { DbOutcomeOf (MayRefuseMove (next_motion walk.now.stage walk.now.keys)) S.facts self.old self.new result }
+        ensures whole { (open_by self.new).broken ≡ (open_by self.old).broken }
         ensures leaves { DbLeaves S.facts self.old self.new }
         ensures ids { db_ids_of self.new ≡ db_ids_of self.old }
         ensures opening { KeepsOpening self.old self.new }
@@ -285,6 +288,7 @@ impl<S: Store, K: KeyOrder> Db<S, K> {
         ensures same { SameWalk walk.old walk.new }
         // Over any store:
         ensures allowed { MatchResult result (λ x. Unit {0}) (MayRefuseMove ToNext) }
+        ensures whole { (open_by self.new).broken ≡ (open_by self.old).broken }
         ensures leaves { DbLeaves S.facts self.old self.new }
         ensures ids { db_ids_of self.new ≡ db_ids_of self.old }
         ensures opening { KeepsOpening self.old self.new }
@@ -308,6 +312,7 @@ impl<S: Store, K: KeyOrder> Db<S, K> {
             (λ m n. (answer : Answer) × Drops m walk.id answer n) }
         // Over any store:
         ensures store { db_store_of self.new ≡ db_store_of self.old }
+        ensures whole { (open_by self.new).broken ≡ (open_by self.old).broken }
         ensures ids { db_ids_of self.new ≡ db_ids_of self.old }
         ensures opening { KeepsOpening self.old self.new }
     {
@@ -333,6 +338,7 @@ impl<S: Store, K: KeyOrder> Db<S, K> {
             (λ e. RefusesScan (order_of K.name K.cmp) m snapshot e n)) }
         // Over any store:
         ensures allowed { MatchResult result (λ x. Unit {0}) MayRefuseScan }
+        ensures whole { (open_by self.new).broken ≡ (open_by self.old).broken }
         ensures leaves { DbLeaves S.facts self.old self.new }
         ensures opening { KeepsOpening self.old self.new }
     {

@@ -1,7 +1,7 @@
 //! What an open database does beside its commands: the removal of files, flushes, and new logs (LevelDB's db/db_impl.cc,
 //! DBImpl::RemoveObsoleteFiles, CompactMemTable and MakeRoomForWrite).
 
-ghost use Rattle.std.specs.Prelude.{◌≡◌, ◌<◌, length, max, None, IsSome, false, if◌then◌else◌, IsTrue, IfErr, IfOk, Ok, OnErr, OnOk};
+ghost use Rattle.std.specs.Prelude.{◌≡◌, ◌<◌, length, max, nat_eq, None, IsSome, false, if◌then◌else◌, IsTrue, IfErr, IfOk, Ok, OnErr, OnOk};
 ghost use Rattle.engine.specs.internal.Pieces.{ClosesTables, refused_as};
 ghost use Rattle.ikey.specs.Orders.{order_of};
 
@@ -37,7 +37,10 @@ impl<K: KeyOrder> DbState<K> {
     ghost use Rattle.directory_writes.specs.internal.Removal.{RefusesList};
     ghost use Rattle.engine.specs.ExactFiles.{LeavesExactlyLive};
     ghost use Rattle.engine.specs.InUse.{HasUsedMemory};
+    ghost use Rattle.engine.specs.Breaking.{BreaksLent};
+    ghost use Rattle.engine.specs.internal.Stopping.{KeepsLent};
     ghost use Rattle.engine.specs.internal.Lent.{LeadsLent, ServesLent, OutcomeLent};
+    ghost use Rattle.store.specs.Calls.{FailsNoWrite};
     ghost use Rattle.engine.specs.OpenDb.{open_db};
     ghost use Rattle.db_cursor.specs.Whole.{seen_of};
     ghost use Rattle.engine.specs.Outcomes.{IsSame, MayRefuseWork};
@@ -47,7 +50,7 @@ impl<K: KeyOrder> DbState<K> {
     ghost use Rattle.engine.specs.Working.{DoesWork, HasLiveOnly, LosesDead};
     ghost use Rattle.engine.specs.internal.Pieces.{IsPiece, IsSameMemory, MayRefusePiece};
     ghost use Rattle.engine.specs.Working.{SealsMemory, WritesTable, work_answer};
-    ghost use Rattle.engine.specs.internal.Pieces.{broken_by, flush_answer};
+    ghost use Rattle.engine.specs.internal.Pieces.{broken_by, flush_answer, settled_as, settled_by};
 
     /// Removes the files that aren't live, and then does the first of these that there is to do: goes on with the compaction under
     /// way by so many entries, one for 0; writes the sealed memory table into a table file; seals the memory table, where it has
@@ -62,6 +65,7 @@ impl<K: KeyOrder> DbState<K> {
         ensures step { LeadsLent (order_of K.name K.cmp) S.facts source.old self.old source.new self.new
             (λ m n. Works m budget (work_answer result) n) }
         ensures outcome { OutcomeLent MayRefuseWork S.facts source.old self.old source.new self.new result }
+        ensures breaks { self.old.broken ≡ false → BreaksLent S.facts source.old source.new self.new result }
         ensures caused { IsCausedIn (not_serving (open_status no_ids (open_db source.old.memory self.old))) source.old.tables.store source.new.tables.store result }
         ensures does { DoesWork K.cmp options.now budget (open_db source.old.memory self.old) (open_db source.new.memory self.new) result }
         // While the store is faithful, a compaction is at its end exactly where no more entries were left than the budget has.
@@ -83,6 +87,7 @@ impl<K: KeyOrder> DbState<K> {
         ensures removes { result ≡ Ok Idle → IsTrue (S.facts source.new.tables.store).faithful
             → LosesDead (S.facts source.old.tables.store) (S.facts source.new.tables.store) (open_db source.new.memory self.new) }
         ensures lock { (S.facts source.new.tables.store).locked ≡ (S.facts source.old.tables.store).locked }
+        ensures stops { KeepsLent (order_of K.name K.cmp) S.facts source.old self.old source.new }
     {
         if self.broken {
             return Err(DbError::Broken);
@@ -104,6 +109,7 @@ impl<K: KeyOrder> DbState<K> {
         requires whole { self.now.broken ≡ false }
         ensures step { LeadsLent (order_of K.name K.cmp) S.facts source.old self.now source.new self.now (λ m n. IsPiece m 0 result n) }
         ensures outcome { OutcomeLent MayRefusePiece S.facts source.old self.now source.new self.now result }
+        ensures fails { FailsNoWrite (S.facts source.old.tables.store) (S.facts source.new.tables.store) }
         ensures same { IsSame (open_db source.old.memory self.now) (open_db source.new.memory self.now) }
         ensures memory { IsSameMemory source.old.memory source.new.memory }
         ensures refused { IfErr result (λ e. RefusesList e (S.facts source.old.tables.store) (S.facts source.new.tables.store)) }
@@ -120,6 +126,7 @@ impl<K: KeyOrder> DbState<K> {
         ensures removes { IsTrue (S.facts source.new.tables.store).faithful
             → LosesDead (S.facts source.old.tables.store) (S.facts source.new.tables.store) (open_db source.new.memory self.now) }
         ensures lock { (S.facts source.new.tables.store).locked ≡ (S.facts source.old.tables.store).locked }
+        ensures stops { KeepsLent (order_of K.name K.cmp) S.facts source.old self.now source.new }
     {
         // Laws, for the proof alone.
         sound_lasts();
@@ -148,6 +155,7 @@ impl<K: KeyOrder> DbState<K> {
         ensures step { LeadsLent (order_of K.name K.cmp) S.facts source.old self.old source.new self.new
             (λ m n. IsPiece m (max budget 1) result n) }
         ensures outcome { OutcomeLent MayRefusePiece S.facts source.old self.old source.new self.new result }
+        ensures breaks { BreaksLent S.facts source.old source.new self.new result }
         ensures does { DoesWork K.cmp options.now budget (open_db source.old.memory self.old) (open_db source.new.memory self.new) result }
         ensures within { EndsWithin (order_of K.name K.cmp) options.now budget (seen_of S.facts source.old)
             (seen_of S.facts source.new) (open_db source.old.memory self.old) (open_db source.new.memory self.new) result }
@@ -155,6 +163,7 @@ impl<K: KeyOrder> DbState<K> {
             (seen_of S.facts source.new) (open_db source.old.memory self.old) (open_db source.new.memory self.new) result }
         ensures idle { result ≡ Ok Idle → (source.new ≡ source.old) × (self.new ≡ self.old) }
         ensures lock { (S.facts source.new.tables.store).locked ≡ (S.facts source.old.tables.store).locked }
+        ensures stops { KeepsLent (order_of K.name K.cmp) S.facts source.old self.old source.new }
     {
         if self.job.is_some() {
             self.step_job(alloc, source, budget)?;
@@ -176,6 +185,7 @@ impl<K: KeyOrder> DbState<K> {
         ensures step { LeadsLent (order_of K.name K.cmp) S.facts source.old self.old source.new self.new
             (λ m n. IsPiece m (max budget 1) result n) }
         ensures outcome { OutcomeLent MayRefusePiece S.facts source.old self.old source.new self.new result }
+        ensures breaks { BreaksLent S.facts source.old source.new self.new result }
         ensures does { DoesWork K.cmp options.now budget (open_db source.old.memory self.old) (open_db source.new.memory self.new) result }
         ensures within { EndsWithin (order_of K.name K.cmp) options.now budget (seen_of S.facts source.old)
             (seen_of S.facts source.new) (open_db source.old.memory self.old) (open_db source.new.memory self.new) result }
@@ -183,6 +193,7 @@ impl<K: KeyOrder> DbState<K> {
             (seen_of S.facts source.new) (open_db source.old.memory self.old) (open_db source.new.memory self.new) result }
         ensures idle { result ≡ Ok Idle → (source.new ≡ source.old) × (self.new ≡ self.old) }
         ensures lock { (S.facts source.new.tables.store).locked ≡ (S.facts source.old.tables.store).locked }
+        ensures stops { KeepsLent (order_of K.name K.cmp) S.facts source.old self.old source.new }
     {
         if source.memory.sealed_generation().is_some() {
             self.flush(alloc, source, options)?;
@@ -195,7 +206,7 @@ impl<K: KeyOrder> DbState<K> {
         Ok(Progress::Worked)
     }
 
-    /// Writes the sealed memory table into a table file. An empty one needs none. Where the store fails, the
+    /// Writes the sealed memory table into a table file. An empty one needs none. Where a write of the store fails, the
     /// database is broken.
     pub fn flush<S: Store>(
         &mut self,
@@ -208,11 +219,13 @@ impl<K: KeyOrder> DbState<K> {
         requires sealed { IsSome source.old.memory.sealed }
         ensures step { LeadsLent (order_of K.name K.cmp) S.facts source.old self.old source.new self.new (λ m n. IsPiece m 1 result n) }
         ensures outcome { OutcomeLent MayRefusePiece S.facts source.old self.old source.new self.new result }
+        ensures breaks { BreaksLent S.facts source.old source.new self.new result }
         ensures does { OnOk result (WritesTable (open_db source.old.memory self.old) (open_db source.new.memory self.new)) }
         ensures puts { OnOk result (PutsSealed (order_of K.name K.cmp) (seen_of S.facts source.old) (seen_of S.facts source.new)
             (open_db source.old.memory self.old) (open_db source.new.memory self.new)) }
         ensures serves { OnOk result (ServesLent S.facts source.old self.old source.new self.new) }
         ensures lock { (S.facts source.new.tables.store).locked ≡ (S.facts source.old.tables.store).locked }
+        ensures stops { KeepsLent (order_of K.name K.cmp) S.facts source.old self.old source.new }
     {
         // Laws, for the proof alone.
         sound_lasts();
@@ -228,6 +241,7 @@ impl<K: KeyOrder> DbState<K> {
             source.memory.flushed();
             return Ok(());
         }
+        let failed = source.tables.store.write_failures();
         let plan = FlushPlan {
             log_number: self.log.number,
             previous_log_number: self.directory.previous_log,
@@ -248,11 +262,11 @@ impl<K: KeyOrder> DbState<K> {
                 source.memory.flushed();
                 Ok(())
             }
-            Err(error) => Err(self.flush_refusal(error)),
+            Err(error) => Err(self.flush_refusal(&source.tables.store, failed, error)),
         }
     }
 
-    /// Seals the memory table, and begins a log for what is written from now on. Where the store fails, the database is broken.
+    /// Seals the memory table, and begins a log for what is written from now on. Where a write of the store fails, the database is broken.
     pub fn seal<S: Store>(
         &mut self,
         alloc: Global,
@@ -264,9 +278,11 @@ impl<K: KeyOrder> DbState<K> {
         requires filled { 0 < length source.old.memory.current.inserts }
         ensures step { LeadsLent (order_of K.name K.cmp) S.facts source.old self.old source.new self.new (λ m n. IsPiece m 1 result n) }
         ensures outcome { OutcomeLent MayRefusePiece S.facts source.old self.old source.new self.new result }
+        ensures breaks { BreaksLent S.facts source.old source.new self.new result }
         ensures does { OnOk result (SealsMemory (open_db source.old.memory self.old) (open_db source.new.memory self.new)) }
         ensures serves { OnOk result (ServesLent S.facts source.old self.old source.new self.new) }
         ensures lock { (S.facts source.new.tables.store).locked ≡ (S.facts source.old.tables.store).locked }
+        ensures stops { KeepsLent (order_of K.name K.cmp) S.facts source.old self.old source.new }
     {
         // Laws, for the proof alone.
         sound_lasts();
@@ -310,18 +326,41 @@ impl<K: KeyOrder> DbState<K> {
         self.directory.previous_log = 0;
     }
 
-    // How a flush that didn't come about is answered.
-    pub(crate) fn flush_refusal(&mut self, error: FlushError) -> DbError
-        ensures answer { result ≡ flush_answer error }
-        ensures broken { self.new ≡ broken_by self.old (flush_answer error) }
+    // How a flush that didn't come about is answered, as below.
+    pub(crate) fn flush_refusal<S: Store>(
+        &mut self,
+        store: &S,
+        failed: u64,
+        error: FlushError,
+    ) -> DbError
+        ensures answer { result ≡ settled_as (nat_eq (S.facts store.now).write_failures failed) (flush_answer error) }
+        ensures state { self.new ≡ settled_by (nat_eq (S.facts store.now).write_failures failed) self.old }
     {
         match error {
-            FlushError::Before(error) => self.refuse(error),
-            FlushError::Edit => self.refuse(DbError::Io),
+            FlushError::Before(error) => self.refuse_since(store, failed, error),
+            FlushError::Edit => self.refuse_since(store, failed, DbError::Io),
         }
     }
 
-    // Where the store failed in a call that changes the directory, the database is broken.
+    // How a refusal is answered before which so many writes of the store had failed. Where one has failed since, the answer is Io, and
+    // the database is broken.
+    pub(crate) fn refuse_since<S: Store>(
+        &mut self,
+        store: &S,
+        failed: u64,
+        error: DbError,
+    ) -> DbError
+        ensures answer { result ≡ settled_as (nat_eq (S.facts store.now).write_failures failed) error }
+        ensures state { self.new ≡ settled_by (nat_eq (S.facts store.now).write_failures failed) self.old }
+    {
+        if store.write_failures() == failed {
+            return error;
+        }
+        self.broken = true;
+        DbError::Io
+    }
+
+    // Where the store failed in a call that only writes, the database is broken.
     fn refuse(&mut self, error: DbError) -> DbError
         ensures answer { result ≡ error }
         ensures broken { self.new ≡ broken_by self.old error }

@@ -4,6 +4,8 @@
 #[cfg(test)]
 mod checks;
 #[cfg(test)]
+mod edit_keys;
+#[cfg(test)]
 mod faults;
 #[cfg(test)]
 mod long_logs;
@@ -13,6 +15,8 @@ mod options;
 mod orders;
 #[cfg(test)]
 mod origins;
+#[cfg(test)]
+mod pace;
 #[cfg(test)]
 mod ranges;
 #[cfg(test)]

@@ -4,7 +4,7 @@ ghost use Rattle.store.specs.MemFacts.{mem_facts};
 
 use std::alloc::Global;
 use std::cell::Cell;
-use store::{MemStore, Store, StoreError};
+use store::{MemStore, Store, StoreError, Trouble};
 
 /// Files in memory. It counts the calls, but for those of the lock, the reads of tables, and the bytes that all reads gave. One call
 /// may be refused, a byte of what it returns be another one than was written, and files not be removed: so it isn't faithful.
@@ -17,6 +17,7 @@ pub struct WatchedStore {
     bytes_read: u64,
     changed: Cell<Option<(u64, u8)>>,
     keeps: Cell<bool>,
+    noted: Trouble,
 }
 
 impl WatchedStore {
@@ -35,6 +36,7 @@ impl WatchedStore {
             bytes_read: 0,
             changed: Cell::new(None),
             keeps: Cell::new(false),
+            noted: Trouble::none(),
         }
     }
 
@@ -89,8 +91,8 @@ impl WatchedStore {
         }
     }
 
-    // Notes what was read.
-    fn note(&mut self, name: &str, offset: u64, read: &mut [u8])
+    // Counts what was read.
+    fn count_read(&mut self, name: &str, offset: u64, read: &mut [u8])
         ensures { self.new.inner ≡ self.old.inner }
     {
         self.bytes_read = self.bytes_read.saturating_add(read.len() as u64);
@@ -106,10 +108,14 @@ impl Store for WatchedStore {
 
     ghost facts = { λ w. record (mem_facts w.inner) { faithful = false } };
 
-    // Where a call is refused, a file is removed that isn't there, which fails and is counted.
+    // Where a call is refused, a file that isn't there is removed, or synced by one that writes, which fails and is counted.
 
     fn failures(&self) -> u64 {
         self.inner.failures()
+    }
+
+    fn write_failures(&self) -> u64 {
+        self.inner.write_failures()
     }
 
     fn list(&mut self, alloc: Global) -> Result<Vec<String>, StoreError> {
@@ -137,34 +143,34 @@ impl Store for WatchedStore {
             self.inner.remove("")?;
         }
         let mut read = self.inner.read_at(alloc, name, offset, count)?;
-        self.note(name, offset, read.as_mut_slice());
+        self.count_read(name, offset, read.as_mut_slice());
         Ok(read)
     }
 
     fn create(&mut self, name: &str) -> Result<(), StoreError> {
         if self.is_refused() {
-            return self.inner.remove("");
+            return self.inner.sync("");
         }
         self.inner.create(name)
     }
 
     fn append(&mut self, name: &str, bytes: &[u8]) -> Result<(), StoreError> {
         if self.is_refused() {
-            return self.inner.remove("");
+            return self.inner.sync("");
         }
         self.inner.append(name, bytes)
     }
 
     fn sync(&mut self, name: &str) -> Result<(), StoreError> {
         if self.is_refused() {
-            return self.inner.remove("");
+            return self.inner.sync("");
         }
         self.inner.sync(name)
     }
 
     fn rename(&mut self, from: &str, to: &str) -> Result<(), StoreError> {
         if self.is_refused() {
-            return self.inner.remove("");
+            return self.inner.sync("");
         }
         self.inner.rename(from, to)
     }
@@ -182,5 +188,13 @@ impl Store for WatchedStore {
 
     fn unlock(&mut self) -> Result<(), StoreError> {
         self.inner.unlock()
+    }
+
+    fn note(&mut self, trouble: Trouble) {
+        self.noted = trouble.behind(self.noted);
+    }
+
+    fn noted(&self) -> Trouble {
+        self.noted
     }
 }

@@ -10,7 +10,7 @@ use std::alloc::{AllocGlobal, Global};
 use std::test::Fail;
 use store::{Extent, Fault, MemStore, Plan};
 
-const SCRIPTS: [Script; 5] = [BATCH, ITERATOR, STEPS, SNAPSHOTS, TURNS];
+const SCRIPTS: [Script; 6] = [BATCH, ITERATOR, STEPS, BY_LEVEL, SNAPSHOTS, TURNS];
 
 const EXTENTS: [Extent; 2] = [Extent::Before, Extent::After];
 

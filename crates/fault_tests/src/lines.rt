@@ -46,6 +46,7 @@ pub enum Line {
     Prev(u64),
     DropIterator(u64),
     Work(u32),
+    CompactLevel(u32),
     CompactAll,
     Close,
 }
@@ -103,6 +104,7 @@ pub fn op_of(alloc: Global, line: Line) -> Result<Op, DbError> {
         Line::Prev(id) => Op::Prev(id),
         Line::DropIterator(id) => Op::DropIterator(id),
         Line::Work(budget) => Op::Work(budget),
+        Line::CompactLevel(level) => Op::CompactLevel(level),
         Line::CompactAll => Op::CompactAll,
         Line::Close => Op::Close,
     })

@@ -16,8 +16,6 @@ struct View {
 enum Standing {
     Closed,
     Open,
-    // A call of a compaction failed that may have broken it, as its next answer tells.
-    Doubtful,
     Broken,
 }
 
@@ -180,7 +178,6 @@ impl Model {
         match (self.standing, answer) {
             (Standing::Closed, _) => self.after_real_open(mode, answer),
             (Standing::Broken, _) => self.unchanged(answer == Seen::Refused(DbError::Broken)),
-            (Standing::Doubtful, Seen::Refused(DbError::Broken)) => self.standing(Standing::Broken),
             (_, _) => self.unchanged(answer == Seen::Refused(DbError::AlreadyOpen)),
         }
     }
@@ -241,11 +238,9 @@ impl Model {
         match (self.standing, answer) {
             (Standing::Closed, _) => self.unchanged(answer == Seen::Refused(DbError::NotOpen)),
             (Standing::Broken, _) => self.unchanged(answer == Seen::Refused(DbError::Broken)),
-            (Standing::Doubtful, Seen::Refused(DbError::Broken)) => self.standing(Standing::Broken),
             (_, Seen::Refused(DbError::Io)) => self.after_failure(line, failed),
             (_, _) => {
                 let mut new = *self;
-                new.standing = Standing::Open;
                 if new.serve(line, answer) {
                     Some(new)
                 } else {
@@ -255,7 +250,7 @@ impl Model {
         }
     }
 
-    // A failed write breaks the database, save in the steps of a compaction. Any other failure leaves it as it was.
+    // A failed write breaks the database, also in a step of a compaction. Any other failure leaves it as it was.
     fn after_failure(&self, line: Line, failed: Failed) -> Option<Model> {
         match (line, failed) {
             (Line::Write(changes), Failed::Write) => {
@@ -266,8 +261,9 @@ impl Model {
             }
             (Line::Write(_), _) => None,
             (Line::Snapshot | Line::DropIterator(_), _) => None,
-            (Line::Work(_), Failed::Write) => self.standing(Standing::Doubtful),
-            (Line::CompactAll, Failed::Write) => self.standing(Standing::Doubtful),
+            (Line::Work(_) | Line::CompactLevel(_) | Line::CompactAll, Failed::Write) => {
+                self.standing(Standing::Broken)
+            }
             (_, Failed::Write) => None,
             (_, _) => Some(*self),
         }
@@ -285,7 +281,7 @@ impl Model {
             Line::Snapshot => self.snapshot() == answer,
             Line::Iterate => self.iterate() == answer,
             Line::Work(_) => matches!(answer, Seen::Worked | Seen::Idle),
-            Line::CompactAll => answer == Seen::Done,
+            Line::CompactLevel(_) | Line::CompactAll => answer == Seen::Done,
             Line::DropIterator(id) => self.drop_iterator(id) == answer,
             other => self.go(other) == answer,
         }

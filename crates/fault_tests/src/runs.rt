@@ -45,9 +45,10 @@ fn failures_of(session: &Faulty) -> (u64, u64) {
     (session.store().failures(), session.store().failed_writes())
 }
 
-/// Whether everything was synced in front of what names it.
+/// Whether everything was synced in front of what names it, and the store counted each failed write.
 pub fn is_ordered(session: &Faulty) -> bool {
     !session.store().is_early()
+        && session.store().write_failures() == session.store().failed_writes()
 }
 
 fn failed_since(session: &Faulty, before: (u64, u64)) -> Failed {

@@ -118,6 +118,25 @@ pub const STEPS: Script = Script {
     ],
 };
 
+/// Two tables, which go down two levels, one in each call.
+pub const BY_LEVEL: Script = Script {
+    sizes: FIVE_FILES,
+    lines: &[
+        Line::Open(Mode::Any),
+        Line::Write(&[(A, Some(b'1'))]),
+        Line::Work(9),
+        Line::Work(9),
+        Line::Write(&[(A, None), (B, Some(b'2'))]),
+        Line::Work(9),
+        Line::Work(9),
+        Line::CompactLevel(0),
+        Line::Get(A),
+        Line::CompactLevel(1),
+        Line::Get(A),
+        Line::Get(B),
+    ],
+};
+
 /// A compaction of what two snapshots see.
 pub const SNAPSHOTS: Script = Script {
     sizes: DEFAULTS,

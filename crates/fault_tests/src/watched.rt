@@ -114,6 +114,10 @@ impl Store for WatchedStore {
         self.inner.failures()
     }
 
+    fn write_failures(&self) -> u64 {
+        self.inner.write_failures()
+    }
+
     fn list(&mut self, alloc: Global) -> Result<Vec<String>, StoreError> {
         self.inner.list(alloc)
     }

@@ -1,9 +1,9 @@
 use coding::{Bytes, SEQUENCE_END};
 use ikey::{
-    Bytewise, Entry, EntryOrder, Internal, InternalKey, KeyOrder, Kind, Plain, all_come_before,
-    answered_in_row, compare_keys, first_found, newest_in_front, none_found, one_key, pack,
-    same_bytes, same_view, searched_by_two, searched_when_grown, searched_when_replaced, seek_key,
-    sorted_in_row, sought_in_order, unpack, unseen_in_front,
+    Bytewise, Entry, EntryOrder, Front, Internal, InternalKey, KeyOrder, Kind, Plain, ReverseBytes,
+    all_come_before, answered_in_row, compare_keys, first_found, newest_in_front, none_found,
+    one_key, pack, same_bytes, same_view, searched_by_two, searched_when_grown,
+    searched_when_replaced, seek_key, sorted_in_row, sought_in_order, unpack, unseen_in_front,
 };
 use std::alloc::{AllocError, Global};
 use std::cmp::Ordering;
@@ -135,6 +135,35 @@ fn bytes_are_ordered_by_the_first_that_differs(rt: HostRuntime) {
                 "{i} and {k}"
             );
         }
+    }
+}
+
+// Two keys, and what their first sixteen bytes tell.
+const FRONTS: [(&[u8], &[u8], Ordering); 9] = [
+    (b"", b"", Ordering::Equal),
+    (b"", b"\0", Ordering::Equal),
+    (b"a", b"", Ordering::Greater),
+    (b"a\xff", b"b", Ordering::Less),
+    (b"abcdefgh", b"abcdefgh\0\x01", Ordering::Less),
+    (b"abcdefghijklmno", b"abcdefghijklmnop", Ordering::Less),
+    (b"abcdefghijklmnop", b"abcdefghijklmnopq", Ordering::Equal),
+    (b"abcdefghijklmnopz", b"abcdefghijklmnopa", Ordering::Equal),
+    (
+        b"\x80bcdefghijklmnopq",
+        b"\x7fbcdefghijklmnop",
+        Ordering::Greater,
+    ),
+];
+
+fn fronts_tell(a: &[u8], b: &[u8], told: Ordering) -> bool {
+    Bytewise::compare_fronts(Front::of(a), Front::of(b)) == told
+        && ReverseBytes::compare_fronts(Front::of(b), Front::of(a)) == told
+}
+
+#[test]
+fn fronts_are_of_sixteen_bytes(rt: HostRuntime) {
+    for (a, b, told) in FRONTS {
+        assert!(rt; fronts_tell(a, b, told), "{a:?} {b:?}");
     }
 }
 

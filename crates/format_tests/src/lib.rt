@@ -12,6 +12,8 @@ mod keys;
 #[cfg(test)]
 mod logs;
 #[cfg(test)]
+mod made_tables;
+#[cfg(test)]
 mod numbers;
 #[cfg(test)]
 mod own_orders;

@@ -1,5 +1,5 @@
-ghost use Rattle.std.specs.Prelude.{All, IfOk};
-ghost use Rattle.edits.specs.Edit.{IsProper, IsInOrder};
+ghost use Rattle.std.specs.Prelude.{◌<◌, ◌^◌, All, IfOk, length};
+ghost use Rattle.edits.specs.Edit.{IsInternal, IsProper, IsInOrder};
 ghost use Rattle.edits.specs.declared.field.Field.TheVariants.{NewFile};
 
 use coding::{Bytes, Damage, Feature, ReadError};
@@ -21,11 +21,17 @@ const FLUSH: [u8; 31] = [
     0, 0, 0, 0, 0x09, 0x61, 0x01, 0x01, 0, 0, 0, 0, 0, 0,
 ];
 
+fn key(alloc: Global) -> Result<Bytes, AllocError>
+    ensures { IfOk result (λ key. (length key < 2 ^ 32) × IsInternal key) }
+{
+    Ok(Bytes::copied_from(alloc, &KEY)?)
+}
+
 fn flushed(alloc: Global) -> Result<PlacedTable, AllocError>
     ensures { IfOk result (λ placed. IsProper (NewFile placed)) }
 {
-    let smallest = Bytes::copied_from(alloc, &KEY)?;
-    let largest = Bytes::copied_from(alloc, &KEY)?;
+    let smallest = key(alloc)?;
+    let largest = key(alloc)?;
     Ok(PlacedTable {
         level: 0,
         table: TableFile {
@@ -70,7 +76,7 @@ fn edit_of_every_tag(alloc: Global) -> Result<Edit, AllocError>
     edit.push(Field::LogNumber(3))?;
     edit.push(Field::NextFileNumber(5))?;
     edit.push(Field::LastSequence(1))?;
-    edit.push(Field::CompactPointer(1, Bytes::copied_from(alloc, b"k")?))?;
+    edit.push(Field::CompactPointer(1, key(alloc)?))?;
     edit.push(Field::DeletedFile(2, 300))?;
     edit.push(Field::NewFile(flushed(alloc)?))?;
     edit.push(Field::PreviousLogNumber(2))?;
@@ -83,11 +89,12 @@ fn every_tag_is_written(rt: HostRuntime) -> Result<(), Fail> {
     let bytes = encode_edit(alloc, &edit_of_every_tag(alloc)?)?;
     assert!(rt;
         bytes.starts_with(&[
-            1, 1, b'c', 2, 3, 3, 5, 4, 1, 5, 1, 1, b'k', 6, 2, 0xAC, 2, 7, 0, 4, 0xB0, 1, 9, b'a'
+            1, 1, b'c', 2, 3, 3, 5, 4, 1, 5, 1, 9, b'a', 1, 1, 0, 0, 0, 0, 0, 0, 6, 2, 0xAC, 2, 7,
+            0, 4, 0xB0, 1, 9, b'a'
         ])
     );
     assert!(rt; bytes.ends_with(&[1, 1, 0, 0, 0, 0, 0, 0, 9, 2]));
-    assert_eq!(rt; bytes.len(), 44);
+    assert_eq!(rt; bytes.len(), 52);
     let again = decode_edit(alloc, &bytes)
         .ok()
         .ok_or("the bytes are an edit")?;
@@ -110,6 +117,18 @@ fn snapshot_of(alloc: Global, bytes: &[u8], previous_log_number: u64) -> Result<
     Ok(encode_edit(alloc, &snapshot)?)
 }
 
+// Two pointers, with the keys of p and q, and two tables, with keys of no user key, out of order.
+const MIXED: &[u8] =
+    b"\x02\x03\x05\x02\x09p\x01\x01\0\0\0\0\0\0\x03\x05\x05\0\x09q\x01\x01\0\0\0\0\0\0\
+    \x07\x01\x06\x01\x08\0\x01\0\0\0\0\0\0\x08\0\0\0\0\0\0\0\0\
+    \x07\0\x08\x01\x08\0\x01\0\0\0\0\0\0\x08\0\0\0\0\0\0\0\0\x04\x01";
+
+// What an edit says that repeats them.
+const SORTED: &[u8] =
+    b"\x02\x07\x03\x09\x04\x05\x05\0\x09q\x01\x01\0\0\0\0\0\0\x05\x02\x09p\x01\x01\0\0\0\0\0\0\
+    \x07\0\x08\x01\x08\0\x01\0\0\0\0\0\0\x08\0\0\0\0\0\0\0\0\
+    \x07\x01\x06\x01\x08\0\x01\0\0\0\0\0\0\x08\0\0\0\0\0\0\0\0\x09\x06";
+
 #[test]
 fn snapshot_repeats_the_layout(rt: HostRuntime) -> Result<(), Fail> {
     let alloc = rt.alloc();
@@ -122,19 +141,10 @@ fn snapshot_repeats_the_layout(rt: HostRuntime) -> Result<(), Fail> {
         )
     );
     assert_eq!(rt; bytes.len(), 28 + 31);
-    let mixed = [
-        2, 3, 5, 2, 1, b'p', 3, 5, 5, 0, 1, b'q', 7, 1, 6, 1, 1, b'a', 1, b'b', 7, 0, 8, 1, 1,
-        b'a', 1, b'b', 4, 1,
-    ];
-    let bytes = snapshot_of(alloc, &mixed, 6)?;
+    let bytes = snapshot_of(alloc, MIXED, 6)?;
     assert!(rt; bytes.starts_with(name));
-    assert!(rt;
-        bytes.ends_with(&[
-            2, 7, 3, 9, 4, 5, 5, 0, 1, b'q', 5, 2, 1, b'p', 7, 0, 8, 1, 1, b'a', 1, b'b', 7, 1, 6,
-            1, 1, b'a', 1, b'b', 9, 6,
-        ])
-    );
-    assert_eq!(rt; bytes.len(), 28 + 32);
+    assert!(rt; bytes.ends_with(SORTED));
+    assert_eq!(rt; bytes.len(), 28 + 76);
     Ok(())
 }
 
@@ -188,7 +198,7 @@ fn flush_edit_is_read_and_cut_ones_are_corrupt(rt: HostRuntime) {
     }
 }
 
-const MALFORMED: [&[u8]; 16] = [
+const MALFORMED: [&[u8]; 25] = [
     // tags that there are none of
     &[0],
     &[8],
@@ -199,16 +209,40 @@ const MALFORMED: [&[u8]; 16] = [
     &[2, 0x80],
     &[2, 0x80, 0],
     // levels above 6
-    &[5, 7, 1, b'k'],
+    &[5, 7, 8, 1, 1, 0, 0, 0, 0, 0, 0],
     &[6, 7, 1],
-    &[7, 7, 4, 1, 0, 0],
+    &[
+        7, 7, 4, 1, 8, 1, 1, 0, 0, 0, 0, 0, 0, 8, 1, 1, 0, 0, 0, 0, 0, 0,
+    ],
     // a new file numbered 0
-    &[7, 0, 0, 1, 0, 0],
+    &[
+        7, 0, 0, 1, 8, 1, 1, 0, 0, 0, 0, 0, 0, 8, 1, 1, 0, 0, 0, 0, 0, 0,
+    ],
     // a last sequence of 2^56
     &[4, 0x80, 0x80, 0x80, 0x80, 0x80, 0x80, 0x80, 0x80, 1],
     // strings that are cut
     &[1, 2, b'c'],
-    &[7, 0, 4, 1, 1, b'a', 2, b'b'],
+    &[
+        7, 0, 4, 1, 8, 1, 1, 0, 0, 0, 0, 0, 0, 9, 1, 1, 0, 0, 0, 0, 0, 0,
+    ],
+    // keys that are no internal keys: of no byte, of seven, and of a kind that there is none of
+    &[5, 0, 0],
+    &[5, 0, 7, 1, 1, 0, 0, 0, 0, 0],
+    &[5, 0, 8, 2, 1, 0, 0, 0, 0, 0, 0],
+    &[7, 0, 4, 1, 0, 8, 1, 1, 0, 0, 0, 0, 0, 0],
+    &[
+        7, 0, 4, 1, 7, 1, 1, 0, 0, 0, 0, 0, 8, 1, 1, 0, 0, 0, 0, 0, 0,
+    ],
+    &[
+        7, 0, 4, 1, 8, 2, 1, 0, 0, 0, 0, 0, 0, 8, 1, 1, 0, 0, 0, 0, 0, 0,
+    ],
+    &[7, 0, 4, 1, 8, 1, 1, 0, 0, 0, 0, 0, 0, 0],
+    &[
+        7, 0, 4, 1, 8, 1, 1, 0, 0, 0, 0, 0, 0, 7, 1, 1, 0, 0, 0, 0, 0,
+    ],
+    &[
+        7, 0, 4, 1, 8, 1, 1, 0, 0, 0, 0, 0, 0, 8, 2, 1, 0, 0, 0, 0, 0, 0,
+    ],
     // a number of 2^64
     &[3, 0x80, 0x80, 0x80, 0x80, 0x80, 0x80, 0x80, 0x80, 0x80, 2],
     // a number past the reading limit in front of a field that is cut
@@ -226,13 +260,15 @@ fn malformed_edits_are_corrupt(rt: HostRuntime) {
 
 const UNSUPPORTED: [&[u8]; 2] = [
     &[
-        7, 0, 0x80, 0x80, 0x80, 0x80, 0x80, 0x80, 0x80, 0x80, 0x40, 0, 0, 0,
+        7, 0, 0x80, 0x80, 0x80, 0x80, 0x80, 0x80, 0x80, 0x80, 0x40, 0, 8, 1, 1, 0, 0, 0, 0, 0, 0,
+        8, 1, 1, 0, 0, 0, 0, 0, 0,
     ],
     &[6, 0, 0x80, 0x80, 0x80, 0x80, 0x80, 0x80, 0x80, 0x80, 0x40],
 ];
 
-const SUPPORTED: [&[u8]; 5] = [
+const SUPPORTED: [&[u8]; 6] = [
     &[],
+    &[5, 6, 8, 1, 0xFF, 0xFF, 0xFF, 0xFF, 0xFF, 0xFF, 0xFF],
     &[6, 0, 0xFF, 0xFF, 0xFF, 0xFF, 0xFF, 0xFF, 0xFF, 0xFF, 0x3F],
     &[4, 0xFF, 0xFF, 0xFF, 0xFF, 0xFF, 0xFF, 0xFF, 0x7F],
     &[2, 0xFF, 0xFF, 0xFF, 0xFF, 0xFF, 0xFF, 0xFF, 0xFF, 0xFF, 1],
@@ -258,12 +294,19 @@ fn table_numbers_from_2_to_the_62_on_are_unsupported(rt: HostRuntime) {
 
 const NUMBERS: &[u8] = &[2, 9, 3, 10, 4, 1];
 
-const TWO: &[u8] = &[7, 1, 5, 1, 0, 0, 7, 0, 4, 1, 0, 0];
+const TWO: &[u8] = &[
+    7, 1, 5, 1, 8, 1, 1, 0, 0, 0, 0, 0, 0, 8, 1, 1, 0, 0, 0, 0, 0, 0, 7, 0, 4, 1, 8, 1, 1, 0, 0, 0,
+    0, 0, 0, 8, 1, 1, 0, 0, 0, 0, 0, 0,
+];
 
 // The new file stands in front of the deleted one.
-const MOVED: &[u8] = &[7, 2, 5, 1, 0, 0, 6, 1, 5];
+const MOVED: &[u8] = &[
+    7, 2, 5, 1, 8, 1, 1, 0, 0, 0, 0, 0, 0, 8, 1, 1, 0, 0, 0, 0, 0, 0, 6, 1, 5,
+];
 
-const DOUBLED: &[u8] = &[7, 3, 4, 1, 0, 0];
+const DOUBLED: &[u8] = &[
+    7, 3, 4, 1, 8, 1, 1, 0, 0, 0, 0, 0, 0, 8, 1, 1, 0, 0, 0, 0, 0, 0,
+];
 
 const OTHER_ORDER: &[u8] = &[1, 1, b'c'];
 

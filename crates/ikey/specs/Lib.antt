@@ -1,6 +1,7 @@
 pub mod Below
 pub mod BytewiseKeys
 pub mod Entries
+pub mod Fronts
 pub mod Keys
 pub mod KeyViews
 pub mod Orders

@@ -8,8 +8,10 @@ ghost use Rattle.std.specs.declared.cmp.Ordering.TheVariants.{Less};
 ghost use Rattle.std.specs.Cmp.{IsTotalOrder};
 ghost use Rattle.std.specs.Cmp.Lexicographic.{slice_cmp, nat_list_cmp_total};
 ghost use Rattle.std.specs.FinMap.{IsAntisymmetric, slice_cmp-IsAntisymmetric, nat_cmp-IsAntisymmetric};
+ghost use Rattle.ikey.specs.Fronts.{Decides};
 
 use crate::byte_order::{compare_bytes, is_less_behind};
+use crate::front::Front;
 use std::cmp::Ordering;
 
 /// A total order of byte strings, with the name under which a database records it.
@@ -32,6 +34,14 @@ pub trait KeyOrder {
         ensures { MatchBool result (cmp a.now (take shared a.now ++ rest.now) ≡ Less) ⊤ }
     {
         false
+    }
+
+    /// A quick look at the fronts of two keys: Less and Greater say how these compare, and also how they do behind the same
+    /// bytes. Equal says nothing, which is what an order says that has no such look.
+    fn compare_fronts(a: Front, b: Front) -> Ordering
+        ensures { Decides cmp a b result }
+    {
+        Ordering::Equal
     }
 
     ghost total: { IsTotalOrder cmp };
@@ -62,6 +72,11 @@ impl KeyOrder for Bytewise {
     #[inline(always)]
     fn is_plainly_below(a: &[u8], shared: usize, rest: &[u8]) -> bool {
         is_less_behind(a, shared, rest)
+    }
+
+    #[inline(always)]
+    fn compare_fronts(a: Front, b: Front) -> Ordering {
+        a.compare_bytes(b)
     }
 
     ghost total = { nat_list_cmp_total };

@@ -5,6 +5,7 @@ mod byte_equality;
 mod byte_order;
 mod entry;
 mod entry_order;
+mod front;
 mod internal_key;
 mod internal_key_order;
 mod key_order;
@@ -14,6 +15,7 @@ mod reverse_bytes;
 pub use byte_equality::same_bytes;
 pub use entry::Entry;
 pub use entry_order::{EntryOrder, Internal, Plain};
+pub use front::Front;
 pub use internal_key::{InternalKey, Kind, compare_keys, one_key, pack, seek_key, unpack};
 pub use key_order::{Bytewise, KeyOrder};
 pub use laws::{

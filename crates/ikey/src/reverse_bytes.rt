@@ -9,6 +9,7 @@ ghost use Rattle.std.proofs.Common.{sym};
 ghost use Rattle.std.specs.FinMap.{slice_cmp-IsAntisymmetric, nat_cmp-IsAntisymmetric};
 
 use crate::byte_order::compare_bytes;
+use crate::front::Front;
 use crate::key_order::KeyOrder;
 use std::cmp::Ordering;
 
@@ -26,6 +27,11 @@ impl KeyOrder for ReverseBytes {
 
     fn compare(a: &[u8], b: &[u8]) -> Ordering {
         compare_bytes(b, a)
+    }
+
+    #[inline(always)]
+    fn compare_fronts(a: Front, b: Front) -> Ordering {
+        b.compare_bytes(a)
     }
 
     ghost total = { back_total nat_list_cmp_total };

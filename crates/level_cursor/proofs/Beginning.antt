@@ -25,6 +25,7 @@ use Rattle.level_cursor.specs.InRows.{EndsBy, HasList, HaveLists, IsPlacedRow, j
 use Rattle.level_cursor.specs.Rows.{ListsRow, rows_tables}
 use Rattle.version_laws.specs.Places.{lists_of}
 use Rattle.version_laws.proofs.Sought.{kind_at_most}
+use Rattle.version_laws.proofs.TableKeys.{first_kept, last_kept}
 use Rattle.table_access.specs.Tables.{Seen, IsSound}
 use Rattle.table_access.proofs.Opening.{entries_rise}
 
@@ -129,6 +130,7 @@ module _ (order : Order) (total : IsTotalOrder order.cmp) where
     file = has.bytes;
     there = record { sound = sound; file_is = has.there };
     spelled = has.spelled.1;
+    keys = record { first = first_kept order total source.facts.files content has; last = last_kept order total source.facts.files content has };
     ends = ends_all has.largest.0 content.placed.table.largest has.largest.2 (fits_of order has.bytes content.entries has.largest.0 has.spelled has.largest.1) has.spelled.0
         (λ other i. has.largest.3 other (subst (λ (es : List Entry). Among es other) (sym has.spelled.2) i));
   }

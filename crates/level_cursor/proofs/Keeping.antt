@@ -39,18 +39,18 @@ module _ {K : Type 0} {g : _} (cmp : Cmp) (row : List PlacedTable) where
 
   -- ---- a search
 
-  pub found_kept : (old new first second : Seen) (here found : Option (InTable K g)) → IfSome found (λ (one : InTable K g). IsOneOf cmp old new row one.cursor.number one.cursor.table.value.frame) → KeepsTables cmp row here first second
+  pub found_kept : (old new first second : Seen) (here found : Option (InTable K g)) → IfSome found (λ (one : InTable K g). IsOneOf cmp old new row one.cursor.placed.table.number one.cursor.table.value.frame) → KeepsTables cmp row here first second
       → KeepsTables cmp row found first second
   found_kept old new first second here None opened k = nothing_kept cmp row here first second k
   found_kept old new first second here (Some one) opened k = opened_kept cmp row here one old new first second opened k
 
-  pub found_limited : {numbers : ℕ → Type 0} (old new : Seen) (here found : Option (InTable K g)) → IfSome found (λ (one : InTable K g). IsOneOf cmp old new row one.cursor.number one.cursor.table.value.frame) → Carries cmp numbers old new → IsTrue new.facts.faithful
+  pub found_limited : {numbers : ℕ → Type 0} (old new : Seen) (here found : Option (InTable K g)) → IfSome found (λ (one : InTable K g). IsOneOf cmp old new row one.cursor.placed.table.number one.cursor.table.value.frame) → Carries cmp numbers old new → IsTrue new.facts.faithful
       → IsOneLimited cmp new row ⊎ IsOpenLimited found → IsOneLimited cmp old row ⊎ IsOpenLimited here
   found_limited old new here found opened carries t (inl one) = inl (limited_before cmp old new row carries t one)
   found_limited old new here None opened carries t (inr long) = absurd long
-  found_limited old new here (Some one) opened carries t (inr long) = inl (opened_limited cmp old new row one.cursor.number one.cursor.table.value.frame opened t long)
+  found_limited old new here (Some one) opened carries t (inr long) = inl (opened_limited cmp old new row one.cursor.placed.table.number one.cursor.table.value.frame opened t long)
 
-  pub found_within : (old new : Seen) (here found : Option (InTable K g)) → IfSome found (λ (one : InTable K g). IsOneOf cmp old new row one.cursor.number one.cursor.table.value.frame) → (number : ℕ)
+  pub found_within : (old new : Seen) (here found : Option (InTable K g)) → IfSome found (λ (one : InTable K g). IsOneOf cmp old new row one.cursor.placed.table.number one.cursor.table.value.frame) → (number : ℕ)
       → ListsNumber row number ⊎ IsOpenNumber found number → ListsNumber row number ⊎ IsOpenNumber here number
   found_within old new here found opened number (inl has) = inl has
   found_within old new here None opened number (inr is) = absurd is
@@ -71,7 +71,7 @@ module _ {K : Type 0} {g : _} (cmp : Cmp) (row : List PlacedTable) where
   step_within None None same number (inr is) = absurd is
   step_within None (Some new) same number (inr is) = absurd same
   step_within (Some old) None same number (inr is) = absurd same
-  step_within (Some old) (Some new) same number (inr is) = inr (sym same.0 ∙ is)
+  step_within (Some old) (Some new) same number (inr is) = inr ((λ i. (sym same.0 i).table.number) ∙ is)
 
   -- where nothing moved
   pub still_limited : {numbers : ℕ → Type 0} (old new : Seen) (here : Option (InTable K g)) → Carries cmp numbers old new → IsTrue new.facts.faithful → IsOneLimited cmp new row ⊎ IsOpenLimited here → IsOneLimited cmp old row ⊎ IsOpenLimited here

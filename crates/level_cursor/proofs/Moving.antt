@@ -29,7 +29,7 @@ use Rattle.table.specs.Frame.{AnyLong, Frame, handles}
 
 pub open_carried : {K : Type 0} {g : _} {numbers : ℕ → Type 0} (cmp : Cmp) (here : Option (InTable K g)) (old new : Seen) → Carries cmp numbers old new → IsTrue new.facts.faithful → KeepsOpen cmp here old new
 open_carried cmp None old new carries t = tt
-open_carried cmp (Some here) old new carries t = record { same = same_table_at cmp old new here.cursor.number carries t; sound = carries.sound t }
+open_carried cmp (Some here) old new carries t = record { same = same_table_at cmp old new here.cursor.placed.table.number carries t; sound = carries.sound t }
 
 pub row_carried : {K : Type 0} {g : _} {numbers : ℕ → Type 0} (cmp : Cmp) (row : List PlacedTable) (here : Option (InTable K g)) (old new : Seen) → Carries cmp numbers old new → IsTrue new.facts.faithful → KeepsTables cmp row here old new
 row_carried cmp row here old new carries t = record {
@@ -39,7 +39,7 @@ row_carried cmp row here old new carries t = record {
 }
 
 -- a cursor of the row that was opened is kept where the row is
-pub opened_kept : {K : Type 0} {g : _} (cmp : Cmp) (row : List PlacedTable) (here : Option (InTable K g)) (found : InTable K g) (old new first second : Seen) → IsOneOf cmp old new row found.cursor.number found.cursor.table.value.frame
+pub opened_kept : {K : Type 0} {g : _} (cmp : Cmp) (row : List PlacedTable) (here : Option (InTable K g)) (found : InTable K g) (old new first second : Seen) → IsOneOf cmp old new row found.cursor.placed.table.number found.cursor.table.value.frame
     → KeepsTables cmp row here first second → KeepsTables cmp row (Some found) first second
 opened_kept cmp row here found old new first second one k = record {
   same = k.same;
@@ -55,7 +55,7 @@ pub same_kept : {K : Type 0} {g : _} (cmp : Cmp) (old : Option (InTable K g)) (n
 same_kept cmp None None first second same k = tt
 same_kept cmp None (Some new) first second same k = absurd same
 same_kept cmp (Some old) None first second same k = absurd same
-same_kept cmp (Some old) (Some new) first second same k = subst (λ (n : ℕ). KeepsSeenTable cmp n first second) (sym same.0) k
+same_kept cmp (Some old) (Some new) first second same k = subst (λ (p : PlacedTable). KeepsSeenTable cmp p.table.number first second) (sym same.0) k
 
 pub same_limited : {K : Type 0} {g : _} (old new : Option (InTable K g)) → IsSameTable old new → IsOpenLimited new → IsOpenLimited old
 same_limited None None same l = l
@@ -146,15 +146,15 @@ end_if list n none = elim (within_cases list n) [
   | inr h ↦ h.0
 ]
 
-module _ (cmp : Cmp) (old new : Seen) (lists : List (List InternalEntry)) (index number to_number : ℕ) (frame to_frame : Frame) (here to_here : Option (InBlock Placed)) (place : Option ℕ) (number_is : to_number ≡ number)
-    (frame_is : to_frame ≡ frame) (h : IsInTable cmp old lists index number frame here place) where
-  stands_at : (inside : ℕ) (to : Option ℕ) → ListsTable cmp new number frame to_here (listed h.list (Some inside)) → to ≡ Some (entries_before lists index + inside) → IsInTable cmp new lists index to_number to_frame to_here to
+module _ (cmp : Cmp) (old new : Seen) (lists : List (List InternalEntry)) (index : ℕ) (opened to_opened : PlacedTable) (frame to_frame : Frame) (here to_here : Option (InBlock Placed)) (place : Option ℕ) (opened_is : to_opened ≡ opened)
+    (frame_is : to_frame ≡ frame) (h : IsInTable cmp old lists index opened frame here place) where
+  stands_at : (inside : ℕ) (to : Option ℕ) → ListsTable cmp new opened frame to_here (listed h.list (Some inside)) → to ≡ Some (entries_before lists index + inside) → IsInTable cmp new lists index to_opened to_frame to_here to
   stands_at inside to stands is = record {
     list = h.list;
     inside = inside;
     list_is = h.list_is;
-    stands = subst (λ (n : ℕ). ListsTable cmp new n to_frame to_here (listed h.list (Some inside))) (sym number_is)
-        (subst (λ (f : Frame). ListsTable cmp new number f to_here (listed h.list (Some inside))) (sym frame_is) stands);
+    stands = subst (λ (p : PlacedTable). ListsTable cmp new p to_frame to_here (listed h.list (Some inside))) (sym opened_is)
+        (subst (λ (f : Frame). ListsTable cmp new opened f to_here (listed h.list (Some inside))) (sym frame_is) stands);
     place_is = is;
   }
 
@@ -164,21 +164,21 @@ module _ (cmp : Cmp) (old new : Seen) (lists : List (List InternalEntry)) (index
   less : h.inside < length h.list
   less = h.stands.inside h.inside refl
 
-  pub stays_put : ListsTable cmp new number frame to_here (listed h.list (Some h.inside)) → IsInTable cmp new lists index to_number to_frame to_here place
+  pub stays_put : ListsTable cmp new opened frame to_here (listed h.list (Some h.inside)) → IsInTable cmp new lists index to_opened to_frame to_here place
   stays_put stands = stands_at h.inside place stands h.place_is
 
-  pub went_on : StepsTo (ListsTable cmp new number frame to_here) to_next (Ok true) (listed h.list (Some h.inside)) → IsInTable cmp new lists index to_number to_frame to_here (option_and_then (index_behind (joined lists)) place)
+  pub went_on : StepsTo (ListsTable cmp new opened frame to_here) to_next (Ok true) (listed h.list (Some h.inside)) → IsInTable cmp new lists index to_opened to_frame to_here (option_and_then (index_behind (joined lists)) place)
   went_on moved =
       let behind = behind_if h.list (suc h.inside) moved.0 in
       let fits = list_inside lists index h.list h.list_is in
       let before : ℕ = entries_before lists index in
       let e : suc (before + h.inside) ≡ before + suc h.inside = omega arith in
       stands_at (suc h.inside) (option_and_then (index_behind (joined lists)) place)
-      (subst (λ (p : Option ℕ). ListsTable cmp new number frame to_here (listed h.list p)) (within_some h.list (suc h.inside) behind) moved.1)
+      (subst (λ (p : Option ℕ). ListsTable cmp new opened frame to_here (listed h.list p)) (within_some h.list (suc h.inside) behind) moved.1)
       (ap (option_and_then (index_behind (joined lists))) h.place_is ∙ within_some (joined lists) (suc (before + h.inside)) (omega (arith, behind, fits)) ∙ ap Some e)
 
-  pub ended_on : StepsTo (ListsTable cmp new number frame to_here) to_next (Ok false) (listed h.list (Some h.inside))
-      → IsInTable cmp new lists index to_number to_frame to_here place × (index + 1 ≤ length lists) × (within (joined lists) (entries_before lists (index + 1)) ≡ option_and_then (index_behind (joined lists)) place)
+  pub ended_on : StepsTo (ListsTable cmp new opened frame to_here) to_next (Ok false) (listed h.list (Some h.inside))
+      → IsInTable cmp new lists index to_opened to_frame to_here place × (index + 1 ≤ length lists) × (within (joined lists) (entries_before lists (index + 1)) ≡ option_and_then (index_behind (joined lists)) place)
   ended_on moved =
       let end = end_if h.list (suc h.inside) moved.0 in
       let inside = slice_get_within lists index h.list h.list_is in
@@ -191,22 +191,22 @@ module _ (cmp : Cmp) (old new : Seen) (lists : List (List InternalEntry)) (index
         ap (λ (n : ℕ). within (joined lists) (entries_before lists n)) (sym start) ∙ ap (within (joined lists)) e ∙ sym (ap (option_and_then (index_behind (joined lists))) h.place_is),
       )
 
-  one_back : (inside : ℕ) → h.inside ≡ suc inside → ListsTable cmp new number frame to_here (listed h.list (index_before h.inside)) → IsInTable cmp new lists index to_number to_frame to_here (option_and_then index_before place)
+  one_back : (inside : ℕ) → h.inside ≡ suc inside → ListsTable cmp new opened frame to_here (listed h.list (index_before h.inside)) → IsInTable cmp new lists index to_opened to_frame to_here (option_and_then index_before place)
   one_back inside e moved =
       let sum : entries_before lists index + h.inside ≡ suc (entries_before lists index + inside) = omega (arith, e) in
-      stands_at inside (option_and_then index_before place) (subst (λ (p : Option ℕ). ListsTable cmp new number frame to_here (listed h.list p)) (ap index_before e) moved)
+      stands_at inside (option_and_then index_before place) (subst (λ (p : Option ℕ). ListsTable cmp new opened frame to_here (listed h.list p)) (ap index_before e) moved)
       (ap (option_and_then index_before) (h.place_is ∙ ap Some sum))
 
-  pub went_back : StepsTo (ListsTable cmp new number frame to_here) to_prev (Ok true) (listed h.list (Some h.inside)) → IsInTable cmp new lists index to_number to_frame to_here (option_and_then index_before place)
+  pub went_back : StepsTo (ListsTable cmp new opened frame to_here) to_prev (Ok true) (listed h.list (Some h.inside)) → IsInTable cmp new lists index to_opened to_frame to_here (option_and_then index_before place)
   went_back moved = by h.inside refl where
-    by : (n : ℕ) → h.inside ≡ n → IsInTable cmp new lists index to_number to_frame to_here (option_and_then index_before place)
+    by : (n : ℕ) → h.inside ≡ n → IsInTable cmp new lists index to_opened to_frame to_here (option_and_then index_before place)
     by zero e = absurd (let none : is_some (index_before h.inside) ≡ false = ap (λ (n : ℕ). is_some (index_before n)) e in let bad : true ≡ false = sym moved.0 ∙ none in cc)
     by (suc n) e = one_back n e moved.1
 
-  pub ended_back : StepsTo (ListsTable cmp new number frame to_here) to_prev (Ok false) (listed h.list (Some h.inside))
-      → IsInTable cmp new lists index to_number to_frame to_here place × (index ≤ length lists) × (index_before (entries_before lists index) ≡ option_and_then index_before place)
+  pub ended_back : StepsTo (ListsTable cmp new opened frame to_here) to_prev (Ok false) (listed h.list (Some h.inside))
+      → IsInTable cmp new lists index to_opened to_frame to_here place × (index ≤ length lists) × (index_before (entries_before lists index) ≡ option_and_then index_before place)
   ended_back moved = by h.inside refl where
-    by : (n : ℕ) → h.inside ≡ n → IsInTable cmp new lists index to_number to_frame to_here place × (index ≤ length lists) × (index_before (entries_before lists index) ≡ option_and_then index_before place)
+    by : (n : ℕ) → h.inside ≡ n → IsInTable cmp new lists index to_opened to_frame to_here place × (index ≤ length lists) × (index_before (entries_before lists index) ≡ option_and_then index_before place)
     by zero e =
         let inside = slice_get_within lists index h.list h.list_is in
         let sum : entries_before lists index ≡ entries_before lists index + h.inside = omega (arith, e) in
@@ -217,7 +217,7 @@ module _ (cmp : Cmp) (old new : Seen) (lists : List (List InternalEntry)) (index
 
 pub entry_here : {K : Type 0} {g : _} (cmp : Cmp) (source : Seen) (row : List PlacedTable) (open_one : Option (InTable K g)) (here : InTable K g) (at : Listed) (index : ℕ) (entry : InternalEntry) → open_one ≡ Some here
     → ListsTables cmp source row open_one at → at.place ≡ Some index → slice_get at.entries index ≡ Some entry
-    → (list : List InternalEntry) × (inside : ℕ) × ListsTable cmp source here.cursor.number here.cursor.table.value.frame here.cursor.here (listed list (Some inside)) × (slice_get list inside ≡ Some entry)
+    → (list : List InternalEntry) × (inside : ℕ) × ListsTable cmp source here.cursor.placed here.cursor.table.value.frame here.cursor.here (listed list (Some inside)) × (slice_get list inside ≡ Some entry)
 entry_here {K} {g} cmp source row open_one here at index entry is lists place_is entry_is =
     let h = subst (λ (o : Option (InTable K g)). ListsTables cmp source row o at) is lists in
     let p = h.place in

@@ -38,8 +38,8 @@ pub none_leading : (cmp : Cmp) (entries : List InternalEntry) → leading (passe
 none_leading cmp [] = refl
 none_leading cmp (entry ∷ entries) = refl
 
-stands_if : (cmp : Cmp) (source : Seen) (number : ℕ) (frame : Frame) (here : Option (InBlock Placed)) (at : Listed) → ListsTable cmp source number frame here at → block_stands here ≡ is_some at.place
-stands_if cmp source number frame here at h = placed_in h.groups here at.place h.place
+stands_if : (cmp : Cmp) (source : Seen) (opened : PlacedTable) (frame : Frame) (here : Option (InBlock Placed)) (at : Listed) → ListsTable cmp source opened frame here at → block_stands here ≡ is_some at.place
+stands_if cmp source opened frame here at h = placed_in h.groups here at.place h.place
 
 -- whether the place is in the list
 inside_if : (list : List InternalEntry) (n : ℕ) → is_some (within list n) ≡ true → n < length list
@@ -54,29 +54,29 @@ past_if list n nowhere = elim (within_cases list n) [
   | inr h ↦ h.0
 ]
 
-module _ {numbers : ℕ → Type 0} (cmp : Cmp) (old mid new : Seen) (placed : PlacedTable) (number : ℕ) (frame : Frame) (begun here : Option (InBlock Placed)) (carries : Carries cmp numbers mid new)
-    (begins : IsTrue mid.facts.faithful → (list : List InternalEntry) → HasList cmp old placed list → ListsTable cmp mid number frame begun (listed list None)) (t : IsTrue new.facts.faithful) (list : List InternalEntry)
+module _ {numbers : ℕ → Type 0} (cmp : Cmp) (old mid new : Seen) (placed opened : PlacedTable) (frame : Frame) (begun here : Option (InBlock Placed)) (carries : Carries cmp numbers mid new)
+    (begins : IsTrue mid.facts.faithful → (list : List InternalEntry) → HasList cmp old placed list → ListsTable cmp mid opened frame begun (listed list None)) (t : IsTrue new.facts.faithful) (list : List InternalEntry)
     (has : HasList cmp old placed list) where
-  listed_first : ListsTable cmp mid number frame begun (listed list None)
+  listed_first : ListsTable cmp mid opened frame begun (listed list None)
   listed_first = begins (carries.reads.faithful t) list has
 
-  pub entered_first : (goal : Option Key) → IsAimed First goal → ((at : Listed) → ListsTable cmp mid number frame begun at → ListsTable cmp new number frame here (record at { place = to_first at }))
-      → ListsTable cmp new number frame here (listed list (ahead (passes cmp goal) list))
+  pub entered_first : (goal : Option Key) → IsAimed First goal → ((at : Listed) → ListsTable cmp mid opened frame begun at → ListsTable cmp new opened frame here (record at { place = to_first at }))
+      → ListsTable cmp new opened frame here (listed list (ahead (passes cmp goal) list))
   entered_first None aimed moves =
       let same : 0 ≡ leading (passes cmp None) list = sym (none_leading cmp list) in
-      subst (λ (n : ℕ). ListsTable cmp new number frame here (listed list (within list n))) same (moves (listed list None) listed_first)
+      subst (λ (n : ℕ). ListsTable cmp new opened frame here (listed list (within list n))) same (moves (listed list None) listed_first)
   entered_first (Some key) aimed moves = absurd aimed
 
   pub entered_key : (target : _) (goal : Option Key) → IsAimed (From target) goal
-      → ((key : Key) → IsKey target.now key → (at : Listed) → ListsTable cmp mid number frame begun at → ListsTable cmp new number frame here (record at { place = to_key cmp key at }))
-      → ListsTable cmp new number frame here (listed list (ahead (passes cmp goal) list))
+      → ((key : Key) → IsKey target.now key → (at : Listed) → ListsTable cmp mid opened frame begun at → ListsTable cmp new opened frame here (record at { place = to_key cmp key at }))
+      → ListsTable cmp new opened frame here (listed list (ahead (passes cmp goal) list))
   entered_key target None aimed moves = absurd aimed
   entered_key target (Some key) aimed moves = moves key aimed (listed list None) listed_first
 
-pub opened_at : (cmp : Cmp) (new : Seen) (number to_number : ℕ) (frame : Frame) (here : Option (InBlock Placed)) (list : List InternalEntry) → to_number ≡ number → here ≡ None → ListsTable cmp new number frame None (listed list None)
-    → ListsTable cmp new to_number frame here (listed list None)
-opened_at cmp new number to_number frame here list same nowhere h =
-    subst (λ (n : ℕ). ListsTable cmp new n frame here (listed list None)) (sym same) (subst (λ (o : Option (InBlock Placed)). ListsTable cmp new number frame o (listed list None)) (sym nowhere) h)
+pub opened_at : (cmp : Cmp) (new : Seen) (placed opened : PlacedTable) (frame : Frame) (here : Option (InBlock Placed)) (list : List InternalEntry) → opened ≡ placed → here ≡ None → ListsTable cmp new placed frame None (listed list None)
+    → ListsTable cmp new opened frame here (listed list None)
+opened_at cmp new placed opened frame here list same nowhere h =
+    subst (λ (p : PlacedTable). ListsTable cmp new p frame here (listed list None)) (sym same) (subst (λ (o : Option (InBlock Placed)). ListsTable cmp new placed frame o (listed list None)) (sym nowhere) h)
 
 pub key_refused : (target : _) (goal : Option Key) → IsAimed (From target) goal → ((key : Key) → IsKey target.now key → ⊥) → ⊥
 key_refused target None aimed f = aimed
@@ -96,13 +96,13 @@ pub searching_begins : (cmp : Cmp) (aim : Aim) (old : Seen) (row : List PlacedTa
 searching_begins cmp aim old row start = record { carries = carries_itself cmp old; still = refl; reached = λ t lists have goal aimed. refl }
 
 module _ (cmp : Cmp) (aim : Aim) (old now new : Seen) (row : List PlacedTable) (start index : ℕ) (s : IsSearching cmp aim old now row start index) (placed : PlacedTable) (carries : Carries cmp (Only placed.table.number) now new)
-    (at : slice_get row index ≡ Some placed) (number : ℕ) (frame : Frame) (here : Option (InBlock Placed))
-    (found : IsTrue new.facts.faithful → (list : List InternalEntry) → HasList cmp now placed list → (goal : Option Key) → IsAimed aim goal → ListsTable cmp new number frame here (listed list (ahead (passes cmp goal) list))) where
+    (at : slice_get row index ≡ Some placed) (opened : PlacedTable) (frame : Frame) (here : Option (InBlock Placed))
+    (found : IsTrue new.facts.faithful → (list : List InternalEntry) → HasList cmp now placed list → (goal : Option Key) → IsAimed aim goal → ListsTable cmp new opened frame here (listed list (ahead (passes cmp goal) list))) where
   its_list : (lists : List (List InternalEntry)) → HaveLists cmp old row lists → (list : List InternalEntry) × (slice_get lists index ≡ Some list) × HasList cmp old placed list
   its_list lists have = list_at cmp old row lists index placed have at
 
   its_place : IsTrue new.facts.faithful → (lists : List (List InternalEntry)) (have : HaveLists cmp old row lists) (goal : Option Key) → IsAimed aim goal
-      → ListsTable cmp new number frame here (listed (its_list lists have).0 (ahead (passes cmp goal) (its_list lists have).0))
+      → ListsTable cmp new opened frame here (listed (its_list lists have).0 (ahead (passes cmp goal) (its_list lists have).0))
   its_place t lists have goal aimed = found t (its_list lists have).0 (carried_list cmp old now placed (its_list lists have).0 s.carries (carries.reads.faithful t) (its_list lists have).2) goal aimed
 
   pub searching_on : block_stands here ≡ false → new.facts.failures ≡ now.facts.failures → IsSearching cmp aim old new row start (index + 1)
@@ -113,7 +113,7 @@ module _ (cmp : Cmp) (aim : Aim) (old now new : Seen) (row : List PlacedTable) (
         let one = its_list lists have in
         let test : InternalEntry → Bool = passes cmp goal in
         let lists_it = its_place t lists have goal aimed in
-        let none : is_some (ahead test one.0) ≡ false = sym (stands_if cmp new number frame here (listed one.0 (ahead test one.0)) lists_it) ∙ nowhere in
+        let none : is_some (ahead test one.0) ≡ false = sym (stands_if cmp new opened frame here (listed one.0 (ahead test one.0)) lists_it) ∙ nowhere in
         let long = past_if one.0 (leading test one.0) none in
         let e : suc index ≡ index + 1 = omega arith in
         subst (λ (n : ℕ). entries_before lists start + leading test (joined (drop start lists)) ≡ entries_before lists n + leading test (joined (drop n lists))) e
@@ -121,19 +121,19 @@ module _ (cmp : Cmp) (aim : Aim) (old now new : Seen) (row : List PlacedTable) (
   }
 
   pub searching_found : block_stands here ≡ true → IsTrue new.facts.faithful → (lists : List (List InternalEntry)) → HaveLists cmp old row lists → (goal : Option Key) → IsAimed aim goal
-      → IsInTable cmp new lists index number frame here (within (joined lists) (entries_before lists start + leading (passes cmp goal) (joined (drop start lists))))
+      → IsInTable cmp new lists index opened frame here (within (joined lists) (entries_before lists start + leading (passes cmp goal) (joined (drop start lists))))
   searching_found stands t lists have goal aimed =
       let one = its_list lists have in
       let test : InternalEntry → Bool = passes cmp goal in
       let lists_it = its_place t lists have goal aimed in
-      let some : is_some (ahead test one.0) ≡ true = sym (stands_if cmp new number frame here (listed one.0 (ahead test one.0)) lists_it) ∙ stands in
+      let some : is_some (ahead test one.0) ≡ true = sym (stands_if cmp new opened frame here (listed one.0 (ahead test one.0)) lists_it) ∙ stands in
       let less = inside_if one.0 (leading test one.0) some in
       let fits = before_inside lists index one.0 one.1 in
       record {
         list = one.0;
         inside = leading test one.0;
         list_is = one.1;
-        stands = subst (λ (p : Option ℕ). ListsTable cmp new number frame here (listed one.0 p)) (within_some one.0 (leading test one.0) less) lists_it;
+        stands = subst (λ (p : Option ℕ). ListsTable cmp new opened frame here (listed one.0 p)) (within_some one.0 (leading test one.0) less) lists_it;
         place_is = ap (within (joined lists)) (s.reached (carries.reads.faithful t) lists have goal aimed ∙ ended_in test lists index one.0 one.1 less)
             ∙ within_some (joined lists) (entries_before lists index + leading test one.0) (omega (arith, less, fits));
       }
@@ -171,13 +171,13 @@ pub back_begins : (cmp : Cmp) (old : Seen) (row : List PlacedTable) (end : ℕ) 
 back_begins cmp old row end = record { carries = carries_itself cmp old; still = refl; same = λ t lists have fits. let e : end - 0 ≡ end = omega arith in ap (entries_before lists) e }
 
 module _ (cmp : Cmp) (old now new : Seen) (row : List PlacedTable) (end step index : ℕ) (less : step < end) (its_index : index ≡ end - step - 1) (s : IsSearchingBack cmp old now row end step) (placed : PlacedTable)
-    (carries : Carries cmp (Only placed.table.number) now new) (at : slice_get row index ≡ Some placed) (number : ℕ) (frame : Frame) (here : Option (InBlock Placed))
-    (found : IsTrue new.facts.faithful → (list : List InternalEntry) → HasList cmp now placed list → ListsTable cmp new number frame here (listed list (index_before (length list)))) where
+    (carries : Carries cmp (Only placed.table.number) now new) (at : slice_get row index ≡ Some placed) (opened : PlacedTable) (frame : Frame) (here : Option (InBlock Placed))
+    (found : IsTrue new.facts.faithful → (list : List InternalEntry) → HasList cmp now placed list → ListsTable cmp new opened frame here (listed list (index_before (length list)))) where
   the_list : (lists : List (List InternalEntry)) → HaveLists cmp old row lists → (list : List InternalEntry) × (slice_get lists index ≡ Some list) × HasList cmp old placed list
   the_list lists have = list_at cmp old row lists index placed have at
 
   the_place : IsTrue new.facts.faithful → (lists : List (List InternalEntry)) (have : HaveLists cmp old row lists)
-      → ListsTable cmp new number frame here (listed (the_list lists have).0 (index_before (length (the_list lists have).0)))
+      → ListsTable cmp new opened frame here (listed (the_list lists have).0 (index_before (length (the_list lists have).0)))
   the_place t lists have = found t (the_list lists have).0 (carried_list cmp old now placed (the_list lists have).0 s.carries (carries.reads.faithful t) (the_list lists have).2)
 
   ends_here : IsTrue new.facts.faithful → (lists : List (List InternalEntry)) (have : HaveLists cmp old row lists) → end ≤ length lists → entries_before lists end ≡ entries_before lists index + length (the_list lists have).0
@@ -191,24 +191,24 @@ module _ (cmp : Cmp) (old now new : Seen) (row : List PlacedTable) (end step ind
     still = stood ∙ s.still;
     same = λ t lists have fits.
         let one = the_list lists have in
-        let none = none_if one.0 (sym (stands_if cmp new number frame here (listed one.0 (index_before (length one.0))) (the_place t lists have)) ∙ nowhere) in
+        let none = none_if one.0 (sym (stands_if cmp new opened frame here (listed one.0 (index_before (length one.0))) (the_place t lists have)) ∙ nowhere) in
         let sums = ends_here t lists have fits in
         let e : end - (step + 1) ≡ index = omega (arith, its_index) in
         ap (entries_before lists) e ∙ (let sum : entries_before lists index ≡ entries_before lists end = omega (arith, sums, none) in sum);
   }
 
   pub back_found : block_stands here ≡ true → IsTrue new.facts.faithful → (lists : List (List InternalEntry)) → HaveLists cmp old row lists → end ≤ length lists
-      → IsInTable cmp new lists index number frame here (index_before (entries_before lists end))
+      → IsInTable cmp new lists index opened frame here (index_before (entries_before lists end))
   back_found stands t lists have fits =
       let one = the_list lists have in
-      let l = last_if one.0 (sym (stands_if cmp new number frame here (listed one.0 (index_before (length one.0))) (the_place t lists have)) ∙ stands) in
+      let l = last_if one.0 (sym (stands_if cmp new opened frame here (listed one.0 (index_before (length one.0))) (the_place t lists have)) ∙ stands) in
       let sums = ends_here t lists have fits in
       let long = l.1 in
       record {
         list = one.0;
         inside = l.0;
         list_is = one.1;
-        stands = subst (λ (p : Option ℕ). ListsTable cmp new number frame here (listed one.0 p)) (before_of (length one.0) l.0 long) (the_place t lists have);
+        stands = subst (λ (p : Option ℕ). ListsTable cmp new opened frame here (listed one.0 p)) (before_of (length one.0) l.0 long) (the_place t lists have);
         place_is = before_of (entries_before lists end) (entries_before lists index + l.0) (omega (arith, sums, long));
       }
 

@@ -11,6 +11,7 @@ use Rattle.ikey.specs.Entries.{InternalEntry}
 use Rattle.ikey.specs.Keys.{IsKey}
 use Rattle.level_cursor.specs.declared.in_table.InTable.{InTable}
 use Rattle.table_access.specs.declared.in_block.InBlock.{InBlock}
+use Rattle.table_access.specs.Ends.{HasKeysOf}
 use Rattle.table_access.specs.TablePlaces.{KeepsSeenTable, ListsTable, block_stands}
 use Rattle.table_access.specs.Tables.{Seen, IsSound, HasSoundTable}
 use Rattle.table_access.specs.Values.{IsTablePastLimit}
@@ -33,12 +34,14 @@ entries_before (list ∷ lists) (suc index) = length list + entries_before lists
 abbrev pub EndsBy : Cmp → List ℕ → List InternalEntry → Type 0
 EndsBy cmp key entries = AllByRecursion (λ (entry : InternalEntry). (bytes : List ℕ) → IsKey bytes entry.key → IsBelowInternal cmp key bytes → ⊥) entries
 
--- The source has a table of this number, with these entries, of which none comes behind its largest key.
+-- The source has this table of an edit, with these entries, which have the edit's keys at their ends, so that none comes behind the
+-- largest.
 pub record HasList (cmp : Cmp) (source : Seen) (placed : PlacedTable) (entries : List InternalEntry) : Type 0 where
   pub positive : 0 < placed.table.number
   pub file : List ℕ
   pub there : HasSoundTable cmp source placed.table.number file
   pub spelled : IsTable cmp file entries
+  pub keys : HasKeysOf placed entries
   pub ends : EndsBy cmp placed.table.largest entries
 
 -- it has each of them
@@ -51,17 +54,17 @@ HaveLists cmp source tables lists = ⊥
 
 -- The table of this index has a list, in which the cursor over it stands on an entry; place is that among the entries of
 -- all tables.
-pub record IsInTable (cmp : Cmp) (source : Seen) (lists : List (List InternalEntry)) (index number : ℕ) (frame : Frame) (here : Option (InBlock Placed)) (place : Option ℕ) : Type 0 where
+pub record IsInTable (cmp : Cmp) (source : Seen) (lists : List (List InternalEntry)) (index : ℕ) (placed : PlacedTable) (frame : Frame) (here : Option (InBlock Placed)) (place : Option ℕ) : Type 0 where
   pub list : List InternalEntry
   pub inside : ℕ
   pub list_is : slice_get lists index ≡ Some list
-  pub stands : ListsTable cmp source number frame here (listed list (Some inside))
+  pub stands : ListsTable cmp source placed frame here (listed list (Some inside))
   pub place_is : place ≡ Some (entries_before lists index + inside)
 
 -- so it stands at this place, in the table that is open, or nowhere where none is
 abbrev pub IsPlacedRow : {K : Type 0} {g : _} → Cmp → Seen → List (List InternalEntry) → Option (InTable K g) → Option ℕ → Type 0
 IsPlacedRow cmp source lists None place = place ≡ None
-IsPlacedRow cmp source lists (Some here) place = IsInTable cmp source lists here.index here.cursor.number here.cursor.table.value.frame here.cursor.here place
+IsPlacedRow cmp source lists (Some here) place = IsInTable cmp source lists here.index here.cursor.placed here.cursor.table.value.frame here.cursor.here place
 
 abbrev pub table_stands : {K : Type 0} {g : _} → Option (InTable K g) → Bool
 table_stands None = false
@@ -80,7 +83,7 @@ pub record ListsTables {K : Type 0} {g : _} (cmp : Cmp) (source : Seen) (row : L
 -- the second source has the same table where one is open
 abbrev pub KeepsOpen : {K : Type 0} {g : _} → Cmp → Option (InTable K g) → Seen → Seen → Type 0
 KeepsOpen cmp None old new = Unit {0}
-KeepsOpen cmp (Some here) old new = KeepsSeenTable cmp here.cursor.number old new
+KeepsOpen cmp (Some here) old new = KeepsSeenTable cmp here.cursor.placed.table.number old new
 
 -- The second source has the same tables, and what it keeps is right where that of the first is.
 pub record KeepsTables {K : Type 0} {g : _} (cmp : Cmp) (row : List PlacedTable) (open_one : Option (InTable K g)) (old new : Seen) : Type 0 where
@@ -99,7 +102,7 @@ ListsNumber tables number = (placed : PlacedTable) × Contains tables placed × 
 -- the table that is open has it
 abbrev pub IsOpenNumber : {K : Type 0} {g : _} → Option (InTable K g) → ℕ → Type 0
 IsOpenNumber None number = ⊥
-IsOpenNumber (Some here) number = here.cursor.number ≡ number
+IsOpenNumber (Some here) number = here.cursor.placed.table.number ≡ number
 
 abbrev pub IsOpenLimited : {K : Type 0} {g : _} → Option (InTable K g) → Type 0
 IsOpenLimited None = ⊥

@@ -24,6 +24,7 @@ still_list cmp old new placed list same sound h = record {
   file = h.file;
   there = record { sound = sound h.there.sound; file_is = same ∙ h.there.file_is };
   spelled = h.spelled;
+  keys = h.keys;
   ends = h.ends;
 }
 
@@ -45,7 +46,7 @@ still_placed cmp old new lists (Some here) place k h = record {
   list = h.list;
   inside = h.inside;
   list_is = h.list_is;
-  stands = table_kept cmp here.cursor.number here.cursor.table.value.frame here.cursor.here old new (listed h.list (Some h.inside)) k h.stands;
+  stands = table_kept cmp here.cursor.placed here.cursor.table.value.frame here.cursor.here old new (listed h.list (Some h.inside)) k h.stands;
   place_is = h.place_is;
 }
 
@@ -62,11 +63,11 @@ lists_kept cmp row here old new at k h = record {
 
 open_still : {K : Type 0} {g : _} (cmp : Cmp) (here : Option (InTable K g)) (source : Seen) → KeepsOpen cmp here source source
 open_still cmp None source = tt
-open_still cmp (Some here) source = table_still cmp here.cursor.number source
+open_still cmp (Some here) source = table_still cmp here.cursor.placed.table.number source
 
 open_onward : {K : Type 0} {g : _} (cmp : Cmp) (here : Option (InTable K g)) (first second third : Seen) → KeepsOpen cmp here first second → KeepsOpen cmp here second third → KeepsOpen cmp here first third
 open_onward cmp None first second third k l = tt
-open_onward cmp (Some here) first second third k l = table_onward cmp here.cursor.number first second third k l
+open_onward cmp (Some here) first second third k l = table_onward cmp here.cursor.placed.table.number first second third k l
 
 pub row_still : {K : Type 0} {g : _} (cmp : Cmp) (row : List PlacedTable) (here : Option (InTable K g)) (source : Seen) → KeepsTables cmp row here source source
 row_still cmp row here source = record { same = λ placed i. refl; sound = λ h. h; here = open_still cmp here source }

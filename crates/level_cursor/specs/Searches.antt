@@ -41,7 +41,7 @@ pub record IsFirstTable (cmp : Cmp) (target : List ℕ) (row : List PlacedTable)
 -- the same table is open
 abbrev pub IsSameTable : {K : Type 0} {g : _} → Option (InTable K g) → Option (InTable K g) → Type 0
 IsSameTable None None = Unit {0}
-IsSameTable (Some old) (Some new) = (new.cursor.number ≡ old.cursor.number) × (new.cursor.table.value.frame ≡ old.cursor.table.value.frame)
+IsSameTable (Some old) (Some new) = (new.cursor.placed ≡ old.cursor.placed) × (new.cursor.table.value.frame ≡ old.cursor.table.value.frame)
 IsSameTable old new = ⊥
 
 -- It has gone on to the entry behind; or it stays, and the entry behind is the first from this table on, or it was refused.

@@ -48,7 +48,7 @@ pub fn search_on<K: KeyOrder, S: Store>(
         → IsPlacedRow K.cmp (seen_through S.facts source.new) lists here
         (within (joined lists) (entries_before lists start + leading (passes K.cmp goal) (joined (drop start lists))))) }
     ensures opened { IfOk result (λ here. IfSome here (λ found. IsOneOf K.cmp (seen_through S.facts source.old)
-        (seen_through S.facts source.new) row.now found.cursor.number found.cursor.table.value.frame)) }
+        (seen_through S.facts source.new) row.now found.cursor.placed.table.number found.cursor.table.value.frame)) }
     ensures still { IsStill (S.facts source.old.store) (S.facts source.new.store) result }
     ensures refused { IfErr result (λ e. Refuses e (S.facts source.old.store) (S.facts source.new.store)
         ((lists : List (List InternalEntry)) (goal : Option Key) → HaveLists K.cmp (seen_through S.facts source.old) row.now lists
@@ -76,7 +76,7 @@ pub fn search_back<K: KeyOrder, S: Store>(
         → HaveLists K.cmp (seen_through S.facts source.old) row.now lists
         → end ≤ length lists → IsPlacedRow K.cmp (seen_through S.facts source.new) lists here (index_before (entries_before lists end))) }
     ensures opened { IfOk result (λ here. IfSome here (λ found. IsOneOf K.cmp (seen_through S.facts source.old)
-        (seen_through S.facts source.new) row.now found.cursor.number found.cursor.table.value.frame)) }
+        (seen_through S.facts source.new) row.now found.cursor.placed.table.number found.cursor.table.value.frame)) }
     ensures still { IsStill (S.facts source.old.store) (S.facts source.new.store) result }
     ensures refused { IfErr result (λ e. Refuses e (S.facts source.old.store) (S.facts source.new.store)
         ((lists : List (List InternalEntry)) → HaveLists K.cmp (seen_through S.facts source.old) row.now lists → end ≤ length lists → ⊥)
@@ -121,12 +121,12 @@ fn enter<K: KeyOrder, S: Store>(
     aim: Aim<'_>,
 ) -> Result<TableCursor<K>, DbError>
     ensures carries { Carries K.cmp (Only placed.now.table.number) (seen_through S.facts source.old) (seen_through S.facts source.new) }
-    ensures number { IfOk result (λ cursor. cursor.number ≡ placed.now.table.number) }
+    ensures placed { IfOk result (λ cursor. cursor.placed ≡ placed.now) }
     ensures opened { IfOk result (λ cursor. SaysOf K.cmp (seen_through S.facts source.old)
         (seen_through S.facts source.new) placed.now.table.number (λ file. IsOpenFrame K.cmp file cursor.table.value.frame)) }
     ensures found { IfOk result (λ cursor. IsTrue (S.facts source.new.store).faithful → (list : List InternalEntry)
         → HasList K.cmp (seen_through S.facts source.old) placed.now list → (goal : Option Key) → IsAimed aim.entry goal
-        → ListsTable K.cmp (seen_through S.facts source.new) cursor.number cursor.table.value.frame cursor.here
+        → ListsTable K.cmp (seen_through S.facts source.new) cursor.placed cursor.table.value.frame cursor.here
         (listed list (ahead (passes K.cmp goal) list))) }
     ensures still { IsStill (S.facts source.old.store) (S.facts source.new.store) result }
     ensures refused { IfErr result (λ e. Refuses e (S.facts source.old.store) (S.facts source.new.store)
@@ -154,12 +154,12 @@ fn leave<K: KeyOrder, S: Store>(
     placed: &PlacedTable,
 ) -> Result<TableCursor<K>, DbError>
     ensures carries { Carries K.cmp (Only placed.now.table.number) (seen_through S.facts source.old) (seen_through S.facts source.new) }
-    ensures number { IfOk result (λ cursor. cursor.number ≡ placed.now.table.number) }
+    ensures placed { IfOk result (λ cursor. cursor.placed ≡ placed.now) }
     ensures opened { IfOk result (λ cursor. SaysOf K.cmp (seen_through S.facts source.old)
         (seen_through S.facts source.new) placed.now.table.number (λ file. IsOpenFrame K.cmp file cursor.table.value.frame)) }
     ensures found { IfOk result (λ cursor. IsTrue (S.facts source.new.store).faithful → (list : List InternalEntry)
         → HasList K.cmp (seen_through S.facts source.old) placed.now list
-        → ListsTable K.cmp (seen_through S.facts source.new) cursor.number cursor.table.value.frame cursor.here
+        → ListsTable K.cmp (seen_through S.facts source.new) cursor.placed cursor.table.value.frame cursor.here
         (listed list (index_before (length list)))) }
     ensures still { IsStill (S.facts source.old.store) (S.facts source.new.store) result }
     ensures refused { IfErr result (λ e. Refuses e (S.facts source.old.store) (S.facts source.new.store)
@@ -178,22 +178,21 @@ fn open<K: KeyOrder, S: Store>(
     placed: &PlacedTable,
 ) -> Result<TableCursor<K>, DbError>
     ensures carries { Carries K.cmp (Only placed.now.table.number) (seen_through S.facts source.old) (seen_through S.facts source.new) }
-    ensures number { IfOk result (λ cursor. cursor.number ≡ placed.now.table.number) }
+    ensures placed { IfOk result (λ cursor. cursor.placed ≡ placed.now) }
     ensures opened { IfOk result (λ cursor. SaysOf K.cmp (seen_through S.facts source.old)
         (seen_through S.facts source.new) placed.now.table.number (λ file. IsOpenFrame K.cmp file cursor.table.value.frame)) }
     ensures found { IfOk result (λ cursor. IsTrue (S.facts source.new.store).faithful → (list : List InternalEntry)
         → HasList K.cmp (seen_through S.facts source.old) placed.now list
-        → ListsTable K.cmp (seen_through S.facts source.new) cursor.number cursor.table.value.frame cursor.here (listed list None)) }
+        → ListsTable K.cmp (seen_through S.facts source.new) cursor.placed cursor.table.value.frame cursor.here (listed list None)) }
     ensures still { IsStill (S.facts source.old.store) (S.facts source.new.store) result }
     ensures refused { IfErr result (λ e. Refuses e (S.facts source.old.store) (S.facts source.new.store)
         ((list : List InternalEntry) → HasList K.cmp (seen_through S.facts source.old) placed.now list → ⊥)
         ((file : List ℕ) → HasSoundTable K.cmp (seen_through S.facts source.old) placed.now.table.number file → IsTablePastLimit K.cmp file)) }
 {
-    let number = placed.table.number;
     // No file has the number 0, and the caches aren't asked for it.
-    if number == 0 {
+    if placed.table.number == 0 {
         return Err(DbError::Corrupt(FileKind::Table, Damage::Missing));
     }
-    let cursor = TableCursor::open(alloc, source, number)?;
+    let cursor = TableCursor::open(alloc, source, placed)?;
     Ok(cursor)
 }

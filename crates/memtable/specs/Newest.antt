@@ -1,5 +1,5 @@
 -- What a search for a user key finds (LevelDB's doc/index.md, "Snapshots").
-use Rattle.std.specs.Prelude.{◌≡◌, ℕ, Option, Some, None, List}
+use Rattle.std.specs.Prelude.{◌≡◌, ℕ, Option, Some, None, List, [], ◌∷◌}
 use Rattle.std.specs.Borrow.{Bor}
 use Rattle.ikey.specs.declared.entry.Entry.{Entry}
 use Rattle.ikey.specs.Views.{Among, IsNewest, IsUnseen}
@@ -12,6 +12,11 @@ HasEntry entries key sequence = (entry : Entry) × Among entries entry × (entry
 -- no entry has this user key and sequence
 abbrev pub IsNew : List Entry → List ℕ → ℕ → Type 0
 IsNew entries key sequence = (entry : Entry) → Among entries entry → entry.key ≡ key → entry.sequence ≡ sequence → ⊥
+
+-- no two entries have the same user key and sequence
+abbrev pub AllDiffer : List Entry → Type 0
+AllDiffer [] = Unit {0}
+AllDiffer (entry ∷ entries) = IsNew entries entry.key entry.sequence × AllDiffer entries
 
 -- what a search for a user key has found: nothing where none of its entries is seen, and else what the newest one put
 abbrev pub IsLookUp : List Entry → ℕ → List ℕ → Option (Option (Bor (List ℕ))) → Type 0

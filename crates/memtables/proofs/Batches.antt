@@ -6,7 +6,7 @@ use Rattle.std.proofs.lemmas.List.{length-take-le}
 use Rattle.batch.specs.declared.operation.Operation.{Operation}
 use Rattle.ikey.specs.declared.entry.Entry.{Entry}
 use Rattle.ikey.specs.Views.{Among, AllUpTo}
-use Rattle.memtable.specs.Newest.{IsNew}
+use Rattle.memtable.specs.Newest.{AllDiffer}
 use Rattle.recover.specs.Entries.{RiseAbove, greatest, made_entry, entries_of}
 use Rattle.memtables.specs.Memories.{operation_bytes}
 
@@ -36,26 +36,10 @@ above_low low [] e h among = absurd among
 above_low low (first ∷ entries) e h (inl is) = (let same : e.sequence ≡ first.sequence = ap (λ (x : Entry). x.sequence) is in let low_first : low < first.sequence = h.0 in omega (arith, same, low_first))
 above_low low (first ∷ entries) e h (inr rest) = (let low_first : low < first.sequence = h.0 in let more = above_low first.sequence entries e h.1 rest in omega (arith, low_first, more))
 
--- what stands in front of an entry is older
-pub older_in_front : (low : ℕ) (entries : List Entry) (i : ℕ) (none e : Entry) → i < length entries → RiseAbove low entries → Among (take i entries) e → e.sequence < (get_or entries i none).sequence
-older_in_front low [] i none e within h among = absurd (omega arith)
-older_in_front low (first ∷ entries) zero none e within h among = absurd among
-older_in_front low (first ∷ entries) (suc i) none e within h (inl is) =
-    (let same : e.sequence ≡ first.sequence = ap (λ (x : Entry). x.sequence) is in
-    let later = above_low first.sequence entries (get_or entries i none) h.1 (there entries i (omega arith)) in
-    omega (arith, same, later))
-  where
-    there : (es : List Entry) (i : ℕ) → i < length es → Among es (get_or es i none)
-    there [] i within = absurd (omega arith)
-    there (x ∷ es) zero within = inl refl
-    there (x ∷ es) (suc i) within = inr (there es i (omega arith))
-older_in_front low (first ∷ entries) (suc i) none e within h (inr rest) = older_in_front first.sequence entries i none e (omega arith) h.1 rest
-
-pub new_behind : (entries : List Entry) (i : ℕ) (none entry : Entry) → i < length entries → RiseAbove 0 entries → entry ≡ get_or entries i none → IsNew (take i entries) entry.key entry.sequence
-new_behind entries i none entry within h is e among key same =
-    (let older = older_in_front 0 entries i none e within h among in
-    let at : entry.sequence ≡ (get_or entries i none).sequence = ap (λ (x : Entry). x.sequence) is in
-    omega (arith, older, at, same))
+-- so no two have the same
+pub rising_differ : (low : ℕ) (entries : List Entry) → RiseAbove low entries → AllDiffer entries
+rising_differ low [] h = tt
+rising_differ low (first ∷ entries) h = (λ e among key same. absurd (omega (arith, same, above_low first.sequence entries e h.1 among)), rising_differ first.sequence entries h.1)
 
 -- ---- what is left of a batch
 

@@ -1,3 +1,4 @@
 mod Batches
 mod Generations
+mod Sealing
 mod Searching

@@ -6,7 +6,6 @@ ghost use Rattle.coding.specs.declared.error.FileKind.TheVariants.{Log};
 ghost use Rattle.coding.specs.declared.error.Damage.TheVariants.{Missing};
 ghost use Rattle.ikey.specs.Sources.{IsAnswer};
 ghost use Rattle.memtables.specs.Memories.{operation_bytes};
-ghost use Rattle.memtable.specs.Newest.{IsNew};
 
 use crate::motion::{Motion, go};
 use crate::users::Users;
@@ -89,12 +88,8 @@ impl<K: KeyOrder> MemoryTables<K> {
         requires fits { last < 2 ^ 56 }
         ensures { IfOk result (λ memories. (memories.current.inserts ≡ entries.now) × (memories.last ≡ last) × IsAlone memories) }
     {
-        let mut current = MemTable::new(alloc);
-        for entry in entries {
-            add_entry(&mut current, entry)?;
-        }
         Ok(MemoryTables {
-            current,
+            current: MemTable::of(alloc, entries)?,
             last,
             generation: 0,
             sealed: None,
@@ -364,26 +359,6 @@ fn value_in<K: KeyOrder>(
         Some(None) => Ok(Some(None)),
         Some(Some(value)) => Ok(Some(Some(Bytes::copied_from(alloc, value)?))),
     }
-}
-
-// Adds an entry, and makes room for it first.
-fn add_entry<K: KeyOrder>(table: &mut MemTable<K>, entry: &Entry) -> Result<(), AllocError>
-    requires { IsNew table.old.inserts entry.now.key entry.now.sequence }
-    ensures { IfOk result (λ _. table.new.inserts ≡ table.old.inserts ++ entry.now ∷ []) }
-{
-    let key = entry.key.as_slice();
-    match &entry.value {
-        None => {
-            table.reserve(1, key.len())?;
-            table.insert(key, entry.sequence, None);
-        }
-        Some(value) => {
-            let value = value.as_slice();
-            table.reserve(1, key.len() + value.len())?;
-            table.insert(key, entry.sequence, Some(value));
-        }
-    }
-    Ok(())
 }
 
 // How many bytes the keys and values of the operations have; None where that passes 64 bits.

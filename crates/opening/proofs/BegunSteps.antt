@@ -3,6 +3,8 @@ use Rattle.std.proofs.Common.{◌≡◌, ℕ, ◌+◌, ◌<◌, List, [], ◌∷
 use Rattle.std.specs.Option.{option_and_then}
 use Rattle.coding.specs.declared.error.DbError.{DbError}
 use Rattle.store.specs.Files.{Facts, Files}
+use Rattle.store.specs.Stops.{LeavesOnly}
+use Rattle.store.proofs.Stopping.{leaves_both, leaves_same, leaves_so}
 use Rattle.ikey.specs.Orders.{Order}
 use Rattle.ikey.specs.declared.entry.Entry.{Entry}
 use Rattle.edits.specs.Layout.{fields_of}
@@ -51,6 +53,16 @@ continued_itself order files = record {
 -- where nothing was written
 pub continued_same : (order : Order) (old new : Files) → new ≡ old → IsContinued order old new
 continued_same order old new same = subst (λ (fs : Files). IsContinued order old fs) (sym same) (continued_itself order old)
+
+pub unwritten_stops : (order : Order) (old mid : Facts) → mid.calls ≡ old.calls → mid.files ≡ old.files → LeavesOnly old mid (IsContinued order old.files)
+unwritten_stops order old mid calls same = leaves_same old mid (IsContinued order old.files) calls same (continued_itself order old.files)
+
+pub behind_stops : (order : Order) (old mid new : Facts) (found : Found) → mid.calls ≡ old.calls → mid.files ≡ old.files → Finds order old.files found
+    → (Finds order mid.files found → LeavesOnly mid new (IsContinued order mid.files)) → LeavesOnly old new (IsContinued order old.files)
+behind_stops order old mid new found calls same finds wrote =
+    leaves_both old mid new (IsContinued order old.files) (unwritten_stops order old mid calls same)
+    (leaves_so mid new (IsContinued order mid.files) (IsContinued order old.files) (λ files continued. subst (λ (fs : Files). IsContinued order fs files) same continued)
+    (wrote (subst (λ (fs : Files). Finds order fs found) (sym same) finds)))
 
 -- behind what was read
 pub continued_behind : {T : Type 0} (order : Order) (old mid new : Facts) (found : Found) (end : ℕ) (r : Result T DbError) → (IsTrue mid.faithful → mid.files ≡ old.files) → (IsTrue mid.faithful → Finds order old.files found)

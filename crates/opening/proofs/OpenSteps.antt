@@ -1,8 +1,10 @@
 -- The writing of an open, step by step.
-use Rattle.std.proofs.Common.{◌≡◌, ℕ, ◌+◌, ◌<◌, max, true, List, [], ◌∷◌, ◌++◌, length, Some, is_some, Result, Ok, Err, IsTrue, inl, inr, refl, sym, ap, subst, ◌∙◌, arith}
+use Rattle.std.proofs.Common.{◌≡◌, ◌⊎◌, ℕ, ◌+◌, ◌<◌, max, true, List, [], ◌∷◌, ◌++◌, length, Some, is_some, Result, Ok, Err, IsTrue, inl, inr, refl, sym, ap, subst, ◌∙◌, arith}
 use Rattle.std.specs.FinMap.{insert, contains_key}
 use Rattle.coding.specs.declared.error.DbError.{DbError}
 use Rattle.store.specs.Files.{Facts, Files}
+use Rattle.store.specs.Stops.{KeepsBut, LeavesOnly, stopped_at}
+use Rattle.store.proofs.Stopping.{leaves_both, leaves_so}
 use Rattle.ikey.specs.Orders.{Order}
 use Rattle.ikey.specs.declared.entry.Entry.{Entry}
 use Rattle.edits.specs.Names.{name_of, IsNumbered}
@@ -22,7 +24,7 @@ use Rattle.opening.specs.internal.Calls.{Writes, SetsCurrent, MakesCurrent}
 use Rattle.opening.specs.internal.Directories.{IsDirectoryOf}
 use Rattle.opening.specs.internal.Opening.{Finds, IsUsable, KeepsLogs, IsNewManifest, HasRewritten, IsContinued, IsReady, Rewrites}
 use Rattle.opening.proofs.Reopening.{OpenLaws, Beside, Behind, files_apart, numbered_of, next_of, beside_manifest, beside_both, behind_current, around_behind, around_log, continued_beside, HasParts, HasNew, new_parts, continued_new, one_new, logs_below}
-use Rattle.opening.proofs.StoreCalls.{Creates, after, done_so, went}
+use Rattle.opening.proofs.StoreCalls.{Creates, MaySet, OnlyIt, after, done_so, went}
 
 -- ---- the new log
 
@@ -193,3 +195,32 @@ module _ (order : Order) (laws : OpenLaws) (old : Facts) (found : Found) (u : Is
         ];
     ok = λ f. tt;
   }
+
+  -- ---- a stop in the middle
+
+  module _ (h : Finds order old.files found) where
+    pub manifest_stops : (mid : Facts) → OnlyIt old mid (name_of (Manifest found.number)) → LeavesOnly old mid (IsContinued order old.files)
+    manifest_stops mid k =
+        leaves_so old mid (KeepsBut old.files (λ (q : List ℕ). q ≡ name_of (Manifest found.number))) (IsContinued order old.files)
+        (λ files others. continued_beside order old.files files found laws.free h (beside_manifest found.number old.files files (numbered_of found u) others)) k
+
+    pub current_stops : (mid new : Facts) (current : List ℕ) → Writes old mid (name_of (Manifest found.number)) manifest (Ok tt) → current ≡ name_of (Manifest found.number) ++ 10 ∷ [] → IsTrue mid.faithful
+        → OnlyIt old mid (name_of (Manifest found.number)) → LeavesOnly mid new (MaySet mid.files (name_of (Temporary found.number)) current) → LeavesOnly old new (IsContinued order old.files)
+    current_stops mid new current written is m k set =
+        leaves_both old mid new (IsContinued order old.files) (manifest_stops mid k)
+        (leaves_so mid new (MaySet mid.files (name_of (Temporary found.number)) current) (IsContinued order old.files)
+        (λ files left. elim left [
+          | inl others ↦ continued_beside order old.files files found laws.free h (beside_both found.number old.files mid.files files (numbered_of found u) (beside_written mid (Ok tt) written m) others)
+          | inr done ↦ current_continued (stopped_at mid files) (has_new mid (stopped_at mid files) current written is m done) (behind_set mid (stopped_at mid files) current (Ok tt) written m done) h
+        ]) set)
+
+    pub log_stops : (mid most new : Facts) (current : List ℕ) → Writes old mid (name_of (Manifest found.number)) manifest (Ok tt) → current ≡ name_of (Manifest found.number) ++ 10 ∷ [] → IsTrue mid.faithful
+        → SetsCurrent mid.files most.files (name_of (Temporary found.number)) current → LeavesOnly old most (IsContinued order old.files)
+        → LeavesOnly most new (λ files. (files ≡ most.files) ⊎ (files ≡ insert most.files (name_of (Log (found.number + 1))) [])) → LeavesOnly old new (IsContinued order old.files)
+    log_stops mid most new current written is m set k made =
+        leaves_both old most new (IsContinued order old.files) k
+        (leaves_so most new (λ files. (files ≡ most.files) ⊎ (files ≡ insert most.files (name_of (Log (found.number + 1))) [])) (IsContinued order old.files)
+        (λ files left. elim left [
+          | inl same ↦ subst (λ (fs : Files). IsContinued order old.files fs) (sym same) k.now
+          | inr done ↦ subst (λ (fs : Files). IsContinued order old.files fs) (sym done) (logged_continued mid most current written is m set h).0
+        ]) made)

@@ -1,7 +1,8 @@
 //! The store's calls by which an open writes, with the database's refusals.
 
-ghost use Rattle.std.specs.Prelude.{IsTrue};
-ghost use Rattle.opening.specs.internal.Calls.{Writes, MakesCurrent};
+ghost use Rattle.std.specs.Prelude.{◌≡◌, ◌⊎◌, IsTrue, List, ℕ};
+ghost use Rattle.store.specs.Stops.{LeavesOnly, WritesOnly};
+ghost use Rattle.opening.specs.internal.Calls.{KeepsOthers, Writes, MakesCurrent, SetsCurrent};
 ghost use Rattle.opening.specs.Durable.{SyncsOnly};
 ghost use Rattle.opening.specs.internal.Durable.{WritesSynced, MakesSynced};
 
@@ -13,6 +14,7 @@ use store::Store;
 pub fn write_file<S: Store>(store: &mut S, name: &str, bytes: &[u8]) -> Result<(), DbError>
     ensures files { Writes (S.facts store.old) (S.facts store.new) name.now bytes.now result }
     ensures synced { WritesSynced (S.facts store.old) (S.facts store.new) name.now bytes.now result }
+    ensures stops { IsTrue (S.facts store.new).faithful → WritesOnly (S.facts store.old) (S.facts store.new) (λ (q : List ℕ). q ≡ name.now) }
 {
     create_file(store, name)?;
     if let Err(error) = store.append(name, bytes) {
@@ -29,6 +31,9 @@ pub fn write_file<S: Store>(store: &mut S, name: &str, bytes: &[u8]) -> Result<(
 pub fn make_current<S: Store>(store: &mut S, temporary: &str, bytes: &[u8]) -> Result<(), DbError>
     ensures files { MakesCurrent (S.facts store.old) (S.facts store.new) temporary.now bytes.now result }
     ensures synced { MakesSynced (S.facts store.old) (S.facts store.new) temporary.now bytes.now result }
+    ensures stops { IsTrue (S.facts store.new).faithful → LeavesOnly (S.facts store.old) (S.facts store.new)
+        (λ files. KeepsOthers (S.facts store.old).files files temporary.now
+        ⊎ SetsCurrent (S.facts store.old).files files temporary.now bytes.now) }
 {
     write_file(store, temporary, bytes)?;
     if let Err(error) = store.rename(temporary, "CURRENT") {

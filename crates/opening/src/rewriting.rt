@@ -6,7 +6,8 @@ ghost use Rattle.coding.specs.declared.error.DbError.TheVariants.{OutOfMemory};
 ghost use Rattle.ikey.specs.Orders.{order_of};
 ghost use Rattle.opening.specs.internal.Durable.{HasDurable, Spares};
 ghost use Rattle.opening.specs.Durable.{LeavesDurable};
-ghost use Rattle.opening.specs.internal.Opening.{IsUsable, KeepsLogs, IsKnownAfter, IsNewManifest, IsRewrite, Rewrites};
+ghost use Rattle.store.specs.Stops.{LeavesOnly};
+ghost use Rattle.opening.specs.internal.Opening.{Finds, IsContinued, IsUsable, KeepsLogs, IsKnownAfter, IsNewManifest, IsRewrite, Rewrites};
 
 use crate::directory::DirectoryState;
 use crate::files::{make_current, write_file};
@@ -147,6 +148,8 @@ pub fn rewrite_directory<K: KeyOrder, S: Store>(
     ensures durable { LeavesDurable (S.facts store.old) (S.facts store.new) result }
     ensures current { IsTrue (S.facts store.new).faithful → OnOk result (HasDurable found.now.number (S.facts store.new)) }
     ensures spared { IsTrue (S.facts store.new).faithful → Spares (S.facts store.old) (S.facts store.new) }
+    ensures stops { IsTrue (S.facts store.new).faithful → Finds (order_of K.name K.cmp) (S.facts store.old).files found.now
+        → LeavesOnly (S.facts store.old) (S.facts store.new) (IsContinued (order_of K.name K.cmp) (S.facts store.old).files) }
 {
     // Laws, for the proof alone.
     free_change_law();

@@ -12,6 +12,7 @@ looked_at facts store = record (facts store.inner) {
   faithful = (facts store.inner).faithful && nat_lt store.failures (2 ^ 64 - 1);
   locked = false;
   failures = store.failures;
+  write_failures = store.write_failures;
 }
 
 -- The call never came to the store within. It fails and is counted; or no further failure can be counted, and it answers something else.

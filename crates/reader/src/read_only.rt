@@ -1,11 +1,9 @@
 //! A store that can't be changed.
 
-ghost use Rattle.std.specs.Prelude.{◌≡◌};
-ghost use Rattle.store.specs.Files.{Facts};
-ghost use Rattle.reader.specs.ReadOnly.{looked_at, IsKeptOut};
+ghost use Rattle.std.specs.Prelude.{◌≡◌, ◌≤◌};
 
 use std::alloc::Global;
-use store::{Store, StoreError};
+use store::{Store, StoreError, Trouble};
 
 /// A store of which only the reading calls are used, `list`, `len` and `read_at`. Each call that changes files or asks for the
 /// lock fails here, and never comes to the store within: so whoever is given one can't change a file, whatever that store is.
@@ -13,17 +11,24 @@ use store::{Store, StoreError};
 pub struct ReadOnly<S> {
     inner: S,
     failures: u64,
+    write_failures: u64,
+    ghost among: { write_failures ≤ failures },
 }
 
 impl<S: Store> ReadOnly<S> {
-    ghost use Rattle.std.specs.Prelude.{◌<◌, ◌≤◌, ◌+◌, ◌^◌, ◌≢◌, false, Err, IfErr, IsTrue};
+    ghost use Rattle.reader.specs.ReadOnly.{looked_at, IsKeptOut};
+    ghost use Rattle.std.specs.Prelude.{◌<◌, ◌+◌, ◌^◌, ◌≢◌, false, Err, IfErr, IsTrue};
     ghost use Rattle.store.specs.declared.error.StoreError.TheVariants.{Device, Missing};
 
     /// This store, of which no call has failed here yet. It isn't called.
     pub fn over(inner: S) -> Self
-        ensures { looked_at S.facts result ≡ record (S.facts inner) { locked = false; failures = 0 } }
+        ensures { looked_at S.facts result ≡ record (S.facts inner) { locked = false; failures = 0; write_failures = 0 } }
     {
-        ReadOnly { inner, failures: 0 }
+        ReadOnly {
+            inner,
+            failures: 0,
+            write_failures: 0,
+        }
     }
 
     /// The store within.
@@ -35,9 +40,10 @@ impl<S: Store> ReadOnly<S> {
         self.inner
     }
 
-    // Answers Device for a call that isn't made, and counts it; or Ok, where no further failure can be counted.
+    // Answers Device for a call that isn't made, and that writes nothing, and counts it; or Ok, where no further failure can be counted.
     fn refuse(&mut self) -> Result<(), StoreError>
         ensures kept { IsKeptOut self.old self.new result }
+        ensures writes { self.new.write_failures ≡ self.old.write_failures }
         ensures device { IfErr result (λ error. error ≡ Device) }
     {
         if self.failures == u64::MAX {
@@ -47,9 +53,36 @@ impl<S: Store> ReadOnly<S> {
         Err(StoreError::Device)
     }
 
-    // The error of a call that isn't made: Device, which is counted, or Memory, where no further failure can be counted.
+    // The same of a call that writes, which is counted as a failed write too.
+    fn refuse_write(&mut self) -> Result<(), StoreError>
+        ensures kept { IsKeptOut self.old self.new result }
+        ensures writes { self.new.write_failures + self.old.failures ≡ self.old.write_failures + self.new.failures }
+        ensures device { IfErr result (λ error. error ≡ Device) }
+    {
+        if self.failures == u64::MAX {
+            return Ok(());
+        }
+        self.failures += 1;
+        self.write_failures += 1;
+        Err(StoreError::Device)
+    }
+
+    // The error of a call that isn't made, and that writes: Device, which is counted, or Memory, where no further failure can be counted.
+    fn write_refusal(&mut self) -> StoreError
+        ensures kept { IsKeptOut {T = Unit {0}} self.old self.new (Err result) }
+        ensures writes { self.new.write_failures + self.old.failures ≡ self.old.write_failures + self.new.failures }
+        ensures missing { result ≢ Missing }
+    {
+        match self.refuse_write() {
+            Ok(()) => StoreError::Memory,
+            Err(error) => error,
+        }
+    }
+
+    // The same of one that writes nothing.
     fn refusal(&mut self) -> StoreError
         ensures kept { IsKeptOut {T = Unit {0}} self.old self.new (Err result) }
+        ensures writes { self.new.write_failures ≡ self.old.write_failures }
         ensures missing { result ≢ Missing }
     {
         match self.refuse() {
@@ -61,6 +94,7 @@ impl<S: Store> ReadOnly<S> {
     // The error of a reading call. A failure of the store within is counted here too.
     fn told(&mut self, error: StoreError) -> StoreError
         ensures inner { self.new.inner ≡ self.old.inner }
+        ensures writes { self.new.write_failures ≡ self.old.write_failures }
         ensures device { result ≡ Device → self.old.failures < self.new.failures }
         ensures others { result ≢ Device → self.new.failures ≡ self.old.failures }
         ensures missing { result ≡ Missing → error ≡ Missing }
@@ -75,13 +109,18 @@ impl<S: Store> ReadOnly<S> {
 }
 
 impl<S: Store> Store for ReadOnly<S> {
-    ghost use Rattle.std.specs.Prelude.{◌≡◌, ◌≢◌, Ok, Err, IsErr, IfErr};
+    ghost use Rattle.reader.specs.ReadOnly.{looked_at, IsKeptOut};
+    ghost use Rattle.std.specs.Prelude.{◌≡◌, ◌≢◌, ◌+◌, Ok, Err, IsErr, IfErr};
     ghost use Rattle.store.specs.declared.error.StoreError.TheVariants.{Device, Missing};
 
     ghost facts = { λ store. looked_at S.facts store };
 
     fn failures(&self) -> u64 {
         self.failures
+    }
+
+    fn write_failures(&self) -> u64 {
+        self.write_failures
     }
 
     fn list(&mut self, alloc: Global) -> Result<Vec<String>, StoreError> {
@@ -113,34 +152,39 @@ impl<S: Store> Store for ReadOnly<S> {
 
     fn create(&mut self, _name: &str) -> Result<(), StoreError>
         ensures kept { IsKeptOut self.old self.new result }
+        ensures writes { self.new.write_failures + self.old.failures ≡ self.old.write_failures + self.new.failures }
         ensures missing { result ≢ Err Missing }
     {
-        Err(self.refusal())
+        Err(self.write_refusal())
     }
 
     fn append(&mut self, _name: &str, _bytes: &[u8]) -> Result<(), StoreError>
         ensures kept { IsKeptOut self.old self.new result }
+        ensures writes { self.new.write_failures + self.old.failures ≡ self.old.write_failures + self.new.failures }
         ensures missing { result ≢ Err Missing }
     {
-        Err(self.refusal())
+        Err(self.write_refusal())
     }
 
     fn sync(&mut self, _name: &str) -> Result<(), StoreError>
         ensures kept { IsKeptOut self.old self.new result }
+        ensures writes { self.new.write_failures + self.old.failures ≡ self.old.write_failures + self.new.failures }
         ensures device { IfErr result (λ error. error ≡ Device) }
     {
-        self.refuse()
+        self.refuse_write()
     }
 
     fn rename(&mut self, _from: &str, _to: &str) -> Result<(), StoreError>
         ensures kept { IsKeptOut self.old self.new result }
+        ensures writes { self.new.write_failures + self.old.failures ≡ self.old.write_failures + self.new.failures }
         ensures missing { result ≢ Err Missing }
     {
-        Err(self.refusal())
+        Err(self.write_refusal())
     }
 
     fn remove(&mut self, _name: &str) -> Result<(), StoreError>
         ensures kept { IsKeptOut self.old self.new result }
+        ensures writes { self.new.write_failures ≡ self.old.write_failures }
         ensures device { IfErr result (λ error. error ≡ Device) }
     {
         self.refuse()
@@ -148,6 +192,7 @@ impl<S: Store> Store for ReadOnly<S> {
 
     fn lock(&mut self) -> Result<bool, StoreError>
         ensures kept { IsKeptOut self.old self.new result }
+        ensures writes { self.new.write_failures ≡ self.old.write_failures }
         ensures refused { IsErr result }
         ensures missing { result ≢ Err Missing }
     {
@@ -159,5 +204,14 @@ impl<S: Store> Store for ReadOnly<S> {
         ensures done { result ≡ Ok tt }
     {
         Ok(())
+    }
+
+    // (a note changes no file, whatever the store within is: it is handed on)
+    fn note(&mut self, trouble: Trouble) {
+        self.inner.note(trouble);
+    }
+
+    fn noted(&self) -> Trouble {
+        self.inner.noted()
     }
 }

@@ -14,7 +14,7 @@ use memtables::MemoryTables;
 use std::alloc::{AllocError, Global};
 use std::num::NonZeroUsize;
 use std::rc::Rc;
-use store::Store;
+use store::{Store, Trouble};
 use table_access::Tables;
 use version_laws::version_of_directory;
 use versions::Version;
@@ -136,6 +136,12 @@ impl<S: Store, K: KeyOrder> Reader<S, K> {
         ensures { result.now ≡ store_of self.now }
     {
         &self.source.tables.store
+    }
+
+    /// Why a call was refused, beside the refusal itself: the note that the store took last, with the file, the place in it, what was found
+    /// and what was wanted, and the system's error. It may be of an earlier refusal, or of none; as text it is a line without the file's name.
+    pub fn trouble(&self) -> Trouble {
+        self.source.tables.store.noted()
     }
 
     /// The store, and nothing of what was kept.

@@ -4,6 +4,7 @@ use Rattle.std.specs.Prelude.{◌≡◌, ◌⊎◌, ◌<◌, ◌≤◌, ◌-◌,
 use Rattle.std.specs.FinMap.{get, contains_key}
 use Rattle.coding.specs.declared.error.DbError.{DbError}
 use Rattle.coding.specs.declared.error.DbError.TheVariants as error
+use Rattle.store.specs.Calls.{FailsNoWrite, KeepsCalls}
 use Rattle.store.specs.Files.{Facts, Files}
 use Rattle.ikey.specs.Orders.{Order}
 use Rattle.logfile.specs.Log.{IsLog}
@@ -24,15 +25,18 @@ use Rattle.recover.specs.Report.{log_summary}
 use Rattle.recover.specs.Numbers.{number_of, IsNextNumber}
 use Rattle.recover.specs.Directory.{Directory, IsConsistent, AreEdits, HasManifest}
 
--- A call that only reads: what holds of any store, and that the files and what of them is synced stay while it is faithful.
+-- A call that only reads: what holds of any store, and while it is faithful that the files and what of them is synced stay, and that
+-- it does none of the calls that change something.
 pub record ReadsDirectory {T : Type 0} (old new : Facts) (result : Result T DbError) : Type 0 where
   pub faithful : IsTrue new.faithful → IsTrue old.faithful
   pub failures : old.failures ≤ new.failures
+  pub writes : FailsNoWrite old new
   pub denials : new.denials ≡ old.denials
   pub locked : new.locked ≡ old.locked
   pub io : result ≡ Err error.Io → old.failures < new.failures
   pub same : IsTrue new.faithful → new.files ≡ old.files
   pub synced : IsTrue new.faithful → new.synced ≡ old.synced
+  pub calls : KeepsCalls old new
 
 -- Of the refusals Io alone is counted as a failure of the store,
 abbrev pub IsErrorCounted : DbError → Facts → Facts → Type 0

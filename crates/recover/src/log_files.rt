@@ -7,6 +7,7 @@ ghost use Rattle.recover.specs.Reading.{IsCounted, RefusesDirectory};
 ghost use Rattle.recover.specs.internal.Parts.{IsUnchanged, RefusesBytes, HoldsNoLog};
 
 use crate::files::{file_length, read_part, refusal_in};
+use crate::noting::note_piece;
 use coding::{DbError, FileKind};
 use logfile::{each_block, judge_block};
 use std::alloc::{AllocError, Global};
@@ -87,8 +88,13 @@ fn read_piece<S: Store>(
     let Some(piece) = read_part(alloc, store, name, offset, count as usize)? else {
         return Ok(None);
     };
-    judge_piece(alloc, kind, &piece)?;
-    Ok(Some(piece))
+    match judge_piece(alloc, kind, &piece) {
+        Ok(()) => Ok(Some(piece)),
+        Err(error) => {
+            note_piece(store, name, offset, &piece, error);
+            Err(error)
+        }
+    }
 }
 
 // Judges the first block of a piece.

@@ -14,6 +14,7 @@ ghost use Rattle.recover.specs.internal.Parts.{IsUnchanged, RefusesBytes, number
 
 use crate::files::{read_short_file, refusal_in};
 use crate::log_files::read_log_file;
+use crate::noting::{note_file, note_manifest};
 use coding::{Damage, DbError, FileKind};
 use edits::{
     Edit, Field, FileName, Layout, decode_edit, fold_edits, layouts_are_kept, parse_name,
@@ -22,7 +23,7 @@ use edits::{
 use ikey::KeyOrder;
 use logfile::{Tail, read_log};
 use std::alloc::Global;
-use store::Store;
+use store::{Store, Why};
 
 /// `CURRENT` has no more bytes than this: the name of a MANIFEST has 29 at most.
 const MOST_IN_CURRENT: u64 = 64;
@@ -59,15 +60,28 @@ pub fn read_manifest<K: KeyOrder, S: Store>(
         MOST_IN_CURRENT,
     )?
     else {
+        note_file(store, "CURRENT", Why::Missing);
         return Err(DbError::Corrupt(FileKind::Current, Damage::Missing));
     };
-    let number = manifest_number(&current)?;
+    let number = match manifest_number(&current) {
+        Ok(number) => number,
+        Err(error) => {
+            note_file(store, "CURRENT", Why::Current);
+            return Err(error);
+        }
+    };
     let name = print_name(alloc, FileName::Manifest(number))?;
     let Some(bytes) = read_log_file(alloc, store, name.as_str(), FileKind::Manifest)? else {
+        note_file(store, name.as_str(), Why::Missing);
         return Err(DbError::Corrupt(FileKind::Manifest, Damage::Missing));
     };
-    let manifest = decode_manifest::<K>(alloc, &bytes)?;
-    Ok(manifest)
+    match decode_manifest::<K>(alloc, &bytes) {
+        Ok(manifest) => Ok(manifest),
+        Err(error) => {
+            note_manifest(alloc, store, name.as_str(), &bytes, error);
+            Err(error)
+        }
+    }
 }
 
 // The number of the MANIFEST that the bytes of `CURRENT` name, with a newline behind its name.

@@ -14,12 +14,13 @@ ghost use Rattle.recover.specs.internal.Parts.{HaveLengths, IsUnchanged, LacksLo
 use crate::files::file_length;
 use crate::listing::{list_directory, see_empty};
 use crate::manifest::{Manifest, read_manifest};
+use crate::noting::note_file;
 use crate::replay::is_live;
 use coding::{Damage, DbError, FileKind};
 use edits::{FileName, Layout, print_name};
 use ikey::KeyOrder;
 use std::alloc::Global;
-use store::Store;
+use store::{Store, Why};
 
 /// What is known of a directory without reading a table or a log.
 #[derive(Debug, Drop)]
@@ -103,6 +104,9 @@ fn log_length<S: Store>(alloc: Global, store: &mut S, number: u64) -> Result<Log
     let name = print_name(alloc, FileName::Log(number))?;
     match file_length(store, name.as_str())? {
         Some(length) => Ok(LogLength { number, length }),
-        None => Err(DbError::Corrupt(FileKind::Log, Damage::Missing)),
+        None => {
+            note_file(store, name.as_str(), Why::Missing);
+            Err(DbError::Corrupt(FileKind::Log, Damage::Missing))
+        }
     }
 }

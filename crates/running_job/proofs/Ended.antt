@@ -1,5 +1,5 @@
 -- A job that is ended.
-use Rattle.std.proofs.Common.{◌≡◌, ◌≤◌, ◌^◌, ℕ, IfErr, List, Err, Ok, Result, map, subst}
+use Rattle.std.proofs.Common.{◌≡◌, ◌≤◌, ◌^◌, ℕ, IfErr, List, Err, Ok, Result, inl, map, refl, subst}
 use Rattle.std.proofs.lemmas.List.{append-nil}
 use Rattle.coding.specs.declared.error.DbError.TheVariants.{Corrupt, Io, NumbersSpent, OutOfMemory, Unsupported}
 use Rattle.compact.specs.Merging.{IsMerging}
@@ -9,17 +9,19 @@ use Rattle.ikey.specs.Entries.{InternalEntry, entry_of}
 use Rattle.ikey.specs.Orders.{Order}
 use Rattle.ikey.specs.Sources.{SameEntries}
 use Rattle.running_job.specs.declared.open_job.OpenJob.{OpenJob}
-use Rattle.running_job.specs.internal.Ending.{CanEnd, EndLeaves, RefusesEnd}
+use Rattle.running_job.specs.internal.Ending.{CanEnd, EndLeaves, EndMayLeave, RefusesEnd}
 use Rattle.running_job.specs.Running.{deep_of}
 use Rattle.recover.specs.Directory.{Directory}
 use Rattle.recover.specs.Tables.{tabled}
 use Rattle.db_cursor.specs.Whole.{Whole}
 use Rattle.store.specs.Files.{Facts}
+use Rattle.store.specs.Stops.{LeavesOnly}
+use Rattle.store.proofs.Stopping.{leaves_same, leaves_so}
 use Rattle.directory_writes.specs.declared.flush.FlushError.{FlushError}
 use Rattle.directory_writes.specs.declared.flush.FlushError.TheVariants.{Before, Edit}
 use Rattle.directory_writes.specs.declared.install.Installed.{Installed}
 use Rattle.directory_writes.specs.declared.manifest.CurrentManifest.{CurrentManifest}
-use Rattle.directory_writes.specs.internal.Install.{CanInstall, InstallLeaves, IsServed, RefusesInstall}
+use Rattle.directory_writes.specs.internal.Install.{CanInstall, InstallLeaves, InstallMayLeave, IsServed, RefusesInstall}
 
 module _ {K : Type 0} {g : Ghosts K} (order : Order) (work : OpenJob K g) (old : Facts) (next last_sequence : ℕ) (manifest : CurrentManifest) (tables : List PlacedTable) where
   -- a job that can be ended can be installed
@@ -56,3 +58,20 @@ module _ {K : Type 0} {g : Ghosts K} (order : Order) (work : OpenJob K g) (old :
       why (deep_of order.cmp work) came (installable few whole d came is can).merging
   refuses_end few new (Err (Before NumbersSpent)) leaves why = absurd why
   refuses_end few new (Err (Before _)) leaves why = absurd why
+
+  -- ---- a stop in the middle
+
+  pub end_unstopped : LeavesOnly old old (EndMayLeave order old next last_sequence manifest tables work)
+  end_unstopped =
+      leaves_same old old (EndMayLeave order old next last_sequence manifest tables work) refl refl
+      (λ whole d came is can.
+      let served = subst (λ (facts : Facts). IsServed order facts.files next manifest tables d) is can.served in
+      record {
+        either = inl (served.consistent, record { beside = record { logs = λ n num live. refl; tables = λ content i. refl }; ends = λ log position e. e });
+        free = served.free;
+      })
+
+  pub end_stopped : next ≤ 2 ^ 62 → (new : Facts) → LeavesOnly old new (InstallMayLeave order work.job old next last_sequence manifest tables) → LeavesOnly old new (EndMayLeave order old next last_sequence manifest tables work)
+  end_stopped few new h =
+      leaves_so old new (InstallMayLeave order work.job old next last_sequence manifest tables) (EndMayLeave order old next last_sequence manifest tables work)
+      (λ files left whole d came is can. left (deep_of order.cmp work) came d can.running.inputs can.running.rest (installable few whole d came is can)) h

@@ -5,10 +5,10 @@ use Rattle.coding.specs.declared.error.DbError.{DbError}
 use Rattle.compact.specs.Deeper.{is_covered_below}
 use Rattle.compact.specs.Leaving.{LeavesOthers}
 use Rattle.compact.specs.Merging.{HaveOwnSequences, IsJob, IsMerging, KeepsMine}
-use Rattle.compact.specs.Outputs.{IsMineUpTo, NumbersOn, RefusesEntry, WritesTables}
+use Rattle.compact.specs.Outputs.{IsMineUpTo, IsTableName, NumbersOn, RefusesEntry, WritesTables}
 use Rattle.compact.specs.Rooms.{AreLarge}
 use Rattle.compact.proofs.Merges.{mine-before}
-use Rattle.compact.proofs.Writing.{mine-in, refuses-as, writes-nothing}
+use Rattle.compact.proofs.Writing.{mine-in, refuses-as, writes-nothing, writes-stopped}
 use Rattle.cursor.specs.declared.merge.Merge.{Merge}
 use Rattle.edits.specs.declared.field.PlacedTable.{PlacedTable}
 use Rattle.ikey.specs.declared.key_order.KeyOrder.{Ghosts}
@@ -17,10 +17,10 @@ use Rattle.ikey.specs.Orders.{Order}
 use Rattle.ikey.specs.Sources.{SameEntries}
 use Rattle.running_job.specs.declared.open_job.OpenJob.{OpenJob}
 use Rattle.running_job.specs.Running.{IsRunning, deep_of, goes_over, is_input, is_to_write, shown, CanStep}
-use Rattle.running_job.specs.internal.Stepping.{StepKeeps, StepTouches}
+use Rattle.running_job.specs.internal.Stepping.{StepKeeps, StepStops, StepTouches}
 use Rattle.running_job.proofs.Read.{Gathers, IsView, Keeps, Leaves, Limited, Lists, Over, View, led, mine_small, read_lists, reads_apart, seen_lists, whole_of}
 use Rattle.memtables.specs.PlaceLaws.{left_there}
-use Rattle.recover.specs.Directory.{Directory}
+use Rattle.recover.specs.Directory.{Directory, IsConsistent}
 use Rattle.recover.specs.Tables.{TableContent, tabled}
 use Rattle.level_cursor.specs.InRows.{ListsNumber}
 use Rattle.db_cursor.specs.declared.source_cursor.SourceCursor.{SourceCursor}
@@ -29,6 +29,8 @@ use Rattle.db_cursor.proofs.KeptMerges.{moved_read_none}
 use Rattle.db_cursor.proofs.WritesBeside.{beside}
 use Rattle.table_access.specs.Tables.{SoundLasts}
 use Rattle.store.specs.Files.{Facts}
+use Rattle.store.specs.Stops.{KeepsBut, stopped_at}
+use Rattle.store.proofs.Stopping.{leaves_so}
 use Rattle.directory_writes.specs.internal.JobWrites.{FreeNumberLaw, JobWritesLaw}
 use Rattle.directory_writes.specs.Replacing.{IsPlanned}
 use Rattle.versions.specs.declared.plan.JobPlan.{JobPlan}
@@ -107,6 +109,16 @@ module _ {K : Type 0} {g : Ghosts K} {H S : Type 0} (order : Order) (v : View H 
             (λ n over mine. r.outside n (r.over n over) (mine-in before.job.outputs next more n fits mine))
             (λ n kept mine. r.unkept n kept (mine-in before.job.outputs next more n fits mine)) t can.sound;
       }
+
+  -- so it does while it is written
+  pub stopped_on : JobWritesLaw → (before : OpenJob K g) (a b : H) (next more : ℕ) → next ≤ more → more < 2 ^ 64 → Writing v before a b next more → StepStops order (whole_of v a) (whole_of v b) next before
+  stopped_on law before a b next more le fits writes t d came left can =
+      let old = v.facts (v.store_of a) in
+      let mine = IsMineUpTo before.job.outputs next more in
+      let r = can.running in
+      leaves_so old (v.facts (v.store_of b)) (KeepsBut old.files (IsTableName mine)) (λ files. IsConsistent order files d)
+      (λ files kept.
+      (law order old (stopped_at old files) before.job.outputs next more d refl (writes-stopped old files mine (writes.faithful t) kept) le fits can.consistent can.free r.numbered r.unused).consistent) (writes.calls t)
 
   -- an input that passes a limit did so before
   limit_kept : SoundLasts → (before : OpenJob K g) (a b : H) (next more : ℕ) (d : Directory) (came left : List InternalEntry) → more < 2 ^ 64 → next < 2 ^ 64 → Writing v before a b next more

@@ -1,11 +1,12 @@
 //! What an edit can name of a plan.
 
-ghost use Rattle.std.specs.Prelude.{◌<◌, ◌^◌, All, MatchBool};
+ghost use Rattle.std.specs.Prelude.{◌<◌, ◌^◌, All, MatchBool, length};
 ghost use Rattle.compact.specs.JobEdits.{IsPlanProper};
+ghost use Rattle.edits.specs.Edit.{IsInternal};
 ghost use Rattle.versions.specs.Levels.{AreInOrder};
 
 use edits::{LEVELS, PlacedTable};
-use ikey::KeyOrder;
+use ikey::{KeyOrder, unpack};
 use versions::JobPlan;
 
 /// Whether an edit can name the tables of a plan and its pointer.
@@ -18,9 +19,22 @@ pub(crate) fn can_be_named<K: KeyOrder>(plan: &JobPlan) -> bool
         return false;
     }
     match &plan.compact_pointer {
-        Some(key) => key.len() < 1 << 32,
+        Some(key) => is_key(key.as_slice()),
         None => true,
     }
+}
+
+// Whether it can hold this key: an internal key, and not too long.
+fn is_key(bytes: &[u8]) -> bool
+    ensures { MatchBool result ((length bytes.now < 2 ^ 32) × IsInternal bytes.now) ((length bytes.now < 2 ^ 32) × IsInternal bytes.now → ⊥) }
+{
+    if bytes.len() >= 1 << 32 {
+        return false;
+    }
+    let Some(_) = unpack(bytes) else {
+        return false;
+    };
+    true
 }
 
 // Whether it can name each of the tables.

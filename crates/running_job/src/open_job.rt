@@ -56,19 +56,21 @@ impl<K: KeyOrder> OpenJob<K> {
     ghost use Rattle.std.specs.List.Sorted.{IsNonDecreasing};
     ghost use Rattle.ikey.specs.Orders.{order_of};
     ghost use Rattle.running_job.specs.internal.Beginning.{BeginsJob, RefusesBegin};
-    ghost use Rattle.running_job.specs.internal.Ending.{EndLeaves, RefusesEnd};
+    ghost use Rattle.running_job.specs.internal.Ending.{EndLeaves, EndMayLeave, RefusesEnd};
     ghost use Rattle.running_job.specs.Running.{goes_over, is_input, shown};
-    ghost use Rattle.running_job.specs.internal.Stepping.{GoesOn, KeepsDirectory, RefusesStep, StepTouches};
+    ghost use Rattle.running_job.specs.internal.Stepping.{GoesOn, KeepsDirectory, RefusesStep, StepStops, StepTouches};
     ghost use Rattle.level_cursor.specs.InRows.{ListsNumber};
     ghost use Rattle.db_cursor.specs.Places.{LeavesSource};
     ghost use Rattle.db_cursor.specs.Whole.{whole_in};
+    ghost use Rattle.store.specs.Calls.{FailsAsWrite};
+    ghost use Rattle.store.specs.Stops.{LeavesOnly};
     ghost use Rattle.directory_writes.specs.internal.Install.{HasJobVersion, InstallTouches};
     ghost use Rattle.versions.specs.Levels.{HasNumber as HasTable};
     ghost use Rattle.versions.specs.Plans.{IsPlanOf};
 
     /// Begins the job of a plan for a version's tables: its cursor stands on the first entry of the inputs, and no table is begun.
     /// `snapshots` are the sequence numbers whose views are to be kept, rising: those of the live snapshots and the last one used.
-    /// Corrupt where no edit could name the plan's tables.
+    /// Corrupt where no edit could name the plan's tables or hold its pointer.
     pub fn begin<S: Store>(
         alloc: Global,
         source: &mut Sources<K, S>,
@@ -159,6 +161,10 @@ impl<K: KeyOrder> OpenJob<K> {
             (whole_in S.facts source.old)
             (whole_in S.facts source.new)
             numbers.old.next numbers.new.next self.old }
+        ensures stops { StepStops (order_of K.name K.cmp)
+            (whole_in S.facts source.old)
+            (whole_in S.facts source.new)
+            numbers.old.next self.old }
         ensures goes_on { IfOk result (λ progress. GoesOn (order_of K.name K.cmp)
             (whole_in S.facts source.old)
             (whole_in S.facts source.new)
@@ -197,6 +203,7 @@ impl<K: KeyOrder> OpenJob<K> {
     ) -> Result<Installed<K>, FlushError>
         requires sequence { last_sequence < 2 ^ 56 }
         ensures call { InstallTouches (S.facts store.old) (S.facts store.new) self.job.outputs (string_bytes manifest.now.name) }
+        ensures fails { FailsAsWrite (S.facts store.old) (S.facts store.new) }
         ensures stood { OnOk result ((S.facts store.new).failures ≡ (S.facts store.old).failures) }
         ensures version { IfOk result
             (λ installed. HasJobVersion K.cmp self.job.plan self.job.outputs version.now installed.version.value) }
@@ -207,6 +214,9 @@ impl<K: KeyOrder> OpenJob<K> {
             (S.facts store.new) numbers.now.next last_sequence manifest.now version.now.tables self error) }
         ensures leaves { EndLeaves (order_of K.name K.cmp) (S.facts store.old)
             (S.facts store.new) numbers.now.next last_sequence manifest.now version.now.tables self result }
+        ensures stops { IsTrue (S.facts store.new).faithful → LeavesOnly (S.facts store.old) (S.facts store.new)
+            (EndMayLeave (order_of K.name K.cmp) (S.facts store.old) numbers.now.next last_sequence manifest.now
+            version.now.tables self) }
     {
         if numbers.next < self.next {
             return Err(FlushError::Before(DbError::Corrupt(FileKind::Table, Damage::Number)));

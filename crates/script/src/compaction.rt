@@ -42,7 +42,7 @@ pub fn compact<S: Store, K: KeyOrder, W: Write, L: Listener>(
 {
     let ended = compact_opened(alloc, session, level);
     let _ = shut(alloc, session);
-    tell_of_answer(listener, None, &ended);
+    tell_of_answer(listener, None, &ended, session.store());
     if !is_end(&ended) {
         return Err(Fault::Memory);
     }

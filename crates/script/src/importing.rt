@@ -98,7 +98,7 @@ fn import_opened<S: Store, K: KeyOrder, R: Read + Drop, L: Listener>(
 {
     match open_any(alloc, session) {
         Some(refused) => {
-            tell_of_answer(listener, None, &refused);
+            tell_of_answer(listener, None, &refused, session.store());
             return Ok(refused);
         }
         None => {}
@@ -142,13 +142,13 @@ fn take_lines<S: Store, K: KeyOrder, R: Read, L: Listener>(
     for _ in 0..u64::MAX {
         if !read_next_line(input, &mut line)? {
             let last = write_gathered(alloc, session, how, &mut gathered, true, taken)?;
-            tell_of_answer(listener, None, &last);
+            tell_of_answer(listener, None, &last, session.store());
             return Ok(last);
         }
         number = number.saturating_add(1);
         let ended = take_line(alloc, session, how, line.as_slice(), &mut gathered, taken)?;
         if is_refusal(&ended) {
-            tell_of_line(listener, number, line.as_slice(), &ended);
+            tell_of_line(listener, number, line.as_slice(), &ended, session.store());
             return Ok(ended);
         }
     }
@@ -156,12 +156,18 @@ fn take_lines<S: Store, K: KeyOrder, R: Read, L: Listener>(
 }
 
 // Tells why no line behind this one is taken.
-fn tell_of_line<L: Listener>(listener: &mut L, number: u64, line: &[u8], ended: &Answer) {
+fn tell_of_line<L: Listener, S: Store>(
+    listener: &mut L,
+    number: u64,
+    line: &[u8],
+    ended: &Answer,
+    store: &S,
+) {
     match ended {
         Answer::Refused(DbError::BadLine) => {
             tell_of_bad_line(listener, number, misread_operation_line(line));
         }
-        _ => tell_of_answer(listener, Some(number), ended),
+        _ => tell_of_answer(listener, Some(number), ended, store),
     }
 }
 

@@ -3,6 +3,7 @@
 use crate::misread::Misread;
 use coding::DbError;
 use engine::Answer;
+use store::{Store, Trouble};
 
 /// A refusal, and where it was met.
 #[derive(Clone, Copy, Debug, PartialEq, Eq)]
@@ -17,8 +18,8 @@ pub struct Refusal {
 
 /// Who is told of refusals as they are answered. What it does with them changes no answer.
 pub trait Listener {
-    /// Told of each refusal, in their order.
-    fn refused(&mut self, refusal: &Refusal);
+    /// Told of each refusal, in their order, with the note that the store took last: it may be of an earlier refusal, or of none.
+    fn refused(&mut self, refusal: &Refusal, noted: Trouble);
 }
 
 /// Nobody, who is told nothing.
@@ -26,28 +27,38 @@ pub trait Listener {
 pub struct Nobody;
 
 impl Listener for Nobody {
-    fn refused(&mut self, refusal: &Refusal) {
+    fn refused(&mut self, refusal: &Refusal, noted: Trouble) {
         let _ = refusal;
+        let _ = noted;
     }
 }
 
 /// Tells of a line that says no command, and of what is wrong with it.
 pub fn tell_of_bad_line<L: Listener>(listener: &mut L, number: u64, misread: Option<Misread>) {
-    listener.refused(&Refusal {
+    let refusal = Refusal {
         line: Some(number),
         error: DbError::BadLine,
         misread,
-    });
+    };
+    listener.refused(&refusal, Trouble::none());
 }
 
-/// Tells of an answer that is a refusal, of a line or of none.
-pub fn tell_of_answer<L: Listener>(listener: &mut L, line: Option<u64>, answer: &Answer) {
+/// Tells of an answer over this store that is a refusal, of a line or of none.
+pub fn tell_of_answer<L: Listener, S: Store>(
+    listener: &mut L,
+    line: Option<u64>,
+    answer: &Answer,
+    store: &S,
+) {
     match answer {
-        Answer::Refused(error) => listener.refused(&Refusal {
-            line,
-            error: *error,
-            misread: None,
-        }),
+        Answer::Refused(error) => {
+            let refusal = Refusal {
+                line,
+                error: *error,
+                misread: None,
+            };
+            listener.refused(&refusal, store.noted());
+        }
         Answer::Done => {}
         Answer::Value(_) => {}
         Answer::Snapshot(_) => {}

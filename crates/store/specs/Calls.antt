@@ -1,5 +1,5 @@
 -- What each call of a store keeps to, whichever store it is.
-use Rattle.std.specs.Prelude.{◌≡◌, ◌≢◌, ◌⊎◌, ◌<◌, ◌≤◌, ◌++◌, ◌∷◌, [], ℕ, List, take, IsTrue, Result, Err, OnOk, OnErr}
+use Rattle.std.specs.Prelude.{◌≡◌, ◌≢◌, ◌⊎◌, ◌<◌, ◌≤◌, ◌+◌, ◌++◌, ◌∷◌, [], ℕ, List, take, IsTrue, Result, Err, OnOk, OnErr}
 use Rattle.store.specs.declared.error.StoreError.{StoreError}
 use Rattle.store.specs.declared.error.StoreError.TheVariants.{Memory, Device}
 use Rattle.store.specs.Files.{Facts, Files, Synced, Change, Addition, Does, disk_of}
@@ -12,6 +12,18 @@ pub record Counts {T : Type 0} (old new : Facts) (result : Result T StoreError) 
   pub denials : old.denials ≤ new.denials
   pub device : result ≡ Err Device → old.failures < new.failures
   pub unfailed : result ≢ Err Device → new.failures ≡ old.failures
+
+-- A call that makes no file, and neither adds to one nor syncs or renames one: no failed write is counted.
+abbrev pub FailsNoWrite : Facts → Facts → Type 0
+FailsNoWrite old new = new.write_failures ≡ old.write_failures
+
+-- A call that does one of these: each of its failures is a failed write, so that both counts rise by as much.
+abbrev pub FailsAsWrite : Facts → Facts → Type 0
+FailsAsWrite old new = new.write_failures + old.failures ≡ old.write_failures + new.failures
+
+-- Several calls of both kinds: of their failures some were failed writes.
+abbrev pub FailsSome : Facts → Facts → Type 0
+FailsSome old new = (old.write_failures ≤ new.write_failures) × (new.write_failures + old.failures ≤ old.write_failures + new.failures)
 
 -- A call that changes no file, while the store is faithful.
 abbrev pub Keeps : Facts → Facts → Type 0

@@ -10,8 +10,10 @@ use Rattle.store.specs.declared.fault_store.Fault.TheVariants.{Fail, Deny, Stop}
 use Rattle.store.specs.declared.fault_store.Plan.{Plan}
 use Rattle.store.specs.declared.fault_store.FaultStore.{FaultStore}
 use Rattle.store.specs.declared.fault_store.Way.{Way}
+use Rattle.store.specs.declared.counters.Failed.{Failed}
 use Rattle.store.specs.declared.fault_store.Way.TheVariants.{Whole, Refused, Lost}
 use Rattle.store.specs.Files.{Facts, Disk, disk_of}
+use Rattle.store.specs.Counted.{with_failed}
 use Rattle.store.specs.MemFacts.{mem_facts}
 
 abbrev pub fault_facts : FaultStore → Facts
@@ -114,11 +116,13 @@ MeetsReading None old new result = new.acted ≡ old.acted
 MeetsReading (Some extent) old new result = IsRefused old new result
 
 -- What a failure leaves that is counted, by its answer. Behind the last that can be counted it isn't Device.
-pub record Fails (old new : Facts) (error : Option StoreError) : Type 0 where
-  pub same : new ≡ record old { failures = new.failures; faithful = new.faithful }
+pub record Fails (old new : Facts) (call : Failed) (error : Option StoreError) : Type 0 where
+  pub same : new ≡ record old { failures = new.failures; write_failures = new.write_failures; faithful = new.faithful }
   pub faithful : IsTrue new.faithful → IsTrue old.faithful × (error ≡ Some Device)
   pub device : error ≡ Some Device → new.failures ≡ old.failures + 1
   pub unfailed : error ≢ Some Device → new.failures ≡ old.failures
+  pub writes : error ≡ Some Device → new.write_failures ≡ with_failed call old.write_failures
+  pub unwritten : error ≢ Some Device → new.write_failures ≡ old.write_failures
   pub missing : error ≢ Some Missing
 
 -- the error of an answer

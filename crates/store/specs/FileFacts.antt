@@ -16,6 +16,7 @@ counted_facts held counters = record {
   faithful = false;
   locked = held;
   failures = counters.failures;
+  write_failures = counters.write_failures;
   denials = counters.denials;
 }
 

@@ -3,6 +3,7 @@ pub mod Files
 pub mod Stops
 pub mod Losses
 pub mod Calls
+pub mod Counted
 pub mod MemStore
 pub mod Past
 pub mod MemFacts

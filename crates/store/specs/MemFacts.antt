@@ -17,5 +17,6 @@ mem_facts store = record {
   faithful = nat_lt store.counters.failures (2 ^ 64 - 1);
   locked = store.locked;
   failures = store.counters.failures;
+  write_failures = store.counters.write_failures;
   denials = store.counters.denials;
 }

@@ -1,5 +1,6 @@
 -- What a stop of the process may leave of a directory. It frees the lock.
-use Rattle.std.specs.Prelude.{◌≡◌, ◌⊎◌, ◌++◌, ℕ, List, [], ◌∷◌, length, drop}
+use Rattle.std.specs.Prelude.{◌≡◌, ◌⊎◌, ◌+◌, ◌++◌, ℕ, true, List, [], ◌∷◌, length, drop}
+use Rattle.std.specs.FinMap.{get}
 use Rattle.store.specs.Files.{Facts, Files, Call, Change, Creation, Addition, Sync, Move, Removal, LockFile, AppendsBeginning, Does}
 
 -- What a stop in the middle of a call may leave: it was done wholly or not at all, or a beginning of its bytes stands
@@ -31,6 +32,18 @@ pub record LeavesOnly (old new : Facts) (P : Files → Type 0) : Type 0 where
   pub calls : new.calls ≡ old.calls ++ more
   pub during : (files : Files) → LeftDuring more files → P files
   pub now : P new.files
+
+-- A stop is a failure that nobody saw: what is known of a store whose files are these, and which has failed once more in a write.
+abbrev pub stopped_at : Facts → Files → Facts
+stopped_at facts files = record facts { files = files; faithful = true; failures = facts.failures + 1; write_failures = facts.write_failures + 1 }
+
+-- but for files of these names, they are as before
+abbrev pub KeepsBut : Files → (List ℕ → Type 0) → Files → Type 0
+KeepsBut old mine new = (name : List ℕ) → (mine name → ⊥) → get new name ≡ get old name
+
+-- Since old only files of these names were written: at any moment the others are as they were.
+abbrev pub WritesOnly : Facts → Facts → (List ℕ → Type 0) → Type 0
+WritesOnly old new mine = LeavesOnly old new (KeepsBut old.files mine)
 
 -- ---- laws
 

@@ -1,22 +1,37 @@
 // What a store counts.
 ghost use Rattle.std.specs.Prelude.{◌≡◌, ◌+◌, ◌≤◌, ◌^◌, false, IfOk, OnOk, OnErr, IfErr};
+ghost use Rattle.store.specs.Counted.{with_failed};
 
 use crate::StoreError;
 
-/// How often a store failed, and how often it denied the lock.
+/// Which call of a store failed.
+#[derive(Clone, Copy, Debug)]
+pub enum Failed {
+    /// One that makes a file, adds to one, syncs one or renames one.
+    Write,
+    /// Another.
+    Other,
+}
+
+/// How often a store failed, how often by a call that writes, and how often it denied the lock.
 #[derive(Drop)]
 pub struct Counters {
     failures: u64,
+    write_failures: u64,
     denials: u64,
+    ghost among: { write_failures ≤ failures },
 }
 
 impl Counters {
     /// Nothing has failed yet.
     pub fn new() -> Self
-        ensures { result ≡ record { failures = 0; denials = 0 } }
+        ensures failures { result.failures ≡ 0 }
+        ensures writes { result.write_failures ≡ 0 }
+        ensures denials { result.denials ≡ 0 }
     {
         Counters {
             failures: 0,
+            write_failures: 0,
             denials: 0,
         }
     }
@@ -28,11 +43,20 @@ impl Counters {
         self.failures
     }
 
+    /// How often one failed that writes.
+    pub fn write_failures(&self) -> u64
+        ensures { result ≡ self.now.write_failures }
+    {
+        self.write_failures
+    }
+
     /// Answers Device for a call that failed, and counts it. A failure behind the last one that the counter can
     /// hold, the one of number 2^64 - 1, is answered by Ok in its place, since Device would promise a count.
-    pub fn fail(&mut self) -> Result<(), StoreError>
+    pub fn fail(&mut self, call: Failed) -> Result<(), StoreError>
         ensures denials { self.new.denials ≡ self.old.denials }
         ensures counted { OnErr result (self.new.failures ≡ self.old.failures + 1) }
+        ensures writes { OnErr result (self.new.write_failures ≡ with_failed call self.old.write_failures) }
+        ensures unwritten { OnOk result (self.new.write_failures ≡ self.old.write_failures) }
         ensures device { IfErr result (λ error. error ≡ StoreError.Device) }
         ensures full { OnOk result ((self.new.failures ≡ self.old.failures) × (2 ^ 64 ≤ self.new.failures + 1)) }
     {
@@ -40,12 +64,19 @@ impl Counters {
             return Ok(());
         }
         self.failures += 1;
-        Err(StoreError::Device)
+        match call {
+            Failed::Write => {
+                self.write_failures += 1;
+                Err(StoreError::Device)
+            }
+            Failed::Other => Err(StoreError::Device),
+        }
     }
 
     /// Denies the lock and counts it, or answers Memory where no further denial can be counted.
     pub fn deny(&mut self) -> Result<bool, StoreError>
         ensures failures { self.new.failures ≡ self.old.failures }
+        ensures writes { self.new.write_failures ≡ self.old.write_failures }
         ensures counted { IfOk result (λ held. (held ≡ false) × (self.new.denials ≡ self.old.denials + 1)) }
         ensures memory { IfErr result (λ error. (error ≡ StoreError.Memory) × (self.new.denials ≡ self.old.denials)) }
     {

@@ -6,15 +6,19 @@ ghost use Rattle.store.specs.FileFacts.{refusal_of};
 
 use std::alloc::{AllocError, AllocFailed};
 use std::io;
+use thiserror::Error;
 
 /// Why a store refused a call.
-#[derive(Clone, Copy, Debug, PartialEq, Eq)]
+#[derive(Clone, Copy, Debug, PartialEq, Eq, Error)]
 pub enum StoreError {
     /// Out of memory. The call did nothing.
+    #[error("out of memory")]
     Memory,
     /// No file has this name. Only `len` and `read_at` answer so.
+    #[error("there is no such file")]
     Missing,
     /// The device failed, and the store has counted it. A call that changes files may have been done in part.
+    #[error("the device failed")]
     Device,
 }
 

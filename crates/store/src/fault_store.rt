@@ -2,10 +2,11 @@
 ghost use Rattle.std.specs.Prelude.{◌≡◌, ◌≢◌, ◌⊎◌, ◌<◌, ◌+◌, List, ℕ, [], length, take, drop, map, string_bytes, IfOk, IfErr, OnOk, OnErr, Ok, Err, Some, None, IsTrue, IsSome, true, false};
 ghost use Rattle.std.specs.FinMap as map;
 ghost use Rattle.store.specs.Files.{disk_of, Lists, Appends, AppendsBeginning, Renames, Removes, Locks, MayLock, with_synced, renamed, Creation, Sync, Move, Removal, LockFile};
-ghost use Rattle.store.specs.Calls.{Counts, Keeps, KeepsSynced, KeepsCalls, Changes, ChangesSynced, Notes, NotesAppend, NotesSync};
+ghost use Rattle.store.specs.Calls.{Counts, FailsNoWrite, FailsAsWrite, Keeps, KeepsSynced, KeepsCalls, Changes, ChangesSynced, Notes, NotesAppend, NotesSync};
 ghost use Rattle.store.specs.MemFacts.{mem_facts};
 ghost use Rattle.store.specs.FaultFacts.{fault_facts, standing_of, due, due_behind, next_extent, way_of, is_denial, Proceeds, Fails, error_of, Meets, MeetsAppend, MeetsReading};
 
+use crate::counters::Failed;
 use crate::{MemStore, Store, StoreError};
 use std::alloc::Global;
 
@@ -99,7 +100,7 @@ impl FaultStore {
 
     /// What another process finds behind this one: the files as they are now, in a copy, and the lock free.
     pub fn remains(&self) -> Result<MemStore, StoreError>
-        ensures copied { IfOk result (λ copy. mem_facts copy ≡ record (fault_facts self.now) { calls = []; faithful = true; locked = false; failures = 0; denials = 0 }) }
+        ensures copied { IfOk result (λ copy. mem_facts copy ≡ record (fault_facts self.now) { calls = []; faithful = true; locked = false; failures = 0; write_failures = 0; denials = 0 }) }
         ensures memory { IfErr result (λ error. error ≡ StoreError.Memory) }
     {
         self.inner.copy()
@@ -164,30 +165,30 @@ impl FaultStore {
     }
 
     // Answers Device for a call that isn't done, and counts it. Behind the last failure that can be counted it answers Ok.
-    fn fail(&mut self) -> Result<(), StoreError>
+    fn fail(&mut self, call: Failed) -> Result<(), StoreError>
         ensures store { self.new ≡ record self.old { inner = self.new.inner } }
-        ensures fails { Fails (fault_facts self.old) (fault_facts self.new) (error_of result) }
+        ensures fails { Fails (fault_facts self.old) (fault_facts self.new) call (error_of result) }
         ensures memory { result ≢ Err StoreError.Memory }
     {
-        self.inner.fail()
+        self.inner.fail(call)
     }
 
     // Answers Device for a call that was done, as far as the fault lets it come.
-    fn act(&mut self) -> Result<(), StoreError>
+    fn act(&mut self, call: Failed) -> Result<(), StoreError>
         ensures store { self.new ≡ record self.old { inner = self.new.inner; acted = true } }
-        ensures fails { Fails (fault_facts self.old) (fault_facts self.new) (error_of result) }
+        ensures fails { Fails (fault_facts self.old) (fault_facts self.new) call (error_of result) }
         ensures memory { result ≢ Err StoreError.Memory }
     {
         self.acted = true;
-        self.fail()
+        self.fail(call)
     }
 
-    // Device, which is counted, or Memory behind the last failure that can be counted.
+    // Device, which is counted, or Memory behind the last failure that can be counted; of a call that writes nothing.
     fn failure(&mut self) -> StoreError
         ensures store { self.new ≡ record self.old { inner = self.new.inner } }
-        ensures fails { Fails (fault_facts self.old) (fault_facts self.new) (Some result) }
+        ensures fails { Fails (fault_facts self.old) (fault_facts self.new) Failed.Other (Some result) }
     {
-        match self.fail() {
+        match self.fail(Failed::Other) {
             Ok(()) => StoreError::Memory,
             Err(error) => error,
         }
@@ -213,8 +214,13 @@ impl Store for FaultStore {
         self.inner.failures()
     }
 
+    fn write_failures(&self) -> u64 {
+        self.inner.write_failures()
+    }
+
     fn list(&mut self, alloc: Global) -> Result<Vec<String>, StoreError>
         ensures counts { Counts (fault_facts self.old) (fault_facts self.new) result }
+        ensures writes { FailsNoWrite (fault_facts self.old) (fault_facts self.new) }
         ensures undenied { (fault_facts self.new).denials ≡ (fault_facts self.old).denials }
         ensures lock { (fault_facts self.new).locked ≡ (fault_facts self.old).locked }
         ensures names { IfOk result (λ names. IsTrue (fault_facts self.new).faithful →
@@ -234,6 +240,7 @@ impl Store for FaultStore {
 
     fn len(&mut self, name: &str) -> Result<u64, StoreError>
         ensures counts { Counts (fault_facts self.old) (fault_facts self.new) result }
+        ensures writes { FailsNoWrite (fault_facts self.old) (fault_facts self.new) }
         ensures undenied { (fault_facts self.new).denials ≡ (fault_facts self.old).denials }
         ensures lock { (fault_facts self.new).locked ≡ (fault_facts self.old).locked }
         ensures length { IfOk result (λ len. IsTrue (fault_facts self.new).faithful →
@@ -260,6 +267,7 @@ impl Store for FaultStore {
         count: usize,
     ) -> Result<Vec<u8>, StoreError>
         ensures counts { Counts (fault_facts self.old) (fault_facts self.new) result }
+        ensures writes { FailsNoWrite (fault_facts self.old) (fault_facts self.new) }
         ensures undenied { (fault_facts self.new).denials ≡ (fault_facts self.old).denials }
         ensures lock { (fault_facts self.new).locked ≡ (fault_facts self.old).locked }
         ensures bytes { IfOk result (λ read. IsTrue (fault_facts self.new).faithful →
@@ -280,6 +288,7 @@ impl Store for FaultStore {
 
     fn create(&mut self, name: &str) -> Result<(), StoreError>
         ensures counts { Counts (fault_facts self.old) (fault_facts self.new) result }
+        ensures writes { FailsAsWrite (fault_facts self.old) (fault_facts self.new) }
         ensures undenied { (fault_facts self.new).denials ≡ (fault_facts self.old).denials }
         ensures lock { (fault_facts self.new).locked ≡ (fault_facts self.old).locked }
         ensures files { Changes (fault_facts self.old) (fault_facts self.new) result
@@ -295,16 +304,17 @@ impl Store for FaultStore {
     {
         match self.next_way() {
             Way::Whole => self.inner.create(name),
-            Way::Refused => self.fail(),
+            Way::Refused => self.fail(Failed::Write),
             Way::Lost => {
                 self.inner.create(name)?;
-                self.act()
+                self.act(Failed::Write)
             }
         }
     }
 
     fn append(&mut self, name: &str, bytes: &[u8]) -> Result<(), StoreError>
         ensures counts { Counts (fault_facts self.old) (fault_facts self.new) result }
+        ensures writes { FailsAsWrite (fault_facts self.old) (fault_facts self.new) }
         ensures undenied { (fault_facts self.new).denials ≡ (fault_facts self.old).denials }
         ensures lock { (fault_facts self.new).locked ≡ (fault_facts self.old).locked }
         ensures files { Changes (fault_facts self.old) (fault_facts self.new) result
@@ -321,21 +331,22 @@ impl Store for FaultStore {
     {
         match self.next() {
             None => self.inner.append(name, bytes),
-            Some(Extent::Before) => self.fail(),
+            Some(Extent::Before) => self.fail(Failed::Write),
             Some(Extent::After) => {
                 self.inner.append(name, bytes)?;
-                self.act()
+                self.act(Failed::Write)
             }
             Some(Extent::Part(count)) => {
                 let count = count.min(bytes.len());
                 self.inner.append(name, &bytes[..count])?;
-                self.act()
+                self.act(Failed::Write)
             }
         }
     }
 
     fn sync(&mut self, name: &str) -> Result<(), StoreError>
         ensures counts { Counts (fault_facts self.old) (fault_facts self.new) result }
+        ensures writes { FailsAsWrite (fault_facts self.old) (fault_facts self.new) }
         ensures undenied { (fault_facts self.new).denials ≡ (fault_facts self.old).denials }
         ensures lock { (fault_facts self.new).locked ≡ (fault_facts self.old).locked }
         ensures present { IsTrue (fault_facts self.new).faithful → OnOk result (IsSome (map.get (fault_facts self.old).files name.now)) }
@@ -351,12 +362,13 @@ impl Store for FaultStore {
     {
         match self.next() {
             None => self.inner.sync(name),
-            Some(_) => self.fail(),
+            Some(_) => self.fail(Failed::Write),
         }
     }
 
     fn rename(&mut self, from: &str, to: &str) -> Result<(), StoreError>
         ensures counts { Counts (fault_facts self.old) (fault_facts self.new) result }
+        ensures writes { FailsAsWrite (fault_facts self.old) (fault_facts self.new) }
         ensures undenied { (fault_facts self.new).denials ≡ (fault_facts self.old).denials }
         ensures lock { (fault_facts self.new).locked ≡ (fault_facts self.old).locked }
         ensures files { Changes (fault_facts self.old) (fault_facts self.new) result
@@ -373,16 +385,17 @@ impl Store for FaultStore {
     {
         match self.next_way() {
             Way::Whole => self.inner.rename(from, to),
-            Way::Refused => self.fail(),
+            Way::Refused => self.fail(Failed::Write),
             Way::Lost => {
                 self.inner.rename(from, to)?;
-                self.act()
+                self.act(Failed::Write)
             }
         }
     }
 
     fn remove(&mut self, name: &str) -> Result<(), StoreError>
         ensures counts { Counts (fault_facts self.old) (fault_facts self.new) result }
+        ensures writes { FailsNoWrite (fault_facts self.old) (fault_facts self.new) }
         ensures undenied { (fault_facts self.new).denials ≡ (fault_facts self.old).denials }
         ensures lock { (fault_facts self.new).locked ≡ (fault_facts self.old).locked }
         ensures files { Changes (fault_facts self.old) (fault_facts self.new) result
@@ -400,16 +413,17 @@ impl Store for FaultStore {
     {
         match self.next_way() {
             Way::Whole => self.inner.remove(name),
-            Way::Refused => self.fail(),
+            Way::Refused => self.fail(Failed::Other),
             Way::Lost => {
                 self.inner.remove(name)?;
-                self.act()
+                self.act(Failed::Other)
             }
         }
     }
 
     fn lock(&mut self) -> Result<bool, StoreError>
         ensures counts { Counts (fault_facts self.old) (fault_facts self.new) result }
+        ensures writes { FailsNoWrite (fault_facts self.old) (fault_facts self.new) }
         ensures undenied { result ≢ Ok false → (fault_facts self.new).denials ≡ (fault_facts self.old).denials }
         ensures denied { result ≡ Ok false → (fault_facts self.old).denials < (fault_facts self.new).denials }
         ensures taken { result ≡ Ok true → (fault_facts self.new).locked ≡ true }
@@ -442,6 +456,7 @@ impl Store for FaultStore {
 
     fn unlock(&mut self) -> Result<(), StoreError>
         ensures counts { Counts (fault_facts self.old) (fault_facts self.new) result }
+        ensures writes { FailsNoWrite (fault_facts self.old) (fault_facts self.new) }
         ensures undenied { (fault_facts self.new).denials ≡ (fault_facts self.old).denials }
         ensures free { OnOk result ((fault_facts self.new).locked ≡ false) }
         ensures kept { OnErr result ((fault_facts self.new).locked ≡ (fault_facts self.old).locked) }
@@ -457,7 +472,7 @@ impl Store for FaultStore {
             None => self.inner.unlock(),
             Some(_) => {
                 // An answer of Ok, where no further failure can be counted, says that the lock is free.
-                self.fail()?;
+                self.fail(Failed::Other)?;
                 self.inner.unlock()
             }
         }

@@ -1,12 +1,14 @@
 // A store over a folder of the system.
-ghost use Rattle.std.specs.Prelude.{◌≡◌, ◌≢◌, ◌<◌, ◌≤◌, IfOk, OnOk, IfErr, None, [], true, false};
+ghost use Rattle.std.specs.Prelude.{◌≡◌, ◌≢◌, ◌<◌, ◌≤◌, ◌+◌, IfOk, OnOk, IfErr, None, [], true, false};
 ghost use Rattle.std.specs.FinMap.{empty};
+ghost use Rattle.store.specs.Counted.{with_failed};
 ghost use Rattle.store.specs.FileFacts.{counted_facts};
 ghost use Rattle.store.specs.Calls.{Counts};
 
-use crate::counters::Counters;
+use crate::counters::{Counters, Failed};
+use crate::failure::Failure;
 use crate::folder::Folder;
-use crate::{Store, StoreError};
+use crate::{Store, StoreError, Trouble, Why};
 use std::alloc::Global;
 
 /// The plain files of a folder of the system. It promises what is promised of every store, and nothing of the
@@ -31,18 +33,24 @@ pub struct FileStore {
     folder: Folder,
     locked: bool,
     counters: Counters,
+    noted: Trouble,
 }
 
 impl FileStore {
     /// The files of a folder that exists. Missing where nothing is at the path, and Device where something else than
     /// a folder is there, or one that this process may not open.
     pub fn open(rt: &HostRuntime, folder: &str) -> Result<FileStore, StoreError>
-        ensures { IfOk result (λ store. counted_facts store.locked store.counters ≡ record { files = empty; synced = λ name. None; calls = []; faithful = false; locked = false; failures = 0; denials = 0 }) }
+        ensures { IfOk result (λ store. counted_facts store.locked store.counters ≡ record { files = empty; synced = λ name. None; calls = []; faithful = false; locked = false; failures = 0; write_failures = 0; denials = 0 }) }
     {
+        let folder = match Folder::open(rt, folder) {
+            Ok(folder) => folder,
+            Err(failure) => return Err(failure.error),
+        };
         Ok(FileStore {
-            folder: Folder::open(rt, folder)?,
+            folder,
             locked: false,
             counters: Counters::new(),
+            noted: Trouble::none(),
         })
     }
 }
@@ -54,17 +62,28 @@ impl Store for FileStore {
         self.counters.failures()
     }
 
+    fn write_failures(&self) -> u64 {
+        self.counters.write_failures()
+    }
+
     fn list(&mut self, alloc: Global) -> Result<Vec<String>, StoreError> {
         match self.folder.list(alloc) {
             Ok(names) => Ok(names),
-            Err(error) => Err(refused(&mut self.counters, changing(error))),
+            Err(failure) => {
+                let error = changing(failure.error);
+                self.keep(why_unlisted(failure), "", error, failure);
+                Err(refused(&mut self.counters, Failed::Other, error))
+            }
         }
     }
 
     fn len(&mut self, name: &str) -> Result<u64, StoreError> {
         match self.folder.len(name) {
             Ok(len) => Ok(len),
-            Err(error) => Err(refused(&mut self.counters, error)),
+            Err(failure) => {
+                self.keep(Why::Length, name, failure.error, failure);
+                Err(refused(&mut self.counters, Failed::Other, failure.error))
+            }
         }
     }
 
@@ -77,42 +96,63 @@ impl Store for FileStore {
     ) -> Result<Vec<u8>, StoreError> {
         match self.folder.read_at(alloc, name, offset, count) {
             Ok(bytes) => Ok(bytes),
-            Err(error) => Err(refused(&mut self.counters, error)),
+            Err(failure) => {
+                self.keep(Why::Read, name, failure.error, failure);
+                Err(refused(&mut self.counters, Failed::Other, failure.error))
+            }
         }
     }
 
     fn create(&mut self, name: &str) -> Result<(), StoreError> {
         match self.folder.create(name) {
             Ok(()) => Ok(()),
-            Err(error) => Err(refused(&mut self.counters, changing(error))),
+            Err(failure) => {
+                let error = changing(failure.error);
+                self.keep(Why::Create, name, error, failure);
+                Err(refused(&mut self.counters, Failed::Write, error))
+            }
         }
     }
 
     fn append(&mut self, name: &str, bytes: &[u8]) -> Result<(), StoreError> {
         match self.folder.append(name, bytes) {
             Ok(()) => Ok(()),
-            Err(error) => Err(refused(&mut self.counters, changing(error))),
+            Err(failure) => {
+                let error = changing(failure.error);
+                self.keep(Why::Append, name, error, failure);
+                Err(refused(&mut self.counters, Failed::Write, error))
+            }
         }
     }
 
     fn sync(&mut self, name: &str) -> Result<(), StoreError> {
         match self.folder.sync(name) {
             Ok(()) => Ok(()),
-            Err(_) => self.counters.fail(),
+            Err(failure) => {
+                self.keep(Why::Sync, name, StoreError::Device, failure);
+                self.counters.fail(Failed::Write)
+            }
         }
     }
 
     fn rename(&mut self, from: &str, to: &str) -> Result<(), StoreError> {
         match self.folder.rename(from, to) {
             Ok(()) => Ok(()),
-            Err(error) => Err(refused(&mut self.counters, changing(error))),
+            Err(failure) => {
+                let error = changing(failure.error);
+                self.keep(Why::Rename, from, error, failure);
+                Err(refused(&mut self.counters, Failed::Write, error))
+            }
         }
     }
 
     fn remove(&mut self, name: &str) -> Result<(), StoreError> {
         match self.folder.remove(name) {
             Ok(()) => Ok(()),
-            Err(_) => self.counters.fail(),
+            Err(failure) => {
+                self.keep(Why::Remove, name, StoreError::Device, failure);
+                self.counters.fail(Failed::Other)
+            }
         }
     }
 
@@ -123,7 +163,11 @@ impl Store for FileStore {
                 Ok(true)
             }
             Ok(false) => self.counters.deny(),
-            Err(error) => Err(refused(&mut self.counters, changing(error))),
+            Err(failure) => {
+                let error = changing(failure.error);
+                self.keep(Why::Lock, "LOCK", error, failure);
+                Err(refused(&mut self.counters, Failed::Other, error))
+            }
         }
     }
 
@@ -131,6 +175,39 @@ impl Store for FileStore {
         self.folder.unlock();
         self.locked = false;
         Ok(())
+    }
+
+    fn note(&mut self, trouble: Trouble) {
+        self.noted = trouble.behind(self.noted);
+    }
+
+    fn noted(&self) -> Trouble {
+        self.noted
+    }
+}
+
+impl FileStore {
+    // Notes a failure of the device, with what the system told.
+    fn keep(&mut self, why: Why, name: &str, error: StoreError, failure: Failure)
+        ensures locked { self.new.locked ≡ self.old.locked }
+        ensures counters { self.new.counters ≡ self.old.counters }
+    {
+        if error == StoreError::Device {
+            let code = failure.code;
+            let trouble = Trouble {
+                code,
+                ..Trouble::of(why, name)
+            };
+            self.noted = trouble.behind(self.noted);
+        }
+    }
+}
+
+// Why a folder wasn't listed: where the system told nothing, one of its names isn't UTF-8.
+fn why_unlisted(failure: Failure) -> Why {
+    match failure.code {
+        Some(_) => Why::List,
+        None => Why::NotUtf8,
     }
 }
 
@@ -146,14 +223,16 @@ fn changing(error: StoreError) -> StoreError
 }
 
 // Counts an error that is Device. Where no further failure can be counted, the answer is Memory in its place.
-fn refused(counters: &mut Counters, error: StoreError) -> StoreError
+fn refused(counters: &mut Counters, call: Failed, error: StoreError) -> StoreError
     ensures denials { counters.new.denials ≡ counters.old.denials }
-    ensures device { result ≡ StoreError.Device → counters.old.failures < counters.new.failures }
+    ensures device { result ≡ StoreError.Device → counters.new.failures ≡ counters.old.failures + 1 }
     ensures others { result ≢ StoreError.Device → counters.new.failures ≡ counters.old.failures }
+    ensures writes { result ≡ StoreError.Device → counters.new.write_failures ≡ with_failed call counters.old.write_failures }
+    ensures unwritten { result ≢ StoreError.Device → counters.new.write_failures ≡ counters.old.write_failures }
     ensures missing { error ≢ StoreError.Missing → result ≢ StoreError.Missing }
 {
     match error {
-        StoreError::Device => match counters.fail() {
+        StoreError::Device => match counters.fail(call) {
             Ok(()) => StoreError::Memory,
             Err(error) => error,
         },

@@ -1,10 +1,11 @@
 // A folder of the system, by one call of the system for each call of a store, but for the lock.
 //
-// Nothing here counts: an error says what the system answered, and `file_store` decides what that is to a store.
+// Nothing here counts: a failure says what the system answered, and `file_store` decides what that is to a store.
 
 ghost use Rattle.std.specs.Prelude.{◌≤◌, length, IfOk};
 
 use crate::StoreError;
+use crate::failure::Failure;
 use sqlite_std_file::{OpenError, Unknown};
 use std::alloc::{AllocError, Global};
 use std::collections::BTreeMap;
@@ -49,9 +50,9 @@ pub struct Folder {
 
 impl Folder {
     /// The folder at a path: Missing where nothing is there, Device where it isn't a folder that can be opened.
-    pub fn open(rt: &HostRuntime, path: &str) -> Result<Folder, StoreError> {
+    pub fn open(rt: &HostRuntime, path: &str) -> Result<Folder, Failure> {
         if !fs::metadata(rt, path)?.is_dir() {
-            return Err(StoreError::Device);
+            return Err(Failure::untold(StoreError::Device));
         }
         let folder = fs::open(rt, path)?;
         let mut with_slash = String::from_str(rt.alloc(), path)?;
@@ -67,7 +68,7 @@ impl Folder {
     }
 
     /// The names of the plain files, and of links to one. Device where a name isn't UTF-8.
-    pub fn list(&mut self, alloc: Global) -> Result<Vec<String>, StoreError> {
+    pub fn list(&mut self, alloc: Global) -> Result<Vec<String>, Failure> {
         let mut names = Vec::new(alloc);
         for entry in fs::read_dir(&self.rt, self.path.as_str())? {
             let entry = entry?;
@@ -81,7 +82,7 @@ impl Folder {
     }
 
     /// How many bytes a file has. Missing where there is none.
-    pub fn len(&mut self, name: &str) -> Result<u64, StoreError> {
+    pub fn len(&mut self, name: &str) -> Result<u64, Failure> {
         Ok(self.kept_file(name, false)?.metadata()?.len())
     }
 
@@ -92,7 +93,7 @@ impl Folder {
         name: &str,
         offset: u64,
         count: usize,
-    ) -> Result<Vec<u8>, StoreError> {
+    ) -> Result<Vec<u8>, Failure> {
         // the calls of most are on a file that is open: its name is looked up once
         if let Some(kept) = self.kept.get(name) {
             return read_from(alloc, &kept.file, offset, count);
@@ -102,13 +103,13 @@ impl Folder {
     }
 
     /// Makes an empty file, or empties the one that is there.
-    pub fn create(&mut self, name: &str) -> Result<(), StoreError> {
+    pub fn create(&mut self, name: &str) -> Result<(), Failure> {
         let path = self.path_of(name)?;
         self.kept.remove(name);
         self.names_changed = true;
         let mut options = OpenOptions::new();
         options.read(true).write(true).create(true).truncate(true);
-        let file = open_with(&self.rt, &options, path.as_str()).map_err(|_| StoreError::Device)?;
+        let file = open_with(&self.rt, &options, path.as_str()).map_err(Failure::of_device)?;
         // The file is made: where no memory is left to keep it open, the next call opens it again.
         let _ = self.keep(
             name,
@@ -121,7 +122,7 @@ impl Folder {
     }
 
     /// Adds bytes at the end. Once it writes, a failure is Device, since it may have written some of them.
-    pub fn append(&mut self, name: &str, bytes: &[u8]) -> Result<(), StoreError> {
+    pub fn append(&mut self, name: &str, bytes: &[u8]) -> Result<(), Failure> {
         if let Some(kept) = self.kept.get(name) {
             if kept.appends {
                 return append_to(&kept.file, bytes);
@@ -133,7 +134,7 @@ impl Folder {
 
     /// Syncs a file, and before it the folder where its names changed, as LevelDB does before it syncs its MANIFEST
     /// (`SyncDirIfManifest` in util/env_posix.cc): what a file says of others is kept only behind their names.
-    pub fn sync(&mut self, name: &str) -> Result<(), StoreError> {
+    pub fn sync(&mut self, name: &str) -> Result<(), Failure> {
         if self.names_changed {
             self.folder.sync_all()?;
             self.names_changed = false;
@@ -143,25 +144,25 @@ impl Folder {
     }
 
     /// Gives a file another name, in place of a file that has it. Device where it wasn't done, or may not have been.
-    pub fn rename(&mut self, from: &str, to: &str) -> Result<(), StoreError> {
+    pub fn rename(&mut self, from: &str, to: &str) -> Result<(), Failure> {
         let from_path = self.path_of(from)?;
         let to_path = self.path_of(to)?;
         self.kept.remove(from);
         self.kept.remove(to);
         self.names_changed = true;
-        fs::rename(&self.rt, from_path.as_str(), to_path.as_str()).map_err(|_| StoreError::Device)
+        fs::rename(&self.rt, from_path.as_str(), to_path.as_str()).map_err(Failure::of_device)
     }
 
     /// Takes a file away. Device where it wasn't done, or may not have been.
-    pub fn remove(&mut self, name: &str) -> Result<(), StoreError> {
+    pub fn remove(&mut self, name: &str) -> Result<(), Failure> {
         let path = self.path_of(name)?;
         self.kept.remove(name);
         self.names_changed = true;
-        fs::remove_file(&self.rt, path.as_str()).map_err(|_| StoreError::Device)
+        fs::remove_file(&self.rt, path.as_str()).map_err(Failure::of_device)
     }
 
     /// Whether this process now holds the lock, which it didn't before.
-    pub fn lock(&mut self) -> Result<bool, StoreError> {
+    pub fn lock(&mut self) -> Result<bool, Failure> {
         if self.lock.is_some() {
             return Ok(false);
         }
@@ -175,10 +176,11 @@ impl Folder {
         let files = match sqlite_std_file::open(&self.rt, path.as_str(), Unknown) {
             Ok(files) => files,
             Err(OpenError::Busy) => return Ok(false),
-            Err(_) => return Err(StoreError::Device),
+            Err(OpenError::Io(error)) => return Err(Failure::of_device(error)),
+            Err(_) => return Err(Failure::untold(StoreError::Device)),
         };
         if !is_of_others {
-            fs::remove_file(&self.rt, log.as_str()).map_err(|_| StoreError::Device)?;
+            fs::remove_file(&self.rt, log.as_str()).map_err(Failure::of_device)?;
         }
         self.lock = Some(files.db);
         Ok(true)
@@ -190,10 +192,10 @@ impl Folder {
     }
 
     // The path of a name, or Missing where it isn't one that a file of the folder can have.
-    fn path_of(&self, name: &str) -> Result<String, StoreError> {
+    fn path_of(&self, name: &str) -> Result<String, Failure> {
         let is_folder = name.is_empty() || name == "." || name == "..";
         if is_folder || name.contains('/') || name.contains('\0') {
-            return Err(StoreError::Missing);
+            return Err(Failure::untold(StoreError::Missing));
         }
         let mut path = String::from_str(self.rt.alloc(), self.path.as_str())?;
         path.push_str(name)?;
@@ -210,7 +212,7 @@ impl Folder {
     }
 
     // The file of a name, opened where it isn't open yet.
-    fn kept_file(&mut self, name: &str, appends: bool) -> Result<&File, StoreError> {
+    fn kept_file(&mut self, name: &str, appends: bool) -> Result<&File, Failure> {
         let is_kept = match self.kept.get(name) {
             Some(kept) => kept.appends || !appends,
             None => false,
@@ -220,15 +222,15 @@ impl Folder {
         }
         match self.kept.get(name) {
             Some(kept) => Ok(&kept.file),
-            None => Err(StoreError::Device),
+            None => Err(Failure::untold(StoreError::Device)),
         }
     }
 
     // Opens a file that is there, which changes nothing.
-    fn open_file(&mut self, name: &str, appends: bool) -> Result<(), StoreError> {
+    fn open_file(&mut self, name: &str, appends: bool) -> Result<(), Failure> {
         let path = self.path_of(name)?;
         if !self.is_plain(path.as_str())? {
-            return Err(StoreError::Missing);
+            return Err(Failure::untold(StoreError::Missing));
         }
         let mut options = OpenOptions::new();
         options.read(true).append(appends);
@@ -258,7 +260,7 @@ fn open_with(rt: &HostRuntime, options: &OpenOptions, path: &str) -> io::Result<
 }
 
 // The bytes of a file from an offset on, so many of them or up to its end.
-fn read_from(alloc: Global, file: &File, offset: u64, count: usize) -> Result<Vec<u8>, StoreError> {
+fn read_from(alloc: Global, file: &File, offset: u64, count: usize) -> Result<Vec<u8>, Failure> {
     let count = count_within(file, offset, count)?;
     let mut bytes = vec![in alloc; 0u8; count]?;
     let read = fill(file, bytes.as_mut_slice(), offset)?;
@@ -267,8 +269,8 @@ fn read_from(alloc: Global, file: &File, offset: u64, count: usize) -> Result<Ve
 }
 
 // Adds bytes at the end of a file, or some of them.
-fn append_to(mut file: &File, bytes: &[u8]) -> Result<(), StoreError> {
-    file.write_all(bytes).map_err(|_| StoreError::Device)
+fn append_to(mut file: &File, bytes: &[u8]) -> Result<(), Failure> {
+    file.write_all(bytes).map_err(Failure::of_device)
 }
 
 // How many bytes to read: of a large count, or far out, no more than are there.

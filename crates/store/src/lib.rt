@@ -3,6 +3,7 @@
 
 mod counters;
 mod error;
+mod failure;
 mod fault_store;
 mod file_store;
 mod folder;
@@ -12,6 +13,8 @@ mod mem_file;
 mod memory;
 mod past;
 mod store;
+mod trouble;
+mod words;
 
 pub use error::StoreError;
 pub use fault_store::{Extent, Fault, FaultStore, Plan};
@@ -20,3 +23,4 @@ pub use has_store::HasStore;
 pub use laws::{left_now, left_since, lost_since};
 pub use memory::MemStore;
 pub use store::Store;
+pub use trouble::{ShortName, Trouble, Why};

@@ -4,11 +4,12 @@ ghost use Rattle.std.specs.FinMap as map;
 ghost use Rattle.std.specs.FinMap.{insert};
 ghost use Rattle.store.specs.Calls.{Notes};
 ghost use Rattle.store.specs.Files.{LockFile, Locks, Renames, made_if_missing, with_synced, renamed};
+ghost use Rattle.store.specs.Counted.{with_failed};
 ghost use Rattle.store.specs.MemFile.{front_of};
 ghost use Rattle.store.specs.MemStore.{files_of, synced_of};
 ghost use Rattle.store.specs.Past.{Holds};
 
-use crate::counters::Counters;
+use crate::counters::{Counters, Failed};
 use crate::mem_file::MemFile;
 use crate::past::{Past, keep, make_room, room_for};
 use crate::{Store, StoreError};
@@ -44,7 +45,7 @@ impl MemStore {
 
     /// An empty directory.
     pub fn new(alloc: Global) -> Self
-        ensures { mem_facts result ≡ record { files = empty; synced = λ name. None; calls = []; faithful = true; locked = false; failures = 0; denials = 0 } }
+        ensures { mem_facts result ≡ record { files = empty; synced = λ name. None; calls = []; faithful = true; locked = false; failures = 0; write_failures = 0; denials = 0 } }
     {
         MemStore {
             alloc,
@@ -58,7 +59,7 @@ impl MemStore {
     /// A directory with a copy of each file, synced as it is here, its lock free and its counts 0. Nothing of the calls
     /// made here comes along, nor of the files that they took away.
     pub fn copy(&self) -> Result<MemStore, StoreError>
-        ensures copied { IfOk result (λ copy. mem_facts copy ≡ record (mem_facts self.now) { calls = []; faithful = true; locked = false; failures = 0; denials = 0 }) }
+        ensures copied { IfOk result (λ copy. mem_facts copy ≡ record (mem_facts self.now) { calls = []; faithful = true; locked = false; failures = 0; write_failures = 0; denials = 0 }) }
         ensures memory { IfErr result (λ error. error ≡ StoreError.Memory) }
     {
         let files = self.files.clone()?;
@@ -67,7 +68,7 @@ impl MemStore {
 
     // A directory that begins with these files.
     fn of(alloc: Global, files: BTreeMap<String, MemFile>) -> MemStore
-        ensures { mem_facts result ≡ record { files = files_of files.entries; synced = synced_of files.entries; calls = []; faithful = true; locked = false; failures = 0; denials = 0 } }
+        ensures { mem_facts result ≡ record { files = files_of files.entries; synced = synced_of files.entries; calls = []; faithful = true; locked = false; failures = 0; write_failures = 0; denials = 0 } }
     {
         MemStore {
             alloc,
@@ -79,20 +80,23 @@ impl MemStore {
     }
 
     // Answers Device for a call that failed, and counts it: behind the last failure that can be counted it answers Ok.
-    pub(crate) fn fail(&mut self) -> Result<(), StoreError>
+    pub(crate) fn fail(&mut self, call: Failed) -> Result<(), StoreError>
         ensures files { self.new ≡ record self.old { counters = self.new.counters } }
         ensures denials { self.new.counters.denials ≡ self.old.counters.denials }
         ensures counted { OnErr result (self.new.counters.failures ≡ self.old.counters.failures + 1) }
+        ensures writes { OnErr result (self.new.counters.write_failures ≡ with_failed call self.old.counters.write_failures) }
+        ensures unwritten { OnOk result (self.new.counters.write_failures ≡ self.old.counters.write_failures) }
         ensures device { IfErr result (λ error. error ≡ StoreError.Device) }
         ensures full { OnOk result ((self.new.counters.failures ≡ self.old.counters.failures) × (2 ^ 64 ≤ self.new.counters.failures + 1)) }
     {
-        self.counters.fail()
+        self.counters.fail(call)
     }
 
     // Denies the lock and counts it, or answers Memory where no further denial can be counted.
     pub(crate) fn deny(&mut self) -> Result<bool, StoreError>
         ensures files { self.new ≡ record self.old { counters = self.new.counters } }
         ensures failures { self.new.counters.failures ≡ self.old.counters.failures }
+        ensures writes { self.new.counters.write_failures ≡ self.old.counters.write_failures }
         ensures counted { IfOk result (λ taken. (taken ≡ false) × (self.new.counters.denials ≡ self.old.counters.denials + 1)) }
         ensures memory { IfErr result (λ error. (error ≡ StoreError.Memory) × (self.new.counters.denials ≡ self.old.counters.denials)) }
     {
@@ -126,6 +130,10 @@ impl Store for MemStore {
 
     fn failures(&self) -> u64 {
         self.counters.failures()
+    }
+
+    fn write_failures(&self) -> u64 {
+        self.counters.write_failures()
     }
 
     fn list(&mut self, alloc: Global) -> Result<Vec<String>, StoreError> {
@@ -165,7 +173,7 @@ impl Store for MemStore {
 
     fn append(&mut self, name: &str, bytes: &[u8]) -> Result<(), StoreError> {
         if !self.files.contains_key(name) {
-            return self.fail();
+            return self.fail(Failed::Write);
         }
         let known = room_for(&mut self.past, self.alloc, name)?;
         let length = add_bytes(&mut self.files, name, bytes)?;
@@ -175,10 +183,10 @@ impl Store for MemStore {
 
     fn sync(&mut self, name: &str) -> Result<(), StoreError> {
         if !self.files.contains_key(name) {
-            return self.fail();
+            return self.fail(Failed::Write);
         }
         let Ok(known) = room_for(&mut self.past, self.alloc, name) else {
-            return self.fail();
+            return self.fail(Failed::Write);
         };
         let count = sync_file(&mut self.files, name);
         keep(&mut self.past, Past::Kept(known, count));
@@ -187,7 +195,7 @@ impl Store for MemStore {
 
     fn rename(&mut self, from: &str, to: &str) -> Result<(), StoreError> {
         if !self.files.contains_key(from) {
-            return self.fail();
+            return self.fail(Failed::Write);
         }
         if from == to {
             return Ok(());
@@ -204,10 +212,10 @@ impl Store for MemStore {
 
     fn remove(&mut self, name: &str) -> Result<(), StoreError> {
         let Ok(known) = room_for(&mut self.past, self.alloc, name) else {
-            return self.fail();
+            return self.fail(Failed::Other);
         };
         let Some(file) = self.files.remove(name) else {
-            return self.fail();
+            return self.fail(Failed::Other);
         };
         keep(&mut self.past, Past::Taken(known, file));
         Ok(())

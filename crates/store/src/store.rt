@@ -2,9 +2,9 @@
 ghost use Rattle.std.specs.Prelude.{◌≡◌, ◌≢◌, ◌⊎◌, ◌<◌, List, ℕ, [], length, take, drop, map, string_bytes, IfOk, OnOk, OnErr, None, IsTrue, IsSome, true, false};
 ghost use Rattle.std.specs.FinMap as map;
 ghost use Rattle.store.specs.Files.{Facts, Lists, Appends, AppendsBeginning, Renames, Removes, Locks, MayLock, with_synced, renamed, Creation, Sync, Move, Removal, LockFile};
-ghost use Rattle.store.specs.Calls.{Counts, Keeps, KeepsSynced, KeepsCalls, Changes, ChangesSynced, Notes, NotesAppend, NotesSync};
+ghost use Rattle.store.specs.Calls.{Counts, FailsNoWrite, FailsAsWrite, Keeps, KeepsSynced, KeepsCalls, Changes, ChangesSynced, Notes, NotesAppend, NotesSync};
 
-use crate::StoreError;
+use crate::{StoreError, Trouble};
 use std::alloc::Global;
 
 /// Named files, as a database keeps them in one directory: the calls of LevelDB's `Env` (include/leveldb/env.h) that it
@@ -22,16 +22,22 @@ use std::alloc::Global;
 /// what is synced behind it.
 pub trait Store {
     /// The files, what of them is synced, the calls that changed something, whether it was faithful so far, whether it
-    /// holds the lock, and its counts of failures and of denied locks.
+    /// holds the lock, and its counts of failures, of failed writes and of denied locks.
     ghost facts: { Self → Facts };
 
     /// How often a call failed so far: the failures of the facts, without a call of the device.
     fn failures(&self) -> u64
         ensures { result ≡ (facts self.now).failures };
 
+    /// How often a call failed so far that makes a file, adds to one, syncs one or renames one: the failed writes of the facts, as
+    /// above.
+    fn write_failures(&self) -> u64
+        ensures { result ≡ (facts self.now).write_failures };
+
     /// The names of all files, each once, in no order.
     fn list(&mut self, alloc: Global) -> Result<Vec<String>, StoreError>
         ensures counts { Counts (facts self.old) (facts self.new) result }
+        ensures writes { FailsNoWrite (facts self.old) (facts self.new) }
         ensures undenied { (facts self.new).denials ≡ (facts self.old).denials }
         ensures lock { (facts self.new).locked ≡ (facts self.old).locked }
         ensures names { IfOk result (λ names. IsTrue (facts self.new).faithful →
@@ -44,6 +50,7 @@ pub trait Store {
     /// The length of a file in bytes.
     fn len(&mut self, name: &str) -> Result<u64, StoreError>
         ensures counts { Counts (facts self.old) (facts self.new) result }
+        ensures writes { FailsNoWrite (facts self.old) (facts self.new) }
         ensures undenied { (facts self.new).denials ≡ (facts self.old).denials }
         ensures lock { (facts self.new).locked ≡ (facts self.old).locked }
         ensures length { IfOk result (λ len. IsTrue (facts self.new).faithful →
@@ -63,6 +70,7 @@ pub trait Store {
         count: usize,
     ) -> Result<Vec<u8>, StoreError>
         ensures counts { Counts (facts self.old) (facts self.new) result }
+        ensures writes { FailsNoWrite (facts self.old) (facts self.new) }
         ensures undenied { (facts self.new).denials ≡ (facts self.old).denials }
         ensures lock { (facts self.new).locked ≡ (facts self.old).locked }
         ensures bytes { IfOk result (λ read. IsTrue (facts self.new).faithful →
@@ -76,6 +84,7 @@ pub trait Store {
     /// Makes an empty file, or empties the one that is there. A call that fails with Device may have done so.
     fn create(&mut self, name: &str) -> Result<(), StoreError>
         ensures counts { Counts (facts self.old) (facts self.new) result }
+        ensures writes { FailsAsWrite (facts self.old) (facts self.new) }
         ensures undenied { (facts self.new).denials ≡ (facts self.old).denials }
         ensures lock { (facts self.new).locked ≡ (facts self.old).locked }
         ensures files { Changes (facts self.old) (facts self.new) result
@@ -89,6 +98,7 @@ pub trait Store {
     /// Adds bytes at the end of a file. A call that fails with Device may have added a beginning of them.
     fn append(&mut self, name: &str, bytes: &[u8]) -> Result<(), StoreError>
         ensures counts { Counts (facts self.old) (facts self.new) result }
+        ensures writes { FailsAsWrite (facts self.old) (facts self.new) }
         ensures undenied { (facts self.new).denials ≡ (facts self.old).denials }
         ensures lock { (facts self.new).locked ≡ (facts self.old).locked }
         ensures files { Changes (facts self.old) (facts self.new) result
@@ -102,6 +112,7 @@ pub trait Store {
     /// Has the device keep what was written to a file, and the names as they are now.
     fn sync(&mut self, name: &str) -> Result<(), StoreError>
         ensures counts { Counts (facts self.old) (facts self.new) result }
+        ensures writes { FailsAsWrite (facts self.old) (facts self.new) }
         ensures undenied { (facts self.new).denials ≡ (facts self.old).denials }
         ensures lock { (facts self.new).locked ≡ (facts self.old).locked }
         ensures present { IsTrue (facts self.new).faithful → OnOk result (IsSome (map.get (facts self.old).files name.now)) }
@@ -116,6 +127,7 @@ pub trait Store {
     /// Gives a file another name, in place of a file that has it. A call that fails with Device may have done so.
     fn rename(&mut self, from: &str, to: &str) -> Result<(), StoreError>
         ensures counts { Counts (facts self.old) (facts self.new) result }
+        ensures writes { FailsAsWrite (facts self.old) (facts self.new) }
         ensures undenied { (facts self.new).denials ≡ (facts self.old).denials }
         ensures lock { (facts self.new).locked ≡ (facts self.old).locked }
         ensures files { Changes (facts self.old) (facts self.new) result
@@ -130,6 +142,7 @@ pub trait Store {
     /// Takes a file away. A call that fails with Device may have done so.
     fn remove(&mut self, name: &str) -> Result<(), StoreError>
         ensures counts { Counts (facts self.old) (facts self.new) result }
+        ensures writes { FailsNoWrite (facts self.old) (facts self.new) }
         ensures undenied { (facts self.new).denials ≡ (facts self.old).denials }
         ensures lock { (facts self.new).locked ≡ (facts self.old).locked }
         ensures files { Changes (facts self.old) (facts self.new) result
@@ -147,6 +160,7 @@ pub trait Store {
     /// have made the file.
     fn lock(&mut self) -> Result<bool, StoreError>
         ensures counts { Counts (facts self.old) (facts self.new) result }
+        ensures writes { FailsNoWrite (facts self.old) (facts self.new) }
         ensures undenied { result ≢ Ok false → (facts self.new).denials ≡ (facts self.old).denials }
         ensures denied { result ≡ Ok false → (facts self.old).denials < (facts self.new).denials }
         ensures taken { result ≡ Ok true → (facts self.new).locked ≡ true }
@@ -160,6 +174,7 @@ pub trait Store {
     /// Gives the lock back, where it is held here.
     fn unlock(&mut self) -> Result<(), StoreError>
         ensures counts { Counts (facts self.old) (facts self.new) result }
+        ensures writes { FailsNoWrite (facts self.old) (facts self.new) }
         ensures undenied { (facts self.new).denials ≡ (facts self.old).denials }
         ensures free { OnOk result ((facts self.new).locked ≡ false) }
         ensures kept { OnErr result ((facts self.new).locked ≡ (facts self.old).locked) }
@@ -168,4 +183,16 @@ pub trait Store {
         ensures calls { KeepsCalls (facts self.old) (facts self.new) }
         ensures missing { result ≢ Err StoreError.Missing }
         ensures memory { result ≢ Err StoreError.Memory };
+
+    /// Takes a note of why a call is refused, in the place of an earlier one. Nothing of the files changes. A store may let go of it.
+    fn note(&mut self, trouble: Trouble)
+        ensures { facts self.new ≡ facts self.old }
+    {
+        let _ = trouble;
+    }
+
+    /// The note that was taken last, whether or not a call was refused since. Nothing is promised of it: it is for the eye alone.
+    fn noted(&self) -> Trouble {
+        Trouble::none()
+    }
 }

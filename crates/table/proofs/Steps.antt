@@ -8,7 +8,7 @@ use Rattle.coding.specs.declared.error.ReadError.TheVariants as read_error
 use Rattle.block.specs.Block.{Refuses as RefusesBlock}
 use Rattle.coding.specs.Errors.{RefusesOnly}
 use Rattle.store.specs.Files.{Files, Facts}
-use Rattle.store.specs.Calls.{Counts, Keeps, KeepsSynced}
+use Rattle.store.specs.Calls.{Counts, FailsNoWrite, Keeps, KeepsSynced, KeepsCalls}
 use Rattle.store.specs.declared.error.StoreError.{StoreError}
 use Rattle.table.specs.Reading.{Reads, HasFile, Finds, Refuses, table_refusal}
 
@@ -20,9 +20,11 @@ reads_then a b c h k = record {
   faithful = λ t. h.faithful (k.faithful t);
   files = λ t. k.files t ∙ h.files (k.faithful t);
   failures = omega (arith, h.failures, k.failures);
+  writes = k.writes ∙ h.writes;
   denials = k.denials ∙ h.denials;
   locked = k.locked ∙ h.locked;
   synced = λ t. k.synced t ∙ h.synced (k.faithful t);
+  calls = λ t. k.calls t ∙ h.calls (k.faithful t);
 }
 
 pub file_back : (a b : Facts) (name file : List ℕ) → Reads a b → IsTrue b.faithful → HasFile b name file → HasFile a name file
@@ -118,8 +120,8 @@ refuses_later (Unsupported what) a b c name D E U V f g s h k none = λ t file t
 refuses_later _ a b c name D E U V f g s h k none = absurd none
 
 pub reads_none : (a : Facts) → Reads a a
-reads_none a = record { faithful = λ t. t; files = λ t. refl; failures = omega arith; denials = refl; locked = refl; synced = λ t. refl }
+reads_none a = record { faithful = λ t. t; files = λ t. refl; failures = omega arith; writes = refl; denials = refl; locked = refl; synced = λ t. refl; calls = λ t. refl }
 
 -- a call of the store that only reads
-pub reads_by : {T : Type 0} (a b : Facts) (result : Result T StoreError) → Counts a b result → b.denials ≡ a.denials → b.locked ≡ a.locked → Keeps a b → KeepsSynced a b → Reads a b
-reads_by a b result counts undenied lock keeps synced = record { faithful = counts.faithful; files = keeps; failures = counts.failures; denials = undenied; locked = lock; synced = synced }
+pub reads_by : {T : Type 0} (a b : Facts) (result : Result T StoreError) → Counts a b result → FailsNoWrite a b → b.denials ≡ a.denials → b.locked ≡ a.locked → Keeps a b → KeepsSynced a b → KeepsCalls a b → Reads a b
+reads_by a b result counts writes undenied lock keeps synced calls = record { faithful = counts.faithful; files = keeps; failures = counts.failures; writes = writes; denials = undenied; locked = lock; synced = synced; calls = calls }

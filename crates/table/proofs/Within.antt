@@ -1,18 +1,17 @@
 -- Blocks that are held against their places.
-use Rattle.std.proofs.Common.{◌≡◌, ◌≤◌, ◌<◌, ◌⊎◌, inl, inr, ℕ, zero, suc, List, [], ◌∷◌, ◌++◌, Option, Some, None, refl, sym, ap, ◌∙◌, subst}
+use Rattle.std.proofs.Common.{◌≡◌, ℕ, zero, suc, List, [], ◌∷◌, ◌++◌, Option, Some, None, refl, sym, ◌∙◌, subst}
 use Rattle.std.specs.Prelude.{slice_get, option_map}
 use Rattle.std.specs.List.{AllByRecursion}
 use Rattle.std.specs.Option.{ForSome}
 use Rattle.std.specs.declared.cmp.Ordering.{Ordering}
 use Rattle.block.specs.Block.{AreAbove, IsBlock}
 use Rattle.block.specs.Bounds.{AreBetween, IsFirstKey}
-use Rattle.block.proofs.BlockLaws.{same_block}
 use Rattle.ikey.specs.Below.{IsBelowInternal}
 use Rattle.ikey.specs.Entries.{InternalEntry, Pair}
 use Rattle.ikey.specs.Keys.{Key, IsKey}
 use Rattle.table.specs.declared.handle.Handle.{Handle}
 use Rattle.table.specs.declared.handle.Place.{Place}
-use Rattle.table.specs.Intact.{AreAllWithin, AreWithin, BeginsWithKey, IsIntact, IsTornAt, IsUnsupportedAt, IsWithin, floor_of}
+use Rattle.table.specs.Intact.{AreAllWithin, AreWithin, BeginsWithKey, IsIntact, IsTornAt, floor_of}
 use Rattle.table.specs.Refusals.{IsUnsupported}
 use Rattle.table.specs.Stored.{IsStored}
 use Rattle.table.specs.Table.{AreBounds, ArePairs, HasBlock, IsAtMost}

@@ -9,17 +9,21 @@ use Rattle.coding.specs.declared.error.ReadError.{ReadError}
 use Rattle.coding.specs.declared.error.ReadError.TheVariants as read_error
 use Rattle.store.specs.declared.error.StoreError.{StoreError}
 use Rattle.store.specs.declared.error.StoreError.TheVariants as store_error
+use Rattle.store.specs.Calls.{FailsNoWrite, KeepsCalls}
 use Rattle.store.specs.Files.{Facts}
 
 -- A call that only reads: once a store has returned something else than what was written, that is so for good; a
--- faithful one has the same files afterwards; the failures don't fall, and the lock isn't asked for.
+-- faithful one has the same files afterwards, and it does none of the calls that change something; the failures don't
+-- fall, none of them is a failed write, and the lock isn't asked for.
 pub record Reads (old new : Facts) : Type 0 where
   pub faithful : IsTrue new.faithful → IsTrue old.faithful
   pub files : IsTrue new.faithful → new.files ≡ old.files
   pub failures : old.failures ≤ new.failures
+  pub writes : FailsNoWrite old new
   pub denials : new.denials ≡ old.denials
   pub locked : new.locked ≡ old.locked
   pub synced : IsTrue new.faithful → new.synced ≡ old.synced
+  pub calls : KeepsCalls old new
 
 -- Out of memory comes, as an Ok, only of a call in which the store didn't fail.
 abbrev pub IsErrorStill : DbError → Facts → Facts → Type 0

@@ -9,7 +9,9 @@ use Rattle.coding.specs.declared.error.DbError.TheVariants.{OutOfMemory, Io, Uns
 use Rattle.filter.specs.Builder.{IsWritten}
 use Rattle.ikey.specs.Below.{IsBelowPlain}
 use Rattle.ikey.specs.Entries.{InternalEntry, Pair}
+use Rattle.store.specs.Calls.{FailsAsWrite}
 use Rattle.store.specs.Files.{Files, Synced, Facts}
+use Rattle.store.specs.Stops.{WritesOnly}
 use Rattle.table.specs.Building.{Building, AddsAllHashes, data_length, index_length}
 use Rattle.table.specs.Frame.{Frame, IsFrame, IsFooter, IsOversized, AnyLong, filter_name, handles}
 use Rattle.table.specs.Stored.{IsHandle, stored}
@@ -26,14 +28,16 @@ abbrev pub SyncsOnly : Synced → Synced → List ℕ → Type 0
 SyncsOnly old new name = (other : List ℕ) → other ≢ name → new other ≡ old other
 
 -- A call that writes this file alone: once a store has returned something else than what was written, that is so for
--- good; the failures don't fall, and the lock is left alone.
+-- good; the failures don't fall, each of them is a failed write, and the lock is left alone. A stop at any moment leaves the others too.
 pub record Writes (old new : Facts) (name : List ℕ) : Type 0 where
   pub faithful : IsTrue new.faithful → IsTrue old.faithful
   pub failures : old.failures ≤ new.failures
+  pub writes : FailsAsWrite old new
   pub denials : new.denials ≡ old.denials
   pub locked : new.locked ≡ old.locked
   pub others : IsTrue new.faithful → KeepsOthers old.files new.files name
   pub synced : IsTrue new.faithful → SyncsOnly old.synced new.synced name
+  pub calls : IsTrue new.faithful → WritesOnly old new (λ (other : List ℕ). other ≡ name)
 
 -- ---- refusals
 

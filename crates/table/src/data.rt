@@ -13,13 +13,14 @@ ghost use Rattle.table.specs.Views.{pairs_of};
 ghost use Rattle.table.specs.declared.handle.Place.{Place as PlaceValue};
 
 use crate::handle::{Handle, Place};
+use crate::noting::{note_parts, refuse_block};
 use crate::pair::{KeyValue, pairs_in};
-use crate::reading::{read_stored, table_refusal};
+use crate::reading::read_stored;
 use block::{Block, Bounds};
 use coding::{Damage, DbError, FileKind};
 use ikey::{Internal, KeyOrder, unpack};
 use std::alloc::{AllocError, Global};
-use store::Store;
+use store::{Store, Why};
 
 /// The data block at a handle. Corrupt and Unsupported as `read_stored`; Corrupt too where the keys don't rise.
 pub fn read_data<K: KeyOrder, S: Store>(
@@ -39,7 +40,7 @@ pub fn read_data<K: KeyOrder, S: Store>(
     let bytes = read_stored(alloc, store, name, known, handle)?;
     match Block::<Internal<K>>::open(alloc, bytes) {
         Ok(block) => Ok(block),
-        Err(e) => Err(table_refusal(e)),
+        Err(e) => Err(refuse_block(store, name, handle.offset, e)),
     }
 }
 
@@ -68,9 +69,11 @@ pub fn read_within<K: KeyOrder, S: Store>(
     };
     let block = match Block::<Internal<K>>::open_between(alloc, bytes, bounds) {
         Ok(block) => block,
-        Err(e) => return Err(table_refusal(e)),
+        Err(e) => return Err(refuse_block(store, name, place.handle.offset, e)),
     };
     if !begins_with_key::<K>(&block) {
+        let at = Some(place.handle.offset);
+        note_parts(store, name, at, Why::KeyKind);
         return Err(DbError::Corrupt(FileKind::Table, Damage::Kind));
     }
     Ok(block)

@@ -17,6 +17,22 @@ const HANDLES_LENGTH: usize = 40;
 
 const MAGIC: [u8; 8] = [0x57, 0xFB, 0x80, 0x8B, 0x24, 0x75, 0x47, 0xDB];
 
+/// The magic number that these bytes of a footer have, in the order of the bytes, or 0 where they are too few.
+pub fn magic_in(bytes: &[u8]) -> u64 {
+    let Some(last) = bytes.get(HANDLES_LENGTH..) else {
+        return 0;
+    };
+    match last.split_first_chunk::<8>() {
+        Some((word, _)) => u64::from_be_bytes(*word),
+        None => 0,
+    }
+}
+
+/// The magic number that belongs there.
+pub fn magic_number() -> u64 {
+    u64::from_be_bytes(MAGIC)
+}
+
 /// Where the footer says that the metaindex and the index are.
 #[derive(Clone, Copy, Debug, PartialEq, Eq)]
 pub struct Footer {

@@ -6,8 +6,9 @@ ghost use Rattle.table.specs.Reading.{Reads, Finds, Refuses};
 ghost use Rattle.table.specs.declared.handle.Handle.{Handle as HandleValue};
 
 use crate::footer::{FOOTER_LENGTH, Footer, read_footer};
+use crate::noting::{refuse_footer, refuse_short};
 use crate::reading::{file_length, read_part};
-use coding::{Damage, DbError, FileKind};
+use coding::DbError;
 use std::alloc::Global;
 use store::Store;
 
@@ -30,12 +31,12 @@ pub fn read_ends<S: Store>(alloc: Global, store: &mut S, name: &str) -> Result<E
 {
     let len = file_length(store, name)?;
     if len < FOOTER_LENGTH as u64 {
-        return Err(DbError::Corrupt(FileKind::Table, Damage::Length));
+        return Err(refuse_short(store, name, len));
     }
     let before = len - FOOTER_LENGTH as u64;
     let bytes = read_part(alloc, store, name, before, FOOTER_LENGTH)?;
     match read_footer(&bytes) {
         Ok(footer) => Ok(Ends { before, footer }),
-        Err(what) => Err(DbError::Corrupt(FileKind::Table, what)),
+        Err(what) => Err(refuse_footer(store, name, before, &bytes, what)),
     }
 }

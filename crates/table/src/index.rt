@@ -11,7 +11,8 @@ ghost use Rattle.table.specs.Refusals.{IsUnsupported};
 ghost use Rattle.table.specs.declared.handle.Place.{Place as PlaceValue};
 
 use crate::handle::{Handle, Place, whole_handle};
-use crate::reading::{read_stored, table_refusal};
+use crate::noting::refuse_block;
+use crate::reading::read_stored;
 use block::{Block, BlockCursor};
 use coding::{Bytes, Damage, DbError, ReadError};
 use ikey::{Internal, KeyOrder};
@@ -68,6 +69,6 @@ pub fn read_places<K: KeyOrder, S: Store>(
     let bytes = read_stored(alloc, store, name, known, index)?;
     match open_places::<K>(alloc, bytes) {
         Ok(places) => Ok(places),
-        Err(e) => Err(table_refusal(e)),
+        Err(e) => Err(refuse_block(store, name, index.offset, e)),
     }
 }

@@ -14,8 +14,9 @@ ghost use Rattle.table.specs.Views.{pairs_of};
 ghost use Rattle.table.specs.declared.handle.Handle.{Handle as HandleValue};
 
 use crate::handle::{Handle, whole_handle};
+use crate::noting::{refuse_block, refuse_filter};
 use crate::pair::{KeyValue, pairs_in};
-use crate::reading::{read_stored, table_refusal};
+use crate::reading::read_stored;
 use block::Block;
 use coding::{Damage, DbError, ReadError};
 use filter::FilterBlock;
@@ -73,7 +74,7 @@ fn read_metaindex<S: Store>(
     let bytes = read_stored(alloc, store, name, known, metaindex)?;
     match named_filter(alloc, bytes) {
         Ok(filter) => Ok(filter),
-        Err(e) => Err(table_refusal(e)),
+        Err(e) => Err(refuse_block(store, name, metaindex.offset, e)),
     }
 }
 
@@ -95,7 +96,7 @@ fn read_filter_block<S: Store>(
     let bytes = read_stored(alloc, store, name, known, handle)?;
     match FilterBlock::open(bytes) {
         Ok(filter) => Ok(filter),
-        Err(e) => Err(table_refusal(e)),
+        Err(e) => Err(refuse_filter(store, name, handle.offset, e)),
     }
 }
 

@@ -7,6 +7,7 @@ ghost use Rattle.table.specs.Reading.{Reads, Finds, Refuses, refusal_of, table_r
 ghost use Rattle.table.specs.Stored.{IsStored, end_of};
 
 use crate::handle::Handle;
+use crate::noting::{refuse_call, refuse_cut, refuse_length, refuse_stored};
 use crate::stored::{TRAILER_LENGTH, stored_block};
 use block::MAX_BLOCK_LENGTH;
 use coding::{Damage, DbError, Feature, FileKind, ReadError};
@@ -44,7 +45,7 @@ pub fn file_length<S: Store>(store: &mut S, name: &str) -> Result<u64, DbError>
 {
     match store.len(name) {
         Ok(len) => Ok(len),
-        Err(e) => Err(refusal(e)),
+        Err(e) => Err(refuse_call(store, name, e)),
     }
 }
 
@@ -65,11 +66,11 @@ pub fn read_part<S: Store>(
     match store.read_at(alloc, name, offset, count) {
         Ok(bytes) => {
             if bytes.len() != count {
-                return Err(DbError::Corrupt(FileKind::Table, Damage::Length));
+                return Err(refuse_cut(store, name, offset, bytes.len(), count));
             }
             Ok(bytes)
         }
-        Err(e) => Err(refusal(e)),
+        Err(e) => Err(refuse_call(store, name, e)),
     }
 }
 
@@ -95,7 +96,7 @@ pub fn read_stored<S: Store>(
     let mut bytes = read_part(alloc, store, name, handle.offset, count)?;
     let size = match stored_block(&bytes) {
         Ok(block) => block.len(),
-        Err(e) => return Err(table_refusal(e)),
+        Err(e) => return Err(refuse_stored(store, name, handle.offset, &bytes, e)),
     };
     bytes.truncate(size);
     Ok(bytes)
@@ -121,7 +122,7 @@ fn known_length<S: Store>(
     let len = file_length(store, name)?;
     match stored_length(handle, len) {
         Ok(count) => Ok(count),
-        Err(e) => Err(table_refusal(e)),
+        Err(e) => Err(refuse_length(store, name, handle, len, e)),
     }
 }
 

@@ -20,26 +20,6 @@ use std::alloc::{AllocError, Global};
 use std::rc::Rc;
 use store::Store;
 
-/// The first place whose key isn't below the target, or the number of places: no entry of a block in front of it
-/// can be the one that is sought.
-pub fn first_place<K: KeyOrder>(places: &[Place], target: &[u8]) -> usize
-    ensures inside { result ≤ length places.now }
-    ensures front { (i : ℕ) (d : PlaceValue) → result ≡ i + 1 → IsBelowInternal K.cmp (slice_index_or places.now i d).key target.now }
-    ensures found { (d : PlaceValue) → result < length places.now → IsBelowInternal K.cmp (slice_index_or places.now result d).key target.now → ⊥ }
-{
-    let mut low = 0;
-    let mut high = places.len();
-    while low < high {
-        let middle = low + (high - low) / 2;
-        if Internal::<K>::is_below(places[middle].key.as_slice(), target) {
-            low = middle + 1;
-        } else {
-            high = middle;
-        }
-    }
-    low
-}
-
 /// The first entry of these places' blocks that isn't below the target.
 pub fn seek_from<K: KeyOrder, S: Store>(
     alloc: Global,

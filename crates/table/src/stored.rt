@@ -39,6 +39,32 @@ pub fn stored_block(bytes: &[u8]) -> Result<&[u8], ReadError>
     Ok(block)
 }
 
+/// What stands behind a block, and what belongs there.
+#[derive(Clone, Copy, Debug)]
+pub struct Sums {
+    /// Its type.
+    pub kind: u8,
+    /// The checksum that stands there.
+    pub stored: u32,
+    /// That of its bytes and its type.
+    pub found: u32,
+}
+
+/// The type and the checksums of the block that the bytes are together with what stands behind it, or `None` where they are too few.
+pub fn sums_of(bytes: &[u8]) -> Option<Sums> {
+    let length = bytes.len().checked_sub(TRAILER_LENGTH)?;
+    let (block, behind) = bytes.split_at(length);
+    let [kind, stored @ ..] = behind else {
+        return None;
+    };
+    let stored = get_fixed32(stored)?;
+    Some(Sums {
+        kind: *kind,
+        stored,
+        found: mask(crc32c(block, &[*kind])),
+    })
+}
+
 /// Writes a block at the end, and its type and checksum behind it, or a beginning of it where memory runs out.
 pub fn put_stored(out: &mut Vec<u8>, block: &[u8]) -> Result<(), AllocError>
     ensures { OnOk result (out.new.items ≡ out.old.items ++ stored block.now) }

@@ -4,6 +4,7 @@ ghost use Rattle.std.specs.Prelude.{◌≡◌, option_copied};
 ghost use Rattle.table.specs.Intact.{floor_of as floor_value};
 ghost use Rattle.table.specs.Table.{OneTable};
 
+use crate::bounds::{first_place, fronts_of};
 use crate::checking::{admits, check_all};
 use crate::data::{read_all, read_within};
 use crate::frame::read_ends;
@@ -11,15 +12,16 @@ use crate::handle::{Handle, Place};
 use crate::index::read_places;
 use crate::layout::{all_handles, are_separate, push_places};
 use crate::metaindex::read_filter;
+use crate::noting::note_parts;
 use crate::pair::KeyValue;
-use crate::seeking::{first_place, seek_from};
+use crate::seeking::seek_from;
 use block::Block;
 use coding::{Damage, DbError, FileKind};
 use filter::FilterBlock;
-use ikey::{Internal, KeyOrder};
+use ikey::{Front, Internal, KeyOrder};
 use std::alloc::{AllocError, Global};
 use std::marker::{Model, PhantomData};
-use store::Store;
+use store::{Store, Why};
 
 /// A table that is open (LevelDB's `doc/table_format.md`), whose user keys are in the order K. Contracts see the name
 /// of its file, and what was read of it: its index, and its filter block if it has one.
@@ -29,6 +31,8 @@ pub struct Table<K: KeyOrder> {
     // how many bytes stand before the footer, in which all blocks are
     before: u64,
     places: Vec<Place>,
+    // The fronts of their user keys, which are all that most searches read.
+    fronts: Vec<Front>,
     filter: Option<FilterBlock>,
     order: PhantomData<K>,
 }
@@ -40,6 +44,10 @@ impl<K: KeyOrder> Model for Table<K> {
     ghost Value = { Opened };
 
     ghost view = { λ t. record { name = string_bytes t.name; before = t.before; frame = record { places = t.places.items; filter = t.filter } } };
+
+    ghost use Rattle.table.specs.KeyFronts.{AreFronts};
+
+    ghost invariant = { λ t. AreFronts t.places.items t.fronts.items };
 }
 
 impl<K: KeyOrder> Table<K> {
@@ -74,13 +82,16 @@ impl<K: KeyOrder> Table<K> {
         let places = read_places::<K, S>(alloc, store, name, ends.before, ends.footer.index)?;
         let mut handles = all_handles(alloc, ends.footer, named, &places)?;
         if !are_separate(ends.before, &mut handles) {
+            note_parts(store, name, None, Why::BlockOverlap);
             return Err(DbError::Corrupt(FileKind::Table, Damage::Order));
         }
+        let fronts = fronts_of(alloc, &places)?;
         let name = String::from_str(alloc, name)?;
         Ok(Table {
             name,
             before: ends.before,
             places,
+            fronts,
             filter,
             order: PhantomData,
         })
@@ -107,7 +118,7 @@ impl<K: KeyOrder> Table<K> {
     pub fn first_place(&self, target: &[u8]) -> usize
         ensures { IsFirstPlace K.cmp target.now self.now.frame.places result }
     {
-        first_place::<K>(&self.places, target)
+        first_place::<K>(&self.places, &self.fronts, target)
     }
 
     /// The data block of this index, held against its place. Corrupt, where there is none: its checksum, its restarts or the order of its
@@ -187,6 +198,7 @@ impl<K: KeyOrder> Table<K> {
             &self.filter,
         )?;
         if found.is_empty() {
+            note_parts(store, &self.name, None, Why::NoEntries);
             return Err(DbError::Corrupt(FileKind::Table, Damage::Missing));
         }
         Ok(found)
@@ -214,7 +226,7 @@ impl<K: KeyOrder> Table<K> {
             (λ file. (entries : List InternalEntry) → IsFrame K.cmp file self.now.frame → IsTable K.cmp file entries → ⊥)
             (λ file. (entries : List InternalEntry) → IsFrame K.cmp file self.now.frame → IsTable K.cmp file entries → AnyLong (handles self.now.frame))) }
     {
-        let start = first_place::<K>(&self.places, target);
+        let start = first_place::<K>(&self.places, &self.fronts, target);
         let places = &self.places[start..];
         match seek_from::<K, S>(alloc, store, &self.name, self.before, places, target) {
             Ok(found) => Ok(found),

@@ -7,6 +7,7 @@ use Rattle.coding.specs.declared.error.DbError.TheVariants.{OutOfMemory, Io, Cor
 use Rattle.cursor.specs.Moves.{Refuses}
 use Rattle.cursor.specs.Places.{Cmp, Listed, index_before, index_behind, to_first, to_last, to_next, to_prev, within}
 use Rattle.cursor.proofs.Singles.{before_inside, pairs_length, within_inside}
+use Rattle.edits.specs.declared.field.PlacedTable.{PlacedTable}
 use Rattle.ikey.specs.Entries.{InternalEntry}
 use Rattle.table_access.specs.declared.in_block.InBlock.{InBlock}
 use Rattle.table_access.specs.TablePlaces.{IsPlacedIn, ListsTable, StopsAt, joined, pairs_before}
@@ -42,24 +43,25 @@ prev_inside : (entries : List InternalEntry) (place : Option ℕ) (index : ℕ) 
 prev_inside entries None index h e = absurd (let bad : None ≡ Some index = e in cc)
 prev_inside entries (Some n) index h e = let l = h n refl in before_inside n (length entries) index (omega (arith, l)) e
 
-module _ {numbers : ℕ → Type 0} (cmp : Cmp) (old new : Seen) (number : ℕ) (frame : Frame) (here to_here : Option (InBlock Placed)) (at : Listed) (carries : Carries cmp numbers old new) (t : IsTrue new.facts.faithful)
-    (h : ListsTable cmp old number frame here at) where
+module _ {numbers : ℕ → Type 0} (cmp : Cmp) (old new : Seen) (placed : PlacedTable) (frame : Frame) (here to_here : Option (InBlock Placed)) (at : Listed) (carries : Carries cmp numbers old new) (t : IsTrue new.facts.faithful)
+    (h : ListsTable cmp old placed frame here at) where
   pub same_count : length (joined h.groups) ≡ length at.entries
   same_count = pairs_length (joined h.groups) at.entries h.entries_are
 
-  pub lists_moved : (to : Option ℕ) → IsPlacedIn h.groups to_here to → ((index : ℕ) → to ≡ Some index → index < length at.entries) → ListsTable cmp new number frame to_here (record at { place = to })
-  lists_moved to placed inside = record {
+  pub lists_moved : (to : Option ℕ) → IsPlacedIn h.groups to_here to → ((index : ℕ) → to ≡ Some index → index < length at.entries) → ListsTable cmp new placed frame to_here (record at { place = to })
+  lists_moved to at_place inside = record {
     groups = h.groups;
-    has = still_data cmp old new number frame h.groups carries t h.has;
+    has = still_data cmp old new placed.table.number frame h.groups carries t h.has;
+    ends = h.ends;
     bounds = h.bounds;
     entries_are = h.entries_are;
     rises = h.rises;
     inside = inside;
-    place = placed;
+    place = at_place;
   }
 
   pub first_moved : ((place : ℕ) × StopsAt (λ (key : List ℕ). ⊥) (joined h.groups) (pairs_before h.groups 0) place × IsPlacedIn h.groups to_here (within (joined h.groups) place))
-      → ListsTable cmp new number frame to_here (record at { place = to_first at })
+      → ListsTable cmp new placed frame to_here (record at { place = to_first at })
   first_moved found =
       let n = stops_there (λ (key : List ℕ). ⊥) (λ key p. p) (joined h.groups) (pairs_before h.groups 0) found.0 found.1 in
       let to : within (joined h.groups) found.0 ≡ to_first at = ap (within (joined h.groups)) (n ∙ before_zero h.groups) ∙ same_within (joined h.groups) at.entries 0 same_count in
@@ -67,27 +69,27 @@ module _ {numbers : ℕ → Type 0} (cmp : Cmp) (old new : Seen) (number : ℕ) 
 
   pub next_moved : (start : ℕ) → within (joined h.groups) (pairs_before h.groups start) ≡ option_and_then (index_behind (joined h.groups)) at.place
       → ((place : ℕ) × StopsAt (λ (key : List ℕ). ⊥) (joined h.groups) (pairs_before h.groups start) place × IsPlacedIn h.groups to_here (within (joined h.groups) place))
-      → ListsTable cmp new number frame to_here (record at { place = to_next at })
+      → ListsTable cmp new placed frame to_here (record at { place = to_next at })
   next_moved start follows found =
       let n = stops_there (λ (key : List ℕ). ⊥) (λ key p. p) (joined h.groups) (pairs_before h.groups start) found.0 found.1 in
       let to : within (joined h.groups) found.0 ≡ to_next at = ap (within (joined h.groups)) n ∙ follows ∙ same_behind (joined h.groups) at.entries at.place same_count in
       lists_moved (to_next at) (subst (IsPlacedIn h.groups to_here) to found.2) (λ index e. next_inside at.entries at.place index e)
 
-  pub next_here : IsPlacedIn h.groups to_here (option_and_then (index_behind (joined h.groups)) at.place) → ListsTable cmp new number frame to_here (record at { place = to_next at })
-  next_here placed =
-      lists_moved (to_next at) (subst (IsPlacedIn h.groups to_here) (same_behind (joined h.groups) at.entries at.place same_count) placed) (λ index e. next_inside at.entries at.place index e)
+  pub next_here : IsPlacedIn h.groups to_here (option_and_then (index_behind (joined h.groups)) at.place) → ListsTable cmp new placed frame to_here (record at { place = to_next at })
+  next_here at_place =
+      lists_moved (to_next at) (subst (IsPlacedIn h.groups to_here) (same_behind (joined h.groups) at.entries at.place same_count) at_place) (λ index e. next_inside at.entries at.place index e)
 
-  pub last_moved : (end : ℕ) → end ≡ length h.groups → IsPlacedIn h.groups to_here (index_before (pairs_before h.groups end)) → ListsTable cmp new number frame to_here (record at { place = to_last at })
-  last_moved end e placed =
+  pub last_moved : (end : ℕ) → end ≡ length h.groups → IsPlacedIn h.groups to_here (index_before (pairs_before h.groups end)) → ListsTable cmp new placed frame to_here (record at { place = to_last at })
+  last_moved end e at_place =
       let to : index_before (pairs_before h.groups end) ≡ to_last at = ap (λ (n : ℕ). index_before (pairs_before h.groups n)) e ∙ ap index_before (before_all h.groups ∙ same_count) in
-      lists_moved (to_last at) (subst (IsPlacedIn h.groups to_here) to placed) (λ index e. before_inside (length at.entries) (length at.entries) index (omega arith) e)
+      lists_moved (to_last at) (subst (IsPlacedIn h.groups to_here) to at_place) (λ index e. before_inside (length at.entries) (length at.entries) index (omega arith) e)
 
   pub prev_moved : (end : ℕ) → index_before (pairs_before h.groups end) ≡ option_and_then index_before at.place → IsPlacedIn h.groups to_here (index_before (pairs_before h.groups end))
-      → ListsTable cmp new number frame to_here (record at { place = to_prev at })
-  prev_moved end precedes placed = lists_moved (to_prev at) (subst (IsPlacedIn h.groups to_here) precedes placed) (λ index e. prev_inside at.entries at.place index h.inside e)
+      → ListsTable cmp new placed frame to_here (record at { place = to_prev at })
+  prev_moved end precedes at_place = lists_moved (to_prev at) (subst (IsPlacedIn h.groups to_here) precedes at_place) (λ index e. prev_inside at.entries at.place index h.inside e)
 
-  pub prev_here : IsPlacedIn h.groups to_here (option_and_then index_before at.place) → ListsTable cmp new number frame to_here (record at { place = to_prev at })
-  prev_here placed = lists_moved (to_prev at) placed (λ index e. prev_inside at.entries at.place index h.inside e)
+  pub prev_here : IsPlacedIn h.groups to_here (option_and_then index_before at.place) → ListsTable cmp new placed frame to_here (record at { place = to_prev at })
+  prev_here at_place = lists_moved (to_prev at) at_place (λ index e. prev_inside at.entries at.place index h.inside e)
 
-  pub stayed : IsPlacedIn h.groups to_here at.place → ListsTable cmp new number frame to_here at
-  stayed placed = lists_moved at.place placed h.inside
+  pub stayed : IsPlacedIn h.groups to_here at.place → ListsTable cmp new placed frame to_here at
+  stayed at_place = lists_moved at.place at_place h.inside

@@ -17,9 +17,11 @@ reads_both old mid new first second =
       faithful = λ t. first.faithful (second.faithful t);
       files = λ t. second.files t ∙ first.files (second.faithful t);
       failures = omega (arith, a, b);
+      writes = second.writes ∙ first.writes;
       denials = second.denials ∙ first.denials;
       locked = second.locked ∙ first.locked;
       synced = λ t. second.synced t ∙ first.synced (second.faithful t);
+      calls = λ t. second.calls t ∙ first.calls (second.faithful t);
     }
 
 -- what is kept afterwards is of tables of which something was kept before, or that are there

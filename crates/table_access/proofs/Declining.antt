@@ -7,10 +7,12 @@ use Rattle.coding.specs.declared.error.FileKind.{FileKind}
 use Rattle.coding.specs.declared.error.DbError.TheVariants.{OutOfMemory, Io, Corrupt, Unsupported}
 use Rattle.cursor.specs.Moves.{Refuses}
 use Rattle.cursor.specs.Places.{Cmp}
+use Rattle.edits.specs.declared.field.PlacedTable.{PlacedTable}
 use Rattle.ikey.specs.Entries.{InternalEntry}
 use Rattle.table_access.specs.Tables.{Seen, Carries, HasData, HasSoundTable, IsOpenFrame}
 use Rattle.table_access.specs.Values.{IsNoTable, IsTablePastLimit}
 use Rattle.table_access.proofs.Carrying.{still_has}
+use Rattle.table_access.proofs.EndKeys.{data_ends}
 use Rattle.table_access.proofs.Placing.{data_length}
 use Rattle.table_access.proofs.Searching.{Lacks}
 use Rattle.table.proofs.Within.{filled_within}
@@ -37,17 +39,17 @@ pub starts_inside : (cmp : Cmp) (file target : List ℕ) (frame : Frame) (entrie
 starts_inside cmp file target frame entries start first filled =
     let l = data_length cmp file frame.places filled.blocks filled.data_is in let i = first.inside in omega (arith, l, i)
 
-module _ (cmp : Cmp) (old : Seen) (number : ℕ) where
+module _ (cmp : Cmp) (old : Seen) (placed : PlacedTable) where
   abbrev pub NoTableThere : Type 0
-  NoTableThere = (file : List ℕ) → HasSoundTable cmp old number file → IsNoTable cmp file
+  NoTableThere = (file : List ℕ) → HasSoundTable cmp old placed.table.number file → IsNoTable cmp placed file
 
   abbrev pub LimitThere : Type 0
-  LimitThere = (file : List ℕ) → HasSoundTable cmp old number file → IsTablePastLimit cmp file
+  LimitThere = (file : List ℕ) → HasSoundTable cmp old placed.table.number file → IsTablePastLimit cmp file
 
-  pub not_opened : (e : DbError) (new : Seen) → RefusesTable e old.facts new.facts number (IsFrameDamaged cmp) IsFrameUnsupported → Refuses e old.facts new.facts NoTableThere LimitThere
+  pub not_opened : (e : DbError) (new : Seen) → RefusesTable e old.facts new.facts placed.table.number (IsFrameDamaged cmp) IsFrameUnsupported → Refuses e old.facts new.facts NoTableThere LimitThere
   not_opened OutOfMemory new h = tt
   not_opened Io new h = h
-  not_opened (Corrupt kind what) new h = λ t file has entries table. (h t file has.file_is).0 table.0 table.1
+  not_opened (Corrupt kind what) new h = λ t file has entries table keys. (h t file has.file_is).0 table.0 table.1
   not_opened (Unsupported what) new h = λ t. inr (λ file has. inl (h t file has.file_is))
   not_opened e new h = absurd h
 
@@ -57,15 +59,15 @@ module _ (cmp : Cmp) (old : Seen) (number : ℕ) where
   not_valued e new kind what (inr corrupt) = subst (λ (r : DbError). Refuses r old.facts new.facts NoTableThere LimitThere) (sym corrupt.0) corrupt.1
 
   module _ {numbers : ℕ → Type 0} (mid new : Seen) (first_reads : Carries cmp numbers old mid) (second : Carries cmp numbers mid new) (target : List ℕ) (frame : Frame) (start : ℕ) (first : IsFirstPlace cmp target frame.places start)
-      (says : IsTrue mid.facts.faithful → (file : List ℕ) → HasSoundTable cmp old number file → IsOpenFrame cmp file frame) where
-    lacks_table : IsTrue new.facts.faithful → Lacks cmp mid number frame start → NoTableThere
-    lacks_table t lacks file has entries table =
+      (says : IsTrue mid.facts.faithful → (file : List ℕ) → HasSoundTable cmp old placed.table.number file → IsOpenFrame cmp file frame) where
+    lacks_table : IsTrue new.facts.faithful → Lacks cmp mid placed frame start → NoTableThere
+    lacks_table t lacks file has entries table keys =
         let m = second.reads.faithful t in
         let open_is = says m file has in
         let filled = filled_of cmp file frame entries open_is.0 table in
-        lacks filled.blocks (data_of cmp old mid number file frame entries first_reads m has open_is filled) (starts_inside cmp file target frame entries start first filled)
+        lacks filled.blocks (data_of cmp old mid placed.table.number file frame entries first_reads m has open_is filled) (data_ends placed filled.blocks entries filled.entries_are keys) (starts_inside cmp file target frame entries start first filled)
 
-    pub not_searched : (e : DbError) → Refuses e mid.facts new.facts (Lacks cmp mid number frame start) (AnyLong (handles frame)) → Refuses e old.facts new.facts NoTableThere LimitThere
+    pub not_searched : (e : DbError) → Refuses e mid.facts new.facts (Lacks cmp mid placed frame start) (AnyLong (handles frame)) → Refuses e old.facts new.facts NoTableThere LimitThere
     not_searched OutOfMemory h = tt
     not_searched Io h = let f = first_reads.reads.failures in omega (arith, f, h)
     not_searched (Corrupt kind what) h = λ t. lacks_table t (h t)

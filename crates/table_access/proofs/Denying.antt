@@ -17,7 +17,7 @@ use Rattle.table.specs.Frame.{ArePlaces, TableAdmits}
 use Rattle.table.specs.Refusals.{IsFirstPlace}
 use Rattle.table.specs.Table.{AreAdmitted, AreBounds, IsBound}
 
-all_at : {X : Type 0} (P : X → Type 0) (xs : List X) (n : ℕ) (x : X) → AllByRecursion P xs → slice_get xs n ≡ Some x → P x
+pub all_at : {X : Type 0} (P : X → Type 0) (xs : List X) (n : ℕ) (x : X) → AllByRecursion P xs → slice_get xs n ≡ Some x → P x
 all_at P [] n x h e = absurd (let bad : None ≡ Some x = e in cc)
 all_at P (y ∷ xs) zero x h e = let s : y ≡ x = let t : Some y ≡ Some x = e in cc in subst P s h.0
 all_at P (y ∷ xs) (suc n) x h e = all_at P xs n x h.1 e
@@ -81,7 +81,7 @@ module _ (cmp : Cmp) (total : IsTotalOrder cmp) where
       let rest = rise_behind x.key pairs places up are.2 in
       (subst (λ (k : List ℕ). AllByRecursion (λ (later : Place). IsBelowInternal cmp k later.key) places) are.0 rest.0, rest.1)
 
-  later_above : (places : List Place) (i j : ℕ) (a b : Place) → BoundsRise places → i < j → slice_get places i ≡ Some a → slice_get places j ≡ Some b → IsBelowInternal cmp a.key b.key
+  pub later_above : (places : List Place) (i j : ℕ) (a b : Place) → BoundsRise places → i < j → slice_get places i ≡ Some a → slice_get places j ≡ Some b → IsBelowInternal cmp a.key b.key
   unfolding BoundsRise
   later_above [] i j a b rise less e f = absurd (let bad : None ≡ Some a = e in cc)
   later_above (p ∷ places) i zero a b rise less e f = absurd (omega (arith, less))

@@ -3,6 +3,7 @@ use Rattle.std.proofs.Common.{◌≡◌, ◌+◌, ℕ, zero, suc, List, [], ◌�
 use Rattle.std.specs.List.{slice_get}
 use Rattle.block.specs.Places.{Placed}
 use Rattle.cursor.specs.Places.{Cmp, Listed}
+use Rattle.edits.specs.declared.field.PlacedTable.{PlacedTable}
 use Rattle.ikey.specs.Entries.{InternalEntry, Pair, IsPair}
 use Rattle.table_access.specs.declared.in_block.InBlock.{InBlock}
 use Rattle.table_access.specs.TablePlaces.{ListsTable, joined, pairs_before}
@@ -28,10 +29,10 @@ pub record StandsOnPair (block : Placed) (entry : InternalEntry) : Type 0 where
   pub pair_is : slice_get block.pairs inside ≡ Some pair
   pub is : IsPair pair entry
 
-pub standing_pair : (cmp : Cmp) (source : Seen) (number : ℕ) (frame : Frame) (here : Option (InBlock Placed)) (in_block : InBlock Placed) (at : Listed) (index : ℕ) (entry : InternalEntry) → here ≡ Some in_block
-    → ListsTable cmp source number frame here at → at.place ≡ Some index → slice_get at.entries index ≡ Some entry → StandsOnPair in_block.cursor entry
-standing_pair cmp source number frame here in_block at index entry e lists place_is entry_is =
-    let h = subst (λ (o : Option (InBlock Placed)). ListsTable cmp source number frame o at) e lists in
+pub standing_pair : (cmp : Cmp) (source : Seen) (placed : PlacedTable) (frame : Frame) (here : Option (InBlock Placed)) (in_block : InBlock Placed) (at : Listed) (index : ℕ) (entry : InternalEntry) → here ≡ Some in_block
+    → ListsTable cmp source placed frame here at → at.place ≡ Some index → slice_get at.entries index ≡ Some entry → StandsOnPair in_block.cursor entry
+standing_pair cmp source placed frame here in_block at index entry e lists place_is entry_is =
+    let h = subst (λ (o : Option (InBlock Placed)). ListsTable cmp source placed frame o at) e lists in
     let p = h.place in
     let x = some_at in_block.cursor.pairs p.inside p.less in
     let there = item_in h.groups in_block.index in_block.cursor.pairs p.inside x.0 p.block_is x.1 in

@@ -1,11 +1,17 @@
 mod Arriving
+mod Coming
+mod Filling
+mod Told
+mod Tearing
 mod Knowing
 mod Ruling
 mod Seeking
 mod Seen
+mod Testing
 mod Views
 mod Walking
 pub mod Carrying
+pub mod EndKeys
 pub mod Placing
 pub mod Stopping
 pub mod Sounding

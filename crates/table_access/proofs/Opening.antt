@@ -6,12 +6,15 @@ use Rattle.std.specs.declared.cmp.Ordering.TheVariants.{Less}
 use Rattle.block.specs.Block.{AreAbove}
 use Rattle.cursor.specs.Merging.{listed}
 use Rattle.cursor.specs.Places.{Cmp, Rises}
+use Rattle.edits.specs.declared.field.PlacedTable.{PlacedTable}
 use Rattle.ikey.specs.Below.{IsBelowInternal, key_total, same_key}
 use Rattle.ikey.specs.Entries.{InternalEntry, Pair, IsPair}
 use Rattle.ikey.specs.Keys.{key_cmp}
+use Rattle.table_access.specs.Ends.{HasKeysOf}
 use Rattle.table_access.specs.TablePlaces.{ListsTable, joined}
 use Rattle.table_access.specs.Tables.{Seen, Carries, HasSoundTable, IsOpenFrame}
 use Rattle.table_access.proofs.Carrying.{still_has}
+use Rattle.table_access.proofs.EndKeys.{data_ends}
 use Rattle.table.specs.Frame.{Frame}
 use Rattle.table.specs.Table.{ArePairs, IsFilled, IsTable}
 use Rattle.table.proofs.Within.{filled_within}
@@ -42,13 +45,14 @@ module _ (cmp : Cmp) (total : IsTotalOrder cmp) where
   entries_rise (x ∷ pairs) [] up are = absurd are
   entries_rise (x ∷ pairs) (y ∷ entries) up are = rises_behind x y pairs entries are.0 up are.1
 
-  pub begins : {numbers : ℕ → Type 0} (old new : Seen) (number : ℕ) (frame : Frame) (file : List ℕ) (entries : List InternalEntry) → Carries cmp numbers old new → IsTrue new.facts.faithful → HasSoundTable cmp old number file → IsOpenFrame cmp file frame
-      → IsTable cmp file entries → ListsTable cmp new number frame None (listed entries None)
-  begins old new number frame file entries carries t has open_is table =
+  pub begins : {numbers : ℕ → Type 0} (old new : Seen) (placed : PlacedTable) (frame : Frame) (file : List ℕ) (entries : List InternalEntry) → Carries cmp numbers old new → IsTrue new.facts.faithful → HasSoundTable cmp old placed.table.number file → IsOpenFrame cmp file frame
+      → IsTable cmp file entries → HasKeysOf placed entries → ListsTable cmp new placed frame None (listed entries None)
+  begins old new placed frame file entries carries t has open_is table keys =
       let filled = subst (λ (f : Frame). IsFilled cmp file f entries) (one_frame cmp file table.0 frame table.1 open_is.0) table.2 in
       record {
         groups = filled.blocks;
-        has = record { file = file; table = still_has cmp old new number file carries t has; open_is = open_is; data_is = filled.data_is; within = filled_within cmp frame.places filled.blocks entries filled.bounds filled.entries_are };
+        has = record { file = file; table = still_has cmp old new placed.table.number file carries t has; open_is = open_is; data_is = filled.data_is; within = filled_within cmp frame.places filled.blocks entries filled.bounds filled.entries_are };
+        ends = data_ends placed filled.blocks entries filled.entries_are keys;
         bounds = filled.bounds;
         entries_are = filled.entries_are;
         rises = entries_rise (joined filled.blocks) entries filled.rises filled.entries_are;

@@ -9,7 +9,9 @@ use Rattle.coding.specs.declared.error.DbError.TheVariants.{OutOfMemory, Io, Cor
 use Rattle.cursor.specs.Moves.{Refuses}
 use Rattle.cursor.specs.Places.{Cmp, index_before}
 use Rattle.cursor.specs.Places.{within as within_list}
+use Rattle.edits.specs.declared.field.PlacedTable.{PlacedTable}
 use Rattle.ikey.specs.Entries.{Pair}
+use Rattle.table_access.specs.Ends.{HaveEnds}
 use Rattle.table_access.specs.TablePlaces.{IsInBlock, StopsAt, joined, pairs_before}
 use Rattle.table_access.specs.Tables.{Seen, Carries, HasData, Only}
 use Rattle.table_access.specs.TableLaws.{carries_both, carries_itself}
@@ -20,13 +22,13 @@ use Rattle.table_access.proofs.Stopping.{HasPassed, passed_none, passed_block, s
 use Rattle.table.specs.Frame.{Frame}
 
 -- where it stands in a block
-inside_if : (pairs : List Pair) (stop : ℕ) (place : Option ℕ) → place ≡ within pairs stop → is_some place ≡ true → (stop < length pairs) × (place ≡ Some stop)
+pub inside_if : (pairs : List Pair) (stop : ℕ) (place : Option ℕ) → place ≡ within pairs stop → is_some place ≡ true → (stop < length pairs) × (place ≡ Some stop)
 inside_if pairs stop place is stands = elim (cases_lt stop (length pairs)) [
   | inl less ↦ (less, is ∙ within_some pairs stop less)
   | inr ge ↦ absurd (let none : is_some place ≡ false = ap is_some (is ∙ within_none pairs stop ge) in let bad : true ≡ false = sym stands ∙ none in cc)
 ]
 
-past_if : (pairs : List Pair) (stop : ℕ) (place : Option ℕ) → place ≡ within pairs stop → is_some place ≡ false → length pairs ≤ stop
+pub past_if : (pairs : List Pair) (stop : ℕ) (place : Option ℕ) → place ≡ within pairs stop → is_some place ≡ false → length pairs ≤ stop
 past_if pairs stop place is nowhere = elim (cases_lt stop (length pairs)) [
   | inl less ↦ absurd (let some : is_some place ≡ true = ap is_some (is ∙ within_some pairs stop less) in let bad : false ≡ true = sym nowhere ∙ some in cc)
   | inr ge ↦ ge
@@ -95,21 +97,21 @@ searching_none cmp passed old now number frame start index s end t groups has fi
 -- ---- refusals
 
 -- where a table has blocks up to this one
-abbrev pub Lacks : Cmp → Seen → ℕ → Frame → ℕ → Type 0
-Lacks cmp old number frame start = (groups : List (List Pair)) → HasData cmp old number frame groups → start ≤ length groups → ⊥
+abbrev pub Lacks : Cmp → Seen → PlacedTable → Frame → ℕ → Type 0
+Lacks cmp old placed frame start = (groups : List (List Pair)) → HasData cmp old placed.table.number frame groups → HaveEnds placed groups → start ≤ length groups → ⊥
 
-pub refused_at : {numbers : ℕ → Type 0} (cmp : Cmp) (e : DbError) (old now new : Seen) (number : ℕ) (frame : Frame) (start index : ℕ) (limited : Type 0) → Carries cmp numbers old now → Carries cmp numbers now new
-    → ((groups : List (List Pair)) → HasData cmp old number frame groups → start ≤ length groups → index < length groups)
-    → Refuses e now.facts new.facts (LacksBlock cmp now number frame index) limited → Refuses e old.facts new.facts (Lacks cmp old number frame start) limited
-refused_at cmp OutOfMemory old now new number frame start index limited first second less h = tt
-refused_at cmp Io old now new number frame start index limited first second less h = let f = first.reads.failures in omega (arith, f, h)
-refused_at cmp (Corrupt kind what) old now new number frame start index limited first second less h = λ t groups has fits.
-    h t groups (still_data cmp old now number frame groups first (second.reads.faithful t) has) (less groups has fits)
-refused_at cmp (Unsupported what) old now new number frame start index limited first second less h = λ t. elim (h t) [
-  | inl lacks ↦ inl (λ groups has fits. lacks groups (still_data cmp old now number frame groups first (second.reads.faithful t) has) (less groups has fits))
+pub refused_at : {numbers : ℕ → Type 0} (cmp : Cmp) (e : DbError) (old now new : Seen) (placed : PlacedTable) (frame : Frame) (start index : ℕ) (limited : Type 0) → Carries cmp numbers old now → Carries cmp numbers now new
+    → ((groups : List (List Pair)) → HasData cmp old placed.table.number frame groups → start ≤ length groups → index < length groups)
+    → Refuses e now.facts new.facts (LacksBlock cmp now placed frame index) limited → Refuses e old.facts new.facts (Lacks cmp old placed frame start) limited
+refused_at cmp OutOfMemory old now new placed frame start index limited first second less h = tt
+refused_at cmp Io old now new placed frame start index limited first second less h = let f = first.reads.failures in omega (arith, f, h)
+refused_at cmp (Corrupt kind what) old now new placed frame start index limited first second less h = λ t groups has ends fits.
+    h t groups (still_data cmp old now placed.table.number frame groups first (second.reads.faithful t) has) ends (less groups has fits)
+refused_at cmp (Unsupported what) old now new placed frame start index limited first second less h = λ t. elim (h t) [
+  | inl lacks ↦ inl (λ groups has ends fits. lacks groups (still_data cmp old now placed.table.number frame groups first (second.reads.faithful t) has) ends (less groups has fits))
   | inr long ↦ inr long
 ]
-refused_at cmp e old now new number frame start index limited first second less h = absurd h
+refused_at cmp e old now new placed frame start index limited first second less h = absurd h
 
 -- ---- back
 

@@ -9,6 +9,7 @@ use Rattle.block.specs.Places.{Placed}
 use Rattle.cursor.specs.Places.{Cmp, Listed, first_from, is_below, to_key, within}
 use Rattle.cursor.proofs.Comparing.{below_is}
 use Rattle.cursor.proofs.Singles.{leading_at, pairs_length, within_inside}
+use Rattle.edits.specs.declared.field.PlacedTable.{PlacedTable}
 use Rattle.ikey.specs.Below.{IsBelowInternal}
 use Rattle.ikey.specs.Entries.{InternalEntry, Pair}
 use Rattle.ikey.specs.Keys.{Key, IsKey}
@@ -23,7 +24,7 @@ use Rattle.table.specs.Frame.{Frame, IsFrame}
 use Rattle.table.specs.Refusals.{IsFirstPlace}
 use Rattle.table.specs.Table.{AreBounds, AreData, ArePairs}
 
-all_at : (P : Pair → Type 0) (pairs : List Pair) (n : ℕ) (pair : Pair) → AllByRecursion P pairs → slice_get pairs n ≡ Some pair → P pair
+pub all_at : (P : Pair → Type 0) (pairs : List Pair) (n : ℕ) (pair : Pair) → AllByRecursion P pairs → slice_get pairs n ≡ Some pair → P pair
 all_at P [] n pair h e = absurd (let bad : None ≡ Some pair = e in cc)
 all_at P (x ∷ pairs) zero pair h e = let s : x ≡ pair = let t : Some x ≡ Some pair = e in cc in subst P s h.0
 all_at P (x ∷ pairs) (suc n) pair h e = all_at P pairs n pair h.1 e
@@ -77,12 +78,12 @@ module _ (cmp : Cmp) (total : IsTotalOrder cmp) (target file : List ℕ) (frame 
       sym (below_is cmp x.0.key target entry.key key false (stops.stop x.0 x.1) p.key is_key))
       (omega (arith, inside, count))
 
-pub seek_moved : {numbers : ℕ → Type 0} (cmp : Cmp) → IsTotalOrder cmp → (old new : Seen) (number : ℕ) (frame : Frame) (here to_here : Option (InBlock Placed)) (at : Listed) → Carries cmp numbers old new → IsTrue new.facts.faithful
-    → (h : ListsTable cmp old number frame here at) (target : List ℕ) (start : ℕ) (key : Key) → IsFirstPlace cmp target frame.places start → IsKey target key
+pub seek_moved : {numbers : ℕ → Type 0} (cmp : Cmp) → IsTotalOrder cmp → (old new : Seen) (placed : PlacedTable) (frame : Frame) (here to_here : Option (InBlock Placed)) (at : Listed) → Carries cmp numbers old new → IsTrue new.facts.faithful
+    → (h : ListsTable cmp old placed frame here at) (target : List ℕ) (start : ℕ) (key : Key) → IsFirstPlace cmp target frame.places start → IsKey target key
     → ((place : ℕ) × StopsAt (λ (other : List ℕ). IsBelowInternal cmp other target) (joined h.groups) (pairs_before h.groups start) place × IsPlacedIn h.groups to_here (within (joined h.groups) place))
-    → ListsTable cmp new number frame to_here (record at { place = to_key cmp key at })
-seek_moved cmp total old new number frame here to_here at carries t h target start key first is_key found =
+    → ListsTable cmp new placed frame to_here (record at { place = to_key cmp key at })
+seek_moved cmp total old new placed frame here to_here at carries t h target start key first is_key found =
     let n = first_is cmp total target h.has.file frame start h.groups h.has.open_is.0 first h.has.data_is h.bounds at.entries key found.0 h.entries_are is_key found.1 in
     let to : within (joined h.groups) found.0 ≡ to_key cmp key at = same_within (joined h.groups) at.entries found.0 (pairs_length (joined h.groups) at.entries h.entries_are) ∙ ap (within at.entries) n in
-    lists_moved cmp old new number frame here to_here at carries t h (to_key cmp key at) (subst (IsPlacedIn h.groups to_here) to found.2)
+    lists_moved cmp old new placed frame here to_here at carries t h (to_key cmp key at) (subst (IsPlacedIn h.groups to_here) to found.2)
     (λ index e. within_inside at.entries (first_from cmp key at.entries) index e)

@@ -1,6 +1,9 @@
+pub mod Ends
 pub mod Memory
 pub mod MemoryLists
+pub mod Possible
 pub mod TableLaws
 pub mod TablePlaces
 pub mod Tables
+pub mod Telling
 pub mod Values

@@ -54,7 +54,7 @@ KeepsMemory cmp cursor old new = up_to cursor.sequence (ordered cmp old.inserts)
 
 -- a memory table reads no store
 abbrev pub memory_facts : Facts
-memory_facts = record { files = empty; synced = λ name. None; calls = []; faithful = true; locked = false; failures = 0; denials = 0 }
+memory_facts = record { files = empty; synced = λ name. None; calls = []; faithful = true; locked = false; failures = 0; write_failures = 0; denials = 0 }
 
 -- ---- parts of moves
 

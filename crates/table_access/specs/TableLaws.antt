@@ -3,6 +3,7 @@ use Rattle.std.specs.Prelude.{◌≡◌, ℕ, List, Option, Some, None, is_some}
 use Rattle.std.proofs.Common.{refl, sym, ap, ◌∙◌, arith, inl, inr}
 use Rattle.block.specs.Places.{Placed}
 use Rattle.cursor.specs.Places.{Cmp, Listed}
+use Rattle.edits.specs.declared.field.PlacedTable.{PlacedTable}
 use Rattle.ikey.specs.Entries.{Pair}
 use Rattle.table_access.specs.declared.in_block.InBlock.{InBlock}
 use Rattle.table_access.specs.Tables.{Seen, Carries}
@@ -16,9 +17,9 @@ pub placed_in : (groups : List (List Pair)) (here : Option (InBlock Placed)) (pl
 placed_in groups None place h = sym (ap is_some h)
 placed_in groups (Some here) place h = ap is_some h.stands ∙ sym (ap is_some h.place_is)
 
-pub lists_kept : (cmp : Cmp) (number : ℕ) (frame : Frame) (here : Option (InBlock Placed)) (old new : Seen) (at : Listed)
-    → KeepsSeenTable cmp number old new → ListsTable cmp old number frame here at → ListsTable cmp new number frame here at
-lists_kept cmp number frame here old new at keeps lists = record {
+pub lists_kept : (cmp : Cmp) (placed : PlacedTable) (frame : Frame) (here : Option (InBlock Placed)) (old new : Seen) (at : Listed)
+    → KeepsSeenTable cmp placed.table.number old new → ListsTable cmp old placed frame here at → ListsTable cmp new placed frame here at
+lists_kept cmp placed frame here old new at keeps lists = record {
   groups = lists.groups;
   has = record {
     file = lists.has.file;
@@ -27,6 +28,7 @@ lists_kept cmp number frame here old new at keeps lists = record {
     data_is = lists.has.data_is;
     within = lists.has.within;
   };
+  ends = lists.ends;
   bounds = lists.bounds;
   entries_are = lists.entries_are;
   rises = lists.rises;
@@ -43,7 +45,7 @@ table_onward cmp number first second third k l = record { same = l.same ∙ k.sa
 -- ---- calls that only read tables
 
 reads_itself : (facts : Facts) → Reads facts facts
-reads_itself facts = record { faithful = λ t. t; files = λ t. refl; failures = omega arith; denials = refl; locked = refl; synced = λ t. refl }
+reads_itself facts = record { faithful = λ t. t; files = λ t. refl; failures = omega arith; writes = refl; denials = refl; locked = refl; synced = λ t. refl; calls = λ t. refl }
 
 -- a source carries itself
 pub carries_itself : {numbers : ℕ → Type 0} (cmp : Cmp) (source : Seen) → Carries cmp numbers source source

@@ -5,8 +5,10 @@ use Rattle.block.specs.Places.{Placed}
 use Rattle.cache.specs.Tables.{table_at}
 use Rattle.coding.specs.declared.error.DbError.{DbError}
 use Rattle.cursor.specs.Places.{Cmp, Listed, Rises, within, index_before, index_behind}
+use Rattle.edits.specs.declared.field.PlacedTable.{PlacedTable}
 use Rattle.ikey.specs.Below.{IsBelowInternal}
 use Rattle.ikey.specs.Entries.{Pair}
+use Rattle.table_access.specs.Ends.{HaveEnds}
 use Rattle.table_access.specs.Tables.{Seen, IsSound, HasData}
 use Rattle.table_access.specs.declared.table_search.Aim.{Aim}
 use Rattle.table_access.specs.declared.table_search.Aim.TheVariants.{First, From}
@@ -41,10 +43,11 @@ abbrev pub block_stands : Option (InBlock Placed) → Bool
 block_stands None = false
 block_stands (Some here) = is_some here.cursor.place
 
--- A cursor over the table of this number, open with this frame, is this list and this place.
-pub record ListsTable (cmp : Cmp) (source : Seen) (number : ℕ) (frame : Frame) (here : Option (InBlock Placed)) (at : Listed) : Type 0 where
+-- A cursor over this table of an edit, open with this frame, is this list and this place.
+pub record ListsTable (cmp : Cmp) (source : Seen) (placed : PlacedTable) (frame : Frame) (here : Option (InBlock Placed)) (at : Listed) : Type 0 where
   pub groups : List (List Pair)
-  pub has : HasData cmp source number frame groups
+  pub has : HasData cmp source placed.table.number frame groups
+  pub ends : HaveEnds placed groups
   pub bounds : AreBounds cmp frame.places groups
   pub entries_are : ArePairs (joined groups) at.entries
   pub rises : Rises cmp at.entries

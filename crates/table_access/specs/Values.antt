@@ -2,6 +2,7 @@
 use Rattle.std.specs.Prelude.{◌≡◌, ◌⊎◌, ℕ, List, Option, Some, None, map, slice_get}
 use Rattle.block.specs.Places.{Placed}
 use Rattle.cursor.specs.Places.{Cmp}
+use Rattle.edits.specs.declared.field.PlacedTable.{PlacedTable}
 use Rattle.filter.specs.Hash.{hash_of}
 use Rattle.ikey.specs.declared.entry.Entry.{Entry}
 use Rattle.ikey.specs.Entries.{InternalEntry, Pair, entry_of, value_of}
@@ -11,6 +12,7 @@ use Rattle.table.specs.declared.handle.Place.{Place}
 use Rattle.table.specs.Frame.{AnyLong, Frame, IsFrame, TableDenies, handles}
 use Rattle.table.specs.Refusals.{IsFirstPlace, IsFrameUnsupported}
 use Rattle.table.specs.Table.{IsTable}
+use Rattle.table_access.specs.Ends.{HasKeysOf}
 
 -- what a search for a user key has found: nothing where none of its entries is seen, and else what the newest one put
 abbrev pub IsLookUp : List Entry → ℕ → List ℕ → Option (Option (List ℕ)) → Type 0
@@ -56,8 +58,9 @@ pub record IsDenied (cmp : Cmp) (frame : Frame) (key : List ℕ) (sequence : ℕ
 
 -- ---- refusals
 
-abbrev pub IsNoTable : Cmp → List ℕ → Type 0
-IsNoTable cmp file = (entries : List InternalEntry) → IsTable cmp file entries → ⊥
+-- the file is no table of this edit
+abbrev pub IsNoTable : Cmp → PlacedTable → List ℕ → Type 0
+IsNoTable cmp placed file = (entries : List InternalEntry) → IsTable cmp file entries → HasKeysOf placed entries → ⊥
 
 -- a block of the frame isn't supported, or a data block has more bytes than those that are read
 abbrev pub IsTablePastLimit : Cmp → List ℕ → Type 0

@@ -8,51 +8,60 @@ ghost use Rattle.cache.specs.Tables.{kept_table_at};
 ghost use Rattle.cursor.specs.Moves.{Refuses};
 ghost use Rattle.ikey.specs.Entries.{InternalEntry, Pair, IsPair};
 ghost use Rattle.table_access.specs.Tables.{Carries, HasSoundTable, Only, SaysOf, seen_through};
+ghost use Rattle.table_access.specs.Telling.{IfCorrupt, TellsOfKey, TornOfKey};
 ghost use Rattle.table_access.specs.Values.{DeniesKey, HasValue, IsDenied, IsNoTable, IsTablePastLimit, SaysOfEntry, StandsOnKey, StandsOnNone};
 ghost use Rattle.table.specs.Frame.{IsFrame, Opened};
 ghost use Rattle.table.specs.Reading.{IsStill};
+ghost use Rattle.table.specs.Refusals.{IsFrameDamaged};
 
 use crate::table_search::{Aim, search_on};
 use crate::tables::Tables;
 use block::BlockCursor;
 use coding::{Bytes, Damage, DbError, FileKind};
+use edits::PlacedTable;
 use ikey::{Internal, KeyOrder, Kind, same_bytes, seek_key, unpack};
 use std::alloc::Global;
 use store::Store;
 use table::Table;
 
-/// What the newest entry of a user key up to a sequence, below `SEQUENCE_END`, put in the table of this number: nothing
+/// What the newest entry of a user key up to a sequence, below `SEQUENCE_END`, put in this table of an edit: nothing
 /// where the table has no such entry, and `Some(None)` where it is a delete. The table's filter is asked before a data
 /// block is read. Corrupt, where the source hasn't this table; Unsupported as `Table::open`, and where a block has more
 /// than 2^30 bytes.
 pub fn table_value<K: KeyOrder, S: Store>(
     alloc: Global,
     source: &mut Tables<K, S>,
-    number: u64,
+    placed: &PlacedTable,
     key: &[u8],
     sequence: u64,
 ) -> Result<Option<Option<Bytes>>, DbError>
-    requires positive { 0 < number }
+    requires positive { 0 < placed.now.table.number }
     requires fits { sequence < 2 ^ 56 }
-    ensures carries { Carries K.cmp (Only number) (seen_through S.facts source.old) (seen_through S.facts source.new) }
+    ensures carries { Carries K.cmp (Only placed.now.table.number) (seen_through S.facts source.old) (seen_through S.facts source.new) }
     ensures found { IfOk result (λ value. SaysOf K.cmp (seen_through S.facts source.old) (seen_through S.facts source.new)
-        number (λ file. HasValue K.cmp file key.now sequence value)) }
+        placed.now.table.number (λ file. HasValue K.cmp file key.now sequence value)) }
+    // Whatever the file holds beside: its filter denies the key, or this tell the blocks that a search comes to.
+    ensures told { IfOk result (λ value. SaysOf K.cmp (seen_through S.facts source.old) (seen_through S.facts source.new)
+        placed.now.table.number (TellsOfKey K.cmp placed.now key.now sequence value)) }
     ensures still { IsStill (S.facts source.old.store) (S.facts source.new.store) result }
     // Where the table is open and its filter denies the key, no block is asked for.
-    ensures denied { (table : Opened) (file : List ℕ) → kept_table_at source.old.tables.tables number ≡ Some table
+    ensures denied { (table : Opened) (file : List ℕ) → kept_table_at source.old.tables.tables placed.now.table.number ≡ Some table
         → IsFrame K.cmp file table.frame → IsDenied K.cmp table.frame key.now sequence
         → (source.new.store ≡ source.old.store) × (source.new.blocks ≡ source.old.blocks) }
+    // Corrupt only where the frame is damaged, or the search comes to a block that is none.
+    ensures torn { IfErr result (λ e. IfCorrupt e (SaysOf K.cmp (seen_through S.facts source.old) (seen_through S.facts source.new)
+        placed.now.table.number (λ file. IsFrameDamaged K.cmp file ⊎ TornOfKey K.cmp placed.now key.now sequence file))) }
     ensures refused { IfErr result (λ e. Refuses e (S.facts source.old.store) (S.facts source.new.store)
-        ((file : List ℕ) → HasSoundTable K.cmp (seen_through S.facts source.old) number file → IsNoTable K.cmp file)
-        ((file : List ℕ) → HasSoundTable K.cmp (seen_through S.facts source.old) number file → IsTablePastLimit K.cmp file)) }
+        ((file : List ℕ) → HasSoundTable K.cmp (seen_through S.facts source.old) placed.now.table.number file → IsNoTable K.cmp placed.now file)
+        ((file : List ℕ) → HasSoundTable K.cmp (seen_through S.facts source.old) placed.now.table.number file → IsTablePastLimit K.cmp file)) }
 {
-    let table = source.get_table(alloc, number)?;
+    let table = source.get_table(alloc, placed.table.number)?;
     let target = seek_key(alloc, key, sequence)?;
     let start = table.first_place(&target);
     if is_denied::<K>(&table, start, key) {
         return Ok(None);
     }
-    let found = search_on(alloc, source, number, &table, start, Aim::From(&target))?;
+    let found = search_on(alloc, source, placed, &table, start, Aim::From(&target))?;
     match found {
         Some(here) => {
             let value = value_at::<K>(alloc, &here.cursor, key)?;

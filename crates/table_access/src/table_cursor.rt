@@ -10,18 +10,19 @@ use crate::tables::Tables;
 use block::BlockCursor;
 use coding::DbError;
 use cursor::Cursor;
+use edits::{PlacedTable, copy_of};
 use ikey::{Internal, KeyOrder};
 use std::alloc::{AllocError, Global};
 use std::rc::Rc;
 use store::Store;
 use table::Table;
 
-/// A cursor over the table of a number. It holds the table open for its index, and has one data block at a time, which it
+/// A cursor over the table of a version edit, which it keeps for the keys at its ends. It holds the table open for its index, and has one data block at a time, which it
 /// shares with the cache. A move beyond the block reads the next one beside it, and changes nothing where that is refused.
 #[derive(Drop)]
 pub struct TableCursor<K: KeyOrder> {
-    number: u64,
-    ghost positive: { 0 < number },
+    placed: PlacedTable,
+    ghost positive: { 0 < placed.table.number },
     table: Rc<Table<K>>,
     here: Option<InBlock<BlockCursor<Internal<K>>>>,
 }
@@ -34,6 +35,7 @@ impl<K: KeyOrder> TableCursor<K> {
     ghost use Rattle.cursor.specs.Places.{Listed, to_first, to_key, to_last, to_next, to_prev};
     ghost use Rattle.ikey.specs.Entries.{InternalEntry};
     ghost use Rattle.ikey.specs.Keys.{Key, IsKey};
+    ghost use Rattle.table_access.specs.Ends.{HasKeysOf};
     ghost use Rattle.table_access.specs.TablePlaces.{ListsTable, StepsTo, block_stands};
     ghost use Rattle.table_access.specs.Tables.{Carries, HasSoundTable, IsOpenFrame, Only, SaysOf, seen_through};
     ghost use Rattle.table.specs.Frame.{AnyLong, handles};
@@ -41,30 +43,30 @@ impl<K: KeyOrder> TableCursor<K> {
     ghost use Rattle.table.specs.Refusals.{IsFrameDamaged, IsFrameUnsupported};
     ghost use Rattle.table.specs.Table.{IsTable};
 
-    /// A cursor over the table of this number, which is opened. It stands nowhere. Corrupt and Unsupported as
-    /// `Table::open`.
+    /// A cursor over this table of an edit, which is opened. It stands nowhere. Corrupt and Unsupported as `Table::open`.
     pub fn open<S: Store>(
         alloc: Global,
         source: &mut Tables<K, S>,
-        number: u64,
+        placed: &PlacedTable,
     ) -> Result<Self, DbError>
-        requires { 0 < number }
-        ensures number { IfOk result (λ cursor. cursor.number ≡ number) }
+        requires { 0 < placed.now.table.number }
+        ensures placed { IfOk result (λ cursor. cursor.placed ≡ placed.now) }
         ensures nowhere { IfOk result (λ cursor. cursor.here ≡ None) }
-        ensures carries { Carries K.cmp (Only number) (seen_through S.facts source.old) (seen_through S.facts source.new) }
-        ensures lists { IfOk result (λ cursor. SaysOf K.cmp (seen_through S.facts source.old) (seen_through S.facts source.new) number
-            (λ file. (entries : List InternalEntry) → IsTable K.cmp file entries
-            → ListsTable K.cmp (seen_through S.facts source.new) number cursor.table.value.frame None (listed entries None))) }
-        ensures open { IfOk result (λ cursor. SaysOf K.cmp (seen_through S.facts source.old) (seen_through S.facts source.new) number
-            (λ file. IsOpenFrame K.cmp file cursor.table.value.frame)) }
+        ensures carries { Carries K.cmp (Only placed.now.table.number) (seen_through S.facts source.old) (seen_through S.facts source.new) }
+        ensures lists { IfOk result (λ cursor. SaysOf K.cmp (seen_through S.facts source.old) (seen_through S.facts source.new)
+            placed.now.table.number (λ file. (entries : List InternalEntry) → IsTable K.cmp file entries → HasKeysOf placed.now entries
+            → ListsTable K.cmp (seen_through S.facts source.new) placed.now cursor.table.value.frame None (listed entries None))) }
+        ensures open { IfOk result (λ cursor. SaysOf K.cmp (seen_through S.facts source.old) (seen_through S.facts source.new)
+            placed.now.table.number (λ file. IsOpenFrame K.cmp file cursor.table.value.frame)) }
         ensures stood { OnOk result ((S.facts source.new.store).failures ≡ (S.facts source.old.store).failures) }
         ensures still { IsStill (S.facts source.old.store) (S.facts source.new.store) result }
-        ensures refused { IfErr result (λ e. RefusesTable e (S.facts source.old.store) (S.facts source.new.store) number
+        ensures refused { IfErr result (λ e. RefusesTable e (S.facts source.old.store) (S.facts source.new.store) placed.now.table.number
             (IsFrameDamaged K.cmp) IsFrameUnsupported) }
     {
-        let table = source.get_table(alloc, number)?;
+        let kept = copy_of(alloc, placed)?;
+        let table = source.get_table(alloc, placed.table.number)?;
         Ok(TableCursor {
-            number,
+            placed: kept,
             table,
             here: None,
         })
@@ -76,19 +78,19 @@ impl<K: KeyOrder> TableCursor<K> {
         alloc: Global,
         source: &mut Tables<K, S>,
     ) -> Result<(), DbError>
-        ensures carries { Carries K.cmp (Only self.old.number) (seen_through S.facts source.old) (seen_through S.facts source.new) }
-        ensures number { self.new.number ≡ self.old.number }
+        ensures carries { Carries K.cmp (Only self.old.placed.table.number) (seen_through S.facts source.old) (seen_through S.facts source.new) }
+        ensures placed { self.new.placed ≡ self.old.placed }
         ensures table { self.new.table ≡ self.old.table }
         ensures moves { IsTrue (S.facts source.new.store).faithful → (at : Listed)
-            → ListsTable K.cmp (seen_through S.facts source.old) self.old.number self.old.table.value.frame self.old.here at
-            → ListsTable K.cmp (seen_through S.facts source.new) self.old.number self.old.table.value.frame self.new.here
+            → ListsTable K.cmp (seen_through S.facts source.old) self.old.placed self.old.table.value.frame self.old.here at
+            → ListsTable K.cmp (seen_through S.facts source.new) self.old.placed self.old.table.value.frame self.new.here
             (after_move result to_first at) }
         ensures still { IsStill (S.facts source.old.store) (S.facts source.new.store) result }
         ensures refused { IfErr result (λ e. Refuses e (S.facts source.old.store) (S.facts source.new.store)
-            ((at : Listed) → ListsTable K.cmp (seen_through S.facts source.old) self.old.number self.old.table.value.frame self.old.here at → ⊥)
+            ((at : Listed) → ListsTable K.cmp (seen_through S.facts source.old) self.old.placed self.old.table.value.frame self.old.here at → ⊥)
             (AnyLong (handles self.old.table.value.frame))) }
     {
-        self.here = search_on(alloc, source, self.number, &self.table, 0, Aim::First)?;
+        self.here = search_on(alloc, source, &self.placed, &self.table, 0, Aim::First)?;
         Ok(())
     }
 
@@ -98,20 +100,20 @@ impl<K: KeyOrder> TableCursor<K> {
         alloc: Global,
         source: &mut Tables<K, S>,
     ) -> Result<(), DbError>
-        ensures carries { Carries K.cmp (Only self.old.number) (seen_through S.facts source.old) (seen_through S.facts source.new) }
-        ensures number { self.new.number ≡ self.old.number }
+        ensures carries { Carries K.cmp (Only self.old.placed.table.number) (seen_through S.facts source.old) (seen_through S.facts source.new) }
+        ensures placed { self.new.placed ≡ self.old.placed }
         ensures table { self.new.table ≡ self.old.table }
         ensures moves { IsTrue (S.facts source.new.store).faithful → (at : Listed)
-            → ListsTable K.cmp (seen_through S.facts source.old) self.old.number self.old.table.value.frame self.old.here at
-            → ListsTable K.cmp (seen_through S.facts source.new) self.old.number self.old.table.value.frame self.new.here
+            → ListsTable K.cmp (seen_through S.facts source.old) self.old.placed self.old.table.value.frame self.old.here at
+            → ListsTable K.cmp (seen_through S.facts source.new) self.old.placed self.old.table.value.frame self.new.here
             (after_move result to_last at) }
         ensures still { IsStill (S.facts source.old.store) (S.facts source.new.store) result }
         ensures refused { IfErr result (λ e. Refuses e (S.facts source.old.store) (S.facts source.new.store)
-            ((at : Listed) → ListsTable K.cmp (seen_through S.facts source.old) self.old.number self.old.table.value.frame self.old.here at → ⊥)
+            ((at : Listed) → ListsTable K.cmp (seen_through S.facts source.old) self.old.placed self.old.table.value.frame self.old.here at → ⊥)
             (AnyLong (handles self.old.table.value.frame))) }
     {
         let end = self.table.places().len();
-        self.here = search_back(alloc, source, self.number, &self.table, end)?;
+        self.here = search_back(alloc, source, &self.placed, &self.table, end)?;
         Ok(())
     }
 
@@ -122,22 +124,22 @@ impl<K: KeyOrder> TableCursor<K> {
         source: &mut Tables<K, S>,
         target: &[u8],
     ) -> Result<(), DbError>
-        ensures carries { Carries K.cmp (Only self.old.number) (seen_through S.facts source.old) (seen_through S.facts source.new) }
-        ensures number { self.new.number ≡ self.old.number }
+        ensures carries { Carries K.cmp (Only self.old.placed.table.number) (seen_through S.facts source.old) (seen_through S.facts source.new) }
+        ensures placed { self.new.placed ≡ self.old.placed }
         ensures table { self.new.table ≡ self.old.table }
         ensures moves { (key : Key) → IsKey target.now key → IsTrue (S.facts source.new.store).faithful → (at : Listed)
-            → ListsTable K.cmp (seen_through S.facts source.old) self.old.number self.old.table.value.frame self.old.here at
-            → ListsTable K.cmp (seen_through S.facts source.new) self.old.number self.old.table.value.frame self.new.here
+            → ListsTable K.cmp (seen_through S.facts source.old) self.old.placed self.old.table.value.frame self.old.here at
+            → ListsTable K.cmp (seen_through S.facts source.new) self.old.placed self.old.table.value.frame self.new.here
             (after_move result (to_key K.cmp key) at) }
         ensures still { IsStill (S.facts source.old.store) (S.facts source.new.store) result }
         ensures refused { IfErr result (λ e. Refuses e (S.facts source.old.store) (S.facts source.new.store)
             ((key : Key) → IsKey target.now key → (at : Listed)
-            → ListsTable K.cmp (seen_through S.facts source.old) self.old.number self.old.table.value.frame self.old.here at → ⊥)
+            → ListsTable K.cmp (seen_through S.facts source.old) self.old.placed self.old.table.value.frame self.old.here at → ⊥)
             (AnyLong (handles self.old.table.value.frame))) }
     {
         let start = self.table.first_place(target);
         let aim = Aim::From(target);
-        self.here = search_on(alloc, source, self.number, &self.table, start, aim)?;
+        self.here = search_on(alloc, source, &self.placed, &self.table, start, aim)?;
         Ok(())
     }
 
@@ -148,23 +150,23 @@ impl<K: KeyOrder> TableCursor<K> {
         source: &mut Tables<K, S>,
     ) -> Result<bool, DbError>
         requires { IsTrue (block_stands self.old.here) }
-        ensures carries { Carries K.cmp (Only self.old.number) (seen_through S.facts source.old) (seen_through S.facts source.new) }
-        ensures number { self.new.number ≡ self.old.number }
+        ensures carries { Carries K.cmp (Only self.old.placed.table.number) (seen_through S.facts source.old) (seen_through S.facts source.new) }
+        ensures placed { self.new.placed ≡ self.old.placed }
         ensures table { self.new.table ≡ self.old.table }
         ensures steps { IsTrue (S.facts source.new.store).faithful → (at : Listed)
-            → ListsTable K.cmp (seen_through S.facts source.old) self.old.number self.old.table.value.frame self.old.here at
+            → ListsTable K.cmp (seen_through S.facts source.old) self.old.placed self.old.table.value.frame self.old.here at
             → StepsTo (ListsTable K.cmp
-            (seen_through S.facts source.new) self.old.number self.old.table.value.frame self.new.here) to_next result at }
+            (seen_through S.facts source.new) self.old.placed self.old.table.value.frame self.new.here) to_next result at }
         ensures still { IsStill (S.facts source.old.store) (S.facts source.new.store) result }
         ensures refused { IfErr result (λ e. Refuses e (S.facts source.old.store) (S.facts source.new.store)
-            ((at : Listed) → ListsTable K.cmp (seen_through S.facts source.old) self.old.number self.old.table.value.frame self.old.here at → ⊥)
+            ((at : Listed) → ListsTable K.cmp (seen_through S.facts source.old) self.old.placed self.old.table.value.frame self.old.here at → ⊥)
             (AnyLong (handles self.old.table.value.frame))) }
     {
         let start = match step_on(&mut self.here)? {
             Some(start) => start,
             None => return Ok(true),
         };
-        match search_on(alloc, source, self.number, &self.table, start, Aim::First)? {
+        match search_on(alloc, source, &self.placed, &self.table, start, Aim::First)? {
             Some(found) => {
                 self.here = Some(found);
                 Ok(true)
@@ -180,23 +182,23 @@ impl<K: KeyOrder> TableCursor<K> {
         source: &mut Tables<K, S>,
     ) -> Result<bool, DbError>
         requires { IsTrue (block_stands self.old.here) }
-        ensures carries { Carries K.cmp (Only self.old.number) (seen_through S.facts source.old) (seen_through S.facts source.new) }
-        ensures number { self.new.number ≡ self.old.number }
+        ensures carries { Carries K.cmp (Only self.old.placed.table.number) (seen_through S.facts source.old) (seen_through S.facts source.new) }
+        ensures placed { self.new.placed ≡ self.old.placed }
         ensures table { self.new.table ≡ self.old.table }
         ensures steps { IsTrue (S.facts source.new.store).faithful → (at : Listed)
-            → ListsTable K.cmp (seen_through S.facts source.old) self.old.number self.old.table.value.frame self.old.here at
+            → ListsTable K.cmp (seen_through S.facts source.old) self.old.placed self.old.table.value.frame self.old.here at
             → StepsTo (ListsTable K.cmp
-            (seen_through S.facts source.new) self.old.number self.old.table.value.frame self.new.here) to_prev result at }
+            (seen_through S.facts source.new) self.old.placed self.old.table.value.frame self.new.here) to_prev result at }
         ensures still { IsStill (S.facts source.old.store) (S.facts source.new.store) result }
         ensures refused { IfErr result (λ e. Refuses e (S.facts source.old.store) (S.facts source.new.store)
-            ((at : Listed) → ListsTable K.cmp (seen_through S.facts source.old) self.old.number self.old.table.value.frame self.old.here at → ⊥)
+            ((at : Listed) → ListsTable K.cmp (seen_through S.facts source.old) self.old.placed self.old.table.value.frame self.old.here at → ⊥)
             (AnyLong (handles self.old.table.value.frame))) }
     {
         let end = match step_back(&mut self.here)? {
             Some(end) => end,
             None => return Ok(true),
         };
-        match search_back(alloc, source, self.number, &self.table, end)? {
+        match search_back(alloc, source, &self.placed, &self.table, end)? {
             Some(found) => {
                 self.here = Some(found);
                 Ok(true)
@@ -216,9 +218,9 @@ impl<K: KeyOrder, S: Store> Cursor<K, Tables<K, S>> for TableCursor<K> {
 
     ghost facts = { λ source. S.facts source.store };
 
-    ghost lists = { λ cursor source at. ListsTable K.cmp (seen_through S.facts source) cursor.number cursor.table.value.frame cursor.here at };
+    ghost lists = { λ cursor source at. ListsTable K.cmp (seen_through S.facts source) cursor.placed cursor.table.value.frame cursor.here at };
 
-    ghost keeps = { λ cursor old new. KeepsSeenTable K.cmp cursor.number (seen_through S.facts old) (seen_through S.facts new) };
+    ghost keeps = { λ cursor old new. KeepsSeenTable K.cmp cursor.placed.table.number (seen_through S.facts old) (seen_through S.facts new) };
 
     ghost stands = { λ cursor. block_stands cursor.here };
 
@@ -226,7 +228,7 @@ impl<K: KeyOrder, S: Store> Cursor<K, Tables<K, S>> for TableCursor<K> {
 
     ghost leaves = { λ numbers old new. Carries K.cmp numbers (seen_through S.facts old) (seen_through S.facts new) };
 
-    ghost over = { λ cursor number. number ≡ cursor.number };
+    ghost over = { λ cursor number. number ≡ cursor.placed.table.number };
 
     fn first(&mut self, alloc: Global, source: &mut Tables<K, S>) -> Result<(), DbError> {
         self.to_first(alloc, source)?;
@@ -291,11 +293,11 @@ impl<K: KeyOrder, S: Store> Cursor<K, Tables<K, S>> for TableCursor<K> {
 
     ghost inside = { λ cursor source at index h e. h.inside index e };
 
-    ghost kept = { λ cursor old new at k h. lists_kept K.cmp cursor.number cursor.table.value.frame cursor.here _ _ at k h };
+    ghost kept = { λ cursor old new at k h. lists_kept K.cmp cursor.placed cursor.table.value.frame cursor.here _ _ at k h };
 
-    ghost still = { λ cursor source. table_still K.cmp cursor.number _ };
+    ghost still = { λ cursor source. table_still K.cmp cursor.placed.table.number _ };
 
-    ghost onward = { λ cursor first second third k l. table_onward K.cmp cursor.number _ _ _ k l };
+    ghost onward = { λ cursor first second third k l. table_onward K.cmp cursor.placed.table.number _ _ _ k l };
 
     ghost limits_kept = { λ cursor old new k l. l };
 

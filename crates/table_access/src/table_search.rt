@@ -6,15 +6,19 @@ ghost use Rattle.cursor.specs.Moves.{Refuses};
 ghost use Rattle.cursor.specs.Places.{index_before};
 ghost use Rattle.cursor.specs.Places.{within as within_list};
 ghost use Rattle.ikey.specs.Entries.{Pair};
+ghost use Rattle.table_access.specs.Ends.{HasIntactIn, HaveEnds};
 ghost use Rattle.table_access.specs.TablePlaces.{IsPlacedIn, Passed, StopsAt, joined, pairs_before};
-ghost use Rattle.table_access.specs.Tables.{Carries, HasData, HasIntact, Only, SaysOf, seen_through};
-ghost use Rattle.table.specs.Frame.{AnyLong, handles};
+ghost use Rattle.table_access.specs.Tables.{Carries, HasData, Only, SaysOf, seen_through};
+ghost use Rattle.table_access.specs.Telling.{CameHere, IfCorrupt, IsTornIn, StopsTorn};
+ghost use Rattle.table.specs.Frame.{AnyLong, IsFrame, handles};
 ghost use Rattle.table.specs.Reading.{IsStill};
 
+use crate::ends::has_ends;
 use crate::in_block::InBlock;
 use crate::tables::Tables;
 use block::{Block, BlockCursor};
-use coding::DbError;
+use coding::{Damage, DbError, FileKind};
+use edits::PlacedTable;
 use ikey::{Internal, KeyOrder};
 use std::alloc::{AllocError, Global};
 use std::rc::Rc;
@@ -35,25 +39,33 @@ pub enum Aim<'a> {
 pub fn search_on<K: KeyOrder, S: Store>(
     alloc: Global,
     source: &mut Tables<K, S>,
-    number: u64,
+    placed: &PlacedTable,
     table: &Table<K>,
     start: usize,
     aim: Aim<'_>,
 ) -> Result<Option<InBlock<BlockCursor<Internal<K>>>>, DbError>
-    requires { 0 < number }
-    ensures carries { Carries K.cmp (Only number) (seen_through S.facts source.old) (seen_through S.facts source.new) }
+    requires { 0 < placed.now.table.number }
+    ensures carries { Carries K.cmp (Only placed.now.table.number) (seen_through S.facts source.old) (seen_through S.facts source.new) }
     ensures found { IfOk result (λ here. IsTrue (S.facts source.new.store).faithful → (groups : List (List Pair))
-        → HasData K.cmp (seen_through S.facts source.old) number table.now.frame groups → start ≤ length groups
+        → HasData K.cmp (seen_through S.facts source.old) placed.now.table.number table.now.frame groups → start ≤ length groups
         → (place : ℕ) × StopsAt (Passed K.cmp aim.entry) (joined groups) (pairs_before groups start) place
         × IsPlacedIn groups here (within_list (joined groups) place)) }
+    // Whatever the table holds beside: the blocks in front of the one that is found are passed, and it stands on its first pair that isn't.
+    ensures came { IfOk result (λ here. SaysOf K.cmp (seen_through S.facts source.old) (seen_through S.facts source.new) placed.now.table.number
+        (λ file. IsFrame K.cmp file table.now.frame → CameHere K.cmp (Passed K.cmp aim.entry) placed.now file table.now.frame start here)) }
     ensures stands { IfOk result (λ here. IfSome here (λ found. IsSome found.cursor.place)) }
+    // Corrupt only where the search comes to a block that is none.
+    ensures torn { IfErr result (λ e. IfCorrupt e (SaysOf K.cmp (seen_through S.facts source.old) (seen_through S.facts source.new)
+        placed.now.table.number (λ file. IsFrame K.cmp file table.now.frame
+        → StopsTorn K.cmp (Passed K.cmp aim.entry) placed.now file table.now.frame start))) }
     ensures still { IsStill (S.facts source.old.store) (S.facts source.new.store) result }
     ensures refused { IfErr result (λ e. Refuses e (S.facts source.old.store) (S.facts source.new.store)
-        ((groups : List (List Pair)) → HasData K.cmp (seen_through S.facts source.old) number table.now.frame groups → start ≤ length groups → ⊥)
+        ((groups : List (List Pair)) → HasData K.cmp (seen_through S.facts source.old) placed.now.table.number table.now.frame groups → HaveEnds placed.now groups
+        → start ≤ length groups → ⊥)
         (AnyLong (handles table.now.frame))) }
 {
     for index in start..table.places().len() {
-        let block = read_index(alloc, source, number, table, index)?;
+        let block = read_index(alloc, source, placed, table, index)?;
         let cursor = enter(alloc, block, aim)?;
         if cursor.stands() {
             return Ok(Some(InBlock { index, cursor }));
@@ -66,23 +78,24 @@ pub fn search_on<K: KeyOrder, S: Store>(
 pub fn search_back<K: KeyOrder, S: Store>(
     alloc: Global,
     source: &mut Tables<K, S>,
-    number: u64,
+    placed: &PlacedTable,
     table: &Table<K>,
     end: usize,
 ) -> Result<Option<InBlock<BlockCursor<Internal<K>>>>, DbError>
-    requires { 0 < number }
-    ensures carries { Carries K.cmp (Only number) (seen_through S.facts source.old) (seen_through S.facts source.new) }
+    requires { 0 < placed.now.table.number }
+    ensures carries { Carries K.cmp (Only placed.now.table.number) (seen_through S.facts source.old) (seen_through S.facts source.new) }
     ensures found { IfOk result (λ here. IsTrue (S.facts source.new.store).faithful → (groups : List (List Pair))
-        → HasData K.cmp (seen_through S.facts source.old) number table.now.frame groups → end ≤ length groups
+        → HasData K.cmp (seen_through S.facts source.old) placed.now.table.number table.now.frame groups → end ≤ length groups
         → IsPlacedIn groups here (index_before (pairs_before groups end))) }
     ensures still { IsStill (S.facts source.old.store) (S.facts source.new.store) result }
     ensures refused { IfErr result (λ e. Refuses e (S.facts source.old.store) (S.facts source.new.store)
-        ((groups : List (List Pair)) → HasData K.cmp (seen_through S.facts source.old) number table.now.frame groups → end ≤ length groups → ⊥)
+        ((groups : List (List Pair)) → HasData K.cmp (seen_through S.facts source.old) placed.now.table.number table.now.frame groups → HaveEnds placed.now groups
+        → end ≤ length groups → ⊥)
         (AnyLong (handles table.now.frame))) }
 {
     for step in 0..end {
         let index = end - step - 1;
-        let block = read_index(alloc, source, number, table, index)?;
+        let block = read_index(alloc, source, placed, table, index)?;
         let mut cursor = BlockCursor::new(alloc, block);
         cursor.last()?;
         if cursor.stands() {
@@ -115,26 +128,33 @@ fn enter<K: KeyOrder>(
     }
 }
 
-// The data block of this index, held against its place when it comes from the store.
+// The data block of this index, held against its place when it comes from the store, and against the edit where it is the first or the
+// last. Such a one is looked at each time: what is kept of a table doesn't know its edit.
 fn read_index<K: KeyOrder, S: Store>(
     alloc: Global,
     source: &mut Tables<K, S>,
-    number: u64,
+    placed: &PlacedTable,
     table: &Table<K>,
     index: usize,
 ) -> Result<Rc<Block<Internal<K>>>, DbError>
-    requires { 0 < number }
-    ensures carries { Carries K.cmp (Only number) (seen_through S.facts source.old) (seen_through S.facts source.new) }
+    requires { 0 < placed.now.table.number }
+    ensures carries { Carries K.cmp (Only placed.now.table.number) (seen_through S.facts source.old) (seen_through S.facts source.new) }
     ensures found { IfOk result (λ block. IsTrue (S.facts source.new.store).faithful → (groups : List (List Pair))
-        → HasData K.cmp (seen_through S.facts source.old) number table.now.frame groups → slice_get groups index ≡ Some block.value.pairs) }
-    // Whatever the table holds beside, the block is whole and in its place.
+        → HasData K.cmp (seen_through S.facts source.old) placed.now.table.number table.now.frame groups → slice_get groups index ≡ Some block.value.pairs) }
+    // Whatever the table holds beside, the block is whole and in its place, and where it is an end, it has the edit's key there.
     ensures intact { IfOk result (λ block. SaysOf K.cmp (seen_through S.facts source.old) (seen_through S.facts source.new)
-        number (HasIntact K.cmp index block.value.pairs)) }
+        placed.now.table.number (HasIntactIn K.cmp placed.now table.now.frame index block.value.pairs)) }
+    ensures torn { IfErr result (λ e. IfCorrupt e (SaysOf K.cmp (seen_through S.facts source.old) (seen_through S.facts source.new)
+        placed.now.table.number (λ file. IsFrame K.cmp file table.now.frame → IsTornIn K.cmp placed.now file table.now.frame index))) }
     ensures still { IsStill (S.facts source.old.store) (S.facts source.new.store) result }
     ensures refused { IfErr result (λ e. Refuses e (S.facts source.old.store) (S.facts source.new.store)
-        ((groups : List (List Pair)) → HasData K.cmp (seen_through S.facts source.old) number table.now.frame groups → index < length groups → ⊥)
+        ((groups : List (List Pair)) → HasData K.cmp (seen_through S.facts source.old) placed.now.table.number table.now.frame groups → HaveEnds placed.now groups
+        → index < length groups → ⊥)
         (AnyLong (handles table.now.frame))) }
 {
-    let block = source.read_block(alloc, number, index)?;
+    let block = source.read_block(alloc, placed.table.number, index)?;
+    if !has_ends(alloc, placed, table.places().len(), index, &block)? {
+        return Err(DbError::Corrupt(FileKind::Table, Damage::Order));
+    }
     Ok(block)
 }

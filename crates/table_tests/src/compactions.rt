@@ -230,6 +230,9 @@ const INPUTS: [TableRow; 3] = [
     TableRow(1, 5, 176, b"b", 1, b"d", 1),
 ];
 
+// The internal key of put(d) at sequence 1.
+const POINTER: &[u8] = b"d\x01\x01\0\0\0\0\0\0";
+
 // From levels 1 and 2 to level 2.
 fn plan(alloc: Global) -> Result<JobPlan, AllocError> {
     let mut inputs = Vec::new(alloc);
@@ -239,7 +242,7 @@ fn plan(alloc: Global) -> Result<JobPlan, AllocError> {
     Ok(JobPlan {
         inputs,
         output_level: 2,
-        compact_pointer: Some(Bytes::copied_from(alloc, b"pointer")?),
+        compact_pointer: Some(Bytes::copied_from(alloc, POINTER)?),
     })
 }
 
@@ -377,7 +380,7 @@ fn has_tables(
         return Ok(false);
     };
     let is_numbered = *next == (tables.len() as u64).saturating_add(9);
-    let is_moved = key.as_slice() == b"pointer".as_slice();
+    let is_moved = key.as_slice() == POINTER;
     let are_alone = matches!(store.list(alloc), Ok(names) if names.len() == tables.len());
     Ok(is_numbered && is_moved && are_alone && are_made(alloc, store, made, tables)?)
 }

@@ -296,8 +296,8 @@ impl LiveTables for Tables {
     }
 }
 
-// The names of all files, the numbers of the MANIFEST, the first log and one more log, the tables in use, those that aren't, once
-// for each of their files, and the names that stay, in order and each ended by a semicolon.
+// The names of all files, the numbers of the MANIFEST, the first log and one more log, the tables in use, those that aren't or have both
+// names, once for each of their files, and the names that stay, in order and each ended by a semicolon.
 struct Case {
     names: &'static [&'static str],
     numbers: (u64, u64, u64),
@@ -312,7 +312,7 @@ const CASES: &[Case] = &[
     Case { names: &["CURRENT", "LOCK", "MANIFEST-000004", "000005.log"], numbers: (4, 5, 0), tables: &[], unused: &[], left: "000005.log;CURRENT;LOCK;MANIFEST-000004;" },
     Case { names: &["MANIFEST-000003", "MANIFEST-000004", "MANIFEST-000005"], numbers: (4, 5, 0), tables: &[], unused: &[], left: "MANIFEST-000004;" },
     Case { names: &["000002.log", "000003.log", "000004.log", "000005.log", "000006.log"], numbers: (1, 5, 3), tables: &[], unused: &[], left: "000003.log;000005.log;000006.log;" },
-    Case { names: &["000007.ldb", "000008.ldb", "000007.sst", "000008.sst", "000009.sst", "000010.sst"], numbers: (1, 2, 0), tables: &[8, 9], unused: &[7, 7, 10], left: "000008.ldb;000008.sst;000009.sst;" },
+    Case { names: &["000007.ldb", "000008.ldb", "000007.sst", "000008.sst", "000009.sst", "000010.sst"], numbers: (1, 2, 0), tables: &[8, 9], unused: &[7, 7, 8, 8, 10], left: "000008.ldb;000009.sst;" },
     Case { names: &["000004.dbtmp", "000005.dbtmp", "000012.log", "000012.ldb"], numbers: (4, 5, 0), tables: &[5], unused: &[12], left: "000012.log;" },
     Case { names: &["LOG", "LOG.old", "12.log", "000000.log", "lost", "000003.LDB", "MANIFEST-3"], numbers: (4, 5, 0), tables: &[], unused: &[], left: "000000.log;000003.LDB;12.log;LOG;LOG.old;MANIFEST-3;lost;" },
 ];
@@ -325,7 +325,7 @@ fn make_all(alloc: Global, names: &[&str]) -> Result<MemStore, StoreError> {
     Ok(store)
 }
 
-// Whether all that isn't live is gone, and these tables weren't in use.
+// Whether all that isn't live is gone, and these tables are to be closed.
 fn is_whole(removal: &Removal, unused: &[u64]) -> bool {
     removal.complete && removal.tables.as_slice() == unused
 }

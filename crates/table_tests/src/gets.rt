@@ -15,15 +15,14 @@ const PUT: Kind = Kind::Put;
 // Two tables of level 0, of which the newer one stands behind the older, and one of each of two deeper levels.
 #[rattlefmt::skip]
 const FILES: [File; 4] = [
-    ("000005.ldb", &[(b"a", 20, PUT, b"\x01"), (b"c", 21, Kind::Delete, b"\0")]),
+    ("000005.ldb", &[(b"a", 20, PUT, b"\x01"), (b"c", 21, Kind::Delete, b"\0"), (b"cc", 22, PUT, b"\x09")]),
     ("000007.ldb", &[(b"a", 30, PUT, b"\x02"), (b"d", 31, PUT, b"\x03")]),
     ("000004.ldb", &[(b"a", 2, PUT, b"\x04"), (b"c", 3, PUT, b"\x05"), (b"e", 4, PUT, b"\x06")]),
     ("000003.ldb", &[(b"e", 1, PUT, b"\x07"), (b"f", 2, PUT, b"\x08")]),
 ];
 
-// The last key of the table 5, a delete, is below the bound that it has here.
 const PLACES: [TableRow; 4] = [
-    TableRow(0, 5, 1, b"a", 20, b"c", 20),
+    TableRow(0, 5, 1, b"a", 20, b"cc", 22),
     TableRow(0, 7, 1, b"a", 30, b"d", 31),
     TableRow(1, 4, 1, b"a", 2, b"e", 4),
     TableRow(2, 3, 1, b"e", 1, b"f", 2),

@@ -1,14 +1,15 @@
-//! Data blocks that aren't what their place in the index says, with checksums that fit.
+//! Data blocks that aren't what their place in the index or their table's edit says, with checksums that fit.
 
 use crate::files::NAME;
+use crate::layouts::TableRow;
 use crate::walks::{Pair, Turn, at_hand, step};
-use crate::written::{cached, is_value};
+use crate::written::{cached, is_value, opened, value_in};
 use coding::DbError;
 use ikey::{Bytewise, Kind};
 use std::alloc::Global;
 use std::test::*;
 use store::{FaultStore, MemStore, Store, StoreError};
-use table_access::{TableCursor, Tables, table_value};
+use table_access::{TableCursor, Tables};
 
 // Tables without a filter, whose entries are puts at sequence 2: of `b` and `d` in one block, bounded by its last key; the same and one
 // of `f` and `h` behind it, which begins at 43. The first key of a block stands at its byte 3, the second at 16, the checksum at 39.
@@ -107,33 +108,66 @@ const FIRST: Told = (
     &[(b"f", None), (b"h", None), (b"e", None), (b"b", Some(Some(Some(b"\x01")))), (b"d", Some(Some(Some(b"\x02")))), (b"c", Some(None))],
 );
 
-// A table, bytes that are put over others of it, each with its place, and what it answers then.
-type Case = (&'static [u8], &'static [(usize, &'static [u8])], Told);
+// A table, bytes that are put over others of it, each with its place, what its edit says, and what it answers then.
+type Case = (
+    &'static [u8],
+    &'static [(usize, &'static [u8])],
+    TableRow,
+    Told,
+);
+
+// What the edits of the tables say.
+const OF_ONE: TableRow = TableRow(1, 5, 131, b"b", 2, b"d", 2);
+
+const OF_TWO: TableRow = TableRow(1, 5, 192, b"b", 2, b"h", 2);
 
 // Keys above the bound of their block; keys that don't lie above the bound in front; what is no internal key, in front, behind, and alone;
 // at the end the tables as they were, and keys that lie just inside: above no bound, and the next one above the bound in front.
 #[rattlefmt::skip]
 const CASES: [Case; 18] = [
-    (&ONE_BLOCK, &[(16, b"d\x01\x01"), (39, b"\x20\x93\xe5H")], NONE),
-    (&ONE_BLOCK, &[(16, b"e"), (39, b"\xaaX\xff\xec")], NONE),
-    (&ONE_BLOCK, &[(4, b"\x02"), (39, b"\xba-I\x81")], NONE),
-    (&ONE_BLOCK, &[(17, b"\x02"), (39, b"\xe188p")], NONE),
-    (&OF_KIND_TWO, &[], NONE),
-    (&OF_SEVEN_BYTES, &[], NONE),
-    (&TWO_BLOCKS, &[(16, b"d\x01\x01"), (39, b"\x20\x93\xe5H")], SECOND),
-    (&TWO_BLOCKS, &[(16, b"e"), (39, b"\xaaX\xff\xec")], SECOND),
-    (&TWO_BLOCKS, &[(4, b"\x02"), (39, b"\xba-I\x81")], SECOND),
-    (&TWO_BLOCKS, &[(46, b"c"), (82, b"\xd0q=\x7f")], FIRST),
-    (&TWO_BLOCKS, &[(46, b"d"), (82, b"\x0e\x9bV;")], FIRST),
-    (&TWO_BLOCKS, &[(46, b"d\x01\x03"), (82, b"\xb78\xf41")], FIRST),
-    (&TWO_BLOCKS, &[(59, b"h\x01\x01"), (82, b"\x11<\xd0\x1c")], FIRST),
-    (&TWO_BLOCKS, &[(59, b"i"), (82, b"{\x7f\xd68")], FIRST),
-    (&TWO_BLOCKS, &[(60, b"\x02"), (82, b"P\xa2\x1d\xb4")], FIRST),
-    (&ONE_BLOCK, &[], (&[(Turn::First, Some(Some(B))), (Turn::Last, Some(Some(D)))], &[(b"b", Some(Some(Some(b"\x01"))))])),
-    (&ONE_BLOCK, &[(3, b"a"), (39, b"\xb6\x19\x07\xd6")], (&[(Turn::Last, Some(Some(D)))], &[(b"a", Some(Some(Some(b"\x01"))))])),
-    (&TWO_BLOCKS, &[(46, b"d\x01\x01"), (82, b"\xe5\xa0\xb7B")], (
+    (&ONE_BLOCK, &[(16, b"d\x01\x01"), (39, b"\x20\x93\xe5H")], OF_ONE, NONE),
+    (&ONE_BLOCK, &[(16, b"e"), (39, b"\xaaX\xff\xec")], OF_ONE, NONE),
+    (&ONE_BLOCK, &[(4, b"\x02"), (39, b"\xba-I\x81")], OF_ONE, NONE),
+    (&ONE_BLOCK, &[(17, b"\x02"), (39, b"\xe188p")], OF_ONE, NONE),
+    (&OF_KIND_TWO, &[], OF_ONE, NONE),
+    (&OF_SEVEN_BYTES, &[], OF_ONE, NONE),
+    (&TWO_BLOCKS, &[(16, b"d\x01\x01"), (39, b"\x20\x93\xe5H")], OF_TWO, SECOND),
+    (&TWO_BLOCKS, &[(16, b"e"), (39, b"\xaaX\xff\xec")], OF_TWO, SECOND),
+    (&TWO_BLOCKS, &[(4, b"\x02"), (39, b"\xba-I\x81")], OF_TWO, SECOND),
+    (&TWO_BLOCKS, &[(46, b"c"), (82, b"\xd0q=\x7f")], OF_TWO, FIRST),
+    (&TWO_BLOCKS, &[(46, b"d"), (82, b"\x0e\x9bV;")], OF_TWO, FIRST),
+    (&TWO_BLOCKS, &[(46, b"d\x01\x03"), (82, b"\xb78\xf41")], OF_TWO, FIRST),
+    (&TWO_BLOCKS, &[(59, b"h\x01\x01"), (82, b"\x11<\xd0\x1c")], OF_TWO, FIRST),
+    (&TWO_BLOCKS, &[(59, b"i"), (82, b"{\x7f\xd68")], OF_TWO, FIRST),
+    (&TWO_BLOCKS, &[(60, b"\x02"), (82, b"P\xa2\x1d\xb4")], OF_TWO, FIRST),
+    (&ONE_BLOCK, &[], OF_ONE, (&[(Turn::First, Some(Some(B))), (Turn::Last, Some(Some(D)))], &[(b"b", Some(Some(Some(b"\x01"))))])),
+    (&ONE_BLOCK, &[(3, b"a"), (39, b"\xb6\x19\x07\xd6")], TableRow(1, 5, 131, b"a", 2, b"d", 2), (&[(Turn::Last, Some(Some(D)))], &[(b"a", Some(Some(Some(b"\x01"))))])),
+    (&TWO_BLOCKS, &[(46, b"d\x01\x01"), (82, b"\xe5\xa0\xb7B")], OF_TWO, (
         &[(Turn::Last, Some(Some(H))), (Turn::Prev, Some(Some((b"d\x01\x01\0\0\0\0\0\0", b"\x03")))), (Turn::Prev, Some(Some(D)))],
         &[(b"d", Some(Some(Some(b"\x02")))), (b"h", Some(Some(Some(b"\x04"))))],
+    )),
+];
+
+// End keys that their place in the index allows and the edit doesn't: the first key lower or higher, as bytes and by its sequence, then
+// the last one; and the same tables, over edits that say these keys, where they differ from what the others say.
+#[rattlefmt::skip]
+const ENDS: [Case; 14] = [
+    (&ONE_BLOCK, &[(3, b"a"), (39, b"\xb6\x19\x07\xd6")], OF_ONE, NONE),
+    (&ONE_BLOCK, &[(3, b"b\x01\x03"), (39, b"tf1`")], OF_ONE, NONE),
+    (&ONE_BLOCK, &[(16, b"c"), (39, b"\xb2\nA\x89")], OF_ONE, NONE),
+    (&ONE_BLOCK, &[(16, b"d\x01\x03"), (39, b"9\x87Y\xf4")], OF_ONE, NONE),
+    (&ONE_BLOCK, &[], TableRow(1, 5, 131, b"c", 2, b"d", 2), NONE),
+    (&ONE_BLOCK, &[], TableRow(1, 5, 131, b"b", 2, b"d", 1), NONE),
+    (&TWO_BLOCKS, &[(3, b"a"), (39, b"\xb6\x19\x07\xd6")], OF_TWO, SECOND),
+    (&TWO_BLOCKS, &[(3, b"b\x01\x03"), (39, b"tf1`")], OF_TWO, SECOND),
+    (&TWO_BLOCKS, &[(59, b"g"), (82, b"\xd5\x92\xb9\xb1")], OF_TWO, FIRST),
+    (&TWO_BLOCKS, &[(59, b"h\x01\x03"), (82, b"\xe8O|0")], OF_TWO, FIRST),
+    (&TWO_BLOCKS, &[], TableRow(1, 5, 192, b"c", 2, b"h", 2), SECOND),
+    (&TWO_BLOCKS, &[], TableRow(1, 5, 192, b"b", 2, b"i", 2), FIRST),
+    (&ONE_BLOCK, &[(16, b"c"), (39, b"\xb2\nA\x89")], TableRow(1, 5, 131, b"b", 2, b"c", 2), (&[(Turn::First, Some(Some(B)))], &[(b"c", Some(Some(Some(b"\x02"))))])),
+    (&TWO_BLOCKS, &[(59, b"g"), (82, b"\xd5\x92\xb9\xb1")], TableRow(1, 5, 192, b"b", 2, b"g", 2), (
+        &[(Turn::First, Some(Some(B))), (Turn::Last, Some(Some((b"g\x01\x02\0\0\0\0\0\0", b"\x04")))), (Turn::Prev, Some(Some(F)))],
+        &[(b"g", Some(Some(Some(b"\x04")))), (b"h", Some(None))],
     )),
 ];
 
@@ -189,9 +223,10 @@ fn goes_so(
 fn first_astray(
     alloc: Global,
     source: &mut Source,
+    row: &TableRow,
     turns: &[Led],
 ) -> Result<Option<usize>, DbError> {
-    let mut cursor = TableCursor::open(alloc, source, 5)?;
+    let mut cursor = opened(alloc, source, row)?;
     let mut there = None;
     for (place, led) in turns.iter().enumerate() {
         if !goes_so(&mut cursor, alloc, source, there, led) {
@@ -203,9 +238,14 @@ fn first_astray(
 }
 
 // Whether a get answers that.
-fn is_got<S: Store>(alloc: Global, source: &mut Tables<Bytewise, S>, got: &Got) -> bool {
+fn is_got<S: Store>(
+    alloc: Global,
+    source: &mut Tables<Bytewise, S>,
+    row: &TableRow,
+    got: &Got,
+) -> bool {
     let (key, wanted) = *got;
-    match table_value(alloc, source, 5, key, 9) {
+    match value_in(alloc, source, row, key, 9) {
         Ok(found) => match wanted {
             Some(value) => is_value(&found, value),
             None => false,
@@ -215,9 +255,9 @@ fn is_got<S: Store>(alloc: Global, source: &mut Tables<Bytewise, S>, got: &Got) 
     }
 }
 
-fn gets_all(alloc: Global, source: &mut Source, gets: &[Got]) -> bool {
+fn gets_all(alloc: Global, source: &mut Source, row: &TableRow, gets: &[Got]) -> bool {
     for got in gets {
-        if !is_got(alloc, source, got) {
+        if !is_got(alloc, source, row, got) {
             return false;
         }
     }
@@ -226,15 +266,24 @@ fn gets_all(alloc: Global, source: &mut Source, gets: &[Got]) -> bool {
 
 // Whether the table of a case answers as it should, read through a cache of one block, and through one of several.
 fn is_told(alloc: Global, case: &Case, blocks: usize) -> Result<bool, DbError> {
-    let (table, changes, (turns, gets)) = *case;
+    let (table, changes, row, (turns, gets)) = *case;
     let mut source = cached(alloc, crafted(alloc, table, changes)?, 1, blocks)?;
-    let astray = first_astray(alloc, &mut source, turns)?;
-    Ok(astray.is_none() && gets_all(alloc, &mut source, gets))
+    let astray = first_astray(alloc, &mut source, &row, turns)?;
+    Ok(astray.is_none() && gets_all(alloc, &mut source, &row, gets))
 }
 
 #[test]
 fn blocks_are_held_against_their_places(rt: HostRuntime) {
     for case in &CASES {
+        for blocks in [1, 4] {
+            assert_eq!(rt; is_told(rt.alloc(), case, blocks), Ok(true), "{:?}", case.1);
+        }
+    }
+}
+
+#[test]
+fn the_ends_of_a_table_are_held_against_its_edit(rt: HostRuntime) {
+    for case in &ENDS {
         for blocks in [1, 4] {
             assert_eq!(rt; is_told(rt.alloc(), case, blocks), Ok(true), "{:?}", case.1);
         }
@@ -253,7 +302,7 @@ const KEPT: [(Got, bool); 6] = [
 
 fn is_kept(alloc: Global, source: &mut Tables<Bytewise, FaultStore>, got: &Got) -> (bool, bool) {
     let calls = source.store.calls();
-    let is = is_got(alloc, source, got);
+    let is = is_got(alloc, source, &OF_TWO, got);
     (is, calls < source.store.calls())
 }
 

@@ -1,6 +1,8 @@
-//! Laws of searches through the tables of a version.
+//! Laws of what a table tells, and of searches through the tables of a version.
 
+use ikey::Bytewise;
 use std::test::*;
+use table_access::told_for_all;
 use version_laws::{
     answered_place, goes_on, has_ended, is_found, memory_in_front, passed_place, searched_table,
     version_is_kept, version_of_directory, version_of_part,
@@ -9,6 +11,7 @@ use version_laws::{
 #[test]
 fn laws_are_called() {
     // Laws, for the proof alone.
+    told_for_all::<Bytewise>();
     searched_table();
     answered_place();
     passed_place();

@@ -25,6 +25,10 @@ impl Store for Watched {
         self.inner.failures()
     }
 
+    fn write_failures(&self) -> u64 {
+        self.inner.write_failures()
+    }
+
     fn list(&mut self, alloc: Global) -> Result<Vec<String>, StoreError> {
         self.inner.list(alloc)
     }

@@ -2,14 +2,15 @@
 
 use crate::entries::{Row, entries_of};
 use crate::files::{NAME, OF_TYPE_ONE, changed};
+use crate::layouts::TableRow;
 use crate::walks::{Pair, Turn, at_hand, first_apart, leads_to, step};
-use crate::written::{cached, is_value, stored};
+use crate::written::{cached, is_value, opened, stored, value_in};
 use coding::DbError;
 use ikey::{Bytewise, Kind};
 use std::alloc::Global;
 use std::test::*;
 use store::{MemStore, Store, StoreError};
-use table_access::{TableCursor, Tables, table_value};
+use table_access::{TableCursor, Tables};
 
 const PUT: Kind = Kind::Put;
 
@@ -24,6 +25,9 @@ const ENTRIES: [Row; 8] = [
     (b"e", 6, Kind::Delete, b"\0"),
     (b"g", 5, PUT, b"\x06"),
 ];
+
+// The table 5 of these.
+const FIVE: TableRow = TableRow(1, 5, 1, b"a", 9, b"g", 5);
 
 // Both ways from end to end, and seeks on, between and behind the keys.
 #[rattlefmt::skip]
@@ -55,7 +59,7 @@ fn apart_from_the_list(
     blocks: usize,
 ) -> Result<Option<usize>, DbError> {
     let mut source = table_of(alloc, block_bytes, blocks)?;
-    let mut cursor = TableCursor::open(alloc, &mut source, 5)?;
+    let mut cursor = opened(alloc, &mut source, &FIVE)?;
     first_apart(
         &mut cursor,
         alloc,
@@ -109,7 +113,7 @@ fn stays_at_damage(
 
 fn keeps_its_place(alloc: Global) -> Result<bool, DbError> {
     let mut source = table_of(alloc, 1, 1)?;
-    let mut cursor = TableCursor::open(alloc, &mut source, 5)?;
+    let mut cursor = opened(alloc, &mut source, &FIVE)?;
     stays_at_damage(&mut cursor, alloc, &mut source)
 }
 
@@ -128,12 +132,15 @@ fn is_refusal<T>(answer: &Result<T, DbError>, is_unsupported: bool) -> bool {
     }
 }
 
-// Whether both a cursor and a look-up are refused so over the table 5 of this store.
+// The table of one entry.
+const ONE: TableRow = TableRow(1, 5, 1, b"a", 1, b"a", 1);
+
+// Whether both a cursor and a look-up are refused so over that table in this store.
 fn are_refused(alloc: Global, store: MemStore, is_unsupported: bool) -> Result<bool, DbError> {
     let mut source = cached(alloc, store, 1, 1)?;
-    let mut cursor = TableCursor::open(alloc, &mut source, 5)?;
+    let mut cursor = opened(alloc, &mut source, &ONE)?;
     let walked = step(&mut cursor, alloc, &mut source, Turn::First);
-    let found = table_value(alloc, &mut source, 5, b"a", 9);
+    let found = value_in(alloc, &mut source, &ONE, b"a", 9);
     Ok(is_refusal(&walked, is_unsupported) && is_refusal(&found, is_unsupported))
 }
 
@@ -155,9 +162,12 @@ fn a_block_of_another_type_is_not_supported(rt: HostRuntime) {
     }
 }
 
+// The table 6, which there isn't.
+const SIX: TableRow = TableRow(1, 6, 1, b"a", 9, b"g", 5);
+
 fn is_missing(alloc: Global) -> Result<bool, DbError> {
     let mut source = table_of(alloc, 1, 1)?;
-    Ok(is_refusal(&TableCursor::open(alloc, &mut source, 6), false))
+    Ok(is_refusal(&opened(alloc, &mut source, &SIX), false))
 }
 
 #[test]
@@ -180,7 +190,7 @@ const VALUES: [(&[u8], u32, Option<Option<&[u8]>>); 14] = [
 fn finds_values(alloc: Global, block_bytes: usize) -> Result<bool, DbError> {
     let mut source = table_of(alloc, block_bytes, 2)?;
     for (key, sequence, wanted) in VALUES {
-        let found = table_value(alloc, &mut source, 5, key, u64::from(sequence))?;
+        let found = value_in(alloc, &mut source, &FIVE, key, sequence)?;
         if !is_value(&found, wanted) {
             return Ok(false);
         }

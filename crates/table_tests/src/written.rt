@@ -1,13 +1,14 @@
 //! Files of tables, and sources that read them.
 
 use crate::entries::{Row, entries_of, write};
+use crate::layouts::{TableRow, placed};
 use cache::{BlockCache, TableCache};
 use coding::{Bytes, DbError};
 use ikey::Bytewise;
 use std::alloc::Global;
 use std::num::NonZeroUsize;
 use store::{FaultStore, MemStore, Store};
-use table_access::Tables;
+use table_access::{TableCursor, Tables, table_value};
 
 /// The name of a table's file, and its entries.
 pub type File = (&'static str, &'static [Row]);
@@ -62,4 +63,32 @@ pub fn is_value(found: &Option<Option<Bytes>>, wanted: Option<Option<&[u8]>>) ->
         (Some(Some(value)), Some(Some(bytes))) => value.as_slice() == bytes,
         _ => false,
     }
+}
+
+/// A cursor over a table, whose number isn't 0.
+pub fn opened<S: Store>(
+    alloc: Global,
+    source: &mut Tables<Bytewise, S>,
+    row: &TableRow,
+) -> Result<TableCursor<Bytewise>, DbError> {
+    let placed = placed(alloc, row)?;
+    if placed.table.number == 0 {
+        return Err(DbError::BadLine);
+    }
+    TableCursor::open(alloc, source, &placed)
+}
+
+/// What the newest entry of a user key up to a sequence put in such a table.
+pub fn value_in<S: Store>(
+    alloc: Global,
+    source: &mut Tables<Bytewise, S>,
+    row: &TableRow,
+    key: &[u8],
+    sequence: u32,
+) -> Result<Option<Option<Bytes>>, DbError> {
+    let placed = placed(alloc, row)?;
+    if placed.table.number == 0 {
+        return Err(DbError::BadLine);
+    }
+    table_value(alloc, source, &placed, key, u64::from(sequence))
 }

@@ -8,6 +8,7 @@ use crate::inspect::{print_entries, print_refusal};
 use crate::saying::{say_all_sound, say_of_directory, say_of_file};
 use crate::status::{DONE, FAILED};
 use crate::task::Notation;
+use crate::why::{say_noted, say_why};
 use coding::DbError;
 use ikey::KeyOrder;
 use recover::{Origin, Overview, file_entries, overview_of};
@@ -37,6 +38,7 @@ pub fn dump_sound<K: KeyOrder, S: Store, W: Write, F: Write>(
         Ok(None) => Ok(DONE),
         Err(error) => {
             say_of_directory(faults, folder, error);
+            say_why(faults, folder, error, store.noted());
             print_refusal(alloc, writer, error)
         }
     }
@@ -96,13 +98,14 @@ fn print_if_sound<K: KeyOrder, S: Store, W: Write, F: Write>(
         }
         Err(error) => {
             say_of_file(faults, folder, origin, error);
+            say_why(faults, folder, error, store.noted());
             Ok(FAILED)
         }
     }
 }
 
 /// Says of the first file of a directory that is refused by itself what is wrong with it, and where `all` is said of each; or that each is
-/// sound.
+/// sound. Behind it stands where the refusal of the directory came from, by what the store had noted then.
 pub fn say_refused<K: KeyOrder, S: Store, F: Write>(
     alloc: Global,
     store: &mut S,
@@ -110,12 +113,19 @@ pub fn say_refused<K: KeyOrder, S: Store, F: Write>(
     all: bool,
     faults: &mut F,
 ) {
+    let noted = store.noted();
     match read_origins::<K, S>(alloc, store) {
         Ok(Some(origins)) => {
-            say_refused_files::<K, S, F>(alloc, store, &origins, folder, all, faults);
+            if say_refused_files::<K, S, F>(alloc, store, &origins, folder, all, faults) {
+                return;
+            }
+            say_noted(faults, folder, noted);
         }
         Ok(None) => {}
-        Err(error) => say_of_directory(faults, folder, error),
+        Err(error) => {
+            say_of_directory(faults, folder, error);
+            say_why(faults, folder, error, store.noted());
+        }
     }
 }
 
@@ -130,6 +140,7 @@ fn read_origins<K: KeyOrder, S: Store>(
     }
 }
 
+// Whether what is wrong was said of each file that is refused, with where it comes from.
 fn say_refused_files<K: KeyOrder, S: Store, F: Write>(
     alloc: Global,
     store: &mut S,
@@ -137,18 +148,20 @@ fn say_refused_files<K: KeyOrder, S: Store, F: Write>(
     folder: &str,
     all: bool,
     faults: &mut F,
-) {
+) -> bool {
     let mut all_sound = true;
     for origin in origins {
         if let Err(error) = file_entries::<K, S>(alloc, store, *origin) {
             say_of_file(faults, folder, *origin, error);
             if !all {
-                return;
+                return false;
             }
+            say_why(faults, folder, error, store.noted());
             all_sound = false;
         }
     }
     if all_sound {
         say_all_sound(faults, folder);
     }
+    !all_sound
 }

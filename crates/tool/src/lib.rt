@@ -18,6 +18,7 @@ mod saying;
 mod status;
 mod task;
 mod telling;
+mod why;
 mod words;
 
 pub use counts::stats;

@@ -16,7 +16,7 @@ use reader::ReadOnly;
 use script::Fault;
 use std::alloc::Global;
 use std::io::Write;
-use store::{FileStore, Store, StoreError};
+use store::{FileStore, Store, StoreError, Trouble};
 
 // A folder that is only read, and perhaps watched.
 type Folder = Watched<ReadOnly<FileStore>>;
@@ -217,6 +217,8 @@ fn watched_store(rt: &HostRuntime, store: FileStore, watched: bool, times: u64) 
         return Watched::over(store, None);
     }
     let total = bytes_of(rt.alloc(), &mut store).saturating_mul(times);
+    // (what couldn't be counted is no refusal)
+    store.note(Trouble::none());
     Watched::over(store, Meter::new(rt, Some(total)))
 }
 

@@ -3,7 +3,7 @@
 use std::alloc::Global;
 use std::io::Write;
 use std::time::Instant;
-use store::{Store, StoreError};
+use store::{Store, StoreError, Trouble};
 
 /// A folder, and whether somebody watches what is done with it.
 #[derive(Clone, Copy)]
@@ -124,6 +124,10 @@ impl<S: Store> Store for Watched<S> {
         self.inner.failures()
     }
 
+    fn write_failures(&self) -> u64 {
+        self.inner.write_failures()
+    }
+
     fn list(&mut self, alloc: Global) -> Result<Vec<String>, StoreError> {
         self.inner.list(alloc)
     }
@@ -176,5 +180,13 @@ impl<S: Store> Store for Watched<S> {
 
     fn unlock(&mut self) -> Result<(), StoreError> {
         self.inner.unlock()
+    }
+
+    fn note(&mut self, trouble: Trouble) {
+        self.inner.note(trouble);
+    }
+
+    fn noted(&self) -> Trouble {
+        self.inner.noted()
     }
 }

@@ -1,9 +1,11 @@
 // What is said on standard error of refusals, as they are answered.
 
 use crate::saying::{say_how_to_see, say_of_directory, say_of_line, say_of_misread};
+use crate::why::say_why;
 use coding::DbError;
 use script::{Listener, Refusal};
 use std::io::Write;
+use store::Trouble;
 
 /// Says why what was asked for was refused: of a line of a script where a file, the disk or the line itself is the cause, and of whatever
 /// no line asked for. Any other refusal of a line says all by its name.
@@ -13,6 +15,8 @@ pub struct Telling<'a, F> {
     faults: &'a mut F,
     // whether a file was refused
     damaged: bool,
+    // the number of the last note that was said, or wasn't of a refusal's kind
+    count: u64,
 }
 
 impl<'a, F: Write> Telling<'a, F> {
@@ -22,6 +26,7 @@ impl<'a, F: Write> Telling<'a, F> {
             folder,
             faults,
             damaged: false,
+            count: 0,
         }
     }
 
@@ -35,12 +40,18 @@ impl<'a, F: Write> Telling<'a, F> {
 }
 
 impl<F: Write> Listener for Telling<'_, F> {
-    fn refused(&mut self, refusal: &Refusal) {
+    fn refused(&mut self, refusal: &Refusal, noted: Trouble) {
         self.damaged = self.damaged || is_of_a_file(refusal.error);
+        let folder = self.folder;
         match refusal.line {
-            None => say_of_directory(self.faults, self.folder, refusal.error),
+            None => say_of_directory(self.faults, folder, refusal.error),
             Some(line) => tell_line(self.faults, line, refusal),
         }
+        // a note that was there before is of an earlier refusal
+        let is_new = noted.count != self.count;
+        self.count = noted.count;
+        let latest = if is_new { noted } else { Trouble::none() };
+        say_why(self.faults, folder, refusal.error, latest);
     }
 }
 

@@ -20,6 +20,8 @@ use Rattle.version_get.specs.Gets.{TableHasEntries, TableHasNoEntries, SaysOfTab
 use Rattle.version_laws.specs.Laws.{IsSearchedUpTo, IsStep}
 use Rattle.version_laws.specs.Places.{HasVersion}
 use Rattle.version_laws.proofs.Walking.{step, found, ended}
+use Rattle.version_laws.proofs.TableKeys.{first_kept, last_kept}
+use Rattle.table_access.specs.Ends.{HasKeysOf}
 use Rattle.table_access.specs.Tables.{Seen, Carries, HasSoundTable as HasFileOf, Only, SaysOf}
 use Rattle.table_access.specs.Values.{HasValue, IsLookUp, IsNoTable, IsTablePastLimit}
 use Rattle.table_access.specs.TableLaws.{carries_both, carries_itself, carries_more}
@@ -34,7 +36,7 @@ answer_is : (entries : List Entry) (key : List ℕ) (sequence : ℕ) (value : Op
 answer_is entries key sequence None h = h
 answer_is entries key sequence (Some value) h = h
 
-module _ (order : Order) (old new : Seen) (placed : PlacedTable) where
+module _ (order : Order) (total : IsTotalOrder order.cmp) (old new : Seen) (placed : PlacedTable) where
   file_of : (entries : List Entry) (has : TableHasEntries order old placed entries) → HasFileOf order.cmp old placed.table.number has.1.bytes
   file_of entries has = record { sound = has.0; file_is = has.1.there }
 
@@ -43,13 +45,16 @@ module _ (order : Order) (old new : Seen) (placed : PlacedTable) where
       let kept = has.1.spelled in
       subst (λ (es : List Entry). IsAnswer es sequence key value) (sym kept.2) (answer_is (map entry_of kept.0) key sequence value (says t has.1.bytes (file_of entries has) kept.0 kept.1))
 
-  pub not_table : (e : DbError) → Refuses e old.facts new.facts ((file : List ℕ) → HasFileOf order.cmp old placed.table.number file → IsNoTable order.cmp file) ((file : List ℕ) → HasFileOf order.cmp old placed.table.number file → IsTablePastLimit order.cmp file)
+  keys_of : (entries : List Entry) (has : TableHasEntries order old placed entries) → HasKeysOf placed has.1.spelled.0
+  keys_of entries has = record { first = first_kept order total old.facts.files (content_of placed entries) has.1; last = last_kept order total old.facts.files (content_of placed entries) has.1 }
+
+  pub not_table : (e : DbError) → Refuses e old.facts new.facts ((file : List ℕ) → HasFileOf order.cmp old placed.table.number file → IsNoTable order.cmp placed file) ((file : List ℕ) → HasFileOf order.cmp old placed.table.number file → IsTablePastLimit order.cmp file)
       → Refuses e old.facts new.facts (TableHasNoEntries order old placed) (IsOnlyTooLong order old placed)
   not_table OutOfMemory h = h
   not_table Io h = h
-  not_table (Corrupt kind what) h = λ t entries has. h t has.1.bytes (file_of entries has) has.1.spelled.0 has.1.spelled.1
+  not_table (Corrupt kind what) h = λ t entries has. h t has.1.bytes (file_of entries has) has.1.spelled.0 has.1.spelled.1 (keys_of entries has)
   not_table (Unsupported what) h = λ t. elim (h t) [
-    | inl none ↦ inl (λ entries has. none has.1.bytes (file_of entries has) has.1.spelled.0 has.1.spelled.1)
+    | inl none ↦ inl (λ entries has. none has.1.bytes (file_of entries has) has.1.spelled.0 has.1.spelled.1 (keys_of entries has))
     | inr past ↦ inr (λ entries has. (has.1.bytes, has.1.there, past has.1.bytes (file_of entries has)))
   ]
   not_table e h = absurd h

@@ -3,8 +3,9 @@
 ghost use Rattle.std.specs.Prelude.{◌≡◌, ◌<◌, ◌^◌, ◌+◌, length, IfOk, IfErr};
 ghost use Rattle.cursor.specs.Moves.{Refuses};
 ghost use Rattle.ikey.specs.Orders.{order_of};
-ghost use Rattle.version_get.specs.Gets.{TableHasNoEntries, HasNoTablesOf, IsOneTooLong, IsOnlyTooLong, SaysOfAll, SaysOfTable};
+ghost use Rattle.version_get.specs.Gets.{TableHasNoEntries, HasNoTablesOf, IsOneTooLong, IsOnlyTooLong, SaysOfAll, SaysOfTable, TableTears, TableTells, TablesTear, TablesTell};
 ghost use Rattle.table_access.specs.Tables.{Carries, Only, seen_through};
+ghost use Rattle.table_access.specs.Telling.{IfCorrupt};
 ghost use Rattle.table.specs.Reading.{IsStill};
 ghost use Rattle.versions.specs.Levels.{HasNumber};
 
@@ -32,6 +33,12 @@ pub fn value_in_tables<K: KeyOrder, S: Store>(
         (seen_through S.facts source.new) }
     ensures found { IfOk result (λ value. SaysOfAll (order_of K.name K.cmp) (seen_through S.facts source.old) (seen_through S.facts source.new)
         version.now.tables key.now sequence value) }
+    // Whatever their files hold beside: the first of the tables that tells anything of the key, in the order of the search, tells this.
+    ensures told { IfOk result (λ value. TablesTell K.cmp (seen_through S.facts source.old) (seen_through S.facts source.new)
+        version.now.tables key.now sequence value) }
+    // Corrupt only over a table that the search comes to, and in it over its frame or over a block that the search comes to.
+    ensures torn { IfErr result (λ e. IfCorrupt e (TablesTear K.cmp (seen_through S.facts source.old) (seen_through S.facts source.new)
+        version.now.tables key.now sequence)) }
     ensures still { IsStill (S.facts source.old.store) (S.facts source.new.store) result }
     ensures refused { IfErr result (λ e. Refuses e (S.facts source.old.store) (S.facts source.new.store)
         (HasNoTablesOf (order_of K.name K.cmp) (seen_through S.facts source.old) version.now.tables)
@@ -73,16 +80,19 @@ fn value_in_table<K: KeyOrder, S: Store>(
     ensures carries { Carries K.cmp (Only placed.now.table.number) (seen_through S.facts source.old) (seen_through S.facts source.new) }
     ensures found { IfOk result (λ value. SaysOfTable (order_of K.name K.cmp) (seen_through S.facts source.old) (seen_through S.facts source.new)
         placed.now key.now sequence value) }
+    ensures told { IfOk result (λ value. TableTells K.cmp (seen_through S.facts source.old) (seen_through S.facts source.new)
+        key.now sequence placed.now value) }
+    ensures torn { IfErr result (λ e. IfCorrupt e (TableTears K.cmp (seen_through S.facts source.old) (seen_through S.facts source.new)
+        key.now sequence placed.now)) }
     ensures still { IsStill (S.facts source.old.store) (S.facts source.new.store) result }
     ensures refused { IfErr result (λ e. Refuses e (S.facts source.old.store) (S.facts source.new.store)
         (TableHasNoEntries (order_of K.name K.cmp) (seen_through S.facts source.old) placed.now)
         (IsOnlyTooLong (order_of K.name K.cmp) (seen_through S.facts source.old) placed.now)) }
 {
-    let number = placed.table.number;
     // No file has the number 0, and the caches aren't asked for it.
-    if number == 0 {
+    if placed.table.number == 0 {
         return Err(DbError::Corrupt(FileKind::Table, Damage::Missing));
     }
-    let value = table_value(alloc, source, number, key, sequence)?;
+    let value = table_value(alloc, source, placed, key, sequence)?;
     Ok(value)
 }

@@ -4,3 +4,4 @@ pub mod Levels
 pub mod Walking
 pub mod Memory
 pub mod Version
+pub mod TableKeys

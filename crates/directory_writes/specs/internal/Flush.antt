@@ -185,6 +185,11 @@ FlushMeans order old new next after plan manifest entries tables d sealed curren
 FlushMeans order old new next after plan manifest entries tables d sealed current (Err (Before e)) = (IsCorrupt e → ⊥) × IsUnflushed order old new after plan manifest entries tables d sealed current
 FlushMeans order old new next after plan manifest entries tables d sealed current (Err Edit) = MayBeFlushed order old new next after entries d sealed current
 
+-- A stop in its middle leaves what a failure of the device at the edit does.
+abbrev pub FlushMayLeave : Order → Files → ℕ → ℕ → FlushPlan → CurrentManifest → List Entry → List PlacedTable → Files → Type 0
+FlushMayLeave order old next after plan manifest entries tables new = (d : Directory) (sealed : List LogContent) (current : LogContent)
+    → CanFlush order old next plan manifest entries tables d sealed current → MayBeFlushed order old new next after entries d sealed current
+
 -- What a flush leaves of a directory, while the store is faithful.
 abbrev pub FlushLeaves : {K : Type 0} → Order → Facts → Facts → ℕ → ℕ → FlushPlan → CurrentManifest → List Entry → List PlacedTable → Result (Flushed K) FlushError → Type 0
 FlushLeaves order old new next after plan manifest entries tables result = IsTrue new.faithful → (d : Directory) (sealed : List LogContent) (current : LogContent)

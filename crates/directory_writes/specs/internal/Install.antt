@@ -175,6 +175,11 @@ InstallMeans order deep job old new next manifest tables came d inputs rest (Ok 
 InstallMeans order deep job old new next manifest tables came d inputs rest (Err (Before e)) = (IsCorrupt e → ⊥) × IsUninstalled order old new next manifest tables d
 InstallMeans order deep job old new next manifest tables came d inputs rest (Err Edit) = MayBeInstalled order deep job.plan.output_level job.selection.snapshots old new next came d inputs rest
 
+-- A stop in its middle leaves what a failure of the device at the edit does.
+abbrev pub InstallMayLeave : {K C : Type 0} → Order → Job K C → Facts → ℕ → ℕ → CurrentManifest → List PlacedTable → Files → Type 0
+InstallMayLeave order job old next last_sequence manifest tables new = (deep : List ℕ → Bool) (came : List InternalEntry) (d : Directory) (inputs rest : List TableContent)
+    → CanInstall order deep job old next last_sequence manifest tables came d inputs rest → MayBeInstalled order deep job.plan.output_level job.selection.snapshots old.files new next came d inputs rest
+
 -- What the end of a job leaves of a directory, while the store is faithful.
 abbrev pub InstallLeaves : {K C : Type 0} → Order → Job K C → Facts → Facts → ℕ → ℕ → CurrentManifest → List PlacedTable → Result (Installed K) FlushError → Type 0
 InstallLeaves order job old new next last_sequence manifest tables result =

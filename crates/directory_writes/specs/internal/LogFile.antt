@@ -34,6 +34,10 @@ pub record HasNewLog (order : Order) (files : Files) (d : Directory) (number : �
   pub ends : EndsAt files (with_log d number) number 0
   pub entries : logged (with_log d number).logs ≡ logged d.logs
 
+-- It is the same directory, or has an empty log of this number behind the others.
+abbrev pub MayHaveLog : Order → Files → ℕ → Files → Type 0
+MayHaveLog order old number new = (d : Directory) → IsConsistent order old d → IsFree order old number → IsConsistent order new d ⊎ HasNewLog order new d number
+
 -- An empty log of this number is there; or, where the device fails, perhaps. The MANIFEST stays, and no number from
 -- `after` on is taken.
 pub record BeginsLog {T : Type 0} (order : Order) (old new : Facts) (number after : ℕ) (result : Result T DbError) : Type 0 where

@@ -18,7 +18,11 @@ use Rattle.recover.specs.internal.Changes.{ManifestEndsAt}
 use Rattle.recover.specs.Numbers.{IsFree}
 use Rattle.directory_writes.specs.internal.Calls.{LeavesFile}
 use Rattle.directory_writes.specs.declared.removal.Removal.{Removal}
-use Rattle.directory_writes.specs.Removal.{IsDead}
+use Rattle.directory_writes.specs.Removal.{HasBoth, IsDead}
+
+-- each file is as before, or isn't live and is gone
+abbrev pub LosesOnly : Files → (FileName → Type 0) → Files → Type 0
+LosesOnly old live new = (name : List ℕ) → (get new name ≡ get old name) ⊎ (IsDead live name × (get new name ≡ None))
 
 -- A file is as before, or isn't live and is gone. Where the removal is complete, none of these names is that of a file that is
 -- there and isn't live; and it is complete exactly where the store didn't fail.
@@ -43,16 +47,21 @@ LeavesFew old new live waits listed = IsTrue new.faithful → (left : List (List
     × ((file : FileName) → IsFileName file → listed (name_of file)
     → live file ⊎ (get new.files (name_of file) ≡ None) ⊎ Contains left (name_of file) ⊎ (waits file × (old.failures < new.failures)))
 
--- The files of a table, by both names, are as before; or it isn't in use, and reads as before or is gone.
+-- the table isn't in use, or has a file under both names: then one of its files may go
+abbrev pub MayLose : Files → (ℕ → Type 0) → ℕ → Type 0
+MayLose files in_use n = (in_use n → ⊥) ⊎ HasBoth files n
+
+-- The files of a table, by both names, are as before; or it isn't in use, and reads as before or is gone; or it had both, and that with the
+-- newer name is as before, so that it reads as before.
 abbrev pub KeepsTable : Facts → Facts → (ℕ → Type 0) → ℕ → Type 0
 KeepsTable old new in_use n =
-    (LeavesFile old new (name_of (Table n)) × LeavesFile old new (name_of (OldTable n)))
+    ((get new.files (name_of (Table n)) ≡ get old.files (name_of (Table n))) × (get new.files (name_of (OldTable n)) ≡ get old.files (name_of (OldTable n))))
     ⊎ ((in_use n → ⊥) × ((table_at new.files n ≡ table_at old.files n) ⊎ (table_at new.files n ≡ None)))
+    ⊎ (HasBoth old.files n × (get new.files (name_of (Table n)) ≡ get old.files (name_of (Table n))) × (table_at new.files n ≡ table_at old.files n))
 
--- The tables of these numbers aren't in use, and they are all such that were there.
-pub record ListsUnused (old new : Facts) (in_use : ℕ → Type 0) (numbers : List ℕ) : Type 0 where
-  pub unused : (n : ℕ) → Contains numbers n → in_use n → ⊥
-  pub all : IsTrue new.faithful → (n : ℕ) → IsNumbered n → (in_use n → ⊥) → IsSome (table_at old.files n) → Contains numbers n
+-- They are the numbers of all tables that were there and of which a file may go.
+abbrev pub ListsToClose : Facts → Facts → (ℕ → Type 0) → List ℕ → Type 0
+ListsToClose old new in_use numbers = IsTrue new.faithful → (n : ℕ) → IsNumbered n → MayLose old.files in_use n → IsSome (table_at old.files n) → Contains numbers n
 
 -- Why the files aren't listed.
 abbrev pub RefusesList : DbError → Facts → Facts → Type 0
@@ -64,6 +73,11 @@ RefusesList e old new = ⊥
 abbrev pub older_number : FileName → Option ℕ
 older_number (OldTable n) = Some n
 older_number file = None
+
+-- and by its newer one
+abbrev pub newer_number : FileName → Option ℕ
+newer_number (Table n) = Some n
+newer_number file = None
 
 -- the same by either name
 abbrev pub table_number : FileName → Option ℕ
@@ -79,10 +93,13 @@ AreOlder names numbers = (n : ℕ) → IsNumbered n → Contains numbers n ↔ C
 abbrev pub IsListed : List (List ℕ) → ℕ → Type 0
 IsListed names n = Contains names (name_of (Table n)) ⊎ Contains names (name_of (OldTable n))
 
--- the tables of these numbers aren't in use, and all such that are listed are among them
-pub record AreUnused (in_use : ℕ → Type 0) (names : List (List ℕ)) (numbers : List ℕ) : Type 0 where
-  pub unused : (n : ℕ) → Contains numbers n → in_use n → ⊥
-  pub all : (n : ℕ) → IsNumbered n → (in_use n → ⊥) → IsListed names n → Contains numbers n
+-- the numbers are those of the tables of which the newer name is one of these, and that have the older one
+abbrev pub AreBoth : List ℕ → List (List ℕ) → List ℕ → Type 0
+AreBoth older names numbers = (n : ℕ) → IsNumbered n → Contains numbers n ↔ (Contains names (name_of (Table n)) × Contains older n)
+
+-- all tables that are listed, and aren't in use or are among those, are among the numbers
+abbrev pub AreToClose : (ℕ → Type 0) → List ℕ → List (List ℕ) → List ℕ → Type 0
+AreToClose in_use both names numbers = (n : ℕ) → IsNumbered n → (in_use n → ⊥) ⊎ Contains both n → IsListed names n → Contains numbers n
 
 -- the file is the newer one of a table that has two
 abbrev pub HasTwo : (ℕ → Type 0) → FileName → Type 0
@@ -117,3 +134,7 @@ pub record KeepsParts (order : Order) (old new : Files) (in_use : ℕ → Type 0
   pub manifest : (position : ℕ) (edits : List (List Field)) (layout : Layout) → ManifestEndsAt order old d.manifest position edits layout → ManifestEndsAt order new d.manifest position edits layout
   pub tables : (number : ℕ) → IsNumbered number → in_use number → table_at new number ≡ table_at old number
   pub free : (n : ℕ) → IsFree order old n → IsFree order new n
+
+-- a directory of which these are the numbers and the tables in use stays one
+abbrev pub StaysConsistent : LiveNumbers → (ℕ → Type 0) → Files → Files → Type 0
+StaysConsistent numbers in_use old new = (order : Order) (d : Directory) → IsConsistent order old d → AreOfDirectory numbers in_use d → IsConsistent order new d

@@ -2,6 +2,7 @@
 use Rattle.std.specs.Prelude.{◌≡◌, ◌≤◌, ◌+◌, ℕ, false, MatchOption, Result, Ok, Err, max}
 use Rattle.coding.specs.declared.error.DbError.{DbError}
 use Rattle.running_job.specs.Running.{shown}
+use Rattle.store.specs.Calls.{FailsNoWrite}
 use Rattle.store.specs.Files.{Facts}
 use Rattle.engine.specs.OpenDb.{OpenDb}
 use Rattle.machine.specs.Machine.{Machine, entry_count}
@@ -11,6 +12,7 @@ use Rattle.engine.specs.internal.Pieces.{IsPiece}
 -- What a step of a compaction leaves that is done: no call of the store failed, and the database serves on.
 pub record ServesOn {K : Type 0} {g : _} (old new : Facts) (before after : OpenDb K g) : Type 0 where
   pub stood : new.failures ≡ old.failures
+  pub unwritten : FailsNoWrite old new
   pub undenied : new.denials ≡ old.denials
   pub locked : new.locked ≡ old.locked
   pub whole : after.broken ≡ false

@@ -1,5 +1,5 @@
 -- What a piece of work does to the machine.
-use Rattle.std.specs.Prelude.{◌≡◌, ◌≤◌, ℕ, Bool, true, if◌then◌else◌, List, Contains, Result, MatchResult}
+use Rattle.std.specs.Prelude.{◌≡◌, ◌≤◌, ℕ, Bool, true, false, if◌then◌else◌, List, Contains, Result, MatchResult}
 use Rattle.cache.specs.Tables.{KeptTable}
 use Rattle.coding.specs.declared.error.DbError.{DbError}
 use Rattle.coding.specs.declared.error.DbError.TheVariants as error
@@ -45,6 +45,16 @@ flush_answer Edit = error.Io
 abbrev pub broken_by : {K : Type 0} {g : _} → DbState K g → DbError → DbState K g
 broken_by state error.Io = record state { broken = true }
 broken_by state _ = state
+
+-- How a refusal is answered, and what it leaves: as it is, where it is so that no write of the store failed meanwhile; and else with Io, and
+-- the database is broken.
+abbrev pub settled_as : Bool → DbError → DbError
+settled_as true e = e
+settled_as false e = error.Io
+
+abbrev pub settled_by : {K : Type 0} {g : _} → Bool → DbState K g → DbState K g
+settled_by true state = state
+settled_by false state = record state { broken = true }
 
 -- Nothing more is kept, and nothing under these numbers.
 pub record ClosesTables (old new : List KeptTable) (numbers : List ℕ) : Type 0 where

@@ -54,7 +54,7 @@ const SECOND_ENTRY: [u8; 176] = [
 
 // Log number 3, next file number 8, last sequence 2; in level 0 the tables 5 and 7, of one entry each. Their blocks lie at offset 0.
 #[rattlefmt::skip]
-const LEVEL_ZERO: Files<'static> = &[
+pub const LEVEL_ZERO: Files<'static> = &[
     ("CURRENT", b"MANIFEST-000002\n"),
     ("MANIFEST-000002", b"K\xd5\x01\xb48\x00\x01\x02\x03\x03\x08\x04\x02\x07\x00\x05\xb0\x01\x09a\x01\x01\x00\x00\x00\x00\x00\x00\x09a\x01\x01\x00\x00\x00\x00\x00\x00\x07\x00\x07\xb0\x01\x09b\x01\x02\x00\x00\x00\x00\x00\x00\x09b\x01\x02\x00\x00\x00\x00\x00\x00"),
     ("000003.log", b""),

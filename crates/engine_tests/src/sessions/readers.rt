@@ -38,6 +38,10 @@ impl Store for Untouched {
         self.inner.failures()
     }
 
+    fn write_failures(&self) -> u64 {
+        self.inner.write_failures()
+    }
+
     fn list(&mut self, alloc: Global) -> Result<Vec<String>, StoreError> {
         self.inner.list(alloc)
     }
@@ -58,22 +62,22 @@ impl Store for Untouched {
 
     fn create(&mut self, _name: &str) -> Result<(), StoreError> {
         self.count();
-        self.inner.remove("")
+        self.inner.sync("")
     }
 
     fn append(&mut self, _name: &str, _bytes: &[u8]) -> Result<(), StoreError> {
         self.count();
-        self.inner.remove("")
+        self.inner.sync("")
     }
 
     fn sync(&mut self, _name: &str) -> Result<(), StoreError> {
         self.count();
-        self.inner.remove("")
+        self.inner.sync("")
     }
 
     fn rename(&mut self, _from: &str, _to: &str) -> Result<(), StoreError> {
         self.count();
-        self.inner.remove("")
+        self.inner.sync("")
     }
 
     fn remove(&mut self, _name: &str) -> Result<(), StoreError> {

@@ -6,7 +6,7 @@ use ikey::Bytewise;
 use reader::ReadOnly;
 use script::{Importing, Listener, Misread, Refusal, Wanted, Way, compact, drive_in, import};
 use std::alloc::Global;
-use store::MemStore;
+use store::{MemStore, Trouble};
 
 // How many refusals were told, and the last one.
 #[derive(Drop)]
@@ -16,7 +16,7 @@ struct Heard {
 }
 
 impl Listener for Heard {
-    fn refused(&mut self, refusal: &Refusal) {
+    fn refused(&mut self, refusal: &Refusal, _noted: Trouble) {
         self.count = self.count.saturating_add(1);
         self.last = Some(*refusal);
     }

@@ -7,6 +7,7 @@ use Rattle.coding.specs.declared.error.DbError.TheVariants as error
 use Rattle.coding.specs.declared.error.FileKind.{FileKind}
 use Rattle.coding.specs.declared.error.ReadError.{ReadError}
 use Rattle.coding.specs.declared.error.ReadError.TheVariants as read_error
+use Rattle.store.specs.Calls.{FailsNoWrite, KeepsCalls}
 use Rattle.store.specs.Files.{Facts, Files}
 use Rattle.ikey.specs.Orders.{Order}
 use Rattle.logfile.specs.Log.{IsLog}
@@ -30,14 +31,16 @@ use Rattle.recover.specs.declared.overview.LogLength.{LogLength}
 
 -- ---- the store
 
--- no file has changed, as far as the store is faithful
+-- no file has changed, as far as the store is faithful, nor did a call that changes something
 pub record IsUnchanged (old new : Facts) : Type 0 where
   pub faithful : IsTrue new.faithful → IsTrue old.faithful
   pub failures : old.failures ≤ new.failures
+  pub writes : FailsNoWrite old new
   pub denials : new.denials ≡ old.denials
   pub locked : new.locked ≡ old.locked
   pub same : IsTrue new.faithful → new.files ≡ old.files
   pub synced : IsTrue new.faithful → new.synced ≡ old.synced
+  pub calls : KeepsCalls old new
 
 -- ---- refusals
 

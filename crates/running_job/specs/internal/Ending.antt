@@ -9,12 +9,12 @@ use Rattle.running_job.specs.declared.open_job.OpenJob.{OpenJob}
 use Rattle.running_job.specs.Running.{IsRunning, deep_of}
 use Rattle.recover.specs.Directory.{Directory, used_in}
 use Rattle.db_cursor.specs.Whole.{Whole}
-use Rattle.store.specs.Files.{Facts}
+use Rattle.store.specs.Files.{Facts, Files}
 use Rattle.directory_writes.specs.declared.flush.FlushError.{FlushError}
 use Rattle.directory_writes.specs.declared.flush.FlushError.TheVariants.{Before, Edit}
 use Rattle.directory_writes.specs.declared.install.Installed.{Installed}
 use Rattle.directory_writes.specs.declared.manifest.CurrentManifest.{CurrentManifest}
-use Rattle.directory_writes.specs.internal.Install.{InstallMeans, IsServed}
+use Rattle.directory_writes.specs.internal.Install.{InstallMeans, IsServed, MayBeInstalled}
 
 -- The directory is served by these parts, and all entries of the inputs came to the job that is under way over it.
 pub record CanEnd {K : Type 0} {g : _} (order : Order) (whole : Whole) (next last_sequence : ℕ) (manifest : CurrentManifest) (tables : List PlacedTable) (d : Directory) (work : OpenJob K g) (came : List InternalEntry) : Type 0 where
@@ -27,6 +27,12 @@ abbrev pub EndLeaves : {K : Type 0} {g : _} → Order → Facts → Facts → �
 EndLeaves order old new next last_sequence manifest tables work result =
     IsTrue new.faithful → (whole : Whole) (d : Directory) (came : List InternalEntry) → whole.seen.facts ≡ old → (can : CanEnd order whole next last_sequence manifest tables d work came)
     → InstallMeans order (deep_of order.cmp work) work.job old.files new.files next manifest tables came d can.running.inputs can.running.rest result
+
+-- A stop in its middle leaves what a failure of the device at the edit does.
+abbrev pub EndMayLeave : {K : Type 0} {g : _} → Order → Facts → ℕ → ℕ → CurrentManifest → List PlacedTable → OpenJob K g → Files → Type 0
+EndMayLeave order old next last_sequence manifest tables work new =
+    (whole : Whole) (d : Directory) (came : List InternalEntry) → whole.seen.facts ≡ old → (can : CanEnd order whole next last_sequence manifest tables d work came)
+    → MayBeInstalled order (deep_of order.cmp work) work.job.plan.output_level work.job.selection.snapshots old.files new next came d can.running.inputs can.running.rest
 
 -- Why it isn't ended: out of memory, while no call of the store failed; since the store failed; never as Corrupt over such a
 -- directory; as Unsupported only where the inputs' entries are large; or where numbers are above 2^62.

@@ -10,7 +10,8 @@ use Rattle.ikey.specs.Orders.{Order}
 use Rattle.running_job.specs.declared.open_job.OpenJob.{OpenJob}
 use Rattle.running_job.specs.Running.{IsRunning, goes_over, CanStep}
 use Rattle.memtables.specs.Places.{LeavesMemories}
-use Rattle.recover.specs.Directory.{Directory}
+use Rattle.recover.specs.Directory.{Directory, IsConsistent}
+use Rattle.store.specs.Stops.{LeavesOnly}
 use Rattle.db_cursor.specs.Scans.{IsOnePastLimit}
 use Rattle.db_cursor.specs.Whole.{Whole}
 use Rattle.table_access.specs.Tables.{IsSound, KeepsOf}
@@ -36,6 +37,11 @@ pub record StepKeeps {K : Type 0} {g : _} (order : Order) (old new : Whole) (nex
 abbrev pub KeepsDirectory : {K : Type 0} {g : _} → Order → Whole → Whole → ℕ → ℕ → OpenJob K g → Type 0
 KeepsDirectory order old new next more before = IsTrue new.seen.facts.faithful → (d : Directory) (came left : List InternalEntry)
     → CanStep order old next d before came left → StepKeeps order old new next more before d
+
+-- A stop in its middle leaves the directory, too.
+abbrev pub StepStops : {K : Type 0} {g : _} → Order → Whole → Whole → ℕ → OpenJob K g → Type 0
+StepStops order old new next before = IsTrue new.seen.facts.faithful → (d : Directory) (came left : List InternalEntry)
+    → CanStep order old next d before came left → LeavesOnly old.seen.facts new.seen.facts (λ files. IsConsistent order files d)
 
 -- The job goes on: so many of the entries that were left came.
 abbrev pub GoesOn : {K : Type 0} {g : _} → Order → Whole → Whole → ℕ → ℕ → ℕ → OpenJob K g → OpenJob K g → Progress → Type 0

@@ -7,7 +7,7 @@ pub returns-in_default-clause-prints : goal.returns-in_default-clause-prints
 returns-in_default-clause-prints g c = prints_none (order_of g.K.KeyOrder.name g.K.KeyOrder.cmp) g.S.Store.facts c.args.choice.now c.args.reader.now (g.W.Write.contents c.args.writer.now) c.args.text.now.items
 
 pub returns-in_default-clause-reads : goal.returns-in_default-clause-reads
-returns-in_default-clause-reads g c = record { faithful = λ f. f; files = λ f. refl; failures = omega arith; denials = refl; locked = refl; synced = λ f. refl }
+returns-in_default-clause-reads g c = record { faithful = λ f. f; files = λ f. refl; failures = omega arith; writes = refl; denials = refl; locked = refl; synced = λ f. refl; calls = λ f. refl }
 
 pub returns-clause-prints : goal.returns-clause-prints
 returns-clause-prints g c =

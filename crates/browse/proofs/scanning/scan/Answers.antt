@@ -32,5 +32,5 @@ returns-in-Err-clause-told g c =
     let order = order_of g.K.KeyOrder.name g.K.KeyOrder.cmp in
     let facts = g.S.Store.facts in
     let contents = g.W.Write.contents in
-    refused_so c.tell_refusal.result order c.in-Err.error (looked_at facts c.args.store) (looked_at facts c.in-Err.store) c.args.choice.now (contents c.args.writer.now) (contents c.tell_refusal.new.writer)
-    c.in-Err.ensures.refused c.in-Err.ensures.counted c.tell_refusal.ensures.written c.tell_refusal.ensures.ended
+    refused_so c.print_refusal.result order c.in-Err.error (looked_at facts c.args.store) (looked_at facts c.in-Err.store) c.args.choice.now (contents c.args.writer.now) (contents c.print_refusal.new.writer)
+    c.in-Err.ensures.refused c.in-Err.ensures.counted c.print_refusal.ensures.written c.print_refusal.ensures.ended

@@ -1,5 +1,6 @@
-use Rattle.std.proofs.Common.{Err}
+use Rattle.std.proofs.Common.{Err, arith}
 use Rattle.directory_writes.proofs.StoreCalls.{not_appended, not_synced, appended}
+use Rattle.store.proofs.Stopping.{append_left, sync_left}
 use Rattle.directory_writes.proofs.calls.append_synced.Goals as goal
 
 pub returns-in-Err-clause-appends : goal.returns-in-Err-clause-appends
@@ -17,3 +18,28 @@ pub returns-clause-appends : goal.returns-clause-appends
 returns-clause-appends g c =
     appended (g.S.Store.facts c.args.store.now) (g.S.Store.facts c.append.new.self) (g.S.Store.facts c.sync.new.self) c.args.name.now c.args.bytes.now
     c.in_default-sync.ensures.counts.faithful c.in_default.ensures.files.ok c.append.ensures.synced c.sync.ensures.same c.in_default-sync.ensures.synced
+
+pub returns-in-Err-sync-clause-fails : goal.returns-in-Err-sync-clause-fails
+returns-in-Err-sync-clause-fails g c = omega (arith, c.append.ensures.writes, c.sync.ensures.writes)
+
+pub returns-clause-fails : goal.returns-clause-fails
+returns-clause-fails g c = omega (arith, c.append.ensures.writes, c.sync.ensures.writes)
+
+pub returns-in-Err-clause-stops : goal.returns-in-Err-clause-stops
+returns-in-Err-clause-stops g c f = append_left (g.S.Store.facts c.args.store.now) (g.S.Store.facts c.append.new.self) c.args.name.now c.args.bytes.now (c.append.ensures.calls.noted f)
+
+pub returns-in-Err-sync-clause-stops : goal.returns-in-Err-sync-clause-stops
+returns-in-Err-sync-clause-stops g c f =
+    let old = g.S.Store.facts c.args.store.now in
+    let mid = g.S.Store.facts c.append.new.self in
+    let new = g.S.Store.facts c.sync.new.self in
+    sync_left old mid new c.args.name.now _ c.sync.result (c.sync.ensures.calls.ok f) (c.sync.ensures.calls.err f) (c.sync.ensures.same f)
+    (append_left old mid c.args.name.now c.args.bytes.now (c.append.ensures.calls.noted (c.sync.ensures.counts.faithful f)))
+
+pub returns-clause-stops : goal.returns-clause-stops
+returns-clause-stops g c f =
+    let old = g.S.Store.facts c.args.store.now in
+    let mid = g.S.Store.facts c.append.new.self in
+    let new = g.S.Store.facts c.sync.new.self in
+    sync_left old mid new c.args.name.now _ c.sync.result (c.sync.ensures.calls.ok f) (c.sync.ensures.calls.err f) (c.sync.ensures.same f)
+    (append_left old mid c.args.name.now c.args.bytes.now (c.append.ensures.calls.noted (c.sync.ensures.counts.faithful f)))

@@ -1,5 +1,7 @@
 use Rattle.std.proofs.Common.{Err}
 use Rattle.directory_writes.proofs.StoreCalls.{created, not_created}
+use Rattle.store.specs.Files.{Creation}
+use Rattle.store.proofs.Stopping.{noted_left}
 use Rattle.directory_writes.proofs.calls.create_file.Goals as goal
 
 pub returns-in-Ok-clause-creates : goal.returns-in-Ok-clause-creates
@@ -10,3 +12,9 @@ pub returns-in-Err-clause-creates : goal.returns-in-Err-clause-creates
 returns-in-Err-clause-creates g c =
     not_created (g.S.Store.facts c.args.store.now) (g.S.Store.facts c.create.new.self) c.args.name.now c.in-Err.error c.refusal_of.result
     c.in-Err.ensures.files c.in-Err.ensures.synced c.refusal_of.ensures (λ e. c.in-Err.ensures.missing (λ i. Err (e i)))
+
+pub returns-in-Ok-clause-stops : goal.returns-in-Ok-clause-stops
+returns-in-Ok-clause-stops g c f = noted_left (g.S.Store.facts c.args.store.now) (g.S.Store.facts c.create.new.self) (Creation c.args.name.now) (c.create.ensures.calls.noted f)
+
+pub returns-in-Err-clause-stops : goal.returns-in-Err-clause-stops
+returns-in-Err-clause-stops g c f = noted_left (g.S.Store.facts c.args.store.now) (g.S.Store.facts c.create.new.self) (Creation c.args.name.now) (c.create.ensures.calls.noted f)

@@ -1,10 +1,10 @@
-use Rattle.std.proofs.Common.{Err, sym, subst, string_bytes}
+use Rattle.std.proofs.Common.{Err, sym, subst, string_bytes, arith}
 use Rattle.ikey.specs.Orders.{order_of}
 use Rattle.edits.specs.Names.{name_of}
 use Rattle.edits.specs.declared.names.FileName.TheVariants.{Table}
 use Rattle.directory_writes.specs.internal.Flush.{FlushLeaves}
 use Rattle.directory_writes.specs.declared.flush.FlushError.{FlushError}
-use Rattle.directory_writes.proofs.Flushes.{touches_table, touches_both, syncs_both, leaves_none, leaves_ok, leaves_maybe}
+use Rattle.directory_writes.proofs.Flushes.{touches_table, touches_both, syncs_both, flush_stopped, leaves_none, leaves_ok, leaves_maybe, table_stopped}
 use Rattle.directory_writes.proofs.flush.flush_memory.Goals as goal
 
 pub returns-in-Err-clause-call : goal.returns-in-Err-clause-call
@@ -50,3 +50,30 @@ returns-in-Err-append_edit-clause-leaves g c =
     (leaves_maybe order (g.S.Store.facts c.args.store.now) c.args.numbers.now.next c.prepare.new.numbers.next c.args.plan c.args.manifest.now c.args.memory.now.inserts
     c.unread_law.ensures c.flush_law.ensures c.same_manifest_law.ensures (g.S.Store.facts c.prepare.new.store) (g.S.Store.facts c.append_edit.new.store) c.args.version.now c.in-Ok.prepared
     c.in-Ok.ensures.writes c.in-Err-append_edit.ensures.call p.0 p.1 p.2 p.3 p.4 c.in-Err-append_edit.error c.in-Err-append_edit.ensures.refused (c.in-Err-append_edit.ensures.appends order))
+
+pub returns-in-Ok-append_edit-clause-fails : goal.returns-in-Ok-append_edit-clause-fails
+returns-in-Ok-append_edit-clause-fails g c = omega (arith, c.in-Ok.ensures.writes.writes, c.in-Ok-append_edit.ensures.fails)
+
+pub returns-in-Err-append_edit-clause-fails : goal.returns-in-Err-append_edit-clause-fails
+returns-in-Err-append_edit-clause-fails g c = omega (arith, c.in-Ok.ensures.writes.writes, c.in-Err-append_edit.ensures.fails)
+
+pub returns-in-Err-clause-stops : goal.returns-in-Err-clause-stops
+returns-in-Err-clause-stops g c f =
+    table_stopped (order_of g.K.KeyOrder.name g.K.KeyOrder.cmp) (g.S.Store.facts c.args.store.now) c.args.numbers.now.next c.prepare.new.numbers.next c.args.plan c.args.manifest.now c.args.memory.now.inserts c.args.version.now.tables
+    c.unread_law.ensures (g.S.Store.facts c.prepare.new.store) c.in-Err.ensures.drawn (c.in-Err.ensures.writes.calls f)
+
+pub returns-in-Ok-append_edit-clause-stops : goal.returns-in-Ok-append_edit-clause-stops
+returns-in-Ok-append_edit-clause-stops g c f =
+    let order = order_of g.K.KeyOrder.name g.K.KeyOrder.cmp in
+    let p = c.in-Ok.ensures.prepares in
+    flush_stopped order (g.S.Store.facts c.args.store.now) c.args.numbers.now.next c.prepare.new.numbers.next c.args.plan c.args.manifest.now c.args.memory.now.inserts
+    c.unread_law.ensures c.flush_law.ensures c.same_manifest_law.ensures (g.S.Store.facts c.prepare.new.store) (g.S.Store.facts c.append_edit.new.store) c.args.version.now c.in-Ok.prepared
+    c.in-Ok.ensures.writes c.in-Ok.ensures.drawn c.in-Ok-append_edit.ensures.call p.0 p.1 p.2 p.3 p.4 (c.in-Ok-append_edit.ensures.stops f order) f
+
+pub returns-in-Err-append_edit-clause-stops : goal.returns-in-Err-append_edit-clause-stops
+returns-in-Err-append_edit-clause-stops g c f =
+    let order = order_of g.K.KeyOrder.name g.K.KeyOrder.cmp in
+    let p = c.in-Ok.ensures.prepares in
+    flush_stopped order (g.S.Store.facts c.args.store.now) c.args.numbers.now.next c.prepare.new.numbers.next c.args.plan c.args.manifest.now c.args.memory.now.inserts
+    c.unread_law.ensures c.flush_law.ensures c.same_manifest_law.ensures (g.S.Store.facts c.prepare.new.store) (g.S.Store.facts c.append_edit.new.store) c.args.version.now c.in-Ok.prepared
+    c.in-Ok.ensures.writes c.in-Ok.ensures.drawn c.in-Err-append_edit.ensures.call p.0 p.1 p.2 p.3 p.4 (c.in-Err-append_edit.ensures.stops f order) f

@@ -1,8 +1,8 @@
-use Rattle.std.proofs.Common.{Err, string_bytes, sym, subst}
+use Rattle.std.proofs.Common.{Err, string_bytes, sym, subst, arith}
 use Rattle.ikey.specs.Orders.{order_of}
 use Rattle.directory_writes.specs.internal.Install.{InstallLeaves}
 use Rattle.directory_writes.specs.declared.flush.FlushError.{FlushError}
-use Rattle.directory_writes.proofs.Installing.{touches_job, leaves_none, leaves_ok, leaves_maybe}
+use Rattle.directory_writes.proofs.Installing.{touches_job, install_stopped, leaves_none, leaves_ok, leaves_maybe, table_stopped}
 use Rattle.directory_writes.proofs.install.install_job.Goals as goal
 
 pub returns-in-Err-clause-leaves : goal.returns-in-Err-clause-leaves
@@ -36,3 +36,28 @@ returns-in-Err-append_edit-clause-leaves g c =
     (leaves_maybe order c.args.job c.args.numbers.now.next c.args.last_sequence c.args.numbers.now.in_range.1 c.requires.numbered (g.S.Store.facts c.args.store.now) (g.S.Store.facts c.prepare_job.new.store)
     c.in-Ok.ensures.writes c.args.manifest.now (g.S.Store.facts c.append_edit.new.store) c.in-Err-append_edit.ensures.call c.args.version.now c.in-Ok.prepared c.in-Ok.ensures.prepared
     c.same_manifest_law.ensures c.in-Err-append_edit.error c.in-Err-append_edit.ensures.refused (c.in-Err-append_edit.ensures.appends order))
+
+pub returns-in-Ok-append_edit-clause-fails : goal.returns-in-Ok-append_edit-clause-fails
+returns-in-Ok-append_edit-clause-fails g c = omega (arith, c.in-Ok.ensures.fails, c.in-Ok-append_edit.ensures.fails)
+
+pub returns-in-Err-append_edit-clause-fails : goal.returns-in-Err-append_edit-clause-fails
+returns-in-Err-append_edit-clause-fails g c = omega (arith, c.in-Ok.ensures.fails, c.in-Err-append_edit.ensures.fails)
+
+pub returns-in-Err-clause-stops : goal.returns-in-Err-clause-stops
+returns-in-Err-clause-stops g c f =
+    table_stopped (order_of g.K.KeyOrder.name g.K.KeyOrder.cmp) c.args.job c.args.numbers.now.next c.args.last_sequence c.args.numbers.now.in_range.1 c.requires.numbered (g.S.Store.facts c.args.store.now) (g.S.Store.facts c.prepare_job.new.store)
+    c.in-Err.ensures.writes c.args.manifest.now f c.args.version.now.tables
+
+pub returns-in-Ok-append_edit-clause-stops : goal.returns-in-Ok-append_edit-clause-stops
+returns-in-Ok-append_edit-clause-stops g c f =
+    let order = order_of g.K.KeyOrder.name g.K.KeyOrder.cmp in
+    install_stopped order c.args.job c.args.numbers.now.next c.args.last_sequence c.args.numbers.now.in_range.1 c.requires.numbered (g.S.Store.facts c.args.store.now) (g.S.Store.facts c.prepare_job.new.store)
+    c.in-Ok.ensures.writes c.args.manifest.now (c.in-Ok-append_edit.ensures.call.faithful f) c.same_manifest_law.ensures (g.S.Store.facts c.append_edit.new.store) c.args.version.now c.in-Ok.prepared c.in-Ok.ensures.prepared
+    (c.in-Ok-append_edit.ensures.stops f order)
+
+pub returns-in-Err-append_edit-clause-stops : goal.returns-in-Err-append_edit-clause-stops
+returns-in-Err-append_edit-clause-stops g c f =
+    let order = order_of g.K.KeyOrder.name g.K.KeyOrder.cmp in
+    install_stopped order c.args.job c.args.numbers.now.next c.args.last_sequence c.args.numbers.now.in_range.1 c.requires.numbered (g.S.Store.facts c.args.store.now) (g.S.Store.facts c.prepare_job.new.store)
+    c.in-Ok.ensures.writes c.args.manifest.now (c.in-Err-append_edit.ensures.call.faithful f) c.same_manifest_law.ensures (g.S.Store.facts c.append_edit.new.store) c.args.version.now c.in-Ok.prepared c.in-Ok.ensures.prepared
+    (c.in-Err-append_edit.ensures.stops f order)

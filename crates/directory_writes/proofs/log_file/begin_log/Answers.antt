@@ -6,7 +6,7 @@ use Rattle.edits.specs.Names.{name_of, IsNumbered}
 use Rattle.edits.specs.declared.names.FileName.TheVariants.{Log}
 use Rattle.directory_writes.specs.internal.Calls.{Creates}
 use Rattle.directory_writes.specs.internal.LogFile.{BeginsLog}
-use Rattle.directory_writes.proofs.NewLogFiles.{begins, maybe_made}
+use Rattle.directory_writes.proofs.NewLogFiles.{begins, maybe_made, log_stopped, log_unstopped}
 use Rattle.directory_writes.proofs.log_file.begin_log.Goals as goal
 
 pub returns-in_err-name-clause-begins : goal.returns-in_err-name-clause-begins
@@ -49,3 +49,25 @@ returns-clause-begins g c order =
     let named : c.as_str.result.now ≡ name_of (Log next) = c.as_str.ensures.value ∙ c.in_ok-name.ensures ∙ ap (λ (n : ℕ). name_of (Log n)) drawn.0 in
     let made = subst (λ (name : List ℕ). Creates old new name (Ok c.in_ok-create_file.field-0)) named c.in_ok-create_file.ensures.creates in
     begins order c.begin_log_law.ensures next numbered old new after (Ok (c.in_ok-number.number, c.in_ok-name.name)) more (λ f. inr (made.ok f)) made.ok
+
+pub returns-in_err-number-clause-stops : goal.returns-in_err-number-clause-stops
+returns-in_err-number-clause-stops g c f order = log_unstopped order c.args.numbers.now.next (g.S.Store.facts c.args.store.now) (g.S.Store.facts c.args.store.now) refl
+
+pub returns-in_err-name-clause-stops : goal.returns-in_err-name-clause-stops
+returns-in_err-name-clause-stops g c f order = log_unstopped order c.args.numbers.now.next (g.S.Store.facts c.args.store.now) (g.S.Store.facts c.args.store.now) refl
+
+pub returns-in_err-create_file-clause-stops : goal.returns-in_err-create_file-clause-stops
+returns-in_err-create_file-clause-stops g c f order =
+    let next = c.args.numbers.now.next in
+    let drawn = c.in_ok-number.ensures in
+    let named : c.as_str.result.now ≡ name_of (Log next) = c.as_str.ensures.value ∙ c.in_ok-name.ensures ∙ ap (λ (n : ℕ). name_of (Log n)) drawn.0 in
+    log_stopped order next (g.S.Store.facts c.args.store.now) c.begin_log_law.ensures (omega (arith, drawn.0, drawn.3), omega (arith, drawn.0, drawn.2)) c.as_str.result.now named
+    (g.S.Store.facts c.create_file.new.store) (c.create_file.ensures.stops f)
+
+pub returns-clause-stops : goal.returns-clause-stops
+returns-clause-stops g c f order =
+    let next = c.args.numbers.now.next in
+    let drawn = c.in_ok-number.ensures in
+    let named : c.as_str.result.now ≡ name_of (Log next) = c.as_str.ensures.value ∙ c.in_ok-name.ensures ∙ ap (λ (n : ℕ). name_of (Log n)) drawn.0 in
+    log_stopped order next (g.S.Store.facts c.args.store.now) c.begin_log_law.ensures (omega (arith, drawn.0, drawn.3), omega (arith, drawn.0, drawn.2)) c.as_str.result.now named
+    (g.S.Store.facts c.create_file.new.store) (c.create_file.ensures.stops f)

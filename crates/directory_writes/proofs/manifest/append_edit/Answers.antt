@@ -1,9 +1,11 @@
-use Rattle.std.proofs.Common.{◌≡◌, ◌+◌, ℕ, List, length, Result, Ok, Err, sym, subst, string_bytes, arith, rules}
+use Rattle.std.proofs.Common.{◌≡◌, ◌+◌, ℕ, List, length, Result, Ok, Err, refl, sym, subst, string_bytes, arith, rules}
 use Rattle.coding.specs.declared.error.DbError.{DbError}
 use Rattle.edits.specs.Edit.{IsEdit}
+use Rattle.store.specs.Files.{AppendsBeginning}
+use Rattle.store.specs.Stops.{LeavesOnly}
 use Rattle.directory_writes.specs.internal.Calls.{AppendsSynced}
 use Rattle.directory_writes.specs.internal.Manifest.{AppendsEdit}
-use Rattle.directory_writes.proofs.EditSteps.{edit_done, edit_refused}
+use Rattle.directory_writes.proofs.EditSteps.{edit_done, edit_refused, edit_stopped, edit_unstopped}
 use Rattle.directory_writes.proofs.manifest.append_edit.Goals as goal
 
 pub returns-in_err-append_synced-clause-appends : goal.returns-in_err-append_synced-clause-appends
@@ -36,3 +38,49 @@ returns-clause-appends g c order =
     (subst B (sym c.deref.ensures.value) c.in_ok-payload.ensures) c.in_ok-record.ensures.appends c.one_manifest.ensures
     c.edit_law.ensures c.in-Some.end (let is : c.in-Some.end ≡ manifest.end + length added = omega (arith, c.in-Some.ensures.1, c.len.ensures, c.in_ok-record.record.ok) in is)
     (subst N c.as_str.ensures.value (subst R c.deref-2.ensures.value c.in_ok-append_synced.ensures.appends))
+
+pub returns-in_err-payload-clause-stops : goal.returns-in_err-payload-clause-stops
+returns-in_err-payload-clause-stops g c f order =
+    let old = g.S.Store.facts c.args.store.now in
+    let manifest = c.args.manifest.now in
+    edit_unstopped order old manifest.number (string_bytes manifest.name) manifest.end c.args.edit.now old refl
+
+pub returns-in_err-record-clause-stops : goal.returns-in_err-record-clause-stops
+returns-in_err-record-clause-stops g c f order =
+    let old = g.S.Store.facts c.args.store.now in
+    let manifest = c.args.manifest.now in
+    edit_unstopped order old manifest.number (string_bytes manifest.name) manifest.end c.args.edit.now old refl
+
+pub returns-in_default-clause-stops : goal.returns-in_default-clause-stops
+returns-in_default-clause-stops g c f order =
+    let old = g.S.Store.facts c.args.store.now in
+    let manifest = c.args.manifest.now in
+    edit_unstopped order old manifest.number (string_bytes manifest.name) manifest.end c.args.edit.now old refl
+
+pub returns-in_err-append_synced-clause-stops : goal.returns-in_err-append_synced-clause-stops
+returns-in_err-append_synced-clause-stops g c f order =
+    let old = g.S.Store.facts c.args.store.now in
+    let new = g.S.Store.facts c.append_synced.new.store in
+    let added = c.in_ok-record.record.items in
+    let manifest = c.args.manifest.now in
+    let B : List ℕ → Type 0 = λ payload. IsEdit payload c.args.edit.now in
+    let R : List ℕ → Type 0 = λ bytes. LeavesOnly old new (λ files. AppendsBeginning old.files files c.as_str.result.now bytes) in
+    let N : List ℕ → Type 0 = λ name. LeavesOnly old new (λ files. AppendsBeginning old.files files name added) in
+    edit_stopped order old manifest.number (string_bytes manifest.name) manifest.end c.args.edit.now c.deref.result.now added
+    (subst B (sym c.deref.ensures.value) c.in_ok-payload.ensures) c.in_ok-record.ensures.appends c.one_manifest.ensures
+    c.failed_edit_law.ensures c.failed_append.ensures c.in_ok-record.ensures.longest new
+    (subst N c.as_str.ensures.value (subst R c.deref-2.ensures.value (c.in_err-append_synced.ensures.stops f)))
+
+pub returns-clause-stops : goal.returns-clause-stops
+returns-clause-stops g c f order =
+    let old = g.S.Store.facts c.args.store.now in
+    let new = g.S.Store.facts c.append_synced.new.store in
+    let added = c.in_ok-record.record.items in
+    let manifest = c.args.manifest.now in
+    let B : List ℕ → Type 0 = λ payload. IsEdit payload c.args.edit.now in
+    let R : List ℕ → Type 0 = λ bytes. LeavesOnly old new (λ files. AppendsBeginning old.files files c.as_str.result.now bytes) in
+    let N : List ℕ → Type 0 = λ name. LeavesOnly old new (λ files. AppendsBeginning old.files files name added) in
+    edit_stopped order old manifest.number (string_bytes manifest.name) manifest.end c.args.edit.now c.deref.result.now added
+    (subst B (sym c.deref.ensures.value) c.in_ok-payload.ensures) c.in_ok-record.ensures.appends c.one_manifest.ensures
+    c.failed_edit_law.ensures c.failed_append.ensures c.in_ok-record.ensures.longest new
+    (subst N c.as_str.ensures.value (subst R c.deref-2.ensures.value (c.in_ok-append_synced.ensures.stops f)))

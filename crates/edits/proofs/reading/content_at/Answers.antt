@@ -3,7 +3,7 @@ use Rattle.std.proofs.lemmas.Result.{err_from_is_err_and}
 use Rattle.coding.proofs.Refusals.{refuses_whole}
 use Rattle.coding.specs.Varint.{IsString}
 use Rattle.coding.specs.Spelling.{BeginsNone}
-use Rattle.edits.specs.Edit.{IsLong, IsSequence, IsLevel, IsPlaced, IsField}
+use Rattle.edits.specs.Edit.{IsLong, IsSequence, IsLevel, IsPlaced, IsField, SpellsKey}
 use Rattle.edits.specs.declared.field.Field.TheVariants.{Comparator, LogNumber, NextFileNumber, LastSequence, CompactPointer, DeletedFile, NewFile, PreviousLogNumber}
 use Rattle.coding.proofs.Spellings.{begins_pair, none_first, none_second}
 use Rattle.edits.proofs.Spellings.{free_level}
@@ -33,12 +33,12 @@ returns-in_err-sequence-in-4-clause-refused c =
 pub returns-in_err-level-in-5-clause-refused : goal.returns-in_err-level-in-5-clause-refused
 returns-in_err-level-in-5-clause-refused c =
     let p = err_from_is_err_and c.from_residual-in_err-level-in-5.result c.from_residual-in_err-level-in-5.ensures.1 in
-    rw (p.1, p.2) (refuses_whole (BeginsNone IsLevel c.args.bytes.now) (BeginsNone IsField (c.args.tag ∷ c.args.bytes.now)) c.in_err-level-in-5.field-0.0 (λ none. tagged c.args.tag 5 c.args.bytes.now c.in-5.is (none_pointer c.args.bytes.now (none_first IsLevel IsString c.args.bytes.now none))) c.in_err-level-in-5.ensures.refused)
+    rw (p.1, p.2) (refuses_whole (BeginsNone IsLevel c.args.bytes.now) (BeginsNone IsField (c.args.tag ∷ c.args.bytes.now)) c.in_err-level-in-5.field-0.0 (λ none. tagged c.args.tag 5 c.args.bytes.now c.in-5.is (none_pointer c.args.bytes.now (none_first IsLevel SpellsKey c.args.bytes.now none))) c.in_err-level-in-5.ensures.refused)
 
 pub returns-in_err-key-in-5-clause-refused : goal.returns-in_err-key-in-5-clause-refused
 returns-in_err-key-in-5-clause-refused c =
     let p = err_from_is_err_and c.from_residual-in_err-key-in-5.result c.from_residual-in_err-key-in-5.ensures.1 in
-    rw (p.1, p.2) (refuses_whole (BeginsNone IsString c.in_ok-level-in-5.rest.now) (BeginsNone IsField (c.args.tag ∷ c.args.bytes.now)) c.in_err-key-in-5.field-0.0 (λ none. tagged c.args.tag 5 c.args.bytes.now c.in-5.is (none_pointer c.args.bytes.now (none_second IsLevel IsString c.args.bytes.now c.in_ok-level-in-5.rest.now c.in_ok-level-in-5.level free_level c.in_ok-level-in-5.ensures.found none))) c.in_err-key-in-5.ensures.refused)
+    rw (p.1, p.2) (refuses_whole (BeginsNone SpellsKey c.in_ok-level-in-5.rest.now) (BeginsNone IsField (c.args.tag ∷ c.args.bytes.now)) c.in_err-key-in-5.field-0.0 (λ none. tagged c.args.tag 5 c.args.bytes.now c.in-5.is (none_pointer c.args.bytes.now (none_second IsLevel SpellsKey c.args.bytes.now c.in_ok-level-in-5.rest.now c.in_ok-level-in-5.level free_level c.in_ok-level-in-5.ensures.found none))) c.in_err-key-in-5.ensures.refused)
 
 pub returns-in_err-level-in-6-clause-refused : goal.returns-in_err-level-in-6-clause-refused
 returns-in_err-level-in-6-clause-refused c =
@@ -73,7 +73,7 @@ pub returns-in_ok-sequence-in-4-clause-found : goal.returns-in_ok-sequence-in-4-
 returns-in_ok-sequence-in-4-clause-found c = begins_field c.args.tag c.args.bytes.now c.in_ok-sequence-in-4.rest.now (LastSequence c.in_ok-sequence-in-4.sequence) c.in-4.is (c.in_ok-sequence-in-4.ensures.found)
 
 pub returns-in_ok-key-in-5-clause-found : goal.returns-in_ok-key-in-5-clause-found
-returns-in_ok-key-in-5-clause-found c = begins_field c.args.tag c.args.bytes.now c.in_ok-key-in-5.rest.now (CompactPointer c.in_ok-level-in-5.level c.in_ok-key-in-5.key) c.in-5.is (begins_pair IsLevel IsString c.args.bytes.now c.in_ok-level-in-5.rest.now c.in_ok-key-in-5.rest.now c.in_ok-level-in-5.level c.in_ok-key-in-5.key c.in_ok-level-in-5.ensures.found c.in_ok-key-in-5.ensures.found)
+returns-in_ok-key-in-5-clause-found c = begins_field c.args.tag c.args.bytes.now c.in_ok-key-in-5.rest.now (CompactPointer c.in_ok-level-in-5.level c.in_ok-key-in-5.key) c.in-5.is (begins_pair IsLevel SpellsKey c.args.bytes.now c.in_ok-level-in-5.rest.now c.in_ok-key-in-5.rest.now c.in_ok-level-in-5.level c.in_ok-key-in-5.key c.in_ok-level-in-5.ensures.found c.in_ok-key-in-5.ensures.found)
 
 pub returns-in_ok-number-in-6-clause-found : goal.returns-in_ok-number-in-6-clause-found
 returns-in_ok-number-in-6-clause-found c = begins_field c.args.tag c.args.bytes.now c.in_ok-number-in-6.rest.now (DeletedFile c.in_ok-level-in-6.level c.in_ok-number-in-6.number) c.in-6.is (begins_pair IsLevel IsLong c.args.bytes.now c.in_ok-level-in-6.rest.now c.in_ok-number-in-6.rest.now c.in_ok-level-in-6.level c.in_ok-number-in-6.number c.in_ok-level-in-6.ensures.found c.in_ok-number-in-6.ensures.found)

@@ -13,6 +13,7 @@ use Rattle.db_cursor.specs.Whole.{seen_of}
 use Rattle.engine.specs.internal.Resting.{Rests, StandsResult}
 use Rattle.engine.proofs.OpenMachine.{open_refused}
 use Rattle.engine.proofs.Opened.{durable_cleaned, opened_cleaned, spared_cleaned}
+use Rattle.engine.proofs.StopSteps.{opened_keeps}
 use Rattle.engine.proofs.open.open_and_clean.Goals as goal
 
 pub returns-in_err-state-clause-step : goal.returns-in_err-state-clause-step
@@ -114,3 +115,32 @@ returns-then-lacks_memory-clause-spared g c =
     let state = c.in_ok-state.state in
     spared_cleaned (facts c.args.source.now.tables.store) (facts c.open_locked.new.source.tables.store) (facts c.clean.new.source.tables.store) (db_of c.clean.new.source.memory state)
     (c.clean.ensures.step no_ids).faithful c.clean.ensures.removes c.in_ok-state.ensures.spared
+
+-- ---- what a stop leaves
+
+pub returns-in_err-state-clause-stops : goal.returns-in_err-state-clause-stops
+returns-in_err-state-clause-stops g c f ids m r = c.in_err-state.ensures.stops f m r.rest.meaning
+
+pub returns-in-Ok-clause-stops : goal.returns-in-Ok-clause-stops
+returns-in-Ok-clause-stops g c =
+    let facts = g.S.Store.facts in
+    let mid = c.open_locked.new.source in
+    let o = c.in_ok-state.ensures in
+    opened_keeps (order_of g.K.KeyOrder.name g.K.KeyOrder.cmp) (facts c.args.source.now.tables.store) (seen_of facts mid) (seen_of facts c.clean.new.source) (db_of mid.memory c.in_ok-state.state) c.args.mode
+    (c.clean.ensures.step no_ids).faithful o.step o.stops c.clean.ensures.stops
+
+pub returns-else-lacks_memory-clause-stops : goal.returns-else-lacks_memory-clause-stops
+returns-else-lacks_memory-clause-stops g c =
+    let facts = g.S.Store.facts in
+    let mid = c.open_locked.new.source in
+    let o = c.in_ok-state.ensures in
+    opened_keeps (order_of g.K.KeyOrder.name g.K.KeyOrder.cmp) (facts c.args.source.now.tables.store) (seen_of facts mid) (seen_of facts c.clean.new.source) (db_of mid.memory c.in_ok-state.state) c.args.mode
+    (c.clean.ensures.step no_ids).faithful o.step o.stops c.clean.ensures.stops
+
+pub returns-then-lacks_memory-clause-stops : goal.returns-then-lacks_memory-clause-stops
+returns-then-lacks_memory-clause-stops g c =
+    let facts = g.S.Store.facts in
+    let mid = c.open_locked.new.source in
+    let o = c.in_ok-state.ensures in
+    opened_keeps (order_of g.K.KeyOrder.name g.K.KeyOrder.cmp) (facts c.args.source.now.tables.store) (seen_of facts mid) (seen_of facts c.clean.new.source) (db_of mid.memory c.in_ok-state.state) c.args.mode
+    (c.clean.ensures.step no_ids).faithful o.step o.stops c.clean.ensures.stops

@@ -14,6 +14,10 @@ use Rattle.opening.specs.internal.Opening.{IsContinued}
 use Rattle.opening.proofs.BegunSteps.{continued_itself}
 use Rattle.engine.proofs.LiveIds.{none_kept}
 use Rattle.engine.proofs.OpenMachine.{open_refused, open_finished, leads_from, sound_empty, nothing_kept}
+use Rattle.engine.proofs.StopSteps.{continued_keeps}
+use Rattle.store.proofs.Stopping.{leaves_same}
+use Rattle.engine.specs.internal.Directory.{MeansAccepted}
+use Rattle.store.specs.Stops.{LeavesOnly}
 use Rattle.engine.proofs.open.open_locked.Goals as goal
 
 pub returns-in_err-begin-clause-step : goal.returns-in_err-begin-clause-step
@@ -60,3 +64,27 @@ returns-in_err-begin-clause-continued g c = λ f.
     let order = order_of g.K.KeyOrder.name g.K.KeyOrder.cmp in
     let old = g.S.Store.facts c.args.source.now.tables.store in
     subst (λ s. IsContinued order old.files (g.S.Store.facts s).files) (sym c.in_err-begin.ensures.store) (continued_itself order old.files)
+
+-- ---- what a stop leaves
+
+pub returns-in_err-begin-clause-stops : goal.returns-in_err-begin-clause-stops
+returns-in_err-begin-clause-stops g c f m means =
+    let order = order_of g.K.KeyOrder.name g.K.KeyOrder.cmp in
+    let old = g.S.Store.facts c.args.source.now.tables.store in
+    subst (λ s. LeavesOnly old (g.S.Store.facts s) (λ files. MeansAccepted order files m)) (sym c.in_err-begin.ensures.store) (leaves_same old old (λ files. MeansAccepted order files m) refl refl means)
+
+pub returns-in_err-begun-clause-stops : goal.returns-in_err-begun-clause-stops
+returns-in_err-begun-clause-stops g c f m means =
+    let order = order_of g.K.KeyOrder.name g.K.KeyOrder.cmp in
+    let mid = g.S.Store.facts c.begin.new.self.store in
+    let new = g.S.Store.facts c.begin-2.new.store in
+    subst (λ s. MeansAccepted order (g.S.Store.facts s).files m → LeavesOnly (g.S.Store.facts s) new (λ files. MeansAccepted order files m)) c.in_ok-begin.ensures.store
+    (λ there. continued_keeps order mid new m there (c.in_err-begun.ensures.stops f)) means
+
+pub returns-clause-stops : goal.returns-clause-stops
+returns-clause-stops g c f m means =
+    let order = order_of g.K.KeyOrder.name g.K.KeyOrder.cmp in
+    let mid = g.S.Store.facts c.begin.new.self.store in
+    let new = g.S.Store.facts c.begin-2.new.store in
+    subst (λ s. MeansAccepted order (g.S.Store.facts s).files m → LeavesOnly (g.S.Store.facts s) new (λ files. MeansAccepted order files m)) c.in_ok-begin.ensures.store
+    (λ there. continued_keeps order mid new m there (c.in_ok-begun.ensures.stops f)) means

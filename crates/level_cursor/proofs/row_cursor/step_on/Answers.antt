@@ -12,7 +12,7 @@ returns-in_err-step-clause-steps g c =
     let p = err_from_is_err_and c.from_residual.result c.from_residual.ensures.1 in
     rw p.1 (λ t lists place placed.
     let h = rw c.in-Some.is at placed in
-    stays_put g.K.KeyOrder.cmp (seen (g.S.Store.facts c.args.source.now.store) c.args.source.now.tables c.args.source.now.blocks) (seen (g.S.Store.facts c.step.new.source.store) c.step.new.source.tables c.step.new.source.blocks) lists c.in-Some.here.index c.in-Some.here.cursor.number c.step.new.self.number c.in-Some.here.cursor.table.value.frame c.step.new.self.table.value.frame c.in-Some.here.cursor.here c.step.new.self.here place c.step.ensures.number (λ i. (c.step.ensures.table i).value.frame) h (c.in_err-step.ensures.steps t (listed h.list (Some h.inside)) h.stands))
+    stays_put g.K.KeyOrder.cmp (seen (g.S.Store.facts c.args.source.now.store) c.args.source.now.tables c.args.source.now.blocks) (seen (g.S.Store.facts c.step.new.source.store) c.step.new.source.tables c.step.new.source.blocks) lists c.in-Some.here.index c.in-Some.here.cursor.placed c.step.new.self.placed c.in-Some.here.cursor.table.value.frame c.step.new.self.table.value.frame c.in-Some.here.cursor.here c.step.new.self.here place c.step.ensures.placed (λ i. (c.step.ensures.table i).value.frame) h (c.in_err-step.ensures.steps t (listed h.list (Some h.inside)) h.stands))
 
 pub returns-in_err-step-clause-refused : goal.returns-in_err-step-clause-refused
 returns-in_err-step-clause-refused g c =
@@ -22,12 +22,12 @@ returns-in_err-step-clause-refused g c =
 pub returns-then-branch-clause-steps : goal.returns-then-branch-clause-steps
 returns-then-branch-clause-steps g c = λ t lists place placed.
     let h = rw c.in-Some.is at placed in
-    went_on g.K.KeyOrder.cmp (seen (g.S.Store.facts c.args.source.now.store) c.args.source.now.tables c.args.source.now.blocks) (seen (g.S.Store.facts c.step.new.source.store) c.step.new.source.tables c.step.new.source.blocks) lists c.in-Some.here.index c.in-Some.here.cursor.number c.step.new.self.number c.in-Some.here.cursor.table.value.frame c.step.new.self.table.value.frame c.in-Some.here.cursor.here c.step.new.self.here place c.step.ensures.number (λ i. (c.step.ensures.table i).value.frame) h ((rw c.if-branch.true at c.in_ok-step.ensures.steps) t (listed h.list (Some h.inside)) h.stands)
+    went_on g.K.KeyOrder.cmp (seen (g.S.Store.facts c.args.source.now.store) c.args.source.now.tables c.args.source.now.blocks) (seen (g.S.Store.facts c.step.new.source.store) c.step.new.source.tables c.step.new.source.blocks) lists c.in-Some.here.index c.in-Some.here.cursor.placed c.step.new.self.placed c.in-Some.here.cursor.table.value.frame c.step.new.self.table.value.frame c.in-Some.here.cursor.here c.step.new.self.here place c.step.ensures.placed (λ i. (c.step.ensures.table i).value.frame) h ((rw c.if-branch.true at c.in_ok-step.ensures.steps) t (listed h.list (Some h.inside)) h.stands)
 
 pub returns-clause-steps : goal.returns-clause-steps
 returns-clause-steps g c = λ t lists place placed.
     let h = rw c.in-Some.is at placed in
-    ended_on g.K.KeyOrder.cmp (seen (g.S.Store.facts c.args.source.now.store) c.args.source.now.tables c.args.source.now.blocks) (seen (g.S.Store.facts c.step.new.source.store) c.step.new.source.tables c.step.new.source.blocks) lists c.in-Some.here.index c.in-Some.here.cursor.number c.step.new.self.number c.in-Some.here.cursor.table.value.frame c.step.new.self.table.value.frame c.in-Some.here.cursor.here c.step.new.self.here place c.step.ensures.number (λ i. (c.step.ensures.table i).value.frame) h ((rw c.if-branch.false at c.in_ok-step.ensures.steps) t (listed h.list (Some h.inside)) h.stands)
+    ended_on g.K.KeyOrder.cmp (seen (g.S.Store.facts c.args.source.now.store) c.args.source.now.tables c.args.source.now.blocks) (seen (g.S.Store.facts c.step.new.source.store) c.step.new.source.tables c.step.new.source.blocks) lists c.in-Some.here.index c.in-Some.here.cursor.placed c.step.new.self.placed c.in-Some.here.cursor.table.value.frame c.step.new.self.table.value.frame c.in-Some.here.cursor.here c.step.new.self.here place c.step.ensures.placed (λ i. (c.step.ensures.table i).value.frame) h ((rw c.if-branch.false at c.in_ok-step.ensures.steps) t (listed h.list (Some h.inside)) h.stands)
 
 pub returns-in_err-step-clause-carries : goal.returns-in_err-step-clause-carries
 returns-in_err-step-clause-carries g c = rw c.in-Some.is (carries_more g.K.KeyOrder.cmp (seen (g.S.Store.facts c.args.source.now.store) c.args.source.now.tables c.args.source.now.blocks) (seen (g.S.Store.facts c.step.new.source.store) c.step.new.source.tables c.step.new.source.blocks) (λ number same. sym same) c.step.ensures.carries)

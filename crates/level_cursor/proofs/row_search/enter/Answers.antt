@@ -26,10 +26,10 @@ returns-in_ok-to_first-in-First-clause-opened g c =
 
 pub returns-in_ok-to_first-in-First-clause-found : goal.returns-in_ok-to_first-in-First-clause-found
 returns-in_ok-to_first-in-First-clause-found g c =
-    rw (c.in-First.is, c.to_first.ensures.number, c.to_first.ensures.table)
+    rw (c.in-First.is, c.to_first.ensures.placed, c.to_first.ensures.table)
     (λ t list has goal aimed.
     entered_first g.K.KeyOrder.cmp (seen (g.S.Store.facts c.args.source.now.store) c.args.source.now.tables c.args.source.now.blocks) (seen (g.S.Store.facts c.open.new.source.store) c.open.new.source.tables c.open.new.source.blocks) (seen (g.S.Store.facts c.to_first.new.source.store) c.to_first.new.source.tables c.to_first.new.source.blocks) c.args.placed.now
-    c.in_ok-cursor.cursor.number c.in_ok-cursor.cursor.table.value.frame c.in_ok-cursor.cursor.here c.to_first.new.self.here c.to_first.ensures.carries c.in_ok-cursor.ensures.found t list has goal aimed
+    c.in_ok-cursor.cursor.placed c.in_ok-cursor.cursor.table.value.frame c.in_ok-cursor.cursor.here c.to_first.new.self.here c.to_first.ensures.carries c.in_ok-cursor.ensures.found t list has goal aimed
     (c.in_ok-to_first-in-First.ensures.moves t))
 
 pub returns-in_err-to_key-in-From-clause-refused : goal.returns-in_err-to_key-in-From-clause-refused
@@ -46,10 +46,10 @@ returns-in_ok-to_key-in-From-clause-opened g c =
 
 pub returns-in_ok-to_key-in-From-clause-found : goal.returns-in_ok-to_key-in-From-clause-found
 returns-in_ok-to_key-in-From-clause-found g c =
-    rw (c.in-From.is, c.to_key.ensures.number, c.to_key.ensures.table)
+    rw (c.in-From.is, c.to_key.ensures.placed, c.to_key.ensures.table)
     (λ t list has goal aimed.
     entered_key g.K.KeyOrder.cmp (seen (g.S.Store.facts c.args.source.now.store) c.args.source.now.tables c.args.source.now.blocks) (seen (g.S.Store.facts c.open.new.source.store) c.open.new.source.tables c.open.new.source.blocks) (seen (g.S.Store.facts c.to_key.new.source.store) c.to_key.new.source.tables c.to_key.new.source.blocks) c.args.placed.now
-    c.in_ok-cursor.cursor.number c.in_ok-cursor.cursor.table.value.frame c.in_ok-cursor.cursor.here c.to_key.new.self.here c.to_key.ensures.carries c.in_ok-cursor.ensures.found t list has c.in-From.target goal aimed
+    c.in_ok-cursor.cursor.placed c.in_ok-cursor.cursor.table.value.frame c.in_ok-cursor.cursor.here c.to_key.new.self.here c.to_key.ensures.carries c.in_ok-cursor.ensures.found t list has c.in-From.target goal aimed
     (λ key is. c.in_ok-to_key-in-From.ensures.moves key is t))
 
 pub returns-in_err-to_first-in-First-clause-still : goal.returns-in_err-to_first-in-First-clause-still
@@ -69,13 +69,13 @@ pub returns-in_ok-to_key-in-From-clause-still : goal.returns-in_ok-to_key-in-Fro
 returns-in_ok-to_key-in-From-clause-still g c = c.in_ok-to_key-in-From.ensures.still ∙ c.in_ok-cursor.ensures.still
 
 pub returns-in_err-to_first-in-First-clause-carries : goal.returns-in_err-to_first-in-First-clause-carries
-returns-in_err-to_first-in-First-clause-carries g c = read_opened g.K.KeyOrder.cmp (seen (g.S.Store.facts c.args.source.now.store) c.args.source.now.tables c.args.source.now.blocks) (seen (g.S.Store.facts c.open.new.source.store) c.open.new.source.tables c.open.new.source.blocks) (seen (g.S.Store.facts c.to_first.new.source.store) c.to_first.new.source.tables c.to_first.new.source.blocks) c.args.placed.now.table.number c.in_ok-cursor.cursor.number c.in_ok-cursor.ensures.number c.in_ok-cursor.ensures.carries c.to_first.ensures.carries
+returns-in_err-to_first-in-First-clause-carries g c = read_opened g.K.KeyOrder.cmp (seen (g.S.Store.facts c.args.source.now.store) c.args.source.now.tables c.args.source.now.blocks) (seen (g.S.Store.facts c.open.new.source.store) c.open.new.source.tables c.open.new.source.blocks) (seen (g.S.Store.facts c.to_first.new.source.store) c.to_first.new.source.tables c.to_first.new.source.blocks) c.args.placed.now.table.number c.in_ok-cursor.cursor.placed.table.number (λ i. (c.in_ok-cursor.ensures.placed i).table.number) c.in_ok-cursor.ensures.carries c.to_first.ensures.carries
 
 pub returns-in_ok-to_first-in-First-clause-carries : goal.returns-in_ok-to_first-in-First-clause-carries
-returns-in_ok-to_first-in-First-clause-carries g c = read_opened g.K.KeyOrder.cmp (seen (g.S.Store.facts c.args.source.now.store) c.args.source.now.tables c.args.source.now.blocks) (seen (g.S.Store.facts c.open.new.source.store) c.open.new.source.tables c.open.new.source.blocks) (seen (g.S.Store.facts c.to_first.new.source.store) c.to_first.new.source.tables c.to_first.new.source.blocks) c.args.placed.now.table.number c.in_ok-cursor.cursor.number c.in_ok-cursor.ensures.number c.in_ok-cursor.ensures.carries c.to_first.ensures.carries
+returns-in_ok-to_first-in-First-clause-carries g c = read_opened g.K.KeyOrder.cmp (seen (g.S.Store.facts c.args.source.now.store) c.args.source.now.tables c.args.source.now.blocks) (seen (g.S.Store.facts c.open.new.source.store) c.open.new.source.tables c.open.new.source.blocks) (seen (g.S.Store.facts c.to_first.new.source.store) c.to_first.new.source.tables c.to_first.new.source.blocks) c.args.placed.now.table.number c.in_ok-cursor.cursor.placed.table.number (λ i. (c.in_ok-cursor.ensures.placed i).table.number) c.in_ok-cursor.ensures.carries c.to_first.ensures.carries
 
 pub returns-in_err-to_key-in-From-clause-carries : goal.returns-in_err-to_key-in-From-clause-carries
-returns-in_err-to_key-in-From-clause-carries g c = read_opened g.K.KeyOrder.cmp (seen (g.S.Store.facts c.args.source.now.store) c.args.source.now.tables c.args.source.now.blocks) (seen (g.S.Store.facts c.open.new.source.store) c.open.new.source.tables c.open.new.source.blocks) (seen (g.S.Store.facts c.to_key.new.source.store) c.to_key.new.source.tables c.to_key.new.source.blocks) c.args.placed.now.table.number c.in_ok-cursor.cursor.number c.in_ok-cursor.ensures.number c.in_ok-cursor.ensures.carries c.to_key.ensures.carries
+returns-in_err-to_key-in-From-clause-carries g c = read_opened g.K.KeyOrder.cmp (seen (g.S.Store.facts c.args.source.now.store) c.args.source.now.tables c.args.source.now.blocks) (seen (g.S.Store.facts c.open.new.source.store) c.open.new.source.tables c.open.new.source.blocks) (seen (g.S.Store.facts c.to_key.new.source.store) c.to_key.new.source.tables c.to_key.new.source.blocks) c.args.placed.now.table.number c.in_ok-cursor.cursor.placed.table.number (λ i. (c.in_ok-cursor.ensures.placed i).table.number) c.in_ok-cursor.ensures.carries c.to_key.ensures.carries
 
 pub returns-in_ok-to_key-in-From-clause-carries : goal.returns-in_ok-to_key-in-From-clause-carries
-returns-in_ok-to_key-in-From-clause-carries g c = read_opened g.K.KeyOrder.cmp (seen (g.S.Store.facts c.args.source.now.store) c.args.source.now.tables c.args.source.now.blocks) (seen (g.S.Store.facts c.open.new.source.store) c.open.new.source.tables c.open.new.source.blocks) (seen (g.S.Store.facts c.to_key.new.source.store) c.to_key.new.source.tables c.to_key.new.source.blocks) c.args.placed.now.table.number c.in_ok-cursor.cursor.number c.in_ok-cursor.ensures.number c.in_ok-cursor.ensures.carries c.to_key.ensures.carries
+returns-in_ok-to_key-in-From-clause-carries g c = read_opened g.K.KeyOrder.cmp (seen (g.S.Store.facts c.args.source.now.store) c.args.source.now.tables c.args.source.now.blocks) (seen (g.S.Store.facts c.open.new.source.store) c.open.new.source.tables c.open.new.source.blocks) (seen (g.S.Store.facts c.to_key.new.source.store) c.to_key.new.source.tables c.to_key.new.source.blocks) c.args.placed.now.table.number c.in_ok-cursor.cursor.placed.table.number (λ i. (c.in_ok-cursor.ensures.placed i).table.number) c.in_ok-cursor.ensures.carries c.to_key.ensures.carries

@@ -20,7 +20,7 @@ returns-clause-opened g c = rw c.to_last.ensures.table (λ t file has. c.in_ok-c
 
 pub returns-clause-found : goal.returns-clause-found
 returns-clause-found g c =
-    rw (c.to_last.ensures.number, c.to_last.ensures.table) (λ t list has. c.in_ok-to_last.ensures.moves t (listed list None) (c.in_ok-cursor.ensures.found (c.to_last.ensures.carries.reads.faithful t) list has))
+    rw (c.to_last.ensures.placed, c.to_last.ensures.table) (λ t list has. c.in_ok-to_last.ensures.moves t (listed list None) (c.in_ok-cursor.ensures.found (c.to_last.ensures.carries.reads.faithful t) list has))
 
 pub returns-in_err-to_last-clause-still : goal.returns-in_err-to_last-clause-still
 returns-in_err-to_last-clause-still g c =
@@ -31,7 +31,7 @@ pub returns-clause-still : goal.returns-clause-still
 returns-clause-still g c = c.in_ok-to_last.ensures.still ∙ c.in_ok-cursor.ensures.still
 
 pub returns-in_err-to_last-clause-carries : goal.returns-in_err-to_last-clause-carries
-returns-in_err-to_last-clause-carries g c = read_opened g.K.KeyOrder.cmp (seen (g.S.Store.facts c.args.source.now.store) c.args.source.now.tables c.args.source.now.blocks) (seen (g.S.Store.facts c.open.new.source.store) c.open.new.source.tables c.open.new.source.blocks) (seen (g.S.Store.facts c.to_last.new.source.store) c.to_last.new.source.tables c.to_last.new.source.blocks) c.args.placed.now.table.number c.in_ok-cursor.cursor.number c.in_ok-cursor.ensures.number c.in_ok-cursor.ensures.carries c.to_last.ensures.carries
+returns-in_err-to_last-clause-carries g c = read_opened g.K.KeyOrder.cmp (seen (g.S.Store.facts c.args.source.now.store) c.args.source.now.tables c.args.source.now.blocks) (seen (g.S.Store.facts c.open.new.source.store) c.open.new.source.tables c.open.new.source.blocks) (seen (g.S.Store.facts c.to_last.new.source.store) c.to_last.new.source.tables c.to_last.new.source.blocks) c.args.placed.now.table.number c.in_ok-cursor.cursor.placed.table.number (λ i. (c.in_ok-cursor.ensures.placed i).table.number) c.in_ok-cursor.ensures.carries c.to_last.ensures.carries
 
 pub returns-clause-carries : goal.returns-clause-carries
-returns-clause-carries g c = read_opened g.K.KeyOrder.cmp (seen (g.S.Store.facts c.args.source.now.store) c.args.source.now.tables c.args.source.now.blocks) (seen (g.S.Store.facts c.open.new.source.store) c.open.new.source.tables c.open.new.source.blocks) (seen (g.S.Store.facts c.to_last.new.source.store) c.to_last.new.source.tables c.to_last.new.source.blocks) c.args.placed.now.table.number c.in_ok-cursor.cursor.number c.in_ok-cursor.ensures.number c.in_ok-cursor.ensures.carries c.to_last.ensures.carries
+returns-clause-carries g c = read_opened g.K.KeyOrder.cmp (seen (g.S.Store.facts c.args.source.now.store) c.args.source.now.tables c.args.source.now.blocks) (seen (g.S.Store.facts c.open.new.source.store) c.open.new.source.tables c.open.new.source.blocks) (seen (g.S.Store.facts c.to_last.new.source.store) c.to_last.new.source.tables c.to_last.new.source.blocks) c.args.placed.now.table.number c.in_ok-cursor.cursor.placed.table.number (λ i. (c.in_ok-cursor.ensures.placed i).table.number) c.in_ok-cursor.ensures.carries c.to_last.ensures.carries

@@ -13,5 +13,5 @@ returns-in_err-cursor-clause-refused g c =
 
 pub returns-clause-found : goal.returns-clause-found
 returns-clause-found g c = λ t list has.
-    opened_at g.K.KeyOrder.cmp (seen (g.S.Store.facts c.open.new.source.store) c.open.new.source.tables c.open.new.source.blocks) c.args.placed.now.table.number c.in_ok-cursor.cursor.number
-    c.in_ok-cursor.cursor.table.value.frame c.in_ok-cursor.cursor.here list c.in_ok-cursor.ensures.number c.in_ok-cursor.ensures.nowhere (c.in_ok-cursor.ensures.lists t has.file has.there list has.spelled)
+    opened_at g.K.KeyOrder.cmp (seen (g.S.Store.facts c.open.new.source.store) c.open.new.source.tables c.open.new.source.blocks) c.args.placed.now c.in_ok-cursor.cursor.placed
+    c.in_ok-cursor.cursor.table.value.frame c.in_ok-cursor.cursor.here list c.in_ok-cursor.ensures.placed c.in_ok-cursor.ensures.nowhere (c.in_ok-cursor.ensures.lists t has.file has.there list has.spelled has.keys)

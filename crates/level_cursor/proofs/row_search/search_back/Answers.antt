@@ -37,13 +37,13 @@ pub returns-then-stands-clause-carries : goal.returns-then-stands-clause-carries
 returns-then-stands-clause-carries g c = read_one g.K.KeyOrder.cmp (seen (g.S.Store.facts c.args.source.now.store) c.args.source.now.tables c.args.source.now.blocks) (seen (g.S.Store.facts c.loop-step.source.store) c.loop-step.source.tables c.loop-step.source.blocks) (seen (g.S.Store.facts c.leave.new.source.store) c.leave.new.source.tables c.leave.new.source.blocks) c.args.row.now c.in-Some.placed.now (member_at c.args.row.now (c.args.end - c.loop-step.step - 1) c.in-Some.placed.now (slice_get_read c.args.row.now (length c.args.row.now) (c.args.end - c.loop-step.step - 1) c.in-Some.placed.now refl (ltb-true (c.args.end - c.loop-step.step - 1) (length c.args.row.now) (sym c.in-Some.ensures.lookup.0)) c.in-Some.ensures.lookup.1)) c.loop-step.invariant.carries c.leave.ensures.carries
 
 pub returns-then-stands-clause-found : goal.returns-then-stands-clause-found
-returns-then-stands-clause-found g c = back_found g.K.KeyOrder.cmp (seen (g.S.Store.facts c.args.source.now.store) c.args.source.now.tables c.args.source.now.blocks) (seen (g.S.Store.facts c.loop-step.source.store) c.loop-step.source.tables c.loop-step.source.blocks) (seen (g.S.Store.facts c.leave.new.source.store) c.leave.new.source.tables c.leave.new.source.blocks) c.args.row.now c.args.end c.loop-step.step (c.args.end - c.loop-step.step - 1) (let less = c.loop-step-test.true in omega (arith, less)) refl c.loop-step.invariant c.in-Some.placed.now c.leave.ensures.carries (slice_get_read c.args.row.now (length c.args.row.now) (c.args.end - c.loop-step.step - 1) c.in-Some.placed.now refl (ltb-true (c.args.end - c.loop-step.step - 1) (length c.args.row.now) (sym c.in-Some.ensures.lookup.0)) c.in-Some.ensures.lookup.1) c.in_ok-cursor.cursor.number c.in_ok-cursor.cursor.table.value.frame c.in_ok-cursor.cursor.here c.in_ok-cursor.ensures.found (sym c.stands.ensures ∙ c.if-stands.true)
+returns-then-stands-clause-found g c = back_found g.K.KeyOrder.cmp (seen (g.S.Store.facts c.args.source.now.store) c.args.source.now.tables c.args.source.now.blocks) (seen (g.S.Store.facts c.loop-step.source.store) c.loop-step.source.tables c.loop-step.source.blocks) (seen (g.S.Store.facts c.leave.new.source.store) c.leave.new.source.tables c.leave.new.source.blocks) c.args.row.now c.args.end c.loop-step.step (c.args.end - c.loop-step.step - 1) (let less = c.loop-step-test.true in omega (arith, less)) refl c.loop-step.invariant c.in-Some.placed.now c.leave.ensures.carries (slice_get_read c.args.row.now (length c.args.row.now) (c.args.end - c.loop-step.step - 1) c.in-Some.placed.now refl (ltb-true (c.args.end - c.loop-step.step - 1) (length c.args.row.now) (sym c.in-Some.ensures.lookup.0)) c.in-Some.ensures.lookup.1) c.in_ok-cursor.cursor.placed c.in_ok-cursor.cursor.table.value.frame c.in_ok-cursor.cursor.here c.in_ok-cursor.ensures.found (sym c.stands.ensures ∙ c.if-stands.true)
 
 pub returns-then-stands-clause-opened : goal.returns-then-stands-clause-opened
-returns-then-stands-clause-opened g c = one_opened g.K.KeyOrder.cmp (seen (g.S.Store.facts c.args.source.now.store) c.args.source.now.tables c.args.source.now.blocks) (seen (g.S.Store.facts c.loop-step.source.store) c.loop-step.source.tables c.loop-step.source.blocks) (seen (g.S.Store.facts c.leave.new.source.store) c.leave.new.source.tables c.leave.new.source.blocks) c.args.row.now c.in-Some.placed.now c.in_ok-cursor.cursor.number c.in_ok-cursor.cursor.table.value.frame c.loop-step.invariant.carries c.leave.ensures.carries (member_at c.args.row.now (c.args.end - c.loop-step.step - 1) c.in-Some.placed.now (slice_get_read c.args.row.now (length c.args.row.now) (c.args.end - c.loop-step.step - 1) c.in-Some.placed.now refl (ltb-true (c.args.end - c.loop-step.step - 1) (length c.args.row.now) (sym c.in-Some.ensures.lookup.0)) c.in-Some.ensures.lookup.1)) c.in_ok-cursor.ensures.number c.in_ok-cursor.ensures.opened
+returns-then-stands-clause-opened g c = one_opened g.K.KeyOrder.cmp (seen (g.S.Store.facts c.args.source.now.store) c.args.source.now.tables c.args.source.now.blocks) (seen (g.S.Store.facts c.loop-step.source.store) c.loop-step.source.tables c.loop-step.source.blocks) (seen (g.S.Store.facts c.leave.new.source.store) c.leave.new.source.tables c.leave.new.source.blocks) c.args.row.now c.in-Some.placed.now c.in_ok-cursor.cursor.placed.table.number c.in_ok-cursor.cursor.table.value.frame c.loop-step.invariant.carries c.leave.ensures.carries (member_at c.args.row.now (c.args.end - c.loop-step.step - 1) c.in-Some.placed.now (slice_get_read c.args.row.now (length c.args.row.now) (c.args.end - c.loop-step.step - 1) c.in-Some.placed.now refl (ltb-true (c.args.end - c.loop-step.step - 1) (length c.args.row.now) (sym c.in-Some.ensures.lookup.0)) c.in-Some.ensures.lookup.1)) (λ i. (c.in_ok-cursor.ensures.placed i).table.number) c.in_ok-cursor.ensures.opened
 
 pub loop-step-preserved : goal.loop-step-preserved
-loop-step-preserved g c = back_on g.K.KeyOrder.cmp (seen (g.S.Store.facts c.args.source.now.store) c.args.source.now.tables c.args.source.now.blocks) (seen (g.S.Store.facts c.loop-step.source.store) c.loop-step.source.tables c.loop-step.source.blocks) (seen (g.S.Store.facts c.leave.new.source.store) c.leave.new.source.tables c.leave.new.source.blocks) c.args.row.now c.args.end c.loop-step.step (c.args.end - c.loop-step.step - 1) (let less = c.loop-step-test.true in omega (arith, less)) refl c.loop-step.invariant c.in-Some.placed.now c.leave.ensures.carries (slice_get_read c.args.row.now (length c.args.row.now) (c.args.end - c.loop-step.step - 1) c.in-Some.placed.now refl (ltb-true (c.args.end - c.loop-step.step - 1) (length c.args.row.now) (sym c.in-Some.ensures.lookup.0)) c.in-Some.ensures.lookup.1) c.in_ok-cursor.cursor.number c.in_ok-cursor.cursor.table.value.frame c.in_ok-cursor.cursor.here c.in_ok-cursor.ensures.found (sym c.stands.ensures ∙ c.if-stands.false) c.in_ok-cursor.ensures.still
+loop-step-preserved g c = back_on g.K.KeyOrder.cmp (seen (g.S.Store.facts c.args.source.now.store) c.args.source.now.tables c.args.source.now.blocks) (seen (g.S.Store.facts c.loop-step.source.store) c.loop-step.source.tables c.loop-step.source.blocks) (seen (g.S.Store.facts c.leave.new.source.store) c.leave.new.source.tables c.leave.new.source.blocks) c.args.row.now c.args.end c.loop-step.step (c.args.end - c.loop-step.step - 1) (let less = c.loop-step-test.true in omega (arith, less)) refl c.loop-step.invariant c.in-Some.placed.now c.leave.ensures.carries (slice_get_read c.args.row.now (length c.args.row.now) (c.args.end - c.loop-step.step - 1) c.in-Some.placed.now refl (ltb-true (c.args.end - c.loop-step.step - 1) (length c.args.row.now) (sym c.in-Some.ensures.lookup.0)) c.in-Some.ensures.lookup.1) c.in_ok-cursor.cursor.placed c.in_ok-cursor.cursor.table.value.frame c.in_ok-cursor.cursor.here c.in_ok-cursor.ensures.found (sym c.stands.ensures ∙ c.if-stands.false) c.in_ok-cursor.ensures.still
 
 pub returns-clause-carries : goal.returns-clause-carries
 returns-clause-carries g c = c.loop-step.invariant.carries

@@ -25,13 +25,13 @@ pub returns-then-stands-clause-carries : goal.returns-then-stands-clause-carries
 returns-then-stands-clause-carries g c = read_one g.K.KeyOrder.cmp (seen (g.S.Store.facts c.args.source.now.store) c.args.source.now.tables c.args.source.now.blocks) (seen (g.S.Store.facts c.loop-index.source.store) c.loop-index.source.tables c.loop-index.source.blocks) (seen (g.S.Store.facts c.enter.new.source.store) c.enter.new.source.tables c.enter.new.source.blocks) c.args.row.now c.index-row-index.result (member_at c.args.row.now c.loop-index.index c.index-row-index.result (read_at c.args.row.now c.loop-index.index c.index-row-index.result (omega arith) ∙ ap Some (sym c.index-row-index.is))) c.loop-index.invariant.carries c.enter.ensures.carries
 
 pub returns-then-stands-clause-found : goal.returns-then-stands-clause-found
-returns-then-stands-clause-found g c = searching_found g.K.KeyOrder.cmp c.args.aim (seen (g.S.Store.facts c.args.source.now.store) c.args.source.now.tables c.args.source.now.blocks) (seen (g.S.Store.facts c.loop-index.source.store) c.loop-index.source.tables c.loop-index.source.blocks) (seen (g.S.Store.facts c.enter.new.source.store) c.enter.new.source.tables c.enter.new.source.blocks) c.args.row.now c.args.start c.loop-index.index c.loop-index.invariant c.index-row-index.result c.enter.ensures.carries (read_at c.args.row.now c.loop-index.index c.index-row-index.result (omega arith) ∙ ap Some (sym c.index-row-index.is)) c.in_ok-cursor.cursor.number c.in_ok-cursor.cursor.table.value.frame c.in_ok-cursor.cursor.here c.in_ok-cursor.ensures.found (sym c.stands.ensures ∙ c.if-stands.true)
+returns-then-stands-clause-found g c = searching_found g.K.KeyOrder.cmp c.args.aim (seen (g.S.Store.facts c.args.source.now.store) c.args.source.now.tables c.args.source.now.blocks) (seen (g.S.Store.facts c.loop-index.source.store) c.loop-index.source.tables c.loop-index.source.blocks) (seen (g.S.Store.facts c.enter.new.source.store) c.enter.new.source.tables c.enter.new.source.blocks) c.args.row.now c.args.start c.loop-index.index c.loop-index.invariant c.index-row-index.result c.enter.ensures.carries (read_at c.args.row.now c.loop-index.index c.index-row-index.result (omega arith) ∙ ap Some (sym c.index-row-index.is)) c.in_ok-cursor.cursor.placed c.in_ok-cursor.cursor.table.value.frame c.in_ok-cursor.cursor.here c.in_ok-cursor.ensures.found (sym c.stands.ensures ∙ c.if-stands.true)
 
 pub returns-then-stands-clause-opened : goal.returns-then-stands-clause-opened
-returns-then-stands-clause-opened g c = one_opened g.K.KeyOrder.cmp (seen (g.S.Store.facts c.args.source.now.store) c.args.source.now.tables c.args.source.now.blocks) (seen (g.S.Store.facts c.loop-index.source.store) c.loop-index.source.tables c.loop-index.source.blocks) (seen (g.S.Store.facts c.enter.new.source.store) c.enter.new.source.tables c.enter.new.source.blocks) c.args.row.now c.index-row-index.result c.in_ok-cursor.cursor.number c.in_ok-cursor.cursor.table.value.frame c.loop-index.invariant.carries c.enter.ensures.carries (member_at c.args.row.now c.loop-index.index c.index-row-index.result (read_at c.args.row.now c.loop-index.index c.index-row-index.result (omega arith) ∙ ap Some (sym c.index-row-index.is))) c.in_ok-cursor.ensures.number c.in_ok-cursor.ensures.opened
+returns-then-stands-clause-opened g c = one_opened g.K.KeyOrder.cmp (seen (g.S.Store.facts c.args.source.now.store) c.args.source.now.tables c.args.source.now.blocks) (seen (g.S.Store.facts c.loop-index.source.store) c.loop-index.source.tables c.loop-index.source.blocks) (seen (g.S.Store.facts c.enter.new.source.store) c.enter.new.source.tables c.enter.new.source.blocks) c.args.row.now c.index-row-index.result c.in_ok-cursor.cursor.placed.table.number c.in_ok-cursor.cursor.table.value.frame c.loop-index.invariant.carries c.enter.ensures.carries (member_at c.args.row.now c.loop-index.index c.index-row-index.result (read_at c.args.row.now c.loop-index.index c.index-row-index.result (omega arith) ∙ ap Some (sym c.index-row-index.is))) (λ i. (c.in_ok-cursor.ensures.placed i).table.number) c.in_ok-cursor.ensures.opened
 
 pub loop-index-preserved : goal.loop-index-preserved
-loop-index-preserved g c = searching_on g.K.KeyOrder.cmp c.args.aim (seen (g.S.Store.facts c.args.source.now.store) c.args.source.now.tables c.args.source.now.blocks) (seen (g.S.Store.facts c.loop-index.source.store) c.loop-index.source.tables c.loop-index.source.blocks) (seen (g.S.Store.facts c.enter.new.source.store) c.enter.new.source.tables c.enter.new.source.blocks) c.args.row.now c.args.start c.loop-index.index c.loop-index.invariant c.index-row-index.result c.enter.ensures.carries (read_at c.args.row.now c.loop-index.index c.index-row-index.result (omega arith) ∙ ap Some (sym c.index-row-index.is)) c.in_ok-cursor.cursor.number c.in_ok-cursor.cursor.table.value.frame c.in_ok-cursor.cursor.here c.in_ok-cursor.ensures.found (sym c.stands.ensures ∙ c.if-stands.false) c.in_ok-cursor.ensures.still
+loop-index-preserved g c = searching_on g.K.KeyOrder.cmp c.args.aim (seen (g.S.Store.facts c.args.source.now.store) c.args.source.now.tables c.args.source.now.blocks) (seen (g.S.Store.facts c.loop-index.source.store) c.loop-index.source.tables c.loop-index.source.blocks) (seen (g.S.Store.facts c.enter.new.source.store) c.enter.new.source.tables c.enter.new.source.blocks) c.args.row.now c.args.start c.loop-index.index c.loop-index.invariant c.index-row-index.result c.enter.ensures.carries (read_at c.args.row.now c.loop-index.index c.index-row-index.result (omega arith) ∙ ap Some (sym c.index-row-index.is)) c.in_ok-cursor.cursor.placed c.in_ok-cursor.cursor.table.value.frame c.in_ok-cursor.cursor.here c.in_ok-cursor.ensures.found (sym c.stands.ensures ∙ c.if-stands.false) c.in_ok-cursor.ensures.still
 
 pub returns-clause-carries : goal.returns-clause-carries
 returns-clause-carries g c = c.loop-index.invariant.carries

@@ -6,8 +6,9 @@ use Rattle.opening.specs.Looking.{IsSealedOf}
 use Rattle.opening.specs.internal.Durable.{HasDurable}
 use Rattle.opening.specs.Durable.{LeavesDurable}
 use Rattle.opening.specs.declared.beginning.Begun.{Begun}
-use Rattle.opening.proofs.BegunSteps.{continued_same, continued_behind, begins}
-use Rattle.opening.proofs.Telling.{found_openable}
+use Rattle.opening.proofs.BegunSteps.{behind_stops, continued_same, continued_behind, begins, unwritten_stops}
+use Rattle.opening.specs.Telling.{Tells}
+use Rattle.opening.proofs.Telling.{found_openable, store_tells}
 use Rattle.opening.proofs.AfterReading.{behind_read, spared_behind, spared_same}
 use Rattle.opening.proofs.beginning.begin.Goals as goal
 
@@ -36,6 +37,14 @@ returns-in_err-rewrite_directory-clause-durable g c =
     let is : c.from_residual-in_err-rewrite_directory.result ≡ Err e = search rules in
     subst (λ (r : Result (Begun _) DbError). LeavesDurable old new r) (sym is)
     (behind_read {T = Unit {0}} {U = Begun _} old mid new e c.in_err-rewrite_directory.ensures.files.call.faithful c.in_ok-found.ensures.store.same c.in_ok-found.ensures.store.synced c.in_err-rewrite_directory.ensures.durable)
+
+pub returns-in_err-rewrite_directory-clause-tells : goal.returns-in_err-rewrite_directory-clause-tells
+returns-in_err-rewrite_directory-clause-tells g c =
+    let order = order_of g.K.KeyOrder.name g.K.KeyOrder.cmp in
+    let files = (g.S.Store.facts c.args.store.now).files in
+    let e = c.in_err-rewrite_directory.field-0.0 in
+    let is : c.from_residual-in_err-rewrite_directory.result ≡ Err e = search rules in
+    λ f. subst (λ (r : Result (Begun _) DbError). Tells order files r) (sym is) (store_tells order files e c.in_err-rewrite_directory.ensures.files.call.errors)
 
 pub returns-in_err-rewrite_directory-clause-continued : goal.returns-in_err-rewrite_directory-clause-continued
 returns-in_err-rewrite_directory-clause-continued g c =
@@ -90,3 +99,33 @@ pub returns-clause-spared : goal.returns-clause-spared
 returns-clause-spared g c = λ f.
     let back = c.in_ok-rewrite_directory.ensures.files.call.faithful f in
     spared_behind (g.S.Store.facts c.args.store.now) (g.S.Store.facts c.find.new.store) (g.S.Store.facts c.rewrite_directory.new.store) (c.in_ok-found.ensures.store.same back) (c.in_ok-found.ensures.store.synced back) (c.in_ok-rewrite_directory.ensures.spared f)
+
+-- ---- what a stop leaves
+
+pub returns-in_err-found-clause-stops : goal.returns-in_err-found-clause-stops
+returns-in_err-found-clause-stops g c f =
+    unwritten_stops (order_of g.K.KeyOrder.name g.K.KeyOrder.cmp) (g.S.Store.facts c.args.store.now) (g.S.Store.facts c.find.new.store) (c.in_err-found.ensures.store.calls f) (c.in_err-found.ensures.store.same f)
+
+pub returns-in_err-version-clause-stops : goal.returns-in_err-version-clause-stops
+returns-in_err-version-clause-stops g c f =
+    unwritten_stops (order_of g.K.KeyOrder.name g.K.KeyOrder.cmp) (g.S.Store.facts c.args.store.now) (g.S.Store.facts c.find.new.store) (c.in_ok-found.ensures.store.calls f) (c.in_ok-found.ensures.store.same f)
+
+pub returns-in_err-rewrite-clause-stops : goal.returns-in_err-rewrite-clause-stops
+returns-in_err-rewrite-clause-stops g c f =
+    unwritten_stops (order_of g.K.KeyOrder.name g.K.KeyOrder.cmp) (g.S.Store.facts c.args.store.now) (g.S.Store.facts c.find.new.store) (c.in_ok-found.ensures.store.calls f) (c.in_ok-found.ensures.store.same f)
+
+pub returns-in_err-memory-clause-stops : goal.returns-in_err-memory-clause-stops
+returns-in_err-memory-clause-stops g c f =
+    unwritten_stops (order_of g.K.KeyOrder.name g.K.KeyOrder.cmp) (g.S.Store.facts c.args.store.now) (g.S.Store.facts c.find.new.store) (c.in_ok-found.ensures.store.calls f) (c.in_ok-found.ensures.store.same f)
+
+pub returns-in_err-rewrite_directory-clause-stops : goal.returns-in_err-rewrite_directory-clause-stops
+returns-in_err-rewrite_directory-clause-stops g c f =
+    let m = c.in_err-rewrite_directory.ensures.files.call.faithful f in
+    behind_stops (order_of g.K.KeyOrder.name g.K.KeyOrder.cmp) (g.S.Store.facts c.args.store.now) (g.S.Store.facts c.find.new.store) (g.S.Store.facts c.rewrite_directory.new.store) c.in_ok-found.found
+    (c.in_ok-found.ensures.store.calls m) (c.in_ok-found.ensures.store.same m) (c.in_ok-found.ensures.found m) (c.in_err-rewrite_directory.ensures.stops f)
+
+pub returns-clause-stops : goal.returns-clause-stops
+returns-clause-stops g c f =
+    let m = c.in_ok-rewrite_directory.ensures.files.call.faithful f in
+    behind_stops (order_of g.K.KeyOrder.name g.K.KeyOrder.cmp) (g.S.Store.facts c.args.store.now) (g.S.Store.facts c.find.new.store) (g.S.Store.facts c.rewrite_directory.new.store) c.in_ok-found.found
+    (c.in_ok-found.ensures.store.calls m) (c.in_ok-found.ensures.store.same m) (c.in_ok-found.ensures.found m) (c.in_ok-rewrite_directory.ensures.stops f)

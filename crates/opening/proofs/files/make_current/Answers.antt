@@ -1,9 +1,10 @@
 use Rattle.std.proofs.Common.{◌≡◌, Result, Err, sym, subst, rules}
 use Rattle.coding.specs.declared.error.DbError.{DbError}
+use Rattle.store.proofs.Stopping.{sync_left}
 use Rattle.opening.specs.internal.Calls.{MakesCurrent}
 use Rattle.opening.specs.internal.Durable.{MakesSynced}
 use Rattle.opening.proofs.Syncing.{current_unwritten, current_unset, current_set, synced_again, not_synced_again}
-use Rattle.opening.proofs.StoreCalls.{current_not_written, not_renamed, current_made, current_kept, current_not_kept}
+use Rattle.opening.proofs.StoreCalls.{current_not_written, not_renamed, current_made, current_kept, current_not_kept, renamed_stops, unset_stops}
 use Rattle.opening.proofs.files.make_current.Goals as goal
 
 pub returns-in_err-write_file-clause-files : goal.returns-in_err-write_file-clause-files
@@ -58,3 +59,30 @@ returns-clause-synced g c =
     (current_set (g.S.Store.facts c.args.store.now) (g.S.Store.facts c.write_file.new.store) (g.S.Store.facts c.rename.new.self) c.args.temporary.now c.args.bytes.now
     c.in_default.ensures.counts.faithful c.in_ok-write_file.ensures.files c.in_ok-write_file.ensures.synced c.in_default.ensures.files.ok c.in_default.ensures.synced.ok)
     c.in_default-sync.ensures.synced
+
+pub returns-in_err-write_file-clause-stops : goal.returns-in_err-write_file-clause-stops
+returns-in_err-write_file-clause-stops g c f = unset_stops (g.S.Store.facts c.args.store.now) (g.S.Store.facts c.write_file.new.store) c.args.temporary.now c.args.bytes.now (c.in_err-write_file.ensures.stops f)
+
+pub returns-in-Err-clause-stops : goal.returns-in-Err-clause-stops
+returns-in-Err-clause-stops g c f =
+    let m = c.rename.ensures.counts.faithful f in
+    renamed_stops (g.S.Store.facts c.args.store.now) (g.S.Store.facts c.write_file.new.store) (g.S.Store.facts c.rename.new.self) c.args.temporary.now c.args.bytes.now
+    (c.in_ok-write_file.ensures.files.ok m) (c.in_ok-write_file.ensures.stops m) (c.rename.ensures.calls.noted f)
+
+pub returns-in-Err-sync-clause-stops : goal.returns-in-Err-sync-clause-stops
+returns-in-Err-sync-clause-stops g c f =
+    let old = g.S.Store.facts c.args.store.now in
+    let most = g.S.Store.facts c.rename.new.self in
+    let l = c.sync.ensures.counts.faithful f in
+    let m = c.rename.ensures.counts.faithful l in
+    sync_left old most (g.S.Store.facts c.sync.new.self) _ _ c.sync.result (c.sync.ensures.calls.ok f) (c.sync.ensures.calls.err f) (c.sync.ensures.same f)
+    (renamed_stops old (g.S.Store.facts c.write_file.new.store) most c.args.temporary.now c.args.bytes.now (c.in_ok-write_file.ensures.files.ok m) (c.in_ok-write_file.ensures.stops m) (c.rename.ensures.calls.noted l))
+
+pub returns-clause-stops : goal.returns-clause-stops
+returns-clause-stops g c f =
+    let old = g.S.Store.facts c.args.store.now in
+    let most = g.S.Store.facts c.rename.new.self in
+    let l = c.sync.ensures.counts.faithful f in
+    let m = c.rename.ensures.counts.faithful l in
+    sync_left old most (g.S.Store.facts c.sync.new.self) _ _ c.sync.result (c.sync.ensures.calls.ok f) (c.sync.ensures.calls.err f) (c.sync.ensures.same f)
+    (renamed_stops old (g.S.Store.facts c.write_file.new.store) most c.args.temporary.now c.args.bytes.now (c.in_ok-write_file.ensures.files.ok m) (c.in_ok-write_file.ensures.stops m) (c.rename.ensures.calls.noted l))

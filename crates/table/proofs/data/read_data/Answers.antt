@@ -23,7 +23,7 @@ returns-in-Err-clause-refused g c =
     let bytes : List ℕ = c.in_ok-bytes.bytes.items in
     let short : length bytes ≤ 2 ^ 30 = c.in_ok-bytes.ensures.short in
     let handle = c.args.handle in
-    rw c.table_refusal.ensures
+    rw (c.refuse_block.ensures.same, c.refuse_block.ensures.value)
     (refuses_block c.in-Err.e _ _ c.args.name.now (λ (file : List ℕ). IsStored file handle bytes) (λ (file : List ℕ). IsDamaged g.K.KeyOrder.cmp file handle) (λ (file : List ℕ). IsUnsupported file handle)
     ((pairs : List Pair) → IsBlock (IsBelowInternal g.K.KeyOrder.cmp) bytes pairs → ⊥) (2 ^ 30 < length bytes)
     (λ file stored none. (no_data g.K.KeyOrder.cmp file bytes handle none stored, supported file bytes handle stored short)) (λ file stored long. absurd (omega (arith, short, long)))

@@ -22,7 +22,7 @@ returns-in-Err-clause-refused g c =
     let bytes : List ℕ = c.in_ok-bytes.bytes.items in
     let short : length bytes ≤ 2 ^ 30 = c.in_ok-bytes.ensures.short in
     let handle = c.args.place.now.handle in
-    rw c.table_refusal.ensures
+    rw (c.refuse_block.ensures.same, c.refuse_block.ensures.value)
     (refuses_block c.in-Err.e _ _ c.args.name.now (λ (file : List ℕ). IsStored file handle bytes)
     (λ (file : List ℕ). ((pairs : List Pair) → HasBlock cmp file handle pairs → AreWithin cmp floor most pairs → ⊥) × (IsUnsupported file handle → ⊥)) (λ (file : List ℕ). IsUnsupported file handle)
     ((pairs : List Pair) → IsBlock below bytes pairs → AreBetween below floor c.as_slice.result.now pairs → ⊥) (2 ^ 30 < length bytes)
@@ -33,7 +33,7 @@ returns-in-Err-clause-refused g c =
     c.in_ok-bytes.ensures.stood c.in_ok-bytes.ensures.found c.in-Err.ensures.refused)
 
 pub returns-then-not-begins_with_key-clause-refused : goal.returns-then-not-begins_with_key-clause-refused
-returns-then-not-begins_with_key-clause-refused g c t file there =
+returns-then-not-begins_with_key-clause-refused g c = rw c.note_parts.ensures (λ t file there.
     let cmp = g.K.KeyOrder.cmp in
     let floor : Option (List ℕ) = option_copied c.args.floor in
     let most : List ℕ = c.args.place.now.key in
@@ -44,7 +44,7 @@ returns-then-not-begins_with_key-clause-refused g c t file there =
     let stored = subst (λ (f : List ℕ). IsStored f handle bytes) same found.2 in (
       none_begins cmp floor most handle file c.in-Ok.block.pairs c.if-not-begins_with_key.ensures (bytes, stored, c.in-Ok.ensures.found),
       supported file bytes handle stored c.in_ok-bytes.ensures.short,
-    )
+    ))
 
 pub returns-clause-within : goal.returns-clause-within
 returns-clause-within g c =

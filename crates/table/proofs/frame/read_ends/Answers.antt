@@ -26,10 +26,11 @@ returns-clause-refused g c =
     let a : Facts = g.S.Store.facts c.args.store.now in
     let b : Facts = g.S.Store.facts c.file_length.new.store in
     let d : Facts = g.S.Store.facts c.read_part.new.store in
-    known a d c.args.name.now (λ (file : List ℕ). (len ≡ length file) × (bytes ≡ take 48 (drop (len - 48) file)))
+    rw (c.refuse_footer.ensures.same, c.refuse_footer.ensures.value)
+    (known a d c.args.name.now (λ (file : List ℕ). (len ≡ length file) × (bytes ≡ take 48 (drop (len - 48) file)))
     (λ (file : List ℕ). (before : ℕ) (metaindex index : Handle) → HasFooter file before metaindex index → ⊥)
     (λ file h. no_footer file bytes (len - 48) h.1 (omega (arith, h.0)) (λ m i k. c.in-Err.ensures.refused m i (rw c.deref.ensures.value k)))
     (finds_both a d c.args.name.now (λ (file : List ℕ). len ≡ length file) (λ (file : List ℕ). bytes ≡ take 48 (drop (len - 48) file))
     (λ (file : List ℕ). (len ≡ length file) × (bytes ≡ take 48 (drop (len - 48) file))) (λ file l b. (l, b))
     (finds_first a b d c.args.name.now (λ (file : List ℕ). len ≡ length file) c.in_ok-bytes.ensures.reads c.in_ok-len.ensures.found)
-    (finds_second a b d c.args.name.now (λ (file : List ℕ). bytes ≡ take 48 (drop (len - 48) file)) c.in_ok-len.ensures.reads c.in_ok-bytes.ensures.reads c.in_ok-bytes.ensures.found))
+    (finds_second a b d c.args.name.now (λ (file : List ℕ). bytes ≡ take 48 (drop (len - 48) file)) c.in_ok-len.ensures.reads c.in_ok-bytes.ensures.reads c.in_ok-bytes.ensures.found)))

@@ -33,7 +33,7 @@ returns-in-Err-clause-refused g c =
     let bytes : List ℕ = c.in_ok-bytes.bytes.items in
     let short : length bytes ≤ 2 ^ 30 = c.in_ok-bytes.ensures.short in
     let index = c.args.index in
-    rw c.table_refusal.ensures
+    rw (c.refuse_block.ensures.same, c.refuse_block.ensures.value)
     (refuses_block c.in-Err.e _ _ c.args.name.now (λ (file : List ℕ). IsStored file index bytes) (NoIndex g.K.KeyOrder.cmp index) (λ (file : List ℕ). IsUnsupported file index)
     ((pairs : List Pair) (places : List Place) → IsBlock (IsBelowInternal g.K.KeyOrder.cmp) bytes pairs → ArePlaces pairs places → ⊥) (2 ^ 30 < length bytes)
     (λ file stored none. (no_index g.K.KeyOrder.cmp file bytes index none stored, supported file bytes index stored short)) (λ file stored long. absurd (omega (arith, short, long)))

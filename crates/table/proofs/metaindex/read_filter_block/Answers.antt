@@ -27,6 +27,6 @@ pub returns-in-Err-clause-refused : goal.returns-in-Err-clause-refused
 returns-in-Err-clause-refused g c =
     let bytes : List ℕ = c.in_ok-bytes.bytes.items in
     let handle = c.args.handle in
-    rw c.table_refusal.ensures
+    rw (c.refuse_filter.ensures.same, c.refuse_filter.ensures.value)
     (refuses_damaged c.in-Err.e _ _ c.args.name.now (λ (file : List ℕ). IsStored file handle bytes) (NoFilterBlock handle) (λ (file : List ℕ). IsUnsupported file handle)
     (IsFilterBlock bytes → ⊥) (λ file stored none. (no_filter_block file bytes handle none stored, supported file bytes handle stored c.in_ok-bytes.ensures.short)) c.in_ok-bytes.ensures.stood c.in_ok-bytes.ensures.found c.in-Err.ensures.refused)

@@ -33,7 +33,7 @@ returns-in-Err-clause-refused g c =
     let bytes : List ℕ = c.in_ok-bytes.bytes.items in
     let short : length bytes ≤ 2 ^ 30 = c.in_ok-bytes.ensures.short in
     let metaindex = c.args.metaindex in
-    rw c.table_refusal.ensures
+    rw (c.refuse_block.ensures.same, c.refuse_block.ensures.value)
     (refuses_block c.in-Err.e _ _ c.args.name.now (λ (file : List ℕ). IsStored file metaindex bytes) (NoNames metaindex) (λ (file : List ℕ). IsUnsupported file metaindex)
     ((pairs : List Pair) (filter : Option Handle) → IsBlock IsBelowPlain bytes pairs → NamesFilter pairs filter → ⊥) (2 ^ 30 < length bytes)
     (λ file stored none. (no_metaindex file bytes metaindex none stored, supported file bytes metaindex stored short)) (λ file stored long. absurd (omega (arith, short, long)))

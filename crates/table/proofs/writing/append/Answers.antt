@@ -6,7 +6,7 @@ returns-in-Ok-clause-writes g c =
     let old = g.S.Store.facts c.args.store.now in
     let new = g.S.Store.facts c.append.new.self in
     let h = c.in-Ok.ensures in
-    append_writes old new c.args.name.now c.args.bytes.now h.counts (h.undenied, h.lock) h.files h.synced
+    append_writes old new c.args.name.now c.args.bytes.now h.counts (h.undenied, h.lock, h.writes) h.files h.synced h.calls
 
 pub returns-in-Ok-clause-appended : goal.returns-in-Ok-clause-appended
 returns-in-Ok-clause-appended g c =
@@ -17,4 +17,4 @@ returns-in-Err-clause-writes g c =
     let old = g.S.Store.facts c.args.store.now in
     let new = g.S.Store.facts c.append.new.self in
     let h = c.in-Err.ensures in
-    append_refused old new c.args.name.now c.args.bytes.now c.in-Err.e h.counts (h.undenied, h.lock) h.files h.synced (λ e. h.missing (cc))
+    append_refused old new c.args.name.now c.args.bytes.now c.in-Err.e h.counts (h.undenied, h.lock, h.writes) h.files h.synced h.calls (λ e. h.missing (cc))

@@ -6,7 +6,7 @@ returns-in-Ok-clause-writes g c =
     let old = g.S.Store.facts c.args.store.now in
     let new = g.S.Store.facts c.create.new.self in
     let h = c.in-Ok.ensures in
-    create_writes old new c.args.name.now h.counts (h.undenied, h.lock) h.files h.synced
+    create_writes old new c.args.name.now h.counts (h.undenied, h.lock, h.writes) h.files h.synced h.calls
 
 pub returns-in-Ok-clause-created : goal.returns-in-Ok-clause-created
 returns-in-Ok-clause-created g c =
@@ -17,4 +17,4 @@ returns-in-Err-clause-writes g c =
     let old = g.S.Store.facts c.args.store.now in
     let new = g.S.Store.facts c.create.new.self in
     let h = c.in-Err.ensures in
-    create_refused old new c.args.name.now c.in-Err.e h.counts (h.undenied, h.lock) h.files h.synced (λ e. h.missing (cc))
+    create_refused old new c.args.name.now c.in-Err.e h.counts (h.undenied, h.lock, h.writes) h.files h.synced h.calls (λ e. h.missing (cc))

@@ -4,7 +4,7 @@ use Rattle.table.proofs.writing.sync.Goals as goal
 pub returns-in-Ok-clause-writes : goal.returns-in-Ok-clause-writes
 returns-in-Ok-clause-writes g c =
     let h = c.in-Ok.ensures in
-    sync_writes (g.S.Store.facts c.args.store.now) (g.S.Store.facts c.sync.new.self) c.args.name.now h.counts (h.undenied, h.lock) h.same h.synced
+    sync_writes (g.S.Store.facts c.args.store.now) (g.S.Store.facts c.sync.new.self) c.args.name.now h.counts (h.undenied, h.lock, h.writes) h.same h.synced h.calls
 
 pub returns-in-Ok-clause-synced : goal.returns-in-Ok-clause-synced
 returns-in-Ok-clause-synced g c =
@@ -13,4 +13,4 @@ returns-in-Ok-clause-synced g c =
 pub returns-in-Err-Device-clause-writes : goal.returns-in-Err-Device-clause-writes
 returns-in-Err-Device-clause-writes g c =
     let h = c.in-Err-Device.ensures in
-    sync_refused (g.S.Store.facts c.args.store.now) (g.S.Store.facts c.sync.new.self) c.args.name.now c.in-Err-Device.field-0 h.counts (h.undenied, h.lock) h.same h.unsynced
+    sync_refused (g.S.Store.facts c.args.store.now) (g.S.Store.facts c.sync.new.self) c.args.name.now c.in-Err-Device.field-0 h.counts (h.undenied, h.lock, h.writes) h.same h.unsynced h.calls

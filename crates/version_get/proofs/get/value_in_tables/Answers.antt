@@ -4,6 +4,7 @@ use Rattle.ikey.specs.Orders.{order_of}
 use Rattle.table_access.specs.Tables.{seen}
 use Rattle.table_access.proofs.Standing.{still_later}
 use Rattle.version_get.proofs.Getting.{carried, few_places, has_ended, is_answer, is_none, none_behind, not_read}
+use Rattle.version_get.proofs.Turns.{first_told, none_told, tears_here, told_on, turns_begin}
 use Rattle.version_get.proofs.get.value_in_tables.Goals as goal
 
 pub returns-in_default-clause-found : goal.returns-in_default-clause-found
@@ -12,7 +13,7 @@ returns-in_default-clause-found g c =
     let old = seen (g.S.Store.facts c.args.source.now.store) c.args.source.now.tables c.args.source.now.blocks in
     let now = seen (g.S.Store.facts c.loop-from.source.store) c.loop-from.source.tables c.loop-from.source.blocks in
     let none = rw c.deref.ensures.value at c.in_default.ensures in
-    has_ended order g.met.K.KeyOrder.total g.met.K.KeyOrder.exact old now c.args.version.now.tables c.args.key.now c.args.sequence c.in_ok-target.target.items c.in_ok-target.ensures c.loop-from.from c.loop-from.invariant none
+    has_ended order g.met.K.KeyOrder.total g.met.K.KeyOrder.exact old now c.args.version.now.tables c.args.key.now c.args.sequence c.in_ok-target.target.items c.in_ok-target.ensures c.loop-from.from c.loop-from.invariant.sought none
 
 pub returns-in_err-found-clause-refused : goal.returns-in_err-found-clause-refused
 returns-in_err-found-clause-refused g c =
@@ -23,7 +24,7 @@ returns-in_err-found-clause-refused g c =
     let new = seen (g.S.Store.facts c.value_in_table.new.source.store) c.value_in_table.new.source.tables c.value_in_table.new.source.blocks in
     let next = rw c.deref.ensures.value at c.in-Some.ensures in
     rw (p.1, p.2)
-    (not_read order g.met.K.KeyOrder.total g.met.K.KeyOrder.exact old now c.args.version.now.tables c.args.key.now c.args.sequence c.in_ok-target.target.items c.in_ok-target.ensures c.loop-from.from c.loop-from.invariant
+    (not_read order g.met.K.KeyOrder.total g.met.K.KeyOrder.exact old now c.args.version.now.tables c.args.key.now c.args.sequence c.in_ok-target.target.items c.in_ok-target.ensures c.loop-from.from c.loop-from.invariant.sought
     c.in-Some.place c.in-Some.placed.now next new c.value_in_table.ensures.carries c.in_err-found.field-0.0 c.in_err-found.ensures.refused)
 
 pub returns-then-is_some-clause-found : goal.returns-then-is_some-clause-found
@@ -33,7 +34,7 @@ returns-then-is_some-clause-found g c =
     let now = seen (g.S.Store.facts c.loop-from.source.store) c.loop-from.source.tables c.loop-from.source.blocks in
     let new = seen (g.S.Store.facts c.value_in_table.new.source.store) c.value_in_table.new.source.tables c.value_in_table.new.source.blocks in
     let next = rw c.deref.ensures.value at c.in-Some.ensures in
-    is_answer order g.met.K.KeyOrder.total g.met.K.KeyOrder.exact old now c.args.version.now.tables c.args.key.now c.args.sequence c.in_ok-target.target.items c.in_ok-target.ensures c.loop-from.from c.loop-from.invariant
+    is_answer order g.met.K.KeyOrder.total g.met.K.KeyOrder.exact old now c.args.version.now.tables c.args.key.now c.args.sequence c.in_ok-target.target.items c.in_ok-target.ensures c.loop-from.from c.loop-from.invariant.sought
     c.in-Some.place c.in-Some.placed.now next new c.value_in_table.ensures.carries c.in_ok-found.found c.if-is_some.ensures c.in_ok-found.ensures.found
 
 pub overflow_add-from : goal.overflow_add-from
@@ -50,30 +51,34 @@ loop-from-preserved g c =
     let now = seen (g.S.Store.facts c.loop-from.source.store) c.loop-from.source.tables c.loop-from.source.blocks in
     let new = seen (g.S.Store.facts c.value_in_table.new.source.store) c.value_in_table.new.source.tables c.value_in_table.new.source.blocks in
     let next = rw c.deref.ensures.value at c.in-Some.ensures in
-    is_none order g.met.K.KeyOrder.total g.met.K.KeyOrder.exact old now c.args.version.now.tables c.args.key.now c.args.sequence c.in_ok-target.target.items c.in_ok-target.ensures c.loop-from.from c.loop-from.invariant
-    c.in-Some.place c.in-Some.placed.now next new c.value_in_table.ensures.carries c.in_ok-found.found c.in_ok-found.ensures.still c.if-is_some.ensures c.in_ok-found.ensures.found
+    record {
+      sought = is_none order g.met.K.KeyOrder.total g.met.K.KeyOrder.exact old now c.args.version.now.tables c.args.key.now c.args.sequence c.in_ok-target.target.items c.in_ok-target.ensures c.loop-from.from c.loop-from.invariant.sought
+          c.in-Some.place c.in-Some.placed.now next new c.value_in_table.ensures.carries c.in_ok-found.found c.in_ok-found.ensures.still c.if-is_some.ensures c.in_ok-found.ensures.found;
+      told = told_on order.cmp old now c.args.version.now.tables c.args.key.now c.args.sequence c.in_ok-target.target.items c.loop-from.from c.loop-from.invariant.told new c.in-Some.place c.in-Some.placed.now next
+          c.loop-from.invariant.sought.carries c.value_in_table.ensures.carries c.in_ok-found.found c.if-is_some.ensures c.in_ok-found.ensures.told;
+    }
 
 pub returns-clause-found : goal.returns-clause-found
 returns-clause-found g c =
     let order = order_of g.K.KeyOrder.name g.K.KeyOrder.cmp in
     let old = seen (g.S.Store.facts c.args.source.now.store) c.args.source.now.tables c.args.source.now.blocks in
     let now = seen (g.S.Store.facts c.loop-from.source.store) c.loop-from.source.tables c.loop-from.source.blocks in
-    has_ended order g.met.K.KeyOrder.total g.met.K.KeyOrder.exact old now c.args.version.now.tables c.args.key.now c.args.sequence c.in_ok-target.target.items c.in_ok-target.ensures c.loop-from.from c.loop-from.invariant
+    has_ended order g.met.K.KeyOrder.total g.met.K.KeyOrder.exact old now c.args.version.now.tables c.args.key.now c.args.sequence c.in_ok-target.target.items c.in_ok-target.ensures c.loop-from.from c.loop-from.invariant.sought
     (none_behind order c.args.version.now.tables c.in_ok-target.target.items c.loop-from.from c.search_end-end.result c.search_end-end.ensures.is (omega (arith, c.loop-from-test.false)))
 
 pub returns-in_err-found-clause-still : goal.returns-in_err-found-clause-still
 returns-in_err-found-clause-still g c =
     let p = err_from_is_err_and c.from_residual-in_err-found.result c.from_residual-in_err-found.ensures.1 in
-    rw (p.1, p.2) (still_later c.in_err-found.field-0.0 (g.S.Store.facts c.args.source.now.store) (g.S.Store.facts c.loop-from.source.store) (g.S.Store.facts c.value_in_table.new.source.store) c.loop-from.invariant.still c.in_err-found.ensures.still)
+    rw (p.1, p.2) (still_later c.in_err-found.field-0.0 (g.S.Store.facts c.args.source.now.store) (g.S.Store.facts c.loop-from.source.store) (g.S.Store.facts c.value_in_table.new.source.store) c.loop-from.invariant.sought.still c.in_err-found.ensures.still)
 
 pub returns-in_default-clause-still : goal.returns-in_default-clause-still
-returns-in_default-clause-still g c = c.loop-from.invariant.still
+returns-in_default-clause-still g c = c.loop-from.invariant.sought.still
 
 pub returns-then-is_some-clause-still : goal.returns-then-is_some-clause-still
-returns-then-is_some-clause-still g c = c.in_ok-found.ensures.still ∙ c.loop-from.invariant.still
+returns-then-is_some-clause-still g c = c.in_ok-found.ensures.still ∙ c.loop-from.invariant.sought.still
 
 pub returns-clause-still : goal.returns-clause-still
-returns-clause-still g c = c.loop-from.invariant.still
+returns-clause-still g c = c.loop-from.invariant.sought.still
 
 pub returns-in_err-found-clause-carries : goal.returns-in_err-found-clause-carries
 returns-in_err-found-clause-carries g c =
@@ -82,7 +87,7 @@ returns-in_err-found-clause-carries g c =
     let now = seen (g.S.Store.facts c.loop-from.source.store) c.loop-from.source.tables c.loop-from.source.blocks in
     let new = seen (g.S.Store.facts c.value_in_table.new.source.store) c.value_in_table.new.source.tables c.value_in_table.new.source.blocks in
     let next = rw c.deref.ensures.value at c.in-Some.ensures in
-    carried order g.met.K.KeyOrder.total g.met.K.KeyOrder.exact old now c.args.version.now.tables c.args.key.now c.args.sequence c.in_ok-target.target.items c.in_ok-target.ensures c.loop-from.from c.loop-from.invariant
+    carried order g.met.K.KeyOrder.total g.met.K.KeyOrder.exact old now c.args.version.now.tables c.args.key.now c.args.sequence c.in_ok-target.target.items c.in_ok-target.ensures c.loop-from.from c.loop-from.invariant.sought
     c.in-Some.place c.in-Some.placed.now next new c.value_in_table.ensures.carries
 
 pub returns-then-is_some-clause-carries : goal.returns-then-is_some-clause-carries
@@ -92,5 +97,54 @@ returns-then-is_some-clause-carries g c =
     let now = seen (g.S.Store.facts c.loop-from.source.store) c.loop-from.source.tables c.loop-from.source.blocks in
     let new = seen (g.S.Store.facts c.value_in_table.new.source.store) c.value_in_table.new.source.tables c.value_in_table.new.source.blocks in
     let next = rw c.deref.ensures.value at c.in-Some.ensures in
-    carried order g.met.K.KeyOrder.total g.met.K.KeyOrder.exact old now c.args.version.now.tables c.args.key.now c.args.sequence c.in_ok-target.target.items c.in_ok-target.ensures c.loop-from.from c.loop-from.invariant
+    carried order g.met.K.KeyOrder.total g.met.K.KeyOrder.exact old now c.args.version.now.tables c.args.key.now c.args.sequence c.in_ok-target.target.items c.in_ok-target.ensures c.loop-from.from c.loop-from.invariant.sought
     c.in-Some.place c.in-Some.placed.now next new c.value_in_table.ensures.carries
+
+pub loop-from-init : goal.loop-from-init
+loop-from-init g c =
+    turns_begin (order_of g.K.KeyOrder.name g.K.KeyOrder.cmp) (seen (g.S.Store.facts c.args.source.now.store) c.args.source.now.tables c.args.source.now.blocks) c.args.version.now.tables c.args.key.now c.args.sequence
+    c.in_ok-target.target.items
+
+pub returns-in_default-clause-told : goal.returns-in_default-clause-told
+returns-in_default-clause-told g c =
+    let old = seen (g.S.Store.facts c.args.source.now.store) c.args.source.now.tables c.args.source.now.blocks in
+    let now = seen (g.S.Store.facts c.loop-from.source.store) c.loop-from.source.tables c.loop-from.source.blocks in
+    let none = rw c.deref.ensures.value at c.in_default.ensures in (
+      c.in_ok-target.target.items,
+      c.in_ok-target.ensures,
+      none_told g.K.KeyOrder.cmp old now c.args.version.now.tables c.args.key.now c.args.sequence c.in_ok-target.target.items c.loop-from.from c.loop-from.invariant.told none,
+    )
+
+pub returns-then-is_some-clause-told : goal.returns-then-is_some-clause-told
+returns-then-is_some-clause-told g c =
+    let old = seen (g.S.Store.facts c.args.source.now.store) c.args.source.now.tables c.args.source.now.blocks in
+    let now = seen (g.S.Store.facts c.loop-from.source.store) c.loop-from.source.tables c.loop-from.source.blocks in
+    let new = seen (g.S.Store.facts c.value_in_table.new.source.store) c.value_in_table.new.source.tables c.value_in_table.new.source.blocks in
+    let next = rw c.deref.ensures.value at c.in-Some.ensures in (
+      c.in_ok-target.target.items,
+      c.in_ok-target.ensures,
+      first_told g.K.KeyOrder.cmp old now c.args.version.now.tables c.args.key.now c.args.sequence c.in_ok-target.target.items c.loop-from.from c.loop-from.invariant.told new c.in-Some.place c.in-Some.placed.now next
+          c.loop-from.invariant.sought.carries c.value_in_table.ensures.carries c.in_ok-found.found c.if-is_some.ensures c.in_ok-found.ensures.told,
+    )
+
+pub returns-clause-told : goal.returns-clause-told
+returns-clause-told g c =
+    let order = order_of g.K.KeyOrder.name g.K.KeyOrder.cmp in
+    let old = seen (g.S.Store.facts c.args.source.now.store) c.args.source.now.tables c.args.source.now.blocks in
+    let now = seen (g.S.Store.facts c.loop-from.source.store) c.loop-from.source.tables c.loop-from.source.blocks in (
+      c.in_ok-target.target.items,
+      c.in_ok-target.ensures,
+      none_told g.K.KeyOrder.cmp old now c.args.version.now.tables c.args.key.now c.args.sequence c.in_ok-target.target.items c.loop-from.from c.loop-from.invariant.told
+          (none_behind order c.args.version.now.tables c.in_ok-target.target.items c.loop-from.from c.search_end-end.result c.search_end-end.ensures.is (omega (arith, c.loop-from-test.false))),
+    )
+
+pub returns-in_err-found-clause-torn : goal.returns-in_err-found-clause-torn
+returns-in_err-found-clause-torn g c =
+    let p = err_from_is_err_and c.from_residual-in_err-found.result c.from_residual-in_err-found.ensures.1 in
+    let old = seen (g.S.Store.facts c.args.source.now.store) c.args.source.now.tables c.args.source.now.blocks in
+    let now = seen (g.S.Store.facts c.loop-from.source.store) c.loop-from.source.tables c.loop-from.source.blocks in
+    let new = seen (g.S.Store.facts c.value_in_table.new.source.store) c.value_in_table.new.source.tables c.value_in_table.new.source.blocks in
+    let next = rw c.deref.ensures.value at c.in-Some.ensures in
+    rw (p.1, p.2)
+    (tears_here g.K.KeyOrder.cmp old now c.args.version.now.tables c.args.key.now c.args.sequence c.in_ok-target.target.items c.loop-from.from c.loop-from.invariant.told new c.in-Some.place c.in-Some.placed.now next
+    c.loop-from.invariant.sought.carries c.value_in_table.ensures.carries c.in_ok-target.ensures c.in_err-found.field-0.0 c.in_err-found.ensures.torn)

@@ -14,3 +14,6 @@ returns-clause-added g c = λ pairs t none h.
     let new : Filling = record { number = c.self.inside.number; smallest = c.self.inside.smallest; largest = c.copy_to.new.buffer.items; building = c.add.new.self } in
     filling-more g.K.KeyOrder.cmp c.args.self.now new a b pairs pair (ap (λ (f : Filling). f.smallest) c.self.view_is) c.in_ok-copy_to.ensures.ok none
     (λ builds. c.in_ok-add.ensures.added pairs t (subst (λ (f : Filling). Builds g.K.KeyOrder.cmp f.building a pairs) (sym c.self.view_is) builds)) h
+
+pub returns-clause-internal : goal.returns-clause-internal
+returns-clause-internal g c = (c.if-not-accepts.ensures.parts, c.if-not-accepts.ensures.parts_are)

@@ -19,3 +19,6 @@ returns-in-Row-clause-stays g c =
 
 pub returns-in-Memory-clause-still : goal.returns-in-Memory-clause-still
 returns-in-Memory-clause-still g c = nothing_called (g.S.Store.facts c.args.source.now.tables.store) c.next.result
+
+pub returns-in-Row-clause-refused : goal.returns-in-Row-clause-refused
+returns-in-Row-clause-refused g c = rw c.in-Row.is c.next-in-Row.ensures.refused

@@ -1,4 +1,13 @@
+use Rattle.ikey.specs.Orders.{order_of}
+use Rattle.engine.proofs.StopSteps.{stops_keeping}
 use Rattle.engine.proofs.db.Db.compact_all.Goals as goal
 
 pub returns-clause-step : goal.returns-clause-step
 returns-clause-step g c = c.compact_all.ensures.step c.args.self.now.ids
+
+pub returns-clause-breaks : goal.returns-clause-breaks
+returns-clause-breaks g c whole = c.compact_all.ensures.breaks whole
+
+pub returns-clause-stops : goal.returns-clause-stops
+returns-clause-stops g c f m s =
+    stops_keeping (order_of g.K.KeyOrder.name g.K.KeyOrder.cmp) m (g.S.Store.facts c.args.self.now.source.tables.store) (g.S.Store.facts c.compact_all.new.source.tables.store) (c.compact_all.ensures.stops f c.args.self.now.ids m s)

@@ -11,6 +11,7 @@ loop-init g c = record {
   same = (refl, refl);
   leaves = leaves_itself (g.S.Store.facts (db_store_of c.args.self.now));
   ids = refl;
+  whole = refl;
   opening = record { options = refl; failures = refl };
 }
 
@@ -38,6 +39,7 @@ loop-preserved g c = record {
   same = (c.range_next.ensures.same.0 ∙ c.loop.invariant.same.0, c.range_next.ensures.same.1 ∙ c.loop.invariant.same.1);
   leaves = leaves_then (g.S.Store.facts (db_store_of c.args.self.now)) (g.S.Store.facts (db_store_of c.loop.self)) (g.S.Store.facts (db_store_of c.range_next.new.self)) c.range_next.ensures.step.faithful c.loop.invariant.leaves c.range_next.ensures.leaves;
   ids = c.range_next.ensures.ids ∙ c.loop.invariant.ids;
+  whole = c.range_next.ensures.whole ∙ c.loop.invariant.whole;
   opening = record {
     options = c.range_next.ensures.opening.options ∙ c.loop.invariant.opening.options;
     failures = c.range_next.ensures.opening.failures ∙ c.loop.invariant.opening.failures;

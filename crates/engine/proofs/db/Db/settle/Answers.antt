@@ -1,14 +1,17 @@
+use Rattle.ikey.specs.Orders.{order_of}
 use Rattle.std.proofs.Common.{◌∙◌, refl}
 use Rattle.engine.proofs.PaceSteps.{draws_none, draws_then, idle_only, refusal_only, worked_only, works_then}
 use Rattle.engine.proofs.RangeLeads.{leads_as, leads_stay, leads_then}
+use Rattle.engine.proofs.StopSteps.{db_stops_none, db_stops_then}
 use Rattle.engine.proofs.db.Db.settle.Goals as goal
 
 pub loop-init : goal.loop-init
-loop-init g c = record { steps = leads_stay draws_none; ids = refl; opening = record { options = refl; failures = refl } }
+loop-init g c = record { steps = leads_stay draws_none; stops = db_stops_none (order_of g.K.KeyOrder.name g.K.KeyOrder.cmp) g.S.Store.facts c.args.self.now; ids = refl; opening = record { options = refl; failures = refl } }
 
 pub loop-preserved : goal.loop-preserved
 loop-preserved g c = record {
   steps = leads_then (λ m n o h k. draws_then m n o h (worked_only n o c.args.budget k)) c.loop.invariant.steps (rw c.in-Ok-Worked.field-0-is at c.in-Ok-Worked.ensures.step);
+  stops = db_stops_then (order_of g.K.KeyOrder.name g.K.KeyOrder.cmp) g.S.Store.facts c.args.self.now c.loop.self c.work.new.self c.loop.invariant.steps c.work.ensures.step.faithful c.loop.invariant.stops c.work.ensures.stops;
   ids = c.work.ensures.ids ∙ c.loop.invariant.ids;
   opening = record {
     options = c.work.ensures.opening.options ∙ c.loop.invariant.opening.options;
@@ -24,3 +27,14 @@ returns-in-Err-clause-step g c = leads_then (λ m n o h k. works_then m n o h.0 
 
 pub returns-clause-step : goal.returns-clause-step
 returns-clause-step g c = leads_as (λ m n h. h.0) c.loop.invariant.steps
+
+-- ---- what a stop leaves
+
+pub returns-in-Ok-Idle-clause-stops : goal.returns-in-Ok-Idle-clause-stops
+returns-in-Ok-Idle-clause-stops g c = db_stops_then (order_of g.K.KeyOrder.name g.K.KeyOrder.cmp) g.S.Store.facts c.args.self.now c.loop.self c.work.new.self c.loop.invariant.steps c.work.ensures.step.faithful c.loop.invariant.stops c.work.ensures.stops
+
+pub returns-in-Err-clause-stops : goal.returns-in-Err-clause-stops
+returns-in-Err-clause-stops g c = db_stops_then (order_of g.K.KeyOrder.name g.K.KeyOrder.cmp) g.S.Store.facts c.args.self.now c.loop.self c.work.new.self c.loop.invariant.steps c.work.ensures.step.faithful c.loop.invariant.stops c.work.ensures.stops
+
+pub returns-clause-stops : goal.returns-clause-stops
+returns-clause-stops g c = c.loop.invariant.stops

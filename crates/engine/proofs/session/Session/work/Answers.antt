@@ -1,13 +1,14 @@
 use Rattle.ikey.specs.Orders.{order_of}
-use Rattle.std.proofs.Common.{◌∙◌, Option, Result, Ok, ap, subst}
+use Rattle.std.proofs.Common.{◌∙◌, Option, Some, Result, Ok, ap, refl, subst, sym}
 use Rattle.std.specs.Option.{option_map}
 use Rattle.coding.specs.declared.error.DbError.{DbError}
 use Rattle.engine.specs.declared.state.DbState.{DbState}
 use Rattle.engine.specs.declared.work.Progress.{Progress}
+use Rattle.engine.specs.declared.work.Progress.TheVariants as progress
 use Rattle.engine.specs.internal.Leading.{LeadsOpen}
 use Rattle.engine.specs.OpenDb.{open_db}
 use Rattle.db_cursor.specs.Whole.{seen_of}
-use Rattle.engine.specs.Stands.{StandsOver}
+use Rattle.engine.specs.Stands.{StandsOver, open_in}
 use Rattle.machine.specs.Upkeep.{Works}
 use Rattle.engine.specs.Working.{work_answer}
 use Rattle.engine.proofs.Steps.{stays}
@@ -15,6 +16,8 @@ use Rattle.engine.proofs.WorkAnswers.{works_closed, done_in}
 use Rattle.engine.proofs.WriteSteps.{lifts}
 use Rattle.machine.specs.declared.command.Answer.TheVariants.{Worked, Refused}
 use Rattle.machine.specs.declared.command.Answer.TheVariants as answer
+use Rattle.engine.proofs.Breaking.{breaks_as, breaks_none, breaks_open, is_done, told_io}
+use Rattle.engine.proofs.StopSteps.{stops_lent, stops_standing}
 use Rattle.engine.proofs.session.Session.work.Goals as goal
 
 pub returns-in-None-clause-step : goal.returns-in-None-clause-step
@@ -91,3 +94,39 @@ returns-in-Err-clause-works g c =
     done_in order c.args.self.now.options c.args.budget (seen_of facts c.args.self.now.source) (seen_of facts c.work.new.source) (option_map (open_db memory) c.args.self.now.state)
     (open_db memory c.in-Some.state) (open_db c.work.new.source.memory c.work.new.self) (Refused c.in-Err.error) c.work.result (c.in-Err.is) (ap (option_map (open_db memory)) c.in-Some.is)
     (record { does = c.work.ensures.does; within = c.work.ensures.within; flushes = c.work.ensures.flushes; tidy = c.work.ensures.tidy; removes = c.work.ensures.removes; exact = c.work.ensures.exact; dropped = c.work.ensures.dropped }) (λ d. d)
+
+pub returns-in-None-clause-breaks : goal.returns-in-None-clause-breaks
+returns-in-None-clause-breaks g c = breaks_none (g.S.Store.facts c.args.self.now.source.tables.store) (g.S.Store.facts c.args.self.now.source.tables.store) (option_map (open_db c.args.self.now.source.memory) c.args.self.now.state) (option_map (open_db c.args.self.now.source.memory) c.args.self.now.state) _ (ap (option_map (open_db c.args.self.now.source.memory)) c.in-None.is)
+
+pub returns-in-Ok-Worked-clause-breaks : goal.returns-in-Ok-Worked-clause-breaks
+returns-in-Ok-Worked-clause-breaks g c = breaks_open (g.S.Store.facts c.args.self.now.source.tables.store) (g.S.Store.facts c.work.new.source.tables.store) (option_map (open_db c.args.self.now.source.memory) c.args.self.now.state) (Some (open_db c.work.new.source.memory c.work.new.self)) (open_db c.args.self.now.source.memory c.in-Some.state) (open_db c.work.new.source.memory c.work.new.self) _ (ap (option_map (open_db c.args.self.now.source.memory)) c.in-Some.is) refl
+    (λ whole. breaks_as (g.S.Store.facts c.args.self.now.source.tables.store) (g.S.Store.facts c.work.new.source.tables.store) c.work.new.self.broken (λ io. is_done progress.Worked (sym (c.in-Ok-Worked.is ∙ ap Ok c.in-Ok-Worked.field-0-is) ∙ io)) (c.work.ensures.breaks whole))
+
+pub returns-in-Ok-Idle-clause-breaks : goal.returns-in-Ok-Idle-clause-breaks
+returns-in-Ok-Idle-clause-breaks g c = breaks_open (g.S.Store.facts c.args.self.now.source.tables.store) (g.S.Store.facts c.work.new.source.tables.store) (option_map (open_db c.args.self.now.source.memory) c.args.self.now.state) (Some (open_db c.work.new.source.memory c.work.new.self)) (open_db c.args.self.now.source.memory c.in-Some.state) (open_db c.work.new.source.memory c.work.new.self) _ (ap (option_map (open_db c.args.self.now.source.memory)) c.in-Some.is) refl
+    (λ whole. breaks_as (g.S.Store.facts c.args.self.now.source.tables.store) (g.S.Store.facts c.work.new.source.tables.store) c.work.new.self.broken (λ io. is_done progress.Idle (sym (c.in-Ok-Idle.is ∙ ap Ok c.in-Ok-Idle.field-0-is) ∙ io)) (c.work.ensures.breaks whole))
+
+pub returns-in-Err-clause-breaks : goal.returns-in-Err-clause-breaks
+returns-in-Err-clause-breaks g c = breaks_open (g.S.Store.facts c.args.self.now.source.tables.store) (g.S.Store.facts c.work.new.source.tables.store) (option_map (open_db c.args.self.now.source.memory) c.args.self.now.state) (Some (open_db c.work.new.source.memory c.work.new.self)) (open_db c.args.self.now.source.memory c.in-Some.state) (open_db c.work.new.source.memory c.work.new.self) _ (ap (option_map (open_db c.args.self.now.source.memory)) c.in-Some.is) refl
+    (λ whole. breaks_as (g.S.Store.facts c.args.self.now.source.tables.store) (g.S.Store.facts c.work.new.source.tables.store) c.work.new.self.broken (λ io. told_io {T = Progress} c.in-Err.error (sym c.in-Err.is ∙ io)) (c.work.ensures.breaks whole))
+
+-- ---- what a stop leaves
+
+pub returns-in-None-clause-stops : goal.returns-in-None-clause-stops
+returns-in-None-clause-stops g c =
+    stops_standing (order_of g.K.KeyOrder.name g.K.KeyOrder.cmp) (seen_of g.S.Store.facts c.args.self.now.source) c.args.self.now.ids (open_in c.args.self.now) (g.S.Store.facts c.args.self.now.source.tables.store) (λ t. refl) (λ t. refl)
+
+pub returns-in-Ok-Worked-clause-stops : goal.returns-in-Ok-Worked-clause-stops
+returns-in-Ok-Worked-clause-stops g c =
+    let memory = c.args.self.now.source.memory in
+    stops_lent (order_of g.K.KeyOrder.name g.K.KeyOrder.cmp) (seen_of g.S.Store.facts c.args.self.now.source) (seen_of g.S.Store.facts c.work.new.source) c.args.self.now.ids (open_in c.args.self.now) (open_db memory c.in-Some.state) (ap (option_map (open_db memory)) c.in-Some.is) c.work.ensures.stops
+
+pub returns-in-Ok-Idle-clause-stops : goal.returns-in-Ok-Idle-clause-stops
+returns-in-Ok-Idle-clause-stops g c =
+    let memory = c.args.self.now.source.memory in
+    stops_lent (order_of g.K.KeyOrder.name g.K.KeyOrder.cmp) (seen_of g.S.Store.facts c.args.self.now.source) (seen_of g.S.Store.facts c.work.new.source) c.args.self.now.ids (open_in c.args.self.now) (open_db memory c.in-Some.state) (ap (option_map (open_db memory)) c.in-Some.is) c.work.ensures.stops
+
+pub returns-in-Err-clause-stops : goal.returns-in-Err-clause-stops
+returns-in-Err-clause-stops g c =
+    let memory = c.args.self.now.source.memory in
+    stops_lent (order_of g.K.KeyOrder.name g.K.KeyOrder.cmp) (seen_of g.S.Store.facts c.args.self.now.source) (seen_of g.S.Store.facts c.work.new.source) c.args.self.now.ids (open_in c.args.self.now) (open_db memory c.in-Some.state) (ap (option_map (open_db memory)) c.in-Some.is) c.work.ensures.stops

@@ -97,3 +97,12 @@ returns-in_err-job-clause-files g c f = c.in_err-job.ensures.leaves.carries.read
 
 pub returns-clause-files : goal.returns-clause-files
 returns-clause-files g c f = c.in_ok-job.ensures.leaves.carries.reads.files f
+
+pub returns-in_err-snapshots-clause-calls : goal.returns-in_err-snapshots-clause-calls
+returns-in_err-snapshots-clause-calls g c f = refl
+
+pub returns-in_err-job-clause-calls : goal.returns-in_err-job-clause-calls
+returns-in_err-job-clause-calls g c f = c.in_err-job.ensures.leaves.carries.reads.calls f
+
+pub returns-clause-calls : goal.returns-clause-calls
+returns-clause-calls g c f = c.in_ok-job.ensures.leaves.carries.reads.calls f

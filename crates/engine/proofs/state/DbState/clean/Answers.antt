@@ -8,6 +8,7 @@ use Rattle.engine.specs.OpenDb.{open_db}
 use Rattle.db_cursor.specs.Whole.{seen_of}
 use Rattle.engine.specs.internal.Pieces.{ClosesTables, IsPiece}
 use Rattle.engine.proofs.WorkEnds.{ends_cleaned, ends_unlisted, memory_cleaned}
+use Rattle.engine.proofs.StopSteps.{keeps_cleaned}
 use Rattle.engine.proofs.state.DbState.clean.Goals as goal
 
 pub returns-in_err-removal-clause-step : goal.returns-in_err-removal-clause-step
@@ -30,7 +31,7 @@ returns-clause-step g c ids =
     let removal = c.in_ok-removal.removal in
     let listed : c.deref.result.now ≡ removal.tables.items = c.deref.ensures.value in
     ends_cleaned order (λ scan. scan_kept order.cmp scan) c.one_directory.ensures c.sound_lasts.ensures c.changes_are_kept.ensures.dropped source (g.S.Store.facts c.remove_files.new.store) ids (open_db c.args.source.now.memory c.args.self.now) c.close_tables.new.tables.tables
-    c.drop_unused.new.self removal.tables.items removal.complete c.requires.whole ensures.call c.drop_unused.ensures ensures.tables ensures.unused (subst (λ (numbers : List ℕ). ClosesTables source.tables c.close_tables.new.tables.tables numbers) listed c.close_tables.ensures) (λ f d good numbers. ensures.meaning f order d good numbers)
+    c.drop_unused.new.self removal.tables.items removal.complete c.requires.whole ensures.call c.drop_unused.ensures ensures.tables ensures.close (subst (λ (numbers : List ℕ). ClosesTables source.tables c.close_tables.new.tables.tables numbers) listed c.close_tables.ensures) (λ f d good numbers. ensures.meaning f order d good numbers)
 
 pub returns-clause-memory : goal.returns-clause-memory
 returns-clause-memory g c =
@@ -44,3 +45,15 @@ returns-clause-dropped g c = λ generation unused.
       | inl sealed ↦ inl (ap (λ (m : Memories). m.sealed) gone.others ∙ sealed)
       | inr read ↦ inr read
     ]))
+
+-- ---- what a stop leaves
+
+pub returns-in_err-removal-clause-stops : goal.returns-in_err-removal-clause-stops
+returns-in_err-removal-clause-stops g c =
+    let source = (seen_of g.S.Store.facts c.args.source.now) in
+    keeps_cleaned (order_of g.K.KeyOrder.name g.K.KeyOrder.cmp) source (record source { facts = g.S.Store.facts c.remove_files.new.store }) (open_db c.args.source.now.memory c.args.self.now) c.requires.whole c.in_err-removal.ensures.stops
+
+pub returns-clause-stops : goal.returns-clause-stops
+returns-clause-stops g c =
+    let source = (seen_of g.S.Store.facts c.args.source.now) in
+    keeps_cleaned (order_of g.K.KeyOrder.name g.K.KeyOrder.cmp) source (record source { facts = g.S.Store.facts c.remove_files.new.store }) (open_db c.args.source.now.memory c.args.self.now) c.requires.whole c.in_ok-removal.ensures.stops

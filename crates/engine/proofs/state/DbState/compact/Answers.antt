@@ -1,4 +1,4 @@
-use Rattle.std.proofs.Common.{◌≡◌, ◌+◌, max, Ok, Err, Result, sym, subst, ◌∙◌, arith, rules}
+use Rattle.std.proofs.Common.{◌≡◌, ◌+◌, max, Ok, Err, Result, sym, subst, ◌∙◌, arith, rules, refl}
 use Rattle.coding.specs.declared.error.DbError.{DbError}
 use Rattle.coding.specs.declared.error.DbError.TheVariants.{OutOfMemory}
 use Rattle.ikey.specs.Orders.{order_of}
@@ -17,6 +17,8 @@ use Rattle.engine.proofs.WorkAnswers.{begun_further, of_some, picked_for, then_p
 use Rattle.engine.proofs.WorkEnds.{ends_full, ends_idle}
 use Rattle.engine.proofs.WorkSteps.{piece_done, piece_failed, piece_within}
 use Rattle.engine.proofs.WithinBudget.{steps_begun}
+use Rattle.engine.proofs.Breaking.{breaks_then, handed_on, unbroken, unwritten}
+use Rattle.engine.proofs.StopSteps.{keeps_none, keeps_read, keeps_then}
 use Rattle.engine.proofs.state.DbState.compact.Goals as goal
 
 pub returns-in_err-plan-clause-step : goal.returns-in_err-plan-clause-step
@@ -114,3 +116,41 @@ returns-clause-few g c worked f =
     let after = open_db c.step_job.new.source.memory c.step_job.new.self in
     let still = (a.step no_ids).faithful f in
     steps_begun order c.args.options.now old mid new before between after (max c.args.budget 1) c.in-Some.plan b.step still b.whole b.same.tables (b.files still) c.requires.none b.none b.live (returns-clause-begins g c worked).picked (a.few f) a.merges
+
+pub returns-in_err-plan-clause-breaks : goal.returns-in_err-plan-clause-breaks
+returns-in_err-plan-clause-breaks g c = unbroken (g.S.Store.facts c.args.source.now.tables.store) (g.S.Store.facts c.args.source.now.tables.store) c.args.self.now.broken c.requires.whole refl
+
+pub returns-in_default-clause-breaks : goal.returns-in_default-clause-breaks
+returns-in_default-clause-breaks g c = unbroken (g.S.Store.facts c.args.source.now.tables.store) (g.S.Store.facts c.args.source.now.tables.store) c.args.self.now.broken c.requires.whole refl
+
+pub returns-in_err-begin_job-clause-breaks : goal.returns-in_err-begin_job-clause-breaks
+returns-in_err-begin_job-clause-breaks g c = unbroken (g.S.Store.facts c.args.source.now.tables.store) (g.S.Store.facts c.begin_job.new.source.tables.store) c.begin_job.new.self.broken c.in_err-begin_job.ensures.whole c.in_err-begin_job.ensures.fails
+
+pub returns-in_err-step_job-clause-breaks : goal.returns-in_err-step_job-clause-breaks
+returns-in_err-step_job-clause-breaks g c = breaks_then (g.S.Store.facts c.args.source.now.tables.store) (g.S.Store.facts c.begin_job.new.source.tables.store) (g.S.Store.facts c.step_job.new.source.tables.store) c.step_job.new.self.broken c.in_ok-begin_job.ensures.fails (λ is. handed_on c.in_err-step_job.field-0.0 c.from_residual-in_err-step_job.result (search rules) is) c.in_err-step_job.ensures.breaks
+
+pub returns-clause-breaks : goal.returns-clause-breaks
+returns-clause-breaks g c = unbroken (g.S.Store.facts c.args.source.now.tables.store) (g.S.Store.facts c.step_job.new.source.tables.store) c.step_job.new.self.broken c.in_ok-step_job.ensures.serves.whole (c.in_ok-step_job.ensures.serves.unwritten ∙ c.in_ok-begin_job.ensures.fails)
+
+-- ---- what a stop leaves
+
+pub returns-in_err-plan-clause-stops : goal.returns-in_err-plan-clause-stops
+returns-in_err-plan-clause-stops g c = keeps_none (order_of g.K.KeyOrder.name g.K.KeyOrder.cmp) (seen_of g.S.Store.facts c.args.source.now) (open_db c.args.source.now.memory c.args.self.now)
+
+pub returns-in_default-clause-stops : goal.returns-in_default-clause-stops
+returns-in_default-clause-stops g c = keeps_none (order_of g.K.KeyOrder.name g.K.KeyOrder.cmp) (seen_of g.S.Store.facts c.args.source.now) (open_db c.args.source.now.memory c.args.self.now)
+
+pub returns-in_err-begin_job-clause-stops : goal.returns-in_err-begin_job-clause-stops
+returns-in_err-begin_job-clause-stops g c = keeps_read (order_of g.K.KeyOrder.name g.K.KeyOrder.cmp) (seen_of g.S.Store.facts c.args.source.now) (seen_of g.S.Store.facts c.begin_job.new.source) (open_db c.args.source.now.memory c.args.self.now) c.in_err-begin_job.ensures.calls c.in_err-begin_job.ensures.files
+
+pub returns-in_err-step_job-clause-stops : goal.returns-in_err-step_job-clause-stops
+returns-in_err-step_job-clause-stops g c =
+    keeps_then (order_of g.K.KeyOrder.name g.K.KeyOrder.cmp) (seen_of g.S.Store.facts c.args.source.now) (seen_of g.S.Store.facts c.begin_job.new.source) (seen_of g.S.Store.facts c.step_job.new.source) (open_db c.args.source.now.memory c.args.self.now) (open_db c.begin_job.new.source.memory c.begin_job.new.self) (λ m. 0) (tt {0})
+    c.in_ok-begin_job.ensures.step (c.in_err-step_job.ensures.step no_ids).faithful
+    (keeps_read (order_of g.K.KeyOrder.name g.K.KeyOrder.cmp) (seen_of g.S.Store.facts c.args.source.now) (seen_of g.S.Store.facts c.begin_job.new.source) (open_db c.args.source.now.memory c.args.self.now) c.in_ok-begin_job.ensures.calls c.in_ok-begin_job.ensures.files) c.in_err-step_job.ensures.stops
+
+pub returns-clause-stops : goal.returns-clause-stops
+returns-clause-stops g c =
+    keeps_then (order_of g.K.KeyOrder.name g.K.KeyOrder.cmp) (seen_of g.S.Store.facts c.args.source.now) (seen_of g.S.Store.facts c.begin_job.new.source) (seen_of g.S.Store.facts c.step_job.new.source) (open_db c.args.source.now.memory c.args.self.now) (open_db c.begin_job.new.source.memory c.begin_job.new.self) (λ m. 0) (tt {0})
+    c.in_ok-begin_job.ensures.step (c.in_ok-step_job.ensures.step no_ids).faithful
+    (keeps_read (order_of g.K.KeyOrder.name g.K.KeyOrder.cmp) (seen_of g.S.Store.facts c.args.source.now) (seen_of g.S.Store.facts c.begin_job.new.source) (open_db c.args.source.now.memory c.args.self.now) c.in_ok-begin_job.ensures.calls c.in_ok-begin_job.ensures.files) c.in_ok-step_job.ensures.stops

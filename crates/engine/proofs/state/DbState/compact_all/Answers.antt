@@ -5,6 +5,7 @@ use Rattle.engine.specs.Outcomes.{MayRefuseWork}
 use Rattle.engine.proofs.Emptied.{all_broken, all_broken_caused, all_caused, all_compacted}
 use Rattle.engine.proofs.Finishing.{outcome_all_as, outcome_stays}
 use Rattle.engine.proofs.NeededEnds.{only_left}
+use Rattle.engine.proofs.StopSteps.{keeps_none}
 use Rattle.engine.proofs.state.DbState.compact_all.Goals as goal
 
 pub returns-then-self-clause-step : goal.returns-then-self-clause-step
@@ -44,3 +45,17 @@ returns-clause-needed g c =
     let after = open_db c.compact_everything.new.source.memory c.compact_everything.new.self in
     let e = c.compact_everything.ensures in
     only_left order g.met.K.KeyOrder.total old new before after c.if-self.false c.compact_everything.result e.step e.compacted e.needed
+
+pub returns-then-self-clause-breaks : goal.returns-then-self-clause-breaks
+returns-then-self-clause-breaks g c whole = absurd (let broken = c.if-self.true in cc)
+
+pub returns-clause-breaks : goal.returns-clause-breaks
+returns-clause-breaks g c whole = c.compact_everything.ensures.breaks
+
+-- ---- what a stop leaves
+
+pub returns-then-self-clause-stops : goal.returns-then-self-clause-stops
+returns-then-self-clause-stops g c = keeps_none (order_of g.K.KeyOrder.name g.K.KeyOrder.cmp) (seen_of g.S.Store.facts c.args.source.now) (open_db c.args.source.now.memory c.args.self.now)
+
+pub returns-clause-stops : goal.returns-clause-stops
+returns-clause-stops g c = c.compact_everything.ensures.stops

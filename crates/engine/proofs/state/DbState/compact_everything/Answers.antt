@@ -18,6 +18,9 @@ use Rattle.engine.proofs.Emptied.{all_last, beyond_most, memory_left, none_there
 use Rattle.engine.proofs.Finishing.{outcome_all, outcome_done, outcome_then, serves_then, stays_done, stays_full, then_bound, within_bound}
 use Rattle.engine.proofs.WorkAnswers.{of_none, of_some}
 use Rattle.engine.proofs.NeededEnds.{needed_behind, needed_none}
+use Rattle.engine.proofs.Breaking.{breaks_as, breaks_then, handed_on, unbroken}
+use Rattle.engine.proofs.StopSteps.{keeps_then}
+use Rattle.engine.specs.Stands.{no_ids}
 use Rattle.engine.proofs.state.DbState.compact_everything.Goals as goal
 
 pub returns-in_err-run_job_to_end-clause-step : goal.returns-in_err-run_job_to_end-clause-step
@@ -197,3 +200,48 @@ returns-clause-needed g c =
     let behind : (ids : Ids) → LeadsOpen order old later ids before second (λ m n. IsPiece m (entry_count m + 0 + 3) (Ok (tt {0})) n) =
     λ ids. then_bound order old mid later ids before first second (λ k. k + 0) (λ k. 3) (tt {0}) (Ok (tt {0})) (c.in_ok-run_job_to_end.ensures.step ids) (written ids) in
     on_ok c.run_job.result (λ ends. needed_behind order old later new before second after behind c.run_job.ensures.step (ends (subst (λ (ts : List PlacedTable). IsWholePlan ts plan) tables_are planned))) c.run_job.ensures.needed
+
+pub returns-in_err-run_job_to_end-clause-breaks : goal.returns-in_err-run_job_to_end-clause-breaks
+returns-in_err-run_job_to_end-clause-breaks g c = breaks_as (g.S.Store.facts c.args.source.now.tables.store) (g.S.Store.facts c.run_job_to_end.new.source.tables.store) c.run_job_to_end.new.self.broken (λ is. handed_on c.in_err-run_job_to_end.field-0.0 c.from_residual.result (search rules) is) c.in_err-run_job_to_end.ensures.breaks
+
+pub returns-in_err-write_memory-clause-breaks : goal.returns-in_err-write_memory-clause-breaks
+returns-in_err-write_memory-clause-breaks g c = breaks_then (g.S.Store.facts c.args.source.now.tables.store) (g.S.Store.facts c.run_job_to_end.new.source.tables.store) (g.S.Store.facts c.write_memory.new.source.tables.store) c.write_memory.new.self.broken c.in_ok-run_job_to_end.ensures.serves.unwritten (λ is. handed_on c.in_err-write_memory.field-0.0 c.from_residual-in_err-write_memory.result (search rules) is) c.in_err-write_memory.ensures.breaks
+
+pub returns-in_err-plan-clause-breaks : goal.returns-in_err-plan-clause-breaks
+returns-in_err-plan-clause-breaks g c = unbroken (g.S.Store.facts c.args.source.now.tables.store) (g.S.Store.facts c.write_memory.new.source.tables.store) c.write_memory.new.self.broken c.in_ok-write_memory.ensures.serves.whole (c.in_ok-write_memory.ensures.serves.unwritten ∙ c.in_ok-run_job_to_end.ensures.serves.unwritten)
+
+pub returns-in_default-clause-breaks : goal.returns-in_default-clause-breaks
+returns-in_default-clause-breaks g c = unbroken (g.S.Store.facts c.args.source.now.tables.store) (g.S.Store.facts c.write_memory.new.source.tables.store) c.write_memory.new.self.broken c.in_ok-write_memory.ensures.serves.whole (c.in_ok-write_memory.ensures.serves.unwritten ∙ c.in_ok-run_job_to_end.ensures.serves.unwritten)
+
+pub returns-clause-breaks : goal.returns-clause-breaks
+returns-clause-breaks g c = breaks_then (g.S.Store.facts c.args.source.now.tables.store) (g.S.Store.facts c.write_memory.new.source.tables.store) (g.S.Store.facts c.run_job.new.source.tables.store) c.run_job.new.self.broken (c.in_ok-write_memory.ensures.serves.unwritten ∙ c.in_ok-run_job_to_end.ensures.serves.unwritten) (λ is. is) c.run_job.ensures.breaks
+
+-- ---- what a stop leaves
+
+pub returns-in_err-run_job_to_end-clause-stops : goal.returns-in_err-run_job_to_end-clause-stops
+returns-in_err-run_job_to_end-clause-stops g c = c.in_err-run_job_to_end.ensures.stops
+
+pub returns-in_err-write_memory-clause-stops : goal.returns-in_err-write_memory-clause-stops
+returns-in_err-write_memory-clause-stops g c =
+    keeps_then (order_of g.K.KeyOrder.name g.K.KeyOrder.cmp) (seen_of g.S.Store.facts c.args.source.now) (seen_of g.S.Store.facts c.run_job_to_end.new.source) (seen_of g.S.Store.facts c.write_memory.new.source) (open_db c.args.source.now.memory c.args.self.now) (open_db c.run_job_to_end.new.source.memory c.run_job_to_end.new.self) (λ m. entry_count m + 0) (tt {0})
+    c.in_ok-run_job_to_end.ensures.step (c.in_err-write_memory.ensures.step no_ids).faithful
+    c.in_ok-run_job_to_end.ensures.stops c.in_err-write_memory.ensures.stops
+
+pub returns-in_err-plan-clause-stops : goal.returns-in_err-plan-clause-stops
+returns-in_err-plan-clause-stops g c =
+    keeps_then (order_of g.K.KeyOrder.name g.K.KeyOrder.cmp) (seen_of g.S.Store.facts c.args.source.now) (seen_of g.S.Store.facts c.run_job_to_end.new.source) (seen_of g.S.Store.facts c.write_memory.new.source) (open_db c.args.source.now.memory c.args.self.now) (open_db c.run_job_to_end.new.source.memory c.run_job_to_end.new.self) (λ m. entry_count m + 0) (tt {0})
+    c.in_ok-run_job_to_end.ensures.step (c.in_ok-write_memory.ensures.step no_ids).faithful
+    c.in_ok-run_job_to_end.ensures.stops c.in_ok-write_memory.ensures.stops
+
+pub returns-in_default-clause-stops : goal.returns-in_default-clause-stops
+returns-in_default-clause-stops g c =
+    keeps_then (order_of g.K.KeyOrder.name g.K.KeyOrder.cmp) (seen_of g.S.Store.facts c.args.source.now) (seen_of g.S.Store.facts c.run_job_to_end.new.source) (seen_of g.S.Store.facts c.write_memory.new.source) (open_db c.args.source.now.memory c.args.self.now) (open_db c.run_job_to_end.new.source.memory c.run_job_to_end.new.self) (λ m. entry_count m + 0) (tt {0})
+    c.in_ok-run_job_to_end.ensures.step (c.in_ok-write_memory.ensures.step no_ids).faithful
+    c.in_ok-run_job_to_end.ensures.stops c.in_ok-write_memory.ensures.stops
+
+pub returns-clause-stops : goal.returns-clause-stops
+returns-clause-stops g c =
+    let back = (c.run_job.ensures.step no_ids).faithful in
+    let later = (c.in_ok-write_memory.ensures.step no_ids).faithful in
+    keeps_then (order_of g.K.KeyOrder.name g.K.KeyOrder.cmp) (seen_of g.S.Store.facts c.args.source.now) (seen_of g.S.Store.facts c.run_job_to_end.new.source) (seen_of g.S.Store.facts c.run_job.new.source) (open_db c.args.source.now.memory c.args.self.now) (open_db c.run_job_to_end.new.source.memory c.run_job_to_end.new.self) (λ m. entry_count m + 0) (tt {0}) c.in_ok-run_job_to_end.ensures.step (λ f. later (back f)) c.in_ok-run_job_to_end.ensures.stops
+    (keeps_then (order_of g.K.KeyOrder.name g.K.KeyOrder.cmp) (seen_of g.S.Store.facts c.run_job_to_end.new.source) (seen_of g.S.Store.facts c.write_memory.new.source) (seen_of g.S.Store.facts c.run_job.new.source) (open_db c.run_job_to_end.new.source.memory c.run_job_to_end.new.self) (open_db c.write_memory.new.source.memory c.write_memory.new.self) (λ m. 3) (tt {0}) c.in_ok-write_memory.ensures.step back c.in_ok-write_memory.ensures.stops c.run_job.ensures.stops)

@@ -1,4 +1,4 @@
-use Rattle.std.proofs.Common.{arith}
+use Rattle.std.proofs.Common.{arith, refl}
 use Rattle.ikey.specs.Orders.{order_of}
 use Rattle.memtables.specs.PlaceLaws.{left_there}
 use Rattle.engine.specs.OpenDb.{open_db}
@@ -6,6 +6,8 @@ use Rattle.db_cursor.specs.Whole.{seen_of}
 use Rattle.engine.specs.Outcomes.{MayRefuseLevel}
 use Rattle.engine.proofs.Emptied.{bad_caused, broken_caused, level_broken, level_caused, level_compacted, level_refused}
 use Rattle.engine.proofs.Finishing.{outcome_level_as, outcome_stays}
+use Rattle.engine.proofs.Breaking.{unbroken}
+use Rattle.engine.proofs.StopSteps.{keeps_none}
 use Rattle.engine.proofs.state.DbState.compact_level.Goals as goal
 
 pub returns-then-self-clause-step : goal.returns-then-self-clause-step
@@ -51,3 +53,23 @@ returns-then-self-clause-memory g c = left_there c.args.source.now.memory
 
 pub returns-then-level-clause-memory : goal.returns-then-level-clause-memory
 returns-then-level-clause-memory g c = left_there c.args.source.now.memory
+
+pub returns-then-self-clause-breaks : goal.returns-then-self-clause-breaks
+returns-then-self-clause-breaks g c whole = absurd (let broken = c.if-self.true in cc)
+
+pub returns-then-level-clause-breaks : goal.returns-then-level-clause-breaks
+returns-then-level-clause-breaks g c whole = unbroken (g.S.Store.facts c.args.source.now.tables.store) (g.S.Store.facts c.args.source.now.tables.store) c.args.self.now.broken whole refl
+
+pub returns-clause-breaks : goal.returns-clause-breaks
+returns-clause-breaks g c whole = c.compact_tables_of.ensures.breaks
+
+-- ---- what a stop leaves
+
+pub returns-then-self-clause-stops : goal.returns-then-self-clause-stops
+returns-then-self-clause-stops g c = keeps_none (order_of g.K.KeyOrder.name g.K.KeyOrder.cmp) (seen_of g.S.Store.facts c.args.source.now) (open_db c.args.source.now.memory c.args.self.now)
+
+pub returns-then-level-clause-stops : goal.returns-then-level-clause-stops
+returns-then-level-clause-stops g c = keeps_none (order_of g.K.KeyOrder.name g.K.KeyOrder.cmp) (seen_of g.S.Store.facts c.args.source.now) (open_db c.args.source.now.memory c.args.self.now)
+
+pub returns-clause-stops : goal.returns-clause-stops
+returns-clause-stops g c = c.compact_tables_of.ensures.stops

@@ -17,6 +17,10 @@ use Rattle.engine.proofs.Emptied.{beyond_most, both_ok, level_emptied, level_mov
 use Rattle.engine.proofs.Finishing.{outcome_all, outcome_done, outcome_then, stays_full, then_bound, within_bound}
 use Rattle.engine.proofs.NeededEnds.{merges_level, merges_none}
 use Rattle.engine.proofs.WorkAnswers.{of_none, of_some}
+use Rattle.engine.proofs.Breaking.{breaks_as, breaks_then, handed_on, serves_breaks}
+use Rattle.engine.proofs.StopSteps.{keeps_then}
+use Rattle.engine.specs.Stands.{no_ids}
+use Rattle.machine.specs.Machine.{entry_count}
 use Rattle.engine.proofs.state.DbState.compact_tables_of.Goals as goal
 
 pub returns-in_err-run_job_to_end-clause-step : goal.returns-in_err-run_job_to_end-clause-step
@@ -180,3 +184,32 @@ returns-clause-merges g c =
 
 pub returns-clause-memory : goal.returns-clause-memory
 returns-clause-memory g c = left_onward c.args.source.now.memory c.run_job_to_end.new.source.memory c.run_job.new.source.memory c.in_ok-run_job_to_end.ensures.memory c.run_job.ensures.memory
+
+pub returns-in_err-run_job_to_end-clause-breaks : goal.returns-in_err-run_job_to_end-clause-breaks
+returns-in_err-run_job_to_end-clause-breaks g c = breaks_as (g.S.Store.facts c.args.source.now.tables.store) (g.S.Store.facts c.run_job_to_end.new.source.tables.store) c.run_job_to_end.new.self.broken (λ is. handed_on c.in_err-run_job_to_end.field-0.0 c.from_residual.result (search rules) is) c.in_err-run_job_to_end.ensures.breaks
+
+pub returns-in_err-plan-clause-breaks : goal.returns-in_err-plan-clause-breaks
+returns-in_err-plan-clause-breaks g c = serves_breaks (g.S.Store.facts c.args.source.now.tables.store) (g.S.Store.facts c.run_job_to_end.new.source.tables.store) (open_db c.args.source.now.memory c.args.self.now) (open_db c.run_job_to_end.new.source.memory c.run_job_to_end.new.self) c.in_ok-run_job_to_end.ensures.serves
+
+pub returns-in_default-clause-breaks : goal.returns-in_default-clause-breaks
+returns-in_default-clause-breaks g c = serves_breaks (g.S.Store.facts c.args.source.now.tables.store) (g.S.Store.facts c.run_job_to_end.new.source.tables.store) (open_db c.args.source.now.memory c.args.self.now) (open_db c.run_job_to_end.new.source.memory c.run_job_to_end.new.self) c.in_ok-run_job_to_end.ensures.serves
+
+pub returns-clause-breaks : goal.returns-clause-breaks
+returns-clause-breaks g c = breaks_then (g.S.Store.facts c.args.source.now.tables.store) (g.S.Store.facts c.run_job_to_end.new.source.tables.store) (g.S.Store.facts c.run_job.new.source.tables.store) c.run_job.new.self.broken c.in_ok-run_job_to_end.ensures.serves.unwritten (λ is. is) c.run_job.ensures.breaks
+
+-- ---- what a stop leaves
+
+pub returns-in_err-run_job_to_end-clause-stops : goal.returns-in_err-run_job_to_end-clause-stops
+returns-in_err-run_job_to_end-clause-stops g c = c.in_err-run_job_to_end.ensures.stops
+
+pub returns-in_err-plan-clause-stops : goal.returns-in_err-plan-clause-stops
+returns-in_err-plan-clause-stops g c = c.in_ok-run_job_to_end.ensures.stops
+
+pub returns-in_default-clause-stops : goal.returns-in_default-clause-stops
+returns-in_default-clause-stops g c = c.in_ok-run_job_to_end.ensures.stops
+
+pub returns-clause-stops : goal.returns-clause-stops
+returns-clause-stops g c =
+    keeps_then (order_of g.K.KeyOrder.name g.K.KeyOrder.cmp) (seen_of g.S.Store.facts c.args.source.now) (seen_of g.S.Store.facts c.run_job_to_end.new.source) (seen_of g.S.Store.facts c.run_job.new.source) (open_db c.args.source.now.memory c.args.self.now) (open_db c.run_job_to_end.new.source.memory c.run_job_to_end.new.self) (λ m. entry_count m + 0) (tt {0})
+    c.in_ok-run_job_to_end.ensures.step (c.run_job.ensures.step no_ids).faithful
+    c.in_ok-run_job_to_end.ensures.stops c.run_job.ensures.stops

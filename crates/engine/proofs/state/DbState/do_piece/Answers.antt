@@ -9,6 +9,7 @@ use Rattle.db_cursor.specs.Whole.{seen_of}
 use Rattle.engine.specs.internal.Pieces.{IsPiece}
 use Rattle.engine.proofs.WorkSteps.{piece_done, piece_failed}
 use Rattle.engine.proofs.WithinBudget.{not_some, steps_itself}
+use Rattle.engine.proofs.Breaking.{breaks_as, handed_on, serves_breaks}
 use Rattle.engine.proofs.state.DbState.do_piece.Goals as goal
 
 pub returns-in_err-step_job-clause-step : goal.returns-in_err-step_job-clause-step
@@ -38,3 +39,20 @@ returns-then-is_some-clause-within g c worked which f =
 
 pub returns-then-is_some-clause-flushes : goal.returns-then-is_some-clause-flushes
 returns-then-is_some-clause-flushes g c worked idle = absurd (not_some c.args.self.now.job idle (search rules))
+
+pub returns-in_err-step_job-clause-breaks : goal.returns-in_err-step_job-clause-breaks
+returns-in_err-step_job-clause-breaks g c = breaks_as (g.S.Store.facts c.args.source.now.tables.store) (g.S.Store.facts c.step_job.new.source.tables.store) c.step_job.new.self.broken (λ is. handed_on c.in_err-step_job.field-0.0 c.from_residual.result (search rules) is) c.in_err-step_job.ensures.breaks
+
+pub returns-then-is_some-clause-breaks : goal.returns-then-is_some-clause-breaks
+returns-then-is_some-clause-breaks g c = serves_breaks (g.S.Store.facts c.args.source.now.tables.store) (g.S.Store.facts c.step_job.new.source.tables.store) (open_db c.args.source.now.memory c.args.self.now) (open_db c.step_job.new.source.memory c.step_job.new.self) c.in_ok-step_job.ensures.serves
+
+-- ---- what a stop leaves
+
+pub returns-in_err-step_job-clause-stops : goal.returns-in_err-step_job-clause-stops
+returns-in_err-step_job-clause-stops g c = c.in_err-step_job.ensures.stops
+
+pub returns-then-is_some-clause-stops : goal.returns-then-is_some-clause-stops
+returns-then-is_some-clause-stops g c = c.in_ok-step_job.ensures.stops
+
+pub returns-clause-stops : goal.returns-clause-stops
+returns-clause-stops g c = c.do_unless_compacting.ensures.stops

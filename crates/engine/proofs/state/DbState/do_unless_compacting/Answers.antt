@@ -9,6 +9,7 @@ use Rattle.db_cursor.specs.Whole.{seen_of}
 use Rattle.engine.specs.internal.Pieces.{IsPiece}
 use Rattle.engine.proofs.WorkSteps.{piece_done, piece_failed, piece_within}
 use Rattle.engine.proofs.WithinBudget.{not_some}
+use Rattle.engine.proofs.Breaking.{breaks_as, handed_on, serves_breaks}
 use Rattle.engine.proofs.state.DbState.do_unless_compacting.Goals as goal
 
 pub returns-in_err-flush-clause-step : goal.returns-in_err-flush-clause-step
@@ -72,3 +73,32 @@ returns-then-size-write_buffer-clause-flushes g c worked idle some =
 
 pub returns-clause-flushes : goal.returns-clause-flushes
 returns-clause-flushes g c worked idle some = absurd (not_some c.args.source.now.memory.sealed c.in_ok-seal.ensures.does.none some)
+
+pub returns-in_err-flush-clause-breaks : goal.returns-in_err-flush-clause-breaks
+returns-in_err-flush-clause-breaks g c = breaks_as (g.S.Store.facts c.args.source.now.tables.store) (g.S.Store.facts c.flush.new.source.tables.store) c.flush.new.self.broken (λ is. handed_on c.in_err-flush.field-0.0 c.from_residual.result (search rules) is) c.in_err-flush.ensures.breaks
+
+pub returns-then-is_some-clause-breaks : goal.returns-then-is_some-clause-breaks
+returns-then-is_some-clause-breaks g c = serves_breaks (g.S.Store.facts c.args.source.now.tables.store) (g.S.Store.facts c.flush.new.source.tables.store) (open_db c.args.source.now.memory c.args.self.now) (open_db c.flush.new.source.memory c.flush.new.self) c.in_ok-flush.ensures.serves
+
+pub returns-in_err-seal-clause-breaks : goal.returns-in_err-seal-clause-breaks
+returns-in_err-seal-clause-breaks g c = breaks_as (g.S.Store.facts c.args.source.now.tables.store) (g.S.Store.facts c.seal.new.source.tables.store) c.seal.new.self.broken (λ is. handed_on c.in_err-seal.field-0.0 c.from_residual-in_err-seal.result (search rules) is) c.in_err-seal.ensures.breaks
+
+pub returns-clause-breaks : goal.returns-clause-breaks
+returns-clause-breaks g c = serves_breaks (g.S.Store.facts c.args.source.now.tables.store) (g.S.Store.facts c.seal.new.source.tables.store) (open_db c.args.source.now.memory c.args.self.now) (open_db c.seal.new.source.memory c.seal.new.self) c.in_ok-seal.ensures.serves
+
+-- ---- what a stop leaves
+
+pub returns-in_err-flush-clause-stops : goal.returns-in_err-flush-clause-stops
+returns-in_err-flush-clause-stops g c = c.in_err-flush.ensures.stops
+
+pub returns-then-is_some-clause-stops : goal.returns-then-is_some-clause-stops
+returns-then-is_some-clause-stops g c = c.in_ok-flush.ensures.stops
+
+pub returns-then-size-write_buffer-clause-stops : goal.returns-then-size-write_buffer-clause-stops
+returns-then-size-write_buffer-clause-stops g c = c.compact.ensures.stops
+
+pub returns-in_err-seal-clause-stops : goal.returns-in_err-seal-clause-stops
+returns-in_err-seal-clause-stops g c = c.in_err-seal.ensures.stops
+
+pub returns-clause-stops : goal.returns-clause-stops
+returns-clause-stops g c = c.in_ok-seal.ensures.stops

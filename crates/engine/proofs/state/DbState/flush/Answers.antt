@@ -11,9 +11,14 @@ use Rattle.engine.specs.internal.Leading.{LeadsOpen}
 use Rattle.engine.specs.OpenDb.{open_db}
 use Rattle.db_cursor.specs.Whole.{seen_of}
 use Rattle.engine.specs.Stands.{no_ids}
-use Rattle.engine.specs.internal.Pieces.{IsPiece, flush_answer}
+use Rattle.engine.specs.internal.Pieces.{IsPiece, MayRefusePiece, flush_answer, settled_as}
 use Rattle.engine.specs.WrittenTables.{PutsSealed}
-use Rattle.engine.proofs.FlushEnds.{can, ends_flushed, ends_let_go, ends_unflushed, no_entries, table_put}
+use Rattle.engine.proofs.FlushEnds.{can, ends_flushed, ends_let_go, ends_unflushed, no_entries, table_put, flush_keeps}
+use Rattle.std.specs.Bool.{nat_eq}
+use Rattle.engine.proofs.Breaking.{settles_broken, shows, flush_io, rose_all, some_as, IsIo, as_unwritten, breaks_settled, outcome_settles_broken, unbroken, unflushed_outcome}
+use Rattle.engine.specs.Breaking.{BreaksExactly}
+use Rattle.engine.specs.Outcomes.{DbOutcome}
+use Rattle.engine.proofs.StopSteps.{keeps_none}
 use Rattle.engine.proofs.state.DbState.flush.Goals as goal
 
 pub returns-then-is_empty-clause-step : goal.returns-then-is_empty-clause-step
@@ -82,7 +87,90 @@ returns-in-Err-clause-step g c ids =
     let e = c.in-Err.error in
     let law = c.changes_are_kept.ensures.flushed in
     let after : _ → DbError → Type 0 = λ s r. LeadsOpen order source (record source { facts = facts }) ids (open_db memory state) (open_db memory s) (λ m n. IsPiece m 1 (Err r) n) in
+    let failed = c.write_failures-failed.result in
+    let b = nat_eq facts.write_failures failed in
+    let is : failed ≡ source.facts.write_failures = c.write_failures-failed.ensures in
+    let given : DbState g.row.K.Denot g.K.KeyOrder = record state { directory = record state.directory { numbers = numbers } } in
     subst (after c.flush_refusal.new.self) (sym c.flush_refusal.ensures.answer)
-    (subst (λ (s : DbState _ _). after s (flush_answer e)) (sym c.flush_refusal.ensures.broken)
+    (subst (λ (s : DbState _ _). after s (settled_as b (flush_answer e))) (sym c.flush_refusal.ensures.state)
+    (settles_broken order source (record source { facts = facts }) ids (open_db memory state) memory given 1 (flush_answer e) b
+    (λ io. shows source.facts facts failed is ensures.fails (flush_io source.facts facts _ _ _ _ e ensures.refused io) b refl)
+    (rose_all source.facts facts failed is (some_as source.facts facts ensures.call.failures ensures.fails))
     (ends_unflushed order (λ scan. scan_kept order.cmp scan) c.one_directory.ensures c.sound_lasts.ensures c.same_view.ensures law source facts ids state memory numbers plan entries
-    c.requires.whole ensures.call ensures.drawn refl refl c.last-last_sequence.ensures.is (ap inserts_of c.in-Some.ensures) c.deref.result.now.tables (ap (λ (p : Placement). p.tables) c.deref.ensures) e ensures.refused ensures.leaves))
+    c.requires.whole ensures.call ensures.drawn refl refl c.last-last_sequence.ensures.is (ap inserts_of c.in-Some.ensures) c.deref.result.now.tables (ap (λ (p : Placement). p.tables) c.deref.ensures) e ensures.refused ensures.leaves)))
+
+pub returns-in-Err-clause-outcome : goal.returns-in-Err-clause-outcome
+returns-in-Err-clause-outcome g c =
+    let old = g.S.Store.facts c.args.source.now.tables.store in
+    let new = g.S.Store.facts c.flush_memory.new.store in
+    let ensures = c.in-Err.ensures in
+    let state = c.args.self.now in
+    let memory = c.args.source.now.memory in
+    let failed = c.write_failures-failed.result in
+    let b = nat_eq new.write_failures failed in
+    let is : failed ≡ old.write_failures = c.write_failures-failed.ensures in
+    let e = c.in-Err.error in
+    let given : DbState g.row.K.Denot g.K.KeyOrder = record state { directory = record state.directory { numbers = c.flush_memory.new.numbers } } in
+    let After : DbState g.row.K.Denot g.K.KeyOrder → DbError → Type 0 = λ t r. DbOutcome {T = Unit {0}} MayRefusePiece old new (open_db memory state) (open_db memory t) (Err r) in
+    subst (After c.flush_refusal.new.self) (sym c.flush_refusal.ensures.answer)
+    (subst (λ (t : DbState g.row.K.Denot g.K.KeyOrder). After t (settled_as b (flush_answer e))) (sym c.flush_refusal.ensures.state)
+    (outcome_settles_broken old new (open_db memory state) memory given (flush_answer e) b
+    (λ io. shows old new failed is ensures.fails (flush_io old new _ _ _ _ e ensures.refused io) b refl)
+    (rose_all old new failed is (some_as old new ensures.call.failures ensures.fails))
+    (unflushed_outcome old new state memory c.flush_memory.new.numbers ensures.call.failures ensures.call.denials _ _ _ _ e ensures.refused)))
+
+pub returns-then-is_empty-clause-breaks : goal.returns-then-is_empty-clause-breaks
+returns-then-is_empty-clause-breaks g c = unbroken (g.S.Store.facts c.args.source.now.tables.store) (g.S.Store.facts c.args.source.now.tables.store) c.args.self.now.broken c.requires.whole refl
+
+pub returns-in-Ok-clause-breaks : goal.returns-in-Ok-clause-breaks
+returns-in-Ok-clause-breaks g c = unbroken (g.S.Store.facts c.args.source.now.tables.store) (g.S.Store.facts c.flush_memory.new.store) c.take_flushed.new.self.broken (ap (λ (t : DbState g.row.K.Denot g.K.KeyOrder). t.broken) c.take_flushed.ensures ∙ c.requires.whole) (as_unwritten (g.S.Store.facts c.args.source.now.tables.store) (g.S.Store.facts c.flush_memory.new.store) c.in-Ok.ensures.fails c.in-Ok.ensures.stood)
+
+pub returns-in-Err-clause-breaks : goal.returns-in-Err-clause-breaks
+returns-in-Err-clause-breaks g c =
+    let old = g.S.Store.facts c.args.source.now.tables.store in
+    let new = g.S.Store.facts c.flush_memory.new.store in
+    let ensures = c.in-Err.ensures in
+    let state = c.args.self.now in
+    let memory = c.args.source.now.memory in
+    let failed = c.write_failures-failed.result in
+    let b = nat_eq new.write_failures failed in
+    let is : failed ≡ old.write_failures = c.write_failures-failed.ensures in
+    let e = c.in-Err.error in
+    let given : DbState g.row.K.Denot g.K.KeyOrder = record state { directory = record state.directory { numbers = c.flush_memory.new.numbers } } in
+    let After : DbState g.row.K.Denot g.K.KeyOrder → DbError → Type 0 = λ t r. BreaksExactly old new t.broken (IsIo {T = Unit {0}} (Err r)) in
+    subst (After c.flush_refusal.new.self) (sym c.flush_refusal.ensures.answer)
+    (subst (λ (t : DbState g.row.K.Denot g.K.KeyOrder). After t (settled_as b (flush_answer e))) (sym c.flush_refusal.ensures.state)
+    (breaks_settled {T = Unit {0}} old new failed given (flush_answer e) is (some_as old new ensures.call.failures ensures.fails) c.requires.whole b refl))
+
+-- ---- what a stop leaves
+
+pub returns-then-is_empty-clause-stops : goal.returns-then-is_empty-clause-stops
+returns-then-is_empty-clause-stops g c = keeps_none (order_of g.K.KeyOrder.name g.K.KeyOrder.cmp) (seen_of g.S.Store.facts c.args.source.now) (open_db c.args.source.now.memory c.args.self.now)
+
+pub returns-in-Ok-clause-stops : goal.returns-in-Ok-clause-stops
+returns-in-Ok-clause-stops g c =
+    let order = order_of g.K.KeyOrder.name g.K.KeyOrder.cmp in
+    let source = seen_of g.S.Store.facts c.args.source.now in
+    let facts = g.S.Store.facts c.flush_memory.new.store in
+    let state = c.args.self.now in
+    let memory = c.args.source.now.memory in
+    let numbers = c.flush_memory.new.numbers in
+    let ensures = c.in-Ok.ensures in
+    let entries = c.in-Some.table.now.inserts in
+    let plan : FlushPlan = record { log_number = state.log.number; previous_log_number = state.directory.previous_log; last_sequence = c.last-last_sequence.result; block_bytes = c.block_bytes.result } in
+    flush_keeps order (λ scan. scan_kept order.cmp scan) c.one_directory.ensures c.sound_lasts.ensures c.same_view.ensures c.changes_are_kept.ensures.flushed source facts no_ids state memory numbers plan entries
+    c.requires.whole ensures.call ensures.drawn refl refl c.last-last_sequence.ensures.is (ap inserts_of c.in-Some.ensures) c.deref.result.now.tables (ap (λ (p : Placement). p.tables) c.deref.ensures) ensures.stops
+
+pub returns-in-Err-clause-stops : goal.returns-in-Err-clause-stops
+returns-in-Err-clause-stops g c =
+    let order = order_of g.K.KeyOrder.name g.K.KeyOrder.cmp in
+    let source = seen_of g.S.Store.facts c.args.source.now in
+    let facts = g.S.Store.facts c.flush_memory.new.store in
+    let state = c.args.self.now in
+    let memory = c.args.source.now.memory in
+    let numbers = c.flush_memory.new.numbers in
+    let ensures = c.in-Err.ensures in
+    let entries = c.in-Some.table.now.inserts in
+    let plan : FlushPlan = record { log_number = state.log.number; previous_log_number = state.directory.previous_log; last_sequence = c.last-last_sequence.result; block_bytes = c.block_bytes.result } in
+    flush_keeps order (λ scan. scan_kept order.cmp scan) c.one_directory.ensures c.sound_lasts.ensures c.same_view.ensures c.changes_are_kept.ensures.flushed source facts no_ids state memory numbers plan entries
+    c.requires.whole ensures.call ensures.drawn refl refl c.last-last_sequence.ensures.is (ap inserts_of c.in-Some.ensures) c.deref.result.now.tables (ap (λ (p : Placement). p.tables) c.deref.ensures) ensures.stops

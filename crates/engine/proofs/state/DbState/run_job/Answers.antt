@@ -11,6 +11,9 @@ use Rattle.engine.specs.internal.Pieces.{MayRefusePiece}
 use Rattle.engine.proofs.Emptied.{done_of, on_ok}
 use Rattle.engine.proofs.Finishing.{outcome_of, outcome_then, serves_begun, then_bound, within_bound}
 use Rattle.engine.proofs.NeededEnds.{merges_plan, needed_behind}
+use Rattle.engine.proofs.Breaking.{breaks_then, unbroken}
+use Rattle.engine.proofs.StopSteps.{keeps_read, keeps_then}
+use Rattle.engine.specs.Stands.{no_ids}
 use Rattle.engine.proofs.state.DbState.run_job.Goals as goal
 
 pub returns-in_err-begin_job-clause-step : goal.returns-in_err-begin_job-clause-step
@@ -60,7 +63,7 @@ returns-clause-outcome g c =
     let between = open_db c.begin_job.new.source.memory c.begin_job.new.self in
     let after = open_db c.run_job_to_end.new.source.memory c.run_job_to_end.new.self in
     let b = c.in_ok-begin_job.ensures in
-    outcome_then MayRefusePiece old mid new before between after c.run_job_to_end.result c.requires.whole (serves_begun old mid before between b.stood b.outcome.denials b.lock b.whole b.same) c.run_job_to_end.ensures.outcome
+    outcome_then MayRefusePiece old mid new before between after c.run_job_to_end.result c.requires.whole (serves_begun old mid before between b.stood b.fails b.outcome.denials b.lock b.whole b.same) c.run_job_to_end.ensures.outcome
 
 pub returns-clause-memory : goal.returns-clause-memory
 returns-clause-memory g c = left_onward c.args.source.now.memory c.begin_job.new.source.memory c.run_job_to_end.new.source.memory c.in_ok-begin_job.ensures.memory c.run_job_to_end.ensures.memory
@@ -94,3 +97,20 @@ returns-clause-merges g c =
     let b = c.in_ok-begin_job.ensures in
     let r = c.run_job_to_end.ensures in
     on_ok c.run_job_to_end.result (λ merges. merges_plan order c.args.plan old mid new before between after b.step r.step b.same.tables b.begun b.none b.live merges) r.merges
+
+pub returns-in_err-begin_job-clause-breaks : goal.returns-in_err-begin_job-clause-breaks
+returns-in_err-begin_job-clause-breaks g c = unbroken (g.S.Store.facts c.args.source.now.tables.store) (g.S.Store.facts c.begin_job.new.source.tables.store) c.begin_job.new.self.broken c.in_err-begin_job.ensures.whole c.in_err-begin_job.ensures.fails
+
+pub returns-clause-breaks : goal.returns-clause-breaks
+returns-clause-breaks g c = breaks_then (g.S.Store.facts c.args.source.now.tables.store) (g.S.Store.facts c.begin_job.new.source.tables.store) (g.S.Store.facts c.run_job_to_end.new.source.tables.store) c.run_job_to_end.new.self.broken c.in_ok-begin_job.ensures.fails (λ is. is) c.run_job_to_end.ensures.breaks
+
+-- ---- what a stop leaves
+
+pub returns-in_err-begin_job-clause-stops : goal.returns-in_err-begin_job-clause-stops
+returns-in_err-begin_job-clause-stops g c = keeps_read (order_of g.K.KeyOrder.name g.K.KeyOrder.cmp) (seen_of g.S.Store.facts c.args.source.now) (seen_of g.S.Store.facts c.begin_job.new.source) (open_db c.args.source.now.memory c.args.self.now) c.in_err-begin_job.ensures.calls c.in_err-begin_job.ensures.files
+
+pub returns-clause-stops : goal.returns-clause-stops
+returns-clause-stops g c =
+    keeps_then (order_of g.K.KeyOrder.name g.K.KeyOrder.cmp) (seen_of g.S.Store.facts c.args.source.now) (seen_of g.S.Store.facts c.begin_job.new.source) (seen_of g.S.Store.facts c.run_job_to_end.new.source) (open_db c.args.source.now.memory c.args.self.now) (open_db c.begin_job.new.source.memory c.begin_job.new.self) (λ m. 0) (tt {0})
+    c.in_ok-begin_job.ensures.step (c.run_job_to_end.ensures.step no_ids).faithful
+    (keeps_read (order_of g.K.KeyOrder.name g.K.KeyOrder.cmp) (seen_of g.S.Store.facts c.args.source.now) (seen_of g.S.Store.facts c.begin_job.new.source) (open_db c.args.source.now.memory c.args.self.now) c.in_ok-begin_job.ensures.calls c.in_ok-begin_job.ensures.files) c.run_job_to_end.ensures.stops

@@ -8,6 +8,8 @@ use Rattle.engine.proofs.Emptied.{always_ok, on_ok}
 use Rattle.engine.proofs.Finishing.{outcome_done, serves_same, stays_done}
 use Rattle.engine.proofs.NeededEntries.{not_taking}
 use Rattle.engine.proofs.WithinBudget.{not_some}
+use Rattle.engine.proofs.Breaking.{unbroken}
+use Rattle.engine.proofs.StopSteps.{keeps_none}
 use Rattle.engine.proofs.state.DbState.run_job_to_end.Goals as goal
 
 pub returns-then-is_none-clause-step : goal.returns-then-is_none-clause-step
@@ -44,3 +46,17 @@ returns-then-is_none-clause-merges g c some = absurd (not_some c.args.self.now.j
 
 pub returns-clause-merges : goal.returns-clause-merges
 returns-clause-merges g c = on_ok c.take_steps.result (λ h some. h) c.take_steps.ensures.merges
+
+pub returns-then-is_none-clause-breaks : goal.returns-then-is_none-clause-breaks
+returns-then-is_none-clause-breaks g c = unbroken (g.S.Store.facts c.args.source.now.tables.store) (g.S.Store.facts c.args.source.now.tables.store) c.args.self.now.broken c.requires.whole refl
+
+pub returns-clause-breaks : goal.returns-clause-breaks
+returns-clause-breaks g c = c.take_steps.ensures.breaks
+
+-- ---- what a stop leaves
+
+pub returns-then-is_none-clause-stops : goal.returns-then-is_none-clause-stops
+returns-then-is_none-clause-stops g c = keeps_none (order_of g.K.KeyOrder.name g.K.KeyOrder.cmp) (seen_of g.S.Store.facts c.args.source.now) (open_db c.args.source.now.memory c.args.self.now)
+
+pub returns-clause-stops : goal.returns-clause-stops
+returns-clause-stops g c = c.take_steps.ensures.stops

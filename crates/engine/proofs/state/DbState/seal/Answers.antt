@@ -1,4 +1,4 @@
-use Rattle.std.proofs.Common.{◌≡◌, Result, Err, sym, subst, rules}
+use Rattle.std.proofs.Common.{◌≡◌, Result, Err, sym, subst, rules, refl}
 use Rattle.coding.specs.declared.error.DbError.{DbError}
 use Rattle.coding.specs.declared.error.DbError.TheVariants.{OutOfMemory}
 use Rattle.ikey.specs.Orders.{order_of}
@@ -10,6 +10,9 @@ use Rattle.engine.specs.OpenDb.{open_db}
 use Rattle.db_cursor.specs.Whole.{seen_of}
 use Rattle.engine.specs.internal.Pieces.{IsPiece}
 use Rattle.engine.proofs.WorkEnds.{ends_full, ends_sealed, ends_unsealed}
+use Rattle.engine.proofs.Breaking.{IsIo, as_unwritten, unbroken, breaks_counted}
+use Rattle.engine.specs.Breaking.{BreaksExactly}
+use Rattle.engine.proofs.StopSteps.{keeps_logged, keeps_none}
 use Rattle.engine.proofs.state.DbState.seal.Goals as goal
 
 pub returns-in_err-seal-clause-step : goal.returns-in_err-seal-clause-step
@@ -42,3 +45,34 @@ returns-in-Err-clause-step g c ids =
     (subst (λ (s : DbState _ _). after s e) (sym c.refuse.ensures.broken)
     (ends_unsealed order (λ scan. scan_kept order.cmp scan) c.one_directory.ensures c.sound_lasts.ensures c.same_view.ensures c.changes_are_kept.ensures.sealed source facts ids c.args.self.now c.args.source.now.memory c.begin_log.new.numbers
     c.requires.whole ensures.call e c.unseal.new.self ensures.refused ensures.drawn (ensures.begins order) left))
+
+pub returns-in_err-seal-clause-breaks : goal.returns-in_err-seal-clause-breaks
+returns-in_err-seal-clause-breaks g c = unbroken (g.S.Store.facts c.args.source.now.tables.store) (g.S.Store.facts c.args.source.now.tables.store) c.args.self.now.broken c.requires.whole refl
+
+pub returns-in-Ok-clause-breaks : goal.returns-in-Ok-clause-breaks
+returns-in-Ok-clause-breaks g c = unbroken (g.S.Store.facts c.args.source.now.tables.store) (g.S.Store.facts c.begin_log.new.store) c.args.self.now.broken c.requires.whole (as_unwritten (g.S.Store.facts c.args.source.now.tables.store) (g.S.Store.facts c.begin_log.new.store) c.in-Ok.ensures.fails c.in-Ok.ensures.counted)
+
+pub returns-in-Err-clause-breaks : goal.returns-in-Err-clause-breaks
+returns-in-Err-clause-breaks g c =
+    let old = g.S.Store.facts c.args.source.now.tables.store in
+    let new = g.S.Store.facts c.begin_log.new.store in
+    let given : DbState g.row.K.Denot g.K.KeyOrder = record c.args.self.now { directory = record c.args.self.now.directory { numbers = c.begin_log.new.numbers } } in
+    let After : DbState g.row.K.Denot g.K.KeyOrder → DbError → Type 0 = λ t r. BreaksExactly old new t.broken (IsIo {T = Unit {0}} (Err r)) in
+    subst (After c.refuse.new.self) (sym c.refuse.ensures.answer)
+    (subst (λ (t : DbState g.row.K.Denot g.K.KeyOrder). After t c.in-Err.error) (sym c.refuse.ensures.broken)
+    (breaks_counted {T = Unit {0}} old new given c.in-Err.error c.requires.whole c.in-Err.ensures.fails c.in-Err.ensures.counted))
+
+-- ---- what a stop leaves
+
+pub returns-in_err-seal-clause-stops : goal.returns-in_err-seal-clause-stops
+returns-in_err-seal-clause-stops g c = keeps_none (order_of g.K.KeyOrder.name g.K.KeyOrder.cmp) (seen_of g.S.Store.facts c.args.source.now) (open_db c.args.source.now.memory c.args.self.now)
+
+pub returns-in-Ok-clause-stops : goal.returns-in-Ok-clause-stops
+returns-in-Ok-clause-stops g c =
+    let source = (seen_of g.S.Store.facts c.args.source.now) in
+    keeps_logged (order_of g.K.KeyOrder.name g.K.KeyOrder.cmp) source (record source { facts = g.S.Store.facts c.begin_log.new.store }) (open_db c.args.source.now.memory c.args.self.now) c.requires.whole c.same_view.ensures (λ f. c.in-Ok.ensures.stops f (order_of g.K.KeyOrder.name g.K.KeyOrder.cmp))
+
+pub returns-in-Err-clause-stops : goal.returns-in-Err-clause-stops
+returns-in-Err-clause-stops g c =
+    let source = (seen_of g.S.Store.facts c.args.source.now) in
+    keeps_logged (order_of g.K.KeyOrder.name g.K.KeyOrder.cmp) source (record source { facts = g.S.Store.facts c.begin_log.new.store }) (open_db c.args.source.now.memory c.args.self.now) c.requires.whole c.same_view.ensures (λ f. c.in-Err.ensures.stops f (order_of g.K.KeyOrder.name g.K.KeyOrder.cmp))

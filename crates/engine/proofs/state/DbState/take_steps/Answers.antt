@@ -1,4 +1,4 @@
-use Rattle.std.proofs.Common.{◌≡◌, ◌<◌, ◌^◌, ◌-◌, true, false, Bool, None, Ok, Err, Result, IsSome, MatchBool, sym, ap, subst, arith, rules}
+use Rattle.std.proofs.Common.{◌≡◌, ◌<◌, ◌^◌, ◌-◌, true, false, Bool, None, Ok, Err, Result, IsSome, MatchBool, sym, ap, subst, arith, rules, ◌∙◌}
 use Rattle.coding.specs.declared.error.DbError.{DbError}
 use Rattle.ikey.specs.Orders.{order_of}
 use Rattle.memtables.specs.PlaceLaws.{left_onward}
@@ -10,6 +10,9 @@ use Rattle.db_cursor.specs.Whole.{seen_of}
 use Rattle.engine.specs.internal.Pieces.{IsPiece, MayRefusePiece}
 use Rattle.engine.proofs.Finishing.{job_there, outcome_all, outcome_done, outcome_of, outcome_then, serves_then, taken_all, taken_done, taken_ended, taken_merged, taken_more, taken_none, taken_refused}
 use Rattle.engine.proofs.NeededEnds.{needed_behind}
+use Rattle.engine.proofs.Breaking.{breaks_then, handed_on, serves_breaks, unbroken}
+use Rattle.engine.proofs.StopSteps.{keeps_then}
+use Rattle.engine.specs.Stands.{no_ids}
 use Rattle.engine.proofs.state.DbState.take_steps.Goals as goal
 
 pub loop-init : goal.loop-init
@@ -30,7 +33,7 @@ loop-preserved g c =
     let going : c.in_ok-step_job.field-0 ≡ false = search rules in
     let some = subst (λ (b : Bool). MatchBool b (c.step_job.new.self.job ≡ None) (IsSome c.step_job.new.self.job)) going a.ended in
     taken_more order old mid new before between after c.loop.counter c.loop.invariant a.on some a.serves a.memory (a.all (ap (λ (b : Bool). Ok b) going)) (a.beside (ap (λ (b : Bool). Ok b) going))
-    (λ ids. subst (λ (b : Bool). LeadsOpen order mid new ids between after (λ m n. IsPiece m 1 (Ok b) n)) going (a.step ids))
+    (λ ids. subst (λ (b : Bool). LeadsOpen order mid new ids between after (λ m n. IsPiece m 1 (Ok b) n)) going (a.step ids)) a.stops
 
 pub returns-in_err-step_job-clause-step : goal.returns-in_err-step_job-clause-step
 returns-in_err-step_job-clause-step g c ids =
@@ -162,3 +165,29 @@ returns-then-branch-clause-merges g c =
     let after = open_db c.step_job.new.source.memory c.step_job.new.self in
     let a = c.in_ok-step_job.ensures in
     taken_merged order old mid new before between after c.loop.counter c.loop.invariant g.met.K.KeyOrder.total c.requires.whole a.step (a.merges (returns-then-branch-clause-none g c))
+
+pub returns-in_err-step_job-clause-breaks : goal.returns-in_err-step_job-clause-breaks
+returns-in_err-step_job-clause-breaks g c = breaks_then (g.S.Store.facts c.args.source.now.tables.store) (g.S.Store.facts c.loop.source.tables.store) (g.S.Store.facts c.step_job.new.source.tables.store) c.step_job.new.self.broken c.loop.invariant.serves.unwritten (λ is. handed_on c.in_err-step_job.field-0.0 c.from_residual.result (search rules) is) c.in_err-step_job.ensures.breaks
+
+pub returns-then-branch-clause-breaks : goal.returns-then-branch-clause-breaks
+returns-then-branch-clause-breaks g c = unbroken (g.S.Store.facts c.args.source.now.tables.store) (g.S.Store.facts c.step_job.new.source.tables.store) c.step_job.new.self.broken c.in_ok-step_job.ensures.serves.whole (c.in_ok-step_job.ensures.serves.unwritten ∙ c.loop.invariant.serves.unwritten)
+
+pub returns-clause-breaks : goal.returns-clause-breaks
+returns-clause-breaks g c = serves_breaks (g.S.Store.facts c.args.source.now.tables.store) (g.S.Store.facts c.loop.source.tables.store) (open_db c.args.source.now.memory c.args.self.now) (open_db c.loop.source.memory c.loop.self) c.loop.invariant.serves
+
+-- ---- what a stop leaves
+
+pub returns-in_err-step_job-clause-stops : goal.returns-in_err-step_job-clause-stops
+returns-in_err-step_job-clause-stops g c =
+    keeps_then (order_of g.K.KeyOrder.name g.K.KeyOrder.cmp) (seen_of g.S.Store.facts c.args.source.now) (seen_of g.S.Store.facts c.loop.source) (seen_of g.S.Store.facts c.step_job.new.source) (open_db c.args.source.now.memory c.args.self.now) (open_db c.loop.source.memory c.loop.self) (λ m. c.loop.counter) (tt {0})
+    c.loop.invariant.step (c.in_err-step_job.ensures.step no_ids).faithful
+    c.loop.invariant.stops c.in_err-step_job.ensures.stops
+
+pub returns-then-branch-clause-stops : goal.returns-then-branch-clause-stops
+returns-then-branch-clause-stops g c =
+    keeps_then (order_of g.K.KeyOrder.name g.K.KeyOrder.cmp) (seen_of g.S.Store.facts c.args.source.now) (seen_of g.S.Store.facts c.loop.source) (seen_of g.S.Store.facts c.step_job.new.source) (open_db c.args.source.now.memory c.args.self.now) (open_db c.loop.source.memory c.loop.self) (λ m. c.loop.counter) (tt {0})
+    c.loop.invariant.step (c.in_ok-step_job.ensures.step no_ids).faithful
+    c.loop.invariant.stops c.in_ok-step_job.ensures.stops
+
+pub returns-clause-stops : goal.returns-clause-stops
+returns-clause-stops g c = c.loop.invariant.stops

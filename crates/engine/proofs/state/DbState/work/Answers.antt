@@ -17,6 +17,8 @@ use Rattle.engine.proofs.FlushEnds.{flushes_behind}
 use Rattle.engine.proofs.WorkAnswers.{caused_met, does_on, failures_rose, then_piece, then_refused, works, works_broken}
 use Rattle.engine.proofs.WorkSteps.{piece_failed}
 use Rattle.engine.proofs.WithinBudget.{at_ease_on, steps_behind, tables_stay}
+use Rattle.engine.proofs.Breaking.{breaks_then, refused_io, unbroken}
+use Rattle.engine.proofs.StopSteps.{keeps_none, keeps_then}
 use Rattle.engine.proofs.state.DbState.work.Goals as goal
 
 pub returns-then-self-clause-step : goal.returns-then-self-clause-step
@@ -124,3 +126,35 @@ returns-in-Ok-clause-flushes g c =
     let cleaned = c.in_ok-complete.ensures in
     let piece = c.in-Ok.ensures in
     flushes_behind order old mid new before c.clean.new.source.memory after (Ok c.in-Ok.progress) cleaned.step (piece.step no_ids).faithful cleaned.memory piece.flushes
+
+pub returns-then-self-clause-breaks : goal.returns-then-self-clause-breaks
+returns-then-self-clause-breaks g c whole = absurd (let broken = c.if-self.true in cc)
+
+pub returns-in_err-complete-clause-breaks : goal.returns-in_err-complete-clause-breaks
+returns-in_err-complete-clause-breaks g c whole = unbroken (g.S.Store.facts c.args.source.now.tables.store) (g.S.Store.facts c.clean.new.source.tables.store) c.args.self.now.broken whole c.in_err-complete.ensures.fails
+
+pub returns-in-Ok-clause-breaks : goal.returns-in-Ok-clause-breaks
+returns-in-Ok-clause-breaks g c whole = breaks_then (g.S.Store.facts c.args.source.now.tables.store) (g.S.Store.facts c.clean.new.source.tables.store) (g.S.Store.facts c.do_piece.new.source.tables.store) c.do_piece.new.self.broken c.in_ok-complete.ensures.fails (λ is. is) c.in-Ok.ensures.breaks
+
+pub returns-in-Err-clause-breaks : goal.returns-in-Err-clause-breaks
+returns-in-Err-clause-breaks g c whole = breaks_then (g.S.Store.facts c.args.source.now.tables.store) (g.S.Store.facts c.clean.new.source.tables.store) (g.S.Store.facts c.do_piece.new.source.tables.store) c.do_piece.new.self.broken c.in_ok-complete.ensures.fails (λ is. refused_io {T = Progress} {U = Progress} c.in_ok-complete.complete c.in-Err.error c.refusal.result c.refusal.ensures is) c.in-Err.ensures.breaks
+
+-- ---- what a stop leaves
+
+pub returns-then-self-clause-stops : goal.returns-then-self-clause-stops
+returns-then-self-clause-stops g c = keeps_none (order_of g.K.KeyOrder.name g.K.KeyOrder.cmp) (seen_of g.S.Store.facts c.args.source.now) (open_db c.args.source.now.memory c.args.self.now)
+
+pub returns-in_err-complete-clause-stops : goal.returns-in_err-complete-clause-stops
+returns-in_err-complete-clause-stops g c = c.in_err-complete.ensures.stops
+
+pub returns-in-Ok-clause-stops : goal.returns-in-Ok-clause-stops
+returns-in-Ok-clause-stops g c =
+    keeps_then (order_of g.K.KeyOrder.name g.K.KeyOrder.cmp) (seen_of g.S.Store.facts c.args.source.now) (seen_of g.S.Store.facts c.clean.new.source) (seen_of g.S.Store.facts c.do_piece.new.source) (open_db c.args.source.now.memory c.args.self.now) (open_db c.clean.new.source.memory c.args.self.now) (λ m. 0) c.in_ok-complete.complete
+    c.in_ok-complete.ensures.step (c.in-Ok.ensures.step no_ids).faithful
+    c.in_ok-complete.ensures.stops c.in-Ok.ensures.stops
+
+pub returns-in-Err-clause-stops : goal.returns-in-Err-clause-stops
+returns-in-Err-clause-stops g c =
+    keeps_then (order_of g.K.KeyOrder.name g.K.KeyOrder.cmp) (seen_of g.S.Store.facts c.args.source.now) (seen_of g.S.Store.facts c.clean.new.source) (seen_of g.S.Store.facts c.do_piece.new.source) (open_db c.args.source.now.memory c.args.self.now) (open_db c.clean.new.source.memory c.args.self.now) (λ m. 0) c.in_ok-complete.complete
+    c.in_ok-complete.ensures.step (c.in-Err.ensures.step no_ids).faithful
+    c.in_ok-complete.ensures.stops c.in-Err.ensures.stops

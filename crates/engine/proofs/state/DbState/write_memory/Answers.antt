@@ -10,6 +10,9 @@ use Rattle.engine.specs.internal.Pieces.{IsPiece, MayRefusePiece}
 use Rattle.engine.proofs.Emptied.{on_ok}
 use Rattle.engine.proofs.FlushEnds.{no_entries}
 use Rattle.engine.proofs.Finishing.{outcome_by, outcome_of, outcome_then, serves_then, then_bound, within_bound}
+use Rattle.engine.proofs.Breaking.{breaks_as, breaks_then, handed_on, serves_breaks}
+use Rattle.engine.proofs.StopSteps.{keeps_then}
+use Rattle.engine.specs.Stands.{no_ids}
 use Rattle.engine.proofs.state.DbState.write_memory.Goals as goal
 
 pub returns-in_err-write_sealed-clause-step : goal.returns-in_err-write_sealed-clause-step
@@ -129,3 +132,36 @@ returns-clause-written g c =
 
 pub returns-clause-none : goal.returns-clause-none
 returns-clause-none g c = on_ok c.flush.result (λ h. h.still) c.flush.ensures.does
+
+pub returns-in_err-write_sealed-clause-breaks : goal.returns-in_err-write_sealed-clause-breaks
+returns-in_err-write_sealed-clause-breaks g c = breaks_as (g.S.Store.facts c.args.source.now.tables.store) (g.S.Store.facts c.write_sealed.new.source.tables.store) c.write_sealed.new.self.broken (λ is. handed_on c.in_err-write_sealed.field-0.0 c.from_residual.result (search rules) is) c.in_err-write_sealed.ensures.breaks
+
+pub returns-then-is_empty-clause-breaks : goal.returns-then-is_empty-clause-breaks
+returns-then-is_empty-clause-breaks g c = serves_breaks (g.S.Store.facts c.args.source.now.tables.store) (g.S.Store.facts c.write_sealed.new.source.tables.store) (open_db c.args.source.now.memory c.args.self.now) (open_db c.write_sealed.new.source.memory c.write_sealed.new.self) c.in_ok-write_sealed.ensures.serves
+
+pub returns-in_err-seal-clause-breaks : goal.returns-in_err-seal-clause-breaks
+returns-in_err-seal-clause-breaks g c = breaks_then (g.S.Store.facts c.args.source.now.tables.store) (g.S.Store.facts c.write_sealed.new.source.tables.store) (g.S.Store.facts c.seal.new.source.tables.store) c.seal.new.self.broken c.in_ok-write_sealed.ensures.serves.unwritten (λ is. handed_on c.in_err-seal.field-0.0 c.from_residual-in_err-seal.result (search rules) is) c.in_err-seal.ensures.breaks
+
+pub returns-clause-breaks : goal.returns-clause-breaks
+returns-clause-breaks g c = breaks_then (g.S.Store.facts c.args.source.now.tables.store) (g.S.Store.facts c.seal.new.source.tables.store) (g.S.Store.facts c.flush.new.source.tables.store) c.flush.new.self.broken (c.in_ok-seal.ensures.serves.unwritten ∙ c.in_ok-write_sealed.ensures.serves.unwritten) (λ is. is) c.flush.ensures.breaks
+
+-- ---- what a stop leaves
+
+pub returns-in_err-write_sealed-clause-stops : goal.returns-in_err-write_sealed-clause-stops
+returns-in_err-write_sealed-clause-stops g c = c.in_err-write_sealed.ensures.stops
+
+pub returns-then-is_empty-clause-stops : goal.returns-then-is_empty-clause-stops
+returns-then-is_empty-clause-stops g c = c.in_ok-write_sealed.ensures.stops
+
+pub returns-in_err-seal-clause-stops : goal.returns-in_err-seal-clause-stops
+returns-in_err-seal-clause-stops g c =
+    keeps_then (order_of g.K.KeyOrder.name g.K.KeyOrder.cmp) (seen_of g.S.Store.facts c.args.source.now) (seen_of g.S.Store.facts c.write_sealed.new.source) (seen_of g.S.Store.facts c.seal.new.source) (open_db c.args.source.now.memory c.args.self.now) (open_db c.write_sealed.new.source.memory c.write_sealed.new.self) (λ m. 1) (tt {0})
+    c.in_ok-write_sealed.ensures.step (c.in_err-seal.ensures.step no_ids).faithful
+    c.in_ok-write_sealed.ensures.stops c.in_err-seal.ensures.stops
+
+pub returns-clause-stops : goal.returns-clause-stops
+returns-clause-stops g c =
+    let back = (c.flush.ensures.step no_ids).faithful in
+    let later = (c.in_ok-seal.ensures.step no_ids).faithful in
+    keeps_then (order_of g.K.KeyOrder.name g.K.KeyOrder.cmp) (seen_of g.S.Store.facts c.args.source.now) (seen_of g.S.Store.facts c.write_sealed.new.source) (seen_of g.S.Store.facts c.flush.new.source) (open_db c.args.source.now.memory c.args.self.now) (open_db c.write_sealed.new.source.memory c.write_sealed.new.self) (λ m. 1) (tt {0}) c.in_ok-write_sealed.ensures.step (λ f. later (back f)) c.in_ok-write_sealed.ensures.stops
+    (keeps_then (order_of g.K.KeyOrder.name g.K.KeyOrder.cmp) (seen_of g.S.Store.facts c.write_sealed.new.source) (seen_of g.S.Store.facts c.seal.new.source) (seen_of g.S.Store.facts c.flush.new.source) (open_db c.write_sealed.new.source.memory c.write_sealed.new.self) (open_db c.seal.new.source.memory c.seal.new.self) (λ m. 1) (tt {0}) c.in_ok-seal.ensures.step back c.in_ok-seal.ensures.stops c.flush.ensures.stops)

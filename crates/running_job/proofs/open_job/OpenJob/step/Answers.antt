@@ -3,7 +3,8 @@ use Rattle.std.proofs.lemmas.Result.{err_from_is_err_and}
 use Rattle.compact.specs.Deeper.{is_covered_below}
 use Rattle.compact.proofs.Numbered.{numbered-later}
 use Rattle.ikey.specs.Orders.{order_of}
-use Rattle.running_job.proofs.Stepped.{goes, keeps_on, refuses_step, runs, touched}
+use Rattle.store.proofs.Stopping.{leaves_same}
+use Rattle.running_job.proofs.Stepped.{goes, keeps_on, refuses_step, runs, stopped_on, touched}
 use Rattle.running_job.proofs.open_job.OpenJob.step.Goals as goal
 
 pub invariant_of-self-2-clause-numbered : goal.invariant_of-self-2-clause-numbered
@@ -51,3 +52,16 @@ returns-in_err-progress-clause-refused g c =
     rw (p.1, p.2) (refuses_step (order_of g.K.KeyOrder.name g.K.KeyOrder.cmp) (record { facts = g.S.Store.facts; store_of = λ s. s.tables.store; with_store = λ s t. record s { tables = record s.tables { store = t } }; tables_of = λ s. s.tables.tables.tables; blocks_of = λ s. s.tables.blocks.blocks; memory_of = λ s. s.memory; with_memory = λ s w. record s { memory = w } }) (record { stored = λ s t. refl; remembered = λ s w. refl })
     c.sound_lasts.ensures c.args.self.now c.args.source.now (g.S.Store.facts c.args.source.now.tables.store) (g.S.Store.facts c.step.new.source.tables.store) c.args.numbers.now.next c.step.new.numbers.next c.in_err-progress.field-0.0
     (is_covered_below g.K.KeyOrder.cmp c.plan.result.now.output_level c.deref.result.now.tables) c.args.numbers.now.in_range.1 (λ i. is_covered_below g.K.KeyOrder.cmp (c.plan.ensures i).output_level (c.deref.ensures i).tables) c.in_err-progress.ensures.refused)
+
+pub returns-clause-stops : goal.returns-clause-stops
+returns-clause-stops g c =
+    stopped_on (order_of g.K.KeyOrder.name g.K.KeyOrder.cmp) (record { facts = g.S.Store.facts; store_of = λ s. s.tables.store; with_store = λ s t. record s { tables = record s.tables { store = t } }; tables_of = λ s. s.tables.tables.tables; blocks_of = λ s. s.tables.blocks.blocks; memory_of = λ s. s.memory; with_memory = λ s w. record s { memory = w } }) (record { stored = λ s t. refl; remembered = λ s w. refl })
+    c.job_writes_law.ensures c.args.self.now c.args.source.now c.step.new.source c.args.numbers.now.next c.step.new.numbers.next c.in_ok-progress.ensures.numbers c.step.new.numbers.in_range.1 c.in_ok-progress.ensures.writes
+
+pub returns-in_err-progress-clause-stops : goal.returns-in_err-progress-clause-stops
+returns-in_err-progress-clause-stops g c =
+    stopped_on (order_of g.K.KeyOrder.name g.K.KeyOrder.cmp) (record { facts = g.S.Store.facts; store_of = λ s. s.tables.store; with_store = λ s t. record s { tables = record s.tables { store = t } }; tables_of = λ s. s.tables.tables.tables; blocks_of = λ s. s.tables.blocks.blocks; memory_of = λ s. s.memory; with_memory = λ s w. record s { memory = w } }) (record { stored = λ s t. refl; remembered = λ s w. refl })
+    c.job_writes_law.ensures c.args.self.now c.args.source.now c.step.new.source c.args.numbers.now.next c.step.new.numbers.next c.in_err-progress.ensures.numbers c.step.new.numbers.in_range.1 c.in_err-progress.ensures.writes
+
+pub returns-then-numbers-self-clause-stops : goal.returns-then-numbers-self-clause-stops
+returns-then-numbers-self-clause-stops g c t d came left can = leaves_same (g.S.Store.facts c.args.source.now.tables.store) (g.S.Store.facts c.args.source.now.tables.store) _ refl refl can.consistent

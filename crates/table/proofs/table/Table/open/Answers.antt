@@ -67,7 +67,8 @@ returns-then-not-are_separate-clause-told g c =
     let b : Facts = g.S.Store.facts c.read_ends.new.store in
     let d : Facts = g.S.Store.facts c.read_filter.new.store in
     let z : Facts = g.S.Store.facts c.read_places.new.store in
-    known a z c.args.name.now
+    rw c.note_parts.ensures
+    (known a z c.args.name.now
     (λ (file : List ℕ). HasFooter file e.before e.footer.metaindex e.footer.index × FilterHere e.footer.metaindex c.in_ok-named.named c.in_ok-named.filter file × IndexHere g.K.KeyOrder.cmp e.footer.index places file)
     (IsFrameDamaged g.K.KeyOrder.cmp)
     (λ file h. not_separate g.K.KeyOrder.cmp file e.before e.footer.metaindex e.footer.index c.in_ok-named.named c.in_ok-named.filter places h.0 h.1 h.2
@@ -75,7 +76,7 @@ returns-then-not-are_separate-clause-told g c =
     ∙ ap (λ (t : List Place). e.footer.metaindex ∷ e.footer.index ∷ (handles_of c.in_ok-named.named ++ map (λ (place : Place). place.handle) t)) c.deref.ensures.value)) apart)))
     (finds_three a b d z c.args.name.now (λ (file : List ℕ). HasFooter file e.before e.footer.metaindex e.footer.index) (FilterHere e.footer.metaindex c.in_ok-named.named c.in_ok-named.filter)
     (IndexHere g.K.KeyOrder.cmp e.footer.index places)
-    c.in_ok-ends.ensures.reads c.in_ok-named.ensures.reads c.in_ok-places.ensures.reads c.in_ok-ends.ensures.found c.in_ok-named.ensures.found c.in_ok-places.ensures.found)
+    c.in_ok-ends.ensures.reads c.in_ok-named.ensures.reads c.in_ok-places.ensures.reads c.in_ok-ends.ensures.found c.in_ok-named.ensures.found c.in_ok-places.ensures.found))
 
 pub returns-then-not-are_separate-clause-refused : goal.returns-then-not-are_separate-clause-refused
 returns-then-not-are_separate-clause-refused g c = λ t file there. (returns-then-not-are_separate-clause-told g c t file there).0

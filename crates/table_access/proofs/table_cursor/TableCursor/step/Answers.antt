@@ -8,13 +8,13 @@ pub returns-in_err-start-clause-steps : goal.returns-in_err-start-clause-steps
 returns-in_err-start-clause-steps g c =
     let p = err_from_is_err_and c.from_residual.result c.from_residual.ensures.1 in
     let old = seen (g.S.Store.facts c.args.source.now.store) c.args.source.now.tables c.args.source.now.blocks in
-    rw p.1 (λ t at lists. stays_put g.K.KeyOrder.cmp old old c.args.self.now.number c.args.self.now.table.value.frame c.args.self.now.here c.step_on.new.here at (carries_itself {numbers = λ number. ⊥} g.K.KeyOrder.cmp old) t lists (c.in_err-start.ensures.err lists.groups at.place lists.place))
+    rw p.1 (λ t at lists. stays_put g.K.KeyOrder.cmp old old c.args.self.now.placed c.args.self.now.table.value.frame c.args.self.now.here c.step_on.new.here at (carries_itself {numbers = λ number. ⊥} g.K.KeyOrder.cmp old) t lists (c.in_err-start.ensures.err lists.groups at.place lists.place))
 
 pub returns-in-None-clause-steps : goal.returns-in-None-clause-steps
 returns-in-None-clause-steps g c = λ t at lists.
     let steps = rw c.in-None.is at c.in_ok-start.ensures.ok in
     let old = seen (g.S.Store.facts c.args.source.now.store) c.args.source.now.tables c.args.source.now.blocks in
-    went_on g.K.KeyOrder.cmp old old c.args.self.now.number c.args.self.now.table.value.frame c.args.self.now.here c.step_on.new.here at (carries_itself {numbers = λ number. ⊥} g.K.KeyOrder.cmp old) t lists (steps lists.groups at.place lists.place)
+    went_on g.K.KeyOrder.cmp old old c.args.self.now.placed c.args.self.now.table.value.frame c.args.self.now.here c.step_on.new.here at (carries_itself {numbers = λ number. ⊥} g.K.KeyOrder.cmp old) t lists (steps lists.groups at.place lists.place)
 
 pub returns-in_err-found-clause-steps : goal.returns-in_err-found-clause-steps
 returns-in_err-found-clause-steps g c =
@@ -23,7 +23,7 @@ returns-in_err-found-clause-steps g c =
     rw p.1
     (λ t at lists.
     stays_put g.K.KeyOrder.cmp (seen (g.S.Store.facts c.args.source.now.store) c.args.source.now.tables c.args.source.now.blocks)
-    (seen (g.S.Store.facts c.search_on.new.source.store) c.search_on.new.source.tables c.search_on.new.source.blocks) c.args.self.now.number c.args.self.now.table.value.frame c.args.self.now.here c.step_on.new.here at
+    (seen (g.S.Store.facts c.search_on.new.source.store) c.search_on.new.source.tables c.search_on.new.source.blocks) c.args.self.now.placed c.args.self.now.table.value.frame c.args.self.now.here c.step_on.new.here at
     c.search_on.ensures.carries t lists (steps lists.groups at.place lists.place).0)
 
 pub returns-in-Some-2-clause-steps : goal.returns-in-Some-2-clause-steps
@@ -32,7 +32,7 @@ returns-in-Some-2-clause-steps g c = λ t at lists.
     let steps = rw c.in-Some.is at c.in_ok-start.ensures.ok in
     let step = steps lists.groups at.place lists.place in
     reached_on g.K.KeyOrder.cmp (seen (g.S.Store.facts c.args.source.now.store) c.args.source.now.tables c.args.source.now.blocks)
-    (seen (g.S.Store.facts c.search_on.new.source.store) c.search_on.new.source.tables c.search_on.new.source.blocks) c.args.self.now.number c.args.self.now.table.value.frame c.args.self.now.here at
+    (seen (g.S.Store.facts c.search_on.new.source.store) c.search_on.new.source.tables c.search_on.new.source.blocks) c.args.self.now.placed c.args.self.now.table.value.frame c.args.self.now.here at
     c.in_ok-found.ensures.carries t lists c.in-Some-2.found c.in-Some.start step.2 (found t lists.groups lists.has step.1)
 
 pub returns-in-None-2-clause-steps : goal.returns-in-None-2-clause-steps
@@ -42,6 +42,6 @@ returns-in-None-2-clause-steps g c = λ t at lists.
     let step = steps lists.groups at.place lists.place in
     let old = seen (g.S.Store.facts c.args.source.now.store) c.args.source.now.tables c.args.source.now.blocks in
     let new = seen (g.S.Store.facts c.search_on.new.source.store) c.search_on.new.source.tables c.search_on.new.source.blocks in (
-      ended_on g.K.KeyOrder.cmp old new c.args.self.now.number c.args.self.now.table.value.frame c.args.self.now.here at c.in_ok-found.ensures.carries t lists c.in-Some.start step.2 (found t lists.groups lists.has step.1),
-      stays_put g.K.KeyOrder.cmp old new c.args.self.now.number c.args.self.now.table.value.frame c.args.self.now.here c.step_on.new.here at c.in_ok-found.ensures.carries t lists step.0,
+      ended_on g.K.KeyOrder.cmp old new c.args.self.now.placed c.args.self.now.table.value.frame c.args.self.now.here at c.in_ok-found.ensures.carries t lists c.in-Some.start step.2 (found t lists.groups lists.has step.1),
+      stays_put g.K.KeyOrder.cmp old new c.args.self.now.placed c.args.self.now.table.value.frame c.args.self.now.here c.step_on.new.here at c.in_ok-found.ensures.carries t lists step.0,
     )

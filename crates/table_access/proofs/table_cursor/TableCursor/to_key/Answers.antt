@@ -14,7 +14,7 @@ returns-in_err-self-clause-refused g c =
     rw (p.1, p.2)
     (refused_as c.in_err-self.field-0.0 _ _ _ _ _
     (λ lacks key is_key at lists.
-    lacks lists.groups lists.has (let l = data_length g.K.KeyOrder.cmp lists.has.file c.args.self.now.table.value.frame.places lists.groups lists.has.data_is in omega (arith, inside, l)))
+    lacks lists.groups lists.has lists.ends (let l = data_length g.K.KeyOrder.cmp lists.has.file c.args.self.now.table.value.frame.places lists.groups lists.has.data_is in omega (arith, inside, l)))
     (rw c.deref-2.ensures at c.in_err-self.ensures.refused))
 
 pub returns-clause-moves : goal.returns-clause-moves
@@ -25,5 +25,5 @@ returns-clause-moves g c = λ key is_key t at lists.
     let fits : c.first_place-start.result ≤ length lists.groups =
     let l = data_length g.K.KeyOrder.cmp lists.has.file c.args.self.now.table.value.frame.places lists.groups lists.has.data_is in omega (arith, inside, l) in
     seek_moved g.K.KeyOrder.cmp g.met.K.KeyOrder.total (seen (g.S.Store.facts c.args.source.now.store) c.args.source.now.tables c.args.source.now.blocks)
-    (seen (g.S.Store.facts c.search_on.new.source.store) c.search_on.new.source.tables c.search_on.new.source.blocks) c.args.self.now.number c.args.self.now.table.value.frame c.args.self.now.here c.in_ok-self.field-0 at
+    (seen (g.S.Store.facts c.search_on.new.source.store) c.search_on.new.source.tables c.search_on.new.source.blocks) c.args.self.now.placed c.args.self.now.table.value.frame c.args.self.now.here c.in_ok-self.field-0 at
     c.in_ok-self.ensures.carries t lists c.args.target.now c.first_place-start.result key first is_key (found t lists.groups lists.has fits)

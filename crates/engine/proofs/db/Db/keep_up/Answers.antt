@@ -1,0 +1,55 @@
+use Rattle.ikey.specs.Orders.{order_of}
+use Rattle.std.proofs.Common.{◌∙◌, refl, subst, sym}
+use Rattle.engine.specs.OptionValues.{OptionValues}
+use Rattle.engine.specs.StandsDb.{db_options_of, open_by}
+use Rattle.engine.specs.Working.{HasNoWork}
+use Rattle.engine.proofs.PaceSteps.{draws_none, draws_then, idle_only, refusal_only, rests_at_pace, worked_only, works_then}
+use Rattle.engine.proofs.RangeLeads.{leads_as, leads_stay, leads_then}
+use Rattle.engine.proofs.StopSteps.{db_stops_none, db_stops_then}
+use Rattle.engine.proofs.db.Db.keep_up.Goals as goal
+
+pub loop-init : goal.loop-init
+loop-init g c = record { steps = leads_stay draws_none; stops = db_stops_none (order_of g.K.KeyOrder.name g.K.KeyOrder.cmp) g.S.Store.facts c.args.self.now; ids = refl; opening = record { options = refl; failures = refl } }
+
+pub loop-preserved : goal.loop-preserved
+loop-preserved g c = record {
+  steps = leads_then (λ m n o h k. draws_then m n o h (worked_only n o c.args.budget k)) c.loop.invariant.steps (rw c.in-Ok-Worked.field-0-is at c.in-Ok-Worked.ensures.step);
+  stops = db_stops_then (order_of g.K.KeyOrder.name g.K.KeyOrder.cmp) g.S.Store.facts c.args.self.now c.loop.self c.work.new.self c.loop.invariant.steps c.work.ensures.step.faithful c.loop.invariant.stops c.work.ensures.stops;
+  ids = c.work.ensures.ids ∙ c.loop.invariant.ids;
+  opening = record {
+    options = c.work.ensures.opening.options ∙ c.loop.invariant.opening.options;
+    failures = c.work.ensures.opening.failures ∙ c.loop.invariant.opening.failures;
+  };
+}
+
+pub returns-in-Ok-Idle-clause-step : goal.returns-in-Ok-Idle-clause-step
+returns-in-Ok-Idle-clause-step g c = leads_then (λ m n o h k. draws_then m n o h (idle_only n o c.args.budget k)) c.loop.invariant.steps (rw c.in-Ok-Idle.field-0-is at c.in-Ok-Idle.ensures.step)
+
+pub returns-in-Ok-Idle-clause-kept : goal.returns-in-Ok-Idle-clause-kept
+returns-in-Ok-Idle-clause-kept g c is =
+    let does = rw c.in-Ok-Idle.field-0-is at c.in-Ok-Idle.ensures.does in
+    rests_at_pace (db_options_of c.work.new.self) (open_by c.work.new.self)
+    (subst (λ (options : OptionValues). HasNoWork options (open_by c.work.new.self)) (sym c.work.ensures.opening.options) does.1)
+
+pub returns-then-has_kept_up-clause-step : goal.returns-then-has_kept_up-clause-step
+returns-then-has_kept_up-clause-step g c = leads_then (λ m n o h k. draws_then m n o h (worked_only n o c.args.budget k)) c.loop.invariant.steps (rw c.in-Ok-Worked.field-0-is at c.in-Ok-Worked.ensures.step)
+
+pub returns-in-Err-clause-step : goal.returns-in-Err-clause-step
+returns-in-Err-clause-step g c = leads_then (λ m n o h k. works_then m n o h.0 (refusal_only n o c.args.budget c.in-Err.error k)) c.loop.invariant.steps c.in-Err.ensures.step
+
+pub returns-clause-step : goal.returns-clause-step
+returns-clause-step g c = leads_as (λ m n h. h.0) c.loop.invariant.steps
+
+-- ---- what a stop leaves
+
+pub returns-in-Ok-Idle-clause-stops : goal.returns-in-Ok-Idle-clause-stops
+returns-in-Ok-Idle-clause-stops g c = db_stops_then (order_of g.K.KeyOrder.name g.K.KeyOrder.cmp) g.S.Store.facts c.args.self.now c.loop.self c.work.new.self c.loop.invariant.steps c.work.ensures.step.faithful c.loop.invariant.stops c.work.ensures.stops
+
+pub returns-in-Err-clause-stops : goal.returns-in-Err-clause-stops
+returns-in-Err-clause-stops g c = db_stops_then (order_of g.K.KeyOrder.name g.K.KeyOrder.cmp) g.S.Store.facts c.args.self.now c.loop.self c.work.new.self c.loop.invariant.steps c.work.ensures.step.faithful c.loop.invariant.stops c.work.ensures.stops
+
+pub returns-then-has_kept_up-clause-stops : goal.returns-then-has_kept_up-clause-stops
+returns-then-has_kept_up-clause-stops g c = db_stops_then (order_of g.K.KeyOrder.name g.K.KeyOrder.cmp) g.S.Store.facts c.args.self.now c.loop.self c.work.new.self c.loop.invariant.steps c.work.ensures.step.faithful c.loop.invariant.stops c.work.ensures.stops
+
+pub returns-clause-stops : goal.returns-clause-stops
+returns-clause-stops g c = c.loop.invariant.stops

@@ -1,0 +1,3 @@
+-- Invariants and plumbing: what is below here need not be believed, since no caller builds on it but by its name.
+pub mod Ranks
+pub mod Unique
