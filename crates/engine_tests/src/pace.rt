@@ -91,12 +91,12 @@ fn work_keeps_up_with_writes(rt: HostRuntime) -> Result<(), Fail> {
     Ok(())
 }
 
-// Writes until work is refused, and answers the number that was written last, or none where nothing is refused.
+// Writes until work is refused, and answers how many were written by then, or none where nothing is refused.
 fn first_refused(alloc: Global, db: &mut Db<FaultStore, Bytewise>) -> Result<Option<u8>, DbError> {
     for number in 0..200 {
         match put(alloc, db, number) {
             Ok(Pace::KeepsUp) => {}
-            Ok(Pace::Refused(DbError::Io)) => return Ok(Some(number)),
+            Ok(Pace::Refused(DbError::Io)) => return Ok(Some(number + 1)),
             Ok(Pace::Refused(error)) => return Err(error),
             Err(error) => return Err(error),
         }
@@ -109,12 +109,12 @@ fn refused(alloc: Global, call: u64) -> Result<bool, DbError> {
     let fault = Fault::Fail(Extent::Part(0));
     let plan = Some(Plan { call, fault });
     let mut db = begun(alloc, FaultStore::new(MemStore::new(alloc), plan))?;
-    let number = first_refused(alloc, &mut db);
+    let written = first_refused(alloc, &mut db);
     let (store, _) = db.close();
     let mut again = begun(alloc, store)?;
-    let lost = number.map(|number| first_lost(alloc, &mut again, number.map_or(0, |it| it + 1)));
+    let lost = written.map(|count| first_lost(alloc, &mut again, count.unwrap_or(0)));
     let (_, _) = again.close();
-    Ok(number?.is_some() && lost??.is_none())
+    Ok(written?.is_some() && lost??.is_none())
 }
 
 #[test]
