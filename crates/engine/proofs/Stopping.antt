@@ -66,13 +66,13 @@ left_else order m operations files why holds = at m.broken m.opened why
     at false true (inr broken) = absurd (cc)
 
 left_serving : (order : Order) (m : Machine) (operations : List Operation) (files : Files) → m.opened ≡ true → m.broken ≡ false → Holds order files m ⊎ Holds order files (accepted m operations) → LeftByWrite order m operations files
-left_serving order m operations files open whole holds = at m.broken m.opened whole open
+left_serving order m operations files opens whole holds = at m.broken m.opened whole opens
   where
     at : (broken opened : Bool) → broken ≡ false → opened ≡ true
         → MatchBool broken (HoldsAccepted order files m) (MatchBool opened (Holds order files m ⊎ Holds order files (accepted m operations)) (HoldsAccepted order files m))
-    at true opened whole open = absurd (cc)
-    at false false whole open = absurd (cc)
-    at false true whole open = holds
+    at true opened whole opens = absurd (cc)
+    at false false whole opens = absurd (cc)
+    at false true whole opens = holds
 
 holds_doubted : (order : Order) (files : Files) (m : Machine) (operations : List Operation) → IsAtRest order files (doubted m operations) → Holds order files m ⊎ Holds order files (accepted m operations)
 holds_doubted order files m operations rest = elim rest.meaning [
