@@ -1,5 +1,5 @@
 -- What a stop leaves in the middle of a write, and of a run.
-use Rattle.std.proofs.Common.{Bool, true, false, Option, Some, None, MatchBool, MatchOption, if◌then◌else◌, ◌≡◌, ◌⊎◌, ◌∙◌, ℕ, ◌+◌, List, [], ◌∷◌, ◌++◌, length, IsTrue, Err, inl, inr, refl, sym, ap, subst, arith}
+use Rattle.std.proofs.Common.{Bool, true, false, Option, Some, None, MatchBool, MatchOption, if◌then◌else◌, ◌≡◌, ◌⊎◌, ℕ, List, [], ◌∷◌, IsTrue, Err, inl, inr, refl, sym, subst, arith}
 use Rattle.std.specs.Option.{option_or}
 use Rattle.store.specs.Files.{Facts, Files, AppendsBeginning}
 use Rattle.store.specs.Stops.{LeavesOnly, stopped_at}
@@ -13,14 +13,13 @@ use Rattle.coding.specs.declared.error.DbError.{DbError}
 use Rattle.coding.specs.declared.error.DbError.TheVariants as error
 use Rattle.table_access.specs.Tables.{Seen}
 use Rattle.machine.specs.Access.{accepted, doubted, Writes}
-use Rattle.machine.specs.Causes.{full, not_serving, status_of, write_cause}
+use Rattle.machine.specs.Causes.{full, not_serving, status_of}
 use Rattle.machine.specs.Machine.{Machine}
 use Rattle.machine.specs.Serving.{◌≈◌}
-use Rattle.machine.specs.Step.{Run, Step}
 use Rattle.machine.specs.declared.command.Answer.{Answer}
 use Rattle.machine.specs.declared.command.Answer.TheVariants.{Done, Refused}
 use Rattle.machine.specs.declared.command.Op.{Op}
-use Rattle.engine.specs.Applied.{AllApplied, Applied}
+use Rattle.engine.specs.Applied.{AllApplied}
 use Rattle.engine.specs.Headline.{Holds, HoldsAccepted}
 use Rattle.engine.specs.OpenDb.{OpenDb}
 use Rattle.engine.specs.Stops.{LeftBy, LeftByRun, LeftByWrite}
@@ -32,7 +31,6 @@ use Rattle.engine.specs.declared.session.Session.{Session}
 use Rattle.engine.proofs.Lasting.{held, holds_current, holds_with}
 use Rattle.engine.proofs.Steps.{serving_of}
 use Rattle.engine.proofs.StopSteps.{means_over}
-use Rattle.engine.proofs.WriteSteps.{doubted_same}
 
 -- ---- the record of a batch
 

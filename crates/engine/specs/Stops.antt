@@ -1,5 +1,5 @@
 -- What a stop of the process leaves in the middle of a command, and of a run.
-use Rattle.std.specs.Prelude.{◌≡◌, ◌⊎◌, ◌++◌, List, [], ◌∷◌, MatchBool, IsTrue}
+use Rattle.std.specs.Prelude.{◌⊎◌, List, [], ◌∷◌, MatchBool, IsTrue}
 use Rattle.batch.specs.declared.operation.Operation.{Operation}
 use Rattle.store.specs.Files.{Facts, Files}
 use Rattle.store.specs.Stops.{LeavesOnly}
