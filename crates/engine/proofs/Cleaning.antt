@@ -5,7 +5,7 @@ use Rattle.std.specs.declared.cmp.Ordering.{Ordering}
 use Rattle.std.specs.Option.{option_and_then}
 use Rattle.cache.specs.Tables.{KeptTable, IsNameOf, table_at}
 use Rattle.edits.specs.Names.{IsNumbered, name_of}
-use Rattle.edits.specs.declared.names.FileName.TheVariants.{OldTable, Table}
+use Rattle.edits.specs.declared.names.FileName.TheVariants.{Table}
 use Rattle.running_job.specs.declared.open_job.OpenJob.{OpenJob}
 use Rattle.edits.specs.declared.field.PlacedTable.{PlacedTable}
 use Rattle.ikey.specs.Orders.{Order}

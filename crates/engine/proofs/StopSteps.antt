@@ -114,7 +114,7 @@ means_standing order source ids db m s = at db.broken s.rest
     at true h = h.rest.meaning
     at false h = means_still order source db m h source.facts.files h.log.directory.consistent
 
-means_over : {K : Type 0} {g : _} (order : Order) (source : Seen) (ids : Ids) (o : Option (OpenDb K g)) (m : Machine) → StandsOver order source ids o m → MeansAccepted order source.facts.files m
+pub means_over : {K : Type 0} {g : _} (order : Order) (source : Seen) (ids : Ids) (o : Option (OpenDb K g)) (m : Machine) → StandsOver order source ids o m → MeansAccepted order source.facts.files m
 means_over order source ids None m s = s.rest.meaning
 means_over order source ids (Some db) m s = means_standing order source ids db m s
 

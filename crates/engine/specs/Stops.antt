@@ -1,14 +1,16 @@
--- What a stop of the process leaves in the middle of a command.
-use Rattle.std.specs.Prelude.{◌≡◌, ◌⊎◌, List, true, false, IsTrue}
+-- What a stop of the process leaves in the middle of a command, and of a run.
+use Rattle.std.specs.Prelude.{◌⊎◌, List, [], ◌∷◌, MatchBool, IsTrue}
 use Rattle.batch.specs.declared.operation.Operation.{Operation}
 use Rattle.store.specs.Files.{Facts, Files}
-use Rattle.store.specs.Stops.{Left, LeavesOnly, moment}
+use Rattle.store.specs.Stops.{LeavesOnly}
 use Rattle.ikey.specs.Orders.{Order}
 use Rattle.machine.specs.Access.{accepted}
 use Rattle.machine.specs.Machine.{Machine}
+use Rattle.machine.specs.Step.{Step}
+use Rattle.machine.specs.declared.command.Answer.{Answer}
 use Rattle.machine.specs.declared.command.Op.{Op}
 use Rattle.machine.specs.declared.command.Op.TheVariants.{Write}
-use Rattle.engine.specs.Headline.{Holds, HoldsAccepted}
+use Rattle.engine.specs.Headline.{Holds, HoldsAccepted, IsFirst}
 use Rattle.engine.specs.Stands.{Stands, store_of}
 use Rattle.engine.specs.StandsDb.{StandsDb, db_store_of}
 use Rattle.engine.specs.declared.db.Db.{Db}
@@ -16,40 +18,67 @@ use Rattle.engine.specs.declared.ids.Ids.{Ids}
 use Rattle.engine.specs.internal.Standing.{StandsClosed}
 use Rattle.engine.specs.declared.session.Session.{Session}
 
--- At any moment since, it leaves the files of what was accepted by then, with this batch as a whole or without it.
-abbrev pub StopsWrite : Order → Machine → List Operation → Facts → Facts → Type 0
-StopsWrite order m operations old new = (files : Files) → Left new (moment old) files → Holds order files m ⊎ Holds order files (accepted m operations)
+-- ---- the files that are left
 
--- So of a write to an open database that isn't broken.
-abbrev pub SessionStopsWrite : {S K : Type 0} {g : _} → Order → (S → Facts) → List Operation → Session S K g → Session S K g → Type 0
-SessionStopsWrite order facts operations old new =
-    IsTrue (facts (store_of new)).faithful → (m : Machine) → Stands order facts old m → m.opened ≡ true → m.broken ≡ false
-    → StopsWrite order m operations (facts (store_of old)) (facts (store_of new))
+-- Of what was accepted; and where a database is open that isn't broken, with this batch as a whole or without it.
+abbrev pub LeftByWrite : Order → Machine → List Operation → Files → Type 0
+LeftByWrite order m operations files =
+    MatchBool m.broken (HoldsAccepted order files m)
+        (MatchBool m.opened (Holds order files m ⊎ Holds order files (accepted m operations)) (HoldsAccepted order files m))
+
+-- Every other command leaves those of what was accepted: an open, too, and one that is refused.
+abbrev pub LeftBy : Order → Machine → Op → Files → Type 0
+LeftBy order m (Write operations sync) files = LeftByWrite order m operations.items files
+LeftBy order m _ files = HoldsAccepted order files m
+
+-- Of a run with these answers: they are left by one of its commands, in the state that those in front of it led to, or at its end.
+abbrev pub LeftByRun : Order → Machine → List Op → List Answer → Files → Type 0
+LeftByRun order m [] [] files = HoldsAccepted order files m
+LeftByRun order m (command ∷ commands) (answer ∷ answers) files =
+    LeftBy order m command files ⊎ ((next : Machine) × Step order m command answer next × LeftByRun order next commands answers files)
+LeftByRun order m [] (answer ∷ answers) files = ⊥
+LeftByRun order m (command ∷ commands) [] files = ⊥
+
+-- ---- a command of a session
 
 -- At any moment since, a stop leaves files that hold what was accepted. (Said of the calls since: so those of two commands compose.)
 abbrev pub StopsKeeping : Order → Machine → Facts → Facts → Type 0
 StopsKeeping order m old new = LeavesOnly old new (λ files. HoldsAccepted order files m)
 
--- So of all other commands: of an open, too, and of one that is refused.
+-- While the store is faithful, so it is from each state that the session may have been in.
 abbrev pub SessionStops : {S K : Type 0} {g : _} → Order → (S → Facts) → Session S K g → Session S K g → Type 0
 SessionStops order facts old new =
     IsTrue (facts (store_of new)).faithful → (m : Machine) → Stands order facts old m → StopsKeeping order m (facts (store_of old)) (facts (store_of new))
 
+abbrev pub SessionStopsWrite : {S K : Type 0} {g : _} → Order → (S → Facts) → List Operation → Session S K g → Session S K g → Type 0
+SessionStopsWrite order facts operations old new =
+    IsTrue (facts (store_of new)).faithful → (m : Machine) → Stands order facts old m
+    → LeavesOnly (facts (store_of old)) (facts (store_of new)) (λ files. LeftByWrite order m operations files)
+
 -- what is said of a command
 abbrev pub StopsBy : {S K : Type 0} {g : _} → Op → Order → (S → Facts) → Session S K g → Session S K g → Type 0
-StopsBy (Write operations sync) order facts old new = SessionStopsWrite order facts operations.items old new
-StopsBy _ order facts old new = SessionStops order facts old new
+StopsBy op order facts old new =
+    IsTrue (facts (store_of new)).faithful → (m : Machine) → Stands order facts old m → LeavesOnly (facts (store_of old)) (facts (store_of new)) (λ files. LeftBy order m op files)
 
--- And of an open database alone.
+-- ---- a run, from files to files
+
+-- While the store is faithful, from each machine of the files at first: a stop at any moment since leaves what the first commands of the run have
+-- accepted by then, the batch of the next one as a whole or not at all.
+abbrev pub StopsRun : Order → Facts → Facts → List Op → List Answer → Type 0
+StopsRun order old new ops answers =
+    IsTrue new.faithful → (first : Machine) → IsFirst order old first → LeavesOnly old new (λ files. LeftByRun order first ops answers files)
+
+-- ---- an open database alone
+
 abbrev pub DbStopsWrite : {S K : Type 0} {g : _} → Order → (S → Facts) → List Operation → Db S K g → Db S K g → Type 0
 DbStopsWrite order facts operations old new =
-    IsTrue (facts (db_store_of new)).faithful → (m : Machine) → StandsDb order facts old m → m.broken ≡ false
-    → StopsWrite order m operations (facts (db_store_of old)) (facts (db_store_of new))
+    IsTrue (facts (db_store_of new)).faithful → (m : Machine) → StandsDb order facts old m
+    → LeavesOnly (facts (db_store_of old)) (facts (db_store_of new)) (λ files. LeftByWrite order m operations files)
 
 abbrev pub DbStops : {S K : Type 0} {g : _} → Order → (S → Facts) → Db S K g → Db S K g → Type 0
 DbStops order facts old new =
     IsTrue (facts (db_store_of new)).faithful → (m : Machine) → StandsDb order facts old m → StopsKeeping order m (facts (db_store_of old)) (facts (db_store_of new))
 
--- And of its open.
+-- And its open.
 abbrev pub OpenStops : Order → Facts → Facts → Ids → Type 0
 OpenStops order old new ids = IsTrue new.faithful → (m : Machine) → StandsClosed order old ids m → StopsKeeping order m old new

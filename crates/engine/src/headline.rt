@@ -5,6 +5,7 @@ ghost use Rattle.coding.specs.declared.error.DbError.TheVariants.{OutOfMemory};
 ghost use Rattle.ikey.specs.Orders.{order_of};
 ghost use Rattle.machine.specs.declared.command.Answer.{Answer};
 ghost use Rattle.engine.specs.Headline.{Headline, FirstLaw};
+ghost use Rattle.engine.specs.Stops.{StopsRun};
 ghost use Rattle.engine.specs.Touching.{LeavesStore};
 ghost use Rattle.engine.specs.internal.Bridges.{StartsLaw, EndsLaw};
 
@@ -47,6 +48,9 @@ pub fn run_over<S: Store, K: KeyOrder>(
 ) -> (Result<(), DbError>, S)
     ensures headline { OnOk result.0 ((answers : List Answer) × (sink.new.items ≡ sink.old.items ++ answers)
         × Headline (order_of K.name K.cmp) (S.facts store) (S.facts result.1) ops.now answers) }
+    // A stop at any moment of it leaves what its first commands have accepted by then.
+    ensures stops { OnOk result.0 ((answers : List Answer) × (sink.new.items ≡ sink.old.items ++ answers)
+        × StopsRun (order_of K.name K.cmp) (S.facts store) (S.facts result.1) ops.now answers) }
     ensures refused { OnErr result.0 ((sink.new.items ≡ sink.old.items) × LeavesStore (S.facts store) (S.facts result.1)) }
     ensures memory { IfErr result.0 (λ error. error ≡ OutOfMemory) }
     ensures faithful { IsTrue (S.facts result.1).faithful → IsTrue (S.facts store).faithful }

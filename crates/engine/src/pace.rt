@@ -35,7 +35,7 @@ impl<S: Store, K: KeyOrder> Db<S, K> {
     ghost use Rattle.engine.specs.Outcomes.{MayRefuseWork, MayRefuseWrite};
     ghost use Rattle.engine.specs.Pace.{HasKeptUp, OnlyDraws, OnlyWorks, WorksAtPace, WritesAtPace};
     ghost use Rattle.engine.specs.StandsDb.{FollowsDb, KeepsOpening, db_ids_of, db_options_of, open_by};
-    ghost use Rattle.engine.specs.Stops.{DbStops};
+    ghost use Rattle.engine.specs.Stops.{DbStops, DbStopsWrite};
     ghost use Rattle.engine.specs.Working.{HasNoWork};
     ghost use Rattle.engine.specs.declared.pace.Pace.TheVariants.{KeepsUp, Refused};
     ghost use Rattle.versions.specs.Levels.{tables_at};
@@ -90,6 +90,8 @@ impl<S: Store, K: KeyOrder> Db<S, K> {
         ensures refused { (error : DbError) → result ≡ Ok (Refused error) → MayRefuseWork error }
         ensures ids { db_ids_of self.new ≡ db_ids_of self.old }
         ensures opening { KeepsOpening self.old self.new }
+        // A stop in its middle leaves what was accepted, with the batch as a whole or without it.
+        ensures stops { DbStopsWrite (order_of K.name K.cmp) S.facts batch.now self.old self.new }
     {
         self.write(alloc, batch, sync)?;
         let share = self.share_of(batch.ops().len());

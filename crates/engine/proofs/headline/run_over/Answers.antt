@@ -1,6 +1,14 @@
-use Rattle.std.proofs.Common.{Result, Ok, Err, OnOk}
+use Rattle.std.proofs.Common.{◌≡◌, IsTrue, Option, Some, None, Result, Ok, Err, OnOk, subst}
 use Rattle.coding.specs.declared.error.DbError.{DbError}
 use Rattle.ikey.specs.Orders.{Order, order_of}
+use Rattle.store.specs.Files.{Facts, Files}
+use Rattle.store.specs.Stops.{LeavesOnly}
+use Rattle.store.proofs.Stopping.{leaves_both, leaves_same}
+use Rattle.engine.specs.OpenDb.{OpenDb}
+use Rattle.engine.specs.Stands.{open_in, store_of}
+use Rattle.engine.specs.Stops.{LeftByRun}
+use Rattle.engine.specs.Touching.{CloseTouches}
+use Rattle.engine.proofs.Stopping.{left_by_run}
 use Rattle.engine.proofs.headline.run_over.Goals as goal
 
 on_ok : {A B : Type 0} (result : Result (Unit {0}) DbError) → (A → B) → OnOk result A → OnOk result B
@@ -22,3 +30,29 @@ returns-clause-headline g c =
           (ended.0, ended.1, c.ends.ensures order (g.S.Store.facts c.into_store.result) _ ended.0 last.0 last.1 last.2),
     ))
     c.run-result.ensures.run
+
+-- a close calls nothing that changes a file
+closes_calls : {K : Type 0} {g : _} (o : Option (OpenDb K g)) (old new : Facts) → CloseTouches o old new → IsTrue new.faithful → (new.calls ≡ old.calls) × (new.files ≡ old.files)
+closes_calls None old new touches f = (touches.calls f, touches.files f)
+closes_calls (Some db) old new touches f = (touches.calls f, touches.files f)
+
+pub returns-clause-stops : goal.returns-clause-stops
+returns-clause-stops g c =
+    let order : Order = order_of g.K.KeyOrder.name g.K.KeyOrder.cmp in
+    let facts = g.S.Store.facts in
+    on_ok c.run-result.result
+    (λ each. (
+      each.0,
+      each.1,
+      λ faithful first is.
+          let before = c.new-session.ensures.stands first (c.starts.ensures order (facts c.args.store) first is) in
+          let ended = c.run-result.new.self in
+          let between = c.into_store.ensures.step.faithful faithful in
+          let closed = closes_calls (open_in ended) (facts (store_of ended)) (facts c.into_store.result) c.into_store.ensures.touches faithful in
+          let P : Files → Type 0 = λ files. LeftByRun order first c.args.ops.now each.0 files in
+          let ran = left_by_run order facts c.args.ops.now each.0 c.new-session.result ended each.2 between first before in
+          leaves_both (facts c.args.store) (facts (store_of ended)) (facts c.into_store.result) P
+          (subst (λ (store : _). LeavesOnly (facts store) (facts (store_of ended)) P) c.new-session.ensures.kept ran)
+          (leaves_same (facts (store_of ended)) (facts c.into_store.result) P closed.0 closed.1 ran.now),
+    ))
+    c.run-result.ensures.each

@@ -5,6 +5,11 @@ use Rattle.engine.specs.Pace.{WritesAtPace}
 use Rattle.engine.specs.StandsDb.{FollowsDb}
 use Rattle.engine.specs.declared.pace.Pace.{Pace}
 use Rattle.engine.proofs.RangeLeads.{leads_as, leads_then}
+use Rattle.store.proofs.Stopping.{leaves_both, leaves_so}
+use Rattle.engine.specs.Headline.{HoldsAccepted}
+use Rattle.engine.specs.Stops.{LeftByWrite}
+use Rattle.engine.specs.StandsDb.{db_ids_of, db_store_of, open_by, seen_by}
+use Rattle.engine.proofs.Stopping.{written_back}
 use Rattle.engine.proofs.db.Db.write_and_work.Goals as goal
 
 pub returns-in_err-write-clause-step : goal.returns-in_err-write-clause-step
@@ -16,3 +21,16 @@ returns-in_err-write-clause-step g c =
 
 pub returns-clause-step : goal.returns-clause-step
 returns-clause-step g c = leads_then (λ m n o h k. (n, h, k)) c.in_ok-write.ensures.step c.keep_up.ensures.step
+
+pub returns-clause-stops : goal.returns-clause-stops
+returns-clause-stops g c f m s =
+    let order = order_of g.K.KeyOrder.name g.K.KeyOrder.cmp in
+    let facts = g.S.Store.facts in
+    let old = c.args.self.now in
+    let mid = c.write.new.self in
+    let new = c.keep_up.new.self in
+    let between = c.keep_up.ensures.step.faithful f in
+    let one = c.in_ok-write.ensures.step.moved between m s in
+    leaves_both (facts (db_store_of old)) (facts (db_store_of mid)) (facts (db_store_of new)) (λ files. LeftByWrite order m c.args.batch.now files) (c.write.ensures.stops between m s)
+    (leaves_so (facts (db_store_of mid)) (facts (db_store_of new)) (λ files. HoldsAccepted order files one.0) (λ files. LeftByWrite order m c.args.batch.now files)
+    (λ files holds. written_back order (seen_by facts old) (db_ids_of old) (open_by old) m one.0 c.args.batch.now s one.1 files holds) (c.keep_up.ensures.stops f one.0 one.2))

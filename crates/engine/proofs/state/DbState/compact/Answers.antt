@@ -17,7 +17,7 @@ use Rattle.engine.proofs.WorkAnswers.{begun_further, of_some, picked_for, then_p
 use Rattle.engine.proofs.WorkEnds.{ends_full, ends_idle}
 use Rattle.engine.proofs.WorkSteps.{piece_done, piece_failed, piece_within}
 use Rattle.engine.proofs.WithinBudget.{steps_begun}
-use Rattle.engine.proofs.Breaking.{breaks_then, handed_on, unbroken, unwritten}
+use Rattle.engine.proofs.Breaking.{breaks_then, handed_on, unbroken}
 use Rattle.engine.proofs.StopSteps.{keeps_none, keeps_read, keeps_then}
 use Rattle.engine.proofs.state.DbState.compact.Goals as goal
 
