@@ -19,6 +19,12 @@ const SHARE: u32 = 6;
 
 const LARGE_SHARE: u32 = 24;
 
+// Operations bring their work along by groups of so many, or of so large a part of a memory table, since each piece of work lists the folder,
+// which costs more than a write.
+const GROUP: u64 = 64;
+
+const PARTS: u64 = 16;
+
 // Of more operations than this the others bring none along.
 const MOST_OPERATIONS: usize = 1 << 20;
 
@@ -73,10 +79,10 @@ impl<S: Store, K: KeyOrder> Db<S, K> {
         Some(self.state.version.level(level).len())
     }
 
-    /// Writes a batch, as `write` does, and then does its share of the work: six entries of it for each operation, or more where work lags
-    /// behind, and as much more as it takes until work keeps up. So a caller needs no `work` beside it, memory and level 0 are
-    /// bounded, and a call takes longer instead (LevelDB's db/db_impl.cc, DBImpl::MakeRoomForWrite, lets it wait). Refused as `write`
-    /// is; that work was refused behind a batch that was written is said by the `Pace`.
+    /// Writes a batch, as `write` does, and then does its share of the work: behind each 64 operations, or each sixteenth of `write_buffer`, six
+    /// entries of it for each of these, or more where work lags behind, and as much more as it takes until work keeps up. So a caller needs no `work` beside it, memory and
+    /// level 0 are bounded, and a call takes longer instead (LevelDB's db/db_impl.cc, DBImpl::MakeRoomForWrite, lets it wait). Refused as
+    /// `write` is; that work was refused behind a batch that was written is said by the `Pace`.
     pub fn write_and_work(
         &mut self,
         alloc: Global,
@@ -93,8 +99,13 @@ impl<S: Store, K: KeyOrder> Db<S, K> {
         // A stop in its middle leaves what was accepted, with the batch as a whole or without it.
         ensures stops { DbStopsWrite (order_of K.name K.cmp) S.facts batch.now self.old self.new }
     {
+        let before = self.source.memory.size() as u64;
         self.write(alloc, batch, sync)?;
-        let share = self.share_of(batch.ops().len());
+        let operations = batch.ops().len();
+        if !self.ends_a_group(operations, before) && self.has_kept_up() {
+            return Ok(Pace::KeepsUp);
+        }
+        let share = self.share_of(operations);
         Ok(self.keep_up(alloc, share))
     }
 
@@ -130,9 +141,17 @@ impl<S: Store, K: KeyOrder> Db<S, K> {
         self.state.version.level(0).len() as u64 <= 3 * self.options.level0_files()
     }
 
-    // How many entries of work so many operations bring along.
+    // Whether a group ends among the operations that were written last, so many, in front of which the memory table had so many bytes.
+    fn ends_a_group(&self, operations: usize, before: u64) -> bool {
+        let last = self.source.memory.last();
+        let part = (self.options.write_buffer() / PARTS).max(1);
+        last.saturating_sub(operations as u64) / GROUP != last / GROUP
+            || before / part != self.source.memory.size() as u64 / part
+    }
+
+    // How many entries of work so many operations bring along, and at least a group.
     fn share_of(&self, operations: usize) -> u32 {
-        let counted = operations.min(MOST_OPERATIONS) as u32;
+        let counted = operations.clamp(GROUP as usize, MOST_OPERATIONS) as u32;
         if self.state.version.level(0).len() as u64 >= 2 * self.options.level0_files() {
             return LARGE_SHARE * counted;
         }

@@ -4,6 +4,7 @@ use Rattle.ikey.specs.Orders.{order_of}
 use Rattle.engine.specs.Pace.{WritesAtPace}
 use Rattle.engine.specs.StandsDb.{FollowsDb}
 use Rattle.engine.specs.declared.pace.Pace.{Pace}
+use Rattle.engine.proofs.PaceSteps.{draws_none}
 use Rattle.engine.proofs.RangeLeads.{leads_as, leads_then}
 use Rattle.store.proofs.Stopping.{leaves_both, leaves_so}
 use Rattle.engine.specs.Headline.{HoldsAccepted}
@@ -18,6 +19,9 @@ returns-in_err-write-clause-step g c =
     let is : c.from_residual.result ≡ Err c.in_err-write.field-0.0 = search rules in
     subst (λ (result : Result Pace DbError). FollowsDb order g.S.Store.facts c.args.self.now c.write.new.self (λ m n. WritesAtPace m c.args.batch.now result n)) (sym is)
     (leads_as (λ m n h. h) c.in_err-write.ensures.step)
+
+pub returns-then-has_kept_up-clause-step : goal.returns-then-has_kept_up-clause-step
+returns-then-has_kept_up-clause-step g c = leads_as (λ m n h. (n, h, draws_none n)) c.in_ok-write.ensures.step
 
 pub returns-clause-step : goal.returns-clause-step
 returns-clause-step g c = leads_then (λ m n o h k. (n, h, k)) c.in_ok-write.ensures.step c.keep_up.ensures.step
