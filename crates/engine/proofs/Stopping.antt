@@ -122,12 +122,12 @@ never_done e P h = let is = h.0 in absurd (cc)
 holds_written : (order : Order) (files : Files) (m n : Machine) (operations : List Operation) → m.in_doubt ≡ None → n ≈ accepted m operations → HoldsAccepted order files n → Holds order files (accepted m operations)
 holds_written order files m n [] certain is holds =
     let at = subst (λ (doubt : Option (List Operation)). MatchOption doubt (Holds order files (record m { failures = n.failures; denials = n.denials })) (λ batch. Holds order files (record m { failures = n.failures; denials = n.denials }) ⊎ Holds order files (accepted (record m { failures = n.failures; denials = n.denials }) batch)))
-        certain (subst (λ (x : Machine). HoldsAccepted order files x) is holds) in
+    certain (subst (λ (x : Machine). HoldsAccepted order files x) is holds) in
     record { entries = at.entries; directory = at.directory; view = at.view }
 holds_written order files m n (operation ∷ operations) certain is holds =
     let after = record (accepted m (operation ∷ operations)) { failures = n.failures; denials = n.denials } in
     let at = subst (λ (doubt : Option (List Operation)). MatchOption doubt (Holds order files after) (λ batch. Holds order files after ⊎ Holds order files (accepted after batch)))
-        certain (subst (λ (x : Machine). HoldsAccepted order files x) is holds) in
+    certain (subst (λ (x : Machine). HoldsAccepted order files x) is holds) in
     record { entries = at.entries; directory = at.directory; view = at.view }
 
 whole_of : (opened broken : Bool) → (if opened then (if broken then Some error.Broken else None) else Some error.NotOpen) ≡ None → broken ≡ false
@@ -142,6 +142,7 @@ written_back order source ids db m n operations s writes files holds = at db.bro
   where
     done : (not_serving (status_of m) ≡ None) × (n ≈ accepted m operations)
     done = served (first_refusal [] operations) (not_serving (status_of m)) (full (status_of m) operations) _ _ (λ e h. never_done e _ h) writes.1
+
     at : (b : Bool) → MatchBool b (IsBroken order source.facts.files m) (IsServing order source db m) → LeftByWrite order m operations files
     at true rest = absurd (let broken : m.broken ≡ true = rest.broken in let whole : m.broken ≡ false = whole_of m.opened m.broken done.0 in cc)
     at false serving = left_serving order m operations files s.opened serving.whole (inr (holds_written order files m n operations serving.certain done.1 holds))
