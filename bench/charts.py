@@ -10,7 +10,7 @@ STYLE = "<style>text { font: 13px sans-serif; fill: #222 } .small { font-size: 1
 
 # the largest ratio that is drawn, and the powers of ten of a microsecond between which latencies are
 MOST = 3.0
-DECADES = (0, 5)
+DECADES = (0, 6)
 
 # how the writes of a row are marked: so many of them are as fast, or faster
 MARKS = (("half of the writes", DARK, 5.0), ("99 in 100", "#6c9fc4", 4.5), ("999 in 1,000", LIGHT, 4.5), ("the slowest", "#b8562e", 5.0))
