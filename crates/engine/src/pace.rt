@@ -79,10 +79,11 @@ impl<S: Store, K: KeyOrder> Db<S, K> {
         Some(self.state.version.level(level).len())
     }
 
-    /// Writes a batch, as `write` does, and then does its share of the work: behind each 64 operations, or each sixteenth of `write_buffer`, six
-    /// entries of it for each of these, or more where work lags behind, and as much more as it takes until work keeps up. So a caller needs no `work` beside it, memory and
-    /// level 0 are bounded, and a call takes longer instead (LevelDB's db/db_impl.cc, DBImpl::MakeRoomForWrite, lets it wait). Refused as
-    /// `write` is; that work was refused behind a batch that was written is said by the `Pace`.
+    /// Writes a batch, as `write` does, and then does its share of the work: behind each 64 operations, or each sixteenth of
+    /// `write_buffer`, six entries of it for each of these, or more where work lags behind, and as much more as it takes until work
+    /// keeps up. So a caller needs no `work` beside it, memory and level 0 are bounded, and a call takes longer instead (LevelDB's
+    /// db/db_impl.cc, DBImpl::MakeRoomForWrite, lets it wait). Refused as `write` is; that work was refused behind a batch that was
+    /// written is said by the `Pace`.
     pub fn write_and_work(
         &mut self,
         alloc: Global,
