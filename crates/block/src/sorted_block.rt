@@ -141,6 +141,11 @@ impl<O: EntryOrder> Block<O> {
         Ok((block, last))
     }
 
+    /// The memory of a block that nobody reads any more, with whatever is in it.
+    pub fn into_memory(self) -> Vec<u8> {
+        self.bytes
+    }
+
     // The bytes of the entries and those of the restarts.
     pub(crate) fn parts(&self) -> (&[u8], &[u8])
         ensures body { result.0.now ≡ self.now.body }

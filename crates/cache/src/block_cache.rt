@@ -11,20 +11,30 @@ use block::Block;
 use coding::DbError;
 use ikey::{Internal, KeyOrder};
 use lru::LruCache;
-use std::alloc::{AllocError, Global};
+use std::alloc::{AllocError, AllocFailed, Global};
 use std::marker::Model;
 use std::num::NonZeroUsize;
 use std::rc::Rc;
 use store::Store;
 use table::Table;
 
+// What a cache answers to a block that is put into it: the one that went for it, if one did.
+type Pushed<K> = Result<
+    Option<(Slot, Rc<Block<Internal<K>>>)>,
+    AllocFailed<(Slot, Rc<Block<Internal<K>>>)>,
+>;
+
 /// Blocks that were read, up to a number of them, by the number of their table and their index in it (LevelDB's
 /// util/cache.cc). Where there are too many, the least recently used goes. Contracts see the blocks that are kept, the
 /// most recently used first, and how many there may be.
+///
+/// The memory of the block that went last is kept too, unless somebody still reads that: the next one is read into it.
 #[derive(Drop)]
 pub struct BlockCache<K: KeyOrder> {
     // None where nothing is ever kept.
     blocks: Option<LruCache<Slot, Rc<Block<Internal<K>>>>>,
+    // The memory of a block that went, for the next one.
+    spare: Option<Vec<u8>>,
 }
 
 impl<K: KeyOrder> Model for BlockCache<K> {
@@ -50,7 +60,10 @@ impl<K: KeyOrder> BlockCache<K> {
         ensures empty { result.blocks ≡ [] }
         ensures capacity { result.capacity ≡ 0 }
     {
-        BlockCache { blocks: None }
+        BlockCache {
+            blocks: None,
+            spare: None,
+        }
     }
 
     /// A cache that keeps at most so many blocks, and none yet.
@@ -61,6 +74,7 @@ impl<K: KeyOrder> BlockCache<K> {
         let blocks = LruCache::sparse(alloc, capacity)?;
         Ok(BlockCache {
             blocks: Some(blocks),
+            spare: None,
         })
     }
 
@@ -108,7 +122,8 @@ impl<K: KeyOrder> BlockCache<K> {
         if let Some(block) = self.find(file, index)? {
             return Ok(block);
         }
-        let block = reader.read(alloc, source, index)?;
+        let room = self.take_spare(alloc);
+        let block = reader.read(alloc, source, index, room)?;
         self.keep(file, index, &block);
         Ok(block)
     }
@@ -157,7 +172,17 @@ impl<K: KeyOrder> BlockCache<K> {
         find_in(blocks, file, index)
     }
 
-    // Keeps the block, where there is memory for it.
+    // Memory for a block: that of the one that went last, if it is there.
+    fn take_spare(&mut self, alloc: Global) -> Vec<u8>
+        ensures { self.new ≡ self.old }
+    {
+        match self.spare.take() {
+            Some(room) => room,
+            None => Vec::new(alloc),
+        }
+    }
+
+    // Keeps the block, where there is memory for it, and the memory of the one that goes for it.
     fn keep(&mut self, file: u64, index: usize, block: &Rc<Block<Internal<K>>>)
         ensures kept { (kept : KeptBlock) → Contains self.new.blocks kept → Contains self.old.blocks kept ⊎ IsOf kept file index block.now.value.pairs }
         ensures order { IsBlockPut file index block.now.value.pairs self.old.capacity self.old.blocks self.new.blocks }
@@ -166,7 +191,7 @@ impl<K: KeyOrder> BlockCache<K> {
         let Some(blocks) = &mut self.blocks else {
             return;
         };
-        keep_in(blocks, file, index, block);
+        self.spare = keep_in(blocks, file, index, block);
     }
 }
 
@@ -190,22 +215,34 @@ fn find_in<K: KeyOrder>(
     Ok(Some(block))
 }
 
-// Keeps the block, where there is memory for it.
+// Keeps the block, where there is memory for it, and answers the memory of the one that goes for it.
 fn keep_in<K: KeyOrder>(
     blocks: &mut LruCache<Slot, Rc<Block<Internal<K>>>>,
     file: u64,
     index: usize,
     block: &Rc<Block<Internal<K>>>,
-)
+) -> Option<Vec<u8>>
     ensures kept { (kept : KeptBlock) → Contains (blocks_in blocks.new.entries) kept → Contains (blocks_in blocks.old.entries) kept ⊎ IsOf kept file index block.now.value.pairs }
     ensures order { IsBlockPut file index block.now.value.pairs blocks.old.cap (blocks_in blocks.old.entries) (blocks_in blocks.new.entries) }
     ensures capacity { blocks.new.cap ≡ blocks.old.cap }
 {
     let slot = Slot { file, index };
     let Ok(block) = block.clone() else {
-        return;
+        return None;
     };
-    let _ = blocks.put(slot, block);
+    let pushed = blocks.push(slot, block);
+    memory_of(pushed)
+}
+
+// The memory of the block that went for another, unless somebody else reads it.
+fn memory_of<K: KeyOrder>(pushed: Pushed<K>) -> Option<Vec<u8>> {
+    let Ok(Some((_, block))) = pushed else {
+        return None;
+    };
+    let Ok(block) = Rc::try_unwrap(block) else {
+        return None;
+    };
+    Some(block.into_memory())
 }
 
 /// Law: what is kept stays right while tables come into use under new numbers and go out of use.

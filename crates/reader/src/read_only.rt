@@ -5,7 +5,7 @@ ghost use Rattle.std.specs.Prelude.{◌≡◌, ◌≤◌};
 use std::alloc::Global;
 use store::{Store, StoreError, Trouble};
 
-/// A store of which only the reading calls are used, `list`, `len` and `read_at`. Each call that changes files or asks for the
+/// A store of which only the reading calls are used, `list`, `len`, `read_at` and `read_into`. Each call that changes files or asks for the
 /// lock fails here, and never comes to the store within: so whoever is given one can't change a file, whatever that store is.
 #[derive(Drop)]
 pub struct ReadOnly<S> {
@@ -144,7 +144,18 @@ impl<S: Store> Store for ReadOnly<S> {
         offset: u64,
         count: usize,
     ) -> Result<Vec<u8>, StoreError> {
-        match self.inner.read_at(alloc, name, offset, count) {
+        self.read_into(alloc, name, offset, count, Vec::new(alloc))
+    }
+
+    fn read_into(
+        &mut self,
+        alloc: Global,
+        name: &str,
+        offset: u64,
+        count: usize,
+        room: Vec<u8>,
+    ) -> Result<Vec<u8>, StoreError> {
+        match self.inner.read_into(alloc, name, offset, count, room) {
             Ok(bytes) => Ok(bytes),
             Err(error) => Err(self.told(error)),
         }

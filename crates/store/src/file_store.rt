@@ -94,7 +94,18 @@ impl Store for FileStore {
         offset: u64,
         count: usize,
     ) -> Result<Vec<u8>, StoreError> {
-        match self.folder.read_at(alloc, name, offset, count) {
+        self.read_into(alloc, name, offset, count, Vec::new(alloc))
+    }
+
+    fn read_into(
+        &mut self,
+        alloc: Global,
+        name: &str,
+        offset: u64,
+        count: usize,
+        room: Vec<u8>,
+    ) -> Result<Vec<u8>, StoreError> {
+        match self.folder.read_into(alloc, name, offset, count, room) {
             Ok(bytes) => Ok(bytes),
             Err(failure) => {
                 self.keep(Why::Read, name, failure.error, failure);

@@ -86,20 +86,22 @@ impl Folder {
         Ok(self.kept_file(name, false)?.metadata()?.len())
     }
 
-    /// The bytes from an offset on, so many of them or up to the end. Missing where there is no such file.
-    pub fn read_at(
+    /// The bytes from an offset on, so many of them or up to the end, in the memory of `room` where they fit. Missing where
+    /// there is no such file.
+    pub fn read_into(
         &mut self,
         alloc: Global,
         name: &str,
         offset: u64,
         count: usize,
+        room: Vec<u8>,
     ) -> Result<Vec<u8>, Failure> {
         // the calls of most are on a file that is open: its name is looked up once
         if let Some(kept) = self.kept.get(name) {
-            return read_from(alloc, &kept.file, offset, count);
+            return read_from(alloc, &kept.file, offset, count, room);
         }
         let file = self.kept_file(name, false)?;
-        read_from(alloc, file, offset, count)
+        read_from(alloc, file, offset, count, room)
     }
 
     /// Makes an empty file, or empties the one that is there.
@@ -260,11 +262,37 @@ fn open_with(rt: &HostRuntime, options: &OpenOptions, path: &str) -> io::Result<
 }
 
 // The bytes of a file from an offset on, so many of them or up to its end.
-fn read_from(alloc: Global, file: &File, offset: u64, count: usize) -> Result<Vec<u8>, Failure> {
+fn read_from(
+    alloc: Global,
+    file: &File,
+    offset: u64,
+    count: usize,
+    room: Vec<u8>,
+) -> Result<Vec<u8>, Failure> {
     let count = count_within(file, offset, count)?;
-    let mut bytes = vec![in alloc; 0u8; count]?;
+    let mut bytes = with_length(alloc, count, room)?;
     let read = fill(file, bytes.as_mut_slice(), offset)?;
     bytes.truncate(read);
+    Ok(bytes)
+}
+
+// So many bytes, whatever they are: in the memory of `room` where they fit and fill three quarters of it, so that little of it
+// is in vain. New memory is a sixteenth more, so that the next block fits too, which is seldom just as long.
+fn with_length(alloc: Global, count: usize, room: Vec<u8>) -> Result<Vec<u8>, AllocError> {
+    let capacity = room.capacity();
+    if count <= capacity && capacity - capacity / 4 <= count {
+        return cut_to(count, room);
+    }
+    drop(room);
+    cut_to(
+        count,
+        Vec::with_capacity(alloc, count.saturating_add(count / 16))?,
+    )
+}
+
+// The first bytes, so many of them, and zeros behind these where they are fewer: what is read over isn't zeroed first.
+fn cut_to(count: usize, mut bytes: Vec<u8>) -> Result<Vec<u8>, AllocError> {
+    bytes.resize(count, 0)?;
     Ok(bytes)
 }
 

@@ -160,7 +160,21 @@ impl Store for MemStore {
     ) -> Result<Vec<u8>, StoreError> {
         match self.files.get(name) {
             None => Err(StoreError::Missing),
-            Some(file) => Ok(part(alloc, file.bytes(), offset as usize, count)?),
+            Some(file) => Ok(part(Vec::new(alloc), file.bytes(), offset as usize, count)?),
+        }
+    }
+
+    fn read_into(
+        &mut self,
+        _alloc: Global,
+        name: &str,
+        offset: u64,
+        count: usize,
+        room: Vec<u8>,
+    ) -> Result<Vec<u8>, StoreError> {
+        match self.files.get(name) {
+            None => Err(StoreError::Missing),
+            Some(file) => Ok(part(room, file.bytes(), offset as usize, count)?),
         }
     }
 
@@ -336,12 +350,15 @@ fn sync_file(files: &mut BTreeMap<String, MemFile>, name: &str) -> Option<usize>
     }
 }
 
-// The bytes from an offset on, `count` of them or up to the end.
-fn part(alloc: Global, file: &[u8], offset: usize, count: usize) -> Result<Vec<u8>, AllocError>
+// The bytes from an offset on, `count` of them or up to the end, in place of what is in `room`.
+fn part(room: Vec<u8>, file: &[u8], offset: usize, count: usize) -> Result<Vec<u8>, AllocError>
     ensures { IfOk result (λ read. read.items ≡ take count (drop offset file.now)) }
 {
     let start = offset.min(file.len());
     let rest = &file[start..];
     let len = count.min(rest.len());
-    Vec::from_slice(alloc, &rest[..len])
+    let mut read = room;
+    read.clear();
+    read.extend_from_slice(&rest[..len])?;
+    Ok(read)
 }

@@ -13,7 +13,7 @@ use std::alloc::Global;
 /// While a store is faithful it returns what was written, and its calls do what their clauses say: an Ok is exact, and
 /// files of other names stay. Of one that isn't, only the clauses that don't ask for it hold.
 ///
-/// Of its errors Memory changes nothing, and Device is counted. Only `len` and `read_at` answer Missing; `sync`,
+/// Of its errors Memory changes nothing, and Device is counted. Only `len`, `read_at` and `read_into` answer Missing; `sync`,
 /// `remove` and `unlock` never answer Memory. A call that needs a file and changes it, or syncs it, answers Device where
 /// that file is missing.
 ///
@@ -80,6 +80,31 @@ pub trait Store {
         ensures same { Keeps (facts self.old) (facts self.new) }
         ensures synced { KeepsSynced (facts self.old) (facts self.new) }
         ensures calls { KeepsCalls (facts self.old) (facts self.new) };
+
+    /// The same, in the memory of `room` where the bytes fit: its own are dropped. A store that can't do so lets it go.
+    fn read_into(
+        &mut self,
+        alloc: Global,
+        name: &str,
+        offset: u64,
+        count: usize,
+        room: Vec<u8>,
+    ) -> Result<Vec<u8>, StoreError>
+        ensures counts { Counts (facts self.old) (facts self.new) result }
+        ensures writes { FailsNoWrite (facts self.old) (facts self.new) }
+        ensures undenied { (facts self.new).denials ≡ (facts self.old).denials }
+        ensures lock { (facts self.new).locked ≡ (facts self.old).locked }
+        ensures bytes { IfOk result (λ read. IsTrue (facts self.new).faithful →
+            (bytes : List ℕ) × (map.get (facts self.old).files name.now ≡ Some bytes) × (read.items ≡ take count (drop offset bytes))) }
+        ensures missing { IsTrue (facts self.new).faithful → result ≡ Err StoreError.Missing →
+            map.get (facts self.old).files name.now ≡ None }
+        ensures same { Keeps (facts self.old) (facts self.new) }
+        ensures synced { KeepsSynced (facts self.old) (facts self.new) }
+        ensures calls { KeepsCalls (facts self.old) (facts self.new) }
+    {
+        drop(room);
+        self.read_at(alloc, name, offset, count)
+    }
 
     /// Makes an empty file, or empties the one that is there. A call that fails with Device may have done so.
     fn create(&mut self, name: &str) -> Result<(), StoreError>

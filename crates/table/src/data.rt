@@ -37,7 +37,7 @@ pub fn read_data<K: KeyOrder, S: Store>(
     ensures refused { IfErr result (λ e. Refuses e (S.facts store.old) (S.facts store.new) name.now
         (λ file. IsDamaged K.cmp file handle) (λ file. IsUnsupported file handle)) }
 {
-    let bytes = read_stored(alloc, store, name, known, handle)?;
+    let bytes = read_stored(alloc, store, name, known, handle, Vec::new(alloc))?;
     match Block::<Internal<K>>::open(alloc, bytes) {
         Ok(block) => Ok(block),
         Err(e) => Err(refuse_block(store, name, handle.offset, e)),
@@ -45,7 +45,7 @@ pub fn read_data<K: KeyOrder, S: Store>(
 }
 
 /// The data block of a place, behind one of this bound. Corrupt and Unsupported as `read_data`; Corrupt too where a key is no internal
-/// key, isn't above that bound, or is above its own.
+/// key, isn't above that bound, or is above its own. It is read into `room` where it fits.
 pub fn read_within<K: KeyOrder, S: Store>(
     alloc: Global,
     store: &mut S,
@@ -53,6 +53,7 @@ pub fn read_within<K: KeyOrder, S: Store>(
     known: u64,
     place: &Place,
     floor: Option<&[u8]>,
+    room: Vec<u8>,
 ) -> Result<Block<Internal<K>>, DbError>
     ensures reads { Reads (S.facts store.old) (S.facts store.new) }
     ensures found { IfOk result (λ block. Finds (S.facts store.old) (S.facts store.new) name.now (λ file. HasBlock K.cmp file place.now.handle block.pairs)) }
@@ -62,7 +63,7 @@ pub fn read_within<K: KeyOrder, S: Store>(
         (λ file. ((pairs : List Pair) → HasBlock K.cmp file place.now.handle pairs → AreWithin K.cmp (option_copied floor.entry) place.now.key pairs → ⊥)
         × (IsUnsupported file place.now.handle → ⊥)) (λ file. IsUnsupported file place.now.handle)) }
 {
-    let bytes = read_stored(alloc, store, name, known, place.handle)?;
+    let bytes = read_stored(alloc, store, name, known, place.handle, room)?;
     let bounds = Bounds {
         floor,
         most: place.key.as_slice(),

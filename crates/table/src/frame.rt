@@ -34,7 +34,7 @@ pub fn read_ends<S: Store>(alloc: Global, store: &mut S, name: &str) -> Result<E
         return Err(refuse_short(store, name, len));
     }
     let before = len - FOOTER_LENGTH as u64;
-    let bytes = read_part(alloc, store, name, before, FOOTER_LENGTH)?;
+    let bytes = read_part(alloc, store, name, before, FOOTER_LENGTH, Vec::new(alloc))?;
     match read_footer(&bytes) {
         Ok(footer) => Ok(Ends { before, footer }),
         Err(what) => Err(refuse_footer(store, name, before, &bytes, what)),

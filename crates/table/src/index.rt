@@ -66,7 +66,7 @@ pub fn read_places<K: KeyOrder, S: Store>(
     ensures refused { IfErr result (λ e. Refuses e (S.facts store.old) (S.facts store.new) name.now
         (λ file. ((places : List PlaceValue) → HasIndex K.cmp file index places → ⊥) × (IsUnsupported file index → ⊥)) (λ file. IsUnsupported file index)) }
 {
-    let bytes = read_stored(alloc, store, name, known, index)?;
+    let bytes = read_stored(alloc, store, name, known, index, Vec::new(alloc))?;
     match open_places::<K>(alloc, bytes) {
         Ok(places) => Ok(places),
         Err(e) => Err(refuse_block(store, name, index.offset, e)),

@@ -71,7 +71,7 @@ fn read_metaindex<S: Store>(
         (λ file. ((filter : Option HandleValue) → HasMetaindex file metaindex filter → ⊥) × (IsUnsupported file metaindex → ⊥))
         (λ file. IsUnsupported file metaindex)) }
 {
-    let bytes = read_stored(alloc, store, name, known, metaindex)?;
+    let bytes = read_stored(alloc, store, name, known, metaindex, Vec::new(alloc))?;
     match named_filter(alloc, bytes) {
         Ok(filter) => Ok(filter),
         Err(e) => Err(refuse_block(store, name, metaindex.offset, e)),
@@ -93,7 +93,7 @@ fn read_filter_block<S: Store>(
         (λ file. ((filter : List ℕ) → IsStored file handle filter × IsFilterBlock filter → ⊥) × (IsUnsupported file handle → ⊥))
         (λ file. IsUnsupported file handle)) }
 {
-    let bytes = read_stored(alloc, store, name, known, handle)?;
+    let bytes = read_stored(alloc, store, name, known, handle, Vec::new(alloc))?;
     match FilterBlock::open(bytes) {
         Ok(filter) => Ok(filter),
         Err(e) => Err(refuse_filter(store, name, handle.offset, e)),

@@ -49,13 +49,14 @@ pub fn file_length<S: Store>(store: &mut S, name: &str) -> Result<u64, DbError>
     }
 }
 
-/// So many bytes of the file from an offset on. Fewer are Corrupt.
+/// So many bytes of the file from an offset on, by `Store::read_into`. Fewer are Corrupt.
 pub fn read_part<S: Store>(
     alloc: Global,
     store: &mut S,
     name: &str,
     offset: u64,
     count: usize,
+    room: Vec<u8>,
 ) -> Result<Vec<u8>, DbError>
     ensures reads { Reads (S.facts store.old) (S.facts store.new) }
     ensures length { IfOk result (λ bytes. length bytes.items ≡ count) }
@@ -63,7 +64,7 @@ pub fn read_part<S: Store>(
     ensures stood { OnOk result ((S.facts store.new).failures ≡ (S.facts store.old).failures) }
     ensures refused { IfErr result (λ e. Refuses e (S.facts store.old) (S.facts store.new) name.now (λ file. length file < offset + count) (λ file. ⊥)) }
 {
-    match store.read_at(alloc, name, offset, count) {
+    match store.read_into(alloc, name, offset, count, room) {
         Ok(bytes) => {
             if bytes.len() != count {
                 return Err(refuse_cut(store, name, offset, bytes.len(), count));
@@ -76,13 +77,15 @@ pub fn read_part<S: Store>(
 
 /// The block that the file has at a handle: its checksum is compared, and then its type. No memory is taken before
 /// the file is known to have that many bytes: where the block doesn't end within the `known` bytes, which are there as
-/// far as the caller knows, the store is asked. A block of more than 2^30 bytes is Unsupported.
+/// far as the caller knows, the store is asked. A block of more than 2^30 bytes is Unsupported. It is read into `room`
+/// where it fits.
 pub fn read_stored<S: Store>(
     alloc: Global,
     store: &mut S,
     name: &str,
     known: u64,
     handle: Handle,
+    room: Vec<u8>,
 ) -> Result<Vec<u8>, DbError>
     ensures reads { Reads (S.facts store.old) (S.facts store.new) }
     ensures found { IfOk result (λ block. Finds (S.facts store.old) (S.facts store.new) name.now (λ file. IsStored file handle block.items)) }
@@ -93,7 +96,7 @@ pub fn read_stored<S: Store>(
         (λ file. ((block : List ℕ) → IsStored file handle block → ⊥) × (IsUnsupported file handle → ⊥)) (λ file. IsUnsupported file handle)) }
 {
     let count = known_length(store, name, known, handle)?;
-    let mut bytes = read_part(alloc, store, name, handle.offset, count)?;
+    let mut bytes = read_part(alloc, store, name, handle.offset, count, room)?;
     let size = match stored_block(&bytes) {
         Ok(block) => block.len(),
         Err(e) => return Err(refuse_stored(store, name, handle.offset, &bytes, e)),

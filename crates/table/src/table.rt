@@ -123,12 +123,14 @@ impl<K: KeyOrder> Table<K> {
 
     /// The data block of this index, held against its place. Corrupt, where there is none: its checksum, its restarts or the order of its
     /// keys is wrong, or one of them is no internal key, isn't above the bound of the place in front, or is above its own; Unsupported,
-    /// where it has a type other than 0 or more than 2^30 bytes.
+    /// where it has a type other than 0 or more than 2^30 bytes. It is read into `room` where it fits, whose own bytes are
+    /// dropped.
     pub fn block_at<S: Store>(
         &self,
         alloc: Global,
         store: &mut S,
         index: usize,
+        room: Vec<u8>,
     ) -> Result<Block<Internal<K>>, DbError>
         ensures reads { Reads (S.facts store.old) (S.facts store.new) }
         ensures found { IfOk result (λ block. Finds (S.facts store.old) (S.facts store.new) self.now.name
@@ -141,7 +143,7 @@ impl<K: KeyOrder> Table<K> {
             return Err(DbError::Corrupt(FileKind::Table, Damage::Missing));
         };
         let floor = floor_of(&self.places, index);
-        match read_within::<K, S>(alloc, store, &self.name, self.before, place, floor) {
+        match read_within::<K, S>(alloc, store, &self.name, self.before, place, floor, room) {
             Ok(block) => Ok(block),
             Err(e) => Err(e),
         }

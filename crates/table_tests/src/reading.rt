@@ -70,8 +70,10 @@ fn has_the_block(alloc: Global) -> Result<bool, DbError> {
     let mut store = stored(store_with(alloc, &ONE_ENTRY))?;
     let table = opened(alloc, &mut store)?;
     let is_indexed = table.index(alloc)?.as_slice() == [FIRST].as_slice();
-    let first = table.block_at(alloc, &mut store, 0).is_ok();
-    let other = table.block_at(alloc, &mut store, 1);
+    let first = table
+        .block_at(alloc, &mut store, 0, Vec::new(alloc))
+        .is_ok();
+    let other = table.block_at(alloc, &mut store, 1, Vec::new(alloc));
     Ok(is_indexed && first && matches!(other, Err(DbError::Corrupt(_, _))))
 }
 
@@ -182,12 +184,14 @@ fn changed_bytes_give_no_wrong_entry(rt: HostRuntime) {
 fn is_refused(alloc: Global, behind: &[u8; 5], is_unsupported: bool) -> Result<bool, DbError> {
     let mut store = stored(changed(alloc, 21, 26, behind))?;
     let table = opened(alloc, &mut store)?;
-    Ok(match table.block_at(alloc, &mut store, 0) {
-        Ok(_) => false,
-        Err(DbError::Unsupported(_)) => is_unsupported,
-        Err(DbError::Corrupt(_, _)) => !is_unsupported,
-        Err(_) => false,
-    })
+    Ok(
+        match table.block_at(alloc, &mut store, 0, Vec::new(alloc)) {
+            Ok(_) => false,
+            Err(DbError::Unsupported(_)) => is_unsupported,
+            Err(DbError::Corrupt(_, _)) => !is_unsupported,
+            Err(_) => false,
+        },
+    )
 }
 
 #[test]

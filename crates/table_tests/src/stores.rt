@@ -36,7 +36,10 @@ pub fn perform<S: Store>(alloc: Global, store: &mut S, step: Step<'_>) -> Result
         Step::Lock => store.lock(),
         Step::Unlock => done(store.unlock()),
         Step::Holds(name, bytes) => holds(alloc, store, name, bytes),
-        Step::Reads(name, offset, count, bytes) => reads(alloc, store, name, offset, count, bytes),
+        Step::Reads(name, offset, count, bytes) => {
+            let is_read = reads(alloc, store, name, offset, count, bytes)?;
+            Ok(is_read && reads_over(alloc, store, name, (offset, count), bytes)?)
+        }
         Step::Misses(name) => Ok(misses(store, name) && has_no_bytes(alloc, store, name)),
         Step::Names(joined) => Ok(names(alloc, store)?.as_str() == joined),
     }
@@ -65,6 +68,25 @@ fn reads<S: Store>(
     Ok(store.read_at(alloc, name, offset, count)?.as_slice() == bytes)
 }
 
+// The same, in memory that has other bytes: too little of it, just enough, and far too much.
+fn reads_over<S: Store>(
+    alloc: Global,
+    store: &mut S,
+    name: &str,
+    range: (u64, usize),
+    bytes: &[u8],
+) -> Result<bool, StoreError> {
+    let (offset, count) = range;
+    for length in [0, 2, 6, 4096] {
+        let room = vec![in alloc; b'-'; length]?;
+        let read = store.read_into(alloc, name, offset, count, room)?;
+        if read.as_slice() != bytes {
+            return Ok(false);
+        }
+    }
+    Ok(true)
+}
+
 fn holds<S: Store>(
     alloc: Global,
     store: &mut S,
@@ -91,6 +113,10 @@ fn is_failure(answer: Result<(), StoreError>) -> bool {
 fn has_no_bytes<S: Store>(alloc: Global, store: &mut S, name: &str) -> bool {
     matches!(store.len(name), Err(StoreError::Missing))
         && matches!(store.read_at(alloc, name, 0, 1), Err(StoreError::Missing))
+        && matches!(
+            store.read_into(alloc, name, 0, 1, Vec::new(alloc)),
+            Err(StoreError::Missing)
+        )
 }
 
 fn names<S: Store>(alloc: Global, store: &mut S) -> Result<String, StoreError> {

@@ -143,7 +143,18 @@ impl<S: Store> Store for Watched<S> {
         offset: u64,
         count: usize,
     ) -> Result<Vec<u8>, StoreError> {
-        let read = self.inner.read_at(alloc, name, offset, count)?;
+        self.read_into(alloc, name, offset, count, Vec::new(alloc))
+    }
+
+    fn read_into(
+        &mut self,
+        alloc: Global,
+        name: &str,
+        offset: u64,
+        count: usize,
+        room: Vec<u8>,
+    ) -> Result<Vec<u8>, StoreError> {
+        let read = self.inner.read_into(alloc, name, offset, count, room)?;
         if let Some(meter) = &mut self.meter {
             meter.count_read(read.len() as u64);
         }

@@ -12,8 +12,8 @@ pub returns-clause-kept : goal.returns-clause-kept
 unfolding same
 returns-clause-kept g c =
     let slot : Slot = record { file = c.args.file; index = c.args.index } in
-    within_or _ c.put.new.self.entries c.args.blocks.now.entries _ (λ k. IsOf k c.args.file c.args.index c.args.block.now.value.pairs)
-    (put_or same c.args.blocks.now c.put.new.self slot _ c.put.result c.put.ensures.entries c.put.ensures.err)
+    within_or _ c.push-pushed.new.self.entries c.args.blocks.now.entries _ (λ k. IsOf k c.args.file c.args.index c.args.block.now.value.pairs)
+    (put_or same c.args.blocks.now c.push-pushed.new.self slot _ c.push-pushed.result c.push-pushed.ensures.entries c.push-pushed.ensures.err)
     (λ e put.
     let is = put_is (λ k. k.file) (λ k. k.index) (λ v. v.value.pairs) c.args.file c.args.index same c.args.blocks.now slot _ (λ j. refl) refl refl e put in
     (is.0, is.1, is.2 ∙ ap (λ b. b.pairs) c.in-Ok.ensures.cases))
@@ -27,4 +27,4 @@ returns-clause-order g c =
     (λ e put.
     let is = put_is (λ k. k.file) (λ k. k.index) (λ v. v.value.pairs) c.args.file c.args.index same c.args.blocks.now slot _ (λ j. refl) refl refl e put in
     block_is _ c.args.file c.args.index c.args.block.now.value.pairs (is.0, is.1, is.2 ∙ ap (λ b. b.pairs) c.in-Ok.ensures.cases))
-    c.put.new.self c.put.result c.put.ensures.entries c.put.ensures.err
+    c.push-pushed.new.self c.push-pushed.result c.push-pushed.ensures.entries c.push-pushed.ensures.err
