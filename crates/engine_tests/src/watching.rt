@@ -108,6 +108,8 @@ impl Store for WatchedStore {
 
     ghost facts = { λ w. record (mem_facts w.inner) { faithful = false } };
 
+    ghost told = { λ w. w.noted };
+
     // Where a call is refused, a file that isn't there is removed, or synced by one that writes, which fails and is counted.
 
     fn failures(&self) -> u64 {

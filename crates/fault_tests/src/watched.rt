@@ -3,7 +3,7 @@ ghost use Rattle.std.specs.Prelude.{◌≡◌};
 ghost use Rattle.store.specs.FaultFacts.{fault_facts};
 
 use std::alloc::Global;
-use store::{FaultStore, MemStore, Plan, Store, StoreError};
+use store::{FaultStore, MemStore, Plan, Store, StoreError, Trouble};
 
 /// What was appended and isn't synced yet, of the last file of each kind.
 #[derive(Clone, Copy)]
@@ -110,6 +110,8 @@ impl Store for WatchedStore {
 
     ghost facts = { λ w. record (fault_facts w.inner) { faithful = false } };
 
+    ghost told = { λ w. w.inner.inner.noted };
+
     fn failures(&self) -> u64 {
         self.inner.failures()
     }
@@ -170,5 +172,13 @@ impl Store for WatchedStore {
 
     fn unlock(&mut self) -> Result<(), StoreError> {
         self.inner.unlock()
+    }
+
+    fn note(&mut self, trouble: Trouble) {
+        self.inner.note(trouble);
+    }
+
+    fn noted(&self) -> Trouble {
+        self.inner.noted()
     }
 }

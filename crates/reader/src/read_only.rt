@@ -115,6 +115,8 @@ impl<S: Store> Store for ReadOnly<S> {
 
     ghost facts = { λ store. looked_at S.facts store };
 
+    ghost told = { λ store. S.told store.inner };
+
     fn failures(&self) -> u64 {
         self.failures
     }

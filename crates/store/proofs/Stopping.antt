@@ -2,7 +2,6 @@
 use Rattle.std.proofs.Common.{◌≤◌, ◌≡◌, ◌⊎◌, inl, inr, ⊎_elim, ℕ, min, List, [], ◌∷◌, ◌++◌, length, drop, take, Result, Ok, Err, OnOk, OnErr, refl, sym, ap, ◌∙◌, subst, append_assoc, append-nil, arith}
 use Rattle.std.proofs.lemmas.Bool.{cases_lt}
 use Rattle.std.proofs.lemmas.List.{take_all, take-take, length-take}
-use Rattle.std.specs.FinMap.{get}
 use Rattle.std.proofs.Math.Seq.{drop-append_seam}
 use Rattle.store.specs.Files.{Facts, Files, Call, Change, Creation, Addition, Sync, Move, Removal, LockFile, Disk, disk_of, Appends, AppendsBeginning, Does}
 use Rattle.store.specs.Calls.{Adds, Idles}

@@ -1,6 +1,7 @@
 pub mod MemFile
 pub mod Files
 pub mod Stops
+pub mod Troubles
 pub mod Losses
 pub mod Calls
 pub mod Counted

@@ -7,7 +7,7 @@ ghost use Rattle.store.specs.MemFacts.{mem_facts};
 ghost use Rattle.store.specs.FaultFacts.{fault_facts, standing_of, due, due_behind, next_extent, way_of, is_denial, Proceeds, Fails, error_of, Meets, MeetsAppend, MeetsReading};
 
 use crate::counters::Failed;
-use crate::{MemStore, Store, StoreError};
+use crate::{MemStore, Store, StoreError, Trouble};
 use std::alloc::Global;
 
 /// How far a call comes that a fault hits.
@@ -209,6 +209,8 @@ impl Plan {
 
 impl Store for FaultStore {
     ghost facts = { fault_facts };
+
+    ghost told = { λ store. store.inner.noted };
 
     fn failures(&self) -> u64 {
         self.inner.failures()
@@ -476,5 +478,13 @@ impl Store for FaultStore {
                 self.inner.unlock()
             }
         }
+    }
+
+    fn note(&mut self, trouble: Trouble) {
+        self.inner.note(trouble);
+    }
+
+    fn noted(&self) -> Trouble {
+        self.inner.noted()
     }
 }

@@ -58,6 +58,8 @@ impl FileStore {
 impl Store for FileStore {
     ghost facts = { λ store. counted_facts store.locked store.counters };
 
+    ghost told = { λ store. store.noted };
+
     fn failures(&self) -> u64 {
         self.counters.failures()
     }

@@ -12,7 +12,7 @@ ghost use Rattle.store.specs.Past.{Holds};
 use crate::counters::{Counters, Failed};
 use crate::mem_file::MemFile;
 use crate::past::{Past, keep, make_room, room_for};
-use crate::{Store, StoreError};
+use crate::{Store, StoreError, Trouble};
 use std::alloc::{AllocError, Global};
 use std::collections::BTreeMap;
 use std::mem;
@@ -37,6 +37,7 @@ pub struct MemStore {
     past: Vec<Past>,
     locked: bool,
     counters: Counters,
+    noted: Trouble,
 }
 
 impl MemStore {
@@ -53,6 +54,7 @@ impl MemStore {
             past: Vec::new(alloc),
             locked: false,
             counters: Counters::new(),
+            noted: Trouble::none(),
         }
     }
 
@@ -76,6 +78,7 @@ impl MemStore {
             past: Vec::new(alloc),
             locked: false,
             counters: Counters::new(),
+            noted: Trouble::none(),
         }
     }
 
@@ -127,6 +130,8 @@ impl Store for MemStore {
     ghost use Rattle.store.specs.MemFacts.{mem_facts};
 
     ghost facts = { mem_facts };
+
+    ghost told = { λ store. store.noted };
 
     fn failures(&self) -> u64 {
         self.counters.failures()
@@ -247,6 +252,14 @@ impl Store for MemStore {
     fn unlock(&mut self) -> Result<(), StoreError> {
         self.locked = false;
         Ok(())
+    }
+
+    fn note(&mut self, trouble: Trouble) {
+        self.noted = trouble.behind(self.noted);
+    }
+
+    fn noted(&self) -> Trouble {
+        self.noted
     }
 }
 

@@ -2,6 +2,8 @@
 ghost use Rattle.std.specs.Prelude.{◌≡◌, ◌≢◌, ◌⊎◌, ◌<◌, List, ℕ, [], length, take, drop, map, string_bytes, IfOk, OnOk, OnErr, None, IsTrue, IsSome, true, false};
 ghost use Rattle.std.specs.FinMap as map;
 ghost use Rattle.store.specs.Files.{Facts, Lists, Appends, AppendsBeginning, Renames, Removes, Locks, MayLock, with_synced, renamed, Creation, Sync, Move, Removal, LockFile};
+ghost use Rattle.store.specs.Troubles.{behind};
+ghost use Rattle.store.specs.declared.trouble.Trouble.{Trouble};
 ghost use Rattle.store.specs.Calls.{Counts, FailsNoWrite, FailsAsWrite, Keeps, KeepsSynced, KeepsCalls, Changes, ChangesSynced, Notes, NotesAppend, NotesSync};
 
 use crate::{StoreError, Trouble};
@@ -24,6 +26,9 @@ pub trait Store {
     /// The files, what of them is synced, the calls that changed something, whether it was faithful so far, whether it
     /// holds the lock, and its counts of failures, of failed writes and of denied locks.
     ghost facts: { Self → Facts };
+
+    /// The note that it took last.
+    ghost told: { Self → Trouble };
 
     /// How often a call failed so far: the failures of the facts, without a call of the device.
     fn failures(&self) -> u64
@@ -209,15 +214,12 @@ pub trait Store {
         ensures missing { result ≢ Err StoreError.Missing }
         ensures memory { result ≢ Err StoreError.Memory };
 
-    /// Takes a note of why a call is refused, in the place of an earlier one. Nothing of the files changes. A store may let go of it.
+    /// Takes a note of why a call is refused, in the place of an earlier one. Nothing of the files changes.
     fn note(&mut self, trouble: Trouble)
-        ensures { facts self.new ≡ facts self.old }
-    {
-        let _ = trouble;
-    }
+        ensures same { facts self.new ≡ facts self.old }
+        ensures told { told self.new ≡ behind trouble (told self.old) };
 
-    /// The note that was taken last, whether or not a call was refused since. Nothing is promised of it: it is for the eye alone.
-    fn noted(&self) -> Trouble {
-        Trouble::none()
-    }
+    /// The note that was taken last, whether or not a call was refused since.
+    fn noted(&self) -> Trouble
+        ensures { result ≡ told self.now };
 }

@@ -1,5 +1,8 @@
 //! Why a call was refused, as a value beside the refusal.
 
+ghost use Rattle.std.specs.Prelude.{◌≡◌};
+ghost use Rattle.store.specs.Troubles.{behind};
+
 use std::fmt;
 
 /// What was wrong as a call was refused, as far as whoever refused it knew: in which file, where in it, what was found and what was wanted.
@@ -42,7 +45,9 @@ impl Trouble {
     }
 
     /// The same, as the note that is taken behind another one.
-    pub fn behind(self, last: Trouble) -> Self {
+    pub fn behind(self, last: Trouble) -> Self
+        ensures { result ≡ behind self last }
+    {
         Trouble {
             count: last.count.wrapping_add(1),
             ..self

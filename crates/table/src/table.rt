@@ -5,7 +5,7 @@ ghost use Rattle.table.specs.Intact.{floor_of as floor_value};
 ghost use Rattle.table.specs.Table.{OneTable};
 
 use crate::bounds::{first_place, fronts_of};
-use crate::checking::{admits, check_all};
+use crate::checking::{admits, check_all, check_place};
 use crate::data::{read_all, read_within};
 use crate::frame::read_ends;
 use crate::handle::{Handle, Place};
@@ -54,6 +54,7 @@ impl<K: KeyOrder> Table<K> {
     ghost use Rattle.std.specs.Prelude.{◌≡◌, ◌<◌, ◌≤◌, ◌+◌, ◌^◌, ◌⊎◌, ℕ, List, Option, Some, None, IfOk, IfErr, OnOk, MatchBool, length};
     ghost use Rattle.filter.specs.Hash.{hash_of};
     ghost use Rattle.table.specs.Frame.{Frame, IsFrame, IsOversized, TableAdmits, TableDenies, AnyLong, handles};
+    ghost use Rattle.table.specs.Blocks.{IsCheckedAt, IsWrongAt};
     ghost use Rattle.table.specs.Intact.{IsIntact, IsTornAt, IsUnsupportedAt};
     ghost use Rattle.table.specs.Reading.{Reads, Finds, Answers, Refuses};
     ghost use Rattle.table.specs.Refusals.{IsDamaged, IsUnsupported, IsOfOne, IsOfOneFrom, IsFirstPlace, IsWrong, AreEmpty, IsFrameDamaged, IsFrameUnsupported};
@@ -204,6 +205,40 @@ impl<K: KeyOrder> Table<K> {
             return Err(DbError::Corrupt(FileKind::Table, Damage::Missing));
         }
         Ok(found)
+    }
+
+    /// The pairs of the data block of this index, in order, with all that makes it the block of a table checked: their keys are internal
+    /// keys, each is within the bounds of its block, and its filter admits it. Corrupt, where that isn't so or there is no such block,
+    /// and Corrupt and Unsupported as `read_data`.
+    pub fn check_block<S: Store>(
+        &self,
+        alloc: Global,
+        store: &mut S,
+        index: usize,
+    ) -> Result<Vec<KeyValue>, DbError>
+        ensures reads { Reads (S.facts store.old) (S.facts store.new) }
+        ensures found { IfOk result (λ found. Finds (S.facts store.old) (S.facts store.new) self.now.name
+            (λ file. IsCheckedAt K.cmp file self.now.frame index (pairs_of found.items))) }
+        ensures stood { OnOk result ((S.facts store.new).failures ≡ (S.facts store.old).failures) }
+        ensures refused { IfErr result (λ e. Refuses e (S.facts store.old) (S.facts store.new) self.now.name
+            (λ file. IsWrongAt K.cmp file self.now.frame index) (λ file. IsUnsupportedAt file self.now.frame.places index)) }
+    {
+        let Some(place) = self.places.get(index) else {
+            return Err(DbError::Corrupt(FileKind::Table, Damage::Missing));
+        };
+        let floor = floor_of(&self.places, index);
+        match check_place::<K, S>(
+            alloc,
+            store,
+            &self.name,
+            self.before,
+            place,
+            floor,
+            &self.filter,
+        ) {
+            Ok(pairs) => Ok(pairs),
+            Err(e) => Err(e),
+        }
     }
 
     /// The first entry whose internal key isn't below the target, an internal key, as the bytes of its key and its

@@ -6,7 +6,7 @@ use coding::DbError;
 use ikey::Bytewise;
 use std::alloc::Global;
 use std::test::*;
-use store::{MemStore, Store, StoreError};
+use store::{MemStore, Store, StoreError, Trouble};
 use table::Table;
 
 // A store that notes the most bytes that were asked for at once.
@@ -20,6 +20,8 @@ impl Store for Watched {
     ghost use Rattle.store.specs.MemFacts.{mem_facts};
 
     ghost facts = { λ w. mem_facts w.inner };
+
+    ghost told = { λ w. w.inner.noted };
 
     fn failures(&self) -> u64 {
         self.inner.failures()
@@ -74,6 +76,14 @@ impl Store for Watched {
 
     fn unlock(&mut self) -> Result<(), StoreError> {
         self.inner.unlock()
+    }
+
+    fn note(&mut self, trouble: Trouble) {
+        self.inner.note(trouble);
+    }
+
+    fn noted(&self) -> Trouble {
+        self.inner.noted()
     }
 }
 

@@ -120,6 +120,8 @@ pub fn bytes_of<S: Store>(alloc: Global, store: &mut S) -> u64 {
 impl<S: Store> Store for Watched<S> {
     ghost facts = { λ watched. S.facts watched.inner };
 
+    ghost told = { λ watched. S.told watched.inner };
+
     fn failures(&self) -> u64 {
         self.inner.failures()
     }

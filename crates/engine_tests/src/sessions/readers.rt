@@ -11,7 +11,7 @@ use super::*;
 use coding::Bytes;
 use reader::{Movement, ReadOnly, Reader, ReaderWalk};
 use std::num::NonZeroUsize;
-use store::StoreError;
+use store::{StoreError, Trouble};
 
 // Files in memory that no call may change: one that would is noted, and fails, since a file is removed that isn't there. So is noted what
 // asks for the lock.
@@ -33,6 +33,8 @@ impl Store for Untouched {
     ghost use Rattle.std.specs.Prelude.{false};
 
     ghost facts = { λ u. record (mem_facts u.inner) { faithful = false } };
+
+    ghost told = { λ u. u.inner.noted };
 
     fn failures(&self) -> u64 {
         self.inner.failures()
@@ -93,6 +95,14 @@ impl Store for Untouched {
     fn unlock(&mut self) -> Result<(), StoreError> {
         self.count();
         self.inner.unlock()
+    }
+
+    fn note(&mut self, trouble: Trouble) {
+        self.inner.note(trouble);
+    }
+
+    fn noted(&self) -> Trouble {
+        self.inner.noted()
     }
 }
 
