@@ -1,9 +1,9 @@
 -- What a stop leaves in the middle of a write, and of a run.
-use Rattle.std.proofs.Common.{Bool, true, false, Option, Some, None, MatchBool, MatchOption, if◌then◌else◌, ◌≡◌, ◌⊎◌, ℕ, List, [], ◌∷◌, IsTrue, Err, inl, inr, refl, sym, subst, arith}
+use Rattle.std.proofs.Common.{Bool, true, false, Option, Some, None, MatchBool, MatchOption, if◌then◌else◌, ◌≡◌, ◌⊎◌, ℕ, List, [], ◌∷◌, IsTrue, Err, inl, inr, refl, sym, ap, ◌∙◌, subst, arith}
 use Rattle.std.specs.Option.{option_or}
 use Rattle.store.specs.Files.{Facts, Files, AppendsBeginning}
 use Rattle.store.specs.Stops.{LeavesOnly, stopped_at}
-use Rattle.store.proofs.Stopping.{leaves_both, leaves_same, leaves_so, stays}
+use Rattle.store.proofs.Stopping.{leaves_same, leaves_so}
 use Rattle.engine.specs.declared.log.LogError.TheVariants.{Device}
 use Rattle.engine.specs.internal.Logs.{AppendsRecord}
 use Rattle.ikey.specs.Orders.{Order}
@@ -22,7 +22,7 @@ use Rattle.machine.specs.declared.command.Op.{Op}
 use Rattle.engine.specs.Applied.{AllApplied}
 use Rattle.engine.specs.Headline.{Holds, HoldsAccepted}
 use Rattle.engine.specs.OpenDb.{OpenDb}
-use Rattle.engine.specs.Stops.{LeftBy, LeftByRun, LeftByWrite}
+use Rattle.engine.specs.Stops.{LeftByWrite, StopsEach}
 use Rattle.engine.specs.internal.Directory.{IsAtRest}
 use Rattle.engine.specs.internal.Standing.{IsBroken, IsServing, StandsOpen}
 use Rattle.engine.specs.Stands.{Stands, StandsOver, ids_of, open_in, seen_in, store_of}
@@ -156,20 +156,16 @@ faithful_before order facts (op ∷ ops) (answer ∷ answers) old new h f = h.1.
 faithful_before order facts [] (answer ∷ answers) old new h f = absurd h
 faithful_before order facts (op ∷ ops) [] old new h f = absurd h
 
--- each command leaves what it may in the state that those in front of it led to
-pub left_by_run : {S K : Type 0} {g : _} (order : Order) (facts : S → Facts) (ops : List Op) (answers : List Answer) (old new : Session S K g) → AllApplied order facts ops answers old new
-    → IsTrue (facts (store_of new)).faithful → (m : Machine) → Stands order facts old m → LeavesOnly (facts (store_of old)) (facts (store_of new)) (λ files. LeftByRun order m ops answers files)
-left_by_run {S} {K} {g} order facts [] [] old new same f m s =
-    subst (λ (x : Session S K g). LeavesOnly (facts (store_of old)) (facts (store_of x)) (λ files. LeftByRun order m [] [] files)) (sym same)
-    (stays (facts (store_of old)) (λ files. LeftByRun order m [] [] files)
-    (held order (facts (store_of old)).files m m.in_doubt (means_over order (seen_in facts old) (ids_of old) (open_in old) m s)))
-left_by_run order facts (op ∷ ops) (answer ∷ answers) old new h f m s =
+-- each command leaves what it may in the state that those in front of it led to; at last no call was made
+pub stops_each : {S K : Type 0} {g : _} (order : Order) (facts : S → Facts) (ops : List Op) (answers : List Answer) (old new : Session S K g) (last : Facts) → AllApplied order facts ops answers old new
+    → IsTrue (facts (store_of new)).faithful → last.calls ≡ (facts (store_of new)).calls → last.files ≡ (facts (store_of new)).files → (m : Machine) → Stands order facts old m
+    → StopsEach order m (facts (store_of old)) last ops answers
+stops_each {S} {K} {g} order facts [] [] old new last same f calls files m s =
+    leaves_same (facts (store_of old)) last (λ files. HoldsAccepted order files m) (calls ∙ ap (λ (x : Session S K g). (facts (store_of x)).calls) (sym same)) (files ∙ ap (λ (x : Session S K g). (facts (store_of x)).files) (sym same))
+    (held order (facts (store_of old)).files m m.in_doubt (means_over order (seen_in facts old) (ids_of old) (open_in old) m s))
+stops_each order facts (op ∷ ops) (answer ∷ answers) old new last h f calls files m s =
     let between = faithful_before order facts ops answers h.0 new h.2 f in
     let one = h.1.step.moved between m s in
-    let P : Files → Type 0 = λ files. LeftByRun order m (op ∷ ops) (answer ∷ answers) files in
-    leaves_both (facts (store_of old)) (facts (store_of h.0)) (facts (store_of new)) P
-    (leaves_so (facts (store_of old)) (facts (store_of h.0)) (λ files. LeftBy order m op files) P (λ files left. inl left) (h.1.stops between m s))
-    (leaves_so (facts (store_of h.0)) (facts (store_of new)) (λ files. LeftByRun order one.0 ops answers files) P (λ files left. inr (one.0, one.1, left))
-    (left_by_run order facts ops answers h.0 new h.2 f one.0 one.2))
-left_by_run order facts [] (answer ∷ answers) old new h f m s = absurd h
-left_by_run order facts (op ∷ ops) [] old new h f m s = absurd h
+    (facts (store_of h.0), h.1.stops between m s, one.0, one.1, stops_each order facts ops answers h.0 new last h.2 f calls files one.0 one.2)
+stops_each order facts [] (answer ∷ answers) old new last h f calls files m s = absurd h
+stops_each order facts (op ∷ ops) [] old new last h f calls files m s = absurd h

@@ -31,14 +31,6 @@ abbrev pub LeftBy : Order → Machine → Op → Files → Type 0
 LeftBy order m (Write operations sync) files = LeftByWrite order m operations.items files
 LeftBy order m _ files = HoldsAccepted order files m
 
--- Of a run with these answers: they are left by one of its commands, in the state that those in front of it led to, or at its end.
-abbrev pub LeftByRun : Order → Machine → List Op → List Answer → Files → Type 0
-LeftByRun order m [] [] files = HoldsAccepted order files m
-LeftByRun order m (command ∷ commands) (answer ∷ answers) files =
-    LeftBy order m command files ⊎ ((next : Machine) × Step order m command answer next × LeftByRun order next commands answers files)
-LeftByRun order m [] (answer ∷ answers) files = ⊥
-LeftByRun order m (command ∷ commands) [] files = ⊥
-
 -- ---- a command of a session
 
 -- At any moment since, a stop leaves files that hold what was accepted. (Said of the calls since: so those of two commands compose.)
@@ -62,11 +54,20 @@ StopsBy op order facts old new =
 
 -- ---- a run, from files to files
 
--- While the store is faithful, from each machine of the files at first: a stop at any moment since leaves what the first commands of the run have
--- accepted by then, the batch of the next one as a whole or not at all.
+-- From the files at its begin to those at its end, by those between its commands: a stop in the middle of a command leaves what that one may, in
+-- the state to which the commands in front of it led; a stop behind the last one leaves what was accepted.
+abbrev pub StopsEach : Order → Machine → Facts → Facts → List Op → List Answer → Type 0
+StopsEach order m old new [] [] = StopsKeeping order m old new
+StopsEach order m old new (command ∷ commands) (answer ∷ answers) =
+    (mid : Facts) × LeavesOnly old mid (λ files. LeftBy order m command files)
+    × ((next : Machine) × Step order m command answer next × StopsEach order next mid new commands answers)
+StopsEach order m old new [] (answer ∷ answers) = ⊥
+StopsEach order m old new (command ∷ commands) [] = ⊥
+
+-- While the store is faithful, from each machine of the files at first: a stop at any moment leaves what the commands that were answered by then have
+-- accepted, and the batch of the one that it meets as a whole or not at all.
 abbrev pub StopsRun : Order → Facts → Facts → List Op → List Answer → Type 0
-StopsRun order old new ops answers =
-    IsTrue new.faithful → (first : Machine) → IsFirst order old first → LeavesOnly old new (λ files. LeftByRun order first ops answers files)
+StopsRun order old new ops answers = IsTrue new.faithful → (first : Machine) → IsFirst order old first → StopsEach order first old new ops answers
 
 -- ---- an open database alone
 

@@ -48,7 +48,7 @@ pub fn run_over<S: Store, K: KeyOrder>(
 ) -> (Result<(), DbError>, S)
     ensures headline { OnOk result.0 ((answers : List Answer) × (sink.new.items ≡ sink.old.items ++ answers)
         × Headline (order_of K.name K.cmp) (S.facts store) (S.facts result.1) ops.now answers) }
-    // A stop at any moment of it leaves what its first commands have accepted by then.
+    // A stop at any moment of it leaves what the commands that were answered by then have accepted.
     ensures stops { OnOk result.0 ((answers : List Answer) × (sink.new.items ≡ sink.old.items ++ answers)
         × StopsRun (order_of K.name K.cmp) (S.facts store) (S.facts result.1) ops.now answers) }
     ensures refused { OnErr result.0 ((sink.new.items ≡ sink.old.items) × LeavesStore (S.facts store) (S.facts result.1)) }

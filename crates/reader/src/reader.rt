@@ -140,7 +140,9 @@ impl<S: Store, K: KeyOrder> Reader<S, K> {
 
     /// Why a call was refused, beside the refusal itself: the note that the store took last, with the file, the place in it, what was found
     /// and what was wanted, and the system's error. It may be of an earlier refusal, or of none; as text it is a line without the file's name.
-    pub fn trouble(&self) -> Trouble {
+    pub fn trouble(&self) -> Trouble
+        ensures { result ≡ S.told (store_of self.now).inner }
+    {
         self.source.tables.store.noted()
     }
 

@@ -1,14 +1,12 @@
 use Rattle.std.proofs.Common.{◌≡◌, IsTrue, Option, Some, None, Result, Ok, Err, OnOk, subst}
 use Rattle.coding.specs.declared.error.DbError.{DbError}
 use Rattle.ikey.specs.Orders.{Order, order_of}
-use Rattle.store.specs.Files.{Facts, Files}
-use Rattle.store.specs.Stops.{LeavesOnly}
-use Rattle.store.proofs.Stopping.{leaves_both, leaves_same}
+use Rattle.store.specs.Files.{Facts}
 use Rattle.engine.specs.OpenDb.{OpenDb}
 use Rattle.engine.specs.Stands.{open_in, store_of}
-use Rattle.engine.specs.Stops.{LeftByRun}
+use Rattle.engine.specs.Stops.{StopsEach}
 use Rattle.engine.specs.Touching.{CloseTouches}
-use Rattle.engine.proofs.Stopping.{left_by_run}
+use Rattle.engine.proofs.Stopping.{stops_each}
 use Rattle.engine.proofs.headline.run_over.Goals as goal
 
 on_ok : {A B : Type 0} (result : Result (Unit {0}) DbError) → (A → B) → OnOk result A → OnOk result B
@@ -49,10 +47,7 @@ returns-clause-stops g c =
           let ended = c.run-result.new.self in
           let between = c.into_store.ensures.step.faithful faithful in
           let closed = closes_calls (open_in ended) (facts (store_of ended)) (facts c.into_store.result) c.into_store.ensures.touches faithful in
-          let P : Files → Type 0 = λ files. LeftByRun order first c.args.ops.now each.0 files in
-          let ran = left_by_run order facts c.args.ops.now each.0 c.new-session.result ended each.2 between first before in
-          leaves_both (facts c.args.store) (facts (store_of ended)) (facts c.into_store.result) P
-          (subst (λ (store : _). LeavesOnly (facts store) (facts (store_of ended)) P) c.new-session.ensures.kept ran)
-          (leaves_same (facts (store_of ended)) (facts c.into_store.result) P closed.0 closed.1 ran.now),
+          subst (λ (store : _). StopsEach order first (facts store) (facts c.into_store.result) c.args.ops.now each.0) c.new-session.ensures.kept
+          (stops_each order facts c.args.ops.now each.0 c.new-session.result ended (facts c.into_store.result) each.2 between closed.0 closed.1 first before),
     ))
     c.run-result.ensures.each
