@@ -1,6 +1,7 @@
 //! Why files are refused, noted beside the refusal, with which nothing of the store changes.
 
 ghost use Rattle.std.specs.Prelude.{◌≡◌};
+ghost use Rattle.store.specs.Troubles.{NamesFile};
 
 use crate::located::{batch_trouble, fault_in, manifest_trouble};
 use coding::{DbError, Feature};
@@ -10,14 +11,16 @@ use store::{Store, Trouble, Why};
 
 /// Notes what is wrong with a file as a whole.
 pub fn note_file<S: Store>(store: &mut S, name: &str, why: Why)
-    ensures { S.facts store.new ≡ S.facts store.old }
+    ensures same { S.facts store.new ≡ S.facts store.old }
+    ensures names { NamesFile name.now (S.told store.new) }
 {
     store.note(Trouble::of(why, name));
 }
 
 /// Notes that a file has another length than the MANIFEST says.
 pub fn note_length<S: Store>(store: &mut S, name: &str, found: u64, wanted: u64)
-    ensures { S.facts store.new ≡ S.facts store.old }
+    ensures same { S.facts store.new ≡ S.facts store.old }
+    ensures names { NamesFile name.now (S.told store.new) }
 {
     store.note(Trouble::of(Why::FileLength, name).found(found, wanted));
 }

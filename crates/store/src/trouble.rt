@@ -1,7 +1,7 @@
 //! Why a call was refused, as a value beside the refusal.
 
-ghost use Rattle.std.specs.Prelude.{◌≡◌};
-ghost use Rattle.store.specs.Troubles.{behind};
+ghost use Rattle.std.specs.Prelude.{◌≡◌, Some, None, take};
+ghost use Rattle.store.specs.Troubles.{behind, bytes_of, NamesFile};
 
 use std::fmt;
 
@@ -32,7 +32,10 @@ impl Trouble {
     }
 
     /// This, of a file of this name.
-    pub fn of(why: Why, name: &str) -> Self {
+    pub fn of(why: Why, name: &str) -> Self
+        ensures names { NamesFile name.now result }
+        ensures at { result.at ≡ None }
+    {
         Trouble {
             why,
             name: ShortName::of(name),
@@ -55,7 +58,9 @@ impl Trouble {
     }
 
     /// The same, at this byte of the file.
-    pub fn at(self, at: u64) -> Self {
+    pub fn at(self, at: u64) -> Self
+        ensures { result ≡ record self { at = Some at } }
+    {
         Trouble {
             at: Some(at),
             ..self
@@ -63,7 +68,9 @@ impl Trouble {
     }
 
     /// The same, so many bytes further on.
-    pub fn moved(self, offset: u64) -> Self {
+    pub fn moved(self, offset: u64) -> Self
+        ensures { result.name ≡ self.name }
+    {
         let at = match self.at {
             Some(at) => Some(at.saturating_add(offset)),
             None => None,
@@ -72,7 +79,9 @@ impl Trouble {
     }
 
     /// The same, where this was found and that was wanted.
-    pub fn found(self, found: u64, wanted: u64) -> Self {
+    pub fn found(self, found: u64, wanted: u64) -> Self
+        ensures { result ≡ record self { found = Some found; wanted = Some wanted } }
+    {
         Trouble {
             found: Some(found),
             wanted: Some(wanted),
@@ -93,20 +102,23 @@ pub struct ShortName {
 
 impl ShortName {
     /// The front of this name.
-    pub fn of(name: &str) -> Self {
+    pub fn of(name: &str) -> Self
+        ensures { bytes_of result ≡ take 48 name.now }
+    {
         let mut bytes = [0u8; KEPT];
-        for (kept, byte) in bytes.iter_mut().zip(name.as_bytes()) {
-            *kept = *byte;
-        }
         let length = name.len().min(KEPT);
+        let front = &name.as_bytes()[..length];
+        bytes[..length].copy_from_slice(front);
         ShortName { bytes, length }
     }
 
     /// The bytes of it that are kept.
-    pub fn as_bytes(&self) -> &[u8] {
+    pub fn as_bytes(&self) -> &[u8]
+        ensures { result.now ≡ bytes_of self.now }
+    {
         match self.bytes.get(..self.length) {
             Some(bytes) => bytes,
-            None => &[],
+            None => &self.bytes,
         }
     }
 }

@@ -12,7 +12,6 @@ use Rattle.table.specs.Frame.{Frame, IsFrame}
 use Rattle.table.specs.Intact.{floor_of, IsUnsupportedAt}
 use Rattle.table.specs.Refusals.{IsDamaged, IsUnsupported, IsOfOne}
 use Rattle.table.specs.Table.{HasBlock, ArePairs, IsTable}
-use Rattle.table.specs.declared.handle.Handle.{Handle}
 use Rattle.table.specs.declared.handle.Place.{Place}
 use Rattle.table.proofs.Checked.{checked_table, table_checked}
 use Rattle.table.proofs.DataBlocks.{joined, one_data}

@@ -1,5 +1,5 @@
 -- What the calls that write a table do to the files of a store.
-use Rattle.std.proofs.Common.{Bool, true, false, cond, ◌≡◌, ◌≢◌, ◌⊎◌, ℕ, List, [], ◌++◌, take, Option, Some, None, Result, Ok, Err, OnOk, OnErr, IsTrue, inl, inr, refl, sym, ap, ◌∙◌, arith}
+use Rattle.std.proofs.Common.{Bool, true, false, cond, ◌≡◌, ◌≢◌, ◌⊎◌, ℕ, List, [], ◌++◌, take, Option, Some, None, Result, Ok, Err, IsTrue, inl, inr, refl, sym, ap, ◌∙◌, arith}
 use Rattle.std.specs.Cmp.{tied_itself}
 use Rattle.std.specs.Cmp.Lexicographic.{slice_cmp, nat_list_cmp_total}
 use Rattle.std.specs.Ordering.{is_eq, nat_cmp, eq_by_cmp}
@@ -10,7 +10,7 @@ use Rattle.coding.specs.declared.error.DbError.{DbError}
 use Rattle.coding.specs.declared.error.DbError.TheVariants.{OutOfMemory, Io, Unsupported}
 use Rattle.filter.specs.Builder.{GivesUpOnly}
 use Rattle.store.specs.Files.{Facts, Files, Synced, Creation, Sync, Appends, AppendsBeginning, with_synced}
-use Rattle.store.specs.Calls.{Counts, FailsAsWrite, Changes, ChangesSynced, Keeps, KeepsSynced, Adds, Notes, NotesAppend, NotesSync}
+use Rattle.store.specs.Calls.{Counts, FailsAsWrite, Changes, ChangesSynced, Keeps, KeepsSynced, Notes, NotesAppend, NotesSync}
 use Rattle.store.specs.Stops.{WritesOnly}
 use Rattle.store.proofs.Stopping.{leaves_so, noted_left, append_left, sync_stays, others_both, others_same}
 use Rattle.store.specs.declared.error.StoreError.{StoreError}

@@ -11,6 +11,8 @@ use Rattle.store.specs.declared.error.StoreError.{StoreError}
 use Rattle.store.specs.declared.error.StoreError.TheVariants as store_error
 use Rattle.store.specs.Calls.{FailsNoWrite, KeepsCalls}
 use Rattle.store.specs.Files.{Facts}
+use Rattle.store.specs.Troubles.{NamesFile}
+use Rattle.store.specs.declared.trouble.Trouble.{Trouble}
 
 -- A call that only reads: once a store has returned something else than what was written, that is so for good; a
 -- faithful one has the same files afterwards, and it does none of the calls that change something; the failures don't
@@ -33,6 +35,11 @@ IsErrorStill e old new = Unit {0}
 abbrev pub IsStill : {T : Type 0} → Facts → Facts → Result T DbError → Type 0
 IsStill old new (Ok value) = new.failures ≡ old.failures
 IsStill old new (Err e) = IsErrorStill e old new
+
+-- Where bytes of this file were refused as damaged, the note says so of it.
+abbrev pub IsNoted : List ℕ → DbError → Trouble → Type 0
+IsNoted name (Corrupt file what) trouble = NamesFile name trouble
+IsNoted name e trouble = Unit {0}
 
 -- the store has this file under this name
 abbrev pub HasFile : Facts → List ℕ → List ℕ → Type 0

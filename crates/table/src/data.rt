@@ -6,7 +6,7 @@ ghost use Rattle.block.specs.Block.{IsBlock, Refuses as RefusesBlock};
 ghost use Rattle.ikey.specs.Below.{IsBelowInternal};
 ghost use Rattle.ikey.specs.Entries.{Pair};
 ghost use Rattle.table.specs.Intact.{AreWithin, BeginsWithKey};
-ghost use Rattle.table.specs.Reading.{Reads, Finds, Answers, Refuses};
+ghost use Rattle.table.specs.Reading.{Reads, Finds, Answers, Refuses, IsNoted};
 ghost use Rattle.table.specs.Refusals.{IsDamaged, IsUnsupported, IsOfOne};
 ghost use Rattle.table.specs.Table.{HasBlock, AreData, IsTable, ArePairs};
 ghost use Rattle.table.specs.Views.{pairs_of};
@@ -34,6 +34,7 @@ pub fn read_data<K: KeyOrder, S: Store>(
     ensures found { IfOk result (λ block. Finds (S.facts store.old) (S.facts store.new) name.now (λ file. HasBlock K.cmp file handle block.pairs)) }
     ensures short { OnOk result (handle.size ≤ 2 ^ 30) }
     ensures stood { OnOk result ((S.facts store.new).failures ≡ (S.facts store.old).failures) }
+    ensures noted { IfErr result (λ e. IsNoted name.now e (S.told store.new)) }
     ensures refused { IfErr result (λ e. Refuses e (S.facts store.old) (S.facts store.new) name.now
         (λ file. IsDamaged K.cmp file handle) (λ file. IsUnsupported file handle)) }
 {
@@ -59,6 +60,7 @@ pub fn read_within<K: KeyOrder, S: Store>(
     ensures found { IfOk result (λ block. Finds (S.facts store.old) (S.facts store.new) name.now (λ file. HasBlock K.cmp file place.now.handle block.pairs)) }
     ensures within { IfOk result (λ block. AreWithin K.cmp (option_copied floor.entry) place.now.key block.pairs) }
     ensures stood { OnOk result ((S.facts store.new).failures ≡ (S.facts store.old).failures) }
+    ensures noted { IfErr result (λ e. IsNoted name.now e (S.told store.new)) }
     ensures refused { IfErr result (λ e. Refuses e (S.facts store.old) (S.facts store.new) name.now
         (λ file. ((pairs : List Pair) → HasBlock K.cmp file place.now.handle pairs → AreWithin K.cmp (option_copied floor.entry) place.now.key pairs → ⊥)
         × (IsUnsupported file place.now.handle → ⊥)) (λ file. IsUnsupported file place.now.handle)) }
@@ -105,6 +107,7 @@ pub fn read_all<K: KeyOrder, S: Store>(
     ensures found { IfOk result (λ found. Answers (S.facts store.old) (S.facts store.new) name.now
         (λ file. (blocks : List (List Pair)) → AreData K.cmp file places.now blocks → pairs_of found.items ≡ flat_map (λ (pairs : List Pair). pairs) blocks)) }
     ensures stood { OnOk result ((S.facts store.new).failures ≡ (S.facts store.old).failures) }
+    ensures noted { IfErr result (λ e. IsNoted name.now e (S.told store.new)) }
     ensures refused { IfErr result (λ e. Refuses e (S.facts store.old) (S.facts store.new) name.now
         (λ file. IsOfOne (IsDamaged K.cmp file) places.now) (λ file. IsOfOne (IsUnsupported file) places.now)) }
 {

@@ -2,7 +2,7 @@
 
 ghost use Rattle.std.specs.Prelude.{◌≡◌, ◌+◌, ℕ, List, length, IfOk, IfErr, OnOk};
 ghost use Rattle.table.specs.Frame.{HasFooter};
-ghost use Rattle.table.specs.Reading.{Reads, Finds, Refuses};
+ghost use Rattle.table.specs.Reading.{Reads, Finds, Refuses, IsNoted};
 ghost use Rattle.table.specs.declared.handle.Handle.{Handle as HandleValue};
 
 use crate::footer::{FOOTER_LENGTH, Footer, read_footer};
@@ -26,6 +26,7 @@ pub fn read_ends<S: Store>(alloc: Global, store: &mut S, name: &str) -> Result<E
     ensures found { IfOk result (λ ends. Finds (S.facts store.old) (S.facts store.new) name.now (λ file. HasFooter file ends.before ends.footer.metaindex ends.footer.index)) }
     ensures before { IfOk result (λ ends. Finds (S.facts store.old) (S.facts store.new) name.now (λ file. ends.before + 48 ≡ length file)) }
     ensures stood { OnOk result ((S.facts store.new).failures ≡ (S.facts store.old).failures) }
+    ensures noted { IfErr result (λ e. IsNoted name.now e (S.told store.new)) }
     ensures refused { IfErr result (λ e. Refuses e (S.facts store.old) (S.facts store.new) name.now
         (λ file. (before : ℕ) (metaindex index : HandleValue) → HasFooter file before metaindex index → ⊥) (λ file. ⊥)) }
 {

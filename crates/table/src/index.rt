@@ -6,7 +6,7 @@ ghost use Rattle.block.specs.Block.{IsBlock, Refuses as RefusesBlock};
 ghost use Rattle.ikey.specs.Below.{IsBelowInternal};
 ghost use Rattle.ikey.specs.Entries.{Pair};
 ghost use Rattle.table.specs.Frame.{ArePlaces, HasIndex};
-ghost use Rattle.table.specs.Reading.{Reads, Finds, Refuses};
+ghost use Rattle.table.specs.Reading.{Reads, Finds, Refuses, IsNoted};
 ghost use Rattle.table.specs.Refusals.{IsUnsupported};
 ghost use Rattle.table.specs.declared.handle.Place.{Place as PlaceValue};
 
@@ -63,6 +63,7 @@ pub fn read_places<K: KeyOrder, S: Store>(
     ensures reads { Reads (S.facts store.old) (S.facts store.new) }
     ensures found { IfOk result (λ places. Finds (S.facts store.old) (S.facts store.new) name.now (λ file. HasIndex K.cmp file index places.items × (IsUnsupported file index → ⊥))) }
     ensures stood { OnOk result ((S.facts store.new).failures ≡ (S.facts store.old).failures) }
+    ensures noted { IfErr result (λ e. IsNoted name.now e (S.told store.new)) }
     ensures refused { IfErr result (λ e. Refuses e (S.facts store.old) (S.facts store.new) name.now
         (λ file. ((places : List PlaceValue) → HasIndex K.cmp file index places → ⊥) × (IsUnsupported file index → ⊥)) (λ file. IsUnsupported file index)) }
 {

@@ -7,7 +7,7 @@ ghost use Rattle.filter.specs.Blocks.{IsFilterBlock};
 ghost use Rattle.ikey.specs.Below.{IsBelowPlain};
 ghost use Rattle.ikey.specs.Entries.{Pair};
 ghost use Rattle.table.specs.Frame.{NamesFilter, HasMetaindex, HasFilter};
-ghost use Rattle.table.specs.Reading.{Reads, Finds, Refuses};
+ghost use Rattle.table.specs.Reading.{Reads, Finds, Refuses, IsNoted};
 ghost use Rattle.table.specs.Refusals.{IsUnsupported, IsFilterUnsupported};
 ghost use Rattle.table.specs.Stored.{IsStored};
 ghost use Rattle.table.specs.Views.{pairs_of};
@@ -67,6 +67,7 @@ fn read_metaindex<S: Store>(
     ensures reads { Reads (S.facts store.old) (S.facts store.new) }
     ensures found { IfOk result (λ filter. Finds (S.facts store.old) (S.facts store.new) name.now (λ file. HasMetaindex file metaindex filter × (IsUnsupported file metaindex → ⊥))) }
     ensures stood { OnOk result ((S.facts store.new).failures ≡ (S.facts store.old).failures) }
+    ensures noted { IfErr result (λ e. IsNoted name.now e (S.told store.new)) }
     ensures refused { IfErr result (λ e. Refuses e (S.facts store.old) (S.facts store.new) name.now
         (λ file. ((filter : Option HandleValue) → HasMetaindex file metaindex filter → ⊥) × (IsUnsupported file metaindex → ⊥))
         (λ file. IsUnsupported file metaindex)) }
@@ -89,6 +90,7 @@ fn read_filter_block<S: Store>(
     ensures reads { Reads (S.facts store.old) (S.facts store.new) }
     ensures found { IfOk result (λ filter. Finds (S.facts store.old) (S.facts store.new) name.now (λ file. IsStored file handle filter × IsFilterBlock filter × (IsUnsupported file handle → ⊥))) }
     ensures stood { OnOk result ((S.facts store.new).failures ≡ (S.facts store.old).failures) }
+    ensures noted { IfErr result (λ e. IsNoted name.now e (S.told store.new)) }
     ensures refused { IfErr result (λ e. Refuses e (S.facts store.old) (S.facts store.new) name.now
         (λ file. ((filter : List ℕ) → IsStored file handle filter × IsFilterBlock filter → ⊥) × (IsUnsupported file handle → ⊥))
         (λ file. IsUnsupported file handle)) }
@@ -113,6 +115,7 @@ pub fn read_filter<S: Store>(
     ensures found { IfOk result (λ found. Finds (S.facts store.old) (S.facts store.new) name.now
         (λ file. HasMetaindex file metaindex found.0 × HasFilter file found.0 found.1 × (IsFilterUnsupported file metaindex → ⊥))) }
     ensures stood { OnOk result ((S.facts store.new).failures ≡ (S.facts store.old).failures) }
+    ensures noted { IfErr result (λ e. IsNoted name.now e (S.told store.new)) }
     ensures refused { IfErr result (λ e. Refuses e (S.facts store.old) (S.facts store.new) name.now
         (λ file. ((handle : Option HandleValue) (filter : Option (List ℕ)) → HasMetaindex file metaindex handle × HasFilter file handle filter → ⊥)
         × (IsFilterUnsupported file metaindex → ⊥)) (λ file. IsFilterUnsupported file metaindex)) }

@@ -1,9 +1,11 @@
-//! Why a table is refused, noted beside the refusal, with which nothing of the store changes. For the eye alone: what is found is looked
-//! for once more where it is refused, and nowhere else.
+//! Why a table is refused, noted beside the refusal, with which nothing of its files changes. What is found is looked for once
+//! more where it is refused, and nowhere else.
 
-ghost use Rattle.std.specs.Prelude.{◌≡◌};
+ghost use Rattle.std.specs.Prelude.{◌≡◌, Some, None};
 ghost use Rattle.coding.specs.declared.error.DbError.TheVariants.{Corrupt};
 ghost use Rattle.coding.specs.declared.error.FileKind.TheVariants as file_kind;
+ghost use Rattle.store.specs.Troubles.{NamesFile};
+ghost use Rattle.store.specs.declared.error.StoreError.TheVariants.{Missing};
 ghost use Rattle.table.specs.Reading.{refusal_of, table_refusal};
 
 use crate::footer::{FOOTER_LENGTH, magic_in, magic_number};
@@ -18,6 +20,7 @@ use store::{Store, StoreError, Trouble, Why};
 pub fn refuse_call<S: Store>(store: &mut S, name: &str, e: StoreError) -> DbError
     ensures same { S.facts store.new ≡ S.facts store.old }
     ensures value { result ≡ refusal_of e }
+    ensures told { e ≡ Missing → NamesFile name.now (S.told store.new) }
 {
     if e == StoreError::Missing {
         store.note(Trouble::of(Why::Missing, name));
@@ -36,6 +39,8 @@ pub fn refuse_cut<S: Store>(
 ) -> DbError
     ensures same { S.facts store.new ≡ S.facts store.old }
     ensures value { result ≡ Corrupt file_kind.Table Damage.Length }
+    ensures names { NamesFile name.now (S.told store.new) }
+    ensures at { (S.told store.new).at ≡ Some at }
 {
     let trouble = Trouble::of(Why::Cut, name).at(at);
     store.note(trouble.found(found as u64, wanted as u64));
@@ -52,12 +57,17 @@ pub fn refuse_length<S: Store>(
 ) -> DbError
     ensures same { S.facts store.new ≡ S.facts store.old }
     ensures value { result ≡ table_refusal e }
+    ensures names { NamesFile name.now (S.told store.new) }
+    ensures at { (S.told store.new).at ≡ Some handle.offset }
 {
     store.note(length_trouble(handle, len, e, name));
     table_refusal(e)
 }
 
-fn length_trouble(handle: Handle, len: u64, e: ReadError, name: &str) -> Trouble {
+fn length_trouble(handle: Handle, len: u64, e: ReadError, name: &str) -> Trouble
+    ensures names { NamesFile name.now result }
+    ensures at { result.at ≡ Some handle.offset }
+{
     match e {
         ReadError::Unsupported(_) => Trouble::of(Why::BlockSize, name)
             .at(handle.offset)
@@ -81,12 +91,16 @@ pub fn refuse_stored<S: Store>(
 ) -> DbError
     ensures same { S.facts store.new ≡ S.facts store.old }
     ensures value { result ≡ table_refusal e }
+    ensures names { NamesFile name.now (S.told store.new) }
+    ensures at { (S.told store.new).at ≡ Some at }
 {
     store.note(stored_trouble(bytes, e, name).at(at));
     table_refusal(e)
 }
 
-fn stored_trouble(bytes: &[u8], e: ReadError, name: &str) -> Trouble {
+fn stored_trouble(bytes: &[u8], e: ReadError, name: &str) -> Trouble
+    ensures names { NamesFile name.now result }
+{
     let Some(sums) = sums_of(bytes) else {
         return Trouble::of(Why::BlockParts, name);
     };
@@ -105,6 +119,8 @@ fn stored_trouble(bytes: &[u8], e: ReadError, name: &str) -> Trouble {
 pub fn refuse_block<S: Store>(store: &mut S, name: &str, at: u64, e: ReadError) -> DbError
     ensures same { S.facts store.new ≡ S.facts store.old }
     ensures value { result ≡ table_refusal e }
+    ensures names { NamesFile name.now (S.told store.new) }
+    ensures at { (S.told store.new).at ≡ Some at }
 {
     store.note(Trouble::of(why_of(e), name).at(at));
     table_refusal(e)
@@ -125,6 +141,8 @@ fn why_of(e: ReadError) -> Why {
 pub fn refuse_filter<S: Store>(store: &mut S, name: &str, at: u64, e: ReadError) -> DbError
     ensures same { S.facts store.new ≡ S.facts store.old }
     ensures value { result ≡ table_refusal e }
+    ensures names { NamesFile name.now (S.told store.new) }
+    ensures at { (S.told store.new).at ≡ Some at }
 {
     store.note(Trouble::of(Why::Filter, name).at(at));
     table_refusal(e)
@@ -134,6 +152,7 @@ pub fn refuse_filter<S: Store>(store: &mut S, name: &str, at: u64, e: ReadError)
 pub fn refuse_short<S: Store>(store: &mut S, name: &str, len: u64) -> DbError
     ensures same { S.facts store.new ≡ S.facts store.old }
     ensures value { result ≡ Corrupt file_kind.Table Damage.Length }
+    ensures names { NamesFile name.now (S.told store.new) }
 {
     store.note(Trouble::of(Why::FooterLength, name).found(len, FOOTER_LENGTH as u64));
     DbError::Corrupt(FileKind::Table, Damage::Length)
@@ -149,12 +168,16 @@ pub fn refuse_footer<S: Store>(
 ) -> DbError
     ensures same { S.facts store.new ≡ S.facts store.old }
     ensures value { result ≡ Corrupt file_kind.Table what }
+    ensures names { NamesFile name.now (S.told store.new) }
+    ensures at { (S.told store.new).at ≡ Some at }
 {
     store.note(footer_trouble(bytes, what, name).at(at));
     DbError::Corrupt(FileKind::Table, what)
 }
 
-fn footer_trouble(bytes: &[u8], what: Damage, name: &str) -> Trouble {
+fn footer_trouble(bytes: &[u8], what: Damage, name: &str) -> Trouble
+    ensures names { NamesFile name.now result }
+{
     match what {
         Damage::Kind => Trouble::of(Why::Magic, name).found(magic_in(bytes), magic_number()),
         Damage::Padding => Trouble::of(Why::FooterPadding, name),
@@ -164,7 +187,9 @@ fn footer_trouble(bytes: &[u8], what: Damage, name: &str) -> Trouble {
 
 /// Notes what is wrong with the parts of a table: with its blocks together, or with the keys of the block at a place.
 pub fn note_parts<S: Store>(store: &mut S, name: &str, at: Option<u64>, why: Why)
-    ensures { S.facts store.new ≡ S.facts store.old }
+    ensures same { S.facts store.new ≡ S.facts store.old }
+    ensures names { NamesFile name.now (S.told store.new) }
+    ensures at { (S.told store.new).at ≡ at }
 {
     store.note(Trouble {
         at,

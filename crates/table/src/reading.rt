@@ -3,7 +3,7 @@
 ghost use Rattle.std.specs.Prelude.{◌≡◌, ◌<◌, ◌≤◌, ◌+◌, ◌^◌, ℕ, List, length, take, drop, IfOk, IfErr, OnOk, MatchBool, IsTrue};
 ghost use Rattle.block.specs.Block.{Refuses as RefusesBlock};
 ghost use Rattle.table.specs.Refusals.{IsUnsupported};
-ghost use Rattle.table.specs.Reading.{Reads, Finds, Refuses, refusal_of, table_refusal};
+ghost use Rattle.table.specs.Reading.{Reads, Finds, Refuses, refusal_of, table_refusal, IsNoted};
 ghost use Rattle.table.specs.Stored.{IsStored, end_of};
 
 use crate::handle::Handle;
@@ -41,6 +41,7 @@ pub fn file_length<S: Store>(store: &mut S, name: &str) -> Result<u64, DbError>
     ensures reads { Reads (S.facts store.old) (S.facts store.new) }
     ensures found { IfOk result (λ len. Finds (S.facts store.old) (S.facts store.new) name.now (λ file. len ≡ length file)) }
     ensures stood { OnOk result ((S.facts store.new).failures ≡ (S.facts store.old).failures) }
+    ensures noted { IfErr result (λ e. IsNoted name.now e (S.told store.new)) }
     ensures refused { IfErr result (λ e. Refuses e (S.facts store.old) (S.facts store.new) name.now (λ file. ⊥) (λ file. ⊥)) }
 {
     match store.len(name) {
@@ -62,6 +63,7 @@ pub fn read_part<S: Store>(
     ensures length { IfOk result (λ bytes. length bytes.items ≡ count) }
     ensures found { IfOk result (λ bytes. Finds (S.facts store.old) (S.facts store.new) name.now (λ file. bytes.items ≡ take count (drop offset file))) }
     ensures stood { OnOk result ((S.facts store.new).failures ≡ (S.facts store.old).failures) }
+    ensures noted { IfErr result (λ e. IsNoted name.now e (S.told store.new)) }
     ensures refused { IfErr result (λ e. Refuses e (S.facts store.old) (S.facts store.new) name.now (λ file. length file < offset + count) (λ file. ⊥)) }
 {
     match store.read_into(alloc, name, offset, count, room) {
@@ -92,6 +94,7 @@ pub fn read_stored<S: Store>(
     ensures short { IfOk result (λ block. length block.items ≤ 2 ^ 30) }
     ensures size { OnOk result (handle.size ≤ 2 ^ 30) }
     ensures stood { OnOk result ((S.facts store.new).failures ≡ (S.facts store.old).failures) }
+    ensures noted { IfErr result (λ e. IsNoted name.now e (S.told store.new)) }
     ensures refused { IfErr result (λ e. Refuses e (S.facts store.old) (S.facts store.new) name.now
         (λ file. ((block : List ℕ) → IsStored file handle block → ⊥) × (IsUnsupported file handle → ⊥)) (λ file. IsUnsupported file handle)) }
 {
@@ -116,6 +119,7 @@ fn known_length<S: Store>(
     ensures count { IfOk result (λ count. count ≡ handle.size + 5) }
     ensures short { OnOk result (handle.size ≤ 2 ^ 30) }
     ensures stood { OnOk result ((S.facts store.new).failures ≡ (S.facts store.old).failures) }
+    ensures noted { IfErr result (λ e. IsNoted name.now e (S.told store.new)) }
     ensures refused { IfErr result (λ e. Refuses e (S.facts store.old) (S.facts store.new) name.now
         (λ file. length file < end_of handle) (λ file. (end_of handle ≤ length file) × (2 ^ 30 < handle.size))) }
 {

@@ -4,7 +4,7 @@ ghost use Rattle.std.specs.Prelude.{◌≡◌, ◌<◌, ◌≤◌, ◌+◌, ℕ,
 ghost use Rattle.std.specs.List.{flat_map};
 ghost use Rattle.ikey.specs.Below.{IsBelowInternal};
 ghost use Rattle.ikey.specs.Entries.{Pair};
-ghost use Rattle.table.specs.Reading.{Reads, Finds, Answers, Refuses};
+ghost use Rattle.table.specs.Reading.{Reads, Finds, Answers, Refuses, IsNoted};
 ghost use Rattle.table.specs.Refusals.{IsDamaged, IsUnsupported, IsOfOne};
 ghost use Rattle.table.specs.Seeking.{IsFirstOf, found_pair};
 ghost use Rattle.table.specs.Table.{HasBlock, AreData};
@@ -34,6 +34,7 @@ pub fn seek_from<K: KeyOrder, S: Store>(
         (λ file. (blocks : List (List Pair)) → AreData K.cmp file places.now blocks
         → IsFirstOf (IsBelowInternal K.cmp) target.now (flat_map (λ (pairs : List Pair). pairs) blocks) (found_pair found))) }
     ensures stood { OnOk result ((S.facts store.new).failures ≡ (S.facts store.old).failures) }
+    ensures noted { IfErr result (λ e. IsNoted name.now e (S.told store.new)) }
     ensures refused { IfErr result (λ e. Refuses e (S.facts store.old) (S.facts store.new) name.now
         (λ file. IsOfOne (IsDamaged K.cmp file) places.now) (λ file. IsOfOne (IsUnsupported file) places.now)) }
 {

@@ -56,7 +56,7 @@ impl<K: KeyOrder> Table<K> {
     ghost use Rattle.table.specs.Frame.{Frame, IsFrame, IsOversized, TableAdmits, TableDenies, AnyLong, handles};
     ghost use Rattle.table.specs.Blocks.{IsCheckedAt, IsWrongAt};
     ghost use Rattle.table.specs.Intact.{IsIntact, IsTornAt, IsUnsupportedAt};
-    ghost use Rattle.table.specs.Reading.{Reads, Finds, Answers, Refuses};
+    ghost use Rattle.table.specs.Reading.{Reads, Finds, Answers, Refuses, IsNoted};
     ghost use Rattle.table.specs.Refusals.{IsDamaged, IsUnsupported, IsOfOne, IsOfOneFrom, IsFirstPlace, IsWrong, AreEmpty, IsFrameDamaged, IsFrameUnsupported};
     ghost use Rattle.ikey.specs.Entries.{InternalEntry, Pair};
     ghost use Rattle.table.specs.Table.{HasBlock, IsTable, ArePairs};
@@ -73,6 +73,7 @@ impl<K: KeyOrder> Table<K> {
         ensures before { IfOk result (λ table. Finds (S.facts store.old) (S.facts store.new) name.now (λ file. table.before + 48 ≡ length file)) }
         ensures supported { OnOk result (Answers (S.facts store.old) (S.facts store.new) name.now (λ file. IsFrameUnsupported file → ⊥)) }
         ensures stood { OnOk result ((S.facts store.new).failures ≡ (S.facts store.old).failures) }
+        ensures noted { IfErr result (λ e. IsNoted name.now e (S.told store.new)) }
         ensures told { IfErr result (λ e. Refuses e (S.facts store.old) (S.facts store.new) name.now (IsFrameDamaged K.cmp) IsFrameUnsupported) }
         // A frame is refused only where one of its blocks is too long.
         ensures refused { IfErr result (λ e. Refuses e (S.facts store.old) (S.facts store.new) name.now
@@ -137,6 +138,7 @@ impl<K: KeyOrder> Table<K> {
         ensures found { IfOk result (λ block. Finds (S.facts store.old) (S.facts store.new) self.now.name
             (λ file. IsIntact K.cmp file self.now.frame.places index block.pairs)) }
         ensures stood { OnOk result ((S.facts store.new).failures ≡ (S.facts store.old).failures) }
+        ensures noted { IfErr result (λ e. index < length self.now.frame.places → IsNoted self.now.name e (S.told store.new)) }
         ensures refused { IfErr result (λ e. Refuses e (S.facts store.old) (S.facts store.new) self.now.name
             (λ file. IsTornAt K.cmp file self.now.frame.places index) (λ file. IsUnsupportedAt file self.now.frame.places index)) }
     {
@@ -157,6 +159,7 @@ impl<K: KeyOrder> Table<K> {
         ensures found { IfOk result (λ found. Answers (S.facts store.old) (S.facts store.new) self.now.name
             (λ file. (entries : List InternalEntry) → IsFrame K.cmp file self.now.frame → IsTable K.cmp file entries → ArePairs (pairs_of found.items) entries)) }
         ensures stood { OnOk result ((S.facts store.new).failures ≡ (S.facts store.old).failures) }
+        ensures noted { IfErr result (λ e. IsNoted self.now.name e (S.told store.new)) }
         ensures told { IfErr result (λ e. Refuses e (S.facts store.old) (S.facts store.new) self.now.name
             (λ file. IsOfOne (IsDamaged K.cmp file) self.now.frame.places) (λ file. IsOfOne (IsUnsupported file) self.now.frame.places)) }
         // A table is refused only where one of its blocks is too long.
@@ -182,6 +185,7 @@ impl<K: KeyOrder> Table<K> {
         ensures found { IfOk result (λ found. Answers (S.facts store.old) (S.facts store.new) self.now.name
             (λ file. IsFrame K.cmp file self.now.frame → (entries : List InternalEntry) × IsTable K.cmp file entries × ArePairs (pairs_of found.items) entries)) }
         ensures stood { OnOk result ((S.facts store.new).failures ≡ (S.facts store.old).failures) }
+        ensures noted { IfErr result (λ e. IsNoted self.now.name e (S.told store.new)) }
         ensures told { IfErr result (λ e. Refuses e (S.facts store.old) (S.facts store.new) self.now.name
             (λ file. IsWrong K.cmp file self.now.frame.filter None self.now.frame.places ⊎ AreEmpty K.cmp file self.now.frame.places)
             (λ file. IsOfOne (IsUnsupported file) self.now.frame.places)) }
@@ -220,6 +224,7 @@ impl<K: KeyOrder> Table<K> {
         ensures found { IfOk result (λ found. Finds (S.facts store.old) (S.facts store.new) self.now.name
             (λ file. IsCheckedAt K.cmp file self.now.frame index (pairs_of found.items))) }
         ensures stood { OnOk result ((S.facts store.new).failures ≡ (S.facts store.old).failures) }
+        ensures noted { IfErr result (λ e. index < length self.now.frame.places → IsNoted self.now.name e (S.told store.new)) }
         ensures refused { IfErr result (λ e. Refuses e (S.facts store.old) (S.facts store.new) self.now.name
             (λ file. IsWrongAt K.cmp file self.now.frame index) (λ file. IsUnsupportedAt file self.now.frame.places index)) }
     {
@@ -255,6 +260,7 @@ impl<K: KeyOrder> Table<K> {
             (λ file. (entries : List InternalEntry) (key : Key) → IsFrame K.cmp file self.now.frame → IsTable K.cmp file entries → IsKey target.now key
             → (at : Option InternalEntry) × IsFirstFrom K.cmp key entries at × ArePairs (pairs_found found) (entry_list at))) }
         ensures stood { OnOk result ((S.facts store.new).failures ≡ (S.facts store.old).failures) }
+        ensures noted { IfErr result (λ e. IsNoted self.now.name e (S.told store.new)) }
         ensures told { IfErr result (λ e. Refuses e (S.facts store.old) (S.facts store.new) self.now.name
             (λ file. IsOfOneFrom K.cmp target.now (IsDamaged K.cmp file) self.now.frame.places)
             (λ file. IsOfOneFrom K.cmp target.now (IsUnsupported file) self.now.frame.places)) }

@@ -1,4 +1,4 @@
-use Rattle.std.proofs.Common.{◌≡◌, ℕ, List, Some, option_copied, sym, ap, ◌∙◌, subst}
+use Rattle.std.proofs.Common.{◌≡◌, ℕ, List, option_copied, sym, ap, ◌∙◌, subst}
 use Rattle.std.specs.List.{AllByRecursion}
 use Rattle.std.proofs.lemmas.Result.{err_from_is_err_and}
 use Rattle.ikey.specs.Entries.{Pair}
@@ -25,7 +25,7 @@ returns-in_err-block-clause-refused g c =
     (λ file damaged. none_read_right cmp file filter previous place damaged) (λ file u. u) c.in_err-block.ensures.refused)
 
 pub returns-then-not-are_right-clause-refused : goal.returns-then-not-are_right-clause-refused
-returns-then-not-are_right-clause-refused g c = rw c.note_parts.ensures (λ t file there.
+returns-then-not-are_right-clause-refused g c = rw c.note_parts.ensures.same (λ t file there.
     let cmp = g.K.KeyOrder.cmp in
     let old = g.S.Store.facts c.args.store.now in
     let place = c.args.place.now in

@@ -33,7 +33,7 @@ returns-in-Err-clause-refused g c =
     c.in_ok-bytes.ensures.stood c.in_ok-bytes.ensures.found c.in-Err.ensures.refused)
 
 pub returns-then-not-begins_with_key-clause-refused : goal.returns-then-not-begins_with_key-clause-refused
-returns-then-not-begins_with_key-clause-refused g c = rw c.note_parts.ensures (λ t file there.
+returns-then-not-begins_with_key-clause-refused g c = rw c.note_parts.ensures.same (λ t file there.
     let cmp = g.K.KeyOrder.cmp in
     let floor : Option (List ℕ) = option_copied c.args.floor in
     let most : List ℕ = c.args.place.now.key in

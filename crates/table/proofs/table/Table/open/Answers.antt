@@ -67,7 +67,7 @@ returns-then-not-are_separate-clause-told g c =
     let b : Facts = g.S.Store.facts c.read_ends.new.store in
     let d : Facts = g.S.Store.facts c.read_filter.new.store in
     let z : Facts = g.S.Store.facts c.read_places.new.store in
-    rw c.note_parts.ensures
+    rw c.note_parts.ensures.same
     (known a z c.args.name.now
     (λ (file : List ℕ). HasFooter file e.before e.footer.metaindex e.footer.index × FilterHere e.footer.metaindex c.in_ok-named.named c.in_ok-named.filter file × IndexHere g.K.KeyOrder.cmp e.footer.index places file)
     (IsFrameDamaged g.K.KeyOrder.cmp)
