@@ -161,7 +161,7 @@ pub stops_each : {S K : Type 0} {g : _} (order : Order) (facts : S → Facts) (o
     → IsTrue (facts (store_of new)).faithful → last.calls ≡ (facts (store_of new)).calls → last.files ≡ (facts (store_of new)).files → (m : Machine) → Stands order facts old m
     → StopsEach order m (facts (store_of old)) last ops answers
 stops_each {S} {K} {g} order facts [] [] old new last same f calls files m s =
-    leaves_same (facts (store_of old)) last (λ files. HoldsAccepted order files m) (calls ∙ ap (λ (x : Session S K g). (facts (store_of x)).calls) (sym same)) (files ∙ ap (λ (x : Session S K g). (facts (store_of x)).files) (sym same))
+    leaves_same (facts (store_of old)) last (λ files. HoldsAccepted order files m) (calls ∙ ap (λ (x : Session S K g). (facts (store_of x)).calls) same) (files ∙ ap (λ (x : Session S K g). (facts (store_of x)).files) same)
     (held order (facts (store_of old)).files m m.in_doubt (means_over order (seen_in facts old) (ids_of old) (open_in old) m s))
 stops_each order facts (op ∷ ops) (answer ∷ answers) old new last h f calls files m s =
     let between = faithful_before order facts ops answers h.0 new h.2 f in
