@@ -166,6 +166,6 @@ stops_each {S} {K} {g} order facts [] [] old new last same f calls files m s =
 stops_each order facts (op ∷ ops) (answer ∷ answers) old new last h f calls files m s =
     let between = faithful_before order facts ops answers h.0 new h.2 f in
     let one = h.1.step.moved between m s in
-    (facts (store_of h.0), h.1.stops between m s, one.0, one.1, stops_each order facts ops answers h.0 new last h.2 f calls files one.0 one.2)
+    (facts (store_of h.0), h.1.stops between m s, (one.0, one.1, stops_each order facts ops answers h.0 new last h.2 f calls files one.0 one.2))
 stops_each order facts [] (answer ∷ answers) old new last h f calls files m s = absurd h
 stops_each order facts (op ∷ ops) [] old new last h f calls files m s = absurd h
