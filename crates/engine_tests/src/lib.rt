@@ -2,6 +2,8 @@
 #![tactic(auto)]
 
 #[cfg(test)]
+mod check_reads;
+#[cfg(test)]
 mod checks;
 #[cfg(test)]
 mod edit_keys;
