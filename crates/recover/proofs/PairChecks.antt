@@ -53,7 +53,7 @@ all_before order o files a b h g before e f i j =
     (fits_of order h.bytes a.entries last h.spelled h.largest.1) (fits_of order g.bytes b.entries first g.spelled g.smallest.1) before in
     through order o e last first f (h.largest.3 e i) middle (g.smallest.3 f j)
 
-apart_by : (order : Order) → IsTotalOrder order.cmp → (files : Files) (a b : TableContent) → HasTable order files a → HasTable order files b
+pub apart_by : (order : Order) → IsTotalOrder order.cmp → (files : Files) (a b : TableContent) → HasTable order files a → HasTable order files b
     → IsBeforeInternal order a.placed.table.largest b.placed.table.smallest ⊎ IsBeforeInternal order b.placed.table.largest a.placed.table.smallest → LieApart order a b
 apart_by order o files a b h g (inl before) = inl (all_before order o files a b h g before)
 apart_by order o files a b h g (inr before) = inr (λ e f i j. all_before order o files b a g h before f e j i)

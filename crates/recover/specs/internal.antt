@@ -2,6 +2,8 @@
 pub mod Changes
 pub mod Checks
 pub mod Laws
+pub mod Merging
 pub mod Parts
 pub mod RangeOrder
 pub mod Scan
+pub mod Walking
