@@ -34,7 +34,7 @@ use Rattle.recover.proofs.WholeTables.{never_before}
 -- ---- keys at hand
 
 -- two entries of the same keys come as those do
-same_before : (order : Order) (a b e f : Entry) → a.key ≡ e.key → a.sequence ≡ e.sequence → b.key ≡ f.key → b.sequence ≡ f.sequence → ComesBefore order a b → ComesBefore order e f
+pub same_before : (order : Order) (a b e f : Entry) → a.key ≡ e.key → a.sequence ≡ e.sequence → b.key ≡ f.key → b.sequence ≡ f.sequence → ComesBefore order a b → ComesBefore order e f
 same_before order a b e f k s l t (inl less) =
     let P : List ℕ → Type 0 = λ x. order.cmp x f.key ≡ Less in
     let Q : List ℕ → Type 0 = λ y. order.cmp a.key y ≡ Less in
@@ -456,23 +456,23 @@ module _ (order : Order) (o : IsTotalOrder order.cmp) (files : Files) (came : Li
 
 -- ---- a lane is put
 
-set_same : {A : Type 0} (xs : List A) (n : ℕ) (x : A) → n < length xs → slice_get (slice_set xs n x) n ≡ Some x
+pub set_same : {A : Type 0} (xs : List A) (n : ℕ) (x : A) → n < length xs → slice_get (slice_set xs n x) n ≡ Some x
 set_same [] n x h = absurd (omega (arith, h))
 set_same (y ∷ xs) zero x h = refl
 set_same (y ∷ xs) (suc n) x h = set_same xs n x (omega (arith, h))
 
-set_other : {A : Type 0} (xs : List A) (n i : ℕ) (x : A) → (i ≡ n → ⊥) → slice_get (slice_set xs n x) i ≡ slice_get xs i
+pub set_other : {A : Type 0} (xs : List A) (n i : ℕ) (x : A) → (i ≡ n → ⊥) → slice_get (slice_set xs n x) i ≡ slice_get xs i
 set_other [] n i x h = refl
 set_other (y ∷ xs) zero zero x h = absurd (h refl)
 set_other (y ∷ xs) zero (suc i) x h = refl
 set_other (y ∷ xs) (suc n) zero x h = refl
 set_other (y ∷ xs) (suc n) (suc i) x h = set_other xs n i x (λ e. h (ap suc e))
 
-behind_same : {A : Type 0} (xs : List A) (x : A) → slice_get (xs ++ x ∷ []) (length xs) ≡ Some x
+pub behind_same : {A : Type 0} (xs : List A) (x : A) → slice_get (xs ++ x ∷ []) (length xs) ≡ Some x
 behind_same [] x = refl
 behind_same (y ∷ xs) x = behind_same xs x
 
-behind_other : {A : Type 0} (xs : List A) (x : A) (i : ℕ) → (i ≡ length xs → ⊥) → slice_get (xs ++ x ∷ []) i ≡ slice_get xs i
+pub behind_other : {A : Type 0} (xs : List A) (x : A) (i : ℕ) → (i ≡ length xs → ⊥) → slice_get (xs ++ x ∷ []) i ≡ slice_get xs i
 behind_other [] x zero h = absurd (h refl)
 behind_other [] x (suc i) h = refl
 behind_other (y ∷ xs) x zero h = refl

@@ -77,7 +77,7 @@ told_file order e a b c placed name text h k same named r =
 
 -- ---- several
 
-any_at : (order : Order) (files : Files) (tables : List PlacedTable) (n : ℕ) (d : PlacedTable) → n < length tables → IsUnsupportedFile order files (get_or tables n d) → AnyIsUnsupported order files tables
+pub any_at : (order : Order) (files : Files) (tables : List PlacedTable) (n : ℕ) (d : PlacedTable) → n < length tables → IsUnsupportedFile order files (get_or tables n d) → AnyIsUnsupported order files tables
 any_at order files [] n d p u = absurd (omega (arith, p))
 any_at order files (t ∷ tables) zero d p u = inl u
 any_at order files (t ∷ tables) (suc n) d p u = inr (any_at order files tables n d (omega (arith, p)) u)

@@ -3,6 +3,7 @@ pub mod Changes
 pub mod Checks
 pub mod Laws
 pub mod Merging
+pub mod MergeSteps
 pub mod Parts
 pub mod RangeOrder
 pub mod Scan

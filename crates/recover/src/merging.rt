@@ -1,6 +1,6 @@
 //! The tables of a directory, all in one reading: merged, their entries tell which table is older than it has to be.
 
-ghost use Rattle.std.specs.Prelude.{◌≡◌, ◌<◌, ◌+◌, true, length, IfOk, OnOk, MatchBool};
+ghost use Rattle.std.specs.Prelude.{◌≡◌, ◌<◌, ◌+◌, ℕ, true, false, Some, length, slice_get, IfOk, OnOk, MatchBool};
 ghost use Rattle.ikey.specs.Orders.{order_of};
 ghost use Rattle.recover.specs.internal.Merging.{IsNoNewer, IsHeadBefore, IsLeastOf, MayComeNext, BreaksNext, IsEnded, IsPut};
 
@@ -55,8 +55,19 @@ pub struct Merge<K: KeyOrder> {
 }
 
 impl<K: KeyOrder> Merge<K> {
+    ghost use Rattle.std.specs.Prelude.{◌≡◌, ℕ, Some, IfOk, IfErr, OnOk, IsTrue, length};
+    ghost use Rattle.ikey.specs.Orders.{order_of};
+    ghost use Rattle.recover.specs.internal.Merging.{IsLeastOf};
+    ghost use Rattle.recover.specs.internal.MergeSteps.{IsAgainst, FitsTables, IsFresh, IsMid, AreRead, RefusesMerge, CanBegin, AllBeginFrom, HasEnded, IsNext};
+    ghost use Rattle.recover.specs.internal.Parts.{IsUnchanged};
+    ghost use Rattle.recover.specs.Limits.{AnyIsUnsupported, TellsUnsupported};
+    ghost use Rattle.recover.specs.Reading.{IsStill};
+
     /// None of the tables is read yet.
-    pub fn new(alloc: Global, tables: &[PlacedTable]) -> Result<Self, AllocError> {
+    pub fn new(alloc: Global, tables: &[PlacedTable]) -> Result<Self, AllocError>
+        ensures fits { IfOk result (λ merge. FitsTables tables.now merge) }
+        ensures fresh { IfOk result (λ merge. IsFresh tables.now merge) }
+    {
         let mut begun = Vec::new(alloc);
         let mut summaries = Vec::new(alloc);
         for placed in tables {
@@ -86,7 +97,16 @@ impl<K: KeyOrder> Merge<K> {
         alloc: Global,
         store: &mut S,
         against: Against<'_>,
-    ) -> Result<(), DbError> {
+    ) -> Result<(), DbError>
+        requires sound { IsAgainst (order_of K.name K.cmp) against }
+        requires fits { FitsTables against.tables.now self.old }
+        requires mid { IsTrue (S.facts store.old).faithful → IsMid (order_of K.name K.cmp) (S.facts store.old).files against self.old }
+        ensures store { IsUnchanged (S.facts store.old) (S.facts store.new) }
+        ensures still { IsStill (S.facts store.old) (S.facts store.new) result }
+        ensures told { IfErr result (λ error. TellsUnsupported error (S.facts store.new) (AnyIsUnsupported (order_of K.name K.cmp) (S.facts store.old).files against.tables.now)) }
+        ensures refused { IfErr result (λ error. RefusesMerge error (order_of K.name K.cmp) (S.facts store.old) (S.facts store.new) against) }
+        ensures found { OnOk result (IsTrue (S.facts store.new).faithful → AreRead (order_of K.name K.cmp) (S.facts store.old).files against self.new) }
+    {
         for _ in 0..u64::MAX {
             let Some((place, smallest)) = soonest::<K>(against.tables, &self.begun) else {
                 self.run_until(alloc, store, against, None)?;
@@ -105,7 +125,20 @@ impl<K: KeyOrder> Merge<K> {
         store: &mut S,
         against: Against<'_>,
         bound: Option<InternalKey<'_>>,
-    ) -> Result<(), DbError> {
+    ) -> Result<(), DbError>
+        requires sound { IsAgainst (order_of K.name K.cmp) against }
+        requires fits { FitsTables against.tables.now self.old }
+        requires mid { IsTrue (S.facts store.old).faithful → IsMid (order_of K.name K.cmp) (S.facts store.old).files against self.old }
+        requires bound { AllBeginFrom (order_of K.name K.cmp) against.tables.now self.old.begun.items bound }
+        ensures store { IsUnchanged (S.facts store.old) (S.facts store.new) }
+        ensures still { IsStill (S.facts store.old) (S.facts store.new) result }
+        ensures told { IfErr result (λ error. TellsUnsupported error (S.facts store.new) (AnyIsUnsupported (order_of K.name K.cmp) (S.facts store.old).files against.tables.now)) }
+        ensures refused { IfErr result (λ error. RefusesMerge error (order_of K.name K.cmp) (S.facts store.old) (S.facts store.new) against) }
+        ensures fits { OnOk result (FitsTables against.tables.now self.new) }
+        ensures found { OnOk result (IsTrue (S.facts store.new).faithful → IsMid (order_of K.name K.cmp) (S.facts store.old).files against self.new) }
+        ensures begun { OnOk result (self.new.begun.items ≡ self.old.begun.items) }
+        ensures ended { OnOk result (HasEnded bound self.new.lanes.items) }
+    {
         for _ in 0..u64::MAX {
             let Some(index) = least::<K>(&self.lanes) else {
                 return Ok(());
@@ -125,7 +158,18 @@ impl<K: KeyOrder> Merge<K> {
         store: &mut S,
         against: Against<'_>,
         place: usize,
-    ) -> Result<(), DbError> {
+    ) -> Result<(), DbError>
+        requires sound { IsAgainst (order_of K.name K.cmp) against }
+        requires fits { FitsTables against.tables.now self.old }
+        requires mid { IsTrue (S.facts store.old).faithful → IsMid (order_of K.name K.cmp) (S.facts store.old).files against self.old }
+        requires waits { CanBegin against.tables.now self.old.begun.items place }
+        ensures store { IsUnchanged (S.facts store.old) (S.facts store.new) }
+        ensures still { IsStill (S.facts store.old) (S.facts store.new) result }
+        ensures told { IfErr result (λ error. TellsUnsupported error (S.facts store.new) (AnyIsUnsupported (order_of K.name K.cmp) (S.facts store.old).files against.tables.now)) }
+        ensures refused { IfErr result (λ error. RefusesMerge error (order_of K.name K.cmp) (S.facts store.old) (S.facts store.new) against) }
+        ensures fits { OnOk result (FitsTables against.tables.now self.new) }
+        ensures found { OnOk result (IsTrue (S.facts store.new).faithful → IsMid (order_of K.name K.cmp) (S.facts store.old).files against self.new) }
+    {
         let placed = &against.tables[place];
         let walk = TableWalk::<K>::begin(alloc, store, placed)?;
         let lane = Lane {
@@ -146,7 +190,20 @@ impl<K: KeyOrder> Merge<K> {
         store: &mut S,
         against: Against<'_>,
         index: usize,
-    ) -> Result<(), DbError> {
+    ) -> Result<(), DbError>
+        requires sound { IsAgainst (order_of K.name K.cmp) against }
+        requires fits { FitsTables against.tables.now self.old }
+        requires mid { IsTrue (S.facts store.old).faithful → IsMid (order_of K.name K.cmp) (S.facts store.old).files against self.old }
+        requires least { IsLeastOf (order_of K.name K.cmp) self.old.lanes.items (length self.old.lanes.items) (Some index) }
+        requires next { IsNext (order_of K.name K.cmp) against.tables.now self.old index }
+        ensures store { IsUnchanged (S.facts store.old) (S.facts store.new) }
+        ensures still { IsStill (S.facts store.old) (S.facts store.new) result }
+        ensures told { IfErr result (λ error. TellsUnsupported error (S.facts store.new) (AnyIsUnsupported (order_of K.name K.cmp) (S.facts store.old).files against.tables.now)) }
+        ensures refused { IfErr result (λ error. RefusesMerge error (order_of K.name K.cmp) (S.facts store.old) (S.facts store.new) against) }
+        ensures fits { OnOk result (FitsTables against.tables.now self.new) }
+        ensures found { OnOk result (IsTrue (S.facts store.new).faithful → IsMid (order_of K.name K.cmp) (S.facts store.old).files against self.new) }
+        ensures begun { OnOk result (self.new.begun.items ≡ self.old.begun.items) }
+    {
         let lane = &mut self.lanes[index];
         judge(alloc, store, against, &self.last, lane)?;
         set_last(&mut self.last, lane)?;

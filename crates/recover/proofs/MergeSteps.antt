@@ -1,0 +1,176 @@
+-- What the steps of a merge of tables leave.
+use Rattle.std.proofs.Common.{◌≡◌, ◌⊎◌, inl, inr, ◌<◌, ◌≤◌, ◌+◌, ℕ, zero, suc, Bool, true, false, List, [], ◌∷◌, ◌++◌, length, map, Option, Some, None, get_or, IsTrue, refl, sym, ap, ◌∙◌, subst, arith}
+use Rattle.std.proofs.lemmas.Bool.{cases_eq}
+use Rattle.std.proofs.lemmas.Option.{slice_get_within, slice_get-get_or}
+use Rattle.std.specs.Prelude.{slice_get, slice_set}
+use Rattle.std.specs.FinMap.{IsAntisymmetric}
+use Rattle.std.specs.Cmp.{IsTotalOrder}
+use Rattle.edits.specs.declared.field.PlacedTable.{PlacedTable}
+use Rattle.ikey.specs.Keys.{Key, IsKey}
+use Rattle.ikey.specs.Orders.{Order}
+use Rattle.ikey.specs.Sources.{ComesBefore}
+use Rattle.ikey.specs.Views.{Among}
+use Rattle.ikey.specs.declared.entry.Entry.{Entry}
+use Rattle.ikey.specs.declared.internal_key.InternalKey.{InternalKey}
+use Rattle.store.specs.Files.{Files, Facts}
+use Rattle.recover.specs.declared.merging.Against.{Against}
+use Rattle.recover.specs.declared.merging.Lane.{Lane}
+use Rattle.recover.specs.declared.merging.Last.{Last}
+use Rattle.recover.specs.declared.merging.Merge.{Merge}
+use Rattle.recover.specs.declared.report.TableSummary.{TableSummary}
+use Rattle.recover.specs.internal.Checks.{content_of}
+use Rattle.recover.specs.internal.Merging.{Came, IsOldEntry, IsLast, IsLane, IsDue, IsMerging, IsHeadBefore, IsLeastOf, IsPut, MayComeNext, WasMerged}
+use Rattle.recover.specs.internal.MergeSteps.{stamps, IsAgainst, FitsTables, IsFresh, IsMid, AreRead, IsWaiting, AllBeginBehind, AllBeginFrom, HasEnded, IsNext}
+use Rattle.recover.specs.internal.Parts.{IsUnchanged}
+use Rattle.recover.specs.internal.Walking.{stamp, IsHead, IsSmallest, IsPassed, Passes}
+use Rattle.recover.specs.Ranges.{HasRange, HaveRanges}
+use Rattle.recover.specs.Report.{table_summary}
+use Rattle.recover.proofs.EntryOrder.{before_trans}
+use Rattle.recover.proofs.KeyRanges.{range_at}
+use Rattle.recover.proofs.Merged.{came_of, pass_on, pass_end, table_begins, all_good, same_before, set_same, set_other}
+use Rattle.recover.proofs.MergeParts.{row_next, old_here}
+
+-- ---- one entry is passed
+
+-- a merge in its middle, of these parts
+abbrev Mid : {K : Type 0} → Order → Files → List Entry → ℕ → List PlacedTable → List (Lane K) → Last → List Bool → List TableSummary → Type 0
+Mid order files logged recorded tables lanes last begun summaries = (came : List Came) × IsMerging order files logged recorded tables lanes last begun summaries came
+
+module _ {K : Type 0} (order : Order) (o : IsTotalOrder order.cmp) (exact : IsAntisymmetric order.cmp) (files : Files) (logged : List Entry) (recorded : ℕ) (tables : List PlacedTable) (lanes new : List (Lane K)) (last next : Last) (begun : List Bool) (summaries : List TableSummary)
+    (index : ℕ) (lane moved : Lane K) (lane_is : slice_get lanes index ≡ Some lane) (stands : lane.stands ≡ true)
+    (others : (j : ℕ) → (j ≡ index → ⊥) → slice_get new j ≡ slice_get lanes j) (moved_is : slice_get new index ≡ Some moved) (place_is : moved.place ≡ lane.place) (level_is : moved.level ≡ lane.level)
+    (least : (j : ℕ) (other : Lane K) → slice_get lanes j ≡ Some other → other.stands ≡ true → IsHeadBefore order other.walk.head lane.walk.head → ⊥)
+    (next_some : next.some ≡ true) (next_user : next.head.user.items ≡ lane.walk.head.user.items) (next_sequence : next.head.sequence ≡ lane.walk.head.sequence) (next_place : next.place ≡ lane.place) (next_level : next.level ≡ lane.level)
+    (early : AllBeginBehind order tables begun (stamp lane.walk.head.user.items lane.walk.head.sequence))
+    (may : MayComeNext last lane) (old : IsOldEntry logged recorded (stamp lane.walk.head.user.items lane.walk.head.sequence)) where
+  behind : (place : ℕ) (placed : PlacedTable) (key : Key) → slice_get tables place ≡ Some placed → slice_get begun place ≡ Some false → IsKey placed.table.smallest key
+      → ComesBefore order (stamp key.user key.sequence) (stamp lane.walk.head.user.items lane.walk.head.sequence) → ⊥
+  behind place placed key at waits is before = early place key (placed, at, waits, is) before
+
+  pub step_on : moved.stands ≡ true → ((placed : PlacedTable) → slice_get tables lane.place ≡ Some placed → IsPassed order files placed true lane.walk moved.walk)
+      → Mid order files logged recorded tables lanes last begun summaries → Mid order files logged recorded tables new next begun summaries
+  step_on up goes (came, m) =
+      let l = m.lanes_are index lane lane_is stands in (
+        came_of lane l.here ∷ came,
+        pass_on order o files logged recorded tables lanes new last next begun summaries came m index lane moved lane_is stands others moved_is place_is level_is least next_some next_user next_sequence next_place next_level behind l
+            (old_here order o files logged recorded tables lanes last begun summaries came m lane l old) (row_next order o files logged recorded tables lanes last begun summaries came m lane l exact may) up (goes l.placed l.placed_is l.passed l.here l.passes),
+      )
+
+  pub step_end : moved.stands ≡ false → ((placed : PlacedTable) → slice_get tables lane.place ≡ Some placed → IsPassed order files placed false lane.walk moved.walk) → (counted : List TableSummary)
+      → ((placed : PlacedTable) → slice_get tables lane.place ≡ Some placed → slice_get counted lane.place ≡ Some (record { level = placed.level; number = placed.table.number; entries = moved.walk.passed }))
+      → ((place : ℕ) → (place ≡ lane.place → ⊥) → slice_get counted place ≡ slice_get summaries place)
+      → Mid order files logged recorded tables lanes last begun summaries → Mid order files logged recorded tables new next begun counted
+  step_end down goes counted count elsewhere (came, m) =
+      let l = m.lanes_are index lane lane_is stands in
+      let ends = goes l.placed l.placed_is l.passed l.here l.passes in
+      let e = ends.1 in
+      let here : slice_get counted lane.place ≡ Some (table_summary (content_of l.placed (l.passed ++ l.here ∷ []))) =
+      count l.placed l.placed_is ∙ (λ i. Some (record { level = l.placed.level; number = l.placed.table.number; entries = e i })) in (
+        came_of lane l.here ∷ came,
+        pass_end order o files logged recorded tables lanes new last next begun summaries came m index lane moved lane_is stands others moved_is place_is level_is least next_some next_user next_sequence next_place next_level behind l
+            (old_here order o files logged recorded tables lanes last begun summaries came m lane l old) (row_next order o files logged recorded tables lanes last begun summaries came m lane l exact may) down ends.0 counted here elsewhere,
+      )
+
+-- ---- what fits the tables
+
+pub fits_lanes : {K : Type 0} (tables : List PlacedTable) (merge new : Merge K) → ((i : ℕ) (lane : Lane K) → slice_get new.lanes.items i ≡ Some lane → lane.place < length tables)
+    → length new.begun.items ≡ length merge.begun.items → new.summaries.items ≡ merge.summaries.items → FitsTables tables merge → FitsTables tables new
+fits_lanes {K} tables merge new lanes begun summaries h =
+    let back = sym summaries in
+    record {
+      lanes = lanes;
+      begun = begun ∙ h.begun;
+      summaries = ap (λ (ss : List TableSummary). length ss) summaries ∙ h.summaries;
+      of = λ place placed at. (let r = h.of place placed at in (r.0, ap (λ (ss : List TableSummary). slice_get ss place) summaries ∙ r.1));
+    }
+
+-- one lane has moved
+pub lanes_moved : {K : Type 0} (tables : List PlacedTable) (lanes new : List (Lane K)) (index : ℕ) (lane moved : Lane K) → slice_get lanes index ≡ Some lane → slice_get new index ≡ Some moved → moved.place ≡ lane.place
+    → ((j : ℕ) → (j ≡ index → ⊥) → slice_get new j ≡ slice_get lanes j) → ((i : ℕ) (l : Lane K) → slice_get lanes i ≡ Some l → l.place < length tables) → (i : ℕ) (l : Lane K) → slice_get new i ≡ Some l → l.place < length tables
+lanes_moved tables lanes new index lane moved lane_is moved_is place others h i l at = elim (cases_eq i index) [
+  | inl same ↦ (
+    let both : Some l ≡ Some moved = sym at ∙ ap (slice_get new) same ∙ moved_is in
+    let one : l ≡ moved = cc in
+    let p : l.place ≡ lane.place = ap (λ (x : Lane _). x.place) one ∙ place in
+    let lt = h index lane lane_is in
+    omega (arith, p, lt))
+  | inr other ↦ h i l (sym (others i other) ∙ at)
+]
+
+pub lanes_put : {K : Type 0} (tables : List PlacedTable) (lanes new : List (Lane K)) (lane : Lane K) → IsPut lanes lane new → lane.place < length tables → ((i : ℕ) (l : Lane K) → slice_get lanes i ≡ Some l → l.place < length tables)
+    → (i : ℕ) (l : Lane K) → slice_get new i ≡ Some l → l.place < length tables
+lanes_put tables lanes new lane put lt h i l at = elim (cases_eq i put.0) [
+  | inl same ↦ (
+    let both : Some l ≡ Some lane = sym at ∙ ap (slice_get new) same ∙ put.1 in
+    let one : l ≡ lane = cc in
+    let p : l.place ≡ lane.place = ap (λ (x : Lane _). x.place) one in
+    omega (arith, p, lt))
+  | inr other ↦ h i l (sym (put.2 i other) ∙ at)
+]
+
+-- ---- which table is begun next
+
+pub next_of : {K : Type 0} (order : Order) → IsTotalOrder order.cmp → (tables : List PlacedTable) (begun : List Bool) (lane : Lane K) (bound : Option InternalKey) → AllBeginFrom order tables begun bound
+    → ((key : InternalKey) → bound ≡ Some key → ComesBefore order (stamp lane.walk.head.user.items lane.walk.head.sequence) (stamp key.user.now key.sequence))
+    → AllBeginBehind order tables begun (stamp lane.walk.head.user.items lane.walk.head.sequence)
+next_of order o tables begun lane None none within place key waits before = none place key waits
+next_of order o tables begun lane (Some bound) all within place key waits before =
+    all place key waits (before_trans order o (stamp key.user key.sequence) (stamp lane.walk.head.user.items lane.walk.head.sequence) (stamp bound.user.now bound.sequence) before (within bound refl))
+
+-- ---- a table is begun
+
+pub begun_mid : {K : Type 0} (order : Order) → IsTotalOrder order.cmp → (files : Files) (logged : List Entry) (recorded : ℕ) (tables : List PlacedTable) (lanes new : List (Lane K)) (last : Last) (begun : List Bool) (summaries : List TableSummary)
+    → (place : ℕ) (placed : PlacedTable) → slice_get tables place ≡ Some placed → slice_get begun place ≡ Some false → (lane : Lane K) → lane.place ≡ place → lane.level ≡ placed.level → lane.stands ≡ true
+    → ((here : Entry) × Passes order files placed lane.walk [] here × IsSmallest placed here) → IsPut lanes lane new
+    → Mid order files logged recorded tables lanes last begun summaries → Mid order files logged recorded tables new last (slice_set begun place true) summaries
+begun_mid order o files logged recorded tables lanes new last begun summaries place placed at waits lane place_is level_is up (here, passes, small) put (came, m) = (
+  came,
+  table_begins order o files logged recorded tables lanes new last begun (slice_set begun place true) summaries came m place placed at waits lane place_is level_is up here passes small
+      put.0 put.1 put.2 put.3 (set_same begun place true (slice_get_within begun place false waits)) (λ p other. set_other begun place p true other),
+)
+
+-- ---- no table was begun
+
+pub fresh_mid : {K : Type 0} (order : Order) (files : Files) (against : Against) (merge : Merge K) → IsFresh against.tables.now merge → IsMid order files against merge
+fresh_mid {K} order files against merge fresh = ([], record {
+  row = tt;
+  last_is = fresh.last;
+  old = λ c i. absurd i;
+  inside = λ c i. absurd i;
+  came_open = λ c i. absurd i;
+  lanes_are = λ i lane at st. absurd (none i lane at);
+  apart = λ i j a b x y s t e. absurd (none i a x);
+  open_are = λ i lane at st. absurd (none i lane at);
+  waits = λ place placed key at waits is some before. (let bad : false ≡ true = sym fresh.last ∙ some in cc);
+  due = λ place placed at. inl (fresh.begun place (slice_get_within against.tables.now place placed at));
+})
+  where
+    none : (i : ℕ) (lane : Lane K) → slice_get merge.lanes.items i ≡ Some lane → ⊥
+    none i lane at = let bad : None ≡ Some lane = ap (λ (ls : List (Lane K)). slice_get ls i) (sym fresh.lanes) ∙ at in cc
+
+-- ---- the end
+
+key_at_range : (order : Order) (tables : List PlacedTable) (place : ℕ) (placed : PlacedTable) → HaveRanges order tables → slice_get tables place ≡ Some placed → (key : Key) × IsKey placed.table.smallest key
+key_at_range order tables place placed ranges at = elim (range_at_get tables place ranges at) [
+  | inl one ↦ (one.0, one.1)
+  | inr two ↦ (two.0, two.2)
+]
+  where
+    range_at_get : (ts : List PlacedTable) (n : ℕ) → HaveRanges order ts → slice_get ts n ≡ Some placed → HasRange order placed.table
+    range_at_get [] n h at = let bad : None ≡ Some placed = at in absurd cc
+    range_at_get (t ∷ ts) zero h at = let same : t ≡ placed = let both : Some t ≡ Some placed = at in cc in subst (λ (p : PlacedTable). HasRange order p.table) same h.0
+    range_at_get (t ∷ ts) (suc n) h at = range_at_get ts n h.2 at
+
+-- each was begun, no lane stands: all were read
+pub mid_whole : {K : Type 0} (order : Order) → IsTotalOrder order.cmp → (files : Files) (against : Against) (merge : Merge K) → IsAgainst order against → FitsTables against.tables.now merge
+    → AllBeginFrom order against.tables.now merge.begun.items None → HasEnded None merge.lanes.items → IsMid order files against merge → AreRead order files against merge
+mid_whole {K} order o files against merge sound fits none ended (came, m) =
+    all_good order o files came m.row merge.summaries.items (stamps against.logged.now) against.recorded against.tables.now m.old (λ k placed at. done (0 + k) placed (let e : 0 + k ≡ k = omega arith in ap (slice_get against.tables.now) e ∙ at)) fits.summaries sound.levels sound.ranges
+  where
+    done : (place : ℕ) (placed : PlacedTable) → slice_get against.tables.now place ≡ Some placed
+        → (entries : List Entry) × WasMerged order files came place placed entries × (slice_get merge.summaries.items place ≡ Some (table_summary (content_of placed entries)))
+    done place placed at = elim (m.due place placed at) [
+      | inl waits ↦ (let k = key_at_range order against.tables.now place placed sound.ranges at in absurd (none place k.0 (placed, at, waits, k.1)))
+      | inr (inl (i, lane, is, st, there)) ↦ absurd (ended i lane is st)
+      | inr (inr merged) ↦ merged
+    ]
