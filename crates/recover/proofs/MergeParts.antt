@@ -110,11 +110,11 @@ module _ {K : Type 0} (order : Order) (o : IsTotalOrder order.cmp) (files : File
         b.2 (newer, subst (λ (y : ℕ). IsNoNewer y last.place lane.level lane.place) v (subst (λ (x : ℕ). IsNoNewer c.level x lane.level lane.place) p n.1))))
       g
 
-  pub misplaced : AreByLevel tables → Misplaces logged recorded last lane → (contents : List TableContent) → AreGood order files logged recorded tables contents → ⊥
-  misplaced levels (inl above) contents g = not_recorded order files logged recorded tables contents Next here_of (λ le. omega (arith, le, above, l.passes.head.1)) g
-  misplaced levels (inr (inl (s, i, key, le))) contents g =
+  pub misplaced : AreByLevel tables → (e : DbError) → Misplaces logged recorded last lane e → (contents : List TableContent) → AreGood order files logged recorded tables contents → ⊥
+  misplaced levels e (inl (is, above)) contents g = not_recorded order files logged recorded tables contents Next here_of (λ le. omega (arith, le, above, l.passes.head.1)) g
+  misplaced levels e (inr (inl (is, (s, i, key, le)))) contents g =
       not_older order files logged recorded tables contents Next s here_of i (key ∙ sym l.passes.head.0) (λ lt. omega (arith, lt, le, l.passes.head.1)) g
-  misplaced levels (inr (inr b)) contents g = broken came m.last_is m.inside l.front levels b contents g
+  misplaced levels e (inr (inr (is, b))) contents g = broken came m.last_is m.inside l.front levels b contents g
 
 -- ---- refusals
 

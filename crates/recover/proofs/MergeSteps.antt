@@ -20,7 +20,7 @@ use Rattle.recover.specs.declared.merging.Merge.{Merge}
 use Rattle.recover.specs.declared.report.TableSummary.{TableSummary}
 use Rattle.recover.specs.internal.Checks.{content_of}
 use Rattle.recover.specs.internal.Merging.{Came, IsOldEntry, IsLast, IsLane, IsDue, IsMerging, IsHeadBefore, IsLeastOf, IsPut, MayComeNext, WasMerged}
-use Rattle.recover.specs.internal.MergeSteps.{stamps, IsAgainst, FitsTables, IsFresh, IsMid, AreRead, IsWaiting, AllBeginBehind, AllBeginFrom, HasEnded, IsNext}
+use Rattle.recover.specs.internal.MergeSteps.{stamps, IsAgainst, FitsTables, IsFresh, IsMid, AreRead, AllBeginBehind, AllBeginFrom, HasEnded, IsNext}
 use Rattle.recover.specs.internal.Parts.{IsUnchanged}
 use Rattle.recover.specs.internal.Walking.{stamp, IsHead, IsSmallest, IsPassed, Passes}
 use Rattle.recover.specs.Ranges.{HasRange, HaveRanges}

@@ -103,9 +103,9 @@ impl<K: KeyOrder> Merge<K> {
         requires mid { IsTrue (S.facts store.old).faithful → IsMid (order_of K.name K.cmp) (S.facts store.old).files against self.old }
         ensures store { IsUnchanged (S.facts store.old) (S.facts store.new) }
         ensures still { IsStill (S.facts store.old) (S.facts store.new) result }
-        ensures told { IfErr result (λ error. TellsUnsupported error (S.facts store.new) (AnyIsUnsupported (order_of K.name K.cmp) (S.facts store.old).files against.tables.now)) }
-        ensures refused { IfErr result (λ error. RefusesMerge error (order_of K.name K.cmp) (S.facts store.old) (S.facts store.new) against) }
-        ensures found { OnOk result (IsTrue (S.facts store.new).faithful → AreRead (order_of K.name K.cmp) (S.facts store.old).files against self.new) }
+        ensures told { IfErr result (λ error. TellsUnsupported error (S.facts store.new) (AnyIsUnsupported (order_of K.name K.cmp) (S.facts store.old).files against.entry.tables.now)) }
+        ensures refused { IfErr result (λ error. RefusesMerge error (order_of K.name K.cmp) (S.facts store.old) (S.facts store.new) against.entry) }
+        ensures found { OnOk result (IsTrue (S.facts store.new).faithful → AreRead (order_of K.name K.cmp) (S.facts store.old).files against.entry self.new) }
     {
         for _ in 0..u64::MAX {
             let Some((place, smallest)) = soonest::<K>(against.tables, &self.begun) else {
@@ -132,10 +132,10 @@ impl<K: KeyOrder> Merge<K> {
         requires bound { AllBeginFrom (order_of K.name K.cmp) against.tables.now self.old.begun.items bound }
         ensures store { IsUnchanged (S.facts store.old) (S.facts store.new) }
         ensures still { IsStill (S.facts store.old) (S.facts store.new) result }
-        ensures told { IfErr result (λ error. TellsUnsupported error (S.facts store.new) (AnyIsUnsupported (order_of K.name K.cmp) (S.facts store.old).files against.tables.now)) }
-        ensures refused { IfErr result (λ error. RefusesMerge error (order_of K.name K.cmp) (S.facts store.old) (S.facts store.new) against) }
-        ensures fits { OnOk result (FitsTables against.tables.now self.new) }
-        ensures found { OnOk result (IsTrue (S.facts store.new).faithful → IsMid (order_of K.name K.cmp) (S.facts store.old).files against self.new) }
+        ensures told { IfErr result (λ error. TellsUnsupported error (S.facts store.new) (AnyIsUnsupported (order_of K.name K.cmp) (S.facts store.old).files against.entry.tables.now)) }
+        ensures refused { IfErr result (λ error. RefusesMerge error (order_of K.name K.cmp) (S.facts store.old) (S.facts store.new) against.entry) }
+        ensures fits { OnOk result (FitsTables against.entry.tables.now self.new) }
+        ensures found { OnOk result (IsTrue (S.facts store.new).faithful → IsMid (order_of K.name K.cmp) (S.facts store.old).files against.entry self.new) }
         ensures begun { OnOk result (self.new.begun.items ≡ self.old.begun.items) }
         ensures ended { OnOk result (HasEnded bound self.new.lanes.items) }
     {
@@ -165,10 +165,10 @@ impl<K: KeyOrder> Merge<K> {
         requires waits { CanBegin against.tables.now self.old.begun.items place }
         ensures store { IsUnchanged (S.facts store.old) (S.facts store.new) }
         ensures still { IsStill (S.facts store.old) (S.facts store.new) result }
-        ensures told { IfErr result (λ error. TellsUnsupported error (S.facts store.new) (AnyIsUnsupported (order_of K.name K.cmp) (S.facts store.old).files against.tables.now)) }
-        ensures refused { IfErr result (λ error. RefusesMerge error (order_of K.name K.cmp) (S.facts store.old) (S.facts store.new) against) }
-        ensures fits { OnOk result (FitsTables against.tables.now self.new) }
-        ensures found { OnOk result (IsTrue (S.facts store.new).faithful → IsMid (order_of K.name K.cmp) (S.facts store.old).files against self.new) }
+        ensures told { IfErr result (λ error. TellsUnsupported error (S.facts store.new) (AnyIsUnsupported (order_of K.name K.cmp) (S.facts store.old).files against.entry.tables.now)) }
+        ensures refused { IfErr result (λ error. RefusesMerge error (order_of K.name K.cmp) (S.facts store.old) (S.facts store.new) against.entry) }
+        ensures fits { OnOk result (FitsTables against.entry.tables.now self.new) }
+        ensures found { OnOk result (IsTrue (S.facts store.new).faithful → IsMid (order_of K.name K.cmp) (S.facts store.old).files against.entry self.new) }
     {
         let placed = &against.tables[place];
         let walk = TableWalk::<K>::begin(alloc, store, placed)?;
@@ -198,10 +198,10 @@ impl<K: KeyOrder> Merge<K> {
         requires next { IsNext (order_of K.name K.cmp) against.tables.now self.old index }
         ensures store { IsUnchanged (S.facts store.old) (S.facts store.new) }
         ensures still { IsStill (S.facts store.old) (S.facts store.new) result }
-        ensures told { IfErr result (λ error. TellsUnsupported error (S.facts store.new) (AnyIsUnsupported (order_of K.name K.cmp) (S.facts store.old).files against.tables.now)) }
-        ensures refused { IfErr result (λ error. RefusesMerge error (order_of K.name K.cmp) (S.facts store.old) (S.facts store.new) against) }
-        ensures fits { OnOk result (FitsTables against.tables.now self.new) }
-        ensures found { OnOk result (IsTrue (S.facts store.new).faithful → IsMid (order_of K.name K.cmp) (S.facts store.old).files against self.new) }
+        ensures told { IfErr result (λ error. TellsUnsupported error (S.facts store.new) (AnyIsUnsupported (order_of K.name K.cmp) (S.facts store.old).files against.entry.tables.now)) }
+        ensures refused { IfErr result (λ error. RefusesMerge error (order_of K.name K.cmp) (S.facts store.old) (S.facts store.new) against.entry) }
+        ensures fits { OnOk result (FitsTables against.entry.tables.now self.new) }
+        ensures found { OnOk result (IsTrue (S.facts store.new).faithful → IsMid (order_of K.name K.cmp) (S.facts store.old).files against.entry self.new) }
         ensures begun { OnOk result (self.new.begun.items ≡ self.old.begun.items) }
     {
         let lane = &mut self.lanes[index];

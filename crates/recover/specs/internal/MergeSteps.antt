@@ -2,8 +2,7 @@
 use Rattle.std.specs.Prelude.{◌≡◌, ◌<◌, ℕ, Bool, true, false, List, [], ◌∷◌, Option, Some, None, length, map, slice_get, IsTrue, Result, IfErr}
 use Rattle.coding.specs.declared.error.DbError.{DbError}
 use Rattle.edits.specs.declared.field.PlacedTable.{PlacedTable}
-use Rattle.ikey.specs.KeyViews.{key_of}
-use Rattle.ikey.specs.Keys.{Key, IsKey}
+use Rattle.ikey.specs.Keys.{Key}
 use Rattle.ikey.specs.Orders.{Order}
 use Rattle.ikey.specs.Sources.{ComesBefore}
 use Rattle.ikey.specs.declared.entry.Entry.{Entry}
@@ -15,7 +14,7 @@ use Rattle.recover.specs.declared.merging.Lane.{Lane}
 use Rattle.recover.specs.declared.merging.Merge.{Merge}
 use Rattle.recover.specs.declared.report.TableSummary.{TableSummary}
 use Rattle.recover.specs.internal.Checks.{Never, AreGood, AreOnly}
-use Rattle.recover.specs.internal.Merging.{Came, IsMerging, AreByLevel, IsLogged}
+use Rattle.recover.specs.internal.Merging.{Came, IsMerging, AreByLevel, IsLogged, DoesWait}
 use Rattle.recover.specs.internal.Parts.{IsUnchanged}
 use Rattle.recover.specs.internal.Walking.{stamp}
 use Rattle.recover.specs.Ranges.{HaveRanges}
@@ -72,21 +71,17 @@ RefusesMerge e order old new against =
 
 -- ---- which table is begun next
 
--- the table of this place waits
-abbrev pub IsWaiting : List PlacedTable → List Bool → ℕ → Key → Type 0
-IsWaiting tables begun place key = (placed : PlacedTable) × (slice_get tables place ≡ Some placed) × (slice_get begun place ≡ Some false) × IsKey placed.table.smallest key
-
--- the table of this place does
+-- the table at this place wasn't begun
 abbrev pub CanBegin : List PlacedTable → List Bool → ℕ → Type 0
 CanBegin tables begun place = (placed : PlacedTable) × (slice_get tables place ≡ Some placed) × (slice_get begun place ≡ Some false)
 
 -- none that waits begins in front of this entry
 abbrev pub AllBeginBehind : Order → List PlacedTable → List Bool → Entry → Type 0
-AllBeginBehind order tables begun entry = (place : ℕ) (key : Key) → IsWaiting tables begun place key → ComesBefore order (stamp key.user key.sequence) entry → ⊥
+AllBeginBehind order tables begun entry = (place : ℕ) (key : Key) → DoesWait tables begun place key → ComesBefore order (stamp key.user key.sequence) entry → ⊥
 
 -- nor in front of this key; where there is no key none waits
 abbrev pub AllBeginFrom : Order → List PlacedTable → List Bool → Option InternalKey → Type 0
-AllBeginFrom order tables begun None = (place : ℕ) (key : Key) → IsWaiting tables begun place key → ⊥
+AllBeginFrom order tables begun None = (place : ℕ) (key : Key) → DoesWait tables begun place key → ⊥
 AllBeginFrom order tables begun (Some key) = AllBeginBehind order tables begun (stamp key.user.now key.sequence)
 
 -- where there is no key no lane stands
