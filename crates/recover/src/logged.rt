@@ -1,5 +1,11 @@
 //! What is logged, by key, so that the oldest entry of a key is found.
 
+ghost use Rattle.std.specs.Prelude.{◌≡◌, ◌<◌, ◌≤◌, ◌+◌, ℕ, length, slice_index_or, IfOk, MatchBool};
+ghost use Rattle.std.specs.declared.cmp.Ordering.TheVariants.{Less};
+ghost use Rattle.ikey.specs.Orders.{order_of};
+ghost use Rattle.recover.specs.declared.logged.Logged.{Logged as Note};
+ghost use Rattle.recover.specs.internal.Merging.{age_cmp, AreByAge, IsLogged, IsOlderThanAll, IsNotOlder};
+
 use crate::comparing::is_less;
 use ikey::{Entry, KeyOrder};
 use std::alloc::{AllocError, Global};
@@ -16,7 +22,9 @@ pub struct Logged<'a> {
 pub fn oldest_first<'a, K: KeyOrder>(
     alloc: Global,
     entries: &'a [Entry],
-) -> Result<Vec<Logged<'a>>, AllocError> {
+) -> Result<Vec<Logged<'a>>, AllocError>
+    ensures { IfOk result (λ logged. IsLogged (order_of K.name K.cmp) entries.now logged.items) }
+{
     let mut logged = Vec::with_capacity(alloc, entries.len())?;
     for entry in entries {
         logged.push(Logged {
@@ -29,7 +37,9 @@ pub fn oldest_first<'a, K: KeyOrder>(
 }
 
 // By key, then by sequence.
-fn compare_logged<K: KeyOrder>(a: &Logged<'_>, b: &Logged<'_>) -> Ordering {
+fn compare_logged<K: KeyOrder>(a: &Logged<'_>, b: &Logged<'_>) -> Ordering
+    ensures { result ≡ age_cmp K.cmp a.now b.now }
+{
     match K::compare(a.key, b.key) {
         Ordering::Less => Ordering::Less,
         Ordering::Equal => a.sequence.cmp(&b.sequence),
@@ -38,7 +48,10 @@ fn compare_logged<K: KeyOrder>(a: &Logged<'_>, b: &Logged<'_>) -> Ordering {
 }
 
 /// Whether an entry of this key and sequence is older than all that is logged of its key: than the first of them.
-pub fn is_older<K: KeyOrder>(logged: &[Logged<'_>], key: &[u8], sequence: u64) -> bool {
+pub fn is_older<K: KeyOrder>(logged: &[Logged<'_>], key: &[u8], sequence: u64) -> bool
+    requires { AreByAge (order_of K.name K.cmp) logged.now }
+    ensures { MatchBool result (IsOlderThanAll logged.now key.now sequence) (IsNotOlder logged.now key.now sequence) }
+{
     match logged.get(first_of::<K>(logged, key)) {
         None => true,
         Some(first) => first.key != key || sequence < first.sequence,
@@ -46,7 +59,11 @@ pub fn is_older<K: KeyOrder>(logged: &[Logged<'_>], key: &[u8], sequence: u64) -
 }
 
 // The place of the first one whose key isn't before this one, or their number.
-fn first_of<K: KeyOrder>(logged: &[Logged<'_>], key: &[u8]) -> usize {
+fn first_of<K: KeyOrder>(logged: &[Logged<'_>], key: &[u8]) -> usize
+    ensures inside { result ≤ length logged.now }
+    ensures front { (i : ℕ) (d : Note) → result ≡ i + 1 → K.cmp (slice_index_or logged.now i d).key.now key.now ≡ Less }
+    ensures found { (d : Note) → result < length logged.now → K.cmp (slice_index_or logged.now result d).key.now key.now ≡ Less → ⊥ }
+{
     let mut low = 0;
     let mut high = logged.len();
     while low < high {

@@ -1,8 +1,11 @@
 //! The tables of a directory, all in one reading: merged, their entries tell which table is older than it has to be.
 
-ghost use Rattle.std.specs.Prelude.{◌≡◌, ◌<◌, ◌+◌, ℕ, true, false, Some, length, slice_get, IfOk, OnOk, MatchBool};
+ghost use Rattle.std.specs.Prelude.{◌≡◌, ◌<◌, ◌+◌, List, true, length, IfOk, IfErr, OnOk, MatchBool};
 ghost use Rattle.ikey.specs.Orders.{order_of};
+ghost use Rattle.ikey.specs.declared.entry.Entry.{Entry};
+ghost use Rattle.recover.specs.internal.Walking.{stamp};
 ghost use Rattle.recover.specs.internal.Merging.{IsNoNewer, IsHeadBefore, IsLeastOf, MayComeNext, BreaksNext, IsEnded, IsPut};
+ghost use Rattle.recover.specs.internal.Merging.{IsLogged, IsOldEntry, IsSooner, IsSoonest, IsWithin, Misplaces};
 
 use crate::comparing::is_in_front;
 use crate::logged::{Logged, is_older};
@@ -221,7 +224,10 @@ impl<K: KeyOrder> Merge<K> {
 fn soonest<'a, K: KeyOrder>(
     tables: &'a [PlacedTable],
     begun: &[bool],
-) -> Option<(usize, InternalKey<'a>)> {
+) -> Option<(usize, InternalKey<'a>)>
+    requires { length begun.now ≡ length tables.now }
+    ensures { IsSoonest (order_of K.name K.cmp) tables.now begun.now result }
+{
     let mut best: Option<(usize, InternalKey<'a>)> = None;
     for place in 0..tables.len() {
         if begun[place] {
@@ -237,7 +243,10 @@ fn soonest<'a, K: KeyOrder>(
     best
 }
 
-fn is_sooner<K: KeyOrder>(key: InternalKey<'_>, best: Option<(usize, InternalKey<'_>)>) -> bool {
+// Whether the key comes in front of that of the best one, if there is one.
+fn is_sooner<K: KeyOrder>(key: InternalKey<'_>, best: Option<(usize, InternalKey<'_>)>) -> bool
+    ensures { MatchBool result (IsSooner (order_of K.name K.cmp) key.entry best.entry) (IsSooner (order_of K.name K.cmp) key.entry best.entry → ⊥) }
+{
     match best {
         None => true,
         Some((_, other)) => { is_in_front::<K>(key.user, key.sequence, other.user, other.sequence) }
@@ -283,7 +292,10 @@ fn is_head_before<K: KeyOrder>(a: &Head, b: &Head) -> bool
     is_in_front::<K>(a.user.as_slice(), a.sequence, b.user.as_slice(), b.sequence)
 }
 
-fn is_within<K: KeyOrder>(head: &Head, bound: Option<InternalKey<'_>>) -> bool {
+// Whether the key at hand comes in front of the bound, if there is one.
+fn is_within<K: KeyOrder>(head: &Head, bound: Option<InternalKey<'_>>) -> bool
+    ensures { MatchBool result (IsWithin (order_of K.name K.cmp) head.now bound.entry) (IsWithin (order_of K.name K.cmp) head.now bound.entry → ⊥) }
+{
     match bound {
         None => true,
         Some(key) => {
@@ -338,7 +350,14 @@ fn judge<K: KeyOrder, S: Store>(
     against: Against<'_>,
     last: &Last,
     lane: &Lane<K>,
-) -> Result<(), DbError> {
+) -> Result<(), DbError>
+    ghost entries: { List Entry }
+    requires { IsLogged (order_of K.name K.cmp) entries against.logged.now }
+    ensures same { S.facts store.new ≡ S.facts store.old }
+    ensures old { OnOk result (IsOldEntry entries against.entry.recorded (stamp lane.now.walk.head.user.items lane.now.walk.head.sequence)) }
+    ensures next { OnOk result (MayComeNext last.now lane.now) }
+    ensures refused { IfErr result (λ error. Misplaces entries against.entry.recorded last.now lane.now error) }
+{
     let number = number_at(against.tables, lane.place);
     let head = &lane.walk.head;
     if head.sequence > against.recorded {

@@ -1,14 +1,23 @@
 -- What tables that are merged say of one another.
 use Rattle.std.specs.Prelude.{◌≡◌, ◌⊎◌, ◌<◌, ◌≤◌, ℕ, Bool, true, false, List, [], ◌∷◌, Option, Some, None, slice_get}
 use Rattle.std.specs.List.{AllByRecursion}
+use Rattle.std.specs.Ordering.{nat_cmp, then_cmp, on}
+use Rattle.std.specs.declared.cmp.Ordering.{Ordering}
 use Rattle.std.specs.declared.cmp.Ordering.TheVariants.{Less}
+use Rattle.coding.specs.declared.error.DbError.{DbError}
+use Rattle.coding.specs.declared.error.DbError.TheVariants.{Corrupt}
+use Rattle.coding.specs.declared.error.Damage.TheVariants as damage
+use Rattle.coding.specs.declared.error.FileKind.TheVariants as file
 use Rattle.edits.specs.declared.field.PlacedTable.{PlacedTable}
 use Rattle.ikey.specs.Keys.{Key, IsKey}
+use Rattle.ikey.specs.KeyViews.{key_of}
 use Rattle.ikey.specs.Orders.{Order}
 use Rattle.ikey.specs.Sources.{ComesBefore}
 use Rattle.ikey.specs.declared.entry.Entry.{Entry}
+use Rattle.ikey.specs.declared.internal_key.InternalKey.{InternalKey}
 use Rattle.ikey.specs.Views.{Among}
 use Rattle.store.specs.Files.{Files}
+use Rattle.recover.specs.declared.logged.Logged.{Logged}
 use Rattle.recover.specs.declared.merging.Lane.{Lane}
 use Rattle.recover.specs.declared.merging.Last.{Last}
 use Rattle.recover.specs.declared.report.TableSummary.{TableSummary}
@@ -152,3 +161,83 @@ abbrev pub IsPut : {K : Type 0} → List (Lane K) → Lane K → List (Lane K) �
 IsPut {K} lanes lane new =
     (index : ℕ) × (slice_get new index ≡ Some lane) × ((j : ℕ) → (j ≡ index → ⊥) → slice_get new j ≡ slice_get lanes j)
     × ((old : Lane K) → slice_get lanes index ≡ Some old → old.stands ≡ true → ⊥)
+
+-- ---- what is logged
+
+-- by key, then by sequence
+abbrev pub age_cmp : (List ℕ → List ℕ → Ordering) → Logged → Logged → Ordering
+age_cmp cmp = then_cmp (on (λ (l : Logged). l.key.now) cmp) (on (λ (l : Logged). l.sequence) nat_cmp)
+
+-- of each two the one in front has the lower key, or the same one and no greater sequence
+abbrev pub AreByAge : Order → List Logged → Type 0
+AreByAge order logged = (i j : ℕ) (a b : Logged) → i < j → slice_get logged i ≡ Some a → slice_get logged j ≡ Some b
+    → (order.cmp a.key.now b.key.now ≡ Less) ⊎ ((a.key.now ≡ b.key.now) × (a.sequence ≤ b.sequence))
+
+-- the key and the sequence are those of the entry
+abbrev pub IsNoteOf : Entry → Logged → Type 0
+IsNoteOf entry note = (note.key.now ≡ entry.key) × (note.sequence ≡ entry.sequence)
+
+-- of each of the entries, in their order
+abbrev pub AreNotesOf : List Entry → List Logged → Type 0
+AreNotesOf [] [] = Unit {0}
+AreNotesOf [] (note ∷ notes) = ⊥
+AreNotesOf (entry ∷ entries) [] = ⊥
+AreNotesOf (entry ∷ entries) (note ∷ notes) = IsNoteOf entry note × AreNotesOf entries notes
+
+-- what is logged, by key, the older of one key first
+pub record IsLogged (order : Order) (entries : List Entry) (logged : List Logged) : Type 0 where
+  pub sorted : AreByAge order logged
+  pub all : (entry : Entry) → Among entries entry → (i : ℕ) × (note : Logged) × (slice_get logged i ≡ Some note) × IsNoteOf entry note
+  pub only : (i : ℕ) (note : Logged) → slice_get logged i ≡ Some note → (entry : Entry) × Among entries entry × IsNoteOf entry note
+
+-- all that is logged of the key is newer
+abbrev pub IsOlderThanAll : List Logged → List ℕ → ℕ → Type 0
+IsOlderThanAll logged key sequence = (i : ℕ) (note : Logged) → slice_get logged i ≡ Some note → note.key.now ≡ key → sequence < note.sequence
+
+-- something that is logged of the key isn't
+abbrev pub IsNotOlder : List Logged → List ℕ → ℕ → Type 0
+IsNotOlder logged key sequence = (i : ℕ) × (note : Logged) × (slice_get logged i ≡ Some note) × (note.key.now ≡ key) × (note.sequence ≤ sequence)
+
+-- ---- which table is begun next
+
+-- the key comes in front of that of the best one, if there is one
+abbrev pub IsSooner : Order → InternalKey → Option (ℕ × InternalKey) → Type 0
+IsSooner order key None = Unit {0}
+IsSooner order key (Some best) = ComesBefore order (stamp key.user.now key.sequence) (stamp best.1.user.now best.1.sequence)
+
+-- the table at this place wasn't begun, and has this smallest key
+abbrev pub DoesWait : List PlacedTable → List Bool → ℕ → Key → Type 0
+DoesWait tables begun place key = (placed : PlacedTable) × (slice_get tables place ≡ Some placed) × (slice_get begun place ≡ Some false) × IsKey placed.table.smallest key
+
+-- Of the first tables, so many, none waits; or the one at this place waits with this key, and none does in front of it.
+abbrev pub IsSoonestOf : Order → List PlacedTable → List Bool → ℕ → Option (ℕ × InternalKey) → Type 0
+IsSoonestOf order tables begun count None = (place : ℕ) (key : Key) → place < count → DoesWait tables begun place key → ⊥
+IsSoonestOf order tables begun count (Some best) = DoesWait tables begun best.0 (key_of best.1)
+    × ((place : ℕ) (key : Key) → place < count → DoesWait tables begun place key → ComesBefore order (stamp key.user key.sequence) (stamp best.1.user.now best.1.sequence) → ⊥)
+
+-- none of the tables waits; or the one at this place waits with this key, and none does in front of it
+abbrev pub IsSoonest : Order → List PlacedTable → List Bool → Option (ℕ × InternalKey) → Type 0
+IsSoonest order tables begun None = (place : ℕ) (placed : PlacedTable) (key : Key) → slice_get tables place ≡ Some placed → slice_get begun place ≡ Some false → IsKey placed.table.smallest key → ⊥
+IsSoonest order tables begun (Some best) =
+    (placed : PlacedTable) × (slice_get tables best.0 ≡ Some placed) × (slice_get begun best.0 ≡ Some false) × IsKey placed.table.smallest (key_of best.1)
+    × ((place : ℕ) (other : PlacedTable) (key : Key) → slice_get tables place ≡ Some other → slice_get begun place ≡ Some false → IsKey other.table.smallest key
+    → ComesBefore order (stamp key.user key.sequence) (stamp best.1.user.now best.1.sequence) → ⊥)
+
+-- the key at hand comes in front of the bound, if there is one
+abbrev pub IsWithin : Order → Head → Option InternalKey → Type 0
+IsWithin order head None = Unit {0}
+IsWithin order head (Some key) = ComesBefore order (stamp head.user.items head.sequence) (stamp key.user.now key.sequence)
+
+-- ---- an entry that stands where it may not
+
+-- an entry of this key and sequence isn't older than one of these
+abbrev pub IsNotOldEntry : List Entry → List ℕ → ℕ → Type 0
+IsNotOldEntry entries key sequence = (l : Entry) × Among entries l × (l.key ≡ key) × (l.sequence ≤ sequence)
+
+-- The entry at which the lane stands is newer than the recorded sequence, or not older than what is logged of its key, or breaks the
+-- row; and each is refused by an error of its own.
+abbrev pub Misplaces : {K : Type 0} → List Entry → ℕ → Last → Lane K → DbError → Type 0
+Misplaces entries recorded last lane error =
+    ((error ≡ Corrupt file.Table damage.Number) × (recorded < lane.walk.head.sequence))
+    ⊎ (((error ≡ Corrupt file.Log damage.Order) × IsNotOldEntry entries lane.walk.head.user.items lane.walk.head.sequence)
+    ⊎ ((error ≡ Corrupt file.Table damage.Order) × BreaksNext last lane))
