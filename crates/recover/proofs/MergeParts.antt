@@ -5,7 +5,12 @@ use Rattle.std.specs.Prelude.{slice_get}
 use Rattle.std.specs.List.{AllByRecursion}
 use Rattle.std.specs.FinMap.{IsAntisymmetric}
 use Rattle.std.specs.Cmp.{IsTotalOrder}
+use Rattle.coding.specs.declared.error.Damage.{Damage}
+use Rattle.coding.specs.declared.error.Damage.TheVariants as damage
 use Rattle.coding.specs.declared.error.DbError.{DbError}
+use Rattle.coding.specs.declared.error.DbError.TheVariants.{Corrupt}
+use Rattle.coding.specs.declared.error.FileKind.{FileKind}
+use Rattle.coding.specs.declared.error.FileKind.TheVariants as file
 use Rattle.edits.specs.declared.field.PlacedTable.{PlacedTable}
 use Rattle.ikey.specs.Keys.{Key, IsKey}
 use Rattle.ikey.specs.Orders.{Order}
@@ -177,3 +182,22 @@ module _ {K : Type 0} (order : Order) (a b : Facts) (against : Against) (merge :
   walk_told e r =
       table_told order e a b against lane.place placed placed_is
       (told_later e b (IsToldOf order a.files placed lane.walk) (IsUnsupportedFile order a.files placed) (λ t told. (let h = passes_here t in told h.0 h.1 h.2)) r)
+
+-- ---- an entry that may not stand where it does
+
+corrupt_of : {K : Type 0} (entries : List Entry) (recorded : ℕ) (last : Last) (lane : Lane K) (e : DbError) → Misplaces entries recorded last lane e → (file : FileKind) × (what : Damage) × (e ≡ Corrupt file what)
+corrupt_of entries recorded last lane e (inl h) = (file.Table, damage.Number, h.0)
+corrupt_of entries recorded last lane e (inr (inl h)) = (file.Log, damage.Order, h.0)
+corrupt_of entries recorded last lane e (inr (inr h)) = (file.Table, damage.Order, h.0)
+
+pub judge_refused : {K : Type 0} (order : Order) → IsTotalOrder order.cmp → (e : DbError) (a b : Facts) (against : Against) (merge : Merge K) (index : ℕ) (lane : Lane K) → IsAgainst order against → slice_get merge.lanes.items index ≡ Some lane
+    → lane.stands ≡ true → (IsTrue b.faithful → IsMid order a.files against merge) → Misplaces (stamps against.logged.now) against.recorded merge.last lane e → RefusesMerge e order a b against
+judge_refused order o e a b against merge index lane sound at stands mid h =
+    let c = corrupt_of (stamps against.logged.now) against.recorded merge.last lane e h in
+    subst (λ (x : DbError). RefusesMerge x order a b against) (sym c.2) (λ t contents g.
+    let m = mid t in
+    let l = m.1.lanes_are index lane at stands in
+    absurd (misplaced order o a.files (stamps against.logged.now) against.recorded against.tables.now merge.lanes.items merge.last merge.begun.items merge.summaries.items m.0 m.1 lane l sound.levels e h contents g))
+
+pub judge_told : {K : Type 0} (entries : List Entry) (recorded : ℕ) (last : Last) (lane : Lane K) (e : DbError) (b : Facts) (W : Type 0) → Misplaces entries recorded last lane e → TellsUnsupported e b W
+judge_told entries recorded last lane e b W h = let c = corrupt_of entries recorded last lane e h in subst (λ (x : DbError). TellsUnsupported x b W) (sym c.2) tt

@@ -1,7 +1,7 @@
 -- What the steps of a merge of tables leave.
 use Rattle.std.proofs.Common.{◌≡◌, ◌⊎◌, inl, inr, ◌<◌, ◌≤◌, ◌+◌, ℕ, zero, suc, Bool, true, false, List, [], ◌∷◌, ◌++◌, length, map, Option, Some, None, get_or, IsTrue, refl, sym, ap, ◌∙◌, subst, arith}
 use Rattle.std.proofs.lemmas.Bool.{cases_eq}
-use Rattle.std.proofs.lemmas.Option.{slice_get_within, slice_get-get_or}
+use Rattle.std.proofs.lemmas.Option.{slice_get_within, slice_get_read}
 use Rattle.std.specs.Prelude.{slice_get, slice_set}
 use Rattle.std.specs.FinMap.{IsAntisymmetric}
 use Rattle.std.specs.Cmp.{IsTotalOrder}
@@ -18,6 +18,7 @@ use Rattle.recover.specs.declared.merging.Lane.{Lane}
 use Rattle.recover.specs.declared.merging.Last.{Last}
 use Rattle.recover.specs.declared.merging.Merge.{Merge}
 use Rattle.recover.specs.declared.report.TableSummary.{TableSummary}
+use Rattle.recover.specs.declared.walking.TableWalk.{TableWalk}
 use Rattle.recover.specs.internal.Checks.{content_of}
 use Rattle.recover.specs.internal.Merging.{Came, IsOldEntry, IsLast, IsLane, IsDue, IsMerging, IsHeadBefore, IsLeastOf, IsPut, MayComeNext, WasMerged}
 use Rattle.recover.specs.internal.MergeSteps.{stamps, IsAgainst, FitsTables, IsFresh, IsMid, AreRead, AllBeginBehind, AllBeginFrom, HasEnded, IsNext}
@@ -71,6 +72,28 @@ module _ {K : Type 0} (order : Order) (o : IsTotalOrder order.cmp) (exact : IsAn
             (old_here order o files logged recorded tables lanes last begun summaries came m lane l old) (row_next order o files logged recorded tables lanes last begun summaries came m lane l exact may) down ends.0 counted here elsewhere,
       )
 
+-- what a walk has done, with what is known of its answer
+pub goes_at : {K : Type 0} (order : Order) (a b : Facts) (tables : List PlacedTable) (n : ℕ) (placed : PlacedTable) (more wanted : Bool) (old new : TableWalk K) → b ≡ a → more ≡ wanted → slice_get tables n ≡ Some placed
+    → IsPassed order b.files placed more old new → (p : PlacedTable) → slice_get tables n ≡ Some p → IsPassed order a.files p wanted old new
+goes_at order a b tables n placed more wanted old new same is at h p there =
+    let both : Some placed ≡ Some p = sym at ∙ there in
+    let one : placed ≡ p = cc in
+    subst (λ (f : Facts). IsPassed order f.files p wanted old new) same (subst (λ (q : PlacedTable). IsPassed order b.files q wanted old new) one (subst (λ (w : Bool). IsPassed order b.files placed w old new) is h))
+
+-- the lane at the index of the least
+pub least_at : {K : Type 0} (order : Order) (lanes : List (Lane K)) (index : ℕ) (lane : Lane K) → IsLeastOf order lanes (length lanes) (Some index) → slice_get lanes index ≡ Some lane
+    → (lane.stands ≡ true) × ((j : ℕ) (other : Lane K) → slice_get lanes j ≡ Some other → other.stands ≡ true → IsHeadBefore order other.walk.head lane.walk.head → ⊥)
+least_at {K} order lanes index lane h is =
+    let same : h.0 ≡ lane = let both : Some h.0 ≡ Some lane = sym h.1 ∙ is in cc in
+    let P : Lane K → Type 0 = λ a. (a.stands ≡ true) × ((j : ℕ) (other : Lane K) → slice_get lanes j ≡ Some other → other.stands ≡ true → IsHeadBefore order other.walk.head a.walk.head → ⊥) in
+    subst P same (h.2, λ j other at up before. h.3 j other (slice_get_within lanes j other at) at up before)
+
+pub summary_read : (summaries : List TableSummary) (place count : ℕ) (s : TableSummary) → length summaries ≡ count → place < count → s ≡ get_or summaries place s → slice_get summaries place ≡ Some s
+summary_read summaries place count s long lt is = slice_get_read summaries (length summaries) place s refl (omega (arith, long, lt)) is
+
+pub within_least : {K : Type 0} (order : Order) (lanes : List (Lane K)) (index : ℕ) → IsLeastOf order lanes (length lanes) (Some index) → index < length lanes
+within_least order lanes index h = slice_get_within lanes index h.0 h.1
+
 -- ---- what fits the tables
 
 pub fits_lanes : {K : Type 0} (tables : List PlacedTable) (merge new : Merge K) → ((i : ℕ) (lane : Lane K) → slice_get new.lanes.items i ≡ Some lane → lane.place < length tables)
@@ -96,6 +119,37 @@ lanes_moved tables lanes new index lane moved lane_is moved_is place others h i 
     omega (arith, p, lt))
   | inr other ↦ h i l (sym (others i other) ∙ at)
 ]
+
+-- the summary of the table at this place is counted
+pub counted_is : {K : Type 0} (tables : List PlacedTable) (merge : Merge K) (place n : ℕ) (old : TableSummary) → FitsTables tables merge → slice_get merge.summaries.items place ≡ Some old → (placed : PlacedTable) → slice_get tables place ≡ Some placed
+    → slice_get (slice_set merge.summaries.items place (record { level = old.level; number = old.number; entries = n })) place ≡ Some (record { level = placed.level; number = placed.table.number; entries = n })
+counted_is tables merge place n old h at placed there =
+    let r = h.of place placed there in
+    let both : Some old ≡ Some (record { level = placed.level; number = placed.table.number; entries = r.0 }) = sym at ∙ r.1 in
+    let same : old ≡ record { level = placed.level; number = placed.table.number; entries = r.0 } = cc in
+    set_same merge.summaries.items place (record { level = old.level; number = old.number; entries = n }) (slice_get_within merge.summaries.items place old at)
+    ∙ (λ i. Some (record { level = (same i).level; number = (same i).number; entries = n }))
+
+-- of the table at this place so many entries are counted
+pub fits_counted : {K : Type 0} (tables : List PlacedTable) (merge new : Merge K) (place n : ℕ) (old : TableSummary) → ((i : ℕ) (lane : Lane K) → slice_get new.lanes.items i ≡ Some lane → lane.place < length tables)
+    → length new.begun.items ≡ length merge.begun.items → slice_get merge.summaries.items place ≡ Some old
+    → new.summaries.items ≡ slice_set merge.summaries.items place (record { level = old.level; number = old.number; entries = n }) → FitsTables tables merge → FitsTables tables new
+fits_counted {K} tables merge new place n old lanes begun at is h = record {
+  lanes = lanes;
+  begun = begun ∙ h.begun;
+  summaries = ap (λ (ss : List TableSummary). length ss) is ∙ set_length merge.summaries.items place (record { level = old.level; number = old.number; entries = n }) ∙ h.summaries;
+  of = λ p placed there. elim (cases_eq p place) [
+    | inl same ↦ (n, ap (slice_get new.summaries.items) same ∙ ap (λ (ss : List TableSummary). slice_get ss place) is ∙ counted_is tables merge place n old h at placed (sym (ap (slice_get tables) same) ∙ there))
+    | inr other ↦ (
+      let r = h.of p placed there in
+      (r.0, ap (λ (ss : List TableSummary). slice_get ss p) is ∙ set_other merge.summaries.items place p (record { level = old.level; number = old.number; entries = n }) other ∙ r.1))
+  ];
+}
+  where
+    set_length : (xs : List TableSummary) (i : ℕ) (x : TableSummary) → length (slice_set xs i x) ≡ length xs
+    set_length [] i x = refl
+    set_length (y ∷ xs) zero x = refl
+    set_length (y ∷ xs) (suc i) x = let e = set_length xs i x in omega (arith, e)
 
 pub lanes_put : {K : Type 0} (tables : List PlacedTable) (lanes new : List (Lane K)) (lane : Lane K) → IsPut lanes lane new → lane.place < length tables → ((i : ℕ) (l : Lane K) → slice_get lanes i ≡ Some l → l.place < length tables)
     → (i : ℕ) (l : Lane K) → slice_get new i ≡ Some l → l.place < length tables

@@ -1,6 +1,6 @@
 //! The tables of a directory, all in one reading: merged, their entries tell which table is older than it has to be.
 
-ghost use Rattle.std.specs.Prelude.{◌≡◌, ◌<◌, ◌+◌, List, true, length, IfOk, IfErr, OnOk, MatchBool};
+ghost use Rattle.std.specs.Prelude.{◌≡◌, ◌<◌, ◌+◌, List, true, length, Some, slice_get, IfOk, IfErr, OnOk, MatchBool};
 ghost use Rattle.ikey.specs.Orders.{order_of};
 ghost use Rattle.ikey.specs.declared.entry.Entry.{Entry};
 ghost use Rattle.recover.specs.internal.Walking.{stamp};
@@ -173,7 +173,7 @@ impl<K: KeyOrder> Merge<K> {
         ensures fits { OnOk result (FitsTables against.entry.tables.now self.new) }
         ensures found { OnOk result (IsTrue (S.facts store.new).faithful → IsMid (order_of K.name K.cmp) (S.facts store.old).files against.entry self.new) }
     {
-        let placed = &against.tables[place];
+        let placed = placed_at(against.tables, place);
         let walk = TableWalk::<K>::begin(alloc, store, placed)?;
         let lane = Lane {
             place,
@@ -210,7 +210,7 @@ impl<K: KeyOrder> Merge<K> {
         let lane = &mut self.lanes[index];
         judge(alloc, store, against, &self.last, lane)?;
         set_last(&mut self.last, lane)?;
-        let placed = &against.tables[lane.place];
+        let placed = placed_at(against.tables, lane.place);
         if lane.walk.go_on(alloc, store, placed)? {
             return Ok(());
         }
@@ -408,6 +408,14 @@ fn is_no_newer(level: u32, place: usize, other_level: u32, other: usize) -> bool
         return true;
     }
     other <= place
+}
+
+// The table at a place of the row.
+fn placed_at(tables: &[PlacedTable], place: usize) -> &PlacedTable
+    requires { place < length tables.now }
+    ensures { slice_get tables.now place ≡ Some result.now }
+{
+    &tables[place]
 }
 
 fn number_at(tables: &[PlacedTable], place: usize) -> u64 {
