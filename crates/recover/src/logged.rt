@@ -7,6 +7,7 @@ ghost use Rattle.recover.specs.declared.logged.Logged.{Logged as Note};
 ghost use Rattle.recover.specs.internal.Merging.{age_cmp, AreByAge, IsLogged, IsOlderThanAll, IsNotOlder};
 
 use crate::comparing::is_less;
+use crate::table_entries::is_same;
 use ikey::{Entry, KeyOrder};
 use std::alloc::{AllocError, Global};
 use std::cmp::Ordering;
@@ -52,10 +53,13 @@ pub fn is_older<K: KeyOrder>(logged: &[Logged<'_>], key: &[u8], sequence: u64) -
     requires { AreByAge (order_of K.name K.cmp) logged.now }
     ensures { MatchBool result (IsOlderThanAll logged.now key.now sequence) (IsNotOlder logged.now key.now sequence) }
 {
-    match logged.get(first_of::<K>(logged, key)) {
-        None => true,
-        Some(first) => first.key != key || sequence < first.sequence,
+    let Some(first) = logged.get(first_of::<K>(logged, key)) else {
+        return true;
+    };
+    if !is_same(first.key, key) {
+        return true;
     }
+    sequence < first.sequence
 }
 
 // The place of the first one whose key isn't before this one, or their number.

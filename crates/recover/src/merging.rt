@@ -236,9 +236,10 @@ fn soonest<'a, K: KeyOrder>(
         let Some(key) = unpack(tables[place].table.smallest.as_slice()) else {
             continue;
         };
-        if is_sooner::<K>(key, best) {
-            best = Some((place, key));
+        if !is_sooner::<K>(key, best) {
+            continue;
         }
+        best = Some((place, key));
     }
     best
 }
