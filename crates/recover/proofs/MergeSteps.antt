@@ -21,7 +21,7 @@ use Rattle.recover.specs.declared.report.TableSummary.{TableSummary}
 use Rattle.recover.specs.declared.walking.TableWalk.{TableWalk}
 use Rattle.recover.specs.internal.Checks.{content_of}
 use Rattle.recover.specs.internal.Merging.{Came, IsOldEntry, IsLast, IsLane, IsDue, IsMerging, IsHeadBefore, IsLeastOf, IsPut, MayComeNext, WasMerged}
-use Rattle.recover.specs.internal.MergeSteps.{stamps, IsAgainst, FitsTables, IsFresh, IsMid, AreRead, AllBeginBehind, AllBeginFrom, HasEnded, IsNext}
+use Rattle.recover.specs.internal.MergeSteps.{stamps, IsAgainst, FitsTables, HoldsMerge, IsFresh, IsMid, AreRead, AllBeginBehind, AllBeginFrom, HasEnded, IsNext}
 use Rattle.recover.specs.internal.Parts.{IsUnchanged}
 use Rattle.recover.specs.internal.Walking.{stamp, IsHead, IsSmallest, IsPassed, Passes}
 use Rattle.recover.specs.Ranges.{HasRange, HaveRanges}
@@ -30,6 +30,7 @@ use Rattle.recover.proofs.EntryOrder.{before_trans}
 use Rattle.recover.proofs.KeyRanges.{range_at}
 use Rattle.recover.proofs.Merged.{came_of, pass_on, pass_end, table_begins, all_good, same_before, set_same, set_other}
 use Rattle.recover.proofs.MergeParts.{row_next, old_here}
+use Rattle.recover.proofs.Refused.{unchanged_itself, unchanged_both}
 
 -- ---- one entry is passed
 
@@ -130,6 +131,11 @@ counted_is tables merge place n old h at placed there =
     set_same merge.summaries.items place (record { level = old.level; number = old.number; entries = n }) (slice_get_within merge.summaries.items place old at)
     ∙ (λ i. Some (record { level = (same i).level; number = (same i).number; entries = n }))
 
+pub set_length : {A : Type 0} (xs : List A) (i : ℕ) (x : A) → length (slice_set xs i x) ≡ length xs
+set_length [] i x = refl
+set_length (y ∷ xs) zero x = refl
+set_length (y ∷ xs) (suc i) x = let e = set_length xs i x in omega (arith, e)
+
 -- of the table at this place so many entries are counted
 pub fits_counted : {K : Type 0} (tables : List PlacedTable) (merge new : Merge K) (place n : ℕ) (old : TableSummary) → ((i : ℕ) (lane : Lane K) → slice_get new.lanes.items i ≡ Some lane → lane.place < length tables)
     → length new.begun.items ≡ length merge.begun.items → slice_get merge.summaries.items place ≡ Some old
@@ -145,12 +151,6 @@ fits_counted {K} tables merge new place n old lanes begun at is h = record {
       (r.0, ap (λ (ss : List TableSummary). slice_get ss p) is ∙ set_other merge.summaries.items place p (record { level = old.level; number = old.number; entries = n }) other ∙ r.1))
   ];
 }
-  where
-    set_length : (xs : List TableSummary) (i : ℕ) (x : TableSummary) → length (slice_set xs i x) ≡ length xs
-    set_length [] i x = refl
-    set_length (y ∷ xs) zero x = refl
-    set_length (y ∷ xs) (suc i) x = let e = set_length xs i x in omega (arith, e)
-
 pub lanes_put : {K : Type 0} (tables : List PlacedTable) (lanes new : List (Lane K)) (lane : Lane K) → IsPut lanes lane new → lane.place < length tables → ((i : ℕ) (l : Lane K) → slice_get lanes i ≡ Some l → l.place < length tables)
     → (i : ℕ) (l : Lane K) → slice_get new i ≡ Some l → l.place < length tables
 lanes_put tables lanes new lane put lt h i l at = elim (cases_eq i put.0) [
@@ -201,6 +201,23 @@ fresh_mid {K} order files against merge fresh = ([], record {
   where
     none : (i : ℕ) (lane : Lane K) → slice_get merge.lanes.items i ≡ Some lane → ⊥
     none i lane at = let bad : None ≡ Some lane = ap (λ (ls : List (Lane K)). slice_get ls i) (sym fresh.lanes) ∙ at in cc
+
+-- ---- several steps
+
+pub holds_start : {K : Type 0} (order : Order) (against : Against) (a : Facts) (merge : Merge K) → FitsTables against.tables.now merge → (IsTrue a.faithful → IsMid order a.files against merge) → HoldsMerge order against a a merge
+holds_start order against a merge fits mid = record { store = unchanged_itself a; still = refl; fits = fits; mid = mid }
+
+pub holds_more : {K : Type 0} (order : Order) (against : Against) (a b c : Facts) (merge new : Merge K) → HoldsMerge order against a b merge → IsUnchanged b c → c.failures ≡ b.failures → FitsTables against.tables.now new
+    → (IsTrue c.faithful → IsMid order b.files against new) → HoldsMerge order against a c new
+holds_more order against a b c merge new h k still fits mid = record {
+  store = unchanged_both a b c h.store k;
+  still = still ∙ h.still;
+  fits = fits;
+  mid = λ t. subst (λ (fs : Files). IsMid order fs against new) (h.store.same (k.faithful t)) (mid t);
+}
+
+pub holds_mid : {K : Type 0} (order : Order) (against : Against) (a b : Facts) (merge : Merge K) → HoldsMerge order against a b merge → IsTrue b.faithful → IsMid order b.files against merge
+holds_mid order against a b merge h t = subst (λ (fs : Files). IsMid order fs against merge) (sym (h.store.same t)) (h.mid t)
 
 -- ---- the end
 

@@ -58,6 +58,13 @@ abbrev pub IsMid : {K : Type 0} → Order → Files → Against → Merge K → 
 IsMid order files against merge =
     (came : List Came) × IsMerging order files (stamps against.logged.now) against.recorded against.tables.now merge.lanes.items merge.last merge.begun.items merge.summaries.items came
 
+-- so they are behind some steps, of which none has failed
+pub record HoldsMerge {K : Type 0} (order : Order) (against : Against) (old now : Facts) (merge : Merge K) : Type 0 where
+  pub store : IsUnchanged old now
+  pub still : now.failures ≡ old.failures
+  pub fits : FitsTables against.tables.now merge
+  pub mid : IsTrue now.faithful → IsMid order old.files against merge
+
 -- they were read to their ends, and are good
 abbrev pub AreRead : {K : Type 0} → Order → Files → Against → Merge K → Type 0
 AreRead order files against merge =

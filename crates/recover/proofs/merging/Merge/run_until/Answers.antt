@@ -1,0 +1,1 @@
+use Rattle.recover.proofs.merging.Merge.run_until.Goals as goal
