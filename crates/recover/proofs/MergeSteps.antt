@@ -18,9 +18,10 @@ use Rattle.recover.specs.declared.merging.Lane.{Lane}
 use Rattle.recover.specs.declared.merging.Last.{Last}
 use Rattle.recover.specs.declared.merging.Merge.{Merge}
 use Rattle.recover.specs.declared.report.TableSummary.{TableSummary}
+use Rattle.recover.specs.declared.walking.Head.{Head}
 use Rattle.recover.specs.declared.walking.TableWalk.{TableWalk}
 use Rattle.recover.specs.internal.Checks.{content_of}
-use Rattle.recover.specs.internal.Merging.{Came, IsOldEntry, IsLast, IsLane, IsDue, IsMerging, IsHeadBefore, IsLeastOf, IsPut, MayComeNext, WasMerged}
+use Rattle.recover.specs.internal.Merging.{Came, IsOldEntry, IsLast, IsLane, IsDue, IsMerging, IsHeadBefore, IsLeastOf, IsPut, IsWithin, MayComeNext, WasMerged}
 use Rattle.recover.specs.internal.MergeSteps.{stamps, IsAgainst, FitsTables, HoldsMerge, IsFresh, IsMid, AreRead, AllBeginBehind, AllBeginFrom, HasEnded, IsNext}
 use Rattle.recover.specs.internal.Parts.{IsUnchanged}
 use Rattle.recover.specs.internal.Walking.{stamp, IsHead, IsSmallest, IsPassed, Passes}
@@ -164,12 +165,27 @@ lanes_put tables lanes new lane put lt h i l at = elim (cases_eq i put.0) [
 
 -- ---- which table is begun next
 
-pub next_of : {K : Type 0} (order : Order) → IsTotalOrder order.cmp → (tables : List PlacedTable) (begun : List Bool) (lane : Lane K) (bound : Option InternalKey) → AllBeginFrom order tables begun bound
-    → ((key : InternalKey) → bound ≡ Some key → ComesBefore order (stamp lane.walk.head.user.items lane.walk.head.sequence) (stamp key.user.now key.sequence))
-    → AllBeginBehind order tables begun (stamp lane.walk.head.user.items lane.walk.head.sequence)
+next_of : {K : Type 0} (order : Order) → IsTotalOrder order.cmp → (tables : List PlacedTable) (begun : List Bool) (lane : Lane K) (bound : Option InternalKey) → AllBeginFrom order tables begun bound
+    → IsWithin order lane.walk.head bound → AllBeginBehind order tables begun (stamp lane.walk.head.user.items lane.walk.head.sequence)
 next_of order o tables begun lane None none within place key waits before = none place key waits
 next_of order o tables begun lane (Some bound) all within place key waits before =
-    all place key waits (before_trans order o (stamp key.user key.sequence) (stamp lane.walk.head.user.items lane.walk.head.sequence) (stamp bound.user.now bound.sequence) before (within bound refl))
+    all place key waits (before_trans order o (stamp key.user key.sequence) (stamp lane.walk.head.user.items lane.walk.head.sequence) (stamp bound.user.now bound.sequence) before within)
+
+-- the lane at the index that was looked at
+pub next_at : {K : Type 0} (order : Order) → IsTotalOrder order.cmp → (tables : List PlacedTable) (begun : List Bool) (lanes : List (Lane K)) (index : ℕ) (here lane : Lane K) (bound : Option InternalKey) → AllBeginFrom order tables begun bound
+    → index < length lanes → here ≡ get_or lanes index here → IsWithin order here.walk.head bound → slice_get lanes index ≡ Some lane → AllBeginBehind order tables begun (stamp lane.walk.head.user.items lane.walk.head.sequence)
+next_at {K} order o tables begun lanes index here lane bound all lt is within at =
+    let both : Some here ≡ Some lane = sym (slice_get_read lanes (length lanes) index here refl lt is) ∙ at in
+    let same : here ≡ lane = cc in
+    next_of order o tables begun lane bound all (subst (λ (l : Lane K). IsWithin order l.walk.head bound) same within)
+
+pub ended_all : {K : Type 0} (bound : Option InternalKey) (xs lanes : List (Lane K)) → xs ≡ lanes → ((i : ℕ) (lane : Lane K) → i < length xs → slice_get xs i ≡ Some lane → lane.stands ≡ true → ⊥) → HasEnded bound lanes
+ended_all {K} None xs lanes same none = λ i lane at up. let there : slice_get xs i ≡ Some lane = ap (λ (ls : List (Lane K)). slice_get ls i) same ∙ at in none i lane (slice_get_within xs i lane there) there up
+ended_all (Some key) xs lanes same none = tt
+
+pub ended_within : {K : Type 0} (order : Order) (bound : Option InternalKey) (head : Head) (lanes : List (Lane K)) → (IsWithin order head bound → ⊥) → HasEnded bound lanes
+ended_within order None head lanes none = absurd (none tt)
+ended_within order (Some key) head lanes none = tt
 
 -- ---- a table is begun
 

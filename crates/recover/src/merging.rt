@@ -140,7 +140,7 @@ impl<K: KeyOrder> Merge<K> {
         ensures fits { OnOk result (FitsTables against.entry.tables.now self.new) }
         ensures found { OnOk result (IsTrue (S.facts store.new).faithful → IsMid (order_of K.name K.cmp) (S.facts store.old).files against.entry self.new) }
         ensures begun { OnOk result (self.new.begun.items ≡ self.old.begun.items) }
-        ensures ended { OnOk result (HasEnded bound self.new.lanes.items) }
+        ensures ended { OnOk result (HasEnded bound.entry self.new.lanes.items) }
     {
         for _ in 0..u64::MAX {
             let Some(index) = least::<K>(&self.lanes) else {
