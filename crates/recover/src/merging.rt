@@ -246,7 +246,8 @@ fn soonest<'a, K: KeyOrder>(
 
 // Whether the key comes in front of that of the best one, if there is one.
 fn is_sooner<K: KeyOrder>(key: InternalKey<'_>, best: Option<(usize, InternalKey<'_>)>) -> bool
-    ensures { MatchBool result (IsSooner (order_of K.name K.cmp) key.entry best.entry) (IsSooner (order_of K.name K.cmp) key.entry best.entry → ⊥) }
+    ensures { MatchBool result (IsSooner (order_of K.name K.cmp) key.entry best.entry)
+        (IsSooner (order_of K.name K.cmp) key.entry best.entry → ⊥) }
 {
     match best {
         None => true,
@@ -295,7 +296,8 @@ fn is_head_before<K: KeyOrder>(a: &Head, b: &Head) -> bool
 
 // Whether the key at hand comes in front of the bound, if there is one.
 fn is_within<K: KeyOrder>(head: &Head, bound: Option<InternalKey<'_>>) -> bool
-    ensures { MatchBool result (IsWithin (order_of K.name K.cmp) head.now bound.entry) (IsWithin (order_of K.name K.cmp) head.now bound.entry → ⊥) }
+    ensures { MatchBool result (IsWithin (order_of K.name K.cmp) head.now bound.entry)
+        (IsWithin (order_of K.name K.cmp) head.now bound.entry → ⊥) }
 {
     match bound {
         None => true,
@@ -355,7 +357,8 @@ fn judge<K: KeyOrder, S: Store>(
     ghost entries: { List Entry }
     requires { IsLogged (order_of K.name K.cmp) entries against.logged.now }
     ensures same { S.facts store.new ≡ S.facts store.old }
-    ensures old { OnOk result (IsOldEntry entries against.entry.recorded (stamp lane.now.walk.head.user.items lane.now.walk.head.sequence)) }
+    ensures old { OnOk result (IsOldEntry entries against.entry.recorded
+        (stamp lane.now.walk.head.user.items lane.now.walk.head.sequence)) }
     ensures next { OnOk result (MayComeNext last.now lane.now) }
     ensures refused { IfErr result (λ error. Misplaces entries against.entry.recorded last.now lane.now error) }
 {
