@@ -26,12 +26,12 @@ use Rattle.recover.specs.declared.merging.Merge.{Merge}
 use Rattle.recover.specs.declared.report.TableSummary.{TableSummary}
 use Rattle.recover.specs.internal.Checks.{content_of, Never, IsOnly, IsOlder, AreGood, AreOnly}
 use Rattle.recover.specs.internal.Merging.{Came, IsNoNewer, HaveCome, IsOldEntry, IsOfTable, IsLast, IsNotBefore, IsLane, IsMerging, IsHeadBefore, MayComeNext, BreaksNext, AreByLevel, IsLogged, Misplaces}
-use Rattle.recover.specs.internal.MergeSteps.{stamps, IsAgainst, IsMid, RefusesMerge}
+use Rattle.recover.specs.internal.MergeSteps.{stamps, IsAgainst, IsMid, AreRead, RefusesMerge}
 use Rattle.recover.specs.internal.Parts.{IsUnchanged, RefusesBytes}
 use Rattle.recover.specs.internal.Walking.{stamp, IsHead, Passes, IsOnlyOf, IsToldOf}
 use Rattle.recover.specs.Limits.{IsUnsupportedFile, AnyIsUnsupported, TellsUnsupported}
 use Rattle.recover.specs.Reading.{RefusesDirectory}
-use Rattle.recover.specs.Report.{IsLongTable}
+use Rattle.recover.specs.Report.{IsLongTable, table_summary}
 use Rattle.recover.specs.Tables.{TableContent, HasTable}
 use Rattle.recover.proofs.Ages.{not_recorded, not_older, not_behind}
 use Rattle.recover.proofs.GoodTables.{only_at}
@@ -73,6 +73,41 @@ good_by order files xs ys recorded (t ∷ tables) (c ∷ contents) f g = (
   g.3,
   good_by order files xs ys recorded tables contents f g.4,
 )
+
+pub logged_stamps : (order : Order) (entries : List Entry) (logged : List Logged) → IsLogged order entries logged → IsLogged order (stamps logged) logged
+logged_stamps order entries logged h = record {
+  sorted = h.sorted;
+  all = λ s i. (let r = stamped logged s i in let e = r.3 in (r.0, r.1, r.2, (ap (λ (x : Entry). x.key) (sym e), ap (λ (x : Entry). x.sequence) (sym e))));
+  only = λ i note at. (stamp note.key.now note.sequence, among_stamps logged i note at, (refl, refl));
+}
+
+good_stamps : (order : Order) (files : Files) (entries : List Entry) (logged : List Logged) (recorded : ℕ) (tables : List PlacedTable) (contents : List TableContent) → IsLogged order entries logged
+    → AreGood order files entries recorded tables contents → AreGood order files (stamps logged) recorded tables contents
+good_stamps order files entries logged recorded tables contents h =
+    good_by order files entries (stamps logged) recorded tables contents (λ s i.
+    let r = stamped logged s i in
+    let o = h.only r.0 r.1 r.2 in
+    (o.0, o.1, sym o.2.0 ∙ ap (λ (x : Entry). x.key) (sym r.3), sym o.2.1 ∙ ap (λ (x : Entry). x.sequence) (sym r.3)))
+
+good_entries : (order : Order) (files : Files) (entries : List Entry) (logged : List Logged) (recorded : ℕ) (tables : List PlacedTable) (contents : List TableContent) → IsLogged order entries logged
+    → AreGood order files (stamps logged) recorded tables contents → AreGood order files entries recorded tables contents
+good_entries order files entries logged recorded tables contents h =
+    good_by order files (stamps logged) entries recorded tables contents (λ e i.
+    let r = h.all e i in
+    (stamp r.1.key.now r.1.sequence, among_stamps logged r.0 r.1 r.2, r.3.0, r.3.1))
+
+-- what was read is good beside the entries themselves
+pub read_good : {K : Type 0} (order : Order) (files : Files) (against : Against) (entries : List Entry) (merge : Merge K) → IsLogged order entries against.logged.now → AreRead order files against merge
+    → (contents : List TableContent) × AreGood order files entries against.recorded against.tables.now contents × (merge.summaries.items ≡ map table_summary contents)
+read_good order files against entries merge h r = (r.0, good_entries order files entries against.logged.now against.recorded against.tables.now r.0 h r.1, r.2)
+
+pub read_refused : (order : Order) (e : DbError) (a b : Facts) (against : Against) (entries : List Entry) → IsLogged order entries against.logged.now → RefusesMerge e order a b against
+    → RefusesDirectory e a b (AreOnly Never order a.files entries against.recorded against.tables.now) (AreOnly (IsLongTable order) order a.files entries against.recorded against.tables.now)
+read_refused order e a b against entries h r =
+    let S : (List ℕ → Type 0) → Type 0 = λ is. AreOnly is order a.files (stamps against.logged.now) against.recorded against.tables.now in
+    let E : (List ℕ → Type 0) → Type 0 = λ is. AreOnly is order a.files entries against.recorded against.tables.now in
+    let each : (is : List ℕ → Type 0) → IsTrue b.faithful → S is → E is = λ is t only contents good. only contents (good_stamps order a.files entries against.logged.now against.recorded against.tables.now contents h good) in
+    refuses_later e a a b (S Never) (S (IsLongTable order)) (E Never) (E (IsLongTable order)) (unchanged_itself a) (each Never) (each (IsLongTable order)) r
 
 -- ---- the entry at which a lane stands
 

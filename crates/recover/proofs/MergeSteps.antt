@@ -1,10 +1,13 @@
 -- What the steps of a merge of tables leave.
 use Rattle.std.proofs.Common.{◌≡◌, ◌⊎◌, inl, inr, ◌<◌, ◌≤◌, ◌+◌, ℕ, zero, suc, Bool, true, false, List, [], ◌∷◌, ◌++◌, length, map, Option, Some, None, get_or, IsTrue, refl, sym, ap, ◌∙◌, subst, arith}
 use Rattle.std.proofs.lemmas.Bool.{cases_eq}
+use Rattle.std.proofs.lemmas.List.{length-append}
 use Rattle.std.proofs.lemmas.Option.{slice_get_within, slice_get_read}
 use Rattle.std.specs.Prelude.{slice_get, slice_set}
+use Rattle.std.specs.List.{AllByRecursion}
 use Rattle.std.specs.FinMap.{IsAntisymmetric}
 use Rattle.std.specs.Cmp.{IsTotalOrder}
+use Rattle.edits.specs.Snapshot.{IsFollowedBy, AreInPlace}
 use Rattle.edits.specs.declared.field.PlacedTable.{PlacedTable}
 use Rattle.ikey.specs.Keys.{Key, IsKey}
 use Rattle.ikey.specs.Orders.{Order}
@@ -21,15 +24,15 @@ use Rattle.recover.specs.declared.report.TableSummary.{TableSummary}
 use Rattle.recover.specs.declared.walking.Head.{Head}
 use Rattle.recover.specs.declared.walking.TableWalk.{TableWalk}
 use Rattle.recover.specs.internal.Checks.{content_of}
-use Rattle.recover.specs.internal.Merging.{Came, IsOldEntry, IsLast, IsLane, IsDue, IsMerging, IsHeadBefore, IsLeastOf, IsPut, IsWithin, MayComeNext, WasMerged}
-use Rattle.recover.specs.internal.MergeSteps.{stamps, IsAgainst, FitsTables, HoldsMerge, IsFresh, IsMid, AreRead, AllBeginBehind, AllBeginFrom, HasEnded, IsNext}
+use Rattle.recover.specs.internal.Merging.{Came, AreByLevel, IsOldEntry, IsLast, IsLane, IsDue, IsMerging, IsHeadBefore, IsLeastOf, IsPut, IsWithin, MayComeNext, WasMerged}
+use Rattle.recover.specs.internal.MergeSteps.{stamps, IsAgainst, FitsTables, HoldsMerge, IsFresh, IsFilled, IsMid, AreRead, AllBeginBehind, AllBeginFrom, HasEnded, IsNext}
 use Rattle.recover.specs.internal.Parts.{IsUnchanged}
 use Rattle.recover.specs.internal.Walking.{stamp, IsHead, IsSmallest, IsPassed, Passes}
 use Rattle.recover.specs.Ranges.{HasRange, HaveRanges}
 use Rattle.recover.specs.Report.{table_summary}
 use Rattle.recover.proofs.EntryOrder.{before_trans}
 use Rattle.recover.proofs.KeyRanges.{range_at}
-use Rattle.recover.proofs.Merged.{came_of, pass_on, pass_end, table_begins, all_good, same_before, set_same, set_other}
+use Rattle.recover.proofs.Merged.{came_of, pass_on, pass_end, table_begins, all_good, same_before, set_same, set_other, behind_same, behind_other}
 use Rattle.recover.proofs.MergeParts.{row_next, old_here}
 use Rattle.recover.proofs.Refused.{unchanged_itself, unchanged_both}
 
@@ -218,6 +221,53 @@ fresh_mid {K} order files against merge fresh = ([], record {
     none : (i : ℕ) (lane : Lane K) → slice_get merge.lanes.items i ≡ Some lane → ⊥
     none i lane at = let bad : None ≡ Some lane = ap (λ (ls : List (Lane K)). slice_get ls i) (sym fresh.lanes) ∙ at in cc
 
+-- the summary of a table of which no entry has come
+abbrev Summary : PlacedTable → TableSummary
+Summary placed = record { level = placed.level; number = placed.table.number; entries = 0 }
+
+filled_at : {A : Type 0} (xs : List A) (x : A) (count place : ℕ) → length xs ≡ count → place ≡ count → slice_get (xs ++ x ∷ []) place ≡ Some x
+filled_at xs x count place long same = ap (slice_get (xs ++ x ∷ [])) (same ∙ sym long) ∙ behind_same xs x
+
+pub filled_none : (tables : List PlacedTable) (begun : List Bool) (summaries : List TableSummary) → begun ≡ [] → summaries ≡ [] → IsFilled tables 0 begun summaries
+filled_none tables begun summaries b s = record {
+  inside = omega arith;
+  begun_long = ap (λ (bs : List Bool). length bs) b;
+  unbegun = λ place lt. absurd (omega (arith, lt));
+  long = ap (λ (ss : List TableSummary). length ss) s;
+  of = λ place placed lt at. absurd (omega (arith, lt));
+}
+
+pub filled_more : (tables : List PlacedTable) (count : ℕ) (placed : PlacedTable) (begun more : List Bool) (summaries longer : List TableSummary) → count < length tables → placed ≡ get_or tables count placed → IsFilled tables count begun summaries
+    → more ≡ begun ++ false ∷ [] → longer ≡ summaries ++ record { level = placed.level; number = placed.table.number; entries = 0 } ∷ [] → IsFilled tables (count + 1) more longer
+filled_more tables count placed begun more summaries longer lt is h b s = record {
+  inside = omega (arith, lt);
+  begun_long = (let e = length-append begun (false ∷ []) in let l : length more ≡ length (begun ++ false ∷ []) = ap (λ (bs : List Bool). length bs) b in omega (arith, l, e, h.begun_long));
+  unbegun = λ place le. elim (cases_eq place count) [
+    | inl same ↦ ap (λ (bs : List Bool). slice_get bs place) b ∙ filled_at begun false count place h.begun_long same
+    | inr other ↦ ap (λ (bs : List Bool). slice_get bs place) b ∙ behind_other begun false place (λ e. other (e ∙ h.begun_long)) ∙ h.unbegun place (omega (arith, le, other))
+  ];
+  long = (let e = length-append summaries (Summary placed ∷ []) in let l : length longer ≡ length (summaries ++ Summary placed ∷ []) = ap (λ (ss : List TableSummary). length ss) s in omega (arith, l, e, h.long));
+  of = λ place p le at. elim (cases_eq place count) [
+    | inl same ↦ (
+      let here = slice_get_read tables (length tables) count placed refl lt is in
+      let both : Some placed ≡ Some p = sym here ∙ ap (slice_get tables) (sym same) ∙ at in
+      let one : placed ≡ p = cc in
+      ap (λ (ss : List TableSummary). slice_get ss place) s ∙ filled_at summaries (Summary placed) count place h.long same ∙ (λ i. Some (Summary (one i))))
+    | inr other ↦ ap (λ (ss : List TableSummary). slice_get ss place) s ∙ behind_other summaries (Summary placed) place (λ e. other (e ∙ h.long)) ∙ h.of place p (omega (arith, le, other)) at
+  ];
+}
+
+pub filled_fits : {K : Type 0} (tables : List PlacedTable) (count : ℕ) (merge : Merge K) → length tables ≤ count → merge.lanes.items ≡ [] → IsFilled tables count merge.begun.items merge.summaries.items → FitsTables tables merge
+filled_fits {K} tables count merge le none h = record {
+  lanes = λ i lane at. (let bad : None ≡ Some lane = ap (λ (ls : List (Lane K)). slice_get ls i) (sym none) ∙ at in absurd cc);
+  begun = omega (arith, h.begun_long, h.inside, le);
+  summaries = omega (arith, h.long, h.inside, le);
+  of = λ place placed at. (let lt = slice_get_within tables place placed at in (0, h.of place placed (omega (arith, lt, le)) at));
+}
+
+pub filled_fresh : {K : Type 0} (tables : List PlacedTable) (count : ℕ) (merge : Merge K) → length tables ≤ count → merge.lanes.items ≡ [] → merge.last.some ≡ false → IsFilled tables count merge.begun.items merge.summaries.items → IsFresh tables merge
+filled_fresh tables count merge le none last h = record { lanes = none; last = last; begun = λ place lt. h.unbegun place (omega (arith, lt, le)) }
+
 -- ---- several steps
 
 pub holds_start : {K : Type 0} (order : Order) (against : Against) (a : Facts) (merge : Merge K) → FitsTables against.tables.now merge → (IsTrue a.faithful → IsMid order a.files against merge) → HoldsMerge order against a a merge
@@ -261,3 +311,18 @@ mid_whole {K} order o files against merge sound fits none ended (came, m) =
       | inr (inl (i, lane, is, st, there)) ↦ absurd (ended i lane is st)
       | inr (inr merged) ↦ merged
     ]
+
+-- ---- the row of tables
+
+-- tables by level and number are by level
+pub levels_kept : (tables : List PlacedTable) → AreInPlace tables → AreByLevel tables
+levels_kept [] h = tt
+levels_kept (t ∷ tables) h = (behind_it tables h.0, levels_kept tables h.1)
+  where
+    behind_one : (u : PlacedTable) → IsFollowedBy t u → t.level ≤ u.level
+    behind_one u (inl lower, other) = omega (arith, lower)
+    behind_one u (inr same, other) = omega (arith, same.0)
+
+    behind_it : (us : List PlacedTable) → AllByRecursion (IsFollowedBy t) us → AllByRecursion (λ (other : PlacedTable). t.level ≤ other.level) us
+    behind_it [] all = tt
+    behind_it (u ∷ us) all = (behind_one u all.0, behind_it us all.1)

@@ -71,6 +71,7 @@ impl<K: KeyOrder> Merge<K> {
         ensures fits { IfOk result (λ merge. FitsTables tables.now merge) }
         ensures fresh { IfOk result (λ merge. IsFresh tables.now merge) }
     {
+        let lanes = Vec::new(alloc);
         let mut begun = Vec::new(alloc);
         let mut summaries = Vec::new(alloc);
         for placed in tables {
@@ -83,7 +84,7 @@ impl<K: KeyOrder> Merge<K> {
         }
         Ok(Merge {
             begun,
-            lanes: Vec::new(alloc),
+            lanes,
             last: Last {
                 some: false,
                 head: Head::new(alloc),

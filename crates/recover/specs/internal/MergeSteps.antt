@@ -1,5 +1,5 @@
 -- What the steps of a merge of tables hand to one another.
-use Rattle.std.specs.Prelude.{◌≡◌, ◌<◌, ℕ, Bool, true, false, List, [], ◌∷◌, Option, Some, None, length, map, slice_get, IsTrue, Result, IfErr}
+use Rattle.std.specs.Prelude.{◌≡◌, ◌<◌, ◌≤◌, ℕ, Bool, true, false, List, [], ◌∷◌, Option, Some, None, length, map, slice_get, IsTrue, Result, IfErr}
 use Rattle.coding.specs.declared.error.DbError.{DbError}
 use Rattle.edits.specs.declared.field.PlacedTable.{PlacedTable}
 use Rattle.ikey.specs.Keys.{Key}
@@ -50,6 +50,15 @@ pub record IsFresh {K : Type 0} (tables : List PlacedTable) (merge : Merge K) : 
   pub lanes : merge.lanes.items ≡ []
   pub last : merge.last.some ≡ false
   pub begun : (place : ℕ) → place < length tables → slice_get merge.begun.items place ≡ Some false
+
+-- of the first tables, so many, none was begun, and each has its summary of no entries yet
+pub record IsFilled (tables : List PlacedTable) (count : ℕ) (begun : List Bool) (summaries : List TableSummary) : Type 0 where
+  pub inside : count ≤ length tables
+  pub begun_long : length begun ≡ count
+  pub unbegun : (place : ℕ) → place < count → slice_get begun place ≡ Some false
+  pub long : length summaries ≡ count
+  pub of : (place : ℕ) (placed : PlacedTable) → place < count → slice_get tables place ≡ Some placed
+      → slice_get summaries place ≡ Some (record { level = placed.level; number = placed.table.number; entries = 0 })
 
 -- ---- what has come
 
