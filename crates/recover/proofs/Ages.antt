@@ -1,5 +1,5 @@
 -- Tables whose merged entries come as they may are as old as they have to be, and the other way round.
-use Rattle.std.proofs.Common.{◌≡◌, ◌⊎◌, inl, inr, ◌<◌, ◌≤◌, ◌+◌, ℕ, zero, suc, List, [], ◌∷◌, length, map, Some, None, refl, sym, ap, ◌∙◌, subst, arith}
+use Rattle.std.proofs.Common.{◌≡◌, ◌⊎◌, inl, inr, ◌<◌, ◌≤◌, ℕ, zero, suc, List, [], ◌∷◌, Some, None, refl, sym, ap, ◌∙◌, subst, arith}
 use Rattle.std.proofs.lemmas.Bool.{cases_lt, cases_eq}
 use Rattle.std.specs.Prelude.{slice_get}
 use Rattle.std.specs.List.{AllByRecursion}
@@ -11,8 +11,8 @@ use Rattle.ikey.specs.declared.entry.Entry.{Entry}
 use Rattle.ikey.specs.Views.{Among}
 use Rattle.ikey.specs.Sources.{ComesBefore}
 use Rattle.store.specs.Files.{Files}
-use Rattle.recover.specs.internal.Checks.{content_of, AreNewerThan, IsNewerThanAll, IsOlder, AreGood}
-use Rattle.recover.specs.internal.Merging.{Came, IsNoNewer, MayFollow, IsBroken, ComesBehind, HaveCome, IsOldEntry, IsOfTable, WasMerged, AreByLevel}
+use Rattle.recover.specs.internal.Checks.{content_of, IsOlder, AreGood}
+use Rattle.recover.specs.internal.Merging.{Came, IsNoNewer, IsBroken, ComesBehind, HaveCome, IsOldEntry, IsOfTable, WasMerged, AreByLevel}
 use Rattle.recover.specs.Ranges.{RangesDoNotOverlap, HaveRanges}
 use Rattle.recover.specs.Tables.{TableContent, HasTable, InTables, AreTwoTables, LieApart}
 use Rattle.recover.proofs.Closed.{no_same}

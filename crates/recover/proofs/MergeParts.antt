@@ -1,8 +1,7 @@
 -- One step of a merge of tables: what it finds, and why it is refused.
-use Rattle.std.proofs.Common.{◌≡◌, ◌⊎◌, inl, inr, ◌<◌, ◌≤◌, ◌+◌, ℕ, zero, suc, Bool, true, false, List, [], ◌∷◌, ◌++◌, length, map, Option, Some, None, get_or, IsTrue, refl, sym, ap, ◌∙◌, subst, arith}
+use Rattle.std.proofs.Common.{◌≡◌, inl, inr, ◌<◌, ℕ, zero, suc, Bool, true, false, List, [], ◌∷◌, map, Some, None, get_or, IsTrue, refl, sym, ap, ◌∙◌, subst, arith}
 use Rattle.std.proofs.lemmas.Option.{slice_get_within, get_or_from_slice_get}
 use Rattle.std.specs.Prelude.{slice_get}
-use Rattle.std.specs.List.{AllByRecursion}
 use Rattle.std.specs.FinMap.{IsAntisymmetric}
 use Rattle.std.specs.Cmp.{IsTotalOrder}
 use Rattle.coding.specs.declared.error.Damage.{Damage}
@@ -12,7 +11,6 @@ use Rattle.coding.specs.declared.error.DbError.TheVariants.{Corrupt}
 use Rattle.coding.specs.declared.error.FileKind.{FileKind}
 use Rattle.coding.specs.declared.error.FileKind.TheVariants as file
 use Rattle.edits.specs.declared.field.PlacedTable.{PlacedTable}
-use Rattle.ikey.specs.Keys.{Key, IsKey}
 use Rattle.ikey.specs.Orders.{Order}
 use Rattle.ikey.specs.Sources.{ComesBefore}
 use Rattle.ikey.specs.Views.{Among}
@@ -24,22 +22,22 @@ use Rattle.recover.specs.declared.merging.Lane.{Lane}
 use Rattle.recover.specs.declared.merging.Last.{Last}
 use Rattle.recover.specs.declared.merging.Merge.{Merge}
 use Rattle.recover.specs.declared.report.TableSummary.{TableSummary}
-use Rattle.recover.specs.internal.Checks.{content_of, Never, IsOnly, IsOlder, AreGood, AreOnly}
-use Rattle.recover.specs.internal.Merging.{Came, IsNoNewer, HaveCome, IsOldEntry, IsOfTable, IsLast, IsNotBefore, IsLane, IsMerging, IsHeadBefore, MayComeNext, BreaksNext, AreByLevel, IsLogged, Misplaces}
+use Rattle.recover.specs.internal.Checks.{Never, IsOnly, AreGood, AreOnly}
+use Rattle.recover.specs.internal.Merging.{Came, IsNoNewer, HaveCome, IsOldEntry, IsOfTable, IsLast, IsNotBefore, IsLane, IsMerging, MayComeNext, BreaksNext, AreByLevel, IsLogged, Misplaces}
 use Rattle.recover.specs.internal.MergeSteps.{stamps, IsAgainst, IsMid, AreRead, RefusesMerge}
-use Rattle.recover.specs.internal.Parts.{IsUnchanged, RefusesBytes}
-use Rattle.recover.specs.internal.Walking.{stamp, IsHead, Passes, IsOnlyOf, IsToldOf}
+use Rattle.recover.specs.internal.Parts.{IsUnchanged}
+use Rattle.recover.specs.internal.Walking.{stamp, Passes, IsOnlyOf, IsToldOf}
 use Rattle.recover.specs.Limits.{IsUnsupportedFile, AnyIsUnsupported, TellsUnsupported}
 use Rattle.recover.specs.Reading.{RefusesDirectory}
 use Rattle.recover.specs.Report.{IsLongTable, table_summary}
-use Rattle.recover.specs.Tables.{TableContent, HasTable}
+use Rattle.recover.specs.Tables.{TableContent}
 use Rattle.recover.proofs.Ages.{not_recorded, not_older, not_behind}
 use Rattle.recover.proofs.GoodTables.{only_at}
 use Rattle.recover.proofs.Merged.{came_of, row_more, same_before}
 use Rattle.recover.proofs.NotSupported.{any_at, told_later}
 use Rattle.recover.proofs.PairChecks.{newer_from, newer_to}
 use Rattle.recover.proofs.Passing.{passes_inside}
-use Rattle.recover.proofs.Refused.{refuses_later, refuses_bytes, unchanged_itself}
+use Rattle.recover.proofs.Refused.{refuses_later, unchanged_itself}
 
 -- ---- what is logged
 
@@ -142,12 +140,14 @@ module _ {K : Type 0} (order : Order) (o : IsTotalOrder order.cmp) (files : File
   broken [] none inside front levels b contents g = let bad : false ≡ true = sym none ∙ b.0 in cc
   broken (c ∷ before) is inside front levels b contents g =
       not_behind order files logged recorded o tables contents c Next levels (inside c (inl refl)) here_of (front c (inl refl))
-      (λ k. not_front is.0 (same_before order l.here c.entry l.here (stamp last.head.user.items last.head.sequence) refl refl is.1.0 is.1.1 k))
-      (is.1.0 ∙ b.1 ∙ sym l.passes.head.0, λ n. (
-        let p = is.2 in
-        let v = is.3 in
-        let newer : lane.walk.head.sequence < last.head.sequence = omega (arith, n.0, is.1.1, l.passes.head.1) in
-        b.2 (newer, subst (λ (y : ℕ). IsNoNewer y last.place lane.level lane.place) v (subst (λ (x : ℕ). IsNoNewer c.level x lane.level lane.place) p n.1))))
+      (λ k. not_front is.0 (same_before order l.here c.entry l.here (stamp last.head.user.items last.head.sequence) refl refl is.1.0 is.1.1 k)) (
+        is.1.0 ∙ b.1 ∙ sym l.passes.head.0,
+        λ n. (
+            let p = is.2 in
+            let v = is.3 in
+            let newer : lane.walk.head.sequence < last.head.sequence = omega (arith, n.0, is.1.1, l.passes.head.1) in
+            b.2 (newer, subst (λ (y : ℕ). IsNoNewer y last.place lane.level lane.place) v (subst (λ (x : ℕ). IsNoNewer c.level x lane.level lane.place) p n.1))),
+      )
       g
 
   pub misplaced : AreByLevel tables → (e : DbError) → Misplaces logged recorded last lane e → (contents : List TableContent) → AreGood order files logged recorded tables contents → ⊥

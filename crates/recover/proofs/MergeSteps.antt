@@ -1,5 +1,5 @@
 -- What the steps of a merge of tables leave.
-use Rattle.std.proofs.Common.{◌≡◌, ◌⊎◌, inl, inr, ◌<◌, ◌≤◌, ◌+◌, ℕ, zero, suc, Bool, true, false, List, [], ◌∷◌, ◌++◌, length, map, Option, Some, None, get_or, IsTrue, refl, sym, ap, ◌∙◌, subst, arith}
+use Rattle.std.proofs.Common.{◌≡◌, inl, inr, ◌<◌, ◌≤◌, ◌+◌, ℕ, zero, suc, Bool, true, false, List, [], ◌∷◌, ◌++◌, length, Option, Some, None, get_or, IsTrue, refl, sym, ap, ◌∙◌, subst, arith}
 use Rattle.std.proofs.lemmas.Bool.{cases_eq}
 use Rattle.std.proofs.lemmas.List.{length-append}
 use Rattle.std.proofs.lemmas.Option.{slice_get_within, slice_get_read}
@@ -12,7 +12,6 @@ use Rattle.edits.specs.declared.field.PlacedTable.{PlacedTable}
 use Rattle.ikey.specs.Keys.{Key, IsKey}
 use Rattle.ikey.specs.Orders.{Order}
 use Rattle.ikey.specs.Sources.{ComesBefore}
-use Rattle.ikey.specs.Views.{Among}
 use Rattle.ikey.specs.declared.entry.Entry.{Entry}
 use Rattle.ikey.specs.declared.internal_key.InternalKey.{InternalKey}
 use Rattle.store.specs.Files.{Files, Facts}
@@ -24,15 +23,14 @@ use Rattle.recover.specs.declared.report.TableSummary.{TableSummary}
 use Rattle.recover.specs.declared.walking.Head.{Head}
 use Rattle.recover.specs.declared.walking.TableWalk.{TableWalk}
 use Rattle.recover.specs.internal.Checks.{content_of}
-use Rattle.recover.specs.internal.Merging.{Came, AreByLevel, IsOldEntry, IsLast, IsLane, IsDue, IsMerging, IsHeadBefore, IsLeastOf, IsPut, IsWithin, MayComeNext, WasMerged}
-use Rattle.recover.specs.internal.MergeSteps.{stamps, IsAgainst, FitsTables, HoldsMerge, IsFresh, IsFilled, IsMid, AreRead, AllBeginBehind, AllBeginFrom, HasEnded, IsNext}
+use Rattle.recover.specs.internal.Merging.{Came, AreByLevel, IsOldEntry, IsMerging, IsHeadBefore, IsLeastOf, IsPut, IsWithin, MayComeNext, WasMerged}
+use Rattle.recover.specs.internal.MergeSteps.{stamps, IsAgainst, FitsTables, HoldsMerge, IsFresh, IsFilled, IsMid, AreRead, AllBeginBehind, AllBeginFrom, HasEnded}
 use Rattle.recover.specs.internal.Parts.{IsUnchanged}
-use Rattle.recover.specs.internal.Walking.{stamp, IsHead, IsSmallest, IsPassed, Passes}
+use Rattle.recover.specs.internal.Walking.{stamp, IsSmallest, IsPassed, Passes}
 use Rattle.recover.specs.Ranges.{HasRange, HaveRanges}
 use Rattle.recover.specs.Report.{table_summary}
 use Rattle.recover.proofs.EntryOrder.{before_trans}
-use Rattle.recover.proofs.KeyRanges.{range_at}
-use Rattle.recover.proofs.Merged.{came_of, pass_on, pass_end, table_begins, all_good, same_before, set_same, set_other, behind_same, behind_other}
+use Rattle.recover.proofs.Merged.{came_of, pass_on, pass_end, table_begins, all_good, set_same, set_other, behind_same, behind_other}
 use Rattle.recover.proofs.MergeParts.{row_next, old_here}
 use Rattle.recover.proofs.Refused.{unchanged_itself, unchanged_both}
 
@@ -117,11 +115,11 @@ pub lanes_moved : {K : Type 0} (tables : List PlacedTable) (lanes new : List (La
     → ((j : ℕ) → (j ≡ index → ⊥) → slice_get new j ≡ slice_get lanes j) → ((i : ℕ) (l : Lane K) → slice_get lanes i ≡ Some l → l.place < length tables) → (i : ℕ) (l : Lane K) → slice_get new i ≡ Some l → l.place < length tables
 lanes_moved tables lanes new index lane moved lane_is moved_is place others h i l at = elim (cases_eq i index) [
   | inl same ↦ (
-    let both : Some l ≡ Some moved = sym at ∙ ap (slice_get new) same ∙ moved_is in
-    let one : l ≡ moved = cc in
-    let p : l.place ≡ lane.place = ap (λ (x : Lane _). x.place) one ∙ place in
-    let lt = h index lane lane_is in
-    omega (arith, p, lt))
+      let both : Some l ≡ Some moved = sym at ∙ ap (slice_get new) same ∙ moved_is in
+      let one : l ≡ moved = cc in
+      let p : l.place ≡ lane.place = ap (λ (x : Lane _). x.place) one ∙ place in
+      let lt = h index lane lane_is in
+      omega (arith, p, lt))
   | inr other ↦ h i l (sym (others i other) ∙ at)
 ]
 
@@ -151,18 +149,19 @@ fits_counted {K} tables merge new place n old lanes begun at is h = record {
   of = λ p placed there. elim (cases_eq p place) [
     | inl same ↦ (n, ap (slice_get new.summaries.items) same ∙ ap (λ (ss : List TableSummary). slice_get ss place) is ∙ counted_is tables merge place n old h at placed (sym (ap (slice_get tables) same) ∙ there))
     | inr other ↦ (
-      let r = h.of p placed there in
-      (r.0, ap (λ (ss : List TableSummary). slice_get ss p) is ∙ set_other merge.summaries.items place p (record { level = old.level; number = old.number; entries = n }) other ∙ r.1))
+        let r = h.of p placed there in
+        (r.0, ap (λ (ss : List TableSummary). slice_get ss p) is ∙ set_other merge.summaries.items place p (record { level = old.level; number = old.number; entries = n }) other ∙ r.1))
   ];
 }
+
 pub lanes_put : {K : Type 0} (tables : List PlacedTable) (lanes new : List (Lane K)) (lane : Lane K) → IsPut lanes lane new → lane.place < length tables → ((i : ℕ) (l : Lane K) → slice_get lanes i ≡ Some l → l.place < length tables)
     → (i : ℕ) (l : Lane K) → slice_get new i ≡ Some l → l.place < length tables
 lanes_put tables lanes new lane put lt h i l at = elim (cases_eq i put.0) [
   | inl same ↦ (
-    let both : Some l ≡ Some lane = sym at ∙ ap (slice_get new) same ∙ put.1 in
-    let one : l ≡ lane = cc in
-    let p : l.place ≡ lane.place = ap (λ (x : Lane _). x.place) one in
-    omega (arith, p, lt))
+      let both : Some l ≡ Some lane = sym at ∙ ap (slice_get new) same ∙ put.1 in
+      let one : l ≡ lane = cc in
+      let p : l.place ≡ lane.place = ap (λ (x : Lane _). x.place) one in
+      omega (arith, p, lt))
   | inr other ↦ h i l (sym (put.2 i other) ∙ at)
 ]
 
@@ -205,18 +204,21 @@ begun_mid order o files logged recorded tables lanes new last begun summaries pl
 -- ---- no table was begun
 
 pub fresh_mid : {K : Type 0} (order : Order) (files : Files) (against : Against) (merge : Merge K) → IsFresh against.tables.now merge → IsMid order files against merge
-fresh_mid {K} order files against merge fresh = ([], record {
-  row = tt;
-  last_is = fresh.last;
-  old = λ c i. absurd i;
-  inside = λ c i. absurd i;
-  came_open = λ c i. absurd i;
-  lanes_are = λ i lane at st. absurd (none i lane at);
-  apart = λ i j a b x y s t e. absurd (none i a x);
-  open_are = λ i lane at st. absurd (none i lane at);
-  waits = λ place placed key at waits is some before. (let bad : false ≡ true = sym fresh.last ∙ some in cc);
-  due = λ place placed at. inl (fresh.begun place (slice_get_within against.tables.now place placed at));
-})
+fresh_mid {K} order files against merge fresh = (
+  [],
+  record {
+    row = tt;
+    last_is = fresh.last;
+    old = λ c i. absurd i;
+    inside = λ c i. absurd i;
+    came_open = λ c i. absurd i;
+    lanes_are = λ i lane at st. absurd (none i lane at);
+    apart = λ i j a b x y s t e. absurd (none i a x);
+    open_are = λ i lane at st. absurd (none i lane at);
+    waits = λ place placed key at waits is some before. (let bad : false ≡ true = sym fresh.last ∙ some in cc);
+    due = λ place placed at. inl (fresh.begun place (slice_get_within against.tables.now place placed at));
+  },
+)
   where
     none : (i : ℕ) (lane : Lane K) → slice_get merge.lanes.items i ≡ Some lane → ⊥
     none i lane at = let bad : None ≡ Some lane = ap (λ (ls : List (Lane K)). slice_get ls i) (sym fresh.lanes) ∙ at in cc
@@ -249,10 +251,10 @@ filled_more tables count placed begun more summaries longer lt is h b s = record
   long = (let e = length-append summaries (Summary placed ∷ []) in let l : length longer ≡ length (summaries ++ Summary placed ∷ []) = ap (λ (ss : List TableSummary). length ss) s in omega (arith, l, e, h.long));
   of = λ place p le at. elim (cases_eq place count) [
     | inl same ↦ (
-      let here = slice_get_read tables (length tables) count placed refl lt is in
-      let both : Some placed ≡ Some p = sym here ∙ ap (slice_get tables) (sym same) ∙ at in
-      let one : placed ≡ p = cc in
-      ap (λ (ss : List TableSummary). slice_get ss place) s ∙ filled_at summaries (Summary placed) count place h.long same ∙ (λ i. Some (Summary (one i))))
+        let here = slice_get_read tables (length tables) count placed refl lt is in
+        let both : Some placed ≡ Some p = sym here ∙ ap (slice_get tables) (sym same) ∙ at in
+        let one : placed ≡ p = cc in
+        ap (λ (ss : List TableSummary). slice_get ss place) s ∙ filled_at summaries (Summary placed) count place h.long same ∙ (λ i. Some (Summary (one i))))
     | inr other ↦ ap (λ (ss : List TableSummary). slice_get ss place) s ∙ behind_other summaries (Summary placed) place (λ e. other (e ∙ h.long)) ∙ h.of place p (omega (arith, le, other)) at
   ];
 }

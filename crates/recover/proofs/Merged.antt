@@ -1,5 +1,5 @@
 -- Tables in the middle of their reading.
-use Rattle.std.proofs.Common.{◌≡◌, ◌⊎◌, inl, inr, ◌<◌, ◌≤◌, ◌+◌, ℕ, zero, suc, Bool, true, false, List, [], ◌∷◌, ◌++◌, length, map, Option, Some, None, refl, sym, ap, ◌∙◌, subst, arith}
+use Rattle.std.proofs.Common.{◌≡◌, ◌⊎◌, inl, inr, ◌<◌, ◌+◌, ℕ, zero, suc, Bool, true, false, List, [], ◌∷◌, ◌++◌, length, map, Option, Some, None, refl, sym, ap, ◌∙◌, subst, arith}
 use Rattle.std.proofs.lemmas.Bool.{cases_eq}
 use Rattle.std.proofs.lemmas.Option.{slice_get_within}
 use Rattle.std.specs.Prelude.{slice_get, slice_set}
@@ -11,7 +11,7 @@ use Rattle.std.specs.declared.cmp.Ordering.TheVariants.{Less, Equal, Greater}
 use Rattle.edits.specs.declared.field.PlacedTable.{PlacedTable}
 use Rattle.ikey.specs.Keys.{Key, IsKey}
 use Rattle.ikey.specs.Orders.{Order}
-use Rattle.ikey.specs.Sources.{ComesBefore, AreSorted}
+use Rattle.ikey.specs.Sources.{ComesBefore}
 use Rattle.ikey.specs.Views.{Among}
 use Rattle.ikey.specs.declared.entry.Entry.{Entry}
 use Rattle.store.specs.Files.{Files}
@@ -20,13 +20,12 @@ use Rattle.recover.specs.declared.merging.Last.{Last}
 use Rattle.recover.specs.declared.report.TableSummary.{TableSummary}
 use Rattle.recover.specs.declared.walking.Head.{Head}
 use Rattle.recover.specs.internal.Checks.{content_of, AreGood}
-use Rattle.recover.specs.internal.Merging.{Came, MayFollow, ComesBehind, HaveCome, IsOldEntry, IsOfTable, WasMerged, IsHeadBefore, IsLast, IsNotBefore, IsLane, AreLanes, HasLane, IsDue, IsMerging, IsLeastOf, IsEnded, IsPut, AreByLevel}
+use Rattle.recover.specs.internal.Merging.{Came, MayFollow, ComesBehind, HaveCome, IsOldEntry, IsOfTable, WasMerged, IsHeadBefore, IsLast, IsNotBefore, IsLane, IsDue, IsMerging, IsLeastOf, IsEnded, IsPut, AreByLevel}
 use Rattle.recover.specs.internal.Walking.{stamp, IsHead, IsSmallest, Passes, GoesOn}
 use Rattle.recover.specs.Report.{table_summary}
 use Rattle.recover.specs.Ranges.{HaveRanges}
 use Rattle.recover.specs.Tables.{TableContent, HasTable}
 use Rattle.recover.proofs.Ages.{come_more, AreMerged, contents_of, good_of}
-use Rattle.recover.proofs.Closed.{no_same}
 use Rattle.recover.proofs.EntryOrder.{before_trans}
 use Rattle.recover.proofs.Passing.{passes_inside}
 use Rattle.recover.proofs.WholeTables.{never_before}

@@ -1,11 +1,9 @@
 -- A table that is read from its front.
-use Rattle.std.proofs.Common.{◌≡◌, ◌≢◌, ◌⊎◌, inl, inr, ◌<◌, ◌≤◌, ◌+◌, ℕ, zero, suc, List, [], ◌∷◌, ◌++◌, length, drop, map, Option, Some, None, refl, sym, ap, ◌∙◌, subst, arith, append_assoc}
+use Rattle.std.proofs.Common.{◌≡◌, ◌⊎◌, inl, inr, ◌<◌, ◌≤◌, ◌+◌, ℕ, zero, suc, List, [], ◌∷◌, ◌++◌, length, drop, map, Option, Some, None, refl, sym, ap, ◌∙◌, subst, arith, append_assoc}
 use Rattle.std.specs.Prelude.{slice_get}
-use Rattle.std.specs.FinMap.{get}
 use Rattle.std.specs.Cmp.{IsTotalOrder}
 use Rattle.std.specs.declared.cmp.Ordering.TheVariants.{Less}
-use Rattle.std.proofs.lemmas.List.{append-nil}
-use Rattle.block.specs.Written.{last_key, last_key_from}
+use Rattle.block.specs.Written.{last_key_from}
 use Rattle.edits.specs.declared.field.PlacedTable.{PlacedTable}
 use Rattle.ikey.specs.Below.{same_key}
 use Rattle.ikey.specs.Entries.{InternalEntry, Pair, IsPair, entry_of}
@@ -16,15 +14,15 @@ use Rattle.ikey.specs.Views.{Among}
 use Rattle.ikey.specs.declared.entry.Entry.{Entry}
 use Rattle.store.specs.Files.{Files}
 use Rattle.table.specs.Blocks.{IsBegun}
-use Rattle.table.specs.Frame.{IsFrame, Opened}
+use Rattle.table.specs.Frame.{Opened}
 use Rattle.table.specs.Table.{IsTable, ArePairs}
 use Rattle.table.specs.Views.{pairs_of}
 use Rattle.table.proofs.Begun.{begun_first, begun_whole}
 use Rattle.recover.specs.declared.walking.Head.{Head}
 use Rattle.recover.specs.declared.walking.TableWalk.{TableWalk}
-use Rattle.recover.specs.internal.Checks.{content_of, first_key, Never, IsOnly, IsSpanned}
+use Rattle.recover.specs.internal.Checks.{content_of, first_key, Never, IsOnly}
 use Rattle.recover.specs.internal.Walking.{stamp, IsHead, IsKeyAt, IsSmallest, AreFirst, Passes, GoesOn}
-use Rattle.recover.specs.Tables.{HasTable, table_at, internal_key}
+use Rattle.recover.specs.Tables.{HasTable, internal_key}
 use Rattle.recover.proofs.EntryOrder.{before_trans}
 use Rattle.recover.proofs.WholeTables.{WasRead, first_is, table_by, spanned_of}
 

@@ -1,19 +1,17 @@
 -- A walk over a table, from reading to reading.
-use Rattle.std.proofs.Common.{◌≡◌, ◌⊎◌, inl, inr, ◌<◌, ◌≤◌, ◌+◌, ℕ, zero, suc, List, [], ◌∷◌, ◌++◌, length, take, drop, Option, Some, None, IsTrue, refl, sym, ap, ◌∙◌, subst, arith}
+use Rattle.std.proofs.Common.{◌≡◌, inr, ◌≤◌, ℕ, zero, suc, List, [], ◌∷◌, ◌++◌, length, take, Option, Some, None, IsTrue, refl, sym, ap, ◌∙◌, subst, arith}
 use Rattle.std.specs.FinMap.{get}
-use Rattle.std.specs.List.{flat_map}
 use Rattle.std.specs.declared.cmp.Ordering.{Ordering}
 use Rattle.coding.specs.declared.error.DbError.{DbError}
 use Rattle.coding.specs.declared.error.DbError.TheVariants.{OutOfMemory, Io, Corrupt, Unsupported}
 use Rattle.edits.specs.declared.field.PlacedTable.{PlacedTable}
 use Rattle.ikey.specs.Entries.{InternalEntry, Pair}
 use Rattle.ikey.specs.Orders.{Order}
-use Rattle.ikey.specs.declared.entry.Entry.{Entry}
 use Rattle.store.specs.Files.{Files, Facts}
 use Rattle.table.specs.Blocks.{IsBegun}
 use Rattle.table.specs.Checking.{AreChecked}
 use Rattle.table.specs.Frame.{Frame, IsFrame, AnyLong, handles, Opened}
-use Rattle.table.specs.Reading.{Reads, HasFile, Finds, Answers, Refuses}
+use Rattle.table.specs.Reading.{Reads, Finds, Answers, Refuses}
 use Rattle.table.specs.Refusals.{IsUnsupported, IsOfOne}
 use Rattle.table.specs.Table.{AreData, IsTable}
 use Rattle.table.specs.declared.handle.Place.{Place}
@@ -22,14 +20,13 @@ use Rattle.table.proofs.Checked.{wrong_table}
 use Rattle.table.proofs.DataBlocks.{long_entries}
 use Rattle.table.proofs.Steps.{refuses_more}
 use Rattle.recover.specs.declared.walking.TableWalk.{TableWalk}
-use Rattle.recover.specs.internal.Checks.{Never, IsOnly, content_of}
+use Rattle.recover.specs.internal.Checks.{Never}
 use Rattle.recover.specs.internal.Parts.{IsUnchanged}
-use Rattle.recover.specs.internal.Walking.{AreFirst, Passes, IsToldOf, IsOnlyOf}
+use Rattle.recover.specs.internal.Walking.{AreFirst, IsToldOf, IsOnlyOf}
 use Rattle.recover.specs.Limits.{TellsUnsupported}
 use Rattle.recover.specs.Ranges.{IsTableName}
 use Rattle.recover.specs.Reading.{RefusesDirectory}
-use Rattle.recover.specs.Report.{IsLongTable, HasBytes}
-use Rattle.recover.specs.Tables.{HasTable}
+use Rattle.recover.specs.Report.{IsLongTable}
 use Rattle.recover.proofs.OneMeaning.{same_content}
 
 -- ---- the next block isn't read

@@ -1,5 +1,5 @@
 -- Steps of a walk over a table.
-use Rattle.std.proofs.Common.{◌≡◌, ◌<◌, ◌≤◌, ◌+◌, ℕ, zero, suc, Bool, true, false, MatchBool, MatchOption, List, [], ◌∷◌, ◌++◌, length, Option, Some, None, IsTrue, refl, sym, ap, ◌∙◌, subst, arith}
+use Rattle.std.proofs.Common.{◌≡◌, ◌<◌, ◌≤◌, ◌+◌, ℕ, zero, suc, Bool, true, false, MatchBool, MatchOption, List, [], ◌∷◌, ◌++◌, length, Option, Some, None, refl, sym, ap, ◌∙◌, subst, arith}
 use Rattle.std.proofs.lemmas.List.{append-nil}
 use Rattle.std.specs.Prelude.{slice_get}
 use Rattle.std.specs.declared.cmp.Ordering.{Ordering}
@@ -14,9 +14,9 @@ use Rattle.ikey.specs.Sources.{ComesBefore}
 use Rattle.ikey.specs.declared.internal_key.InternalKey.{InternalKey}
 use Rattle.store.specs.Files.{Facts}
 use Rattle.table.specs.Blocks.{IsCheckedAt, IsWrongAt, IsBegun}
-use Rattle.table.specs.Frame.{Frame, IsFrame, Opened}
+use Rattle.table.specs.Frame.{IsFrame, Opened}
 use Rattle.table.specs.Intact.{IsUnsupportedAt}
-use Rattle.table.specs.Reading.{Reads, HasFile, Finds, Answers, Refuses}
+use Rattle.table.specs.Reading.{Reads, Finds, Answers, Refuses}
 use Rattle.table.specs.Refusals.{IsUnsupported, IsOfOne}
 use Rattle.table.specs.Table.{IsTable}
 use Rattle.table.specs.Views.{pair_of, pairs_of}

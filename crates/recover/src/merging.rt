@@ -58,12 +58,12 @@ pub struct Merge<K: KeyOrder> {
 }
 
 impl<K: KeyOrder> Merge<K> {
-    ghost use Rattle.std.specs.Prelude.{◌≡◌, ℕ, Some, IfOk, IfErr, OnOk, IsTrue, length};
+    ghost use Rattle.std.specs.Prelude.{◌≡◌, Some, IfOk, IfErr, OnOk, length};
     ghost use Rattle.ikey.specs.Orders.{order_of};
     ghost use Rattle.recover.specs.internal.Merging.{IsLeastOf};
-    ghost use Rattle.recover.specs.internal.MergeSteps.{IsAgainst, FitsTables, IsFresh, IsMid, AreRead, RefusesMerge, CanBegin, AllBeginFrom, HasEnded, IsNext};
+    ghost use Rattle.recover.specs.internal.MergeSteps.{IsAgainst, FitsTables, IsFresh, StandsMid, StandsRead, TellsMerge};
+    ghost use Rattle.recover.specs.internal.MergeSteps.{RefusesMerge, CanBegin, AllBeginFrom, HasEnded, IsNext};
     ghost use Rattle.recover.specs.internal.Parts.{IsUnchanged};
-    ghost use Rattle.recover.specs.Limits.{AnyIsUnsupported, TellsUnsupported};
     ghost use Rattle.recover.specs.Reading.{IsStill};
 
     /// None of the tables is read yet.
@@ -104,12 +104,12 @@ impl<K: KeyOrder> Merge<K> {
     ) -> Result<(), DbError>
         requires sound { IsAgainst (order_of K.name K.cmp) against }
         requires fits { FitsTables against.tables.now self.old }
-        requires mid { IsTrue (S.facts store.old).faithful → IsMid (order_of K.name K.cmp) (S.facts store.old).files against self.old }
+        requires mid { StandsMid (order_of K.name K.cmp) (S.facts store.old) (S.facts store.old) against self.old }
         ensures store { IsUnchanged (S.facts store.old) (S.facts store.new) }
         ensures still { IsStill (S.facts store.old) (S.facts store.new) result }
-        ensures told { IfErr result (λ error. TellsUnsupported error (S.facts store.new) (AnyIsUnsupported (order_of K.name K.cmp) (S.facts store.old).files against.entry.tables.now)) }
-        ensures refused { IfErr result (λ error. RefusesMerge error (order_of K.name K.cmp) (S.facts store.old) (S.facts store.new) against.entry) }
-        ensures found { OnOk result (IsTrue (S.facts store.new).faithful → AreRead (order_of K.name K.cmp) (S.facts store.old).files against.entry self.new) }
+        ensures told { IfErr result (λ e. TellsMerge e (order_of K.name K.cmp) (S.facts store.old) (S.facts store.new) against.entry) }
+        ensures refused { IfErr result (λ e. RefusesMerge e (order_of K.name K.cmp) (S.facts store.old) (S.facts store.new) against.entry) }
+        ensures found { OnOk result (StandsRead (order_of K.name K.cmp) (S.facts store.old) (S.facts store.new) against.entry self.new) }
     {
         for _ in 0..u64::MAX {
             let Some((place, smallest)) = soonest::<K>(against.tables, &self.begun) else {
@@ -132,14 +132,14 @@ impl<K: KeyOrder> Merge<K> {
     ) -> Result<(), DbError>
         requires sound { IsAgainst (order_of K.name K.cmp) against }
         requires fits { FitsTables against.tables.now self.old }
-        requires mid { IsTrue (S.facts store.old).faithful → IsMid (order_of K.name K.cmp) (S.facts store.old).files against self.old }
+        requires mid { StandsMid (order_of K.name K.cmp) (S.facts store.old) (S.facts store.old) against self.old }
         requires bound { AllBeginFrom (order_of K.name K.cmp) against.tables.now self.old.begun.items bound }
         ensures store { IsUnchanged (S.facts store.old) (S.facts store.new) }
         ensures still { IsStill (S.facts store.old) (S.facts store.new) result }
-        ensures told { IfErr result (λ error. TellsUnsupported error (S.facts store.new) (AnyIsUnsupported (order_of K.name K.cmp) (S.facts store.old).files against.entry.tables.now)) }
-        ensures refused { IfErr result (λ error. RefusesMerge error (order_of K.name K.cmp) (S.facts store.old) (S.facts store.new) against.entry) }
+        ensures told { IfErr result (λ e. TellsMerge e (order_of K.name K.cmp) (S.facts store.old) (S.facts store.new) against.entry) }
+        ensures refused { IfErr result (λ e. RefusesMerge e (order_of K.name K.cmp) (S.facts store.old) (S.facts store.new) against.entry) }
         ensures fits { OnOk result (FitsTables against.entry.tables.now self.new) }
-        ensures found { OnOk result (IsTrue (S.facts store.new).faithful → IsMid (order_of K.name K.cmp) (S.facts store.old).files against.entry self.new) }
+        ensures found { OnOk result (StandsMid (order_of K.name K.cmp) (S.facts store.old) (S.facts store.new) against.entry self.new) }
         ensures begun { OnOk result (self.new.begun.items ≡ self.old.begun.items) }
         ensures ended { OnOk result (HasEnded bound.entry self.new.lanes.items) }
     {
@@ -165,14 +165,14 @@ impl<K: KeyOrder> Merge<K> {
     ) -> Result<(), DbError>
         requires sound { IsAgainst (order_of K.name K.cmp) against }
         requires fits { FitsTables against.tables.now self.old }
-        requires mid { IsTrue (S.facts store.old).faithful → IsMid (order_of K.name K.cmp) (S.facts store.old).files against self.old }
+        requires mid { StandsMid (order_of K.name K.cmp) (S.facts store.old) (S.facts store.old) against self.old }
         requires waits { CanBegin against.tables.now self.old.begun.items place }
         ensures store { IsUnchanged (S.facts store.old) (S.facts store.new) }
         ensures still { IsStill (S.facts store.old) (S.facts store.new) result }
-        ensures told { IfErr result (λ error. TellsUnsupported error (S.facts store.new) (AnyIsUnsupported (order_of K.name K.cmp) (S.facts store.old).files against.entry.tables.now)) }
-        ensures refused { IfErr result (λ error. RefusesMerge error (order_of K.name K.cmp) (S.facts store.old) (S.facts store.new) against.entry) }
+        ensures told { IfErr result (λ e. TellsMerge e (order_of K.name K.cmp) (S.facts store.old) (S.facts store.new) against.entry) }
+        ensures refused { IfErr result (λ e. RefusesMerge e (order_of K.name K.cmp) (S.facts store.old) (S.facts store.new) against.entry) }
         ensures fits { OnOk result (FitsTables against.entry.tables.now self.new) }
-        ensures found { OnOk result (IsTrue (S.facts store.new).faithful → IsMid (order_of K.name K.cmp) (S.facts store.old).files against.entry self.new) }
+        ensures found { OnOk result (StandsMid (order_of K.name K.cmp) (S.facts store.old) (S.facts store.new) against.entry self.new) }
     {
         let placed = placed_at(against.tables, place);
         let walk = TableWalk::<K>::begin(alloc, store, placed)?;
@@ -197,15 +197,15 @@ impl<K: KeyOrder> Merge<K> {
     ) -> Result<(), DbError>
         requires sound { IsAgainst (order_of K.name K.cmp) against }
         requires fits { FitsTables against.tables.now self.old }
-        requires mid { IsTrue (S.facts store.old).faithful → IsMid (order_of K.name K.cmp) (S.facts store.old).files against self.old }
+        requires mid { StandsMid (order_of K.name K.cmp) (S.facts store.old) (S.facts store.old) against self.old }
         requires least { IsLeastOf (order_of K.name K.cmp) self.old.lanes.items (length self.old.lanes.items) (Some index) }
         requires next { IsNext (order_of K.name K.cmp) against.tables.now self.old index }
         ensures store { IsUnchanged (S.facts store.old) (S.facts store.new) }
         ensures still { IsStill (S.facts store.old) (S.facts store.new) result }
-        ensures told { IfErr result (λ error. TellsUnsupported error (S.facts store.new) (AnyIsUnsupported (order_of K.name K.cmp) (S.facts store.old).files against.entry.tables.now)) }
-        ensures refused { IfErr result (λ error. RefusesMerge error (order_of K.name K.cmp) (S.facts store.old) (S.facts store.new) against.entry) }
+        ensures told { IfErr result (λ e. TellsMerge e (order_of K.name K.cmp) (S.facts store.old) (S.facts store.new) against.entry) }
+        ensures refused { IfErr result (λ e. RefusesMerge e (order_of K.name K.cmp) (S.facts store.old) (S.facts store.new) against.entry) }
         ensures fits { OnOk result (FitsTables against.entry.tables.now self.new) }
-        ensures found { OnOk result (IsTrue (S.facts store.new).faithful → IsMid (order_of K.name K.cmp) (S.facts store.old).files against.entry self.new) }
+        ensures found { OnOk result (StandsMid (order_of K.name K.cmp) (S.facts store.old) (S.facts store.new) against.entry self.new) }
         ensures begun { OnOk result (self.new.begun.items ≡ self.old.begun.items) }
     {
         let lane = &mut self.lanes[index];

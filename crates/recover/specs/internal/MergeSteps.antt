@@ -1,5 +1,5 @@
 -- What the steps of a merge of tables hand to one another.
-use Rattle.std.specs.Prelude.{◌≡◌, ◌<◌, ◌≤◌, ℕ, Bool, true, false, List, [], ◌∷◌, Option, Some, None, length, map, slice_get, IsTrue, Result, IfErr}
+use Rattle.std.specs.Prelude.{◌≡◌, ◌<◌, ◌≤◌, ℕ, Bool, true, false, List, [], ◌∷◌, Option, Some, None, length, map, slice_get, IsTrue}
 use Rattle.coding.specs.declared.error.DbError.{DbError}
 use Rattle.edits.specs.declared.field.PlacedTable.{PlacedTable}
 use Rattle.ikey.specs.Keys.{Key}
@@ -17,6 +17,7 @@ use Rattle.recover.specs.internal.Checks.{Never, AreGood, AreOnly}
 use Rattle.recover.specs.internal.Merging.{Came, IsMerging, AreByLevel, IsLogged, DoesWait}
 use Rattle.recover.specs.internal.Parts.{IsUnchanged}
 use Rattle.recover.specs.internal.Walking.{stamp}
+use Rattle.recover.specs.Limits.{AnyIsUnsupported, TellsUnsupported}
 use Rattle.recover.specs.Ranges.{HaveRanges}
 use Rattle.recover.specs.Reading.{RefusesDirectory}
 use Rattle.recover.specs.Report.{IsLongTable, table_summary}
@@ -67,6 +68,10 @@ abbrev pub IsMid : {K : Type 0} → Order → Files → Against → Merge K → 
 IsMid order files against merge =
     (came : List Came) × IsMerging order files (stamps against.logged.now) against.recorded against.tables.now merge.lanes.items merge.last merge.begun.items merge.summaries.items came
 
+-- where the store is faithful, whose files were these
+abbrev pub StandsMid : {K : Type 0} → Order → Facts → Facts → Against → Merge K → Type 0
+StandsMid order old now against merge = IsTrue now.faithful → IsMid order old.files against merge
+
 -- so they are behind some steps, of which none has failed
 pub record HoldsMerge {K : Type 0} (order : Order) (against : Against) (old now : Facts) (merge : Merge K) : Type 0 where
   pub store : IsUnchanged old now
@@ -78,6 +83,14 @@ pub record HoldsMerge {K : Type 0} (order : Order) (against : Against) (old now 
 abbrev pub AreRead : {K : Type 0} → Order → Files → Against → Merge K → Type 0
 AreRead order files against merge =
     (contents : List TableContent) × AreGood order files (stamps against.logged.now) against.recorded against.tables.now contents × (merge.summaries.items ≡ map table_summary contents)
+
+-- the same where the store is faithful
+abbrev pub StandsRead : {K : Type 0} → Order → Facts → Facts → Against → Merge K → Type 0
+StandsRead order old now against merge = IsTrue now.faithful → AreRead order old.files against merge
+
+-- what is answered as not supported isn't
+abbrev pub TellsMerge : DbError → Order → Facts → Facts → Against → Type 0
+TellsMerge e order old new against = TellsUnsupported e new (AnyIsUnsupported order old.files against.tables.now)
 
 -- why they weren't
 abbrev pub RefusesMerge : DbError → Order → Facts → Facts → Against → Type 0

@@ -1,4 +1,4 @@
-use Rattle.std.proofs.Common.{◌≡◌, ℕ, List, Some, sym, ap, ◌∙◌, subst}
+use Rattle.std.proofs.Common.{List, Some, subst}
 use Rattle.recover.specs.internal.Merging.{IsEnded}
 use Rattle.recover.specs.declared.merging.Lane.{Lane}
 use Rattle.recover.proofs.Merged.{put_in, put_behind}

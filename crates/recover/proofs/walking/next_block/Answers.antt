@@ -1,4 +1,4 @@
-use Rattle.std.proofs.Common.{◌≡◌, ◌<◌, ℕ, List, length, sym, ◌∙◌, subst}
+use Rattle.std.proofs.Common.{◌<◌, List, length, sym, ◌∙◌, subst}
 use Rattle.std.proofs.lemmas.Result.{err_from_is_err_and}
 use Rattle.table.specs.Views.{pairs_of}
 use Rattle.table.specs.declared.handle.Place.{Place}

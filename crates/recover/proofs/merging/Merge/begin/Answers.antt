@@ -1,5 +1,4 @@
-use Rattle.std.proofs.Common.{◌≡◌, ◌<◌, ℕ, true, Some, length, refl, sym, ap, ◌∙◌, arith, IsTrue}
-use Rattle.std.specs.Prelude.{slice_get}
+use Rattle.std.proofs.Common.{true, refl, arith}
 use Rattle.std.proofs.lemmas.Result.{err_from_is_err_and}
 use Rattle.std.proofs.lemmas.Option.{slice_get_within}
 use Rattle.ikey.specs.Orders.{order_of}

@@ -1,13 +1,12 @@
-use Rattle.std.proofs.Common.{rules, ◌≡◌, ◌<◌, ◌+◌, ℕ, Bool, true, false, List, Some, length, refl, sym, ap, ◌∙◌, subst, arith, IsTrue}
+use Rattle.std.proofs.Common.{◌≡◌, true, false, Some, length, refl, sym, subst, arith, IsTrue}
 use Rattle.std.specs.Prelude.{slice_get, slice_set}
 use Rattle.std.proofs.lemmas.Result.{err_from_is_err_and}
-use Rattle.std.proofs.lemmas.Option.{slice_get_within, slice_get_read}
+use Rattle.std.proofs.lemmas.Option.{slice_get_read}
 use Rattle.ikey.specs.Orders.{order_of}
 use Rattle.store.specs.Files.{Facts}
 use Rattle.recover.specs.declared.merging.Lane.{Lane}
 use Rattle.recover.specs.declared.report.TableSummary.{TableSummary}
-use Rattle.recover.specs.internal.MergeSteps.{stamps, FitsTables, IsMid, RefusesMerge}
-use Rattle.recover.specs.internal.Walking.{IsPassed}
+use Rattle.recover.specs.internal.MergeSteps.{stamps, IsMid, RefusesMerge}
 use Rattle.recover.specs.Limits.{AnyIsUnsupported, TellsUnsupported}
 use Rattle.recover.proofs.Merged.{set_same, set_other}
 use Rattle.recover.proofs.MergeParts.{judge_refused, judge_told, walk_refused, walk_told}

@@ -1,4 +1,4 @@
-use Rattle.std.proofs.Common.{rules, ◌≡◌, ◌<◌, ◌≤◌, ◌+◌, ◌++◌, ℕ, List, [], ◌∷◌, length, refl, sym, ap, ◌∙◌, subst, arith}
+use Rattle.std.proofs.Common.{rules, ◌≡◌, ◌<◌, ◌≤◌, ◌+◌, ◌++◌, ℕ, List, [], length, refl, sym, ◌∙◌, subst, arith}
 use Rattle.std.proofs.lemmas.Bool.{MatchBool-at_true, MatchBool-at_false}
 use Rattle.std.proofs.lemmas.Result.{err_from_is_err_and}
 use Rattle.std.specs.Prelude.{slice_get, Some}
@@ -6,7 +6,6 @@ use Rattle.ikey.specs.Entries.{InternalEntry, Pair}
 use Rattle.ikey.specs.Keys.{Key}
 use Rattle.ikey.specs.Orders.{order_of}
 use Rattle.ikey.specs.Sources.{ComesBefore}
-use Rattle.ikey.specs.declared.entry.Entry.{Entry}
 use Rattle.table.specs.Blocks.{IsBegun}
 use Rattle.table.specs.Frame.{IsFrame}
 use Rattle.table.specs.Refusals.{IsUnsupported, IsOfOne}
