@@ -1,10 +1,9 @@
 -- A directory whose tables were checked.
-use Rattle.std.proofs.Common.{◌≡◌, ◌⊎◌, inl, inr, ◌≤◌, ℕ, List, [], ◌∷◌, map, true, false, is_some, None, IsTrue, refl, sym, ap, ◌∙◌, subst, arith}
+use Rattle.std.proofs.Common.{◌≡◌, inl, inr, ◌≤◌, ℕ, List, [], ◌∷◌, map, true, false, is_some, None, IsTrue, refl, sym, ap, ◌∙◌, subst, arith}
 use Rattle.std.specs.Prelude.{Result, Ok, Err, IfErr}
 use Rattle.recover.specs.declared.report.Report.{Report}
 use Rattle.std.specs.List.{AllByRecursion}
 use Rattle.coding.specs.declared.error.DbError.{DbError}
-use Rattle.coding.specs.declared.error.DbError.TheVariants.{OutOfMemory, Io}
 use Rattle.ikey.specs.Orders.{Order}
 use Rattle.ikey.specs.declared.entry.Entry.{Entry}
 use Rattle.store.specs.Files.{Files, Facts}
@@ -18,13 +17,13 @@ use Rattle.recover.specs.Directory.{Directory, IsConsistent, IsEmpty, used_in}
 use Rattle.ikey.specs.Views.{Among}
 use Rattle.recover.specs.Logs.{LogContent}
 use Rattle.recover.specs.internal.Parts.{IsUnchanged, RefusesBytes}
-use Rattle.recover.specs.Reading.{ReadsDirectory, IsListing, Recovers, RefusesDirectory, IsInconsistent, IsBeyondReading}
+use Rattle.recover.specs.Reading.{IsListing, Recovers, RefusesDirectory, IsInconsistent, IsBeyondReading}
 use Rattle.recover.specs.Limits.{PassesLimit}
 use Rattle.recover.specs.Report.{IsSummary, IsLongTable, AnyHasBytes, table_summary, log_summary}
 use Rattle.recover.specs.Tables.{TableContent, HasTables, InTables, AreTables}
 use Rattle.recover.proofs.Memberships.{from_tabled, to_tabled}
 use Rattle.recover.proofs.PairChecks.{newer_from, newer_to}
-use Rattle.recover.proofs.Refused.{refuses_later, refuses_bytes, refuses_more}
+use Rattle.recover.proofs.Refused.{refuses_later, refuses_bytes}
 use Rattle.recover.proofs.SaidNumbers.{beyond_past}
 use Rattle.recover.proofs.WholeReading.{recovered_parts}
 

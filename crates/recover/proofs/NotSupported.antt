@@ -77,18 +77,10 @@ told_file order e a b c placed name text h k same named r =
 
 -- ---- several
 
-any_at : (order : Order) (files : Files) (tables : List PlacedTable) (n : ℕ) (d : PlacedTable) → n < length tables → IsUnsupportedFile order files (get_or tables n d) → AnyIsUnsupported order files tables
+pub any_at : (order : Order) (files : Files) (tables : List PlacedTable) (n : ℕ) (d : PlacedTable) → n < length tables → IsUnsupportedFile order files (get_or tables n d) → AnyIsUnsupported order files tables
 any_at order files [] n d p u = absurd (omega (arith, p))
 any_at order files (t ∷ tables) zero d p u = inl u
 any_at order files (t ∷ tables) (suc n) d p u = inr (any_at order files tables n d (omega (arith, p)) u)
-
-pub told_other : (order : Order) (e : DbError) (a b c : Facts) (first : PlacedTable) (rest : List PlacedTable) (n : ℕ) (other : PlacedTable) → n < length rest → other ≡ get_or rest n other → IsUnchanged a b → IsUnchanged b c
-    → TellsUnsupported e c (IsUnsupportedFile order b.files other) → TellsUnsupported e c (AnyIsUnsupported order a.files (first ∷ rest))
-told_other order e a b c first rest n other p is h k r =
-    told_later e c (IsUnsupportedFile order b.files other) (AnyIsUnsupported order a.files (first ∷ rest)) (λ t u.
-    let F : Files → Type 0 = λ fs. IsUnsupportedFile order fs other in
-    let P : PlacedTable → Type 0 = λ x. IsUnsupportedFile order a.files x in
-    inr (any_at order a.files rest n other p (subst P is (subst F (h.same (k.faithful t)) u)))) r
 
 -- ---- the whole
 

@@ -73,7 +73,7 @@ first_of order (p ∷ pairs) (k ∷ kept) key h s e =
     elim i [ inl same ↦ inl same | inr j ↦ inr (s.0 other j) ] in
     (entry_of k, inl refl, sym (key_bytes p k h.0) ∙ here, each)
 
-first_is : (order : Order) → IsTotalOrder order.cmp → (pairs : List Pair) (kept : List InternalEntry) (first : Entry) → ArePairs pairs kept → AreSorted order (map entry_of kept) → Among (map entry_of kept) first
+pub first_is : (order : Order) → IsTotalOrder order.cmp → (pairs : List Pair) (kept : List InternalEntry) (first : Entry) → ArePairs pairs kept → AreSorted order (map entry_of kept) → Among (map entry_of kept) first
     → ((other : Entry) → Among (map entry_of kept) other → (other ≡ first) ⊎ ComesBefore order first other) → first_key pairs ≡ Some (internal_key first)
 first_is order o pairs [] first h s i all = absurd i
 first_is order o [] (k ∷ kept) first h s i all = absurd h

@@ -2,6 +2,9 @@
 pub mod Changes
 pub mod Checks
 pub mod Laws
+pub mod Merging
+pub mod MergeSteps
 pub mod Parts
 pub mod RangeOrder
 pub mod Scan
+pub mod Walking

@@ -8,7 +8,9 @@ mod laws;
 mod listing;
 mod located;
 mod log_files;
+mod logged;
 mod manifest;
+mod merging;
 mod noting;
 mod origins;
 mod overview;
@@ -18,6 +20,7 @@ mod replay;
 mod report;
 mod table_entries;
 mod tables;
+mod walking;
 
 pub use checking::check;
 pub use laws::{

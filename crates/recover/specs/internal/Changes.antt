@@ -28,7 +28,6 @@ use Rattle.recover.specs.internal.Laws.{AddsRecord, AddsAllOrNothing, IsSameLayo
 use Rattle.recover.specs.Reading.{Recovers, IsBeyondReading}
 use Rattle.recover.specs.declared.reading.Recovered.{Recovered}
 use Rattle.recover.specs.Replacing.{AreDistinct, AreParted, MayReplace}
-use Rattle.recover.specs.internal.Scan.{log_number}
 
 -- ---- the last log
 

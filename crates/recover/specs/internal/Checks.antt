@@ -28,11 +28,6 @@ IsNewerThanAll entry others = (other : Entry) → Among others other → entry.k
 abbrev pub AreNewerThan : List Entry → List Entry → Type 0
 AreNewerThan entries others = AllByRecursion (λ entry. IsNewerThanAll entry others) entries
 
--- the entries of the shallower level are newer, or in level 0 those of the second
-pub record NeedsNewer (level : ℕ) (entries : List Entry) (other_level : ℕ) (others : List Entry) : Type 0 where
-  pub shallower : level < other_level → AreNewerThan entries others
-  pub first : level ≡ 0 → other_level ≡ 0 → AreNewerThan others entries
-
 -- ---- tables
 
 abbrev pub first_key : List Pair → Option (List ℕ)
@@ -58,14 +53,6 @@ IsOnly is order files placed = (entries : List Entry) → HasTable order files (
 pub record IsOlder (logged : List Entry) (recorded : ℕ) (content : TableContent) : Type 0 where
   pub newer : AreNewerThan logged content.entries
   pub sequences : AllByRecursion (λ (entry : Entry). entry.sequence ≤ recorded) content.entries
-
--- whatever entries the other table has, they may stand behind this one
-abbrev pub MayStandBehind : Order → Files → TableContent → PlacedTable → Type 0
-MayStandBehind order files content other = (others : List Entry) → HasTable order files (content_of other others) → AreTwoTables order content (content_of other others)
-
--- it has entries that may stand there
-abbrev pub DoesFollow : Order → Files → TableContent → PlacedTable → Type 0
-DoesFollow order files content other = (others : List Entry) × HasTable order files (content_of other others) × AreTwoTables order content (content_of other others)
 
 -- The tables have these contents, older than what is logged, and each two may stand as they do.
 abbrev pub AreGood : Order → Files → List Entry → ℕ → List PlacedTable → List TableContent → Type 0

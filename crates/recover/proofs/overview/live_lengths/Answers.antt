@@ -1,4 +1,4 @@
-use Rattle.std.proofs.Common.{◌+◌, List, get_or, sym, subst, ◌∙◌, ap, take, IsTrue}
+use Rattle.std.proofs.Common.{◌+◌, List, get_or, sym, subst, ◌∙◌, take, IsTrue}
 use Rattle.std.specs.List.{filter}
 use Rattle.std.proofs.lemmas.Result.{err_from_is_err_and}
 use Rattle.recover.specs.declared.overview.LogLength.{LogLength}

@@ -1,12 +1,12 @@
-use Rattle.std.proofs.Common.{◌∙◌, ℕ, sym, List, refl, subst, IsTrue}
+use Rattle.std.proofs.Common.{ℕ, List, refl, subst, IsTrue}
 use Rattle.std.specs.List.{filter}
 use Rattle.std.proofs.lemmas.Result.{err_from_is_err_and}
 use Rattle.ikey.specs.Orders.{order_of}
 use Rattle.store.specs.Files.{Files}
-use Rattle.recover.specs.Reading.{IsBeyondReading, IsListing, RefusesDirectory}
-use Rattle.recover.specs.internal.Parts.{HaveLengths, LacksLog, SaysManifest, is_live}
-use Rattle.recover.proofs.Lengths.{IsNone, is_seen, no_log, no_manifest, not_empty}
-use Rattle.recover.proofs.Refused.{counted_later, not_listed, unchanged_both, unchanged_of}
+use Rattle.recover.specs.Reading.{IsBeyondReading}
+use Rattle.recover.specs.internal.Parts.{HaveLengths, SaysManifest, is_live}
+use Rattle.recover.proofs.Lengths.{IsNone, is_seen, no_log, no_manifest}
+use Rattle.recover.proofs.Refused.{not_listed, unchanged_both, unchanged_of}
 use Rattle.recover.proofs.overview.overview_of.Goals as goal
 
 pub returns-in_err-listing-clause-refused : goal.returns-in_err-listing-clause-refused

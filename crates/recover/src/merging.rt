@@ -1,0 +1,439 @@
+//! The tables of a directory, all in one reading: merged, their entries tell which table is older than it has to be.
+
+ghost use Rattle.std.specs.Prelude.{◌≡◌, ◌<◌, ◌+◌, List, true, length, Some, slice_get, IfOk, IfErr, OnOk, MatchBool};
+ghost use Rattle.ikey.specs.Orders.{order_of};
+ghost use Rattle.ikey.specs.declared.entry.Entry.{Entry};
+ghost use Rattle.recover.specs.internal.Walking.{stamp};
+ghost use Rattle.recover.specs.internal.Merging.{IsNoNewer, IsHeadBefore, IsLeastOf, MayComeNext, BreaksNext, IsEnded, IsPut};
+ghost use Rattle.recover.specs.internal.Merging.{IsLogged, IsOldEntry, IsSooner, IsSoonest, IsWithin, Misplaces};
+
+use crate::comparing::is_in_front;
+use crate::logged::{Logged, is_older};
+use crate::noting::{note_sequence, note_table};
+use crate::report::TableSummary;
+use crate::table_entries::is_same;
+use crate::walking::{Head, TableWalk};
+use coding::{Damage, DbError, FileKind};
+use edits::PlacedTable;
+use ikey::{InternalKey, KeyOrder, unpack};
+use std::alloc::{AllocError, Global};
+use store::{Store, Why};
+
+/// What the entries of tables are held against: the tables' levels and keys, what is logged, and the recorded sequence.
+#[derive(Clone, Copy)]
+pub struct Against<'a> {
+    pub tables: &'a [PlacedTable],
+    pub logged: &'a [Logged<'a>],
+    pub recorded: u64,
+}
+
+// A table that is being read, or that was read to its end.
+#[derive(Drop)]
+struct Lane<K: KeyOrder> {
+    // its place among the tables, and its level
+    place: usize,
+    level: u32,
+    walk: TableWalk<K>,
+    stands: bool,
+}
+
+// The entry that came last, if one did, and whose it was.
+#[derive(Drop)]
+struct Last {
+    some: bool,
+    head: Head,
+    place: usize,
+    level: u32,
+}
+
+/// The tables in the middle of their reading.
+#[derive(Drop)]
+pub struct Merge<K: KeyOrder> {
+    // whether each of the tables was begun
+    begun: Vec<bool>,
+    lanes: Vec<Lane<K>>,
+    last: Last,
+    /// What is reported of each of the tables, once it was read.
+    pub summaries: Vec<TableSummary>,
+}
+
+impl<K: KeyOrder> Merge<K> {
+    ghost use Rattle.std.specs.Prelude.{◌≡◌, Some, IfOk, IfErr, OnOk, length};
+    ghost use Rattle.ikey.specs.Orders.{order_of};
+    ghost use Rattle.recover.specs.internal.Merging.{IsLeastOf};
+    ghost use Rattle.recover.specs.internal.MergeSteps.{IsAgainst, FitsTables, IsFresh, StandsMid, StandsRead, TellsMerge};
+    ghost use Rattle.recover.specs.internal.MergeSteps.{RefusesMerge, CanBegin, AllBeginFrom, HasEnded, IsNext};
+    ghost use Rattle.recover.specs.internal.Parts.{IsUnchanged};
+    ghost use Rattle.recover.specs.Reading.{IsStill};
+
+    /// None of the tables is read yet.
+    pub fn new(alloc: Global, tables: &[PlacedTable]) -> Result<Self, AllocError>
+        ensures fits { IfOk result (λ merge. FitsTables tables.now merge) }
+        ensures fresh { IfOk result (λ merge. IsFresh tables.now merge) }
+    {
+        let lanes = Vec::new(alloc);
+        let mut begun = Vec::new(alloc);
+        let mut summaries = Vec::new(alloc);
+        for placed in tables {
+            begun.push(false)?;
+            summaries.push(TableSummary {
+                level: placed.level,
+                number: placed.table.number,
+                entries: 0,
+            })?;
+        }
+        Ok(Merge {
+            begun,
+            lanes,
+            last: Last {
+                some: false,
+                head: Head::new(alloc),
+                place: 0,
+                level: 0,
+            },
+            summaries,
+        })
+    }
+
+    /// Reads all of the tables.
+    pub fn run<S: Store>(
+        &mut self,
+        alloc: Global,
+        store: &mut S,
+        against: Against<'_>,
+    ) -> Result<(), DbError>
+        requires sound { IsAgainst (order_of K.name K.cmp) against }
+        requires fits { FitsTables against.tables.now self.old }
+        requires mid { StandsMid (order_of K.name K.cmp) (S.facts store.old) (S.facts store.old) against self.old }
+        ensures store { IsUnchanged (S.facts store.old) (S.facts store.new) }
+        ensures still { IsStill (S.facts store.old) (S.facts store.new) result }
+        ensures told { IfErr result (λ e. TellsMerge e (order_of K.name K.cmp) (S.facts store.old) (S.facts store.new) against.entry) }
+        ensures refused { IfErr result (λ e. RefusesMerge e (order_of K.name K.cmp) (S.facts store.old) (S.facts store.new) against.entry) }
+        ensures found { OnOk result (StandsRead (order_of K.name K.cmp) (S.facts store.old) (S.facts store.new) against.entry self.new) }
+    {
+        for _ in 0..u64::MAX {
+            let Some((place, smallest)) = soonest::<K>(against.tables, &self.begun) else {
+                self.run_until(alloc, store, against, None)?;
+                return Ok(());
+            };
+            self.run_until(alloc, store, against, Some(smallest))?;
+            self.begin(alloc, store, against, place)?;
+        }
+        Err(DbError::OutOfMemory)
+    }
+
+    // Passes all entries that come in front of this key, or all.
+    fn run_until<S: Store>(
+        &mut self,
+        alloc: Global,
+        store: &mut S,
+        against: Against<'_>,
+        bound: Option<InternalKey<'_>>,
+    ) -> Result<(), DbError>
+        requires sound { IsAgainst (order_of K.name K.cmp) against }
+        requires fits { FitsTables against.tables.now self.old }
+        requires mid { StandsMid (order_of K.name K.cmp) (S.facts store.old) (S.facts store.old) against self.old }
+        requires bound { AllBeginFrom (order_of K.name K.cmp) against.tables.now self.old.begun.items bound }
+        ensures store { IsUnchanged (S.facts store.old) (S.facts store.new) }
+        ensures still { IsStill (S.facts store.old) (S.facts store.new) result }
+        ensures told { IfErr result (λ e. TellsMerge e (order_of K.name K.cmp) (S.facts store.old) (S.facts store.new) against.entry) }
+        ensures refused { IfErr result (λ e. RefusesMerge e (order_of K.name K.cmp) (S.facts store.old) (S.facts store.new) against.entry) }
+        ensures fits { OnOk result (FitsTables against.entry.tables.now self.new) }
+        ensures found { OnOk result (StandsMid (order_of K.name K.cmp) (S.facts store.old) (S.facts store.new) against.entry self.new) }
+        ensures begun { OnOk result (self.new.begun.items ≡ self.old.begun.items) }
+        ensures ended { OnOk result (HasEnded bound.entry self.new.lanes.items) }
+    {
+        for _ in 0..u64::MAX {
+            let Some(index) = least::<K>(&self.lanes) else {
+                return Ok(());
+            };
+            if !is_within::<K>(&self.lanes[index].walk.head, bound) {
+                return Ok(());
+            }
+            self.pass(alloc, store, against, index)?;
+        }
+        Err(DbError::OutOfMemory)
+    }
+
+    // Begins the table of this place.
+    fn begin<S: Store>(
+        &mut self,
+        alloc: Global,
+        store: &mut S,
+        against: Against<'_>,
+        place: usize,
+    ) -> Result<(), DbError>
+        requires sound { IsAgainst (order_of K.name K.cmp) against }
+        requires fits { FitsTables against.tables.now self.old }
+        requires mid { StandsMid (order_of K.name K.cmp) (S.facts store.old) (S.facts store.old) against self.old }
+        requires waits { CanBegin against.tables.now self.old.begun.items place }
+        ensures store { IsUnchanged (S.facts store.old) (S.facts store.new) }
+        ensures still { IsStill (S.facts store.old) (S.facts store.new) result }
+        ensures told { IfErr result (λ e. TellsMerge e (order_of K.name K.cmp) (S.facts store.old) (S.facts store.new) against.entry) }
+        ensures refused { IfErr result (λ e. RefusesMerge e (order_of K.name K.cmp) (S.facts store.old) (S.facts store.new) against.entry) }
+        ensures fits { OnOk result (FitsTables against.entry.tables.now self.new) }
+        ensures found { OnOk result (StandsMid (order_of K.name K.cmp) (S.facts store.old) (S.facts store.new) against.entry self.new) }
+    {
+        let placed = placed_at(against.tables, place);
+        let walk = TableWalk::<K>::begin(alloc, store, placed)?;
+        let lane = Lane {
+            place,
+            level: placed.level,
+            walk,
+            stands: true,
+        };
+        put_lane(&mut self.lanes, lane)?;
+        self.begun[place] = true;
+        Ok(())
+    }
+
+    // Passes the entry of this lane, which is the least of all.
+    fn pass<S: Store>(
+        &mut self,
+        alloc: Global,
+        store: &mut S,
+        against: Against<'_>,
+        index: usize,
+    ) -> Result<(), DbError>
+        requires sound { IsAgainst (order_of K.name K.cmp) against }
+        requires fits { FitsTables against.tables.now self.old }
+        requires mid { StandsMid (order_of K.name K.cmp) (S.facts store.old) (S.facts store.old) against self.old }
+        requires least { IsLeastOf (order_of K.name K.cmp) self.old.lanes.items (length self.old.lanes.items) (Some index) }
+        requires next { IsNext (order_of K.name K.cmp) against.tables.now self.old index }
+        ensures store { IsUnchanged (S.facts store.old) (S.facts store.new) }
+        ensures still { IsStill (S.facts store.old) (S.facts store.new) result }
+        ensures told { IfErr result (λ e. TellsMerge e (order_of K.name K.cmp) (S.facts store.old) (S.facts store.new) against.entry) }
+        ensures refused { IfErr result (λ e. RefusesMerge e (order_of K.name K.cmp) (S.facts store.old) (S.facts store.new) against.entry) }
+        ensures fits { OnOk result (FitsTables against.entry.tables.now self.new) }
+        ensures found { OnOk result (StandsMid (order_of K.name K.cmp) (S.facts store.old) (S.facts store.new) against.entry self.new) }
+        ensures begun { OnOk result (self.new.begun.items ≡ self.old.begun.items) }
+    {
+        let lane = &mut self.lanes[index];
+        judge(alloc, store, against, &self.last, lane)?;
+        set_last(&mut self.last, lane)?;
+        let placed = placed_at(against.tables, lane.place);
+        if lane.walk.go_on(alloc, store, placed)? {
+            return Ok(());
+        }
+        lane.stands = false;
+        self.summaries[lane.place].entries = lane.walk.passed;
+        Ok(())
+    }
+}
+
+// Of the tables that weren't begun one with the least smallest key, and that key.
+fn soonest<'a, K: KeyOrder>(
+    tables: &'a [PlacedTable],
+    begun: &[bool],
+) -> Option<(usize, InternalKey<'a>)>
+    requires { length begun.now ≡ length tables.now }
+    ensures { IsSoonest (order_of K.name K.cmp) tables.now begun.now result }
+{
+    let mut best: Option<(usize, InternalKey<'a>)> = None;
+    for place in 0..tables.len() {
+        if begun[place] {
+            continue;
+        }
+        let Some(key) = unpack(tables[place].table.smallest.as_slice()) else {
+            continue;
+        };
+        if !is_sooner::<K>(key, best) {
+            continue;
+        }
+        best = Some((place, key));
+    }
+    best
+}
+
+// Whether the key comes in front of that of the best one, if there is one.
+fn is_sooner<K: KeyOrder>(key: InternalKey<'_>, best: Option<(usize, InternalKey<'_>)>) -> bool
+    ensures { MatchBool result (IsSooner (order_of K.name K.cmp) key.entry best.entry)
+        (IsSooner (order_of K.name K.cmp) key.entry best.entry → ⊥) }
+{
+    match best {
+        None => true,
+        Some((_, other)) => { is_in_front::<K>(key.user, key.sequence, other.user, other.sequence) }
+    }
+}
+
+// The lane whose key is the least, if one stands on any.
+fn least<K: KeyOrder>(lanes: &[Lane<K>]) -> Option<usize>
+    ensures { IsLeastOf (order_of K.name K.cmp) lanes.now (length lanes.now) result }
+{
+    let mut best: Option<usize> = None;
+    for index in 0..lanes.len() {
+        best = better::<K>(lanes, index, best);
+    }
+    best
+}
+
+// The lane at this index, where its key is less than that of the best of those in front of it.
+fn better<K: KeyOrder>(lanes: &[Lane<K>], index: usize, best: Option<usize>) -> Option<usize>
+    requires { index < length lanes.now }
+    ensures { IsLeastOf (order_of K.name K.cmp) lanes.now index best → IsLeastOf (order_of K.name K.cmp) lanes.now (index + 1) result }
+{
+    let lane = &lanes[index];
+    if !lane.stands {
+        return best;
+    }
+    let Some(at) = best else {
+        return Some(index);
+    };
+    let Some(other) = lanes.get(at) else {
+        return Some(index);
+    };
+    if is_head_before::<K>(&lane.walk.head, &other.walk.head) {
+        return Some(index);
+    }
+    best
+}
+
+// Whether the key at hand comes in front of the other.
+fn is_head_before<K: KeyOrder>(a: &Head, b: &Head) -> bool
+    ensures { MatchBool result (IsHeadBefore (order_of K.name K.cmp) a.now b.now) (IsHeadBefore (order_of K.name K.cmp) a.now b.now → ⊥) }
+{
+    is_in_front::<K>(a.user.as_slice(), a.sequence, b.user.as_slice(), b.sequence)
+}
+
+// Whether the key at hand comes in front of the bound, if there is one.
+fn is_within<K: KeyOrder>(head: &Head, bound: Option<InternalKey<'_>>) -> bool
+    ensures { MatchBool result (IsWithin (order_of K.name K.cmp) head.now bound.entry)
+        (IsWithin (order_of K.name K.cmp) head.now bound.entry → ⊥) }
+{
+    match bound {
+        None => true,
+        Some(key) => {
+            is_in_front::<K>(head.user.as_slice(), head.sequence, key.user, key.sequence)
+        }
+    }
+}
+
+// Puts a lane in the place of one that has ended, or behind all.
+fn put_lane<K: KeyOrder>(lanes: &mut Vec<Lane<K>>, lane: Lane<K>) -> Result<(), AllocError>
+    ensures { IfOk result (λ _. IsPut lanes.old.items lane lanes.new.items) }
+{
+    match ended_lane::<K>(lanes) {
+        Some(index) => lanes[index] = lane,
+        None => lanes.push(lane)?,
+    }
+    Ok(())
+}
+
+// The first lane that has ended, if one has.
+fn ended_lane<K: KeyOrder>(lanes: &[Lane<K>]) -> Option<usize>
+    ensures { IsEnded lanes.now result }
+{
+    for index in 0..lanes.len() {
+        if !lanes[index].stands {
+            return Some(index);
+        }
+    }
+    None
+}
+
+fn set_last<K: KeyOrder>(last: &mut Last, lane: &Lane<K>) -> Result<(), AllocError>
+    ensures some { OnOk result (last.new.some ≡ true) }
+    ensures user { OnOk result (last.new.head.user.items ≡ lane.now.walk.head.user.items) }
+    ensures sequence { OnOk result (last.new.head.sequence ≡ lane.now.walk.head.sequence) }
+    ensures place { OnOk result (last.new.place ≡ lane.now.place) }
+    ensures level { OnOk result (last.new.level ≡ lane.now.level) }
+{
+    last.head
+        .set(lane.walk.head.user.as_slice(), lane.walk.head.sequence)?;
+    last.some = true;
+    last.place = lane.place;
+    last.level = lane.level;
+    Ok(())
+}
+
+// Whether the entry at which a lane stands is one that a consistent directory has there: it is recorded, older than what is
+// logged of its key, and of its key the next one that may come.
+fn judge<K: KeyOrder, S: Store>(
+    alloc: Global,
+    store: &mut S,
+    against: Against<'_>,
+    last: &Last,
+    lane: &Lane<K>,
+) -> Result<(), DbError>
+    ghost entries: { List Entry }
+    requires { IsLogged (order_of K.name K.cmp) entries against.logged.now }
+    ensures same { S.facts store.new ≡ S.facts store.old }
+    ensures old { OnOk result (IsOldEntry entries against.entry.recorded
+        (stamp lane.now.walk.head.user.items lane.now.walk.head.sequence)) }
+    ensures next { OnOk result (MayComeNext last.now lane.now) }
+    ensures refused { IfErr result (λ error. Misplaces entries against.entry.recorded last.now lane.now error) }
+{
+    let number = number_at(against.tables, lane.place);
+    let head = &lane.walk.head;
+    if head.sequence > against.recorded {
+        note_sequence(alloc, store, number, head.sequence, against.recorded);
+        return Err(DbError::Corrupt(FileKind::Table, Damage::Number));
+    }
+    if !is_older::<K>(against.logged, head.user.as_slice(), head.sequence) {
+        note_table(alloc, store, number, Why::Age);
+        return Err(DbError::Corrupt(FileKind::Log, Damage::Order));
+    }
+    if !may_come(last, lane) {
+        note_table(
+            alloc,
+            store,
+            number_of_older(against.tables, last, lane),
+            Why::Age,
+        );
+        return Err(DbError::Corrupt(FileKind::Table, Damage::Order));
+    }
+    Ok(())
+}
+
+// Whether the entry at which a lane stands may come behind the last one, in front of which it doesn't stand: where it is of the same
+// key, it is older, and its table isn't one that has to be newer.
+fn may_come<K: KeyOrder>(last: &Last, lane: &Lane<K>) -> bool
+    ensures { MatchBool result (MayComeNext last.now lane.now) (BreaksNext last.now lane.now) }
+{
+    if !last.some {
+        return true;
+    }
+    if !is_same(last.head.user.as_slice(), lane.walk.head.user.as_slice()) {
+        return true;
+    }
+    if lane.walk.head.sequence >= last.head.sequence {
+        return false;
+    }
+    is_no_newer(last.level, last.place, lane.level, lane.place)
+}
+
+// Whether of two tables, each by its level and its place in the row, the second isn't one that has to be newer.
+fn is_no_newer(level: u32, place: usize, other_level: u32, other: usize) -> bool
+    ensures { MatchBool result (IsNoNewer level place other_level other) (IsNoNewer level place other_level other → ⊥) }
+{
+    if level != other_level {
+        return level < other_level;
+    }
+    if level > 0 {
+        return true;
+    }
+    other <= place
+}
+
+// The table at a place of the row.
+fn placed_at(tables: &[PlacedTable], place: usize) -> &PlacedTable
+    requires { place < length tables.now }
+    ensures { slice_get tables.now place ≡ Some result.now }
+{
+    &tables[place]
+}
+
+fn number_at(tables: &[PlacedTable], place: usize) -> u64 {
+    match tables.get(place) {
+        Some(placed) => placed.table.number,
+        None => 0,
+    }
+}
+
+// The number of that one of two tables that has to be older.
+fn number_of_older<K: KeyOrder>(tables: &[PlacedTable], last: &Last, lane: &Lane<K>) -> u64 {
+    if is_no_newer(last.level, last.place, lane.level, lane.place) {
+        return number_at(tables, lane.place);
+    }
+    number_at(tables, last.place)
+}
