@@ -56,7 +56,7 @@ returns-in_err-read-clause-told g c =
     (λ (file : List ℕ). (entries : List InternalEntry) → IsFrame cmp file frame → IsTable cmp file entries → ⊥) c.in_ok-table.ensures.reads c.in_err-read.ensures.reads c.in_ok-table.ensures.name c.in_ok-table.ensures.found c.in_err-read.ensures.told)
 
 pub returns-then-has_none-clause-refused : goal.returns-then-has_none-clause-refused
-returns-then-has_none-clause-refused g c = rw c.note_file.ensures (λ t bytes kept there is.
+returns-then-has_none-clause-refused g c = rw c.note_file.ensures.same (λ t bytes kept there is.
     let cmp = g.K.KeyOrder.cmp in
     let read = c.in_ok-read.read in
     let none : read.pairs.items ≡ [] = sym c.deref.ensures.value ∙ c.if-has_none.ensures in

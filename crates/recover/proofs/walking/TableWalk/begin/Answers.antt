@@ -54,7 +54,7 @@ returns-in_err-walk-clause-told g c =
     c.in_ok-name.ensures.store c.in_err-walk.ensures.store c.as_str.ensures.value c.in_ok-name.ensures.found c.in_err-walk.ensures.told)
 
 pub returns-then-not-begins_at-clause-refused : goal.returns-then-not-begins_at-clause-refused
-returns-then-not-begins_at-clause-refused g c = rw c.note_file.ensures (λ t.
+returns-then-not-begins_at-clause-refused g c = rw c.note_file.ensures.same (λ t.
     let order = order_of g.K.KeyOrder.name g.K.KeyOrder.cmp in
     let a = g.S.Store.facts c.args.store.now in
     let walk = c.in_ok-walk.walk in

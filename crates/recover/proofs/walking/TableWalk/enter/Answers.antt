@@ -40,7 +40,7 @@ returns-in_err-read-clause-still g c =
     (λ (file : List ℕ). (entries : List InternalEntry) → IsFrame g.K.KeyOrder.cmp file walk.table.frame → IsTable g.K.KeyOrder.cmp file entries → ⊥) (λ (file : List ℕ). IsOfOne (IsUnsupported file) walk.table.frame.places) refl c.in_err-read.ensures.told)
 
 pub returns-then-not-is_largest-clause-refused : goal.returns-then-not-is_largest-clause-refused
-returns-then-not-is_largest-clause-refused g c = rw c.note_file.ensures (λ t passed here h.
+returns-then-not-is_largest-clause-refused g c = rw c.note_file.ensures.same (λ t passed here h.
     let cmp = g.K.KeyOrder.cmp in
     let walk = c.args.self.now in
     let none : c.in_ok-read.read.pairs.items ≡ [] = sym c.deref-2.ensures.value ∙ c.if-has_none.ensures in
@@ -69,7 +69,7 @@ returns-then-has_none-clause-found g c = λ t passed here h.
     )
 
 pub returns-then-not-branch-clause-refused : goal.returns-then-not-branch-clause-refused
-returns-then-not-branch-clause-refused g c = rw c.note_file-then-not-branch.ensures (λ t passed here h.
+returns-then-not-branch-clause-refused g c = rw c.note_file-then-not-branch.ensures.same (λ t passed here h.
     let cmp = g.K.KeyOrder.cmp in
     let order = order_of g.K.KeyOrder.name cmp in
     let walk = c.args.self.now in
