@@ -4,6 +4,7 @@ use Rattle.coding.specs.declared.error.DbError.{DbError}
 use Rattle.coding.specs.declared.error.DbError.TheVariants.{OutOfMemory, Io, Corrupt, Unsupported}
 use Rattle.cursor.specs.declared.cursor.Cursor.{Ghosts as OfCursor}
 use Rattle.cursor.specs.Merging.{listed}
+use Rattle.cursor.specs.Cuts.{Cut}
 use Rattle.cursor.specs.Moves.{Moves, Stays, Refuses}
 use Rattle.cursor.specs.Places.{Cmp, Listed, within, to_first, to_next}
 use Rattle.ikey.specs.declared.entry.Entry.{Entry}
@@ -52,14 +53,14 @@ abbrev pub moved_on : Result (Unit {0}) DbError
 moved_on = Ok tt
 
 module _ {C H S : Type 0} (cmp : Cmp) (deep : List ℕ → Bool) (facts : S → Facts) (store_of : H → S) (with_store : H → S → H) (gathers : H → ℕ → Type 0) (facts_of : H → Facts)
-    (lists : C → H → Listed → Type 0) (keeps : C → H → H → Type 0) (limited : C → H → Type 0) (leaves : (ℕ → Type 0) → H → H → Type 0) (goes_over : C → ℕ → Type 0)
+    (lists : C → H → Listed → Type 0) (keeps : C → H → H → Type 0) (limited : C → H → Type 0) (torn : C → H → Cut → Type 0) (leaves : (ℕ → Type 0) → H → H → Type 0) (goes_over : C → ℕ → Type 0)
     (are : (h : H) → facts_of h ≡ facts (store_of h)) (replaced : (h : H) (s : S) → store_of (with_store h s) ≡ s)
     (beside : (h : H) (s : S) (n : ℕ) → gathers (with_store h s) n → gathers h n) (left : (cursor : C) (h i : H) → leaves (goes_over cursor) h i → (n : ℕ) → gathers i n → gathers h n ⊎ goes_over cursor n)
     (kept : (cursor : C) (old new : H) (at : Listed) → keeps cursor old new → lists cursor old at → lists cursor new at) where
   -- after the outputs were written, the cursor reads what it read
   pub still-keeps : (cursor moved : C) (source : H) (held store : S) (after : H) (mine : ℕ → Type 0)
       → held ≡ store_of source → WritesTables (facts held) (facts store) mine → ReadsApart facts store_of with_store gathers keeps cursor mine → AreDisjoint (gathers source) mine
-      → Stays facts_of keeps limited leaves goes_over cursor moved (with_store source store) after
+      → Stays facts_of keeps limited torn leaves goes_over cursor moved (with_store source store) after
       → IsTrue (facts (store_of after)).faithful → keeps cursor source (with_store source store)
   still-keeps cursor moved source held store after mine is writes apart none stays t =
       let t_after : IsTrue (facts_of after).faithful = subst (λ (f : Facts). IsTrue f.faithful) (sym (are after)) t in
@@ -70,7 +71,7 @@ module _ {C H S : Type 0} (cmp : Cmp) (deep : List ℕ → Bool) (facts : S → 
   -- and lists what it listed
   pub still-lists : (cursor moved : C) (source : H) (held store : S) (after : H) (mine : ℕ → Type 0) (at : Listed)
       → held ≡ store_of source → WritesTables (facts held) (facts store) mine → ReadsApart facts store_of with_store gathers keeps cursor mine → AreDisjoint (gathers source) mine
-      → Stays facts_of keeps limited leaves goes_over cursor moved (with_store source store) after
+      → Stays facts_of keeps limited torn leaves goes_over cursor moved (with_store source store) after
       → IsTrue (facts (store_of after)).faithful → lists cursor source at → lists cursor (with_store source store) at
   still-lists cursor moved source held store after mine at is writes apart none stays t h =
       kept cursor source (with_store source store) at (still-keeps cursor moved source held store after mine is writes apart none stays t) h
@@ -79,7 +80,7 @@ module _ {C H S : Type 0} (cmp : Cmp) (deep : List ℕ → Bool) (facts : S → 
   pub moves-on : (cursor moved : C) (source : H) (held store : S) (after : H) (mine : ℕ → Type 0) (came : List InternalEntry) (entry : InternalEntry) (rest : List InternalEntry)
       → held ≡ store_of source → WritesTables (facts held) (facts store) mine → ReadsApart facts store_of with_store gathers keeps cursor mine → AreDisjoint (gathers source) mine
       → Moves facts_of lists cursor moved (with_store source store) after moved_on to_next
-      → Stays facts_of keeps limited leaves goes_over cursor moved (with_store source store) after
+      → Stays facts_of keeps limited torn leaves goes_over cursor moved (with_store source store) after
       → IsTrue (facts (store_of after)).faithful → HasPassed lists cursor source came (entry ∷ rest) → HasPassed lists moved after (came ++ entry ∷ []) rest
   moves-on cursor moved source held store after mine came entry rest is writes apart none moves stays t h =
       let t_after : IsTrue (facts_of after).faithful = subst (λ (f : Facts). IsTrue f.faithful) (sym (are after)) t in
@@ -87,7 +88,7 @@ module _ {C H S : Type 0} (cmp : Cmp) (deep : List ℕ → Bool) (facts : S → 
       passed-more lists moved after came entry rest (moves t_after at (still-lists cursor moved source held store after mine at is writes apart none stays t h))
 
   pub writes-move : (cursor moved : C) (source : H) (held store : S) (after : H) (mine : ℕ → Type 0) → held ≡ store_of source → WritesTables (facts held) (facts store) mine
-      → Stays facts_of keeps limited leaves goes_over cursor moved (with_store source store) after → Reads (facts store) (facts (store_of after))
+      → Stays facts_of keeps limited torn leaves goes_over cursor moved (with_store source store) after → Reads (facts store) (facts (store_of after))
   writes-move cursor moved source held store after mine is writes stays =
       subst (λ (s : S). Reads (facts s) (facts (store_of after))) (replaced source store) (reads-held facts store_of facts_of are (with_store source store) after stays.reads)
 
@@ -101,7 +102,7 @@ module _ {C H S : Type 0} (cmp : Cmp) (deep : List ℕ → Bool) (facts : S → 
   pub job-step : (last over : List ℕ) (cursor moved : C) (c e : Choosing) (w u : TablesWritten) (source : H) (held store : S) (after : H) (next more : ℕ) (came : List InternalEntry) (entry : InternalEntry) (rest : List InternalEntry) (choice : Choice)
       → held ≡ store_of source → WritesTables (facts held) (facts store) (IsMine w next) → next ≤ more → more < 2 ^ 64 → KeepsMine w next u more
       → Moves facts_of lists cursor moved (with_store source store) after moved_on to_next
-      → Stays facts_of keeps limited leaves goes_over cursor moved (with_store source store) after
+      → Stays facts_of keeps limited torn leaves goes_over cursor moved (with_store source store) after
       → IsTrue (facts (store_of after)).faithful
       → IsKey over entry.key
       → ((last_key : Key) (x : Entry) → IsKey last last_key → IsUpTo cmp x last_key → Precedes cmp x (entry_of entry))
@@ -113,7 +114,7 @@ module _ {C H S : Type 0} (cmp : Cmp) (deep : List ℕ → Bool) (facts : S → 
   job-step last over cursor moved c e w u source held store after next more came entry rest choice is writes le fits keeps_mine moves stays t over_is order chosen wrote h =
       let mine : (n : ℕ) → IsMine u more n → IsMine w next n = λ n is_mine. mine-before w u next more n le fits keeps_mine is_mine in
       let r = writes-move cursor moved source held store after (IsMine w next) is writes stays in
-      let merged = merge-step cmp deep (facts held) (facts store) (facts (store_of after)) last over c e w u next more came entry choice over_is (r.files t) order chosen (wrote (r.faithful t)) h.goes_on
+      let merged = merge-step cmp deep (facts held) (facts store) (facts (store_of after)) last over c e w u next more came entry choice over_is (r.files t) (r.synced t) order chosen (wrote (r.faithful t)) h.goes_on
       (subst (λ (s : S). IsMerging cmp deep last c w (facts s) next came) (sym is) h.merging) in
       record {
         merging = merged.0;
@@ -140,15 +141,15 @@ module _ {K C H S : Type 0} (cmp : Cmp) (deep : List ℕ → Bool) (of_store : O
 
 -- ---- a job begins
 
-pub starts : {C H S : Type 0} (cmp : Cmp) (deep : List ℕ → Bool) (facts : S → Facts) (store_of : H → S) (with_store : H → S → H) (gathers : H → ℕ → Type 0) (facts_of : H → Facts) (lists : C → H → Listed → Type 0) (keeps : C → H → H → Type 0) (limited : C → H → Type 0) (leaves : (ℕ → Type 0) → H → H → Type 0) (goes_over : C → ℕ → Type 0)
+pub starts : {C H S : Type 0} (cmp : Cmp) (deep : List ℕ → Bool) (facts : S → Facts) (store_of : H → S) (with_store : H → S → H) (gathers : H → ℕ → Type 0) (facts_of : H → Facts) (lists : C → H → Listed → Type 0) (keeps : C → H → H → Type 0) (limited : C → H → Type 0) (torn : C → H → Cut → Type 0) (leaves : (ℕ → Type 0) → H → H → Type 0) (goes_over : C → ℕ → Type 0)
     → ((h : H) → facts_of h ≡ facts (store_of h)) → ((cursor : C) (h i : H) → leaves (goes_over cursor) h i → (n : ℕ) → gathers i n → gathers h n ⊎ goes_over cursor n) → (last : List ℕ) (cursor moved : C) (c : Choosing) (w : TablesWritten) (source after : H) (next : ℕ) (at : Listed)
     → w ≡ record { closed = []; at_hand = None } → last ≡ []
     → Chooses cmp deep c [] [] → IsWriting cmp w (facts (store_of after)) next []
-    → Moves facts_of lists cursor moved source after moved_on to_first → Stays facts_of keeps limited leaves goes_over cursor moved source after
+    → Moves facts_of lists cursor moved source after moved_on to_first → Stays facts_of keeps limited torn leaves goes_over cursor moved source after
     → IsTrue (facts (store_of after)).faithful → lists cursor source at → ReadsApart facts store_of with_store gathers keeps cursor (IsToCome next)
     → AreDisjoint (gathers source) (IsToCome next) → AreDisjoint (goes_over cursor) (IsToCome next)
     → IsJob cmp deep facts store_of with_store gathers lists keeps goes_over last moved c w after next [] at.entries
-starts cmp deep facts store_of with_store gathers facts_of lists keeps limited leaves goes_over are left last cursor moved c w source after next at none empty chooses written moves stays t h apart ungathered outside = record {
+starts cmp deep facts store_of with_store gathers facts_of lists keeps limited torn leaves goes_over are left last cursor moved c w source after next at none empty chooses written moves stays t h apart ungathered outside = record {
   merging = merging-none cmp deep last c w (facts (store_of after)) next empty chooses written.written;
   goes_on = written.goes_on;
   left = moves (subst (λ (f : Facts). IsTrue f.faithful) (sym (are after)) t) at h;

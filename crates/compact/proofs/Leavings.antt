@@ -1,5 +1,6 @@
 -- What a job leaves of its source, step by step.
 use Rattle.std.proofs.Common.{◌≡◌, ◌≤◌, ℕ, zero, suc, inl, inr, refl, subst}
+use Rattle.cursor.specs.Cuts.{Cut}
 use Rattle.cursor.specs.Moves.{Stays}
 use Rattle.store.specs.Files.{Facts}
 use Rattle.compact.specs.Leaving.{AreTurns, IsTurn, LeavesOthers}
@@ -26,7 +27,7 @@ module _ {H S : Type 0} (facts : S → Facts) (store_of : H → S) (with_store :
       let more = turns-then moves mine n m h.0 b d h.2 k in
       (suc more.0, (h.0, h.1, more.1))
 
-module _ {C H S : Type 0} (facts : S → Facts) (store_of : H → S) (with_store : H → S → H) (facts_of : H → Facts) (keeps : C → H → H → Type 0) (limited : C → H → Type 0) (leaves : (ℕ → Type 0) → H → H → Type 0) (over : C → ℕ → Type 0) where
+module _ {C H S : Type 0} (facts : S → Facts) (store_of : H → S) (with_store : H → S → H) (facts_of : H → Facts) (keeps : C → H → H → Type 0) (limited : C → H → Type 0) (torn : C → H → Cut → Type 0) (leaves : (ℕ → Type 0) → H → H → Type 0) (over : C → ℕ → Type 0) where
   pub leaves-all : (mine : ℕ → Type 0) (cursor : C) (source : H) → LeavesOthers facts store_of with_store keeps leaves over mine cursor cursor source source
   leaves-all mine cursor source = record { turns = (0, refl); within = λ n is. is; same = λ s t k. k }
 
@@ -42,7 +43,7 @@ module _ {C H S : Type 0} (facts : S → Facts) (store_of : H → S) (with_store
   }
 
   pub leaves-moved : (mine : ℕ → Type 0) (cursor moved : C) (source : H) (held store : S) (after : H) → held ≡ store_of source → WritesTables (facts held) (facts store) mine
-      → Stays facts_of keeps limited leaves over cursor moved (with_store source store) after → LeavesOthers facts store_of with_store keeps leaves over mine cursor moved source after
+      → Stays facts_of keeps limited torn leaves over cursor moved (with_store source store) after → LeavesOthers facts store_of with_store keeps leaves over mine cursor moved source after
   leaves-moved mine cursor moved source held store after is writes stays = record {
     turns = (2, (with_store source store, inr (store, refl, wrote mine source held store is writes), (after, inl stays.left, refl)));
     within = stays.within;

@@ -9,6 +9,7 @@ use Rattle.compact.specs.declared.job.Job.{Job}
 use Rattle.compact.specs.declared.job.Progress.{Progress}
 use Rattle.std.specs.declared.cmp.Ordering.TheVariants.{Less}
 use Rattle.cursor.specs.declared.cursor.Cursor.{Ghosts as OfCursor}
+use Rattle.cursor.specs.Cuts.{Cut}
 use Rattle.cursor.specs.Merging.{listed}
 use Rattle.cursor.specs.Places.{Cmp, Listed, within}
 use Rattle.ikey.specs.declared.entry.Entry.{Entry}
@@ -106,6 +107,10 @@ pub record IsStepOf (budget : ℕ) (progress : Progress) (front back : List Inte
 -- what it reads of the source passes a limit of reading
 abbrev pub IsLimited : {K C H : Type 0} → (C → H → Type 0) → Job K C → H → Type 0
 IsLimited limited job source = limited job.cursor source
+
+-- no block to which its cursor comes is none
+abbrev pub ReadsIntact : {K C H : Type 0} → (C → H → Cut → Type 0) → Job K C → H → Type 0
+ReadsIntact torn job source = (cut : Cut) → torn job.cursor source cut → ⊥
 
 -- All that came was merged into these tables, and the edit puts them in the place of the inputs.
 abbrev pub IsFinished : Cmp → (List ℕ → Bool) → JobPlan → List ℕ → Choosing → Facts → ℕ → ℕ → List InternalEntry → List Field → Type 0

@@ -50,11 +50,11 @@ impl<K: KeyOrder, C: Drop> Job<K, C> {
     ghost use Rattle.std.specs.Prelude.{◌≡◌, ◌<◌, ◌≤◌, ◌⊎◌, ◌+◌, ◌^◌, All, map, max, ◌∷◌, ◌++◌};
     ghost use Rattle.std.specs.Prelude.{[], ℕ, Bool, List, None, IsTrue, IfOk, IfErr, OnOk, MatchBool};
     ghost use Rattle.std.specs.List.{AllByRecursion};
-    ghost use Rattle.cursor.specs.Moves.{ListsNone};
+    ghost use Rattle.cursor.specs.Cuts.{Cut, TornAt, first_cut};
     ghost use Rattle.edits.specs.Edit.{IsProper, IsInOrder};
     ghost use Rattle.cursor.specs.Places.{Listed};
     ghost use Rattle.ikey.specs.Entries.{InternalEntry, entry_of};
-    ghost use Rattle.compact.specs.Merging.{IsBetween, IsLimited, IsMerging, IsStepOf, IsFinished};
+    ghost use Rattle.compact.specs.Merging.{IsBetween, IsLimited, IsMerging, IsStepOf, IsFinished, ReadsIntact};
     ghost use Rattle.compact.specs.Merging.{KeepsMine, ReadsApart, AreDisjoint, HaveOwnSequences};
     ghost use Rattle.compact.specs.JobEdits.{IsEditOfPlan, IsPlanProper, IsOwnIn};
     ghost use Rattle.compact.specs.Outputs.{AreNumbered, IsMineUpTo, IsNumberAtHand, IsOwn};
@@ -91,9 +91,11 @@ impl<K: KeyOrder, C: Drop> Job<K, C> {
         ensures stood { OnOk result ((S.facts (H.store_of source.new)).failures ≡ (S.facts (H.store_of source.old)).failures) }
         ensures limits { IfOk result (λ job. IsTrue (S.facts (H.store_of source.new)).faithful → IsLimited C.limited job source.new
             → C.limited cursor source.old) }
+        ensures torn { IfOk result (λ job. IsTrue (S.facts (H.store_of source.new)).faithful → (cut : Cut)
+            → C.torn job.cursor source.new cut → C.torn cursor source.old cut) }
         ensures refused { IfErr result (λ e. RefusesEntry e (S.facts (H.store_of source.old)) (S.facts (H.store_of source.new))
-            (IsTrue (S.facts (H.store_of source.new)).faithful → ListsNone C.lists cursor source.old)
-            (IsTrue (S.facts (H.store_of source.new)).faithful → ListsNone C.lists cursor source.old ⊎ C.limited cursor source.old) ⊥) }
+            (IsTrue (S.facts (H.store_of source.new)).faithful → TornAt C.lists C.torn first_cut cursor source.old)
+            (IsTrue (S.facts (H.store_of source.new)).faithful → TornAt C.lists C.torn first_cut cursor source.old ⊎ C.limited cursor source.old) ⊥) }
         ensures started { IfOk result (λ job. (deep : List ℕ → Bool) (next : ℕ) (at : Listed)
             → IsTrue (S.facts (H.store_of source.new)).faithful
             → C.lists cursor source.old at → ReadsApart S.facts H.store_of H.with_store H.gathers C.keeps cursor (IsToCome next)
@@ -114,8 +116,8 @@ impl<K: KeyOrder, C: Drop> Job<K, C> {
     }
 
     /// Merges so many entries, or one for 0, or all that are left where those are fewer. `deeper` is to be the same in
-    /// each step. Corrupt where two entries of a user key have one sequence number, or where the inputs aren't what the
-    /// cursor was made for. After an `Err` the job is to be given up: the files that it wrote are no part of the database, and its
+    /// each step. Corrupt where two entries of a user key have one sequence number, or where a block of the inputs
+    /// is torn. After an `Err` the job is to be given up: the files that it wrote are no part of the database, and its
     /// inputs are as they were.
     pub fn step<S: Store, H: HasStore<S>, D: DeeperFiles>(
         &mut self,
@@ -146,15 +148,19 @@ impl<K: KeyOrder, C: Drop> Job<K, C> {
         ensures refused { IfErr result (λ e. RefusesEntry e (S.facts (H.store_of source.old)) (S.facts (H.store_of source.new))
             (IsTrue (S.facts (H.store_of source.new)).faithful → (came : List InternalEntry) (rest : List InternalEntry)
             → IsBetween K.cmp (D.covers deeper.now) S.Store H.HasStore C.Cursor self.old source.old numbers.old.next came rest
-            → HaveOwnSequences (came ++ rest) → ⊥)
+            → HaveOwnSequences (came ++ rest) → ReadsIntact C.torn self.old source.old → ⊥)
             (IsTrue (S.facts (H.store_of source.new)).faithful → (came : List InternalEntry) (rest : List InternalEntry)
             → IsBetween K.cmp (D.covers deeper.now) S.Store H.HasStore C.Cursor self.old source.old numbers.old.next came rest
-            → IsLimited C.limited self.old source.old ⊎ AreLarge (map entry_of (came ++ rest)))
+            → ReadsIntact C.torn self.old source.old → IsLimited C.limited self.old source.old ⊎ AreLarge (map entry_of (came ++ rest)))
             (2 ^ 62 ≤ numbers.new.next)) }
         ensures limits { OnOk result ((came : List InternalEntry) (rest : List InternalEntry)
             → IsTrue (S.facts (H.store_of source.new)).faithful
             → IsBetween K.cmp (D.covers deeper.now) S.Store H.HasStore C.Cursor self.old source.old numbers.old.next came rest
             → IsLimited C.limited self.new source.new → IsLimited C.limited self.old source.old) }
+        ensures torn { OnOk result ((came : List InternalEntry) (rest : List InternalEntry)
+            → IsTrue (S.facts (H.store_of source.new)).faithful
+            → IsBetween K.cmp (D.covers deeper.now) S.Store H.HasStore C.Cursor self.old source.old numbers.old.next came rest
+            → (cut : Cut) → C.torn self.new.cursor source.new cut → C.torn self.old.cursor source.old cut) }
         ensures sliced { IfOk result (λ progress. (came : List InternalEntry) (rest : List InternalEntry)
             → IsTrue (S.facts (H.store_of source.new)).faithful
             → IsBetween K.cmp (D.covers deeper.now) S.Store H.HasStore C.Cursor self.old source.old numbers.old.next came rest
@@ -257,16 +263,20 @@ impl<K: KeyOrder, C: Drop> Job<K, C> {
             (IsTrue (S.facts (H.store_of source.new)).faithful
             → (came : List InternalEntry) (entry : InternalEntry) (rest : List InternalEntry)
             → IsBetween K.cmp (D.covers deeper.now) S.Store H.HasStore C.Cursor self.old source.old numbers.old.next came (entry ∷ rest)
-            → HaveOwnSequences (came ++ entry ∷ rest) → ⊥)
+            → HaveOwnSequences (came ++ entry ∷ rest) → ReadsIntact C.torn self.old source.old → ⊥)
             (IsTrue (S.facts (H.store_of source.new)).faithful
             → (came : List InternalEntry) (entry : InternalEntry) (rest : List InternalEntry)
             → IsBetween K.cmp (D.covers deeper.now) S.Store H.HasStore C.Cursor self.old source.old numbers.old.next came (entry ∷ rest)
-            → IsLimited C.limited self.old source.old ⊎ AreLarge (map entry_of (came ++ entry ∷ rest)))
+            → ReadsIntact C.torn self.old source.old → IsLimited C.limited self.old source.old ⊎ AreLarge (map entry_of (came ++ entry ∷ rest)))
             (2 ^ 62 ≤ numbers.new.next)) }
         ensures limits { OnOk result ((came : List InternalEntry) (entry : InternalEntry) (rest : List InternalEntry)
             → IsTrue (S.facts (H.store_of source.new)).faithful
             → IsBetween K.cmp (D.covers deeper.now) S.Store H.HasStore C.Cursor self.old source.old numbers.old.next came (entry ∷ rest)
             → IsLimited C.limited self.new source.new → IsLimited C.limited self.old source.old) }
+        ensures torn { OnOk result ((came : List InternalEntry) (entry : InternalEntry) (rest : List InternalEntry)
+            → IsTrue (S.facts (H.store_of source.new)).faithful
+            → IsBetween K.cmp (D.covers deeper.now) S.Store H.HasStore C.Cursor self.old source.old numbers.old.next came (entry ∷ rest)
+            → (cut : Cut) → C.torn self.new.cursor source.new cut → C.torn self.old.cursor source.old cut) }
         ensures merged { OnOk result ((came : List InternalEntry) (entry : InternalEntry) (rest : List InternalEntry)
             → IsTrue (S.facts (H.store_of source.new)).faithful
             → IsBetween K.cmp (D.covers deeper.now) S.Store H.HasStore C.Cursor self.old source.old numbers.old.next came (entry ∷ rest)

@@ -5,6 +5,7 @@ pub mod Befores
 pub mod Beginnings
 pub mod Best
 pub mod Comparing
+pub mod Cutting
 pub mod Fronts
 pub mod Joining
 pub mod Jumping
@@ -20,6 +21,7 @@ pub mod Sides
 pub mod Singles
 pub mod Standings
 pub mod Strides
+pub mod Tearing
 pub mod Turns
 pub mod Unions
 pub mod Wanderings

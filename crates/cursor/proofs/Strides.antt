@@ -14,7 +14,8 @@ use Rattle.cursor.specs.declared.standing.Position.TheVariants.{Here, Behind, As
 use Rattle.cursor.specs.Places.{Cmp, Listed, is_less, within, index_before, index_behind}
 use Rattle.cursor.specs.Merging.{listed}
 use Rattle.cursor.specs.Views.{IsViewList, IsVisible, KeysRise, Walked, passed, shown, walk_next, walk_prev}
-use Rattle.cursor.specs.Moves.{Refuses, ListsNone}
+use Rattle.cursor.specs.Cuts.{Cut, TornSomewhere}
+use Rattle.cursor.specs.Moves.{Refuses}
 use Rattle.cursor.specs.Searches.{Wanders, FoundOn, FoundBack, PassesLower}
 use Rattle.cursor.specs.Standing.{StandsAt}
 use Rattle.cursor.specs.Walks.{IsPlacedWalk, StandsOnPair, walked}
@@ -114,21 +115,21 @@ module _ {C S : Type 0} (cmp : Cmp) (lists : C → S → Listed → Type 0) wher
     walk_somewhere at h = placed_somewhere cmp lists cursor sequence stands position key value source h.0 at h.2
 
     -- after a refusal
-    pub refused_walk : (facts : S → Facts) (keeps : C → S → S → Type 0) (limited : C → S → Type 0) (leaves : (ℕ → Type 0) → S → S → Type 0) (over : C → ℕ → Type 0) (new : C) (same : ℕ) (now : Bool) (astray : Position) (kept now_value : List ℕ) (after : S)
-        → same ≡ sequence → now ≡ stands → astray ≡ Astray → kept ≡ key → Wanders facts lists keeps limited leaves over cursor new source after → IsTrue (facts after).faithful
+    pub refused_walk : (facts : S → Facts) (keeps : C → S → S → Type 0) (limited : C → S → Type 0) (torn : C → S → Cut → Type 0) (leaves : (ℕ → Type 0) → S → S → Type 0) (over : C → ℕ → Type 0) (new : C) (same : ℕ) (now : Bool) (astray : Position) (kept now_value : List ℕ) (after : S)
+        → same ≡ sequence → now ≡ stands → astray ≡ Astray → kept ≡ key → Wanders facts lists keeps limited torn leaves over cursor new source after → IsTrue (facts after).faithful
         → (at : Walked) → IsWalkOf cursor sequence stands position key value source at → IsWalkOf new same now astray kept now_value after at
-    refused_walk facts keeps limited leaves over new same now astray kept now_value after s n a k w t at h =
+    refused_walk facts keeps limited torn leaves over new same now astray kept now_value after s n a k w t at h =
         let l = walk_somewhere at h in (
           h.0,
           subst (λ (x : ℕ). IsViewList cmp h.0 x at.pairs) (sym s) h.1,
           stayed_placed cmp lists cursor new sequence same stands now position astray key kept value now_value source after h.0 at s n a k h.2 (w.somewhere t (listed h.0 l.0) l.1),
         )
 
-    pub refuses_walk : (e : DbError) (old new : Facts) (limit : Type 0) → Refuses e old new (ListsNone lists cursor source) limit
-        → Refuses e old new ((at : Walked) → IsWalkOf cursor sequence stands position key value source at → ⊥) limit
-    refuses_walk e old new limit r =
-        refuses_later e old old new (ListsNone lists cursor source) ((at : Walked) → IsWalkOf cursor sequence stands position key value source at → ⊥) limit limit (omega arith)
-        (λ f none at h. let l = walk_somewhere at h in none (listed h.0 l.0) l.1) (λ f l. l) r
+    pub refuses_walk : (torn : C → S → Cut → Type 0) (e : DbError) (old new : Facts) (limit : Type 0) → Refuses e old new (TornSomewhere lists torn cursor source) limit
+        → Refuses e old new ((at : Walked) → IsWalkOf cursor sequence stands position key value source at → (cut : Cut) × torn cursor source cut) limit
+    refuses_walk torn e old new limit r =
+        refuses_later e old old new (TornSomewhere lists torn cursor source) ((at : Walked) → IsWalkOf cursor sequence stands position key value source at → (cut : Cut) × torn cursor source cut) limit limit (omega arith)
+        (λ f there at h. let l = walk_somewhere at h in there (listed h.0 l.0) l.1) (λ f l. l) r
 
     pub arrived_walk : (old : ℕ) (entries : List InternalEntry) (at : Walked) (place to : Option ℕ) → IsViewList cmp entries old at.pairs → sequence ≡ old
         → IsPlacedWalk cmp lists cursor sequence stands position key value source entries (walked at.pairs place) → place ≡ to → IsWalkOf cursor sequence stands position key value source (record at { place = to })

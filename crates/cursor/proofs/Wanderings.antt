@@ -10,7 +10,8 @@ use Rattle.table.specs.Reading.{Reads}
 use Rattle.ikey.specs.Entries.{InternalEntry}
 use Rattle.ikey.specs.Keys.{Key, IsKey}
 use Rattle.cursor.specs.Places.{Cmp, Listed, Rises, within, index_before, to_next, to_prev}
-use Rattle.cursor.specs.Moves.{Moves, Stays, Refuses, ListsNone, place_after}
+use Rattle.cursor.specs.Cuts.{Cut, TornAt, TornSomewhere}
+use Rattle.cursor.specs.Moves.{Moves, Stays, Refuses, place_after}
 use Rattle.cursor.specs.Merging.{listed}
 use Rattle.cursor.specs.Searches.{Wanders, SearchesOn, AnswersOn, LooksOn, SearchesBack, AnswersBack, LooksBack, RefusesKey}
 use Rattle.cursor.proofs.Leading.{within_cases}
@@ -18,39 +19,49 @@ use Rattle.cursor.proofs.Turns.{stays_then, refuses_later}
 use Rattle.cursor.proofs.Onwards.{hides_on, passes_on, takes_on, none_on}
 use Rattle.cursor.proofs.Backwards.{looks_back, ends_back, front_back}
 
-pub stays_still : {C S : Type 0} (facts : S → Facts) (keeps : C → S → S → Type 0) (limited : C → S → Type 0) (leaves : (ℕ → Type 0) → S → S → Type 0) (over : C → ℕ → Type 0) → ((cursor : C) (source : S) → keeps cursor source source) → ((numbers : ℕ → Type 0) (source : S) → leaves numbers source source) → (cursor : C) (source : S) → Stays facts keeps limited leaves over cursor cursor source source
-stays_still facts keeps limited leaves over still leaves_still cursor source = record {
+pub stays_still : {C S : Type 0} (facts : S → Facts) (keeps : C → S → S → Type 0) (limited : C → S → Type 0) (torn : C → S → Cut → Type 0) (leaves : (ℕ → Type 0) → S → S → Type 0) (over : C → ℕ → Type 0) → ((cursor : C) (source : S) → keeps cursor source source) → ((numbers : ℕ → Type 0) (source : S) → leaves numbers source source) → (cursor : C) (source : S) → Stays facts keeps limited torn leaves over cursor cursor source source
+stays_still facts keeps limited torn leaves over still leaves_still cursor source = record {
   reads = record { faithful = λ t. t; files = λ t. refl; failures = omega arith; writes = refl; denials = refl; locked = refl; synced = λ f. refl; calls = λ f. refl };
   left = leaves_still (over cursor) source;
   others = λ f other. still other source;
   same = λ s t k. k;
   limit = λ f l. l;
+  tear = λ f cut l. l;
   within = λ number o. o;
 }
 
-module _ {C S : Type 0} (facts : S → Facts) (lists : C → S → Listed → Type 0) (keeps : C → S → S → Type 0) (limited : C → S → Type 0) (leaves : (ℕ → Type 0) → S → S → Type 0) (over : C → ℕ → Type 0) where
-  pub wanders_still : ((cursor : C) (source : S) → keeps cursor source source) → ((numbers : ℕ → Type 0) (source : S) → leaves numbers source source) → (cursor : C) (source : S) → Wanders facts lists keeps limited leaves over cursor cursor source source
-  wanders_still still leaves_still cursor source = record { stays = stays_still facts keeps limited leaves over still leaves_still cursor source; somewhere = λ f at l. (at.place, l) }
+module _ {C S : Type 0} (facts : S → Facts) (lists : C → S → Listed → Type 0) (keeps : C → S → S → Type 0) (limited : C → S → Type 0) (torn : C → S → Cut → Type 0) (leaves : (ℕ → Type 0) → S → S → Type 0) (over : C → ℕ → Type 0) where
+  pub wanders_still : ((cursor : C) (source : S) → keeps cursor source source) → ((numbers : ℕ → Type 0) (source : S) → leaves numbers source source) → (cursor : C) (source : S) → Wanders facts lists keeps limited torn leaves over cursor cursor source source
+  wanders_still still leaves_still cursor source = record { stays = stays_still facts keeps limited torn leaves over still leaves_still cursor source; somewhere = λ f at l. (at.place, l) }
 
   pub wanders_then : ((cursor : C) (first second third : S) → keeps cursor first second → keeps cursor second third → keeps cursor first third)
       → ((numbers : ℕ → Type 0) (first second third : S) → leaves numbers first second → leaves numbers second third → leaves numbers first third)
       → ((fewer more : ℕ → Type 0) (old new : S) → ((number : ℕ) → fewer number → more number) → leaves fewer old new → leaves more old new)
-      → (a b c : C) (s t u : S) → Wanders facts lists keeps limited leaves over a b s t → Wanders facts lists keeps limited leaves over b c t u → Wanders facts lists keeps limited leaves over a c s u
+      → (a b c : C) (s t u : S) → Wanders facts lists keeps limited torn leaves over a b s t → Wanders facts lists keeps limited torn leaves over b c t u → Wanders facts lists keeps limited torn leaves over a c s u
   wanders_then onward leaves_onward leaves_more a b c s t u h k = record {
-    stays = stays_then facts keeps limited leaves over onward leaves_onward leaves_more a b c s t u h.stays k.stays;
+    stays = stays_then facts keeps limited torn leaves over onward leaves_onward leaves_more a b c s t u h.stays k.stays;
     somewhere = λ f at l. let place = h.somewhere (k.stays.reads.faithful f) at l in k.somewhere f (listed at.entries place.0) place.1;
   }
 
-  pub move_wanders : {T : Type 0} (old new : C) (before after : S) (result : Result T DbError) (to : Listed → Option ℕ) → Moves facts lists old new before after result to → Stays facts keeps limited leaves over old new before after
-      → Wanders facts lists keeps limited leaves over old new before after
+  pub move_wanders : {T : Type 0} (old new : C) (before after : S) (result : Result T DbError) (to : Listed → Option ℕ) → Moves facts lists old new before after result to → Stays facts keeps limited torn leaves over old new before after
+      → Wanders facts lists keeps limited torn leaves over old new before after
   move_wanders old new before after result to moves stays = record { stays = stays; somewhere = λ f at l. (place_after result (to at) at.place, moves f at l) }
 
   -- a refusal of a later move
-  pub refused_then : (e : DbError) (a b : C) (s t : S) (u : Facts) → Wanders facts lists keeps limited leaves over a b s t → Reads (facts t) u
-      → Refuses e (facts t) u (ListsNone lists b t) (limited b t) → Refuses e (facts s) u (ListsNone lists a s) (limited a s)
+  pub refused_then : (e : DbError) (a b : C) (s t : S) (u : Facts) → Wanders facts lists keeps limited torn leaves over a b s t → Reads (facts t) u
+      → Refuses e (facts t) u (TornSomewhere lists torn b t) (limited b t) → Refuses e (facts s) u (TornSomewhere lists torn a s) (limited a s)
   refused_then e a b s t u h reads r =
-      refuses_later e (facts s) (facts t) u (ListsNone lists b t) (ListsNone lists a s) (limited b t) (limited a s) h.stays.reads.failures
-      (λ f none at l. let place = h.somewhere (reads.faithful f) at l in none (listed at.entries place.0) place.1) (λ f l. h.stays.limit (reads.faithful f) l) r
+      refuses_later e (facts s) (facts t) u (TornSomewhere lists torn b t) (TornSomewhere lists torn a s) (limited b t) (limited a s) h.stays.reads.failures
+      (λ f there at l.
+      let place = h.somewhere (reads.faithful f) at l in
+      let torn_there = there (listed at.entries place.0) place.1 in
+      (torn_there.0, h.stays.tear (reads.faithful f) torn_there.0 torn_there.1)) (λ f l. h.stays.limit (reads.faithful f) l) r
+
+-- a refusal at one cut is one at some cut
+pub refused_at : {C S : Type 0} (lists : C → S → Listed → Type 0) (torn : C → S → Cut → Type 0) (cut : Listed → Cut) (e : DbError) (old new : Facts) (a : C) (s : S) (limit : Type 0)
+    → Refuses e old new (TornAt lists torn cut a s) limit → Refuses e old new (TornSomewhere lists torn a s) limit
+refused_at lists torn cut e old new a s limit r =
+    refuses_later e old old new (TornAt lists torn cut a s) (TornSomewhere lists torn a s) limit limit (omega arith) (λ f there at l. (cut at, there at l)) (λ f l. l) r
 
 refuses_by_key : (e : DbError) (old new : Facts) (bytes : List ℕ) (damage limit : Type 0) → (IsTrue new.faithful → ((key : Key) → IsKey bytes key → ⊥) → damage) → RefusesKey e bytes → Refuses e old new damage limit
 refuses_by_key OutOfMemory old new bytes damage limit d r = tt
@@ -78,15 +89,15 @@ module _ {C S : Type 0} (cmp : Cmp) (total : IsTotalOrder cmp) (exact : IsAntisy
       (place.0, entry.0, place.1, entry.1)
 
   -- bytes that are no key are refused only where there is no list
-  pub refused_key : (e : DbError) (facts : S → Facts) (keeps : C → S → S → Type 0) (limited : C → S → Type 0) (leaves : (ℕ → Type 0) → S → S → Type 0) (over : C → ℕ → Type 0) (a b : C) (s t : S) (bytes : List ℕ) (limit : Type 0) → Wanders facts lists keeps limited leaves over a b s t → stands b ≡ true
+  pub refused_key : (e : DbError) (facts : S → Facts) (keeps : C → S → S → Type 0) (limited : C → S → Type 0) (torn : C → S → Cut → Type 0) (leaves : (ℕ → Type 0) → S → S → Type 0) (over : C → ℕ → Type 0) (a b : C) (s t : S) (bytes : List ℕ) (limit : Type 0) → Wanders facts lists keeps limited torn leaves over a b s t → stands b ≡ true
       → ((at : Listed) (index : ℕ) (entry : InternalEntry) → lists b t at → at.place ≡ Some index → slice_get at.entries index ≡ Some entry → IsKey bytes entry.key)
-      → RefusesKey e bytes → Refuses e (facts s) (facts t) (ListsNone lists a s) limit
-  refused_key e facts keeps limited leaves over a b s t bytes limit h stand key r =
-      refuses_by_key e (facts s) (facts t) bytes (ListsNone lists a s) limit
+      → RefusesKey e bytes → Refuses e (facts s) (facts t) (TornSomewhere lists torn a s) limit
+  refused_key e facts keeps limited torn leaves over a b s t bytes limit h stand key r =
+      refuses_by_key e (facts s) (facts t) bytes (TornSomewhere lists torn a s) limit
       (λ f none at l.
       let place = h.somewhere f at l in
       let there = stands_there b t (listed at.entries place.0) place.1 stand in
-      none there.1.key (key (listed at.entries place.0) there.0 there.1 place.1 there.2 there.3)) r
+      absurd (none there.1.key (key (listed at.entries place.0) there.0 there.1 place.1 there.2 there.3))) r
 
   module _ (entries : List InternalEntry) (sequence : ℕ) (test : List ℕ → Bool) (n : ℕ) (c : C) (s : S) where
     -- ---- forth

@@ -1,3 +1,4 @@
+pub mod Cuts
 pub mod MergeLaws
 pub mod Merging
 pub mod Motions

@@ -7,6 +7,7 @@ use Rattle.ikey.specs.Views.{Among}
 use Rattle.cursor.specs.declared.child.Child.{Child}
 use Rattle.cursor.specs.declared.child.Side.{Side}
 use Rattle.cursor.specs.declared.child.Side.TheVariants.{Ahead, Behind, Astray}
+use Rattle.cursor.specs.Cuts.{Cut}
 use Rattle.cursor.specs.Places.{Cmp, Listed, Rises, is_below, within, index_before, leading}
 
 -- ---- the union
@@ -90,6 +91,15 @@ KeepsAll {C} keeps children old new = (i : ℕ) (child : Child C) → slice_get 
 
 abbrev pub AnyLimited : {C S : Type 0} → (C → S → Type 0) → List (Child C) → S → Type 0
 AnyLimited {C} limited children source = (i : ℕ) × (child : Child C) × (slice_get children i ≡ Some child) × limited child.cursor source
+
+-- one of them has a torn block at this cut
+abbrev pub AnyTorn : {C S : Type 0} → (C → S → Cut → Type 0) → List (Child C) → S → Cut → Type 0
+AnyTorn {C} torn children source cut = (i : ℕ) × (child : Child C) × (slice_get children i ≡ Some child) × torn child.cursor source cut
+
+-- one that isn't left out has
+abbrev pub OtherTorn : {C S : Type 0} → (C → S → Cut → Type 0) → List (Child C) → Option ℕ → S → Cut → Type 0
+OtherTorn {C} torn children left_out source cut =
+    (i : ℕ) × (child : Child C) × (slice_get children i ≡ Some child) × (Some i ≡ left_out → ⊥) × torn child.cursor source cut
 
 -- a merge goes over the tables that its children go over
 abbrev pub GoesOverAny : {C : Type 0} → (C → ℕ → Type 0) → List (Child C) → ℕ → Type 0

@@ -11,6 +11,7 @@ use Rattle.cursor.specs.declared.child.Motion.{Motion}
 use Rattle.cursor.specs.declared.child.Motion.TheVariants.{First, Last, Seek, Ahead, Behind}
 use Rattle.cursor.specs.declared.children.End.{End}
 use Rattle.cursor.specs.declared.children.End.TheVariants.{Least, Greatest}
+use Rattle.cursor.specs.Cuts.{Cut, Front, End as EndCut, Below}
 use Rattle.cursor.specs.Places.{Cmp, Listed, is_less, is_below, within, index_before}
 use Rattle.ikey.specs.Views.{Among}
 use Rattle.cursor.specs.Merging.{IsUnion, IsMerge, Each, listed, ahead, behind}
@@ -22,6 +23,14 @@ place_of cmp Last key list = index_before (length list)
 place_of cmp (Seek target) key list = ahead (is_below cmp key) list
 place_of cmp (Ahead target) key list = ahead (is_below cmp key) list
 place_of cmp (Behind target) key list = behind (is_below cmp key) list
+
+-- the cut to which it leads
+abbrev pub motion_cut : Motion → Key → Cut
+motion_cut First key = Front
+motion_cut Last key = EndCut
+motion_cut (Seek target) key = Below key
+motion_cut (Ahead target) key = Below key
+motion_cut (Behind target) key = Below key
 
 -- a target is the key at which a merge stands, where the child is astray
 abbrev pub AimsTurn : Side → List ℕ → Key → Type 0

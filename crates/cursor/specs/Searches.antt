@@ -7,14 +7,15 @@ use Rattle.store.specs.Files.{Facts}
 use Rattle.ikey.specs.declared.internal_key.Kind.TheVariants.{Delete, Put}
 use Rattle.ikey.specs.Entries.{InternalEntry}
 use Rattle.ikey.specs.Keys.{Key, IsKey}
+use Rattle.cursor.specs.Cuts.{Cut}
 use Rattle.cursor.specs.Places.{Cmp, Listed, is_less}
 use Rattle.cursor.specs.Moves.{Stays}
 use Rattle.cursor.specs.Merging.{listed, behind}
 use Rattle.cursor.specs.Views.{IsVisible, is_user_below}
 
 -- What several moves of a cursor leave: it stands somewhere in the same list.
-pub record Wanders {C S : Type 0} (facts : S → Facts) (lists : C → S → Listed → Type 0) (keeps : C → S → S → Type 0) (limited : C → S → Type 0) (leaves : (ℕ → Type 0) → S → S → Type 0) (over : C → ℕ → Type 0) (old new : C) (before after : S) : Type 0 where
-  pub stays : Stays facts keeps limited leaves over old new before after
+pub record Wanders {C S : Type 0} (facts : S → Facts) (lists : C → S → Listed → Type 0) (keeps : C → S → S → Type 0) (limited : C → S → Type 0) (torn : C → S → Cut → Type 0) (leaves : (ℕ → Type 0) → S → S → Type 0) (over : C → ℕ → Type 0) (old new : C) (before after : S) : Type 0 where
+  pub stays : Stays facts keeps limited torn leaves over old new before after
   pub somewhere : IsTrue (facts after).faithful → (at : Listed) → lists old before at → (place : Option ℕ) × lists new after (listed at.entries place)
 
 -- ---- tests of user keys

@@ -8,8 +8,8 @@ ghost use Rattle.ikey.specs.Keys.{Key, IsKey};
 ghost use Rattle.table.specs.Reading.{IsStill};
 ghost use Rattle.cursor.specs.Places.{Listed};
 ghost use Rattle.cursor.specs.Moves.{Stays, Refuses, after_move};
-ghost use Rattle.cursor.specs.Merging.{IsMerge, IsUnion, Each, KeepsAll, AnyLimited, GoesOverAny, child_stands, listed};
-ghost use Rattle.cursor.specs.Motions.{AimsJump, IsJump, end_of, place_of};
+ghost use Rattle.cursor.specs.Merging.{IsMerge, IsUnion, Each, KeepsAll, AnyLimited, AnyTorn, GoesOverAny, child_stands, listed};
+ghost use Rattle.cursor.specs.Motions.{AimsJump, IsJump, end_of, motion_cut, place_of};
 
 use crate::child::{Child, Motion, Side};
 use crate::children::End;
@@ -75,8 +75,9 @@ pub fn merge_begins<K: KeyOrder, S, C: Cursor<K, S>>(merge: &Merge<K, C>, source
 }
 
 impl<K: KeyOrder, S, C: Cursor<K, S>> Cursor<K, S> for Merge<K, C> {
-    ghost use Rattle.cursor.specs.Merging.{IsMerge, KeepsAll, child_stands, AnyLimited, GoesOverAny};
+    ghost use Rattle.cursor.specs.Merging.{IsMerge, KeepsAll, child_stands, AnyLimited, AnyTorn, GoesOverAny};
     ghost use Rattle.cursor.specs.MergeLaws.{merge_rises, merge_placed, merge_inside, merge_kept, all_still, all_onward, any_limited_kept};
+    ghost use Rattle.cursor.specs.MergeLaws.{any_torn_kept, any_torn_same};
 
     ghost facts = { C.facts };
 
@@ -87,6 +88,8 @@ impl<K: KeyOrder, S, C: Cursor<K, S>> Cursor<K, S> for Merge<K, C> {
     ghost stands = { λ merge. child_stands C.stands merge.children.items merge.current };
 
     ghost limited = { λ merge source. AnyLimited C.limited merge.children.items source };
+
+    ghost torn = { λ merge source cut. AnyTorn C.torn merge.children.items source cut };
 
     ghost leaves = { C.leaves };
 
@@ -168,6 +171,11 @@ impl<K: KeyOrder, S, C: Cursor<K, S>> Cursor<K, S> for Merge<K, C> {
 
     ghost limits_kept = { λ merge old new k l. any_limited_kept C.keeps C.limited C.limits_kept merge.children.items old new k l };
 
+    ghost torn_kept = { λ merge old new cut k t. any_torn_kept C.keeps C.torn C.torn_kept merge.children.items old new cut k t };
+
+    ghost torn_same = { λ merge source at a b h same t. any_torn_same K.cmp C.lists C.torn C.torn_same merge.children.items
+        merge.current merge.target.items source at a b h same t };
+
     ghost leaves_still = { C.leaves_still };
 
     ghost leaves_onward = { C.leaves_onward };
@@ -189,12 +197,13 @@ fn jump<K: KeyOrder, S, C: Cursor<K, S>>(
         → IsMerge K.cmp C.lists merge.old.children.items merge.old.current merge.old.target.items source.old at
         → IsMerge K.cmp C.lists merge.new.children.items merge.new.current merge.new.target.items source.new
         (after_move result (λ from. place_of K.cmp motion.entry goal from.entries) at) }
-    ensures stays { Stays C.facts (KeepsAll C.keeps) (AnyLimited C.limited) C.leaves
+    ensures stays { Stays C.facts (KeepsAll C.keeps) (AnyLimited C.limited) (AnyTorn C.torn) C.leaves
         (GoesOverAny C.over) merge.old.children.items merge.new.children.items source.old source.new }
     ensures still { IsStill (C.facts source.old) (C.facts source.new) result }
     ensures refused { IfErr result (λ e. Refuses e (C.facts source.old) (C.facts source.new)
         ((at : Listed) (goal : Key) → AimsJump motion.entry goal
-        → IsMerge K.cmp C.lists merge.old.children.items merge.old.current merge.old.target.items source.old at → ⊥)
+        → IsMerge K.cmp C.lists merge.old.children.items merge.old.current merge.old.target.items source.old at
+        → AnyTorn C.torn merge.old.children.items source.old (motion_cut motion.entry goal))
         (AnyLimited C.limited merge.old.children.items source.old)) }
 {
     match standing::<K, S, C>(merge) {

@@ -7,7 +7,7 @@ ghost use Rattle.ikey.specs.Keys.{Key, IsKey};
 ghost use Rattle.ikey.specs.KeyViews.{key_of as key_view};
 ghost use Rattle.table.specs.Reading.{IsStill};
 ghost use Rattle.cursor.specs.Places.{within, index_before};
-ghost use Rattle.cursor.specs.Moves.{RefusesMove};
+ghost use Rattle.cursor.specs.Moves.{RefusesMoves};
 ghost use Rattle.cursor.specs.Merging.{listed};
 ghost use Rattle.cursor.specs.Searches.{Wanders, SearchesOn, AnswersOn, LooksOn, Hidden, SearchesBack};
 ghost use Rattle.cursor.specs.Searches.{AnswersBack, LooksBack, HasPassedNone, RefusesKey, below_bound};
@@ -53,9 +53,9 @@ pub fn find_on<K: KeyOrder, S, C: Cursor<K, S>>(
         → SearchesOn K.cmp entries sequence test index hides hidden.old.items
         → AnswersOn K.cmp C.lists cursor.new source.new entries sequence test hidden.new.items found) }
     ensures stands { IfOk result (λ found. found ≡ true → C.stands cursor.new ≡ true) }
-    ensures wanders { Wanders C.facts C.lists C.keeps C.limited C.leaves C.over cursor.old cursor.new source.old source.new }
+    ensures wanders { Wanders C.facts C.lists C.keeps C.limited C.torn C.leaves C.over cursor.old cursor.new source.old source.new }
     ensures still { IsStill (C.facts source.old) (C.facts source.new) result }
-    ensures refused { RefusesMove C.facts C.lists C.limited cursor.old source.old source.new result }
+    ensures refused { RefusesMoves C.facts C.lists C.limited C.torn cursor.old source.old source.new result }
 {
     let mut hiding = hides;
     'search: for _ in 0..u64::MAX {
@@ -122,9 +122,9 @@ pub fn find_back<K: KeyOrder, S, C: Cursor<K, S>>(
         → HasPassedNone entries sequence (below_bound K.cmp (option_copied bound.entry)) index
         → AnswersBack K.cmp C.lists cursor.new source.new entries sequence
         (below_bound K.cmp (option_copied bound.entry)) found.new.key.items found.new.value.items has) }
-    ensures wanders { Wanders C.facts C.lists C.keeps C.limited C.leaves C.over cursor.old cursor.new source.old source.new }
+    ensures wanders { Wanders C.facts C.lists C.keeps C.limited C.torn C.leaves C.over cursor.old cursor.new source.old source.new }
     ensures still { IsStill (C.facts source.old) (C.facts source.new) result }
-    ensures refused { RefusesMove C.facts C.lists C.limited cursor.old source.old source.new result }
+    ensures refused { RefusesMoves C.facts C.lists C.limited C.torn cursor.old source.old source.new result }
 {
     let mut has = false;
     'search: for _ in 0..u64::MAX {

@@ -5,7 +5,7 @@ ghost use Rattle.std.specs.Option.{option_copied};
 ghost use Rattle.ikey.specs.Entries.{InternalEntry};
 ghost use Rattle.table.specs.Reading.{IsStill};
 ghost use Rattle.cursor.specs.Places.{within, index_before, is_less};
-ghost use Rattle.cursor.specs.Moves.{RefusesMove};
+ghost use Rattle.cursor.specs.Moves.{RefusesMoves};
 ghost use Rattle.cursor.specs.Merging.{listed};
 ghost use Rattle.cursor.specs.Views.{IsVisible};
 ghost use Rattle.cursor.specs.Searches.{Wanders, StandsBetween, FromOn};
@@ -45,9 +45,9 @@ pub fn stand_ahead<K: KeyOrder, S, C: Cursor<K, S>>(
         → StandsAt K.cmp C.lists position cursor.old source.old entries entry value
         → (index : ℕ) × C.lists cursor.new source.new (listed entries (within entries index))
         × StandsBetween K.cmp entries index user.now) }
-    ensures wanders { Wanders C.facts C.lists C.keeps C.limited C.leaves C.over cursor.old cursor.new source.old source.new }
+    ensures wanders { Wanders C.facts C.lists C.keeps C.limited C.torn C.leaves C.over cursor.old cursor.new source.old source.new }
     ensures still { IsStill (C.facts source.old) (C.facts source.new) result }
-    ensures refused { RefusesMove C.facts C.lists C.limited cursor.old source.old source.new result }
+    ensures refused { RefusesMoves C.facts C.lists C.limited C.torn cursor.old source.old source.new result }
 {
     match position {
         Position::Here => {
@@ -81,9 +81,9 @@ pub fn stand_behind<K: KeyOrder, S, C: Cursor<K, S>>(
         → StandsAt K.cmp C.lists position cursor.old source.old entries entry value
         → (index : ℕ) × C.lists cursor.new source.new (listed entries (index_before index))
         × FromOn entries index (λ other. is_less (K.cmp other.key.user user.now) ≡ false)) }
-    ensures wanders { Wanders C.facts C.lists C.keeps C.limited C.leaves C.over cursor.old cursor.new source.old source.new }
+    ensures wanders { Wanders C.facts C.lists C.keeps C.limited C.torn C.leaves C.over cursor.old cursor.new source.old source.new }
     ensures still { IsStill (C.facts source.old) (C.facts source.new) result }
-    ensures refused { RefusesMove C.facts C.lists C.limited cursor.old source.old source.new result }
+    ensures refused { RefusesMoves C.facts C.lists C.limited C.torn cursor.old source.old source.new result }
 {
     match position {
         Position::Here => Ok(()),
@@ -109,9 +109,9 @@ fn find_again<K: KeyOrder, S, C: Cursor<K, S>>(
         → user.now ≡ entry.key.user
         → slice_get entries index ≡ Some entry → C.lists cursor.old source.old (listed entries place)
         → C.lists cursor.new source.new (listed entries (Some index))) }
-    ensures wanders { Wanders C.facts C.lists C.keeps C.limited C.leaves C.over cursor.old cursor.new source.old source.new }
+    ensures wanders { Wanders C.facts C.lists C.keeps C.limited C.torn C.leaves C.over cursor.old cursor.new source.old source.new }
     ensures still { IsStill (C.facts source.old) (C.facts source.new) result }
-    ensures refused { RefusesMove C.facts C.lists C.limited cursor.old source.old source.new result }
+    ensures refused { RefusesMoves C.facts C.lists C.limited C.torn cursor.old source.old source.new result }
 {
     let key = seek_key(alloc, user, sequence)?;
     cursor.seek(alloc, source, &key)?;

@@ -35,7 +35,8 @@ impl<K: KeyOrder, C> Visible<K, C> {
     ghost use Rattle.ikey.specs.Entries.{InternalEntry, Pair};
     ghost use Rattle.table.specs.Reading.{IsStill};
     ghost use Rattle.cursor.specs.Places.{within, index_before};
-    ghost use Rattle.cursor.specs.Moves.{Stays, Refuses, RefusesMove};
+    ghost use Rattle.cursor.specs.Cuts.{Cut};
+    ghost use Rattle.cursor.specs.Moves.{Stays, Refuses, RefusesMoves};
     ghost use Rattle.cursor.specs.Merging.{listed};
     ghost use Rattle.cursor.specs.Views.{Walked, IsViewList, passed, walk_first, walk_last, walk_to, walk_next, walk_prev};
     ghost use Rattle.cursor.specs.Searches.{Wanders, SearchesOn, HasPassedNone, PassesLower, below_bound};
@@ -80,10 +81,11 @@ impl<K: KeyOrder, C> Visible<K, C> {
         ensures moves { IsTrue (C.facts source.new).faithful → (at : Walked) → IsWalk K.cmp C.lists self.old source.old at
             → IsWalk K.cmp C.lists self.new source.new (walk_after result (walk_first at) at) }
         ensures at_hand { OnOk result (self.new.stands ≡ true → value_at_hand C.stands self.new ≡ true) }
-        ensures stays { Stays C.facts C.keeps C.limited C.leaves C.over self.old.cursor self.new.cursor source.old source.new }
+        ensures stays { Stays C.facts C.keeps C.limited C.torn C.leaves C.over self.old.cursor self.new.cursor source.old source.new }
         ensures still { IsStill (C.facts source.old) (C.facts source.new) result }
         ensures refused { IfErr result (λ e. Refuses e (C.facts source.old) (C.facts source.new)
-            ((at : Walked) → IsWalk K.cmp C.lists self.old source.old at → ⊥) (C.limited self.old.cursor source.old)) }
+            ((at : Walked) → IsWalk K.cmp C.lists self.old source.old at → (cut : Cut) × C.torn self.old.cursor source.old cut)
+            (C.limited self.old.cursor source.old)) }
         ensures sequence { self.new.sequence ≡ self.old.sequence }
         ensures stayed { OnErr result ((self.new.stands ≡ self.old.stands) × (self.new.here.key.items ≡ self.old.here.key.items)) }
         ensures left { OnOk result (key_before self.new ≡ self.old.here.key.items) }
@@ -101,10 +103,11 @@ impl<K: KeyOrder, C> Visible<K, C> {
         ensures moves { IsTrue (C.facts source.new).faithful → (at : Walked) → IsWalk K.cmp C.lists self.old source.old at
             → IsWalk K.cmp C.lists self.new source.new (walk_after result (walk_last at) at) }
         ensures at_hand { OnOk result (self.new.stands ≡ true → value_at_hand C.stands self.new ≡ true) }
-        ensures stays { Stays C.facts C.keeps C.limited C.leaves C.over self.old.cursor self.new.cursor source.old source.new }
+        ensures stays { Stays C.facts C.keeps C.limited C.torn C.leaves C.over self.old.cursor self.new.cursor source.old source.new }
         ensures still { IsStill (C.facts source.old) (C.facts source.new) result }
         ensures refused { IfErr result (λ e. Refuses e (C.facts source.old) (C.facts source.new)
-            ((at : Walked) → IsWalk K.cmp C.lists self.old source.old at → ⊥) (C.limited self.old.cursor source.old)) }
+            ((at : Walked) → IsWalk K.cmp C.lists self.old source.old at → (cut : Cut) × C.torn self.old.cursor source.old cut)
+            (C.limited self.old.cursor source.old)) }
         ensures sequence { self.new.sequence ≡ self.old.sequence }
         ensures stayed { OnErr result ((self.new.stands ≡ self.old.stands) × (self.new.here.key.items ≡ self.old.here.key.items)) }
         ensures left { OnOk result (key_before self.new ≡ self.old.here.key.items) }
@@ -122,10 +125,11 @@ impl<K: KeyOrder, C> Visible<K, C> {
         ensures moves { IsTrue (C.facts source.new).faithful → (at : Walked) → IsWalk K.cmp C.lists self.old source.old at
             → IsWalk K.cmp C.lists self.new source.new (walk_after result (walk_to K.cmp target.now at) at) }
         ensures at_hand { OnOk result (self.new.stands ≡ true → value_at_hand C.stands self.new ≡ true) }
-        ensures stays { Stays C.facts C.keeps C.limited C.leaves C.over self.old.cursor self.new.cursor source.old source.new }
+        ensures stays { Stays C.facts C.keeps C.limited C.torn C.leaves C.over self.old.cursor self.new.cursor source.old source.new }
         ensures still { IsStill (C.facts source.old) (C.facts source.new) result }
         ensures refused { IfErr result (λ e. Refuses e (C.facts source.old) (C.facts source.new)
-            ((at : Walked) → IsWalk K.cmp C.lists self.old source.old at → ⊥) (C.limited self.old.cursor source.old)) }
+            ((at : Walked) → IsWalk K.cmp C.lists self.old source.old at → (cut : Cut) × C.torn self.old.cursor source.old cut)
+            (C.limited self.old.cursor source.old)) }
         ensures sequence { self.new.sequence ≡ self.old.sequence }
         ensures stayed { OnErr result ((self.new.stands ≡ self.old.stands) × (self.new.here.key.items ≡ self.old.here.key.items)) }
         ensures left { OnOk result (key_before self.new ≡ self.old.here.key.items) }
@@ -145,10 +149,11 @@ impl<K: KeyOrder, C> Visible<K, C> {
         ensures moves { IsTrue (C.facts source.new).faithful → (at : Walked) → IsWalk K.cmp C.lists self.old source.old at
             → IsWalk K.cmp C.lists self.new source.new (walk_after result (walk_next at) at) }
         ensures at_hand { OnOk result (self.new.stands ≡ true → value_at_hand C.stands self.new ≡ true) }
-        ensures stays { Stays C.facts C.keeps C.limited C.leaves C.over self.old.cursor self.new.cursor source.old source.new }
+        ensures stays { Stays C.facts C.keeps C.limited C.torn C.leaves C.over self.old.cursor self.new.cursor source.old source.new }
         ensures still { IsStill (C.facts source.old) (C.facts source.new) result }
         ensures refused { IfErr result (λ e. Refuses e (C.facts source.old) (C.facts source.new)
-            ((at : Walked) → IsWalk K.cmp C.lists self.old source.old at → ⊥) (C.limited self.old.cursor source.old)) }
+            ((at : Walked) → IsWalk K.cmp C.lists self.old source.old at → (cut : Cut) × C.torn self.old.cursor source.old cut)
+            (C.limited self.old.cursor source.old)) }
         ensures sequence { self.new.sequence ≡ self.old.sequence }
         ensures stayed { OnErr result ((self.new.stands ≡ self.old.stands) × (self.new.here.key.items ≡ self.old.here.key.items)) }
         ensures left { OnOk result (key_before self.new ≡ self.old.here.key.items) }
@@ -175,10 +180,11 @@ impl<K: KeyOrder, C> Visible<K, C> {
         ensures moves { IsTrue (C.facts source.new).faithful → (at : Walked) → IsWalk K.cmp C.lists self.old source.old at
             → IsWalk K.cmp C.lists self.new source.new (walk_after result (walk_prev at) at) }
         ensures at_hand { OnOk result (self.new.stands ≡ true → value_at_hand C.stands self.new ≡ true) }
-        ensures stays { Stays C.facts C.keeps C.limited C.leaves C.over self.old.cursor self.new.cursor source.old source.new }
+        ensures stays { Stays C.facts C.keeps C.limited C.torn C.leaves C.over self.old.cursor self.new.cursor source.old source.new }
         ensures still { IsStill (C.facts source.old) (C.facts source.new) result }
         ensures refused { IfErr result (λ e. Refuses e (C.facts source.old) (C.facts source.new)
-            ((at : Walked) → IsWalk K.cmp C.lists self.old source.old at → ⊥) (C.limited self.old.cursor source.old)) }
+            ((at : Walked) → IsWalk K.cmp C.lists self.old source.old at → (cut : Cut) × C.torn self.old.cursor source.old cut)
+            (C.limited self.old.cursor source.old)) }
         ensures sequence { self.new.sequence ≡ self.old.sequence }
         ensures stayed { OnErr result ((self.new.stands ≡ self.old.stands) × (self.new.here.key.items ≡ self.old.here.key.items)) }
         ensures left { OnOk result (key_before self.new ≡ self.old.here.key.items) }
@@ -259,9 +265,9 @@ impl<K: KeyOrder, C> Visible<K, C> {
         ensures sequence { self.new.sequence ≡ self.old.sequence }
         ensures stayed { OnErr result (HasStayed self.old self.new) }
         ensures left { OnOk result (key_before self.new ≡ self.old.here.key.items) }
-        ensures wanders { Wanders C.facts C.lists C.keeps C.limited C.leaves C.over self.old.cursor self.new.cursor source.old source.new }
+        ensures wanders { Wanders C.facts C.lists C.keeps C.limited C.torn C.leaves C.over self.old.cursor self.new.cursor source.old source.new }
         ensures still { IsStill (C.facts source.old) (C.facts source.new) result }
-        ensures refused { RefusesMove C.facts C.lists C.limited self.old.cursor source.old source.new result }
+        ensures refused { RefusesMoves C.facts C.lists C.limited C.torn self.old.cursor source.old source.new result }
     {
         copy_to(&mut self.spare.key, self.here.key.as_slice())?;
         if !find_on::<K, S, C>(
@@ -297,9 +303,9 @@ impl<K: KeyOrder, C> Visible<K, C> {
         ensures sequence { self.new.sequence ≡ self.old.sequence }
         ensures stayed { OnErr result (HasStayed self.old self.new) }
         ensures left { OnOk result (key_before self.new ≡ self.old.here.key.items) }
-        ensures wanders { Wanders C.facts C.lists C.keeps C.limited C.leaves C.over self.old.cursor self.new.cursor source.old source.new }
+        ensures wanders { Wanders C.facts C.lists C.keeps C.limited C.torn C.leaves C.over self.old.cursor self.new.cursor source.old source.new }
         ensures still { IsStill (C.facts source.old) (C.facts source.new) result }
-        ensures refused { RefusesMove C.facts C.lists C.limited self.old.cursor source.old source.new result }
+        ensures refused { RefusesMoves C.facts C.lists C.limited C.torn self.old.cursor source.old source.new result }
     {
         let bound = bound_of(past, self.here.key.as_slice());
         if !find_back::<K, S, C>(

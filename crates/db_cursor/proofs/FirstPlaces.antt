@@ -28,7 +28,7 @@ use Rattle.db_cursor.specs.internal.Rows.{memory_spots, place_in, spot_of, spots
 use Rattle.db_cursor.specs.Scans.{BeginsScan, IsOnePastLimit, ListsMerged, reads_memory, reads_table, tables_of}
 use Rattle.db_cursor.specs.Whole.{Whole}
 use Rattle.db_cursor.proofs.Joining.{all_entries, entries_of, seen_from, seen_has, union_from, union_has, view_up_to}
-use Rattle.db_cursor.proofs.NewScans.{HaveUnions, IsNew, RowsBegin, all_limited, all_listed, all_new, cursors_of, in_front, keeps_new, merge_begun, new_at, seen_current, seen_sealed}
+use Rattle.db_cursor.proofs.NewScans.{HaveUnions, IsNew, RowsBegin, all_limited, all_listed, all_new, cursors_of, in_front, keeps_new, merge_begun, new_at, none_torn, seen_current, seen_sealed, version_intact}
 use Rattle.db_cursor.proofs.ReadTables.{new_there, sealed_none}
 use Rattle.db_cursor.proofs.Slices.{all_ranges}
 use Rattle.db_cursor.proofs.ViewPairs.{listed_again, pairs_of_view}
@@ -163,6 +163,7 @@ module _ {K : Type 0} {g : _} (order : Order) (total : IsTotalOrder order.cmp)
           bound = λ old new k i child is. keeps_new (reads_memory scan) scan.walk.sequence tables order.cmp (reads_table scan) child.cursor old new (λ number over. inr (i, child, is, over))
               (new_at (reads_memory scan) scan.walk.sequence tables children news i child is) k;
           limits = λ l. subst (λ (ts : List PlacedTable). IsOnePastLimit order.cmp ts whole) (sym version) (all_limited (reads_memory scan) scan.walk.sequence tables children news order.cmp whole lists listing.2 l);
+          intact = none_torn (reads_memory scan) scan.walk.sequence tables children news order.cmp whole (version_intact order total whole tables contents sound has);
           walk = (
             union,
             subst (λ (ps : List Pair). IsViewList order.cmp union scan.walk.sequence ps) (sym again) (subst (λ (n : ℕ). IsViewList order.cmp union n viewed.0) (sym (same ∙ at)) viewed.1),

@@ -3,7 +3,7 @@ use Rattle.std.proofs.Common.{◌≡◌, List, sym, subst}
 use Rattle.cursor.specs.declared.child.Child.{Child}
 use Rattle.cursor.specs.declared.merge.Merge.{Merge}
 use Rattle.cursor.specs.Merging.{KeepsAll}
-use Rattle.cursor.specs.MergeLaws.{any_limited_kept}
+use Rattle.cursor.specs.MergeLaws.{any_limited_kept, any_torn_kept}
 use Rattle.cursor.specs.Places.{Cmp}
 use Rattle.memtables.specs.Memories.{Memories}
 use Rattle.level_cursor.specs.Rows.{rows_tables}
@@ -12,8 +12,8 @@ use Rattle.db_cursor.specs.declared.source_cursor.SourceCursor.{SourceCursor}
 use Rattle.db_cursor.specs.declared.source_cursor.SourceCursor.TheVariants.{Memory, Row}
 use Rattle.db_cursor.specs.internal.Inputs.{MergeIsKept}
 use Rattle.db_cursor.specs.Inputs.{ReadsNoMemory}
-use Rattle.db_cursor.specs.Places.{KeepsSource, LimitedSource, ListsSource, OneGoesOver}
-use Rattle.db_cursor.specs.internal.SourceLaws.{source_kept, source_limits}
+use Rattle.db_cursor.specs.Places.{KeepsSource, LimitedSource, ListsSource, OneGoesOver, TornSource}
+use Rattle.db_cursor.specs.internal.SourceLaws.{source_kept, source_limits, source_torn}
 use Rattle.db_cursor.specs.Whole.{Whole}
 use Rattle.db_cursor.proofs.ReadTables.{source_stays}
 use Rattle.db_cursor.proofs.Sights.{merged_as}
@@ -60,6 +60,7 @@ merge_is_kept {K} {g} cmp merge old new none files = record {
   keeps = keeps;
   lists = λ at m. merged_as cmp (ListsSource cmp) (ListsSource cmp) old new merge.children.items merge.current merge.target.items at (λ i child at is. source_kept cmp child.cursor old new at (keeps i child is)) m;
   limits = λ l. any_limited_kept (KeepsSource cmp) (LimitedSource cmp) (source_limits cmp) merge.children.items old new keeps l;
+  torn = λ cut l. any_torn_kept (KeepsSource cmp) (TornSource cmp) (source_torn cmp) merge.children.items old new cut keeps l;
 }
   where
     keeps : KeepsAll (KeepsSource cmp) merge.children.items old new

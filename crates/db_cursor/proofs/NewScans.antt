@@ -1,5 +1,6 @@
 -- A new scan over a memory table and the tables of a version.
 use Rattle.std.proofs.Common.{◌≡◌, ◌-◌, ◌++◌, ◌≤◌, ℕ, zero, suc, false, Option, Some, None, is_some, List, [], ◌∷◌, drop, length, map, take, refl, sym, ap, ◌∙◌, subst, inl, inr, arith}
+use Rattle.std.specs.Cmp.{IsTotalOrder}
 use Rattle.std.specs.Prelude.{Contains, slice_get}
 use Rattle.std.specs.List.{AllByRecursion}
 use Rattle.std.specs.Option.{option_map}
@@ -7,7 +8,8 @@ use Rattle.std.proofs.lemmas.List.{drop-map, length-map, take-map}
 use Rattle.cursor.specs.declared.child.Child.{Child}
 use Rattle.cursor.specs.declared.child.Side.{Side}
 use Rattle.cursor.specs.declared.child.Side.TheVariants.{Astray}
-use Rattle.cursor.specs.Merging.{AnyLimited, IsBeside, IsMerge, IsUnion, listed}
+use Rattle.cursor.specs.Cuts.{Cut}
+use Rattle.cursor.specs.Merging.{AnyLimited, AnyTorn, IsBeside, IsMerge, IsUnion, listed}
 use Rattle.cursor.specs.Places.{Cmp, Rises}
 use Rattle.cursor.specs.Sharing.{ShareNoKey}
 use Rattle.edits.specs.declared.field.PlacedTable.{PlacedTable}
@@ -20,11 +22,13 @@ use Rattle.ikey.proofs.SearchedSources as sources
 use Rattle.recover.specs.Tables.{TableContent, HasTables}
 use Rattle.recover.proofs.NameScan.{in_cons, in_none}
 use Rattle.level_cursor.specs.declared.row_cursor.RowCursor.{RowCursor}
-use Rattle.level_cursor.specs.InRows.{ListsNumber, HaveLists, IsOpenLimited, IsOpenNumber}
+use Rattle.level_cursor.specs.InRows.{ListsNumber, HaveLists, IsOpenLimited, IsOpenNumber, IsOpenTorn, IsTornOne}
+use Rattle.level_cursor.specs.RowLists.{member_at}
 use Rattle.level_cursor.specs.Rows.{ListsRow, rows_tables}
+use Rattle.level_cursor.proofs.Beginning.{whole_all}
 use Rattle.db_cursor.specs.declared.source_cursor.SourceCursor.{SourceCursor}
 use Rattle.db_cursor.specs.declared.source_cursor.SourceCursor.TheVariants.{Memory, Row}
-use Rattle.db_cursor.specs.Places.{GoesOver, ListsSource, KeepsSource, LimitedSource, OneGoesOver}
+use Rattle.db_cursor.specs.Places.{GoesOver, ListsSource, KeepsSource, LimitedSource, OneGoesOver, TornSource}
 use Rattle.memtables.specs.Memories.{AreMemories, Memories, sealed_inserts, table_in}
 use Rattle.memtables.specs.Places.{ListsMemories, MemoriesPlace}
 use Rattle.memtable.specs.Contents.{Contents as MemoryContents}
@@ -177,6 +181,12 @@ module _ {K : Type 0} {g : _} (reads : ℕ → Type 0) (sequence : ℕ) (tables 
       (l.0, subst (λ (ts : List PlacedTable). Contains ts l.0) h.1 (row_within cursor l.0 l.1), file.0, file.1.file_is, l.2 file.0 file.1)
   limited_new cmp (Row cursor) whole list h lists (inr l) = absurd (subst (λ o. IsOpenLimited o) h.0 l)
 
+  torn_new : (cmp : Cmp) (cursor : SourceCursor K g) (whole : Whole) → ((placed : PlacedTable) → Contains tables placed → (cut : Cut) → IsTornOne cmp whole.seen placed cut → ⊥) → New cursor → (cut : Cut) → TornSource cmp cursor whole cut → ⊥
+  torn_new cmp (Memory cursor) whole intact h cut t = t
+  torn_new cmp (Row cursor) whole intact h cut (inl t) =
+      intact t.placed (subst (λ (ts : List PlacedTable). Contains ts t.placed) h.1 (row_within cursor t.placed (member_at (rows_tables cursor) t.index t.placed t.placed_is))) cut t.torn
+  torn_new cmp (Row cursor) whole intact h cut (inr t) = absurd (subst (λ o. IsOpenTorn cmp whole.seen (rows_tables cursor) o cut) h.0 t)
+
   module _ (children : List (Child (SourceCursor K g))) (news : AllByRecursion New (cursors_of children)) where
     pub new_at : (i : ℕ) (child : Child (SourceCursor K g)) → slice_get children i ≡ Some child → New child.cursor
     new_at i child is = all_at New (cursors_of children) i child.cursor news (cursor_at children i child is)
@@ -191,6 +201,16 @@ module _ {K : Type 0} {g : _} (reads : ℕ → Type 0) (sequence : ℕ) (tables 
     all_limited cmp whole lists each l =
         let list = two_has (λ (cursor : SourceCursor K g) (list : List InternalEntry). ListsSource cmp cursor whole (listed list None)) (cursors_of children) lists l.0 l.1.cursor each (cursor_at children l.0 l.1 l.2) in
         limited_new cmp l.1.cursor whole list.0 (new_at l.0 l.1 l.2) list.1 l.3
+
+    -- and come to torn blocks only where one of these has some
+    pub none_torn : (cmp : Cmp) (whole : Whole) → ((placed : PlacedTable) → Contains tables placed → (cut : Cut) → IsTornOne cmp whole.seen placed cut → ⊥) → (cut : Cut) → AnyTorn (TornSource cmp) children whole cut → ⊥
+    none_torn cmp whole intact cut t = torn_new cmp t.1.cursor whole intact (new_at t.0 t.1 t.2) cut t.3
+
+-- the tables of a version have no torn blocks
+pub version_intact : (order : Order) → IsTotalOrder order.cmp → (whole : Whole) (tables : List PlacedTable) (contents : List TableContent) → IsSound order.cmp whole.seen → HasVersion order whole.seen.facts.files tables contents
+    → (placed : PlacedTable) → Contains tables placed → (cut : Cut) → IsTornOne order.cmp whole.seen placed cut → ⊥
+version_intact order total whole tables contents sound has placed i =
+    whole_all order total whole.seen contents sound has.are placed (subst (λ (ts : List PlacedTable). Contains ts placed) (sym has.placed) i)
 
 module _ {K : Type 0} {g : _} (generation : ℕ) (sealed : Option ℕ) (sequence : ℕ) (tables : List PlacedTable) where
   abbrev NewOver : SourceCursor K g → Type 0

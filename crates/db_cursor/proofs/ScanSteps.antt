@@ -4,7 +4,9 @@ use Rattle.cache.specs.Tables.{table_at}
 use Rattle.coding.specs.declared.error.DbError.{DbError}
 use Rattle.coding.specs.declared.error.DbError.TheVariants.{OutOfMemory, Io, Corrupt, Unsupported}
 use Rattle.cursor.specs.declared.merge.Merge.{Merge}
-use Rattle.cursor.specs.Merging.{AnyLimited, IsMerge, KeepsAll}
+use Rattle.cursor.specs.Merging.{AnyLimited, AnyTorn, IsMerge, KeepsAll}
+use Rattle.cursor.specs.Cuts.{Cut}
+use Rattle.cursor.specs.MergeLaws.{any_torn_kept}
 use Rattle.cursor.specs.Moves.{Refuses, Stays}
 use Rattle.cursor.specs.Places.{Cmp, Listed}
 use Rattle.cursor.specs.Views.{Walked}
@@ -16,10 +18,10 @@ use Rattle.memtables.specs.PlaceLaws.{left_kept}
 use Rattle.memtables.specs.Places.{MemoriesPlace, KeepsMemories, LeavesMemories}
 use Rattle.db_cursor.specs.declared.scan.Scan.{Scan}
 use Rattle.db_cursor.specs.declared.source_cursor.SourceCursor.{SourceCursor}
-use Rattle.db_cursor.specs.Places.{KeepsSource, LeavesSource, LimitedSource, ListsSource, OneGoesOver}
+use Rattle.db_cursor.specs.Places.{KeepsSource, LeavesSource, LimitedSource, ListsSource, OneGoesOver, TornSource}
 use Rattle.db_cursor.specs.internal.Scanning.{IsScanned, ReadsAs, ScanIsKept, ScanPastLimit, has_pair}
 use Rattle.db_cursor.specs.Scans.{IsOnePastLimit, KeepsScan, ListsMerged, reads_memory, reads_table, tables_of}
-use Rattle.db_cursor.specs.internal.SourceLaws.{source_kept, source_limits}
+use Rattle.db_cursor.specs.internal.SourceLaws.{source_kept, source_limits, source_torn}
 use Rattle.db_cursor.specs.Whole.{Whole}
 use Rattle.store.specs.Files.{Facts}
 use Rattle.db_cursor.proofs.KeptMerges.{memory_as}
@@ -38,6 +40,7 @@ scan_kept cmp scan old new at k h = record {
   there = there_kept cmp (reads_memory scan) (reads_table scan) scan.walk.sequence old new k h.there;
   bound = h.bound;
   limits = λ l. limit_kept cmp scan old new k (h.limits (l.0, l.1, l.2, source_limits cmp l.1.cursor old new (h.bound old new k l.0 l.1 l.2) l.3));
+  intact = λ cut l. h.intact cut (any_torn_kept (KeepsSource cmp) (TornSource cmp) (source_torn cmp) scan.walk.cursor.children.items old new cut (h.bound old new k) l);
   walk = (
     h.walk.0,
     h.walk.1,
@@ -94,6 +97,9 @@ module _ {K : Type 0} {g : Ghosts K} {S : Type 0} (cmp : Cmp) (whole_of : S → 
   abbrev Limited : Merge K (SourceCursor K g) → S → Type 0
   Limited merge s = AnyLimited (λ cursor s. LimitedSource cmp cursor (whole_of s)) merge.children.items s
 
+  abbrev Torn : Merge K (SourceCursor K g) → S → Cut → Type 0
+  Torn merge s cut = AnyTorn (λ cursor s cut. TornSource cmp cursor (whole_of s) cut) merge.children.items s cut
+
   abbrev Over : Merge K (SourceCursor K g) → ℕ → Type 0
   Over merge number = OneGoesOver merge.children.items number
 
@@ -101,7 +107,7 @@ module _ {K : Type 0} {g : Ghosts K} {S : Type 0} (cmp : Cmp) (whole_of : S → 
       (to : Walked → Option ℕ) (before after : S) (old new : Scan K g) (result : Result (Unit {0}) DbError)
       (moves : IsTrue (whole_of after).seen.facts.faithful → (at : Walked) → IsWalk cmp ListsOver old.walk before at → IsWalk cmp ListsOver new.walk after (walk_after result (to at) at))
       (sequence : new.walk.sequence ≡ old.walk.sequence) (reads : ReadsAs old new)
-      (stays : Stays (λ s. (whole_of s).seen.facts) Keeps Limited (λ numbers s t. LeavesSource cmp numbers (whole_of s) (whole_of t)) Over old.walk.cursor new.walk.cursor before after) where
+      (stays : Stays (λ s. (whole_of s).seen.facts) Keeps Limited Torn (λ numbers s t. LeavesSource cmp numbers (whole_of s) (whole_of t)) Over old.walk.cursor new.walk.cursor before after) where
     bound_new : ((s t : Whole) → KeepsScan cmp old s t → KeepsAll (KeepsSource cmp) old.walk.cursor.children.items s t) → (s t : Whole) → KeepsScan cmp new s t → KeepsAll (KeepsSource cmp) new.walk.cursor.children.items s t
     bound_new bound s t k i child is =
         source_stays cmp (reads_table new) child.cursor (whole_of before).seen s t (λ number over. inr (i, child, is, over)) (files_kept cmp (reads_memory new) (reads_table new) new.walk.sequence s t k)
@@ -117,7 +123,7 @@ module _ {K : Type 0} {g : Ghosts K} {S : Type 0} (cmp : Cmp) (whole_of : S → 
         both = record { memory = λ place named le. k.memory place (read_after old new reads place.generation named) (let same = sequence in omega (arith, le, same)); files = λ number named. refl; sound = λ h. h }
 
     pub scanned : IsStill (whole_of before).seen.facts (whole_of after).seen.facts result → OnOk result (new.walk.stands ≡ true → has_pair new ≡ true) → OnErr result ((new.walk.stands ≡ old.walk.stands) × (new.walk.here.key.items ≡ old.walk.here.key.items)) → OnOk result (key_before new.walk ≡ old.walk.here.key.items)
-        → IfErr result (λ e. Refuses e (whole_of before).seen.facts (whole_of after).seen.facts ((at : Walked) → IsWalk cmp ListsOver old.walk before at → ⊥) (Limited old.walk.cursor before))
+        → IfErr result (λ e. Refuses e (whole_of before).seen.facts (whole_of after).seen.facts ((at : Walked) → IsWalk cmp ListsOver old.walk before at → (cut : Cut) × Torn old.walk.cursor before cut) (Limited old.walk.cursor before))
         → IsScanned cmp to (whole_of before) (whole_of after) old new result
     scanned still at_hand stayed left refused = record {
       moves = λ t at h. record {
@@ -127,6 +133,7 @@ module _ {K : Type 0} {g : Ghosts K} {S : Type 0} (cmp : Cmp) (whole_of : S → 
             let past = h.limits (stays.limit t l) in
             subst (λ (tables : List PlacedTable). IsOnePastLimit cmp tables (whole_of after)) (sym (tables_as old new reads))
             (past.0, past.1, past.2, ap (λ files. table_at files past.0.table.number) (stays.reads.files t) ∙ past.3, past.4);
+        intact = λ cut l. h.intact cut (stays.tear t cut l);
         walk = seen_whole new after _ (moves t at (read_whole old before at h.walk));
       };
       at_hand = at_hand;
@@ -144,7 +151,7 @@ module _ {K : Type 0} {g : Ghosts K} {S : Type 0} (cmp : Cmp) (whole_of : S → 
       still = still;
       stayed = stayed;
       left = left;
-      refused = if_refuses result (whole_of before).seen.facts (whole_of after).seen.facts _ _ _ (λ damaged at h. damaged at (read_whole old before at h.walk)) refused;
+      refused = if_refuses result (whole_of before).seen.facts (whole_of after).seen.facts _ _ _ (λ damaged at h. let torn = damaged at (read_whole old before at h.walk) in h.intact torn.0 torn.1) refused;
     }
       where
         stays_left : (place : MemoriesPlace) → LeavesMemories (whole_of before).memory (whole_of after).memory → KeepsMemories cmp place (whole_of before).memory (whole_of after).memory

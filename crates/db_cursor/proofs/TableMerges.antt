@@ -24,7 +24,7 @@ use Rattle.db_cursor.specs.Places.{KeepsSource, ListsSource, OneGoesOver}
 use Rattle.db_cursor.specs.internal.Rows.{spot_of, spots_of}
 use Rattle.db_cursor.specs.Whole.{Whole}
 use Rattle.db_cursor.proofs.Joining.{all_entries, union_from, union_has}
-use Rattle.db_cursor.proofs.NewScans.{HaveUnions, IsNew, RowsBegin, all_limited, all_over, all_rows_listed, cursors_of, merge_begun, new_at, new_rows}
+use Rattle.db_cursor.proofs.NewScans.{HaveUnions, IsNew, RowsBegin, all_limited, all_over, all_rows_listed, cursors_of, merge_begun, new_at, new_rows, none_torn, version_intact}
 use Rattle.db_cursor.proofs.OwnSequences.{own_sequences}
 use Rattle.db_cursor.proofs.Slices.{all_ranges}
 use Rattle.version_laws.specs.Places.{table_sources}
@@ -69,4 +69,5 @@ module _ {K : Type 0} {g : Ghosts K} (order : Order) (tables : List PlacedTable)
         own = own_sequences order (all_entries rows.0) union total rows.3 rows.4 (union_from order.cmp rows.0 union start.1);
         lists = subst (λ (current : Option ℕ). IsMerge order.cmp (ListsSource order.cmp) children current merge.target.items whole (listed union None)) (sym nowhere) start.2;
         limits = λ l. all_limited (λ generation. ⊥) 0 tables children news order.cmp whole rows.0 rows.1 l;
+        intact = none_torn (λ generation. ⊥) 0 tables children news order.cmp whole (version_intact order total whole tables contents sound has);
       }

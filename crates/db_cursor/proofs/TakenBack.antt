@@ -35,6 +35,7 @@ taken_back {K} {g} cmp stood old new cursor sequence stands position key reads f
       there = λ generation is. k.there generation (read_before old new reads generation is);
       bound = λ s t w. subst (λ (m : Merge K (SourceCursor K g)). KeepsAll (KeepsSource cmp) m.children.items s t) (sym cursor) (k.bound s t (keeps_before w));
       limits = λ l. subst (λ (v : _). IsOnePastLimit cmp v.value.tables after) (sym reads.version) (k.limits (l.0, l.1, ap (λ (m : Merge K (SourceCursor K g)). slice_get m.children.items l.0) (sym cursor) ∙ l.2, l.3));
+      intact = λ cut l. k.intact cut (l.0, l.1, ap (λ (m : Merge K (SourceCursor K g)). slice_get m.children.items l.0) (sym cursor) ∙ l.2, l.3);
       walk = (
         k.walk.0,
         view,

@@ -1,11 +1,12 @@
 -- Where one of the cursors that a scan merges stands.
 use Rattle.std.specs.Prelude.{ℕ, Bool, List, is_some}
 use Rattle.cursor.specs.declared.child.Child.{Child}
+use Rattle.cursor.specs.Cuts.{Cut}
 use Rattle.cursor.specs.Merging.{GoesOverAny}
 use Rattle.cursor.specs.Places.{Cmp, Listed}
 use Rattle.memtables.specs.Places.{ListsMemories, KeepsMemories, LeavesMemories}
 use Rattle.table_access.specs.Tables.{Carries}
-use Rattle.level_cursor.specs.Rows.{GoesOverRow, ListsRow, KeepsRow, row_stands, IsRowLimited}
+use Rattle.level_cursor.specs.Rows.{GoesOverRow, ListsRow, KeepsRow, row_stands, IsRowLimited, IsRowTorn}
 use Rattle.db_cursor.specs.declared.source_cursor.SourceCursor.{SourceCursor}
 use Rattle.db_cursor.specs.declared.source_cursor.SourceCursor.TheVariants.{Memory, Row}
 use Rattle.db_cursor.specs.Whole.{Whole}
@@ -28,6 +29,11 @@ source_stands (Row cursor) = row_stands cursor
 abbrev pub LimitedSource : {K : Type 0} {g : _} → Cmp → SourceCursor K g → Whole → Type 0
 LimitedSource cmp (Memory cursor) whole = ⊥
 LimitedSource cmp (Row cursor) whole = IsRowLimited cmp whole.seen cursor
+
+-- a block to which it comes at this cut is none
+abbrev pub TornSource : {K : Type 0} {g : _} → Cmp → SourceCursor K g → Whole → Cut → Type 0
+TornSource cmp (Memory cursor) whole cut = ⊥
+TornSource cmp (Row cursor) whole cut = IsRowTorn cmp whole.seen cursor cut
 
 -- it goes over the table of this number
 abbrev pub GoesOver : {K : Type 0} {g : _} → SourceCursor K g → ℕ → Type 0

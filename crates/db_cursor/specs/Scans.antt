@@ -3,7 +3,8 @@ use Rattle.std.specs.Prelude.{◌≡◌, ◌≤◌, ◌++◌, ◌⊎◌, ℕ, Li
 use Rattle.cache.specs.Tables.{table_at}
 use Rattle.cursor.specs.declared.child.Child.{Child}
 use Rattle.cursor.specs.declared.merge.Merge.{Merge}
-use Rattle.cursor.specs.Merging.{IsMerge, KeepsAll}
+use Rattle.cursor.specs.Cuts.{Cut}
+use Rattle.cursor.specs.Merging.{AnyTorn, IsMerge, KeepsAll}
 use Rattle.cursor.specs.Places.{Cmp, Listed}
 use Rattle.cursor.specs.Views.{Walked}
 use Rattle.cursor.specs.Walks.{IsWalk, walked}
@@ -19,7 +20,7 @@ use Rattle.level_cursor.specs.InRows.{ListsNumber}
 use Rattle.db_cursor.specs.declared.source_cursor.SourceCursor.{SourceCursor}
 use Rattle.db_cursor.specs.Pairs.{listed_pair}
 use Rattle.machine.specs.Views.{AreSortedPairs}
-use Rattle.db_cursor.specs.Places.{ListsSource, KeepsSource, LimitedSource, OneGoesOver}
+use Rattle.db_cursor.specs.Places.{ListsSource, KeepsSource, LimitedSource, OneGoesOver, TornSource}
 use Rattle.db_cursor.specs.Rows.{IsGenerationOf}
 use Rattle.db_cursor.specs.Whole.{Whole}
 use Rattle.version_laws.specs.Places.{table_sources, HasVersion}
@@ -80,6 +81,8 @@ pub record IsScan {K : Type 0} {g : _} (cmp : Cmp) (scan : Scan K g) (whole : Wh
   -- it reads no more than what a scan at its sequence does
   pub bound : (old new : Whole) → KeepsScan cmp scan old new → KeepsAll (KeepsSource cmp) scan.walk.cursor.children.items old new
   pub limits : IsScanLimited cmp scan whole → IsOnePastLimit cmp (tables_of scan) whole
+  -- the blocks of its tables are intact, so that its list is their own
+  pub intact : (cut : Cut) → AnyTorn (TornSource cmp) scan.walk.cursor.children.items whole cut → ⊥
   pub walk : IsWalk cmp (ListsMerged cmp) scan.walk whole at
 
 -- A new scan over a version of these tables, up to a sequence, goes over the pairs of the view, in the order of their keys, and has

@@ -18,9 +18,9 @@ pub enum SourceCursor<K: KeyOrder> {
 }
 
 impl<K: KeyOrder, S: Store> Cursor<K, Sources<K, S>> for SourceCursor<K> {
-    ghost use Rattle.db_cursor.specs.Places.{GoesOver, ListsSource, KeepsSource, LimitedSource, LeavesSource, source_stands};
+    ghost use Rattle.db_cursor.specs.Places.{GoesOver, ListsSource, KeepsSource, LimitedSource, LeavesSource, TornSource, source_stands};
     ghost use Rattle.db_cursor.specs.internal.SourceLaws.{source_rises, source_placed, source_inside, source_kept, source_still};
-    ghost use Rattle.db_cursor.specs.internal.SourceLaws.{source_onward, source_limits, source_left, source_left_more, source_left_on};
+    ghost use Rattle.db_cursor.specs.internal.SourceLaws.{source_onward, source_limits, source_left, source_left_more, source_left_on, source_same, source_torn};
     ghost use Rattle.db_cursor.specs.Whole.{whole_in};
 
     ghost facts = { λ source. S.facts source.tables.store };
@@ -32,6 +32,8 @@ impl<K: KeyOrder, S: Store> Cursor<K, Sources<K, S>> for SourceCursor<K> {
     ghost stands = { λ cursor. source_stands cursor };
 
     ghost limited = { λ cursor source. LimitedSource K.cmp cursor (whole_in S.facts source) };
+
+    ghost torn = { λ cursor source cut. TornSource K.cmp cursor (whole_in S.facts source) cut };
 
     ghost leaves = { λ numbers old new. LeavesSource K.cmp numbers (whole_in S.facts old) (whole_in S.facts new) };
 
@@ -111,6 +113,10 @@ impl<K: KeyOrder, S: Store> Cursor<K, Sources<K, S>> for SourceCursor<K> {
     ghost onward = { λ cursor first second third k l. source_onward K.cmp cursor _ _ _ k l };
 
     ghost limits_kept = { λ cursor old new k l. source_limits K.cmp cursor _ _ k l };
+
+    ghost torn_kept = { λ cursor old new cut k t. source_torn K.cmp cursor _ _ cut k t };
+
+    ghost torn_same = { λ cursor source at a b h same t. source_same K.cmp cursor _ at a b h same t };
 
     ghost leaves_still = { λ numbers source. source_left K.cmp _ };
 

@@ -1,10 +1,12 @@
 -- The list with which a cursor over a row begins.
 use Rattle.std.proofs.Common.{◌≡◌, ◌⊎◌, ◌<◌, ◌^◌, ◌++◌, ℕ, List, [], ◌∷◌, Option, Some, None, map, refl, sym, ap, ◌∙◌, subst, arith, inl, inr}
+use Rattle.std.specs.Prelude.{Contains}
 use Rattle.std.specs.Cmp.{IsTotalOrder, nat_cmp_is, tied_itself}
 use Rattle.std.specs.List.{AllByRecursion}
 use Rattle.std.specs.Ordering.{nat_cmp, ordering_then}
 use Rattle.std.specs.declared.cmp.Ordering.{Ordering}
 use Rattle.std.specs.declared.cmp.Ordering.TheVariants.{Less, Equal}
+use Rattle.cursor.specs.Cuts.{Cut}
 use Rattle.cursor.specs.Merging.{listed}
 use Rattle.cursor.specs.Places.{Rises}
 use Rattle.edits.specs.declared.field.PlacedTable.{PlacedTable}
@@ -18,16 +20,20 @@ use Rattle.ikey.specs.Orders.{Order}
 use Rattle.ikey.specs.Sources.{AreInRow, ComesAllBefore, ComesBefore, joined as joined_entries}
 use Rattle.ikey.specs.Views.{Among}
 use Rattle.recover.specs.Tables.{HasTable, HasTables, TableContent, internal_key}
+use Rattle.recover.proofs.NameScan.{in_cons, in_none}
 use Rattle.recover.proofs.TableFacts.{fits_of, key_is}
 use Rattle.level_cursor.specs.declared.row_cursor.RowCursor.{RowCursor}
 use Rattle.level_cursor.specs.declared.in_table.InTable.{InTable}
-use Rattle.level_cursor.specs.InRows.{EndsBy, HasList, HaveLists, IsPlacedRow, joined}
-use Rattle.level_cursor.specs.Rows.{ListsRow, rows_tables}
+use Rattle.level_cursor.specs.InRows.{EndsBy, HasList, HaveLists, IsOpenTorn, IsPlacedRow, IsTornOne, joined}
+use Rattle.level_cursor.specs.Rows.{IsRowTorn, ListsRow, rows_tables}
+use Rattle.level_cursor.specs.RowLists.{member_at}
 use Rattle.version_laws.specs.Places.{lists_of}
 use Rattle.version_laws.proofs.Sought.{kind_at_most}
 use Rattle.version_laws.proofs.TableKeys.{first_kept, last_kept}
+use Rattle.table_access.specs.Ends.{HasKeysOf}
 use Rattle.table_access.specs.Tables.{Seen, IsSound}
 use Rattle.table_access.proofs.Opening.{entries_rise}
+use Rattle.table_access.proofs.Wholes.{may_be, none_torn}
 
 abbrev pub placed_of : List TableContent → List PlacedTable
 placed_of contents = map (λ (content : TableContent). content.placed) contents
@@ -129,7 +135,7 @@ module _ (order : Order) (total : IsTotalOrder order.cmp) where
     positive = has.numbered.0;
     file = has.bytes;
     there = record { sound = sound; file_is = has.there };
-    spelled = has.spelled.1;
+    spelled = may_be order.cmp total content.placed has.bytes has.spelled.0 has.spelled.1;
     keys = record { first = first_kept order total source.facts.files content has; last = last_kept order total source.facts.files content has };
     ends = ends_all has.largest.0 content.placed.table.largest has.largest.2 (fits_of order has.bytes content.entries has.largest.0 has.spelled has.largest.1) has.spelled.0
         (λ other i. has.largest.3 other (subst (λ (es : List Entry). Among es other) (sym has.spelled.2) i));
@@ -171,3 +177,28 @@ module _ (order : Order) (total : IsTotalOrder order.cmp) where
           place = subst (λ (here : Option (InTable K g)). IsPlacedRow order.cmp source b.lists here None) (sym nowhere) refl;
         },
       )
+
+  -- ---- tables that are whole
+
+  whole_one : (source : Seen) (content : TableContent) (cut : Cut) → IsSound order.cmp source → HasTable order source.facts.files content → IsTornOne order.cmp source content.placed cut → ⊥
+  whole_one source content cut sound has torn =
+      let table = has.spelled.1 in
+      let keys : HasKeysOf content.placed has.spelled.0 = record { first = first_kept order total source.facts.files content has; last = last_kept order total source.facts.files content has } in
+      elim (torn has.bytes (record { sound = sound; file_is = has.there })) [
+        | inl damaged ↦ damaged.0 table.0 table.1
+        | inr block ↦ none_torn order.cmp content.placed has.bytes has.spelled.0 table keys block.0 block.1.0 cut block.2
+      ]
+
+  pub whole_all : (source : Seen) (contents : List TableContent) → IsSound order.cmp source → HasTables order source.facts.files contents → (placed : PlacedTable) → Contains (placed_of contents) placed → (cut : Cut) → IsTornOne order.cmp source placed cut → ⊥
+  whole_all source [] sound has placed i cut torn = absurd (in_none placed i)
+  whole_all source (content ∷ contents) sound has placed i cut torn = elim (in_cons content.placed (placed_of contents) placed i) [
+    | inl same ↦ whole_one source content cut sound has.0 (subst (λ (p : PlacedTable). IsTornOne order.cmp source p cut) (sym same) torn)
+    | inr later ↦ whole_all source contents sound has.1 placed later cut torn
+  ]
+
+  -- A cursor that has opened none of the tables of a consistent directory comes to no block that is none.
+  pub row_whole : {K : Type 0} {g : _} (source : Seen) (contents : List TableContent) → IsSound order.cmp source → HasTables order source.facts.files contents → (cursor : RowCursor K g) → rows_tables cursor ≡ placed_of contents → cursor.here ≡ None
+      → (cut : Cut) → IsRowTorn order.cmp source cursor cut → ⊥
+  row_whole {K} {g} source contents sound has cursor e nowhere cut (inl one) =
+      whole_all source contents sound has one.placed (subst (λ (tables : List PlacedTable). Contains tables one.placed) e (member_at (rows_tables cursor) one.index one.placed one.placed_is)) cut one.torn
+  row_whole {K} {g} source contents sound has cursor e nowhere cut (inr open_one) = absurd (subst (λ (here : Option (InTable K g)). IsOpenTorn order.cmp source (rows_tables cursor) here cut) nowhere open_one)

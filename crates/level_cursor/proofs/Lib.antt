@@ -1,4 +1,5 @@
 pub mod Beginning
+pub mod Cutting
 pub mod Having
 pub mod Keeping
 pub mod Lists

@@ -5,23 +5,9 @@ use Rattle.std.specs.List.{slice_get, AllByRecursion}
 use Rattle.cursor.specs.Places.{leading}
 use Rattle.ikey.specs.Entries.{InternalEntry}
 use Rattle.level_cursor.specs.InRows.{entries_before, joined}
+use Rattle.level_cursor.specs.RowLists.{before_more, some_at}
 
 -- ---- one list
-
-pub some_at : {A : Type 0} (xs : List A) (n : ℕ) → n < length xs → (x : A) × (slice_get xs n ≡ Some x)
-some_at [] n h = absurd (omega (arith, h))
-some_at (x ∷ xs) zero h = (x, refl)
-some_at (x ∷ xs) (suc n) h = some_at xs n (omega (arith, h))
-
-pub in_front : {A : Type 0} (xs ys : List A) (n : ℕ) (x : A) → slice_get xs n ≡ Some x → slice_get (xs ++ ys) n ≡ Some x
-in_front [] ys n x e = absurd (let bad : None ≡ Some x = e in cc)
-in_front (y ∷ xs) ys zero x e = e
-in_front (y ∷ xs) ys (suc n) x e = in_front xs ys n x e
-
-pub behind : {A : Type 0} (xs ys : List A) (n m : ℕ) → m ≡ length xs + n → slice_get (xs ++ ys) m ≡ slice_get ys n
-behind [] ys n m e = ap (slice_get ys) (let t : m ≡ n = omega (arith, e) in t)
-behind (x ∷ xs) ys n zero e = absurd (omega (arith, e))
-behind (x ∷ xs) ys n (suc m) e = behind xs ys n m (omega (arith, e))
 
 pub all_at : {A : Type 0} (P : A → Type 0) (xs : List A) (n : ℕ) (x : A) → AllByRecursion P xs → slice_get xs n ≡ Some x → P x
 all_at P [] n x h e = absurd (let bad : None ≡ Some x = e in cc)
@@ -48,24 +34,18 @@ read_before P xs n d less h k x e at =
 
 -- ---- all lists
 
-pub before_zero : (lists : List (List InternalEntry)) → entries_before lists 0 ≡ 0
-unfolding entries_before
-before_zero [] = refl
-before_zero (list ∷ lists) = refl
-
-pub before_more : (lists : List (List InternalEntry)) (i : ℕ) (list : List InternalEntry) → slice_get lists i ≡ Some list → entries_before lists (suc i) ≡ entries_before lists i + length list
-unfolding entries_before
-before_more [] i list e = absurd (let bad : None ≡ Some list = e in cc)
-before_more (x ∷ lists) zero list e =
-    let s : x ≡ list = let t : Some x ≡ Some list = e in cc in
-    omega (arith, before_zero lists, ap (length {A = InternalEntry}) s)
-before_more (x ∷ lists) (suc i) list e = let h = before_more lists i list e in omega (arith, h)
-
 pub before_end : (lists : List (List InternalEntry)) (n : ℕ) → length lists ≤ n → entries_before lists n ≡ length (joined lists)
 unfolding entries_before
 before_end [] n h = refl
 before_end (x ∷ lists) zero h = absurd (omega (arith, h))
 before_end (x ∷ lists) (suc n) h = omega (arith, before_end lists n (omega (arith, h)), length-append x (joined lists))
+
+pub before_up : (lists : List (List InternalEntry)) (i j : ℕ) → i ≤ j → entries_before lists i ≤ entries_before lists j
+unfolding entries_before
+before_up [] i j h = omega arith
+before_up (x ∷ lists) zero j h = omega arith
+before_up (x ∷ lists) (suc i) zero h = absurd (omega (arith, h))
+before_up (x ∷ lists) (suc i) (suc j) h = let more = before_up lists i j (omega (arith, h)) in omega (arith, more)
 
 pub before_inside : (lists : List (List InternalEntry)) (i : ℕ) (list : List InternalEntry) → slice_get lists i ≡ Some list → entries_before lists i + length list ≤ length (joined lists)
 unfolding entries_before
@@ -74,17 +54,6 @@ before_inside (x ∷ lists) zero list e =
     let s : x ≡ list = let t : Some x ≡ Some list = e in cc in
     omega (arith, length-append x (joined lists), ap (length {A = InternalEntry}) s)
 before_inside (x ∷ lists) (suc i) list e = omega (arith, before_inside lists i list e, length-append x (joined lists))
-
-pub item_in : (lists : List (List InternalEntry)) (i : ℕ) (list : List InternalEntry) (j : ℕ) (entry : InternalEntry) → slice_get lists i ≡ Some list → slice_get list j ≡ Some entry
-    → slice_get (joined lists) (entries_before lists i + j) ≡ Some entry
-unfolding entries_before
-item_in [] i list j entry e f = absurd (let bad : None ≡ Some list = e in cc)
-item_in (x ∷ lists) zero list j entry e f =
-    let s : x ≡ list = let t : Some x ≡ Some list = e in cc in
-    let start : 0 + j ≡ j = omega arith in
-    ap (slice_get (x ++ joined lists)) start ∙ in_front x (joined lists) j entry (ap (λ (l : List InternalEntry). slice_get l j) s ∙ f)
-item_in (x ∷ lists) (suc i) list j entry e f =
-    behind x (joined lists) (entries_before lists i + j) (length x + entries_before lists i + j) (omega arith) ∙ item_in lists i list j entry e f
 
 pub drop_at : (lists : List (List InternalEntry)) (i : ℕ) (list : List InternalEntry) → slice_get lists i ≡ Some list → joined (drop i lists) ≡ list ++ joined (drop (suc i) lists)
 drop_at [] i list e = absurd (let bad : None ≡ Some list = e in cc)

@@ -5,6 +5,7 @@ use Rattle.std.specs.List.{slice_get}
 use Rattle.std.specs.Option.{option_and_then}
 use Rattle.std.proofs.lemmas.Option.{slice_get_within}
 use Rattle.block.specs.Places.{Placed}
+use Rattle.cursor.specs.Cuts.{Cut}
 use Rattle.cursor.specs.Merging.{listed}
 use Rattle.cursor.specs.Places.{Cmp, Listed, Rises, first_from, index_before, index_behind, is_below, leading, to_first, to_key, to_last, to_next, to_prev, within}
 use Rattle.cursor.proofs.Leading.{within_cases, within_some}
@@ -13,15 +14,18 @@ use Rattle.edits.specs.declared.field.PlacedTable.{PlacedTable}
 use Rattle.ikey.specs.Entries.{InternalEntry}
 use Rattle.ikey.specs.Keys.{Key, IsKey}
 use Rattle.level_cursor.specs.declared.in_table.InTable.{InTable}
-use Rattle.level_cursor.specs.InRows.{IsInTable, IsOpenLimited, IsPlacedRow, KeepsOpen, KeepsTables, ListsTables, entries_before, joined}
+use Rattle.level_cursor.specs.InRows.{IsInTable, IsOpenLimited, IsOpenTorn, IsPlacedRow, KeepsOpen, KeepsTables, LiesIn, ListsTables, entries_before, joined}
 use Rattle.level_cursor.specs.Searches.{IsFirstTable, IsOneOf, IsSameTable, passes}
+use Rattle.level_cursor.specs.RowLists.{before_more, before_zero, item_in, member_at, some_at}
 use Rattle.level_cursor.proofs.Having.{carried_lists}
-use Rattle.level_cursor.proofs.Lists.{before_end, before_inside as list_inside, before_more, before_zero, item_in, some_at}
+use Rattle.level_cursor.proofs.Lists.{before_end, before_inside as list_inside}
 use Rattle.level_cursor.proofs.Reaching.{reaches}
 use Rattle.level_cursor.proofs.Searching.{none_leading}
 use Rattle.table_access.specs.declared.in_block.InBlock.{InBlock}
 use Rattle.table_access.specs.TablePlaces.{KeepsSeenTable, ListsTable, StepsTo}
+use Rattle.table_access.specs.TableLaws.{torn_carried}
 use Rattle.table_access.specs.Tables.{Seen, Carries}
+use Rattle.table_access.specs.Torn.{TornTable}
 use Rattle.table_access.proofs.Carrying.{same_table_at}
 use Rattle.table.specs.Frame.{AnyLong, Frame, handles}
 
@@ -39,12 +43,12 @@ row_carried cmp row here old new carries t = record {
 }
 
 -- a cursor of the row that was opened is kept where the row is
-pub opened_kept : {K : Type 0} {g : _} (cmp : Cmp) (row : List PlacedTable) (here : Option (InTable K g)) (found : InTable K g) (old new first second : Seen) → IsOneOf cmp old new row found.cursor.placed.table.number found.cursor.table.value.frame
+pub opened_kept : {K : Type 0} {g : _} (cmp : Cmp) (row : List PlacedTable) (here : Option (InTable K g)) (found : InTable K g) (old new first second : Seen) → IsOneOf cmp old new row found.index found.cursor.placed found.cursor.table.value.frame
     → KeepsTables cmp row here first second → KeepsTables cmp row (Some found) first second
 opened_kept cmp row here found old new first second one k = record {
   same = k.same;
   sound = k.sound;
-  here = subst (λ (n : ℕ). KeepsSeenTable cmp n first second) (sym one.number_is) (record { same = k.same one.placed one.there; sound = k.sound });
+  here = record { same = k.same found.cursor.placed (member_at row found.index found.cursor.placed one.there); sound = k.sound };
 }
 
 pub nothing_kept : {K : Type 0} {g : _} (cmp : Cmp) (row : List PlacedTable) (here : Option (InTable K g)) (first second : Seen) → KeepsTables cmp row here first second → KeepsTables {K = K} {g = g} cmp row None first second
@@ -62,6 +66,23 @@ same_limited None None same l = l
 same_limited None (Some new) same l = absurd same
 same_limited (Some old) None same l = absurd same
 same_limited (Some old) (Some new) same l = subst (λ (f : Frame). AnyLong (handles f)) same.1 l
+
+-- a call that only reads leaves no block anew that is none
+pub open_torn : {K : Type 0} {g : _} {numbers : ℕ → Type 0} (cmp : Cmp) (row : List PlacedTable) (here : Option (InTable K g)) (old new : Seen) (cut : Cut) → Carries cmp numbers old new → IsTrue new.facts.faithful → IsOpenTorn cmp new row here cut
+    → IsOpenTorn cmp old row here cut
+open_torn cmp row None old new cut carries t torn = torn
+open_torn cmp row (Some here) old new cut carries t torn = (torn.0, torn_carried cmp old new here.cursor.placed here.cursor.table.value.frame cut carries t torn.1)
+
+pub same_torn : {K : Type 0} {g : _} {numbers : ℕ → Type 0} (cmp : Cmp) (row : List PlacedTable) (old new : Seen) (here stepped : Option (InTable K g)) (cut : Cut) → IsSameTable here stepped → Carries cmp numbers old new → IsTrue new.facts.faithful
+    → IsOpenTorn cmp new row stepped cut → IsOpenTorn cmp old row here cut
+same_torn cmp row old new None None cut same carries t torn = torn
+same_torn cmp row old new None (Some its) cut same carries t torn = absurd same
+same_torn cmp row old new (Some here) None cut same carries t torn = absurd same
+same_torn cmp row old new (Some here) (Some its) cut same carries t torn = (
+  subst (λ (index : ℕ). LiesIn cmp row index cut) same.2 torn.0,
+  torn_carried cmp old new here.cursor.placed here.cursor.table.value.frame cut carries t
+      (subst (λ (p : PlacedTable). TornTable cmp new p here.cursor.table.value.frame cut) same.0 (subst (λ (f : Frame). TornTable cmp new its.cursor.placed f cut) same.1 torn.1)),
+)
 
 -- ---- moves
 

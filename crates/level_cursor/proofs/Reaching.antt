@@ -1,33 +1,25 @@
 -- Where the entries of a table stand below a key, and those in front of it.
 use Rattle.std.proofs.Common.{◌≡◌, ◌<◌, ◌+◌, ◌++◌, ℕ, zero, suc, true, false, List, [], ◌∷◌, Some, None, length, drop, refl, sym, ap, ◌∙◌, subst, arith}
 use Rattle.std.specs.Cmp.{IsTotalOrder}
-use Rattle.std.specs.List.{flat_map, slice_get, AllByRecursion}
+use Rattle.std.specs.List.{slice_get, AllByRecursion}
 use Rattle.std.specs.Ordering.{ordering_reverse}
 use Rattle.std.specs.declared.cmp.Ordering.{Ordering}
 use Rattle.std.specs.declared.cmp.Ordering.TheVariants.{Less, Equal, Greater}
 use Rattle.cursor.specs.Places.{Cmp, Rises, is_below, is_less, leading}
 use Rattle.edits.specs.declared.field.PlacedTable.{PlacedTable}
 use Rattle.ikey.specs.Below.{IsBelowInternal, key_total, same_key}
-use Rattle.ikey.specs.Entries.{InternalEntry, Pair}
+use Rattle.ikey.specs.Entries.{InternalEntry}
 use Rattle.ikey.specs.Keys.{Key, IsKey, key_cmp}
 use Rattle.level_cursor.specs.InRows.{EndsBy, HasList, HaveLists, entries_before, joined}
 use Rattle.level_cursor.specs.Searches.{IsFirstTable}
-use Rattle.level_cursor.proofs.Having.{list_at}
-use Rattle.level_cursor.proofs.Lists.{all_at, all_behind, all_pass, before_zero, item_in, leading_through, some_at}
+use Rattle.level_cursor.specs.RowLists.{before_zero, item_in, list_at, some_at}
+use Rattle.level_cursor.proofs.Lists.{all_at, all_behind, all_pass, leading_through}
 use Rattle.table_access.specs.Tables.{Seen}
-use Rattle.table.specs.Table.{ArePairs, IsTable}
 
 less_is : (o : Ordering) → is_less o ≡ true → o ≡ Less
 less_is Less e = refl
 less_is Equal e = let bad : false ≡ true = e in absurd cc
 less_is Greater e = let bad : false ≡ true = e in absurd cc
-
--- each entry of a table has an internal key of so many bytes
-has_bytes : (pairs : List Pair) (entries : List InternalEntry) → ArePairs pairs entries → AllByRecursion (λ (entry : InternalEntry). (bytes : List ℕ) × IsKey bytes entry.key) entries
-has_bytes [] [] h = tt
-has_bytes [] (entry ∷ entries) h = absurd h
-has_bytes (pair ∷ pairs) [] h = absurd h
-has_bytes (pair ∷ pairs) (entry ∷ entries) h = ((pair.key, h.0.key), has_bytes pairs entries h.1)
 
 module _ (cmp : Cmp) (total : IsTotalOrder cmp) (key : Key) where
   abbrev IsBelow : InternalEntry → Type 0
@@ -57,13 +49,7 @@ module _ (cmp : Cmp) (total : IsTotalOrder cmp) (key : Key) where
   pub list_below : (source : Seen) (placed : PlacedTable) (target : List ℕ) (list : List InternalEntry) → IsKey target key → IsBelowInternal cmp placed.table.largest target → HasList cmp source placed list
       → AllByRecursion IsBelow list
   list_below source placed target list is below h =
-      ends_below placed.table.largest target list is below h.ends (has_bytes (joined_pairs h.spelled) list (pairs_are h.spelled))
-    where
-      joined_pairs : IsTable cmp h.file list → List Pair
-      joined_pairs t = flat_map (λ (pairs : List Pair). pairs) t.2.blocks
-
-      pairs_are : (t : IsTable cmp h.file list) → ArePairs (joined_pairs t) list
-      pairs_are t = t.2.entries_are
+      ends_below placed.table.largest target list is below h.ends h.spelled.keyed
 
   -- ---- those in front
 
@@ -110,4 +96,4 @@ module _ (cmp : Cmp) (total : IsTotalOrder cmp) (key : Key) where
       let inside = first.inside in
       let placed = some_at row k (omega (arith, inside)) in
       let one = list_at cmp source row lists k placed.0 have placed.1 in
-      front_below lists k one.0 rises one.1 one.2.spelled.2.some (list_below source placed.0 target one.0 is (first.front k placed.0 refl placed.1) one.2)
+      front_below lists k one.0 rises one.1 one.2.spelled.some (list_below source placed.0 target one.0 is (first.front k placed.0 refl placed.1) one.2)

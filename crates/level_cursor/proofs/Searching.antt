@@ -1,20 +1,24 @@
 -- Searches over the tables of a row, while a source is read.
 use Rattle.std.proofs.Common.{◌≡◌, ◌<◌, ◌≤◌, ◌+◌, ◌-◌, ℕ, suc, Bool, true, false, List, [], ◌∷◌, Option, Some, None, length, drop, is_some, IsTrue, refl, sym, ap, ◌∙◌, subst, arith, inl, inr}
 use Rattle.std.specs.List.{slice_get}
+use Rattle.std.proofs.lemmas.Bool.{cases_lt}
+use Rattle.std.proofs.lemmas.Option.{slice_get_within}
 use Rattle.std.specs.Prelude.{Contains}
 use Rattle.block.specs.Places.{Placed}
+use Rattle.cursor.specs.Cuts.{Cut, Front, End, Below, SameCut}
 use Rattle.cursor.specs.Merging.{ahead, listed}
 use Rattle.cursor.specs.Places.{Cmp, Listed, index_before, leading, to_first, to_key, within}
 use Rattle.cursor.proofs.Leading.{within_cases, within_none, within_some}
 use Rattle.edits.specs.declared.field.PlacedTable.{PlacedTable}
 use Rattle.ikey.specs.Entries.{InternalEntry}
 use Rattle.ikey.specs.Keys.{Key, IsKey}
-use Rattle.level_cursor.specs.InRows.{HasList, ListsNumber, HaveLists, IsInTable, entries_before, joined}
-use Rattle.level_cursor.specs.Searches.{IsAimed, passes}
+use Rattle.level_cursor.specs.InRows.{HasList, ListsNumber, HaveLists, IsInTable, LiesIn, entries_before, joined}
+use Rattle.level_cursor.specs.Searches.{EndsBackIn, EndsIn, IsAimed, aimed_cut, passes}
 use Rattle.level_cursor.specs.declared.row_search.Aim.{Aim}
 use Rattle.level_cursor.specs.declared.row_search.Aim.TheVariants.{First, From}
-use Rattle.level_cursor.proofs.Having.{carried_list, have_length, list_at, member_at}
-use Rattle.level_cursor.proofs.Lists.{before_inside, before_more, before_zero, ended_in, ended_past, passed_list}
+use Rattle.level_cursor.specs.RowLists.{before_more, before_zero, list_at, member_at, some_at}
+use Rattle.level_cursor.proofs.Having.{carried_list, have_length}
+use Rattle.level_cursor.proofs.Lists.{before_inside, before_up, ended_in, ended_past, passed_list}
 use Rattle.table_access.specs.declared.in_block.InBlock.{InBlock}
 use Rattle.table_access.specs.TableLaws.{placed_in}
 use Rattle.table_access.specs.TablePlaces.{ListsTable, block_stands}
@@ -78,22 +82,28 @@ pub opened_at : (cmp : Cmp) (new : Seen) (placed opened : PlacedTable) (frame : 
 opened_at cmp new placed opened frame here list same nowhere h =
     subst (λ (p : PlacedTable). ListsTable cmp new p frame here (listed list None)) (sym same) (subst (λ (o : Option (InBlock Placed)). ListsTable cmp new placed frame o (listed list None)) (sym nowhere) h)
 
-pub key_refused : (target : _) (goal : Option Key) → IsAimed (From target) goal → ((key : Key) → IsKey target.now key → ⊥) → ⊥
-key_refused target None aimed f = aimed
-key_refused target (Some key) aimed f = f key aimed
+pub first_refused : (cmp : Cmp) (list : List InternalEntry) (goal : Option Key) (cut : Cut) → IsAimed First goal → SameCut cmp list (aimed_cut goal) cut → SameCut cmp list Front cut
+first_refused cmp list None cut aimed same = same
+first_refused cmp list (Some key) cut aimed same = absurd aimed
+
+pub key_refused : {D : Type 0} (cmp : Cmp) (list : List InternalEntry) (target : _) (goal : Option Key) (cut : Cut) → IsAimed (From target) goal → SameCut cmp list (aimed_cut goal) cut
+    → ((key : Key) → IsKey target.now key → SameCut cmp list (Below key) cut → D) → D
+key_refused cmp list target None cut aimed same f = absurd aimed
+key_refused cmp list target (Some key) cut aimed same f = f key aimed same
 
 -- ---- on
 
 module _ (cmp : Cmp) (aim : Aim) (old now : Seen) (row : List PlacedTable) (start index : ℕ) where
   -- what is sought stands from this table on where it stands from the start on
   pub record IsSearching : Type 0 where
+    pub from : start ≤ index
     pub carries : Carries cmp (ListsNumber row) old now
     pub still : now.facts.failures ≡ old.facts.failures
     pub reached : IsTrue now.facts.faithful → (lists : List (List InternalEntry)) → HaveLists cmp old row lists → (goal : Option Key) → IsAimed aim goal
         → entries_before lists start + leading (passes cmp goal) (joined (drop start lists)) ≡ entries_before lists index + leading (passes cmp goal) (joined (drop index lists))
 
 pub searching_begins : (cmp : Cmp) (aim : Aim) (old : Seen) (row : List PlacedTable) (start : ℕ) → IsSearching cmp aim old old row start start
-searching_begins cmp aim old row start = record { carries = carries_itself cmp old; still = refl; reached = λ t lists have goal aimed. refl }
+searching_begins cmp aim old row start = record { from = omega arith; carries = carries_itself cmp old; still = refl; reached = λ t lists have goal aimed. refl }
 
 module _ (cmp : Cmp) (aim : Aim) (old now new : Seen) (row : List PlacedTable) (start index : ℕ) (s : IsSearching cmp aim old now row start index) (placed : PlacedTable) (carries : Carries cmp (Only placed.table.number) now new)
     (at : slice_get row index ≡ Some placed) (opened : PlacedTable) (frame : Frame) (here : Option (InBlock Placed))
@@ -107,6 +117,7 @@ module _ (cmp : Cmp) (aim : Aim) (old now new : Seen) (row : List PlacedTable) (
 
   pub searching_on : block_stands here ≡ false → new.facts.failures ≡ now.facts.failures → IsSearching cmp aim old new row start (index + 1)
   searching_on nowhere stood = record {
+    from = (let from = s.from in omega (arith, from));
     carries = read_one cmp old now new row placed (member_at row index placed at) s.carries carries;
     still = stood ∙ s.still;
     reached = λ t lists have goal aimed.
@@ -137,6 +148,34 @@ module _ (cmp : Cmp) (aim : Aim) (old now new : Seen) (row : List PlacedTable) (
         place_is = ap (within (joined lists)) (s.reached (carries.reads.faithful t) lists have goal aimed ∙ ended_in test lists index one.0 one.1 less)
             ∙ within_some (joined lists) (entries_before lists index + leading test one.0) (omega (arith, less, fits));
       }
+
+-- A search that was refused came to the table in which it would have ended.
+pub searched_torn : (cmp : Cmp) (aim : Aim) (old now : Seen) (row : List PlacedTable) (start index : ℕ) → IsSearching cmp aim old now row start index → IsTrue now.facts.faithful → (placed : PlacedTable) → slice_get row index ≡ Some placed
+    → (lists : List (List InternalEntry)) → HaveLists cmp old row lists → (goal : Option Key) → IsAimed aim goal → (cut : Cut) → ((list : List InternalEntry) → slice_get lists start ≡ Some list → EndsIn cmp row start list goal cut)
+    → (list : List InternalEntry) × HasList cmp now placed list × LiesIn cmp row index cut × SameCut cmp list (aimed_cut goal) cut
+searched_torn cmp aim old now row start index s t placed at lists have goal aimed cut ends =
+    let one = list_at cmp old row lists index placed have at in
+    let from = s.from in
+    let within_row = slice_get_within row index placed at in
+    let first = some_at row start (omega (arith, from, within_row)) in
+    let its = list_at cmp old row lists start first.0 have first.1 in
+    let e = ends its.0 its.1 in
+    let same : start ≡ index = elim (cases_lt start index) [
+      | inl less ↦
+          let reached = s.reached t lists have goal aimed in
+          let ended = ended_in (passes cmp goal) lists start its.0 its.1 e.stops in
+          let more = before_more lists start its.0 its.1 in
+          let up = before_up lists (suc start) index (omega (arith, less)) in
+          let stops = e.stops in
+          absurd (omega (arith, reached, ended, more, up, stops))
+      | inr ge ↦ omega (arith, from, ge)
+    ] in
+    let is : its.0 ≡ one.0 = let both : Some its.0 ≡ Some one.0 = sym its.1 ∙ (ap (slice_get lists) same ∙ one.1) in cc in (
+      one.0,
+      carried_list cmp old now placed one.0 s.carries t one.2,
+      subst (λ (n : ℕ). LiesIn cmp row n cut) same e.lies,
+      subst (λ (l : List InternalEntry). SameCut cmp l (aimed_cut goal) cut) is e.same,
+    )
 
 pub searching_none : (cmp : Cmp) (aim : Aim) (old now : Seen) (row : List PlacedTable) (start index : ℕ) → IsSearching cmp aim old now row start index → length row ≤ index
     → IsTrue now.facts.faithful → (lists : List (List InternalEntry)) → HaveLists cmp old row lists → (goal : Option Key) → IsAimed aim goal
@@ -211,6 +250,29 @@ module _ (cmp : Cmp) (old now new : Seen) (row : List PlacedTable) (end step ind
         stands = subst (λ (p : Option ℕ). ListsTable cmp new opened frame here (listed one.0 p)) (before_of (length one.0) l.0 long) (the_place t lists have);
         place_is = before_of (entries_before lists end) (entries_before lists index + l.0) (omega (arith, sums, long));
       }
+
+pub back_torn : (cmp : Cmp) (old now : Seen) (row : List PlacedTable) (end step index : ℕ) → step < end → index ≡ end - step - 1 → IsSearchingBack cmp old now row end step → IsTrue now.facts.faithful → (placed : PlacedTable)
+    → slice_get row index ≡ Some placed → (lists : List (List InternalEntry)) → HaveLists cmp old row lists → end ≤ length lists → (cut : Cut)
+    → ((last : ℕ) (list : List InternalEntry) → suc last ≡ end → slice_get lists last ≡ Some list → EndsBackIn cmp row last list cut)
+    → (list : List InternalEntry) × HasList cmp now placed list × LiesIn cmp row index cut × SameCut cmp list End cut
+back_torn cmp old now row end step index less its_index s t placed at lists have fits cut ends =
+    let one = list_at cmp old row lists index placed have at in
+    let none : step ≡ 0 = elim (cases_lt 0 step) [
+      | inl some ↦
+          let last : ℕ = end - 1 in
+          let long = have_length cmp old row lists have in
+          let table = some_at row last (omega (arith, less, fits, long)) in
+          let its = list_at cmp old row lists last table.0 have table.1 in
+          let e : suc last ≡ end = omega (arith, less) in
+          let more : entries_before lists end ≡ entries_before lists last + length its.0 = ap (entries_before lists) (sym e) ∙ before_more lists last its.0 its.1 in
+          let up = before_up lists (end - step) last (omega (arith, some)) in
+          let same = s.same t lists have fits in
+          let has = its.2.spelled.some in
+          absurd (omega (arith, more, up, same, has))
+      | inr le ↦ omega (arith, le)
+    ] in
+    let e = ends index one.0 (omega (arith, less, its_index, none)) one.1 in
+    (one.0, carried_list cmp old now placed one.0 s.carries t one.2, e.lies, e.same)
 
 pub back_none : (cmp : Cmp) (old now : Seen) (row : List PlacedTable) (end step : ℕ) → IsSearchingBack cmp old now row end step → end ≤ step
     → IsTrue now.facts.faithful → (lists : List (List InternalEntry)) → HaveLists cmp old row lists → end ≤ length lists → index_before (entries_before lists end) ≡ None

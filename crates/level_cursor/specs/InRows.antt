@@ -1,22 +1,25 @@
 -- Tables in a row, and where a cursor stands in them.
-use Rattle.std.specs.Prelude.{◌≡◌, ◌<◌, ◌+◌, ℕ, zero, suc, Bool, false, List, [], ◌∷◌, Option, None, Some, Contains, length, slice_get}
+use Rattle.std.specs.Prelude.{◌≡◌, ◌⊎◌, ◌<◌, ◌+◌, ℕ, zero, suc, Bool, true, false, List, [], ◌∷◌, Option, None, Some, Contains, length, slice_get}
 use Rattle.std.specs.List.{AllByRecursion, flat_map}
 use Rattle.block.specs.Places.{Placed}
 use Rattle.cache.specs.Tables.{table_at}
+use Rattle.cursor.specs.Cuts.{Cut, is_in_front}
 use Rattle.cursor.specs.Merging.{listed}
 use Rattle.cursor.specs.Places.{Cmp, Listed, Rises}
 use Rattle.edits.specs.declared.field.PlacedTable.{PlacedTable}
 use Rattle.ikey.specs.Below.{IsBelowInternal}
 use Rattle.ikey.specs.Entries.{InternalEntry}
-use Rattle.ikey.specs.Keys.{IsKey}
+use Rattle.ikey.specs.Keys.{Key, IsKey}
 use Rattle.level_cursor.specs.declared.in_table.InTable.{InTable}
 use Rattle.table_access.specs.declared.in_block.InBlock.{InBlock}
 use Rattle.table_access.specs.Ends.{HasKeysOf}
+use Rattle.table_access.specs.Possible.{MayBeTable}
+use Rattle.table_access.specs.Torn.{HasTorn, TornTable}
 use Rattle.table_access.specs.TablePlaces.{KeepsSeenTable, ListsTable, block_stands}
-use Rattle.table_access.specs.Tables.{Seen, IsSound, HasSoundTable}
+use Rattle.table_access.specs.Tables.{Seen, IsSound, HasSoundTable, IsOpenFrame}
 use Rattle.table_access.specs.Values.{IsTablePastLimit}
 use Rattle.table.specs.Frame.{AnyLong, Frame, handles}
-use Rattle.table.specs.Table.{IsTable}
+use Rattle.table.specs.Refusals.{IsFrameDamaged}
 
 -- the entries of all its tables
 abbrev pub joined : List (List InternalEntry) → List InternalEntry
@@ -34,13 +37,13 @@ entries_before (list ∷ lists) (suc index) = length list + entries_before lists
 abbrev pub EndsBy : Cmp → List ℕ → List InternalEntry → Type 0
 EndsBy cmp key entries = AllByRecursion (λ (entry : InternalEntry). (bytes : List ℕ) → IsKey bytes entry.key → IsBelowInternal cmp key bytes → ⊥) entries
 
--- The source has this table of an edit, with these entries, which have the edit's keys at their ends, so that none comes behind the
--- largest.
+-- The source has this table of an edit, which may have these entries, as far as its blocks tell; they have the edit's keys at their ends,
+-- so that none comes behind the largest.
 pub record HasList (cmp : Cmp) (source : Seen) (placed : PlacedTable) (entries : List InternalEntry) : Type 0 where
   pub positive : 0 < placed.table.number
   pub file : List ℕ
   pub there : HasSoundTable cmp source placed.table.number file
-  pub spelled : IsTable cmp file entries
+  pub spelled : MayBeTable cmp placed file entries
   pub keys : HasKeysOf placed entries
   pub ends : EndsBy cmp placed.table.largest entries
 
@@ -107,3 +110,36 @@ IsOpenNumber (Some here) number = here.cursor.placed.table.number ≡ number
 abbrev pub IsOpenLimited : {K : Type 0} {g : _} → Option (InTable K g) → Type 0
 IsOpenLimited None = ⊥
 IsOpenLimited (Some here) = AnyLong (handles here.cursor.table.value.frame)
+
+-- ---- torn tables
+
+-- the file of this table of an edit has no frame, or a block of it that lies at the cut is none
+abbrev pub IsTornFile : Cmp → PlacedTable → List ℕ → Cut → Type 0
+IsTornFile cmp placed file cut = IsFrameDamaged cmp file ⊎ ((frame : Frame) × IsOpenFrame cmp file frame × HasTorn cmp placed file frame cut)
+
+-- so is the one that the source has
+abbrev pub IsTornOne : Cmp → Seen → PlacedTable → Cut → Type 0
+IsTornOne cmp source placed cut = (file : List ℕ) → HasSoundTable cmp source placed.table.number file → IsTornFile cmp placed file cut
+
+-- The cut lies in the table of this index: the tables in front of it end in front of the cut, and those behind it begin behind.
+pub record LiesIn (cmp : Cmp) (row : List PlacedTable) (index : ℕ) (cut : Cut) : Type 0 where
+  pub front : (k : ℕ) (placed : PlacedTable) (key : Key) → k < index → slice_get row k ≡ Some placed → IsKey placed.table.largest key → is_in_front cmp cut key ≡ true
+  pub back : (k : ℕ) (placed : PlacedTable) (key : Key) → index < k → slice_get row k ≡ Some placed → IsKey placed.table.smallest key → is_in_front cmp cut key ≡ false
+
+-- one of them is torn there
+pub record IsOneTorn (cmp : Cmp) (source : Seen) (row : List PlacedTable) (cut : Cut) : Type 0 where
+  pub index : ℕ
+  pub placed : PlacedTable
+  pub placed_is : slice_get row index ≡ Some placed
+  pub lies : LiesIn cmp row index cut
+  pub torn : IsTornOne cmp source placed cut
+
+-- the one that is open is
+abbrev pub IsOpenTorn : {K : Type 0} {g : _} → Cmp → Seen → List PlacedTable → Option (InTable K g) → Cut → Type 0
+IsOpenTorn cmp source row None cut = ⊥
+IsOpenTorn cmp source row (Some here) cut = LiesIn cmp row here.index cut × TornTable cmp source here.cursor.placed here.cursor.table.value.frame cut
+
+-- a block of the open one is none at this cut, wherever the table lies
+abbrev pub IsTornHere : {K : Type 0} {g : _} → Cmp → Seen → Option (InTable K g) → Cut → Type 0
+IsTornHere cmp source None cut = ⊥
+IsTornHere cmp source (Some here) cut = TornTable cmp source here.cursor.placed here.cursor.table.value.frame cut

@@ -1,9 +1,10 @@
 -- A cursor over tables of a version that lie in a row.
 use Rattle.std.specs.Prelude.{◌⊎◌, ◌-◌, ℕ, Bool, List, take, drop}
+use Rattle.cursor.specs.Cuts.{Cut}
 use Rattle.cursor.specs.Places.{Cmp, Listed}
 use Rattle.edits.specs.declared.field.PlacedTable.{PlacedTable}
 use Rattle.level_cursor.specs.declared.row_cursor.RowCursor.{RowCursor}
-use Rattle.level_cursor.specs.InRows.{ListsNumber, IsOneLimited, IsOpenLimited, IsOpenNumber, KeepsTables, ListsTables, table_stands}
+use Rattle.level_cursor.specs.InRows.{ListsNumber, IsOneLimited, IsOneTorn, IsOpenLimited, IsOpenNumber, IsOpenTorn, KeepsTables, ListsTables, table_stands}
 use Rattle.table_access.specs.Tables.{Seen}
 
 -- the tables of a row: those of the version from one index on, up to another
@@ -24,6 +25,10 @@ row_stands cursor = table_stands cursor.here
 
 abbrev pub IsRowLimited : {K : Type 0} {g : _} → Cmp → Seen → RowCursor K g → Type 0
 IsRowLimited cmp source cursor = IsOneLimited cmp source (rows_tables cursor) ⊎ IsOpenLimited cursor.here
+
+-- a table of the row, in which the cut lies, has a damaged frame, or a block that is none at the cut
+abbrev pub IsRowTorn : {K : Type 0} {g : _} → Cmp → Seen → RowCursor K g → Cut → Type 0
+IsRowTorn cmp source cursor cut = IsOneTorn cmp source (rows_tables cursor) cut ⊎ IsOpenTorn cmp source (rows_tables cursor) cursor.here cut
 
 -- it goes over a table of this number, or has it open
 abbrev pub GoesOverRow : {K : Type 0} {g : _} → RowCursor K g → ℕ → Type 0

@@ -1,6 +1,7 @@
 -- Searches over the tables of a row.
-use Rattle.std.specs.Prelude.{◌≡◌, ◌≤◌, ℕ, suc, Bool, false, List, Option, None, Some, Contains, Result, Ok, Err, length, slice_get, option_and_then}
-use Rattle.cursor.specs.Places.{Cmp, index_before, index_behind, is_below, within}
+use Rattle.std.specs.Prelude.{◌≡◌, ◌<◌, ◌≤◌, ℕ, suc, Bool, false, List, Option, None, Some, Result, Ok, Err, length, slice_get, option_and_then}
+use Rattle.cursor.specs.Cuts.{Cut, Front, End, Below, SameCut}
+use Rattle.cursor.specs.Places.{Cmp, index_before, index_behind, is_below, leading, within}
 use Rattle.edits.specs.declared.field.PlacedTable.{PlacedTable}
 use Rattle.ikey.specs.Below.{IsBelowInternal}
 use Rattle.ikey.specs.Entries.{InternalEntry}
@@ -9,7 +10,7 @@ use Rattle.level_cursor.specs.declared.in_table.InTable.{InTable}
 use Rattle.level_cursor.specs.declared.row_search.Aim.{Aim}
 use Rattle.level_cursor.specs.declared.row_search.Aim.TheVariants.{First, From}
 use Rattle.coding.specs.declared.error.DbError.{DbError}
-use Rattle.level_cursor.specs.InRows.{IsPlacedRow, entries_before, joined}
+use Rattle.level_cursor.specs.InRows.{IsPlacedRow, LiesIn, entries_before, joined}
 use Rattle.table_access.specs.Tables.{Seen, IsOpenFrame, SaysOf}
 use Rattle.table.specs.Frame.{Frame}
 
@@ -23,12 +24,26 @@ IsAimed First None = Unit {0}
 IsAimed (From target) (Some key) = IsKey target.now key
 IsAimed aim goal = ⊥
 
--- the table that is open is one of the row's, and what is open is its frame
-pub record IsOneOf (cmp : Cmp) (old new : Seen) (row : List PlacedTable) (number : ℕ) (frame : Frame) : Type 0 where
-  pub placed : PlacedTable
-  pub there : Contains row placed
-  pub number_is : number ≡ placed.table.number
-  pub open_is : SaysOf cmp old new number (λ file. IsOpenFrame cmp file frame)
+-- the cut to which it leads
+abbrev pub aimed_cut : Option Key → Cut
+aimed_cut None = Front
+aimed_cut (Some key) = Below key
+
+-- A search on that begins at the table of this index ends in its list: the cut lies there, as the one that is aimed at does.
+pub record EndsIn (cmp : Cmp) (row : List PlacedTable) (index : ℕ) (list : List InternalEntry) (goal : Option Key) (cut : Cut) : Type 0 where
+  pub lies : LiesIn cmp row index cut
+  pub same : SameCut cmp list (aimed_cut goal) cut
+  pub stops : leading (passes cmp goal) list < length list
+
+-- And so does one back.
+pub record EndsBackIn (cmp : Cmp) (row : List PlacedTable) (index : ℕ) (list : List InternalEntry) (cut : Cut) : Type 0 where
+  pub lies : LiesIn cmp row index cut
+  pub same : SameCut cmp list End cut
+
+-- the table that is open is the row's of this index, and what is open is its frame
+pub record IsOneOf (cmp : Cmp) (old new : Seen) (row : List PlacedTable) (index : ℕ) (placed : PlacedTable) (frame : Frame) : Type 0 where
+  pub there : slice_get row index ≡ Some placed
+  pub open_is : SaysOf cmp old new placed.table.number (λ file. IsOpenFrame cmp file frame)
 
 -- all tables in front of this index end below the target, and the one there doesn't
 pub record IsFirstTable (cmp : Cmp) (target : List ℕ) (row : List PlacedTable) (start : ℕ) : Type 0 where
@@ -41,7 +56,7 @@ pub record IsFirstTable (cmp : Cmp) (target : List ℕ) (row : List PlacedTable)
 -- the same table is open
 abbrev pub IsSameTable : {K : Type 0} {g : _} → Option (InTable K g) → Option (InTable K g) → Type 0
 IsSameTable None None = Unit {0}
-IsSameTable (Some old) (Some new) = (new.cursor.placed ≡ old.cursor.placed) × (new.cursor.table.value.frame ≡ old.cursor.table.value.frame)
+IsSameTable (Some old) (Some new) = (new.cursor.placed ≡ old.cursor.placed) × (new.cursor.table.value.frame ≡ old.cursor.table.value.frame) × (new.index ≡ old.index)
 IsSameTable old new = ⊥
 
 -- It has gone on to the entry behind; or it stays, and the entry behind is the first from this table on, or it was refused.

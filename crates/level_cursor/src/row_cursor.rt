@@ -1,9 +1,11 @@
 //! A cursor over tables in a row.
 
 ghost use Rattle.std.specs.Prelude.{◌≤◌, ℕ, List, Option, length, IsTrue, IfErr};
+ghost use Rattle.cursor.specs.Cuts.{next_cut, prev_cut};
+ghost use Rattle.cursor.specs.Merging.{listed};
 ghost use Rattle.cursor.specs.Moves.{Refuses};
 ghost use Rattle.ikey.specs.Entries.{InternalEntry};
-ghost use Rattle.level_cursor.specs.InRows.{IsOpenLimited, IsOpenNumber, IsPlacedRow, table_stands};
+ghost use Rattle.level_cursor.specs.InRows.{IsOpenLimited, IsOpenNumber, IsPlacedRow, IsTornHere, joined, table_stands};
 ghost use Rattle.level_cursor.specs.Searches.{IsSameTable, RowStepsBack, RowStepsOn};
 ghost use Rattle.table_access.specs.Tables.{Carries, seen_through};
 ghost use Rattle.table.specs.Reading.{IsStill};
@@ -63,7 +65,8 @@ impl<K: KeyOrder> RowCursor<K> {
 
 impl<K: KeyOrder, S: Store> Cursor<K, Tables<K, S>> for RowCursor<K> {
     ghost use Rattle.level_cursor.specs.RowLaws.{limits_kept, lists_kept, placed_in, row_onward, row_still};
-    ghost use Rattle.level_cursor.specs.Rows.{GoesOverRow, IsRowLimited, KeepsRow, ListsRow, row_stands};
+    ghost use Rattle.level_cursor.specs.Rows.{GoesOverRow, IsRowLimited, IsRowTorn, KeepsRow, ListsRow, row_stands};
+    ghost use Rattle.level_cursor.specs.TornRows.{torn_kept, torn_same};
     ghost use Rattle.table_access.specs.TableLaws.{carries_both, carries_itself, carries_more};
     ghost use Rattle.table_access.specs.Tables.{Carries, seen_through};
 
@@ -76,6 +79,8 @@ impl<K: KeyOrder, S: Store> Cursor<K, Tables<K, S>> for RowCursor<K> {
     ghost stands = { λ cursor. row_stands cursor };
 
     ghost limited = { λ cursor source. IsRowLimited K.cmp (seen_through S.facts source) cursor };
+
+    ghost torn = { λ cursor source cut. IsRowTorn K.cmp (seen_through S.facts source) cursor cut };
 
     ghost leaves = { λ numbers old new. Carries K.cmp numbers (seen_through S.facts old) (seen_through S.facts new) };
 
@@ -156,6 +161,10 @@ impl<K: KeyOrder, S: Store> Cursor<K, Tables<K, S>> for RowCursor<K> {
 
     ghost limits_kept = { λ cursor old new k l. limits_kept K.cmp _ cursor.here _ _ k l };
 
+    ghost torn_kept = { λ cursor old new cut k t. torn_kept K.cmp _ cursor.here _ _ cut k t };
+
+    ghost torn_same = { λ cursor source at a b h same t. torn_same K.cmp _ _ cursor.here at a b h same t };
+
     ghost leaves_still = { λ numbers source. carries_itself K.cmp _ };
 
     ghost leaves_onward = { λ numbers first second third k l. carries_both K.cmp _ _ _ k l };
@@ -178,7 +187,7 @@ fn step_on<K: KeyOrder, S: Store>(
     ensures still { IsStill (S.facts source.old.store) (S.facts source.new.store) result }
     ensures refused { IfErr result (λ e. Refuses e (S.facts source.old.store) (S.facts source.new.store)
         ((lists : List (List InternalEntry)) (place : Option ℕ) → IsPlacedRow K.cmp (seen_through S.facts source.old) lists here.old place
-        → ⊥) (IsOpenLimited here.old)) }
+        → IsTornHere K.cmp (seen_through S.facts source.old) here.old (next_cut (listed (joined lists) place))) (IsOpenLimited here.old)) }
 {
     let Some(here) = here else {
         unreachable!();
@@ -204,7 +213,7 @@ fn step_back<K: KeyOrder, S: Store>(
     ensures still { IsStill (S.facts source.old.store) (S.facts source.new.store) result }
     ensures refused { IfErr result (λ e. Refuses e (S.facts source.old.store) (S.facts source.new.store)
         ((lists : List (List InternalEntry)) (place : Option ℕ) → IsPlacedRow K.cmp (seen_through S.facts source.old) lists here.old place
-        → ⊥) (IsOpenLimited here.old)) }
+        → IsTornHere K.cmp (seen_through S.facts source.old) here.old (prev_cut (listed (joined lists) place))) (IsOpenLimited here.old)) }
 {
     let Some(here) = here else {
         unreachable!();

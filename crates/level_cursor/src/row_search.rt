@@ -1,14 +1,15 @@
 //! Searches over the tables of a row (LevelDB's table/two_level_iterator.cc, SkipEmptyDataBlocksForward and its counterpart).
 
-ghost use Rattle.std.specs.Prelude.{◌≡◌, ◌<◌, ◌≤◌, ◌^◌, ◌+◌, ℕ, List, Option, None};
+ghost use Rattle.std.specs.Prelude.{◌≡◌, ◌<◌, ◌≤◌, ◌^◌, ◌+◌, ℕ, suc, List, Option, None};
 ghost use Rattle.std.specs.Prelude.{Some, drop, length, slice_get, IsTrue, IfSome, IfOk, IfErr};
+ghost use Rattle.cursor.specs.Cuts.{Cut, End, SameCut};
 ghost use Rattle.cursor.specs.Merging.{ahead, listed};
 ghost use Rattle.cursor.specs.Moves.{Refuses};
 ghost use Rattle.cursor.specs.Places.{index_before, leading, within};
 ghost use Rattle.ikey.specs.Entries.{InternalEntry};
 ghost use Rattle.ikey.specs.Keys.{Key};
-ghost use Rattle.level_cursor.specs.InRows.{HasList, ListsNumber, HaveLists, IsOneLimited, IsPlacedRow, entries_before, joined};
-ghost use Rattle.level_cursor.specs.Searches.{IsAimed, IsFirstTable, IsOneOf, passes};
+ghost use Rattle.level_cursor.specs.InRows.{HasList, ListsNumber, HaveLists, IsOneLimited, IsOneTorn, IsPlacedRow, IsTornOne, entries_before, joined};
+ghost use Rattle.level_cursor.specs.Searches.{EndsBackIn, EndsIn, IsAimed, IsFirstTable, IsOneOf, aimed_cut, passes};
 ghost use Rattle.table_access.specs.TablePlaces.{ListsTable};
 ghost use Rattle.table_access.specs.Tables.{Carries, HasSoundTable, IsOpenFrame, Only, SaysOf, seen_through};
 ghost use Rattle.table_access.specs.Values.{IsTablePastLimit};
@@ -32,8 +33,8 @@ pub enum Aim<'a> {
     From(&'a [u8]),
 }
 
-/// Looks on from a table for an entry: the table that has it, and a cursor there. Corrupt, where the source hasn't these
-/// tables; Unsupported, where one passes a limit of reading.
+/// Looks on from a table for an entry: the table that has it, and a cursor there. Corrupt, where one to which it comes
+/// is torn there; Unsupported, where one passes a limit of reading.
 pub fn search_on<K: KeyOrder, S: Store>(
     alloc: Global,
     source: &mut Tables<K, S>,
@@ -48,11 +49,12 @@ pub fn search_on<K: KeyOrder, S: Store>(
         → IsPlacedRow K.cmp (seen_through S.facts source.new) lists here
         (within (joined lists) (entries_before lists start + leading (passes K.cmp goal) (joined (drop start lists))))) }
     ensures opened { IfOk result (λ here. IfSome here (λ found. IsOneOf K.cmp (seen_through S.facts source.old)
-        (seen_through S.facts source.new) row.now found.cursor.placed.table.number found.cursor.table.value.frame)) }
+        (seen_through S.facts source.new) row.now found.index found.cursor.placed found.cursor.table.value.frame)) }
     ensures still { IsStill (S.facts source.old.store) (S.facts source.new.store) result }
     ensures refused { IfErr result (λ e. Refuses e (S.facts source.old.store) (S.facts source.new.store)
-        ((lists : List (List InternalEntry)) (goal : Option Key) → HaveLists K.cmp (seen_through S.facts source.old) row.now lists
-        → IsAimed aim.entry goal → ⊥)
+        ((lists : List (List InternalEntry)) (goal : Option Key) (cut : Cut) → HaveLists K.cmp (seen_through S.facts source.old) row.now lists
+        → IsAimed aim.entry goal → ((list : List InternalEntry) → slice_get lists start ≡ Some list → EndsIn K.cmp row.now start list goal cut)
+        → IsOneTorn K.cmp (seen_through S.facts source.old) row.now cut)
         (IsOneLimited K.cmp (seen_through S.facts source.old) row.now)) }
 {
     for index in start..row.len() {
@@ -76,10 +78,12 @@ pub fn search_back<K: KeyOrder, S: Store>(
         → HaveLists K.cmp (seen_through S.facts source.old) row.now lists
         → end ≤ length lists → IsPlacedRow K.cmp (seen_through S.facts source.new) lists here (index_before (entries_before lists end))) }
     ensures opened { IfOk result (λ here. IfSome here (λ found. IsOneOf K.cmp (seen_through S.facts source.old)
-        (seen_through S.facts source.new) row.now found.cursor.placed.table.number found.cursor.table.value.frame)) }
+        (seen_through S.facts source.new) row.now found.index found.cursor.placed found.cursor.table.value.frame)) }
     ensures still { IsStill (S.facts source.old.store) (S.facts source.new.store) result }
     ensures refused { IfErr result (λ e. Refuses e (S.facts source.old.store) (S.facts source.new.store)
-        ((lists : List (List InternalEntry)) → HaveLists K.cmp (seen_through S.facts source.old) row.now lists → end ≤ length lists → ⊥)
+        ((lists : List (List InternalEntry)) (cut : Cut) → HaveLists K.cmp (seen_through S.facts source.old) row.now lists → end ≤ length lists
+        → ((index : ℕ) (list : List InternalEntry) → suc index ≡ end → slice_get lists index ≡ Some list → EndsBackIn K.cmp row.now index list cut)
+        → IsOneTorn K.cmp (seen_through S.facts source.old) row.now cut)
         (IsOneLimited K.cmp (seen_through S.facts source.old) row.now)) }
 {
     for step in 0..end {
@@ -130,8 +134,8 @@ fn enter<K: KeyOrder, S: Store>(
         (listed list (ahead (passes K.cmp goal) list))) }
     ensures still { IsStill (S.facts source.old.store) (S.facts source.new.store) result }
     ensures refused { IfErr result (λ e. Refuses e (S.facts source.old.store) (S.facts source.new.store)
-        ((list : List InternalEntry) (goal : Option Key) → HasList K.cmp (seen_through S.facts source.old) placed.now list
-        → IsAimed aim.entry goal → ⊥)
+        ((list : List InternalEntry) (goal : Option Key) (cut : Cut) → HasList K.cmp (seen_through S.facts source.old) placed.now list
+        → IsAimed aim.entry goal → SameCut K.cmp list (aimed_cut goal) cut → IsTornOne K.cmp (seen_through S.facts source.old) placed.now cut)
         ((file : List ℕ) → HasSoundTable K.cmp (seen_through S.facts source.old) placed.now.table.number file → IsTablePastLimit K.cmp file)) }
 {
     let mut cursor = open(alloc, source, placed)?;
@@ -163,7 +167,8 @@ fn leave<K: KeyOrder, S: Store>(
         (listed list (index_before (length list)))) }
     ensures still { IsStill (S.facts source.old.store) (S.facts source.new.store) result }
     ensures refused { IfErr result (λ e. Refuses e (S.facts source.old.store) (S.facts source.new.store)
-        ((list : List InternalEntry) → HasList K.cmp (seen_through S.facts source.old) placed.now list → ⊥)
+        ((list : List InternalEntry) (cut : Cut) → HasList K.cmp (seen_through S.facts source.old) placed.now list
+        → SameCut K.cmp list End cut → IsTornOne K.cmp (seen_through S.facts source.old) placed.now cut)
         ((file : List ℕ) → HasSoundTable K.cmp (seen_through S.facts source.old) placed.now.table.number file → IsTablePastLimit K.cmp file)) }
 {
     let mut cursor = open(alloc, source, placed)?;
@@ -186,7 +191,8 @@ fn open<K: KeyOrder, S: Store>(
         → ListsTable K.cmp (seen_through S.facts source.new) cursor.placed cursor.table.value.frame cursor.here (listed list None)) }
     ensures still { IsStill (S.facts source.old.store) (S.facts source.new.store) result }
     ensures refused { IfErr result (λ e. Refuses e (S.facts source.old.store) (S.facts source.new.store)
-        ((list : List InternalEntry) → HasList K.cmp (seen_through S.facts source.old) placed.now list → ⊥)
+        ((list : List InternalEntry) (cut : Cut) → HasList K.cmp (seen_through S.facts source.old) placed.now list
+        → IsTornOne K.cmp (seen_through S.facts source.old) placed.now cut)
         ((file : List ℕ) → HasSoundTable K.cmp (seen_through S.facts source.old) placed.now.table.number file → IsTablePastLimit K.cmp file)) }
 {
     // No file has the number 0, and the caches aren't asked for it.

@@ -1,5 +1,6 @@
 -- The moves of a cursor, told apart.
 use Rattle.std.specs.Prelude.{ℕ, Bool, IsTrue, Option}
+use Rattle.cursor.specs.Cuts.{Cut, first_cut, key_cut, last_cut, next_cut, prev_cut}
 use Rattle.cursor.specs.Places.{Cmp, Listed, to_first, to_key, to_last, to_next, to_prev}
 use Rattle.ikey.specs.Keys.{Key, IsKey}
 use Rattle.memtables.specs.declared.motion.Motion.{Motion}
@@ -21,10 +22,10 @@ LeadsMotion cmp (Seek target) is = (key : Key) → IsKey target.now key → is (
 LeadsMotion cmp Next is = is to_next
 LeadsMotion cmp Prev is = is to_prev
 
--- it is so where the motion's target, if it has one, is a key
-abbrev pub Aimed : Motion → Type 0 → Type 0
-Aimed First is = is
-Aimed Last is = is
-Aimed (Seek target) is = (key : Key) → IsKey target.now key → is
-Aimed Next is = is
-Aimed Prev is = is
+-- it is so of the cut to which the motion leads, whichever key its target is
+abbrev pub LeadsCut : Motion → ((Listed → Cut) → Type 0) → Type 0
+LeadsCut First is = is first_cut
+LeadsCut Last is = is last_cut
+LeadsCut (Seek target) is = (key : Key) → IsKey target.now key → is (key_cut key)
+LeadsCut Next is = is next_cut
+LeadsCut Prev is = is prev_cut

@@ -55,12 +55,13 @@ impl<K: KeyOrder> MemoryTables<K> {
     ghost use Rattle.std.specs.Prelude.{◌≡◌, ◌==◌, ◌+◌, ◌-◌, ◌++◌, ◌∷◌, [], ◌<◌, ◌≤◌, ◌^◌};
     ghost use Rattle.std.specs.Prelude.{length, is_some, None, Some, IfOk, IfErr, OnOk, OnErr};
     ghost use Rattle.std.specs.Option.{option_copied};
-    ghost use Rattle.cursor.specs.Moves.{ListsNone, Moves, Refuses};
+    ghost use Rattle.cursor.specs.Moves.{Moves, Refuses};
+    ghost use Rattle.cursor.specs.Places.{Listed};
     ghost use Rattle.ikey.specs.Sources.{IsAnswer};
     ghost use Rattle.memtables.specs.Changes.{DropsSealed, IsRemembered, IsSealed, IsUsed, HasMoreEntries, KeepsUsed};
     ghost use Rattle.memtables.specs.Memories.{AreMemories, HasRoom, IsAlone, Memories, logged_in};
     ghost use Rattle.memtables.specs.Memories.{operation_bytes, sealed_in, sealed_inserts, table_in};
-    ghost use Rattle.memtables.specs.Motions.{Aimed, LeadsMotion, MayGo};
+    ghost use Rattle.memtables.specs.Motions.{LeadsCut, LeadsMotion, MayGo};
     ghost use Rattle.memtables.specs.Places.{LeavesMemories, ListsMemoryTable, StaysInMemories};
     ghost use Rattle.memtable.specs.Contents.{size_of};
     ghost use Rattle.recover.specs.Entries.{RiseAbove, greatest, made_entry, entries_of};
@@ -297,8 +298,8 @@ impl<K: KeyOrder> MemoryTables<K> {
         ensures moves { LeadsMotion K.cmp motion.entry (Moves (λ memories. memory_facts)
             (λ place memories at. ListsMemoryTable K.cmp generation place memories at) cursor.old cursor.new self.old self.new result) }
         ensures stays { StaysInMemories K.cmp cursor.old cursor.new self.old self.new }
-        ensures refused { IfErr result (λ e. Refuses e memory_facts memory_facts (Aimed motion.entry
-            (ListsNone (λ place memories at. ListsMemoryTable K.cmp generation place memories at) cursor.old self.old)) ⊥) }
+        ensures refused { IfErr result (λ e. Refuses e memory_facts memory_facts (LeadsCut motion.entry
+            (λ cut. (at : Listed) → ListsMemoryTable K.cmp generation cursor.old self.old at → ⊥)) ⊥) }
     {
         if generation == self.generation {
             return go(cursor, alloc, &mut self.current, motion);

@@ -1,8 +1,9 @@
 //! Where a cursor goes, so that the table that it goes over is chosen once for all of its moves.
 
 ghost use Rattle.std.specs.Prelude.{IfErr};
-ghost use Rattle.cursor.specs.Moves.{ListsNone, Moves, Refuses, Stays};
-ghost use Rattle.memtables.specs.Motions.{Aimed, LeadsMotion, MayGo};
+ghost use Rattle.cursor.specs.Cuts.{TornAt};
+ghost use Rattle.cursor.specs.Moves.{Moves, Refuses, Stays};
+ghost use Rattle.memtables.specs.Motions.{LeadsCut, LeadsMotion, MayGo};
 
 use coding::DbError;
 use cursor::Cursor;
@@ -29,9 +30,9 @@ pub fn go<K: KeyOrder, S, C: Cursor<K, S>>(
 ) -> Result<(), DbError>
     requires { MayGo motion (C.stands cursor.old) }
     ensures moves { LeadsMotion K.cmp motion.entry (Moves C.facts C.lists cursor.old cursor.new source.old source.new result) }
-    ensures stays { Stays C.facts C.keeps C.limited C.leaves C.over cursor.old cursor.new source.old source.new }
+    ensures stays { Stays C.facts C.keeps C.limited C.torn C.leaves C.over cursor.old cursor.new source.old source.new }
     ensures refused { IfErr result (λ e. Refuses e (C.facts source.old) (C.facts source.new)
-        (Aimed motion.entry (ListsNone C.lists cursor.old source.old)) (C.limited cursor.old source.old)) }
+        (LeadsCut motion.entry (λ cut. TornAt C.lists C.torn cut cursor.old source.old)) (C.limited cursor.old source.old)) }
 {
     match motion {
         Motion::First => cursor.first(alloc, source),

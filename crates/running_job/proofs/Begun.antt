@@ -11,7 +11,7 @@ use Rattle.compact.specs.Outputs.{AreNumbered, IsMine, IsOwn, IsToCome, RefusesE
 use Rattle.compact.proofs.Writing.{refuses-as}
 use Rattle.cursor.specs.declared.merge.Merge.{Merge}
 use Rattle.cursor.specs.Merging.{listed}
-use Rattle.cursor.specs.Moves.{ListsNone}
+use Rattle.cursor.specs.Cuts.{Cut, Front, TornAt, first_cut}
 use Rattle.edits.specs.declared.field.PlacedTable.{PlacedTable}
 use Rattle.ikey.specs.declared.entry.Entry.{Entry}
 use Rattle.ikey.specs.declared.key_order.KeyOrder.{Ghosts}
@@ -21,7 +21,7 @@ use Rattle.ikey.specs.Sources.{SameEntries}
 use Rattle.running_job.specs.declared.open_job.OpenJob.{OpenJob}
 use Rattle.running_job.specs.internal.Beginning.{CanBegin}
 use Rattle.running_job.specs.Running.{IsRunning, deep_of}
-use Rattle.running_job.proofs.Read.{Gathers, IsView, Keeps, Limited, Lists, Over, View, read_lists, reads_apart, seen_lists, whole_of}
+use Rattle.running_job.proofs.Read.{Gathers, IsView, Keeps, Limited, Lists, Over, View, read_lists, reads_apart, seen_lists, whole_of, Torn}
 use Rattle.running_job.proofs.Stepped.{IsJobOver, planned_as}
 use Rattle.recover.specs.Directory.{Directory, IsConsistent}
 use Rattle.recover.specs.Replacing.{AreParted}
@@ -31,7 +31,7 @@ use Rattle.recover.proofs.Memberships.{from_chosen}
 use Rattle.level_cursor.specs.InRows.{ListsNumber}
 use Rattle.db_cursor.specs.declared.source_cursor.SourceCursor.{SourceCursor}
 use Rattle.db_cursor.specs.internal.Inputs.{BeginsMerge}
-use Rattle.db_cursor.specs.Inputs.{IsMergeLimited, ReadsNoMemory}
+use Rattle.db_cursor.specs.Inputs.{IsMergeIntact, IsMergeLimited, ReadsNoMemory}
 use Rattle.db_cursor.specs.Places.{OneGoesOver}
 use Rattle.db_cursor.specs.Scans.{IsOnePastLimit, ListsMerged}
 use Rattle.db_cursor.specs.Whole.{Whole}
@@ -74,6 +74,7 @@ pub record IsReady {K : Type 0} {g : Ghosts K} (order : Order) (a : Whole) (next
   pub own : HaveOwnSequences entries
   pub lists : ListsMerged order.cmp merge a (listed entries None)
   pub limits : IsMergeLimited order.cmp merge a → IsOnePastLimit order.cmp plan.inputs.items a
+  pub intact : IsMergeIntact order.cmp merge a
   pub below : (number : ℕ) → ListsNumber plan.inputs.items number → number < next
 
 pub ready : {K : Type 0} {g : Ghosts K} (order : Order) (a : Whole) (next : ℕ) (tables : List PlacedTable) (plan : JobPlan) (d : Directory) (merge : Merge K (SourceCursor K g))
@@ -93,6 +94,7 @@ ready order a next tables plan d merge planned_law part_law total exact in_order
       own = m.own;
       lists = m.lists;
       limits = m.limits;
+      intact = m.intact;
       below = input_below order a.seen.facts.files d next plan.inputs.items p.0 p.1 can.consistent can.free p.2.parted p.2.planned;
     }
 
@@ -131,10 +133,10 @@ module _ {K : Type 0} {g : Ghosts K} {H S : Type 0} (order : Order) (v : View H 
       → work.job.plan ≡ plan → work.version.value.tables ≡ tables → work.job.outputs ≡ record { closed = []; at_hand = None } → work.next ≡ 0 → work.merged ≡ 0
       → ((number : ℕ) → Over work.job.cursor number → Over merge number) → ((s t : H) → Keeps order.cmp v merge s t → Keeps order.cmp v work.job.cursor s t)
       → IsTrue (v.facts (v.store_of b)).faithful → Reads (v.facts (v.store_of a)) (v.facts (v.store_of b))
-      → (Limited order.cmp v work.job.cursor b → Limited order.cmp v merge a)
+      → (Limited order.cmp v work.job.cursor b → Limited order.cmp v merge a) → ((cut : Cut) → Torn order.cmp v work.job.cursor b cut → Torn order.cmp v merge a cut)
       → IsJobOver order v (deep_of order.cmp work) work b next [] r.entries
       → IsRunning order (whole_of v b) next d work [] r.entries
-  begun a b next tables plan d merge work r none over plan_is tables_is outputs none_drawn none_merged within same t reads limit j = record {
+  begun a b next tables plan d merge work r none over plan_is tables_is outputs none_drawn none_merged within same t reads limit torn j = record {
     inputs = r.inputs;
     rest = r.rest;
     planned = planned_as order d r.inputs r.rest plan work.job.plan tables work.version.value.tables plan_is tables_is r.planned;
@@ -158,20 +160,21 @@ module _ {K : Type 0} {g : Ghosts K} {H S : Type 0} (order : Order) (v : View H 
         let past = r.limits (limit l) in
         subst (λ (q : JobPlan). IsOnePastLimit order.cmp q.inputs.items (whole_of v b)) (sym plan_is)
         (past.0, past.1, past.2, ap (λ (files : Files). table_at files past.0.table.number) (reads.files t) ∙ past.3, past.4);
+    intact = λ cut l. r.intact cut (torn cut l);
   }
 
   pub refuses_begin : (a : H) (new : Facts) (tables : List PlacedTable) (plan : JobPlan) (merge : Merge K (SourceCursor K g)) (e : DbError)
       → ((next : ℕ) (d : Directory) → CanBegin order (whole_of v a) next tables d → IsReady order (whole_of v a) next tables plan d merge)
-      → RefusesEntry e (v.facts (v.store_of a)) new (IsTrue new.faithful → ListsNone (Lists order.cmp v) merge a) (IsTrue new.faithful → ListsNone (Lists order.cmp v) merge a ⊎ Limited order.cmp v merge a) ⊥
+      → RefusesEntry e (v.facts (v.store_of a)) new (IsTrue new.faithful → TornAt (Lists order.cmp v) (Torn order.cmp v) first_cut merge a) (IsTrue new.faithful → TornAt (Lists order.cmp v) (Torn order.cmp v) first_cut merge a ⊎ Limited order.cmp v merge a) ⊥
       → RefusesEntry e (v.facts (v.store_of a)) new
       (IsTrue new.faithful → (next : ℕ) (d : Directory) → CanBegin order (whole_of v a) next tables d → ⊥)
       (IsTrue new.faithful → (next : ℕ) (d : Directory) → CanBegin order (whole_of v a) next tables d → IsOnePastLimit order.cmp plan.inputs.items (whole_of v a))
       ⊥
   refuses_begin a new tables plan merge e are h =
       refuses-as e (v.facts (v.store_of a)) (v.facts (v.store_of a)) new _ _ _ _ _ _ refl
-      (λ none t next d can. let r = are next d can in none t (listed r.entries None) (read_lists order.cmp v view merge a _ r.lists))
+      (λ none t next d can. let r = are next d can in r.intact Front (none t (listed r.entries None) (read_lists order.cmp v view merge a _ r.lists)))
       (λ long t next d can. let r = are next d can in elim (long t) [
-        | inl none ↦ absurd (none (listed r.entries None) (read_lists order.cmp v view merge a _ r.lists))
+        | inl none ↦ absurd (r.intact Front (none (listed r.entries None) (read_lists order.cmp v view merge a _ r.lists)))
         | inr limited ↦ r.limits limited
       ])
       (λ u. u) h

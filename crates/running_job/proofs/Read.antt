@@ -6,7 +6,8 @@ use Rattle.compact.specs.Leaving.{AreTurns, IsTurn}
 use Rattle.compact.specs.Merging.{AreDisjoint, ReadsApart}
 use Rattle.compact.specs.Outputs.{AreNumbered, Filling, IsMine, IsNext, TablesWritten, WritesTables}
 use Rattle.cursor.specs.declared.merge.Merge.{Merge}
-use Rattle.cursor.specs.Merging.{AnyLimited, IsMerge, KeepsAll}
+use Rattle.cursor.specs.Cuts.{Cut}
+use Rattle.cursor.specs.Merging.{AnyLimited, AnyTorn, IsMerge, KeepsAll}
 use Rattle.cursor.specs.Places.{Cmp, Listed}
 use Rattle.edits.specs.declared.field.TableFile.{TableFile}
 use Rattle.ikey.specs.declared.key_order.KeyOrder.{Ghosts}
@@ -15,7 +16,7 @@ use Rattle.memtables.specs.PlaceLaws.{left_there, left_onward}
 use Rattle.memtables.specs.Places.{LeavesMemories}
 use Rattle.db_cursor.specs.declared.source_cursor.SourceCursor.{SourceCursor}
 use Rattle.db_cursor.specs.Inputs.{KeepsMerge, ReadsNoMemory}
-use Rattle.db_cursor.specs.Places.{KeepsSource, LeavesSource, LimitedSource, ListsSource, OneGoesOver}
+use Rattle.db_cursor.specs.Places.{KeepsSource, LeavesSource, LimitedSource, ListsSource, OneGoesOver, TornSource}
 use Rattle.db_cursor.specs.Scans.{ListsMerged}
 use Rattle.db_cursor.specs.Whole.{Whole}
 use Rattle.db_cursor.proofs.KeptMerges.{merge_is_kept}
@@ -112,6 +113,9 @@ Keeps cmp v merge s t = KeepsAll (λ cursor s t. KeepsSource cmp cursor (whole_o
 
 abbrev pub Limited : {K : Type 0} {g : Ghosts K} {H S : Type 0} → Cmp → View H S → Merge K (SourceCursor K g) → H → Type 0
 Limited cmp v merge s = AnyLimited (λ cursor s. LimitedSource cmp cursor (whole_of v s)) merge.children.items s
+
+abbrev pub Torn : {K : Type 0} {g : Ghosts K} {H S : Type 0} → Cmp → View H S → Merge K (SourceCursor K g) → H → Cut → Type 0
+Torn cmp v merge s cut = AnyTorn (λ cursor s cut. TornSource cmp cursor (whole_of v s) cut) merge.children.items s cut
 
 module _ {H S : Type 0} (cmp : Cmp) (v : View H S) (is : IsView v) where
   led_turn : (over mine : ℕ → Type 0) (a b : H) → IsTurn v.facts v.store_of v.with_store (Leaves cmp v over) mine a b → LedOn cmp over mine (whole_of v a) (whole_of v b)

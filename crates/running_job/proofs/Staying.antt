@@ -11,7 +11,7 @@ use Rattle.ikey.specs.Entries.{Pair}
 use Rattle.ikey.specs.Orders.{Order}
 use Rattle.running_job.specs.declared.open_job.OpenJob.{OpenJob}
 use Rattle.running_job.specs.Running.{deep_of}
-use Rattle.running_job.specs.internal.Staying.{KeepsOutputs, RunningStays, RunningStaysBeside}
+use Rattle.running_job.specs.internal.Staying.{KeepsOutputs, LeavesWhole, RunningStays, RunningStaysBeside}
 use Rattle.db_cursor.proofs.KeptMerges.{merge_is_kept}
 use Rattle.store.specs.Files.{Facts}
 use Rattle.table.specs.Building.{last_added}
@@ -19,12 +19,13 @@ use Rattle.directory_writes.specs.Replacing.{IsPlanned, OwnsNone}
 use Rattle.edits.specs.declared.field.PlacedTable.{PlacedTable}
 use Rattle.recover.specs.Tables.{TableContent}
 
-closed_on : (cmp : Cmp) (a b : Facts) (cs : List TableFile) (ts : List (List Pair)) → ((number : ℕ) → Any (λ (table : TableFile). table.number ≡ number) cs → get b.files (table_name number) ≡ get a.files (table_name number)) → AreClosed cmp a cs ts → AreClosed cmp b cs ts
+closed_on : (cmp : Cmp) (a b : Facts) (cs : List TableFile) (ts : List (List Pair)) → ((number : ℕ) → Any (λ (table : TableFile). table.number ≡ number) cs → LeavesWhole a b (table_name number)) → AreClosed cmp a cs ts → AreClosed cmp b cs ts
 closed_on cmp a b [] [] k h = tt
 closed_on cmp a b [] (pairs ∷ ts) k h = absurd h
 closed_on cmp a b (table ∷ cs) [] k h = absurd h
 closed_on cmp a b (table ∷ cs) (pairs ∷ ts) k h = (
-  record { file = h.0.file; has = k table.number (0, table, omega arith, refl, refl) ∙ h.0.has; table_of = h.0.table_of; size = h.0.size; smallest = h.0.smallest; largest = h.0.largest },
+  (let same = k table.number (0, table, omega arith, refl, refl) in
+      record { file = h.0.file; has = same.0 ∙ h.0.has; synced = same.1 h.0.file h.0.has h.0.synced; table_of = h.0.table_of; size = h.0.size; smallest = h.0.smallest; largest = h.0.largest }),
   closed_on cmp a b cs ts (λ number at. k number (suc at.0, at.1, omega (arith, at.2), at.3, at.4)) h.1,
 )
 
@@ -57,12 +58,12 @@ apart_on : (o : Option Filling) (cs : List TableFile) (next more : ℕ) → next
 apart_on None cs next more le h = tt
 apart_on (Some t) cs next more le h = (number_on next more t.number le h.0, h.1)
 
-written_on : (cmp : Cmp) (w : TablesWritten) (a b : Facts) (next more : ℕ) (pairs : List Pair) → next ≤ more → AreNumbered w next → KeepsOutputs w a.files b.files → HasWritten cmp w a next pairs → HasWritten cmp w b more pairs
+written_on : (cmp : Cmp) (w : TablesWritten) (a b : Facts) (next more : ℕ) (pairs : List Pair) → next ≤ more → AreNumbered w next → KeepsOutputs w a b → HasWritten cmp w a next pairs → HasWritten cmp w b more pairs
 written_on cmp w a b next more pairs le n k h = record {
   tables = h.tables;
   rest = h.rest;
   closed_are = closed_on cmp a b w.closed h.tables (λ number at. k number (inr at)) h.closed_are;
-  rest_is = at_hand_on cmp a b w.at_hand w.closed next h.rest n.at_hand (λ number at. k number (inl at)) h.rest_is;
+  rest_is = at_hand_on cmp a b w.at_hand w.closed next h.rest n.at_hand (λ number at. (k number (inl at)).0) h.rest_is;
   all = h.all;
   ends = h.ends;
   closed_numbers = numbers_on next more w.closed le h.closed_numbers;
@@ -106,6 +107,7 @@ stays order work old new next more d e came left r l =
       limits = λ limited.
           let past = r.limits (m.limits limited) in
           (past.0, past.1, past.2, l.files past.0.table.number (past.0, past.1, refl) ∙ past.3, past.4);
+      intact = λ cut torn. r.intact cut (m.torn cut torn);
     }
 
 pub stays_beside : {K : Type 0} {g : Ghosts K} (order : Order) (work : OpenJob K g) → RunningStaysBeside order work

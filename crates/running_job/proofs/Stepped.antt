@@ -18,7 +18,8 @@ use Rattle.ikey.specs.Sources.{SameEntries}
 use Rattle.running_job.specs.declared.open_job.OpenJob.{OpenJob}
 use Rattle.running_job.specs.Running.{IsRunning, deep_of, goes_over, is_input, is_to_write, shown, CanStep}
 use Rattle.running_job.specs.internal.Stepping.{StepKeeps, StepStops, StepTouches}
-use Rattle.running_job.proofs.Read.{Gathers, IsView, Keeps, Leaves, Limited, Lists, Over, View, led, mine_small, read_lists, reads_apart, seen_lists, whole_of}
+use Rattle.cursor.specs.Cuts.{Cut}
+use Rattle.running_job.proofs.Read.{Gathers, IsView, Keeps, Leaves, Limited, Lists, Over, View, led, mine_small, read_lists, reads_apart, seen_lists, whole_of, Torn}
 use Rattle.memtables.specs.PlaceLaws.{left_there}
 use Rattle.recover.specs.Directory.{Directory, IsConsistent}
 use Rattle.recover.specs.Tables.{TableContent, tabled}
@@ -135,9 +136,9 @@ module _ {K : Type 0} {g : Ghosts K} {H S : Type 0} (order : Order) (v : View H 
       → (deep : List ℕ → Bool) → deep ≡ deep_of order.cmp before
       → IsTrue (v.facts (v.store_of b)).faithful → (d : Directory) (came left front back : List InternalEntry) → CanStep order (whole_of v a) next d before came left → left ≡ front ++ back → length front ≡ merged
       → IsJobOver order v deep after b more (came ++ front) back
-      → (Limited order.cmp v after.job.cursor b → Limited order.cmp v before.job.cursor a)
+      → (Limited order.cmp v after.job.cursor b → Limited order.cmp v before.job.cursor a) → ((cut : Cut) → Torn order.cmp v after.job.cursor b cut → Torn order.cmp v before.job.cursor a cut)
       → IsRunning order (whole_of v b) more d after (came ++ front) back
-  goes lasts free before after a b next more le fits small writes leaves plan version drawn merged counted mine_kept numbers deep deep_is t d came left front back can left_is long j limit =
+  goes lasts free before after a b next more le fits small writes leaves plan version drawn merged counted mine_kept numbers deep deep_is t d came left front back can left_is long j limit torn =
       let r = can.running in
       let same_tables : after.version.value.tables ≡ before.version.value.tables = ap (λ v. v.value.tables) version in
       let all : came ++ left ≡ (came ++ front) ++ back = ap (λ (l : List InternalEntry). came ++ l) left_is ∙ sym (append_assoc came front back) in
@@ -163,14 +164,15 @@ module _ {K : Type 0} {g : Ghosts K} {H S : Type 0} (order : Order) (v : View H 
           | inr new ↦ free order (whole_of v a).seen.facts.files d next n can.consistent can.free new
         ];
         limits = λ l. subst (λ (q : JobPlan). IsOnePastLimit order.cmp q.inputs.items (whole_of v b)) (sym plan) (limit_kept lasts before a b next more d came left fits small writes t r (r.limits (limit l)));
+        intact = λ cut l. r.intact cut (torn cut l);
       }
 
   -- ---- why a step is refused
 
   pub refuses_step : SoundLasts → (before : OpenJob K g) (a : H) (old new : Facts) (next more : ℕ) (e : DbError) (deep : List ℕ → Bool) → next < 2 ^ 64 → deep ≡ deep_of order.cmp before
       → RefusesEntry e old new
-      (IsTrue new.faithful → (came : List InternalEntry) (left : List InternalEntry) → IsJobOver order v deep before a next came left → HaveOwnSequences (came ++ left) → ⊥)
-      (IsTrue new.faithful → (came : List InternalEntry) (left : List InternalEntry) → IsJobOver order v deep before a next came left → Limited order.cmp v before.job.cursor a ⊎ AreLarge (map entry_of (came ++ left)))
+      (IsTrue new.faithful → (came : List InternalEntry) (left : List InternalEntry) → IsJobOver order v deep before a next came left → HaveOwnSequences (came ++ left) → ((cut : Cut) → Torn order.cmp v before.job.cursor a cut → ⊥) → ⊥)
+      (IsTrue new.faithful → (came : List InternalEntry) (left : List InternalEntry) → IsJobOver order v deep before a next came left → ((cut : Cut) → Torn order.cmp v before.job.cursor a cut → ⊥) → Limited order.cmp v before.job.cursor a ⊎ AreLarge (map entry_of (came ++ left)))
       (2 ^ 62 ≤ more)
       → RefusesEntry e old new
       (IsTrue new.faithful → (d : Directory) (came left : List InternalEntry) → CanStep order (whole_of v a) next d before came left → ⊥)
@@ -178,8 +180,8 @@ module _ {K : Type 0} {g : Ghosts K} {H S : Type 0} (order : Order) (v : View H 
       (2 ^ 62 ≤ more)
   refuses_step lasts before a old new next more e deep fits is h =
       refuses-as e old old new _ _ _ _ _ _ refl
-      (λ falls t d came left can. falls t came left (runs lasts d before deep a next came left fits is can.running) can.running.own_sequences)
-      (λ long t d came left can. elim (long t came left (runs lasts d before deep a next came left fits is can.running)) [
+      (λ falls t d came left can. falls t came left (runs lasts d before deep a next came left fits is can.running) can.running.own_sequences can.running.intact)
+      (λ long t d came left can. elim (long t came left (runs lasts d before deep a next came left fits is can.running) can.running.intact) [
         | inl limited ↦ inl (can.running.limits limited)
         | inr large ↦ inr large
       ])

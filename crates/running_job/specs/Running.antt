@@ -11,7 +11,7 @@ use Rattle.running_job.specs.declared.open_job.OpenJob.{OpenJob}
 use Rattle.recover.specs.Directory.{Directory, IsConsistent}
 use Rattle.recover.specs.Tables.{TableContent, tabled}
 use Rattle.level_cursor.specs.InRows.{ListsNumber}
-use Rattle.db_cursor.specs.Inputs.{IsMergeLimited, ReadsNoMemory}
+use Rattle.db_cursor.specs.Inputs.{IsMergeIntact, IsMergeLimited, ReadsNoMemory}
 use Rattle.db_cursor.specs.Places.{OneGoesOver}
 use Rattle.db_cursor.specs.Scans.{IsOnePastLimit, ListsMerged}
 use Rattle.db_cursor.specs.Whole.{Whole}
@@ -61,6 +61,8 @@ pub record IsRunning {K : Type 0} {g : _} (order : Order) (whole : Whole) (next 
   pub unused : OwnsNone work.job.outputs d.layout.tables.items
   -- it passes a limit of reading only where the file of an input does
   pub limits : IsMergeLimited order.cmp work.job.cursor whole → IsOnePastLimit order.cmp work.job.plan.inputs.items whole
+  -- the blocks that it reads are intact
+  pub intact : IsMergeIntact order.cmp work.job.cursor whole
 
 -- The job is under way over a directory of these parts.
 pub record CanStep {K : Type 0} {g : _} (order : Order) (whole : Whole) (next : ℕ) (d : Directory) (work : OpenJob K g) (came left : List InternalEntry) : Type 0 where

@@ -52,7 +52,6 @@ impl<K: KeyOrder> OpenJob<K> {
     ghost use Rattle.std.specs.Prelude.{◌≡◌, ◌⊎◌, ◌<◌, ◌≤◌, ◌+◌, ◌^◌, ℕ, [], None};
     ghost use Rattle.std.specs.Prelude.{false, IsTrue, max, string_bytes, IfOk, IfErr, OnOk, MatchBool};
     ghost use Rattle.std.specs.FinMap.{get};
-    ghost use Rattle.compact.specs.Outputs.{IsOwn};
     ghost use Rattle.std.specs.List.Sorted.{IsNonDecreasing};
     ghost use Rattle.ikey.specs.Orders.{order_of};
     ghost use Rattle.running_job.specs.internal.Beginning.{BeginsJob, RefusesBegin};
@@ -64,7 +63,9 @@ impl<K: KeyOrder> OpenJob<K> {
     ghost use Rattle.db_cursor.specs.Whole.{whole_in};
     ghost use Rattle.store.specs.Calls.{FailsAsWrite};
     ghost use Rattle.store.specs.Stops.{LeavesOnly};
-    ghost use Rattle.directory_writes.specs.internal.Install.{HasJobVersion, InstallTouches};
+    ghost use Rattle.compact.specs.Outputs.{IsNumberAtHand, IsOwn, IsTableName};
+    ghost use Rattle.directory_writes.specs.internal.Flush.{SparesManifest};
+    ghost use Rattle.directory_writes.specs.internal.Install.{HasJobVersion, InstallSyncs, InstallTouches};
     ghost use Rattle.versions.specs.Levels.{HasNumber as HasTable};
     ghost use Rattle.versions.specs.Plans.{IsPlanOf};
 
@@ -210,6 +211,10 @@ impl<K: KeyOrder> OpenJob<K> {
         ensures synced { OnOk result (IsTrue (S.facts store.new).faithful
             → (S.facts store.new).synced (string_bytes manifest.now.name) ≡ get (S.facts store.new).files
             (string_bytes manifest.now.name)) }
+        ensures keeps { InstallSyncs K.cmp self.job (S.facts store.old) (S.facts store.new) numbers.now.next (string_bytes manifest.now.name)
+            version.now.tables result }
+        ensures spares { SparesManifest (S.facts store.old) (S.facts store.new) (string_bytes manifest.now.name)
+            (IsTableName (IsNumberAtHand self.job.outputs)) result }
         ensures refused { IfErr result (λ error. RefusesEnd (order_of K.name K.cmp) (S.facts store.old)
             (S.facts store.new) numbers.now.next last_sequence manifest.now version.now.tables self error) }
         ensures leaves { EndLeaves (order_of K.name K.cmp) (S.facts store.old)

@@ -51,7 +51,7 @@ module _ {numbers : ℕ → Type 0} (cmp : Cmp) (old new : Seen) (placed : Place
   pub lists_moved : (to : Option ℕ) → IsPlacedIn h.groups to_here to → ((index : ℕ) → to ≡ Some index → index < length at.entries) → ListsTable cmp new placed frame to_here (record at { place = to })
   lists_moved to at_place inside = record {
     groups = h.groups;
-    has = still_data cmp old new placed.table.number frame h.groups carries t h.has;
+    has = still_data cmp old new placed frame h.groups carries t h.has;
     ends = h.ends;
     bounds = h.bounds;
     entries_are = h.entries_are;

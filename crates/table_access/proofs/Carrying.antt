@@ -3,6 +3,7 @@ use Rattle.std.proofs.Common.{◌≡◌, ◌⊎◌, ℕ, List, IsSome, IsTrue, a
 use Rattle.cache.specs.Tables.{table_at}
 use Rattle.cursor.specs.Places.{Cmp}
 use Rattle.edits.specs.Names.{IsNumbered}
+use Rattle.edits.specs.declared.field.PlacedTable.{PlacedTable}
 use Rattle.ikey.specs.Entries.{Pair}
 use Rattle.table_access.specs.Tables.{Seen, Carries, HasSoundTable, HasData, KeepsOf, Knows}
 use Rattle.store.specs.Files.{Facts}
@@ -36,12 +37,12 @@ same_table_at cmp old new number carries t = ap (λ files. table_at files number
 pub still_has : {numbers : ℕ → Type 0} (cmp : Cmp) (old new : Seen) (number : ℕ) (file : List ℕ) → Carries cmp numbers old new → IsTrue new.facts.faithful → HasSoundTable cmp old number file → HasSoundTable cmp new number file
 still_has cmp old new number file carries t h = record { sound = carries.sound t h.sound; file_is = same_table_at cmp old new number carries t ∙ h.file_is }
 
-pub still_data : {numbers : ℕ → Type 0} (cmp : Cmp) (old new : Seen) (number : ℕ) (frame : Frame) (groups : List (List Pair)) → Carries cmp numbers old new → IsTrue new.facts.faithful → HasData cmp old number frame groups
-    → HasData cmp new number frame groups
-still_data cmp old new number frame groups carries t h = record {
+pub still_data : {numbers : ℕ → Type 0} (cmp : Cmp) (old new : Seen) (placed : PlacedTable) (frame : Frame) (groups : List (List Pair)) → Carries cmp numbers old new → IsTrue new.facts.faithful → HasData cmp old placed frame groups
+    → HasData cmp new placed frame groups
+still_data cmp old new placed frame groups carries t h = record {
   file = h.file;
-  table = still_has cmp old new number h.file carries t h.table;
+  table = still_has cmp old new placed.table.number h.file carries t h.table;
   open_is = h.open_is;
-  data_is = h.data_is;
-  within = h.within;
+  same_length = h.same_length;
+  each = h.each;
 }

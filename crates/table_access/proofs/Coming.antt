@@ -21,13 +21,13 @@ module _ (cmp : Cmp) (passed : List ℕ → Type 0) (old now : Seen) (placed : P
   -- the blocks in front of this one are intact, and passed
   pub record IsComing : Type 0 where
     pub reached : start ≤ index
-    pub searching : IsSearching cmp passed old now placed.table.number frame start index
+    pub searching : IsSearching cmp passed old now placed frame start index
     pub came : SaysOf cmp old now placed.table.number (λ file. IsFrame cmp file frame → CameTo cmp passed placed file frame start index)
 
 pub coming_begins : (cmp : Cmp) (passed : List ℕ → Type 0) (old : Seen) (placed : PlacedTable) (frame : Frame) (start : ℕ) → IsComing cmp passed old old placed frame start start
 coming_begins cmp passed old placed frame start = record {
   reached = omega arith;
-  searching = searching_begins cmp passed old placed.table.number frame start;
+  searching = searching_begins cmp passed old placed frame start;
   came = λ t file has is k low high. absurd (omega (arith, low, high));
 }
 
@@ -52,11 +52,11 @@ module _ (cmp : Cmp) (passed : List ℕ → Type 0) (old now new : Seen) (placed
         subst (IsPassed cmp passed placed file frame) same (pairs, its_block t file has is, all)
   ]
 
-  pub coming_on : is_some cursor.place ≡ false → new.facts.failures ≡ now.facts.failures → (IsTrue new.facts.faithful → (groups : List (List Pair)) → HasData cmp now placed.table.number frame groups → slice_get groups index ≡ Some pairs)
+  pub coming_on : is_some cursor.place ≡ false → new.facts.failures ≡ now.facts.failures → (IsTrue new.facts.faithful → (groups : List (List Pair)) → HasData cmp now placed frame groups → slice_get groups index ≡ Some pairs)
       → IsComing cmp passed old new placed frame start (index + 1)
   coming_on nowhere stood found = record {
     reached = (let up = s.reached in omega (arith, up));
-    searching = searching_on cmp passed old now new placed.table.number frame start index s.searching carries pairs found cursor its stops nowhere stood;
+    searching = searching_on cmp passed old now new placed frame start index s.searching carries pairs found cursor its stops nowhere stood;
     came = came_on nowhere;
   }
 

@@ -12,27 +12,21 @@ use Rattle.ikey.specs.Entries.{InternalEntry}
 use Rattle.table_access.specs.Tables.{Seen, Carries, HasData, HasSoundTable, IsOpenFrame}
 use Rattle.table_access.specs.Values.{IsNoTable, IsTablePastLimit}
 use Rattle.table_access.proofs.Carrying.{still_has}
-use Rattle.table_access.proofs.EndKeys.{data_ends}
 use Rattle.table_access.proofs.Placing.{data_length}
-use Rattle.table_access.proofs.Searching.{Lacks}
-use Rattle.table.proofs.Within.{filled_within}
-use Rattle.table.proofs.FrameParts.{one_frame}
-use Rattle.table.specs.Frame.{AnyLong, Frame, IsFrame, handles}
+use Rattle.table_access.proofs.Wholes.{all_intact, each_block, filled_of}
+use Rattle.table_access.specs.Torn.{LacksOn}
+use Rattle.table.specs.Frame.{AnyLong, Frame, handles}
 use Rattle.table.specs.Refusals.{IsFirstPlace, IsFrameDamaged, IsFrameUnsupported}
-use Rattle.table.specs.Table.{IsFilled, IsTable}
+use Rattle.table.specs.Table.{IsFilled}
 
--- what an open table's frame holds
-pub filled_of : (cmp : Cmp) (file : List ℕ) (frame : Frame) (entries : List InternalEntry) → IsFrame cmp file frame → IsTable cmp file entries → IsFilled cmp file frame entries
-filled_of cmp file frame entries is table = subst (λ (f : Frame). IsFilled cmp file f entries) (one_frame cmp file table.0 frame table.1 is) table.2
-
-pub data_of : {numbers : ℕ → Type 0} (cmp : Cmp) (old mid : Seen) (number : ℕ) (file : List ℕ) (frame : Frame) (entries : List InternalEntry) → Carries cmp numbers old mid → IsTrue mid.facts.faithful → HasSoundTable cmp old number file → IsOpenFrame cmp file frame
-    → (filled : IsFilled cmp file frame entries) → HasData cmp mid number frame filled.blocks
-data_of cmp old mid number file frame entries carries m has open_is filled = record {
+pub data_of : {numbers : ℕ → Type 0} (cmp : Cmp) (old mid : Seen) (placed : PlacedTable) (file : List ℕ) (frame : Frame) (entries : List InternalEntry) → Carries cmp numbers old mid → IsTrue mid.facts.faithful → HasSoundTable cmp old placed.table.number file → IsOpenFrame cmp file frame
+    → (filled : IsFilled cmp file frame entries) → HasData cmp mid placed frame filled.blocks
+data_of cmp old mid placed file frame entries carries m has open_is filled = record {
   file = file;
-  table = still_has cmp old mid number file carries m has;
+  table = still_has cmp old mid placed.table.number file carries m has;
   open_is = open_is;
-  data_is = filled.data_is;
-  within = filled_within cmp frame.places filled.blocks entries filled.bounds filled.entries_are;
+  same_length = data_length cmp file frame.places filled.blocks filled.data_is;
+  each = each_block cmp placed file frame entries filled;
 }
 
 pub starts_inside : (cmp : Cmp) (file target : List ℕ) (frame : Frame) (entries : List InternalEntry) (start : ℕ) → IsFirstPlace cmp target frame.places start → (filled : IsFilled cmp file frame entries) → start ≤ length filled.blocks
@@ -58,16 +52,18 @@ module _ (cmp : Cmp) (old : Seen) (placed : PlacedTable) where
   not_valued e new kind what (inl memory) = subst (λ (r : DbError). Refuses r old.facts new.facts NoTableThere LimitThere) (sym memory) tt
   not_valued e new kind what (inr corrupt) = subst (λ (r : DbError). Refuses r old.facts new.facts NoTableThere LimitThere) (sym corrupt.0) corrupt.1
 
-  module _ {numbers : ℕ → Type 0} (mid new : Seen) (first_reads : Carries cmp numbers old mid) (second : Carries cmp numbers mid new) (target : List ℕ) (frame : Frame) (start : ℕ) (first : IsFirstPlace cmp target frame.places start)
+  module _ {numbers : ℕ → Type 0} (mid new : Seen) (first_reads : Carries cmp numbers old mid) (second : Carries cmp numbers mid new) (passed : List ℕ → Type 0) (frame : Frame) (start : ℕ)
       (says : IsTrue mid.facts.faithful → (file : List ℕ) → HasSoundTable cmp old placed.table.number file → IsOpenFrame cmp file frame) where
-    lacks_table : IsTrue new.facts.faithful → Lacks cmp mid placed frame start → NoTableThere
+    lacks_table : IsTrue new.facts.faithful → LacksOn cmp passed mid placed frame start → NoTableThere
     lacks_table t lacks file has entries table keys =
         let m = second.reads.faithful t in
         let open_is = says m file has in
         let filled = filled_of cmp file frame entries open_is.0 table in
-        lacks filled.blocks (data_of cmp old mid placed.table.number file frame entries first_reads m has open_is filled) (data_ends placed filled.blocks entries filled.entries_are keys) (starts_inside cmp file target frame entries start first filled)
+        let stops = lacks file (still_has cmp old mid placed.table.number file first_reads m has) open_is in
+        let block = all_intact cmp placed file frame entries filled keys stops.index stops.inside in
+        stops.torn block.0 block.1
 
-    pub not_searched : (e : DbError) → Refuses e mid.facts new.facts (Lacks cmp mid placed frame start) (AnyLong (handles frame)) → Refuses e old.facts new.facts NoTableThere LimitThere
+    pub not_searched : (e : DbError) → Refuses e mid.facts new.facts (LacksOn cmp passed mid placed frame start) (AnyLong (handles frame)) → Refuses e old.facts new.facts NoTableThere LimitThere
     not_searched OutOfMemory h = tt
     not_searched Io h = let f = first_reads.reads.failures in omega (arith, f, h)
     not_searched (Corrupt kind what) h = λ t. lacks_table t (h t)

@@ -84,8 +84,12 @@ module _ (cmp : Cmp) (total : IsTotalOrder cmp) (target : List ℕ) where
             subst (λ (q : Place). IsBelowInternal cmp q.key target) s below
       ]
 
+  pub bounds_front : (file : List ℕ) (frame : Frame) (groups : List (List Pair)) (start : ℕ) → IsFrame cmp file frame → IsFirstPlace cmp target frame.places start → AreBounds cmp frame.places groups
+      → (k : ℕ) (pair : Pair) → k < pairs_before groups start → slice_get (joined groups) k ≡ Some pair → IsBelowInternal cmp pair.key target
+  bounds_front file frame groups start is first bounds =
+      let rise = bounds_rise cmp total is.index_is.1 frame.places is.index_is.3.2.rises is.index_is.4 in
+      front_under frame.places groups start bounds (places_under frame.places start rise first)
+
   pub filling_front : (file : List ℕ) (frame : Frame) (groups : List (List Pair)) (entries : List InternalEntry) (start : ℕ) → IsFrame cmp file frame → IsFirstPlace cmp target frame.places start → IsFilling cmp frame groups entries
       → (k : ℕ) (pair : Pair) → k < pairs_before groups start → slice_get (joined groups) k ≡ Some pair → IsBelowInternal cmp pair.key target
-  filling_front file frame groups entries start is first filling =
-      let rise = bounds_rise cmp total is.index_is.1 frame.places is.index_is.3.2.rises is.index_is.4 in
-      front_under frame.places groups start filling.bounds (places_under frame.places start rise first)
+  filling_front file frame groups entries start is first filling = bounds_front file frame groups start is first filling.bounds

@@ -28,3 +28,7 @@ pub mod LookingUp
 pub mod Denying
 pub mod Valuing
 pub mod Declining
+pub mod Wholes
+pub mod Splits
+mod Cutting
+mod Passed

@@ -1,5 +1,5 @@
 -- A cursor over a table that was opened.
-use Rattle.std.proofs.Common.{◌≡◌, ℕ, List, [], ◌∷◌, Some, None, IsTrue, refl, sym, ◌∙◌, subst}
+use Rattle.std.proofs.Common.{◌≡◌, ℕ, List, [], ◌∷◌, Some, None, IsTrue, refl, sym, ◌∙◌}
 use Rattle.std.specs.Cmp.{IsTotalOrder}
 use Rattle.std.specs.List.{AllByRecursion}
 use Rattle.std.specs.declared.cmp.Ordering.TheVariants.{Less}
@@ -11,14 +11,13 @@ use Rattle.ikey.specs.Below.{IsBelowInternal, key_total, same_key}
 use Rattle.ikey.specs.Entries.{InternalEntry, Pair, IsPair}
 use Rattle.ikey.specs.Keys.{key_cmp}
 use Rattle.table_access.specs.Ends.{HasKeysOf}
-use Rattle.table_access.specs.TablePlaces.{ListsTable, joined}
+use Rattle.table_access.specs.Possible.{MayBeTable}
+use Rattle.table_access.specs.TablePlaces.{ListsTable}
 use Rattle.table_access.specs.Tables.{Seen, Carries, HasSoundTable, IsOpenFrame}
 use Rattle.table_access.proofs.Carrying.{still_has}
 use Rattle.table_access.proofs.EndKeys.{data_ends}
 use Rattle.table.specs.Frame.{Frame}
-use Rattle.table.specs.Table.{ArePairs, IsFilled, IsTable}
-use Rattle.table.proofs.Within.{filled_within}
-use Rattle.table.proofs.FrameParts.{one_frame}
+use Rattle.table.specs.Table.{ArePairs}
 
 module _ (cmp : Cmp) (total : IsTotalOrder cmp) where
   all_above : (a b : InternalEntry) (entries : List InternalEntry) → key_cmp cmp a.key b.key ≡ Less → AllByRecursion (λ (later : InternalEntry). key_cmp cmp b.key later.key ≡ Less) entries
@@ -46,16 +45,16 @@ module _ (cmp : Cmp) (total : IsTotalOrder cmp) where
   entries_rise (x ∷ pairs) (y ∷ entries) up are = rises_behind x y pairs entries are.0 up are.1
 
   pub begins : {numbers : ℕ → Type 0} (old new : Seen) (placed : PlacedTable) (frame : Frame) (file : List ℕ) (entries : List InternalEntry) → Carries cmp numbers old new → IsTrue new.facts.faithful → HasSoundTable cmp old placed.table.number file → IsOpenFrame cmp file frame
-      → IsTable cmp file entries → HasKeysOf placed entries → ListsTable cmp new placed frame None (listed entries None)
+      → MayBeTable cmp placed file entries → HasKeysOf placed entries → ListsTable cmp new placed frame None (listed entries None)
   begins old new placed frame file entries carries t has open_is table keys =
-      let filled = subst (λ (f : Frame). IsFilled cmp file f entries) (one_frame cmp file table.0 frame table.1 open_is.0) table.2 in
+      let may = table.filled frame open_is.0 in
       record {
-        groups = filled.blocks;
-        has = record { file = file; table = still_has cmp old new placed.table.number file carries t has; open_is = open_is; data_is = filled.data_is; within = filled_within cmp frame.places filled.blocks entries filled.bounds filled.entries_are };
-        ends = data_ends placed filled.blocks entries filled.entries_are keys;
-        bounds = filled.bounds;
-        entries_are = filled.entries_are;
-        rises = entries_rise (joined filled.blocks) entries filled.rises filled.entries_are;
+        groups = may.groups;
+        has = record { file = file; table = still_has cmp old new placed.table.number file carries t has; open_is = open_is; same_length = may.same_length; each = may.each };
+        ends = data_ends placed may.groups entries may.entries_are keys;
+        bounds = may.bounds;
+        entries_are = may.entries_are;
+        rises = table.rises;
         inside = λ index e. let bad : None ≡ Some index = e in cc;
         place = refl;
       }

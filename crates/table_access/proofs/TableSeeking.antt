@@ -1,9 +1,8 @@
 -- Where a seek over a table leads.
-use Rattle.std.proofs.Common.{◌≡◌, ◌<◌, ◌++◌, ℕ, zero, suc, true, false, List, [], ◌∷◌, Option, Some, None, length, drop, IsTrue, refl, sym, ap, ◌∙◌, subst, arith, append_assoc, inl, inr}
+use Rattle.std.proofs.Common.{◌≡◌, ◌<◌, ℕ, zero, suc, true, false, List, [], ◌∷◌, Option, Some, None, IsTrue, sym, ap, ◌∙◌, subst, arith, inl, inr}
 use Rattle.std.specs.Cmp.{IsTotalOrder}
 use Rattle.std.specs.List.{slice_get, AllByRecursion}
 use Rattle.std.proofs.lemmas.Bool.{cases_lt}
-use Rattle.std.proofs.lemmas.List.{length-append, length-drop}
 use Rattle.std.proofs.lemmas.Option.{slice_get_within}
 use Rattle.block.specs.Places.{Placed}
 use Rattle.cursor.specs.Places.{Cmp, Listed, first_from, is_below, to_key, within}
@@ -18,45 +17,21 @@ use Rattle.table_access.specs.TablePlaces.{IsPlacedIn, ListsTable, StopsAt, join
 use Rattle.table_access.specs.Tables.{Seen, Carries}
 use Rattle.table_access.proofs.Arrivals.{lists_moved, same_within}
 use Rattle.table_access.proofs.Entering.{pair_at}
-use Rattle.table_access.proofs.Placing.{before_zero, data_length, in_front, some_at}
-use Rattle.table.proofs.Seeks.{blocks_below, front_keys}
+use Rattle.table_access.proofs.Filling.{bounds_front}
+use Rattle.table_access.proofs.Placing.{some_at}
 use Rattle.table.specs.Frame.{Frame, IsFrame}
 use Rattle.table.specs.Refusals.{IsFirstPlace}
-use Rattle.table.specs.Table.{AreBounds, AreData, ArePairs}
+use Rattle.table.specs.Table.{AreBounds, ArePairs}
 
 pub all_at : (P : Pair → Type 0) (pairs : List Pair) (n : ℕ) (pair : Pair) → AllByRecursion P pairs → slice_get pairs n ≡ Some pair → P pair
 all_at P [] n pair h e = absurd (let bad : None ≡ Some pair = e in cc)
 all_at P (x ∷ pairs) zero pair h e = let s : x ≡ pair = let t : Some x ≡ Some pair = e in cc in subst P s h.0
 all_at P (x ∷ pairs) (suc n) pair h e = all_at P pairs n pair h.1 e
 
-joined_both : (a b : List (List Pair)) → joined (a ++ b) ≡ joined a ++ joined b
-joined_both [] b = refl
-joined_both (x ∷ a) b = ap (λ (t : List Pair). x ++ t) (joined_both a b) ∙ sym (append_assoc x (joined a) (joined b))
-
-before_front : (front back : List (List Pair)) → pairs_before (front ++ back) (length front) ≡ length (joined front)
-unfolding pairs_before
-before_front [] back = before_zero back
-before_front (x ∷ front) back = omega (arith, before_front front back, length-append x (joined front))
-
-module _ (cmp : Cmp) (total : IsTotalOrder cmp) (target file : List ℕ) (frame : Frame) (start : ℕ) (groups : List (List Pair)) (is : IsFrame cmp file frame) (first : IsFirstPlace cmp target frame.places start)
-    (data_is : AreData cmp file frame.places groups) (bounds : AreBounds cmp frame.places groups) where
+module _ (cmp : Cmp) (total : IsTotalOrder cmp) (target file : List ℕ) (frame : Frame) (start : ℕ) (groups : List (List Pair)) (is : IsFrame cmp file frame) (first : IsFirstPlace cmp target frame.places start) (bounds : AreBounds cmp frame.places groups) where
   -- the pairs of the blocks in front of the first that can have the target
   pub below_front : (k : ℕ) (pair : Pair) → k < pairs_before groups start → slice_get (joined groups) k ≡ Some pair → IsBelowInternal cmp pair.key target
-  below_front k pair less e =
-      let parts = blocks_below cmp total target file start frame.places groups data_is bounds (front_keys cmp total target file frame start is first.inside first.front) in
-      let front : List (List Pair) = parts.0 in
-      let back : List (List Pair) = parts.1 in
-      let whole = data_length cmp file frame.places groups data_is in
-      let rest = data_length cmp file (drop start frame.places) back parts.3 in
-      let both = ap (length {A = List Pair}) parts.2 ∙ length-append front back in
-      let inside = first.inside in
-      let count : start ≡ length front = omega (arith, whole, rest, both, inside, length-drop start frame.places) in
-      let before : pairs_before groups start ≡ length (joined front) = (λ i. pairs_before (parts.2 i) (count i)) ∙ before_front front back in
-      let x = some_at (joined front) k (omega (arith, less, before)) in
-      let there = in_front (joined front) (joined back) k x.0 x.1 in
-      let same : Some pair ≡ Some x.0 = sym e ∙ ap (λ (t : List (List Pair)). slice_get (joined t) k) parts.2 ∙ ap (λ (t : List Pair). slice_get t k) (joined_both front back) ∙ there in
-      let s : x.0 ≡ pair = cc in
-      subst (λ (p : Pair). IsBelowInternal cmp p.key target) s (all_at (λ (p : Pair). IsBelowInternal cmp p.key target) (joined front) k x.0 parts.4 x.1)
+  below_front = bounds_front cmp total target file frame groups start is first bounds
 
   pub first_is : (entries : List InternalEntry) (key : Key) (place : ℕ) → ArePairs (joined groups) entries → IsKey target key → StopsAt (λ (other : List ℕ). IsBelowInternal cmp other target) (joined groups) (pairs_before groups start) place
       → place ≡ first_from cmp key entries
@@ -83,7 +58,7 @@ pub seek_moved : {numbers : ℕ → Type 0} (cmp : Cmp) → IsTotalOrder cmp →
     → ((place : ℕ) × StopsAt (λ (other : List ℕ). IsBelowInternal cmp other target) (joined h.groups) (pairs_before h.groups start) place × IsPlacedIn h.groups to_here (within (joined h.groups) place))
     → ListsTable cmp new placed frame to_here (record at { place = to_key cmp key at })
 seek_moved cmp total old new placed frame here to_here at carries t h target start key first is_key found =
-    let n = first_is cmp total target h.has.file frame start h.groups h.has.open_is.0 first h.has.data_is h.bounds at.entries key found.0 h.entries_are is_key found.1 in
+    let n = first_is cmp total target h.has.file frame start h.groups h.has.open_is.0 first h.bounds at.entries key found.0 h.entries_are is_key found.1 in
     let to : within (joined h.groups) found.0 ≡ to_key cmp key at = same_within (joined h.groups) at.entries found.0 (pairs_length (joined h.groups) at.entries h.entries_are) ∙ ap (within at.entries) n in
     lists_moved cmp old new placed frame here to_here at carries t h (to_key cmp key at) (subst (IsPlacedIn h.groups to_here) to found.2)
     (λ index e. within_inside at.entries (first_from cmp key at.entries) index e)

@@ -1,22 +1,26 @@
 -- At which block a search over a table is refused as damaged.
-use Rattle.std.proofs.Common.{◌≡◌, ◌⊎◌, ℕ, List, Some, length, IsTrue, sym, ◌∙◌, subst, inl, inr}
+use Rattle.std.proofs.Common.{◌≡◌, ◌⊎◌, ◌<◌, ◌≤◌, ◌-◌, ℕ, List, Some, arith, length, IsTrue, sym, ◌∙◌, subst, inl, inr}
 use Rattle.block.specs.Places.{Placed}
 use Rattle.cache.specs.Tables.{RefusesTable}
 use Rattle.coding.specs.declared.error.DbError.{DbError}
-use Rattle.coding.specs.declared.error.DbError.TheVariants.{OutOfMemory, Corrupt}
+use Rattle.coding.specs.declared.error.DbError.TheVariants.{OutOfMemory, Io, Corrupt, Unsupported}
 use Rattle.coding.specs.declared.error.Damage.{Damage}
 use Rattle.coding.specs.declared.error.FileKind.{FileKind}
+use Rattle.cursor.specs.Moves.{Refuses}
 use Rattle.cursor.specs.Places.{Cmp}
 use Rattle.edits.specs.declared.field.PlacedTable.{PlacedTable}
 use Rattle.ikey.specs.Below.{IsBelowInternal}
 use Rattle.ikey.specs.Entries.{Pair}
 use Rattle.ikey.specs.Keys.{IsFirstKey}
+use Rattle.store.specs.Files.{Facts}
 use Rattle.table_access.specs.Ends.{HasEnds}
+use Rattle.table_access.specs.Torn.{LacksBack, LacksBlock, LacksOn}
 use Rattle.table_access.specs.Tables.{Seen, Carries, HasIntact, HasSoundTable, IsBlockDamaged, IsBlockUnsupported, Only, SaysOf}
 use Rattle.table_access.specs.Telling.{IfCorrupt, IsFirstFound, IsTornIn, StopsTorn, TornOfKey}
 use Rattle.table_access.specs.Values.{StandsOnNone}
 use Rattle.table_access.proofs.Carrying.{still_has}
 use Rattle.table_access.proofs.Coming.{IsComing}
+use Rattle.table_access.proofs.Searching.{IsSearchingBack}
 use Rattle.table_access.proofs.TableSeeking.{all_at}
 use Rattle.table.specs.Frame.{Frame, IsFrame}
 use Rattle.table.specs.Intact.{IsWithin, floor_of}
@@ -50,18 +54,54 @@ torn_ends cmp old new placed frame index count pairs says count_is none t file h
 
 -- ---- a search
 
-pub torn_there : (cmp : Cmp) (passed : List ℕ → Type 0) (old now new : Seen) (placed : PlacedTable) (frame : Frame) (start index : ℕ) (e : DbError) → IsComing cmp passed old now placed frame start index → Carries cmp (Only placed.table.number) now new
+-- a refusal of a later call, said of the state before
+refused_later : (e : DbError) (a b c : Facts) (damaged damage limited : Type 0) → a.failures ≤ b.failures → (IsTrue c.faithful → damaged → damage) → Refuses e b c damaged limited → Refuses e a c damage limited
+refused_later OutOfMemory a b c damaged damage limited le d h = tt
+refused_later Io a b c damaged damage limited le d h = omega (arith, le, h)
+refused_later (Corrupt kind what) a b c damaged damage limited le d h = λ t. d t (h t)
+refused_later (Unsupported what) a b c damaged damage limited le d h = λ t. elim (h t) [ inl none ↦ inl (d t none) | inr past ↦ inr past ]
+refused_later e a b c damaged damage limited le d h = absurd h
+
+pub torn_there : (cmp : Cmp) (passed : List ℕ → Type 0) (old now new : Seen) (placed : PlacedTable) (frame : Frame) (start index : ℕ) (e : DbError) → index < length frame.places → IsComing cmp passed old now placed frame start index → Carries cmp (Only placed.table.number) now new
     → IfCorrupt e (SaysOf cmp now new placed.table.number (λ file. IsFrame cmp file frame → IsTornIn cmp placed file frame index))
     → IfCorrupt e (SaysOf cmp old new placed.table.number (λ file. IsFrame cmp file frame → StopsTorn cmp passed placed file frame start))
-torn_there cmp passed old now new placed frame start index (Corrupt kind what) s carries h = λ t file has is.
+torn_there cmp passed old now new placed frame start index (Corrupt kind what) inside s carries h = λ t file has is.
     let m = carries.reads.faithful t in
     record {
       index = index;
       reached = s.reached;
+      inside = inside;
       came = s.came m file has is;
       torn = h t file (still_has cmp old now placed.table.number file s.searching.carries m has) is;
     }
-torn_there cmp passed old now new placed frame start index e s carries h = tt
+torn_there cmp passed old now new placed frame start index e inside s carries h = tt
+
+pub refused_there : (cmp : Cmp) (passed : List ℕ → Type 0) (old now new : Seen) (placed : PlacedTable) (frame : Frame) (start index : ℕ) (limited : Type 0) (e : DbError) → index < length frame.places → IsComing cmp passed old now placed frame start index → Carries cmp (Only placed.table.number) now new
+    → Refuses e now.facts new.facts (LacksBlock cmp now placed frame index) limited → Refuses e old.facts new.facts (LacksOn cmp passed old placed frame start) limited
+refused_there cmp passed old now new placed frame start index limited e inside s carries h =
+    let f = s.searching.carries.reads.failures in
+    refused_later e old.facts now.facts new.facts (LacksBlock cmp now placed frame index) (LacksOn cmp passed old placed frame start) limited (omega (arith, f)) (λ t lacks file has open_is.
+    let m = carries.reads.faithful t in
+    record {
+      index = index;
+      reached = s.reached;
+      inside = inside;
+      came = s.came m file has open_is.0;
+      torn = lacks file (still_has cmp old now placed.table.number file s.searching.carries m has) open_is;
+    }) h
+
+pub refused_back : (cmp : Cmp) (old now new : Seen) (placed : PlacedTable) (frame : Frame) (end step index : ℕ) (limited : Type 0) (e : DbError) → step < end → index ≡ end - step - 1 → IsSearchingBack cmp old now placed frame end step → Carries cmp (Only placed.table.number) now new
+    → Refuses e now.facts new.facts (LacksBlock cmp now placed frame index) limited → Refuses e old.facts new.facts (LacksBack cmp old placed frame end) limited
+refused_back cmp old now new placed frame end step index limited e less index_is s carries h =
+    let f = s.carries.reads.failures in
+    refused_later e old.facts now.facts new.facts (LacksBlock cmp now placed frame index) (LacksBack cmp old placed frame end) limited (omega (arith, f)) (λ t lacks file has open_is.
+    let m = carries.reads.faithful t in
+    record {
+      index = index;
+      inside = omega (arith, less, index_is);
+      came = λ k from high. s.came m file has open_is.0 k (omega (arith, from, index_is)) high;
+      torn = lacks file (still_has cmp old now placed.table.number file s.carries m has) open_is;
+    }) h
 
 -- ---- a look-up
 

@@ -1,9 +1,8 @@
 -- What a table's blocks tell of a key is so of each list that the table may be.
-use Rattle.std.proofs.Common.{◌≡◌, ◌≤◌, ◌+◌, ℕ, zero, suc, List, Option, Some, None, length, map, sym, ap, ◌∙◌, subst, arith, inl, inr}
+use Rattle.std.proofs.Common.{◌≡◌, ◌≤◌, ◌+◌, ℕ, List, Option, Some, None, length, map, sym, ap, ◌∙◌, subst, arith, inl, inr}
 use Rattle.std.specs.Cmp.{IsTotalOrder}
 use Rattle.std.specs.FinMap.{IsAntisymmetric}
 use Rattle.std.specs.List.{slice_get}
-use Rattle.std.proofs.lemmas.Bool.{cases_lt}
 use Rattle.std.proofs.lemmas.Option.{slice_get_within}
 use Rattle.cursor.specs.Places.{Cmp}
 use Rattle.cursor.proofs.Singles.{pairs_length}
@@ -17,9 +16,10 @@ use Rattle.table_access.specs.Telling.{CameTo, FirstSays, Tells, TellsOfKey}
 use Rattle.table_access.specs.Values.{IsDenied, IsLookUp, SaysOfEntry}
 use Rattle.table_access.proofs.Entering.{pair_at}
 use Rattle.table_access.proofs.Filling.{filling_may}
+use Rattle.table_access.proofs.Passed.{came_passed}
 use Rattle.table_access.proofs.Placing.{item_in, some_at}
 use Rattle.table_access.proofs.Searching.{within_no}
-use Rattle.table_access.proofs.Stopping.{HasPassed, passed_more, passed_none, stops_in, stops_nowhere}
+use Rattle.table_access.proofs.Stopping.{HasPassed, stops_in, stops_nowhere}
 use Rattle.table_access.proofs.Valuing.{denied_unseen, none_found, one_said}
 use Rattle.table.specs.Frame.{Frame, IsFrame}
 use Rattle.table.specs.Refusals.{IsFirstPlace}
@@ -32,16 +32,7 @@ one_entry pair a b h k = let key = same_key pair.key a.key b.key h.key k.key in 
 module _ (cmp : Cmp) (placed : PlacedTable) (file : List ℕ) (frame : Frame) (entries : List InternalEntry) (may : MayHave cmp placed file frame entries) where
   -- the blocks that were passed are passed in the list
   passed_to : (passed : List ℕ → Type 0) (start index : ℕ) → CameTo cmp passed placed file frame start index → start ≤ index → index ≤ length may.groups → HasPassed passed may.groups start index
-  passed_to passed start zero came low high = let same : start ≡ 0 = omega (arith, low) in subst (λ (n : ℕ). HasPassed passed may.groups n 0) (sym same) (passed_none passed may.groups 0)
-  passed_to passed start (suc index) came low high = elim (cases_lt index start) [
-    | inl less ↦ let same : start ≡ suc index = omega (arith, less, low) in subst (HasPassed passed may.groups start) same (passed_none passed may.groups start)
-    | inr ge ↦
-        let rest = passed_to passed start index (λ k from less. came k from (omega (arith, less))) ge (omega (arith, high)) in
-        let g = some_at may.groups index (omega (arith, high)) in
-        let one = came index ge (omega arith) in
-        let same = may.each index g.0 one.0 g.1 one.1 in
-        passed_more passed may.groups start index g.0 rest g.1 (λ k pair at. one.2 k pair (ap (λ (ps : List Pair). slice_get ps k) (sym same) ∙ at))
-  ]
+  passed_to passed start index came low high = came_passed cmp placed file frame may.groups may.each passed start index came low high
 
   module _ (total : IsTotalOrder cmp) (exact : IsAntisymmetric cmp) (is : IsFrame cmp file frame) (key : List ℕ) (sequence : ℕ) where
     -- the filter denies the key

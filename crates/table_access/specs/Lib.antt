@@ -6,4 +6,6 @@ pub mod TableLaws
 pub mod TablePlaces
 pub mod Tables
 pub mod Telling
+pub mod Torn
+pub mod TornLaws
 pub mod Values

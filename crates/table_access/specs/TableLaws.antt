@@ -1,12 +1,15 @@
 -- Laws of cursors over tables.
-use Rattle.std.specs.Prelude.{◌≡◌, ℕ, List, Option, Some, None, is_some}
+use Rattle.std.specs.Prelude.{◌≡◌, ℕ, List, Option, Some, None, IsTrue, is_some}
+use Rattle.cache.specs.Tables.{table_at}
 use Rattle.std.proofs.Common.{refl, sym, ap, ◌∙◌, arith, inl, inr}
 use Rattle.block.specs.Places.{Placed}
+use Rattle.cursor.specs.Cuts.{Cut}
 use Rattle.cursor.specs.Places.{Cmp, Listed}
 use Rattle.edits.specs.declared.field.PlacedTable.{PlacedTable}
 use Rattle.ikey.specs.Entries.{Pair}
 use Rattle.table_access.specs.declared.in_block.InBlock.{InBlock}
 use Rattle.table_access.specs.Tables.{Seen, Carries}
+use Rattle.table_access.specs.Torn.{TornTable}
 use Rattle.table_access.specs.TablePlaces.{IsPlacedIn, ListsTable, KeepsSeenTable, block_stands}
 use Rattle.store.specs.Files.{Facts}
 use Rattle.table.proofs.Steps.{reads_then}
@@ -25,8 +28,8 @@ lists_kept cmp placed frame here old new at keeps lists = record {
     file = lists.has.file;
     table = record { sound = keeps.sound lists.has.table.sound; file_is = keeps.same ∙ lists.has.table.file_is };
     open_is = lists.has.open_is;
-    data_is = lists.has.data_is;
-    within = lists.has.within;
+    same_length = lists.has.same_length;
+    each = lists.has.each;
   };
   ends = lists.ends;
   bounds = lists.bounds;
@@ -41,6 +44,9 @@ table_still cmp number source = record { same = refl; sound = λ h. h }
 
 pub table_onward : (cmp : Cmp) (number : ℕ) (first second third : Seen) → KeepsSeenTable cmp number first second → KeepsSeenTable cmp number second third → KeepsSeenTable cmp number first third
 table_onward cmp number first second third k l = record { same = l.same ∙ k.same; sound = λ h. l.sound (k.sound h) }
+
+pub torn_kept : (cmp : Cmp) (placed : PlacedTable) (frame : Frame) (old new : Seen) (cut : Cut) → KeepsSeenTable cmp placed.table.number old new → TornTable cmp new placed frame cut → TornTable cmp old placed frame cut
+torn_kept cmp placed frame old new cut k t file has = t file (record { sound = k.sound has.sound; file_is = k.same ∙ has.file_is })
 
 -- ---- calls that only read tables
 
@@ -68,3 +74,8 @@ carries_more cmp old new less carries = record {
   kept = carries.kept;
   gathered = λ number k. elim (carries.gathered number k) [ inl was ↦ inl was | inr its ↦ inr (less number its) ];
 }
+
+-- a table has no block anew that is none
+pub torn_carried : {numbers : ℕ → Type 0} (cmp : Cmp) (old new : Seen) (placed : PlacedTable) (frame : Frame) (cut : Cut) → Carries cmp numbers old new → IsTrue new.facts.faithful → TornTable cmp new placed frame cut → TornTable cmp old placed frame cut
+torn_carried cmp old new placed frame cut carries f t file has =
+    t file (record { sound = carries.sound f has.sound; file_is = ap (λ files. table_at files placed.table.number) (carries.reads.files f) ∙ has.file_is })

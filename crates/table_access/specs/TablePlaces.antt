@@ -43,10 +43,11 @@ abbrev pub block_stands : Option (InBlock Placed) → Bool
 block_stands None = false
 block_stands (Some here) = is_some here.cursor.place
 
--- A cursor over this table of an edit, open with this frame, is this list and this place.
+-- A cursor over this table of an edit, open with this frame, is this list and this place. The list is one that the table may have, as far as
+-- its blocks tell: where all are intact, that is the table's own.
 pub record ListsTable (cmp : Cmp) (source : Seen) (placed : PlacedTable) (frame : Frame) (here : Option (InBlock Placed)) (at : Listed) : Type 0 where
   pub groups : List (List Pair)
-  pub has : HasData cmp source placed.table.number frame groups
+  pub has : HasData cmp source placed frame groups
   pub ends : HaveEnds placed groups
   pub bounds : AreBounds cmp frame.places groups
   pub entries_are : ArePairs (joined groups) at.entries

@@ -1,19 +1,20 @@
 -- A store whose tables are read through caches.
 use Rattle.std.specs.FinMap.{get}
-use Rattle.std.specs.Prelude.{◌≡◌, ◌⊎◌, ℕ, List, Some, None, [], IsSome, IsTrue, Contains}
+use Rattle.std.specs.Prelude.{◌≡◌, ◌⊎◌, ℕ, List, Some, [], IsSome, IsTrue, Contains, length, slice_get}
 use Rattle.cache.specs.Blocks.{BlockCache, KeptBlock}
 use Rattle.cache.specs.Holding.{HoldsBlocks, HoldsTables}
 use Rattle.cache.specs.Tables.{TableCache, KeptTable, table_at}
 use Rattle.cursor.specs.Places.{Cmp}
+use Rattle.edits.specs.declared.field.PlacedTable.{PlacedTable}
 use Rattle.edits.specs.Names.{IsNumbered, name_of}
 use Rattle.edits.specs.declared.names.FileName.TheVariants.{Table, OldTable}
 use Rattle.ikey.specs.Entries.{Pair}
 use Rattle.store.specs.Files.{Facts}
 use Rattle.table.specs.Frame.{Frame, IsFrame}
-use Rattle.table.specs.Intact.{AreAllWithin, IsIntact, IsTornAt, IsUnsupportedAt}
+use Rattle.table.specs.Intact.{IsIntact, IsTornAt, IsUnsupportedAt}
 use Rattle.table.specs.Reading.{Reads, HasFile}
 use Rattle.table.specs.Refusals.{IsFrameDamaged, IsFrameUnsupported}
-use Rattle.table.specs.Table.{AreData}
+use Rattle.table_access.specs.Ends.{IsIntactIn}
 use Rattle.table_access.specs.declared.tables.Tables.{Tables}
 
 -- what is known of the store, and what is kept of its tables
@@ -85,13 +86,13 @@ IsBlockUnsupported cmp index file = IsFrameUnsupported file ⊎ ((frame : Frame)
 abbrev pub HasIntact : Cmp → ℕ → List Pair → List ℕ → Type 0
 HasIntact cmp index pairs file = (frame : Frame) → IsFrame cmp file frame → IsIntact cmp file frame.places index pairs
 
--- The store has, as the table of this number, a file of this frame with the data blocks of these pairs, each within the bounds of its place.
-pub record HasData (cmp : Cmp) (source : Seen) (number : ℕ) (frame : Frame) (groups : List (List Pair)) : Type 0 where
+-- The store has, as this table of an edit, a file of this frame whose data blocks may have these pairs: each that is one has its own.
+pub record HasData (cmp : Cmp) (source : Seen) (placed : PlacedTable) (frame : Frame) (groups : List (List Pair)) : Type 0 where
   pub file : List ℕ
-  pub table : HasSoundTable cmp source number file
+  pub table : HasSoundTable cmp source placed.table.number file
   pub open_is : IsOpenFrame cmp file frame
-  pub data_is : AreData cmp file frame.places groups
-  pub within : AreAllWithin cmp None frame.places groups
+  pub same_length : length frame.places ≡ length groups
+  pub each : (index : ℕ) (pairs others : List Pair) → slice_get groups index ≡ Some pairs → IsIntactIn cmp placed file frame.places index others → pairs ≡ others
 
 -- ---- laws
 

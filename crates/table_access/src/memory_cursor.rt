@@ -154,6 +154,8 @@ impl<K: KeyOrder> Cursor<K, MemTable<K>> for MemoryCursor<K> {
 
     ghost limited = { λ cursor source. ⊥ };
 
+    ghost torn = { λ cursor source cut. ⊥ };
+
     ghost leaves = { λ numbers old new. old.inserts ≡ new.inserts };
 
     ghost over = { λ cursor number. ⊥ };
@@ -228,6 +230,10 @@ impl<K: KeyOrder> Cursor<K, MemTable<K>> for MemoryCursor<K> {
     ghost onward = { λ cursor first second third k l. k ∙ l };
 
     ghost limits_kept = { λ cursor old new k l. l };
+
+    ghost torn_kept = { λ cursor old new cut k t. t };
+
+    ghost torn_same = { λ cursor source at a b h same t. t };
 
     ghost leaves_still = { λ numbers source. refl };
 

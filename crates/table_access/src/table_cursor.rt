@@ -30,18 +30,21 @@ pub struct TableCursor<K: KeyOrder> {
 impl<K: KeyOrder> TableCursor<K> {
     ghost use Rattle.std.specs.Prelude.{◌≡◌, ◌<◌, List, ℕ, None, Some, IsTrue, IfOk, IfErr, OnOk};
     ghost use Rattle.cache.specs.Tables.{RefusesTable, table_at};
+    ghost use Rattle.cursor.specs.Cuts.{first_cut, key_cut, last_cut, next_cut, prev_cut};
     ghost use Rattle.cursor.specs.Merging.{listed};
     ghost use Rattle.cursor.specs.Moves.{Refuses, after_move};
     ghost use Rattle.cursor.specs.Places.{Listed, to_first, to_key, to_last, to_next, to_prev};
     ghost use Rattle.ikey.specs.Entries.{InternalEntry};
     ghost use Rattle.ikey.specs.Keys.{Key, IsKey};
     ghost use Rattle.table_access.specs.Ends.{HasKeysOf};
+    ghost use Rattle.table_access.specs.Possible.{MayBeTable};
     ghost use Rattle.table_access.specs.TablePlaces.{ListsTable, StepsTo, block_stands};
     ghost use Rattle.table_access.specs.Tables.{Carries, HasSoundTable, IsOpenFrame, Only, SaysOf, seen_through};
+    ghost use Rattle.table_access.specs.Torn.{TornTable};
+    ghost use Rattle.table_access.specs.TornLaws.{torn_same};
     ghost use Rattle.table.specs.Frame.{AnyLong, handles};
     ghost use Rattle.table.specs.Reading.{IsStill};
     ghost use Rattle.table.specs.Refusals.{IsFrameDamaged, IsFrameUnsupported};
-    ghost use Rattle.table.specs.Table.{IsTable};
 
     /// A cursor over this table of an edit, which is opened. It stands nowhere. Corrupt and Unsupported as `Table::open`.
     pub fn open<S: Store>(
@@ -54,7 +57,7 @@ impl<K: KeyOrder> TableCursor<K> {
         ensures nowhere { IfOk result (λ cursor. cursor.here ≡ None) }
         ensures carries { Carries K.cmp (Only placed.now.table.number) (seen_through S.facts source.old) (seen_through S.facts source.new) }
         ensures lists { IfOk result (λ cursor. SaysOf K.cmp (seen_through S.facts source.old) (seen_through S.facts source.new)
-            placed.now.table.number (λ file. (entries : List InternalEntry) → IsTable K.cmp file entries → HasKeysOf placed.now entries
+            placed.now.table.number (λ file. (entries : List InternalEntry) → MayBeTable K.cmp placed.now file entries → HasKeysOf placed.now entries
             → ListsTable K.cmp (seen_through S.facts source.new) placed.now cursor.table.value.frame None (listed entries None))) }
         ensures open { IfOk result (λ cursor. SaysOf K.cmp (seen_through S.facts source.old) (seen_through S.facts source.new)
             placed.now.table.number (λ file. IsOpenFrame K.cmp file cursor.table.value.frame)) }
@@ -87,7 +90,8 @@ impl<K: KeyOrder> TableCursor<K> {
             (after_move result to_first at) }
         ensures still { IsStill (S.facts source.old.store) (S.facts source.new.store) result }
         ensures refused { IfErr result (λ e. Refuses e (S.facts source.old.store) (S.facts source.new.store)
-            ((at : Listed) → ListsTable K.cmp (seen_through S.facts source.old) self.old.placed self.old.table.value.frame self.old.here at → ⊥)
+            ((at : Listed) → ListsTable K.cmp (seen_through S.facts source.old) self.old.placed self.old.table.value.frame self.old.here at
+            → TornTable K.cmp (seen_through S.facts source.old) self.old.placed self.old.table.value.frame (first_cut at))
             (AnyLong (handles self.old.table.value.frame))) }
     {
         self.here = search_on(alloc, source, &self.placed, &self.table, 0, Aim::First)?;
@@ -109,7 +113,8 @@ impl<K: KeyOrder> TableCursor<K> {
             (after_move result to_last at) }
         ensures still { IsStill (S.facts source.old.store) (S.facts source.new.store) result }
         ensures refused { IfErr result (λ e. Refuses e (S.facts source.old.store) (S.facts source.new.store)
-            ((at : Listed) → ListsTable K.cmp (seen_through S.facts source.old) self.old.placed self.old.table.value.frame self.old.here at → ⊥)
+            ((at : Listed) → ListsTable K.cmp (seen_through S.facts source.old) self.old.placed self.old.table.value.frame self.old.here at
+            → TornTable K.cmp (seen_through S.facts source.old) self.old.placed self.old.table.value.frame (last_cut at))
             (AnyLong (handles self.old.table.value.frame))) }
     {
         let end = self.table.places().len();
@@ -134,7 +139,8 @@ impl<K: KeyOrder> TableCursor<K> {
         ensures still { IsStill (S.facts source.old.store) (S.facts source.new.store) result }
         ensures refused { IfErr result (λ e. Refuses e (S.facts source.old.store) (S.facts source.new.store)
             ((key : Key) → IsKey target.now key → (at : Listed)
-            → ListsTable K.cmp (seen_through S.facts source.old) self.old.placed self.old.table.value.frame self.old.here at → ⊥)
+            → ListsTable K.cmp (seen_through S.facts source.old) self.old.placed self.old.table.value.frame self.old.here at
+            → TornTable K.cmp (seen_through S.facts source.old) self.old.placed self.old.table.value.frame (key_cut key at))
             (AnyLong (handles self.old.table.value.frame))) }
     {
         let start = self.table.first_place(target);
@@ -159,7 +165,8 @@ impl<K: KeyOrder> TableCursor<K> {
             (seen_through S.facts source.new) self.old.placed self.old.table.value.frame self.new.here) to_next result at }
         ensures still { IsStill (S.facts source.old.store) (S.facts source.new.store) result }
         ensures refused { IfErr result (λ e. Refuses e (S.facts source.old.store) (S.facts source.new.store)
-            ((at : Listed) → ListsTable K.cmp (seen_through S.facts source.old) self.old.placed self.old.table.value.frame self.old.here at → ⊥)
+            ((at : Listed) → ListsTable K.cmp (seen_through S.facts source.old) self.old.placed self.old.table.value.frame self.old.here at
+            → TornTable K.cmp (seen_through S.facts source.old) self.old.placed self.old.table.value.frame (next_cut at))
             (AnyLong (handles self.old.table.value.frame))) }
     {
         let start = match step_on(&mut self.here)? {
@@ -191,7 +198,8 @@ impl<K: KeyOrder> TableCursor<K> {
             (seen_through S.facts source.new) self.old.placed self.old.table.value.frame self.new.here) to_prev result at }
         ensures still { IsStill (S.facts source.old.store) (S.facts source.new.store) result }
         ensures refused { IfErr result (λ e. Refuses e (S.facts source.old.store) (S.facts source.new.store)
-            ((at : Listed) → ListsTable K.cmp (seen_through S.facts source.old) self.old.placed self.old.table.value.frame self.old.here at → ⊥)
+            ((at : Listed) → ListsTable K.cmp (seen_through S.facts source.old) self.old.placed self.old.table.value.frame self.old.here at
+            → TornTable K.cmp (seen_through S.facts source.old) self.old.placed self.old.table.value.frame (prev_cut at))
             (AnyLong (handles self.old.table.value.frame))) }
     {
         let end = match step_back(&mut self.here)? {
@@ -211,9 +219,11 @@ impl<K: KeyOrder> TableCursor<K> {
 impl<K: KeyOrder, S: Store> Cursor<K, Tables<K, S>> for TableCursor<K> {
     ghost use Rattle.std.specs.Prelude.{◌≡◌};
     ghost use Rattle.table_access.specs.TableLaws.{carries_both, carries_itself, carries_more, lists_kept};
-    ghost use Rattle.table_access.specs.TableLaws.{placed_in, table_onward, table_still};
+    ghost use Rattle.table_access.specs.TableLaws.{placed_in, table_onward, table_still, torn_kept};
     ghost use Rattle.table_access.specs.TablePlaces.{KeepsSeenTable, ListsTable};
     ghost use Rattle.table_access.specs.Tables.{Carries, seen_through};
+    ghost use Rattle.table_access.specs.Torn.{TornTable};
+    ghost use Rattle.table_access.specs.TornLaws.{torn_same};
     ghost use Rattle.table.specs.Frame.{AnyLong, handles};
 
     ghost facts = { λ source. S.facts source.store };
@@ -225,6 +235,8 @@ impl<K: KeyOrder, S: Store> Cursor<K, Tables<K, S>> for TableCursor<K> {
     ghost stands = { λ cursor. block_stands cursor.here };
 
     ghost limited = { λ cursor source. AnyLong (handles cursor.table.value.frame) };
+
+    ghost torn = { λ cursor source cut. TornTable K.cmp (seen_through S.facts source) cursor.placed cursor.table.value.frame cut };
 
     ghost leaves = { λ numbers old new. Carries K.cmp numbers (seen_through S.facts old) (seen_through S.facts new) };
 
@@ -300,6 +312,10 @@ impl<K: KeyOrder, S: Store> Cursor<K, Tables<K, S>> for TableCursor<K> {
     ghost onward = { λ cursor first second third k l. table_onward K.cmp cursor.placed.table.number _ _ _ k l };
 
     ghost limits_kept = { λ cursor old new k l. l };
+
+    ghost torn_kept = { λ cursor old new cut k t. torn_kept K.cmp cursor.placed cursor.table.value.frame _ _ cut k t };
+
+    ghost torn_same = { λ cursor source at a b h same t. torn_same K.cmp _ cursor.placed cursor.table.value.frame cursor.here at h a b same t };
 
     ghost leaves_still = { λ numbers source. carries_itself K.cmp _ };
 

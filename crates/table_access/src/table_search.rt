@@ -6,10 +6,11 @@ ghost use Rattle.cursor.specs.Moves.{Refuses};
 ghost use Rattle.cursor.specs.Places.{index_before};
 ghost use Rattle.cursor.specs.Places.{within as within_list};
 ghost use Rattle.ikey.specs.Entries.{Pair};
-ghost use Rattle.table_access.specs.Ends.{HasIntactIn, HaveEnds};
+ghost use Rattle.table_access.specs.Ends.{HasIntactIn};
 ghost use Rattle.table_access.specs.TablePlaces.{IsPlacedIn, Passed, StopsAt, joined, pairs_before};
 ghost use Rattle.table_access.specs.Tables.{Carries, HasData, Only, SaysOf, seen_through};
 ghost use Rattle.table_access.specs.Telling.{CameHere, IfCorrupt, IsTornIn, StopsTorn};
+ghost use Rattle.table_access.specs.Torn.{LacksBack, LacksBlock, LacksOn};
 ghost use Rattle.table.specs.Frame.{AnyLong, IsFrame, handles};
 ghost use Rattle.table.specs.Reading.{IsStill};
 
@@ -34,8 +35,8 @@ pub enum Aim<'a> {
     From(&'a [u8]),
 }
 
-/// Looks on from a block for a pair: the block that has it, and a cursor there. Corrupt, where the source hasn't this
-/// table; Unsupported, where it hasn't, or a block has more than 2^30 bytes.
+/// Looks on from a block for a pair: the block that has it, and a cursor there. Corrupt, where it comes to a block
+/// that is none; Unsupported there, or where a block has more than 2^30 bytes.
 pub fn search_on<K: KeyOrder, S: Store>(
     alloc: Global,
     source: &mut Tables<K, S>,
@@ -47,7 +48,7 @@ pub fn search_on<K: KeyOrder, S: Store>(
     requires { 0 < placed.now.table.number }
     ensures carries { Carries K.cmp (Only placed.now.table.number) (seen_through S.facts source.old) (seen_through S.facts source.new) }
     ensures found { IfOk result (λ here. IsTrue (S.facts source.new.store).faithful → (groups : List (List Pair))
-        → HasData K.cmp (seen_through S.facts source.old) placed.now.table.number table.now.frame groups → start ≤ length groups
+        → HasData K.cmp (seen_through S.facts source.old) placed.now table.now.frame groups → start ≤ length groups
         → (place : ℕ) × StopsAt (Passed K.cmp aim.entry) (joined groups) (pairs_before groups start) place
         × IsPlacedIn groups here (within_list (joined groups) place)) }
     // Whatever the table holds beside: the blocks in front of the one that is found are passed, and it stands on its first pair that isn't.
@@ -60,8 +61,7 @@ pub fn search_on<K: KeyOrder, S: Store>(
         → StopsTorn K.cmp (Passed K.cmp aim.entry) placed.now file table.now.frame start))) }
     ensures still { IsStill (S.facts source.old.store) (S.facts source.new.store) result }
     ensures refused { IfErr result (λ e. Refuses e (S.facts source.old.store) (S.facts source.new.store)
-        ((groups : List (List Pair)) → HasData K.cmp (seen_through S.facts source.old) placed.now.table.number table.now.frame groups → HaveEnds placed.now groups
-        → start ≤ length groups → ⊥)
+        (LacksOn K.cmp (Passed K.cmp aim.entry) (seen_through S.facts source.old) placed.now table.now.frame start)
         (AnyLong (handles table.now.frame))) }
 {
     for index in start..table.places().len() {
@@ -85,12 +85,11 @@ pub fn search_back<K: KeyOrder, S: Store>(
     requires { 0 < placed.now.table.number }
     ensures carries { Carries K.cmp (Only placed.now.table.number) (seen_through S.facts source.old) (seen_through S.facts source.new) }
     ensures found { IfOk result (λ here. IsTrue (S.facts source.new.store).faithful → (groups : List (List Pair))
-        → HasData K.cmp (seen_through S.facts source.old) placed.now.table.number table.now.frame groups → end ≤ length groups
+        → HasData K.cmp (seen_through S.facts source.old) placed.now table.now.frame groups → end ≤ length groups
         → IsPlacedIn groups here (index_before (pairs_before groups end))) }
     ensures still { IsStill (S.facts source.old.store) (S.facts source.new.store) result }
     ensures refused { IfErr result (λ e. Refuses e (S.facts source.old.store) (S.facts source.new.store)
-        ((groups : List (List Pair)) → HasData K.cmp (seen_through S.facts source.old) placed.now.table.number table.now.frame groups → HaveEnds placed.now groups
-        → end ≤ length groups → ⊥)
+        (LacksBack K.cmp (seen_through S.facts source.old) placed.now table.now.frame end)
         (AnyLong (handles table.now.frame))) }
 {
     for step in 0..end {
@@ -140,7 +139,7 @@ fn read_index<K: KeyOrder, S: Store>(
     requires { 0 < placed.now.table.number }
     ensures carries { Carries K.cmp (Only placed.now.table.number) (seen_through S.facts source.old) (seen_through S.facts source.new) }
     ensures found { IfOk result (λ block. IsTrue (S.facts source.new.store).faithful → (groups : List (List Pair))
-        → HasData K.cmp (seen_through S.facts source.old) placed.now.table.number table.now.frame groups → slice_get groups index ≡ Some block.value.pairs) }
+        → HasData K.cmp (seen_through S.facts source.old) placed.now table.now.frame groups → slice_get groups index ≡ Some block.value.pairs) }
     // Whatever the table holds beside, the block is whole and in its place, and where it is an end, it has the edit's key there.
     ensures intact { IfOk result (λ block. SaysOf K.cmp (seen_through S.facts source.old) (seen_through S.facts source.new)
         placed.now.table.number (HasIntactIn K.cmp placed.now table.now.frame index block.value.pairs)) }
@@ -148,8 +147,7 @@ fn read_index<K: KeyOrder, S: Store>(
         placed.now.table.number (λ file. IsFrame K.cmp file table.now.frame → IsTornIn K.cmp placed.now file table.now.frame index))) }
     ensures still { IsStill (S.facts source.old.store) (S.facts source.new.store) result }
     ensures refused { IfErr result (λ e. Refuses e (S.facts source.old.store) (S.facts source.new.store)
-        ((groups : List (List Pair)) → HasData K.cmp (seen_through S.facts source.old) placed.now.table.number table.now.frame groups → HaveEnds placed.now groups
-        → index < length groups → ⊥)
+        (LacksBlock K.cmp (seen_through S.facts source.old) placed.now table.now.frame index)
         (AnyLong (handles table.now.frame))) }
 {
     let block = source.read_block(alloc, placed.table.number, index)?;

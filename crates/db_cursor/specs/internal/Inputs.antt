@@ -3,6 +3,7 @@ use Rattle.std.specs.Prelude.{◌≡◌, ℕ, List, None, map}
 use Rattle.cache.specs.Tables.{table_at}
 use Rattle.compact.specs.Merging.{HaveOwnSequences}
 use Rattle.cursor.specs.declared.merge.Merge.{Merge}
+use Rattle.cursor.specs.Cuts.{Cut}
 use Rattle.cursor.specs.Merging.{listed}
 use Rattle.cursor.specs.Places.{Cmp, Listed}
 use Rattle.edits.specs.declared.field.PlacedTable.{PlacedTable}
@@ -16,10 +17,10 @@ use Rattle.db_cursor.specs.Scans.{IsOnePastLimit, ListsMerged}
 use Rattle.db_cursor.specs.Whole.{Whole}
 use Rattle.version_laws.specs.Places.{HasVersion, table_sources}
 use Rattle.table_access.specs.Tables.{Seen, IsSound}
-use Rattle.db_cursor.specs.Inputs.{IsMergeLimited, KeepsMerge, ReadsNoMemory}
+use Rattle.db_cursor.specs.Inputs.{IsMergeIntact, IsMergeLimited, IsMergeTorn, KeepsMerge, ReadsNoMemory}
 
 -- It goes over the entries of these tables, which are those of the places where they are searched, in the order of their internal
--- keys, and has no place. It passes a limit only where the file of one of the tables does.
+-- keys, and has no place. It passes a limit only where the file of one of the tables does, and all their blocks are intact.
 pub record IsMergeOf {K : Type 0} {g : _} (cmp : Cmp) (tables : List PlacedTable) (contents : List TableContent) (whole : Whole) (merge : Merge K (SourceCursor K g)) : Type 0 where
   pub entries : List InternalEntry
   pub same : SameEntries (map entry_of entries) (tabled contents)
@@ -27,6 +28,7 @@ pub record IsMergeOf {K : Type 0} {g : _} (cmp : Cmp) (tables : List PlacedTable
   pub own : HaveOwnSequences entries
   pub lists : ListsMerged cmp merge whole (listed entries None)
   pub limits : IsMergeLimited cmp merge whole → IsOnePastLimit cmp tables whole
+  pub intact : IsMergeIntact cmp merge whole
 
 -- So it is with a new merge over a version of these tables, whichever source has their files.
 abbrev pub BeginsMerge : {K : Type 0} {g : _} → Order → List PlacedTable → Merge K (SourceCursor K g) → Type 0
@@ -38,11 +40,12 @@ pub record KeepsFiles (cmp : Cmp) (numbers : ℕ → Type 0) (old new : Seen) : 
   pub files : (number : ℕ) → numbers number → table_at new.facts.files number ≡ table_at old.facts.files number
   pub sound : IsSound cmp old → IsSound cmp new
 
--- what a merge reads is kept: it lists what it listed, and passes no limit that it didn't pass
+-- what a merge reads is kept: it lists what it listed, passes no limit that it didn't pass, and comes to no further torn block
 pub record IsMergeKept {K : Type 0} {g : _} (cmp : Cmp) (merge : Merge K (SourceCursor K g)) (old new : Whole) : Type 0 where
   pub keeps : KeepsMerge cmp merge old new
   pub lists : (at : Listed) → ListsMerged cmp merge old at → ListsMerged cmp merge new at
   pub limits : IsMergeLimited cmp merge new → IsMergeLimited cmp merge old
+  pub torn : (cut : Cut) → IsMergeTorn cmp merge new cut → IsMergeTorn cmp merge old cut
 
 -- What a merge reads that reads no memory table is kept while the files of its tables are.
 abbrev pub MergeIsKept : {K : Type 0} {g : _} → Cmp → Merge K (SourceCursor K g) → Type 0

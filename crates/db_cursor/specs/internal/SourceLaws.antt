@@ -1,13 +1,15 @@
 -- Laws of the cursors that a scan merges.
 use Rattle.std.specs.Prelude.{◌≡◌, ◌<◌, ℕ, Some, is_some, length}
 use Rattle.std.proofs.Common.{refl, ◌∙◌}
+use Rattle.cursor.specs.Cuts.{Cut, SameCut}
 use Rattle.cursor.specs.Places.{Cmp, Listed, Rises}
 use Rattle.memtables.specs.PlaceLaws.{inside_there, kept_there, left_onward, left_there, lists_rise, placed_there}
 use Rattle.level_cursor.specs.RowLaws.{limits_kept, lists_kept as tables_kept, placed_in, row_onward, row_still}
+use Rattle.level_cursor.specs.TornRows.{torn_kept, torn_same}
 use Rattle.level_cursor.specs.Rows.{rows_tables}
 use Rattle.db_cursor.specs.declared.source_cursor.SourceCursor.{SourceCursor}
 use Rattle.db_cursor.specs.declared.source_cursor.SourceCursor.TheVariants.{Memory, Row}
-use Rattle.db_cursor.specs.Places.{ListsSource, KeepsSource, LeavesSource, LimitedSource, source_stands}
+use Rattle.db_cursor.specs.Places.{ListsSource, KeepsSource, LeavesSource, LimitedSource, TornSource, source_stands}
 use Rattle.db_cursor.specs.Scans.{KeepsUpTo, KeepsWhole}
 use Rattle.db_cursor.specs.Whole.{Whole}
 use Rattle.table_access.specs.TableLaws.{carries_both, carries_itself, carries_more}
@@ -43,6 +45,15 @@ source_onward cmp (Row cursor) first second third k l = row_onward cmp (rows_tab
 pub source_limits : {K : Type 0} {g : _} (cmp : Cmp) (cursor : SourceCursor K g) (old new : Whole) → KeepsSource cmp cursor old new → LimitedSource cmp cursor new → LimitedSource cmp cursor old
 source_limits cmp (Memory cursor) old new k l = l
 source_limits cmp (Row cursor) old new k l = limits_kept cmp (rows_tables cursor) cursor.here old.seen new.seen k l
+
+pub source_torn : {K : Type 0} {g : _} (cmp : Cmp) (cursor : SourceCursor K g) (old new : Whole) (cut : Cut) → KeepsSource cmp cursor old new → TornSource cmp cursor new cut → TornSource cmp cursor old cut
+source_torn cmp (Memory cursor) old new cut k t = t
+source_torn cmp (Row cursor) old new cut k t = torn_kept cmp (rows_tables cursor) cursor.here old.seen new.seen cut k t
+
+pub source_same : {K : Type 0} {g : _} (cmp : Cmp) (cursor : SourceCursor K g) (whole : Whole) (at : Listed) (a b : Cut) → ListsSource cmp cursor whole at → SameCut cmp at.entries a b → TornSource cmp cursor whole a
+    → TornSource cmp cursor whole b
+source_same cmp (Memory cursor) whole at a b h same t = t
+source_same cmp (Row cursor) whole at a b h same t = torn_same cmp whole.seen (rows_tables cursor) cursor.here at a b h same t
 
 pub source_left : {numbers : ℕ → Type 0} (cmp : Cmp) (whole : Whole) → LeavesSource cmp numbers whole whole
 source_left cmp whole = record { memory = left_there whole.memory; carries = carries_itself cmp whole.seen }

@@ -1,5 +1,5 @@
 -- What other calls of an open database may do while a job is under way.
-use Rattle.std.specs.Prelude.{◌≡◌, ◌≤◌, ℕ, List}
+use Rattle.std.specs.Prelude.{◌≡◌, ◌≤◌, ℕ, List, Some}
 use Rattle.std.specs.FinMap.{get}
 use Rattle.cache.specs.Tables.{table_at}
 use Rattle.compact.specs.Merging.{AreDisjoint}
@@ -12,19 +12,24 @@ use Rattle.recover.specs.Directory.{Directory}
 use Rattle.recover.specs.Tables.{TableContent}
 use Rattle.db_cursor.specs.Whole.{Whole}
 use Rattle.table_access.specs.Tables.{IsSound, KeepsOf}
-use Rattle.store.specs.Files.{Files}
+use Rattle.store.specs.Files.{Facts}
 use Rattle.directory_writes.specs.Replacing.{OwnsNone, IsPlanned}
 
--- the files of the tables that the job has written, ended or at hand, are as they were
-abbrev pub KeepsOutputs : TablesWritten → Files → Files → Type 0
-KeepsOutputs w old new = (number : ℕ) → IsOwn w number → get new (table_name number) ≡ get old (table_name number)
+-- the file of this name is as it was, and if it was synced whole it is so still
+abbrev pub LeavesWhole : Facts → Facts → List ℕ → Type 0
+LeavesWhole old new name =
+    (get new.files name ≡ get old.files name) × ((file : List ℕ) → get old.files name ≡ Some file → old.synced name ≡ Some file → new.synced name ≡ Some file)
+
+-- so are the files of the tables that the job has written, ended or at hand
+abbrev pub KeepsOutputs : TablesWritten → Facts → Facts → Type 0
+KeepsOutputs w old new = (number : ℕ) → IsOwn w number → LeavesWhole old new (table_name number)
 
 -- The files of the job's tables are as they were, of inputs and outputs; what is kept of tables is right where it was, and nothing is
 -- kept of a table that the job writes. Numbers may have been drawn, and tables put in beside the inputs, none of which is the job's.
 pub record LeavesJob {K : Type 0} {g : _} (order : Order) (work : OpenJob K g) (inputs : List TableContent) (old new : Whole) (next more : ℕ) (e : Directory) : Type 0 where
   pub drawn : next ≤ more
   pub files : (number : ℕ) → is_input work number → table_at new.seen.facts.files number ≡ table_at old.seen.facts.files number
-  pub outputs : KeepsOutputs work.job.outputs old.seen.facts.files new.seen.facts.files
+  pub outputs : KeepsOutputs work.job.outputs old.seen.facts new.seen.facts
   pub sound : IsSound order.cmp old.seen → IsSound order.cmp new.seen
   pub unkept : AreDisjoint (KeepsOf new.seen) (is_to_write work more)
   pub rest : List TableContent
@@ -40,7 +45,7 @@ RunningStays order work = (old new : Whole) (next more : ℕ) (d e : Directory) 
 pub record LeavesTables {K : Type 0} {g : _} (order : Order) (work : OpenJob K g) (old new : Whole) (next more : ℕ) (d e : Directory) : Type 0 where
   pub drawn : next ≤ more
   pub files : (number : ℕ) → is_input work number → table_at new.seen.facts.files number ≡ table_at old.seen.facts.files number
-  pub outputs : KeepsOutputs work.job.outputs old.seen.facts.files new.seen.facts.files
+  pub outputs : KeepsOutputs work.job.outputs old.seen.facts new.seen.facts
   pub sound : IsSound order.cmp old.seen → IsSound order.cmp new.seen
   pub unkept : AreDisjoint (KeepsOf new.seen) (is_to_write work more)
   pub tables : e.tables ≡ d.tables

@@ -11,7 +11,7 @@ returns-then-are_ahead-clause-gone g c = λ f place goal all aims beside.
 
 pub returns-then-are_ahead-clause-stays : goal.returns-then-are_ahead-clause-stays
 returns-then-are_ahead-clause-stays g c =
-    (none_moved g.K.KeyOrder.cmp g.C.Cursor.facts g.C.Cursor.lists g.C.Cursor.keeps g.C.Cursor.limited g.C.Cursor.leaves g.C.Cursor.over g.met.C.Cursor.kept g.met.C.Cursor.still g.met.C.Cursor.onward g.met.C.Cursor.limits_kept g.C.Cursor.leaves_still g.C.Cursor.leaves_onward g.C.Cursor.leaves_more (Ahead c.args.target) (Some c.args.index) c.args.children.now c.args.source.now).stays
+    (none_moved g.K.KeyOrder.cmp g.C.Cursor.facts g.C.Cursor.lists g.C.Cursor.keeps g.C.Cursor.limited g.C.Cursor.torn g.C.Cursor.leaves g.C.Cursor.over g.met.C.Cursor.kept g.met.C.Cursor.still g.met.C.Cursor.onward g.met.C.Cursor.limits_kept g.met.C.Cursor.torn_kept g.C.Cursor.leaves_still g.C.Cursor.leaves_onward g.C.Cursor.leaves_more (Ahead c.args.target) (Some c.args.index) c.args.children.now c.args.source.now).stays
 
 pub returns-in_err-move_others-clause-refused : goal.returns-in_err-move_others-clause-refused
 returns-in_err-move_others-clause-refused g c =

@@ -8,7 +8,7 @@ use Rattle.cursor.proofs.scanning.find_back.Given as goal
 
 abbrev pub invariant-search : goal.invariant-search
 invariant-search g l = record {
-  wanders : Wanders g.C.Cursor.facts g.C.Cursor.lists g.C.Cursor.keeps g.C.Cursor.limited g.C.Cursor.leaves g.C.Cursor.over l.initial.cursor l.cursor l.initial.source l.source;
+  wanders : Wanders g.C.Cursor.facts g.C.Cursor.lists g.C.Cursor.keeps g.C.Cursor.limited g.C.Cursor.torn g.C.Cursor.leaves g.C.Cursor.over l.initial.cursor l.cursor l.initial.source l.source;
   comes : IsTrue (g.C.Cursor.facts l.source).faithful → (entries : List InternalEntry) (index : ℕ) → g.C.Cursor.lists l.initial.cursor l.initial.source (listed entries (index_before index))
       → HasPassedNone entries l.sequence (below_bound g.K.KeyOrder.cmp (option_copied l.bound)) index
       → (n : ℕ) × g.C.Cursor.lists l.cursor l.source (listed entries (index_before n)) × SearchesBack g.K.KeyOrder.cmp entries l.sequence (below_bound g.K.KeyOrder.cmp (option_copied l.bound)) n l.has l.found.key.items l.found.value.items;

@@ -4,10 +4,10 @@ use Rattle.cursor.proofs.Standings.{here_behind, behind_there}
 use Rattle.cursor.proofs.standing.stand_behind.Goals as goal
 
 pub returns-in-Here-clause-wanders : goal.returns-in-Here-clause-wanders
-returns-in-Here-clause-wanders g c = wanders_still g.C.Cursor.facts g.C.Cursor.lists g.C.Cursor.keeps g.C.Cursor.limited g.C.Cursor.leaves g.C.Cursor.over g.met.C.Cursor.still g.C.Cursor.leaves_still c.args.cursor.now c.args.source.now
+returns-in-Here-clause-wanders g c = wanders_still g.C.Cursor.facts g.C.Cursor.lists g.C.Cursor.keeps g.C.Cursor.limited g.C.Cursor.torn g.C.Cursor.leaves g.C.Cursor.over g.met.C.Cursor.still g.C.Cursor.leaves_still c.args.cursor.now c.args.source.now
 
 pub returns-in-Behind-clause-wanders : goal.returns-in-Behind-clause-wanders
-returns-in-Behind-clause-wanders g c = wanders_still g.C.Cursor.facts g.C.Cursor.lists g.C.Cursor.keeps g.C.Cursor.limited g.C.Cursor.leaves g.C.Cursor.over g.met.C.Cursor.still g.C.Cursor.leaves_still c.args.cursor.now c.args.source.now
+returns-in-Behind-clause-wanders g c = wanders_still g.C.Cursor.facts g.C.Cursor.lists g.C.Cursor.keeps g.C.Cursor.limited g.C.Cursor.torn g.C.Cursor.leaves g.C.Cursor.over g.met.C.Cursor.still g.C.Cursor.leaves_still c.args.cursor.now c.args.source.now
 
 pub returns-in-Here-clause-stands : goal.returns-in-Here-clause-stands
 returns-in-Here-clause-stands g c = λ t entries entry value v same h.

@@ -1,9 +1,11 @@
-use Rattle.std.proofs.Common.{Some, sym}
+use Rattle.std.proofs.Common.{Some, sym, subst}
 use Rattle.std.proofs.lemmas.Result.{err_from_is_err_and}
 use Rattle.cursor.specs.Merging.{listed}
 use Rattle.table_access.specs.TableLaws.{carries_more}
 use Rattle.table_access.specs.Tables.{seen}
 use Rattle.level_cursor.proofs.Moving.{ended_on, stays_put, went_on}
+use Rattle.level_cursor.proofs.Cutting.{next_same}
+use Rattle.table_access.specs.Torn.{TornTable}
 use Rattle.level_cursor.proofs.Refusing.{refused_so}
 use Rattle.level_cursor.proofs.row_cursor.step_on.Goals as goal
 
@@ -17,7 +19,7 @@ returns-in_err-step-clause-steps g c =
 pub returns-in_err-step-clause-refused : goal.returns-in_err-step-clause-refused
 returns-in_err-step-clause-refused g c =
     let p = err_from_is_err_and c.from_residual.result c.from_residual.ensures.1 in
-    rw (p.1, p.2, c.in-Some.is) (refused_so c.in_err-step.field-0.0 _ _ _ _ _ (λ none lists place h. none (listed h.list (Some h.inside)) h.stands) c.in_err-step.ensures.refused)
+    rw (p.1, p.2, c.in-Some.is) (refused_so c.in_err-step.field-0.0 _ _ _ _ _ (λ none lists place h. subst (λ cut. TornTable g.K.KeyOrder.cmp (seen (g.S.Store.facts c.args.source.now.store) c.args.source.now.tables c.args.source.now.blocks) c.in-Some.here.cursor.placed c.in-Some.here.cursor.table.value.frame cut) (next_same g.K.KeyOrder.cmp (seen (g.S.Store.facts c.args.source.now.store) c.args.source.now.tables c.args.source.now.blocks) lists c.in-Some.here place h) (none (listed h.list (Some h.inside)) h.stands)) c.in_err-step.ensures.refused)
 
 pub returns-then-branch-clause-steps : goal.returns-then-branch-clause-steps
 returns-then-branch-clause-steps g c = λ t lists place placed.

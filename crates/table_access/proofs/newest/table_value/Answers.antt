@@ -1,14 +1,16 @@
-use Rattle.std.proofs.Common.{IsTrue, refl, inl, inr}
+use Rattle.std.proofs.Common.{ℕ, IsTrue, List, refl, inl, inr}
 use Rattle.std.proofs.lemmas.Result.{err_from_is_err_and}
 use Rattle.coding.specs.declared.error.Damage.TheVariants.{Kind}
 use Rattle.coding.specs.declared.error.FileKind.TheVariants.{Table}
+use Rattle.ikey.specs.Below.{IsBelowInternal}
 use Rattle.table_access.specs.TableLaws.{carries_both}
 use Rattle.table_access.specs.Tables.{seen}
 use Rattle.table_access.specs.Values.{StandsOnNone}
 use Rattle.table_access.proofs.Carrying.{still_has}
 use Rattle.table_access.proofs.Coming.{first_says}
-use Rattle.table_access.proofs.Declining.{NoTableThere, data_of, filled_of, not_opened, not_searched, not_valued, starts_inside}
+use Rattle.table_access.proofs.Declining.{NoTableThere, data_of, not_opened, not_searched, not_valued, starts_inside}
 use Rattle.table_access.proofs.Filling.{filling_of}
+use Rattle.table_access.proofs.Wholes.{filled_of}
 use Rattle.table_access.proofs.Ruling.{undenied}
 use Rattle.table_access.proofs.Standing.{still_later, table_still}
 use Rattle.table_access.proofs.Valuing.{denied_unseen, none_found, one_found, stands_on_key}
@@ -38,10 +40,9 @@ returns-in_err-found-clause-refused g c =
     let old = seen (g.S.Store.facts c.args.source.now.store) c.args.source.now.tables c.args.source.now.blocks in
     let mid = seen (g.S.Store.facts c.get_table.new.self.store) c.get_table.new.self.tables c.get_table.new.self.blocks in
     let new = seen (g.S.Store.facts c.search_on.new.source.store) c.search_on.new.source.tables c.search_on.new.source.blocks in
-    let first = rw (c.deref.ensures, c.deref-2.ensures.value) at c.first_place-start.ensures in
-    let refused = rw c.deref-4.ensures at c.in_err-found.ensures.refused in
+    let refused = rw (c.deref-4.ensures, c.deref-5.ensures.value) at c.in_err-found.ensures.refused in
     rw (p.1, p.2)
-    (not_searched g.K.KeyOrder.cmp old c.args.placed.now mid new c.get_table.ensures.carries c.search_on.ensures.carries c.in_ok-target.target.items c.in_ok-table.table.value.frame c.first_place-start.result first
+    (not_searched g.K.KeyOrder.cmp old c.args.placed.now mid new c.get_table.ensures.carries c.search_on.ensures.carries (λ (other : List ℕ). IsBelowInternal g.K.KeyOrder.cmp other c.in_ok-target.target.items) c.in_ok-table.table.value.frame c.first_place-start.result
     (λ m file has. (c.in_ok-table.ensures.found m file has).1) c.in_err-found.field-0.0 refused)
 
 pub returns-in-Some-clause-found : goal.returns-in-Some-clause-found
@@ -54,7 +55,7 @@ returns-in-Some-clause-found g c = λ t file has entries table.
     let filled = filled_of g.K.KeyOrder.cmp file frame entries open_is.0 table in
     let first = rw (c.deref.ensures, c.deref-2.ensures.value) at c.first_place-start.ensures in
     let search = rw (c.deref-4.ensures, c.deref-5.ensures.value, c.in-Some.is) at c.in_ok-found.ensures.found in
-    let found = search t filled.blocks (data_of g.K.KeyOrder.cmp old mid c.args.placed.now.table.number file frame entries c.get_table.ensures.carries m has open_is filled)
+    let found = search t filled.blocks (data_of g.K.KeyOrder.cmp old mid c.args.placed.now file frame entries c.get_table.ensures.carries m has open_is filled)
     (starts_inside g.K.KeyOrder.cmp file c.in_ok-target.target.items frame entries c.first_place-start.result first filled) in
     one_found g.K.KeyOrder.cmp g.met.K.KeyOrder.total g.met.K.KeyOrder.exact file frame entries open_is.0 filled.blocks (filling_of g.K.KeyOrder.cmp file frame entries filled) c.args.key.now c.args.sequence c.in_ok-target.target.items c.in_ok-target.ensures
     c.first_place-start.result first found.0 found.1 c.in-Some.here c.in_ok-value-in-Some.value found.2 c.in_ok-value-in-Some.ensures.found
@@ -73,7 +74,7 @@ returns-in_err-value-in-Some-clause-refused g c =
     let filled = filled_of cmp file frame entries open_is.0 table in
     let first = rw (c.deref.ensures, c.deref-2.ensures.value) at c.first_place-start.ensures in
     let search = rw (c.deref-4.ensures, c.deref-5.ensures.value, c.in-Some.is) at c.in_ok-found.ensures.found in
-    let found = search t filled.blocks (data_of cmp old mid c.args.placed.now.table.number file frame entries c.get_table.ensures.carries m has open_is filled)
+    let found = search t filled.blocks (data_of cmp old mid c.args.placed.now file frame entries c.get_table.ensures.carries m has open_is filled)
     (starts_inside cmp file c.in_ok-target.target.items frame entries c.first_place-start.result first filled) in
     stands_on_key cmp g.met.K.KeyOrder.total g.met.K.KeyOrder.exact file frame entries open_is.0 filled.blocks (filling_of g.K.KeyOrder.cmp file frame entries filled) c.args.key.now c.args.sequence c.in_ok-target.target.items c.in_ok-target.ensures
     c.first_place-start.result first found.0 found.1 c.in-Some.here found.2 none in
@@ -92,7 +93,7 @@ returns-clause-found g c = λ t file has entries table.
     let filled = filled_of g.K.KeyOrder.cmp file frame entries open_is.0 table in
     let first = rw (c.deref.ensures, c.deref-2.ensures.value) at c.first_place-start.ensures in
     let search = rw (c.deref-4.ensures, c.deref-5.ensures.value, c.in-None.is) at c.in_ok-found.ensures.found in
-    let found = search t filled.blocks (data_of g.K.KeyOrder.cmp old mid c.args.placed.now.table.number file frame entries c.get_table.ensures.carries m has open_is filled)
+    let found = search t filled.blocks (data_of g.K.KeyOrder.cmp old mid c.args.placed.now file frame entries c.get_table.ensures.carries m has open_is filled)
     (starts_inside g.K.KeyOrder.cmp file c.in_ok-target.target.items frame entries c.first_place-start.result first filled) in
     none_found g.K.KeyOrder.cmp g.met.K.KeyOrder.total g.met.K.KeyOrder.exact file frame entries open_is.0 filled.blocks (filling_of g.K.KeyOrder.cmp file frame entries filled) c.args.key.now c.args.sequence c.in_ok-target.target.items c.in_ok-target.ensures
     c.first_place-start.result first found.0 found.1 found.2

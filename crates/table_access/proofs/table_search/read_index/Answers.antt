@@ -3,7 +3,7 @@ use Rattle.std.proofs.lemmas.Result.{err_from_is_err_and}
 use Rattle.table_access.specs.Tables.{seen}
 use Rattle.table.specs.declared.handle.Place.{Place}
 use Rattle.table_access.proofs.Standing.{table_still}
-use Rattle.table_access.proofs.Fetching.{found_block, refused_block, right_ends, wrong_ends}
+use Rattle.table_access.proofs.Fetching.{found_block, refused_block, right_ends}
 use Rattle.table_access.proofs.Tearing.{torn_block, torn_ends}
 use Rattle.table_access.proofs.table_search.read_index.Goals as goal
 
@@ -11,7 +11,9 @@ pub returns-clause-found : goal.returns-clause-found
 returns-clause-found g c =
     let old = seen (g.S.Store.facts c.args.source.now.store) c.args.source.now.tables c.args.source.now.blocks in
     let new = seen (g.S.Store.facts c.read_block.new.self.store) c.read_block.new.self.tables c.read_block.new.self.blocks in
-    found_block g.K.KeyOrder.cmp old new c.args.placed.now.table.number c.args.table.now.frame c.args.index c.in_ok-block.block.value.pairs c.in_ok-block.ensures.found
+    found_block g.K.KeyOrder.cmp old new c.args.placed.now c.args.table.now.frame c.args.index c.in_ok-block.block.value.pairs
+    (right_ends g.K.KeyOrder.cmp old new c.args.placed.now c.args.table.now.frame c.args.index _ c.in_ok-block.block.value.pairs c.in_ok-block.ensures.found (ap (length {A = Place}) c.places.ensures)
+    (rw c.if-not-branch.false at c.in_ok-has_ends.ensures))
 
 pub returns-clause-intact : goal.returns-clause-intact
 returns-clause-intact g c =
@@ -21,11 +23,11 @@ returns-clause-intact g c =
     (rw c.if-not-branch.false at c.in_ok-has_ends.ensures)
 
 pub returns-then-not-branch-clause-refused : goal.returns-then-not-branch-clause-refused
-returns-then-not-branch-clause-refused g c = λ t.
+returns-then-not-branch-clause-refused g c = λ t file has open_is.
     let old = seen (g.S.Store.facts c.args.source.now.store) c.args.source.now.tables c.args.source.now.blocks in
     let new = seen (g.S.Store.facts c.read_block.new.self.store) c.read_block.new.self.tables c.read_block.new.self.blocks in
-    wrong_ends g.K.KeyOrder.cmp old new c.args.placed.now c.args.table.now.frame c.args.index _ c.in_ok-block.block.value.pairs c.in_ok-block.ensures.found (ap (length {A = Place}) c.places.ensures)
-    (rw c.if-not-branch.true at c.in_ok-has_ends.ensures) t
+    torn_ends g.K.KeyOrder.cmp old new c.args.placed.now c.args.table.now.frame c.args.index _ c.in_ok-block.block.value.pairs c.in_ok-block.ensures.found (ap (length {A = Place}) c.places.ensures)
+    (rw c.if-not-branch.true at c.in_ok-has_ends.ensures) t file has open_is.0
 
 pub returns-in_err-block-clause-refused : goal.returns-in_err-block-clause-refused
 returns-in_err-block-clause-refused g c =

@@ -1,6 +1,6 @@
 use Rattle.std.proofs.lemmas.Result.{err_from_is_err_and}
 use Rattle.store.specs.Files.{Facts}
-use Rattle.cursor.specs.Moves.{ListsNone}
+use Rattle.cursor.specs.Cuts.{TornAt, next_cut}
 use Rattle.std.proofs.Common.{IsTrue, ◌⊎◌, ◌≤◌, ◌^◌, map, List, ℕ, ◌∷◌, ◌++◌, length, ◌≡◌, inl, inr, refl, sym, ap, subst, ◌∙◌}
 use Rattle.cursor.specs.Merging.{listed}
 use Rattle.cursor.specs.Places.{Listed, within}
@@ -9,7 +9,7 @@ use Rattle.ikey.specs.Below.{same_key}
 use Rattle.ikey.specs.Keys.{Key, IsKey}
 use Rattle.ikey.specs.KeyViews.{key_of}
 use Rattle.compact.specs.Choosing.{written_for}
-use Rattle.compact.specs.Merging.{IsBetween, IsLimited, HaveOwnSequences}
+use Rattle.compact.specs.Merging.{IsBetween, IsLimited, HaveOwnSequences, ReadsIntact}
 use Rattle.compact.specs.Rooms.{AreLarge}
 use Rattle.compact.proofs.Loads.{rewritten, well-rewritten, same-rewritten, is-rewritten, large-chosen}
 use Rattle.compact.specs.Outputs.{HasWritten, IsMine, IsMineUpTo, WritesTables}
@@ -29,7 +29,7 @@ returns-clause-merged g c = λ came entry rest t h.
     let over_is : IsKey c.copy_to.new.buffer.items entry.key = subst (λ (bytes : List ℕ). IsKey bytes entry.key) (sym c.in_ok-copy_to.ensures.ok) is_key in
     let k : Key = key_of c.in-Some.key in
     let same : entry.key ≡ k = same_key c.copy_to.new.buffer.items entry.key k over_is (subst (λ (bytes : List ℕ). IsKey bytes k) c.as_slice-2.ensures.value c.in-Some.ensures.found) in
-    job-step g.K.KeyOrder.cmp (g.D.DeeperFiles.covers c.args.deeper.now) g.S.Store.facts g.H.HasStore.store_of g.H.HasStore.with_store g.H.HasStore.gathers g.C.Cursor.facts g.C.Cursor.lists g.C.Cursor.keeps g.C.Cursor.limited g.C.Cursor.leaves g.C.Cursor.over
+    job-step g.K.KeyOrder.cmp (g.D.DeeperFiles.covers c.args.deeper.now) g.S.Store.facts g.H.HasStore.store_of g.H.HasStore.with_store g.H.HasStore.gathers g.C.Cursor.facts g.C.Cursor.lists g.C.Cursor.keeps g.C.Cursor.limited g.C.Cursor.torn g.C.Cursor.leaves g.C.Cursor.over
     c.requires.facts g.met.H.HasStore.replaced g.met.H.HasStore.apart c.requires.gathers g.met.C.Cursor.kept
     c.args.self.now.last.items c.copy_to.new.buffer.items c.args.self.now.cursor c.next.new.self c.args.self.now.selection c.take.new.self c.args.self.now.outputs c.write_chosen.new.outputs
     c.args.source.now c.store_mut.result.now c.write_chosen.new.store c.next.new.source c.args.numbers.now.next c.write_chosen.new.numbers.next came entry rest c.in_ok-choice.choice
@@ -44,7 +44,7 @@ returns-clause-merged g c = λ came entry rest t h.
     h
 
 pub returns-then-not-comes_behind-clause-refused : goal.returns-then-not-comes_behind-clause-refused
-returns-then-not-comes_behind-clause-refused g c = λ t came entry rest h own.
+returns-then-not-comes_behind-clause-refused g c = λ t came entry rest h own intact.
     let at : Listed = listed (came ++ entry ∷ rest) (within (came ++ entry ∷ rest) (length came)) in
     let is_key : IsKey c.key-bytes.result.now entry.key = c.key-bytes.ensures at (length came) entry h.left (standing came entry rest) (at_place came entry rest) in
     let refused = c.comes_behind.ensures.refused c.if-not-comes_behind.true entry.key is_key in
@@ -52,7 +52,7 @@ returns-then-not-comes_behind-clause-refused g c = λ t came entry rest h own.
     (refused.0, subst (λ (bytes : List ℕ). IsKey bytes refused.0) c.as_slice.ensures.value refused.1, refused.2)
 
 pub returns-in_default-clause-refused : goal.returns-in_default-clause-refused
-returns-in_default-clause-refused g c = λ t came entry rest h own.
+returns-in_default-clause-refused g c = λ t came entry rest h own intact.
     let at : Listed = listed (came ++ entry ∷ rest) (within (came ++ entry ∷ rest) (length came)) in
     let is_key : IsKey c.key-bytes.result.now entry.key = c.key-bytes.ensures at (length came) entry h.left (standing came entry rest) (at_place came entry rest) in
     c.in_default.ensures.none entry.key (subst (λ (bytes : List ℕ). IsKey bytes entry.key) (sym (c.as_slice-2.ensures.value ∙ c.in_ok-copy_to.ensures.ok)) is_key)
@@ -65,12 +65,12 @@ returns-in_err-write_chosen-clause-refused g c =
     let p = err_from_is_err_and c.from_residual-in_err-write_chosen.result c.from_residual-in_err-write_chosen.ensures.1 in
     rw (p.1, p.2) (refuses-same c.in_err-write_chosen.field-0.0 (g.S.Store.facts c.store_mut.result.now) (g.S.Store.facts (g.H.HasStore.store_of c.args.source.now)) b d
     _ (IsTrue d.faithful → (came : List InternalEntry) (entry : InternalEntry) (rest : List InternalEntry)
-    → IsBetween g.K.KeyOrder.cmp (g.D.DeeperFiles.covers c.args.deeper.now) g.S.Store g.H.HasStore g.C.Cursor c.args.self.now c.args.source.now c.args.numbers.now.next came (entry ∷ rest) → HaveOwnSequences (came ++ entry ∷ rest) → ⊥)
+    → IsBetween g.K.KeyOrder.cmp (g.D.DeeperFiles.covers c.args.deeper.now) g.S.Store g.H.HasStore g.C.Cursor c.args.self.now c.args.source.now c.args.numbers.now.next came (entry ∷ rest) → HaveOwnSequences (came ++ entry ∷ rest) → ReadsIntact g.C.Cursor.torn c.args.self.now c.args.source.now → ⊥)
     _ (IsTrue d.faithful → (came : List InternalEntry) (entry : InternalEntry) (rest : List InternalEntry) → IsBetween g.K.KeyOrder.cmp (g.D.DeeperFiles.covers c.args.deeper.now) g.S.Store g.H.HasStore g.C.Cursor c.args.self.now c.args.source.now c.args.numbers.now.next came (entry ∷ rest)
-    → IsLimited g.C.Cursor.limited c.args.self.now c.args.source.now ⊎ AreLarge (map entry_of (came ++ entry ∷ rest)))
+    → ReadsIntact g.C.Cursor.torn c.args.self.now c.args.source.now → IsLimited g.C.Cursor.limited c.args.self.now c.args.source.now ⊎ AreLarge (map entry_of (came ++ entry ∷ rest)))
     (2 ^ 62 ≤ c.write_chosen.new.numbers.next)
     (ap g.S.Store.facts c.store_mut.ensures.value) same_new
-    (λ none t came entry rest h own.
+    (λ none t came entry rest h own intact.
     let at : Listed = listed (came ++ entry ∷ rest) (within (came ++ entry ∷ rest) (length came)) in
     let is_key : IsKey c.key-bytes.result.now entry.key = c.key-bytes.ensures at (length came) entry h.left (standing came entry rest) (at_place came entry rest) in
     let value_is : c.value.result.now ≡ entry.value = c.value.ensures at (length came) entry h.left (standing came entry rest) (at_place came entry rest) in
@@ -91,7 +91,7 @@ returns-in_err-write_chosen-clause-refused g c =
     })
     (writes-rise g.K.KeyOrder.cmp (g.D.DeeperFiles.covers c.args.deeper.now) c.take.new.self c.in-Some.key.user.now c.released.result.now c.in_ok-choice.choice came rest h.merging.kept entry
     none.0 (ap (λ (x : Key). x.user) same) c.released.ensures.value (g.met.C.Cursor.rises c.args.self.now.cursor c.args.source.now at h.left) chosen))
-    (λ long t came entry rest h.
+    (λ long t came entry rest h intact.
     let at : Listed = listed (came ++ entry ∷ rest) (within (came ++ entry ∷ rest) (length came)) in
     let is_key : IsKey c.key-bytes.result.now entry.key = c.key-bytes.ensures at (length came) entry h.left (standing came entry rest) (at_place came entry rest) in
     let value_is : c.value.result.now ≡ entry.value = c.value.ensures at (length came) entry h.left (standing came entry rest) (at_place came entry rest) in
@@ -118,7 +118,7 @@ pub returns-in_err-next-clause-writes : goal.returns-in_err-next-clause-writes
 returns-in_err-next-clause-writes g c =
     writes-reads (g.S.Store.facts (g.H.HasStore.store_of c.args.source.now)) (g.S.Store.facts c.write_chosen.new.store) (g.S.Store.facts (g.H.HasStore.store_of c.next.new.source)) (IsMineUpTo c.args.self.now.outputs c.args.numbers.now.next c.write_chosen.new.numbers.next)
     (subst (λ s. WritesTables (g.S.Store.facts s) (g.S.Store.facts c.write_chosen.new.store) (IsMineUpTo c.args.self.now.outputs c.args.numbers.now.next c.write_chosen.new.numbers.next)) c.store_mut.ensures.value c.in_ok-write_chosen.ensures.writes)
-    (writes-move g.K.KeyOrder.cmp (g.D.DeeperFiles.covers c.args.deeper.now) g.S.Store.facts g.H.HasStore.store_of g.H.HasStore.with_store g.H.HasStore.gathers g.C.Cursor.facts g.C.Cursor.lists g.C.Cursor.keeps g.C.Cursor.limited g.C.Cursor.leaves g.C.Cursor.over
+    (writes-move g.K.KeyOrder.cmp (g.D.DeeperFiles.covers c.args.deeper.now) g.S.Store.facts g.H.HasStore.store_of g.H.HasStore.with_store g.H.HasStore.gathers g.C.Cursor.facts g.C.Cursor.lists g.C.Cursor.keeps g.C.Cursor.limited g.C.Cursor.torn g.C.Cursor.leaves g.C.Cursor.over
     c.requires.facts g.met.H.HasStore.replaced g.met.H.HasStore.apart c.requires.gathers g.met.C.Cursor.kept
     c.args.self.now.cursor c.next.new.self c.args.source.now c.store_mut.result.now c.write_chosen.new.store c.next.new.source (IsMineUpTo c.args.self.now.outputs c.args.numbers.now.next c.write_chosen.new.numbers.next)
     c.store_mut.ensures.value c.in_ok-write_chosen.ensures.writes c.in_err-next.ensures.stays)
@@ -127,7 +127,7 @@ pub returns-clause-writes : goal.returns-clause-writes
 returns-clause-writes g c =
     writes-reads (g.S.Store.facts (g.H.HasStore.store_of c.args.source.now)) (g.S.Store.facts c.write_chosen.new.store) (g.S.Store.facts (g.H.HasStore.store_of c.next.new.source)) (IsMineUpTo c.args.self.now.outputs c.args.numbers.now.next c.write_chosen.new.numbers.next)
     (subst (λ s. WritesTables (g.S.Store.facts s) (g.S.Store.facts c.write_chosen.new.store) (IsMineUpTo c.args.self.now.outputs c.args.numbers.now.next c.write_chosen.new.numbers.next)) c.store_mut.ensures.value c.in_ok-write_chosen.ensures.writes)
-    (writes-move g.K.KeyOrder.cmp (g.D.DeeperFiles.covers c.args.deeper.now) g.S.Store.facts g.H.HasStore.store_of g.H.HasStore.with_store g.H.HasStore.gathers g.C.Cursor.facts g.C.Cursor.lists g.C.Cursor.keeps g.C.Cursor.limited g.C.Cursor.leaves g.C.Cursor.over
+    (writes-move g.K.KeyOrder.cmp (g.D.DeeperFiles.covers c.args.deeper.now) g.S.Store.facts g.H.HasStore.store_of g.H.HasStore.with_store g.H.HasStore.gathers g.C.Cursor.facts g.C.Cursor.lists g.C.Cursor.keeps g.C.Cursor.limited g.C.Cursor.torn g.C.Cursor.leaves g.C.Cursor.over
     c.requires.facts g.met.H.HasStore.replaced g.met.H.HasStore.apart c.requires.gathers g.met.C.Cursor.kept
     c.args.self.now.cursor c.next.new.self c.args.source.now c.store_mut.result.now c.write_chosen.new.store c.next.new.source (IsMineUpTo c.args.self.now.outputs c.args.numbers.now.next c.write_chosen.new.numbers.next)
     c.store_mut.ensures.value c.in_ok-write_chosen.ensures.writes c.in_ok-next.ensures.stays)
@@ -140,57 +140,76 @@ returns-in_err-next-clause-refused g c =
     let mid = g.H.HasStore.with_store c.args.source.now c.write_chosen.new.store in
     let spent = 2 ^ 62 ≤ c.write_chosen.new.numbers.next in
     let p = err_from_is_err_and c.from_residual-in_err-next.result c.from_residual-in_err-next.ensures.1 in
-    rw (p.1, p.2) (refuses-as c.in_err-next.field-0.0 a b d (IsTrue d.faithful → ListsNone g.C.Cursor.lists c.args.self.now.cursor mid) (IsTrue d.faithful → ListsNone g.C.Cursor.lists c.args.self.now.cursor mid ⊎ g.C.Cursor.limited c.args.self.now.cursor mid) spent
+    rw (p.1, p.2) (refuses-as c.in_err-next.field-0.0 a b d (IsTrue d.faithful → TornAt g.C.Cursor.lists g.C.Cursor.torn next_cut c.args.self.now.cursor mid) (IsTrue d.faithful → TornAt g.C.Cursor.lists g.C.Cursor.torn next_cut c.args.self.now.cursor mid ⊎ g.C.Cursor.limited c.args.self.now.cursor mid) spent
     (IsTrue d.faithful → (came : List InternalEntry) (entry : InternalEntry) (rest : List InternalEntry)
-    → IsBetween g.K.KeyOrder.cmp (g.D.DeeperFiles.covers c.args.deeper.now) g.S.Store g.H.HasStore g.C.Cursor c.args.self.now c.args.source.now c.args.numbers.now.next came (entry ∷ rest) → HaveOwnSequences (came ++ entry ∷ rest) → ⊥)
+    → IsBetween g.K.KeyOrder.cmp (g.D.DeeperFiles.covers c.args.deeper.now) g.S.Store g.H.HasStore g.C.Cursor c.args.self.now c.args.source.now c.args.numbers.now.next came (entry ∷ rest) → HaveOwnSequences (came ++ entry ∷ rest) → ReadsIntact g.C.Cursor.torn c.args.self.now c.args.source.now → ⊥)
     (IsTrue d.faithful → (came : List InternalEntry) (entry : InternalEntry) (rest : List InternalEntry) → IsBetween g.K.KeyOrder.cmp (g.D.DeeperFiles.covers c.args.deeper.now) g.S.Store g.H.HasStore g.C.Cursor c.args.self.now c.args.source.now c.args.numbers.now.next came (entry ∷ rest)
-    → IsLimited g.C.Cursor.limited c.args.self.now c.args.source.now ⊎ AreLarge (map entry_of (came ++ entry ∷ rest))) spent (c.in_ok-write_chosen.ensures.stood ∙ ap (λ s. (g.S.Store.facts s).failures) c.store_mut.ensures.value)
-    (λ none t came entry rest h own.
+    → ReadsIntact g.C.Cursor.torn c.args.self.now c.args.source.now → IsLimited g.C.Cursor.limited c.args.self.now c.args.source.now ⊎ AreLarge (map entry_of (came ++ entry ∷ rest))) spent (c.in_ok-write_chosen.ensures.stood ∙ ap (λ s. (g.S.Store.facts s).failures) c.store_mut.ensures.value)
+    (λ none t came entry rest h own intact.
     let at : Listed = listed (came ++ entry ∷ rest) (within (came ++ entry ∷ rest) (length came)) in
-    none t at (still-lists g.K.KeyOrder.cmp (g.D.DeeperFiles.covers c.args.deeper.now) g.S.Store.facts g.H.HasStore.store_of g.H.HasStore.with_store g.H.HasStore.gathers g.C.Cursor.facts g.C.Cursor.lists g.C.Cursor.keeps g.C.Cursor.limited g.C.Cursor.leaves g.C.Cursor.over
+    intact (next_cut at) (g.met.C.Cursor.torn_kept c.args.self.now.cursor c.args.source.now mid (next_cut at) (still-keeps g.K.KeyOrder.cmp (g.D.DeeperFiles.covers c.args.deeper.now) g.S.Store.facts g.H.HasStore.store_of g.H.HasStore.with_store g.H.HasStore.gathers g.C.Cursor.facts g.C.Cursor.lists g.C.Cursor.keeps g.C.Cursor.limited g.C.Cursor.torn g.C.Cursor.leaves g.C.Cursor.over
+    c.requires.facts g.met.H.HasStore.replaced g.met.H.HasStore.apart c.requires.gathers g.met.C.Cursor.kept
+    c.args.self.now.cursor c.next.new.self c.args.source.now c.store_mut.result.now c.write_chosen.new.store c.next.new.source (IsMine c.args.self.now.outputs c.args.numbers.now.next)
+    c.store_mut.ensures.value (writes-mine (g.S.Store.facts c.store_mut.result.now) (g.S.Store.facts c.write_chosen.new.store) c.args.self.now.outputs c.args.numbers.now.next c.write_chosen.new.numbers.next c.write_chosen.new.numbers.in_range.1 c.in_ok-write_chosen.ensures.writes) h.apart h.ungathered c.in_err-next.ensures.stays t)
+    (none t at (still-lists g.K.KeyOrder.cmp (g.D.DeeperFiles.covers c.args.deeper.now) g.S.Store.facts g.H.HasStore.store_of g.H.HasStore.with_store g.H.HasStore.gathers g.C.Cursor.facts g.C.Cursor.lists g.C.Cursor.keeps g.C.Cursor.limited g.C.Cursor.torn g.C.Cursor.leaves g.C.Cursor.over
     c.requires.facts g.met.H.HasStore.replaced g.met.H.HasStore.apart c.requires.gathers g.met.C.Cursor.kept
     c.args.self.now.cursor c.next.new.self c.args.source.now c.store_mut.result.now c.write_chosen.new.store c.next.new.source (IsMine c.args.self.now.outputs c.args.numbers.now.next) at
-    c.store_mut.ensures.value (writes-mine (g.S.Store.facts c.store_mut.result.now) (g.S.Store.facts c.write_chosen.new.store) c.args.self.now.outputs c.args.numbers.now.next c.write_chosen.new.numbers.next c.write_chosen.new.numbers.in_range.1 c.in_ok-write_chosen.ensures.writes) h.apart h.ungathered c.in_err-next.ensures.stays t h.left))
-    (λ lim t came entry rest h. elim (lim t) [
-      | inl none ↦ absurd (none (listed (came ++ entry ∷ rest) (within (came ++ entry ∷ rest) (length came))) (still-lists g.K.KeyOrder.cmp (g.D.DeeperFiles.covers c.args.deeper.now) g.S.Store.facts g.H.HasStore.store_of g.H.HasStore.with_store g.H.HasStore.gathers g.C.Cursor.facts g.C.Cursor.lists g.C.Cursor.keeps g.C.Cursor.limited g.C.Cursor.leaves g.C.Cursor.over
+    c.store_mut.ensures.value (writes-mine (g.S.Store.facts c.store_mut.result.now) (g.S.Store.facts c.write_chosen.new.store) c.args.self.now.outputs c.args.numbers.now.next c.write_chosen.new.numbers.next c.write_chosen.new.numbers.in_range.1 c.in_ok-write_chosen.ensures.writes) h.apart h.ungathered c.in_err-next.ensures.stays t h.left))))
+    (λ lim t came entry rest h intact. elim (lim t) [
+      | inl none ↦
+          let at : Listed = listed (came ++ entry ∷ rest) (within (came ++ entry ∷ rest) (length came)) in
+          absurd (intact (next_cut at) (g.met.C.Cursor.torn_kept c.args.self.now.cursor c.args.source.now mid (next_cut at) (still-keeps g.K.KeyOrder.cmp (g.D.DeeperFiles.covers c.args.deeper.now) g.S.Store.facts g.H.HasStore.store_of g.H.HasStore.with_store g.H.HasStore.gathers g.C.Cursor.facts g.C.Cursor.lists g.C.Cursor.keeps g.C.Cursor.limited g.C.Cursor.torn g.C.Cursor.leaves g.C.Cursor.over
+          c.requires.facts g.met.H.HasStore.replaced g.met.H.HasStore.apart c.requires.gathers g.met.C.Cursor.kept
+          c.args.self.now.cursor c.next.new.self c.args.source.now c.store_mut.result.now c.write_chosen.new.store c.next.new.source (IsMine c.args.self.now.outputs c.args.numbers.now.next)
+          c.store_mut.ensures.value (writes-mine (g.S.Store.facts c.store_mut.result.now) (g.S.Store.facts c.write_chosen.new.store) c.args.self.now.outputs c.args.numbers.now.next c.write_chosen.new.numbers.next c.write_chosen.new.numbers.in_range.1 c.in_ok-write_chosen.ensures.writes) h.apart h.ungathered c.in_err-next.ensures.stays t)
+          (none (listed (came ++ entry ∷ rest) (within (came ++ entry ∷ rest) (length came))) (still-lists g.K.KeyOrder.cmp (g.D.DeeperFiles.covers c.args.deeper.now) g.S.Store.facts g.H.HasStore.store_of g.H.HasStore.with_store g.H.HasStore.gathers g.C.Cursor.facts g.C.Cursor.lists g.C.Cursor.keeps g.C.Cursor.limited g.C.Cursor.torn g.C.Cursor.leaves g.C.Cursor.over
           c.requires.facts g.met.H.HasStore.replaced g.met.H.HasStore.apart c.requires.gathers g.met.C.Cursor.kept
           c.args.self.now.cursor c.next.new.self c.args.source.now c.store_mut.result.now c.write_chosen.new.store c.next.new.source (IsMine c.args.self.now.outputs c.args.numbers.now.next) (listed (came ++ entry ∷ rest) (within (came ++ entry ∷ rest) (length came)))
-          c.store_mut.ensures.value (writes-mine (g.S.Store.facts c.store_mut.result.now) (g.S.Store.facts c.write_chosen.new.store) c.args.self.now.outputs c.args.numbers.now.next c.write_chosen.new.numbers.next c.write_chosen.new.numbers.in_range.1 c.in_ok-write_chosen.ensures.writes) h.apart h.ungathered c.in_err-next.ensures.stays t h.left))
-      | inr past ↦ inl (g.met.C.Cursor.limits_kept c.args.self.now.cursor c.args.source.now mid (still-keeps g.K.KeyOrder.cmp (g.D.DeeperFiles.covers c.args.deeper.now) g.S.Store.facts g.H.HasStore.store_of g.H.HasStore.with_store g.H.HasStore.gathers g.C.Cursor.facts g.C.Cursor.lists g.C.Cursor.keeps g.C.Cursor.limited g.C.Cursor.leaves g.C.Cursor.over
+          c.store_mut.ensures.value (writes-mine (g.S.Store.facts c.store_mut.result.now) (g.S.Store.facts c.write_chosen.new.store) c.args.self.now.outputs c.args.numbers.now.next c.write_chosen.new.numbers.next c.write_chosen.new.numbers.in_range.1 c.in_ok-write_chosen.ensures.writes) h.apart h.ungathered c.in_err-next.ensures.stays t h.left))))
+      | inr past ↦ inl (g.met.C.Cursor.limits_kept c.args.self.now.cursor c.args.source.now mid (still-keeps g.K.KeyOrder.cmp (g.D.DeeperFiles.covers c.args.deeper.now) g.S.Store.facts g.H.HasStore.store_of g.H.HasStore.with_store g.H.HasStore.gathers g.C.Cursor.facts g.C.Cursor.lists g.C.Cursor.keeps g.C.Cursor.limited g.C.Cursor.torn g.C.Cursor.leaves g.C.Cursor.over
           c.requires.facts g.met.H.HasStore.replaced g.met.H.HasStore.apart c.requires.gathers g.met.C.Cursor.kept
           c.args.self.now.cursor c.next.new.self c.args.source.now c.store_mut.result.now c.write_chosen.new.store c.next.new.source (IsMine c.args.self.now.outputs c.args.numbers.now.next)
           c.store_mut.ensures.value (writes-mine (g.S.Store.facts c.store_mut.result.now) (g.S.Store.facts c.write_chosen.new.store) c.args.self.now.outputs c.args.numbers.now.next c.write_chosen.new.numbers.next c.write_chosen.new.numbers.in_range.1 c.in_ok-write_chosen.ensures.writes) h.apart h.ungathered c.in_err-next.ensures.stays t) past)
     ])
     (λ u. u)
-    (refuses-moving c.in_err-next.field-0.0 (g.C.Cursor.facts mid) (g.C.Cursor.facts c.next.new.source) b d (ListsNone g.C.Cursor.lists c.args.self.now.cursor mid) (g.C.Cursor.limited c.args.self.now.cursor mid) spent
+    (refuses-moving c.in_err-next.field-0.0 (g.C.Cursor.facts mid) (g.C.Cursor.facts c.next.new.source) b d (TornAt g.C.Cursor.lists g.C.Cursor.torn next_cut c.args.self.now.cursor mid) (g.C.Cursor.limited c.args.self.now.cursor mid) spent
     (c.requires.facts mid ∙ ap g.S.Store.facts (g.met.H.HasStore.replaced c.args.source.now c.write_chosen.new.store)) (c.requires.facts c.next.new.source) c.in_err-next.ensures.still c.in_err-next.ensures.refused))
 
 pub returns-clause-stood : goal.returns-clause-stood
 returns-clause-stood g c =
-    still-move g.K.KeyOrder.cmp (g.D.DeeperFiles.covers c.args.deeper.now) g.S.Store.facts g.H.HasStore.store_of g.H.HasStore.with_store g.H.HasStore.gathers g.C.Cursor.facts g.C.Cursor.lists g.C.Cursor.keeps g.C.Cursor.limited g.C.Cursor.leaves g.C.Cursor.over
+    still-move g.K.KeyOrder.cmp (g.D.DeeperFiles.covers c.args.deeper.now) g.S.Store.facts g.H.HasStore.store_of g.H.HasStore.with_store g.H.HasStore.gathers g.C.Cursor.facts g.C.Cursor.lists g.C.Cursor.keeps g.C.Cursor.limited g.C.Cursor.torn g.C.Cursor.leaves g.C.Cursor.over
     c.requires.facts g.met.H.HasStore.replaced g.met.H.HasStore.apart c.requires.gathers g.met.C.Cursor.kept
     c.args.source.now c.store_mut.result.now c.write_chosen.new.store c.next.new.source c.store_mut.ensures.value c.in_ok-write_chosen.ensures.stood c.in_ok-next.ensures.still
 
 pub returns-clause-limits : goal.returns-clause-limits
 returns-clause-limits g c = λ came entry rest t h past.
     let mid = g.H.HasStore.with_store c.args.source.now c.write_chosen.new.store in
-    g.met.C.Cursor.limits_kept c.args.self.now.cursor c.args.source.now mid (still-keeps g.K.KeyOrder.cmp (g.D.DeeperFiles.covers c.args.deeper.now) g.S.Store.facts g.H.HasStore.store_of g.H.HasStore.with_store g.H.HasStore.gathers g.C.Cursor.facts g.C.Cursor.lists g.C.Cursor.keeps g.C.Cursor.limited g.C.Cursor.leaves g.C.Cursor.over
+    g.met.C.Cursor.limits_kept c.args.self.now.cursor c.args.source.now mid (still-keeps g.K.KeyOrder.cmp (g.D.DeeperFiles.covers c.args.deeper.now) g.S.Store.facts g.H.HasStore.store_of g.H.HasStore.with_store g.H.HasStore.gathers g.C.Cursor.facts g.C.Cursor.lists g.C.Cursor.keeps g.C.Cursor.limited g.C.Cursor.torn g.C.Cursor.leaves g.C.Cursor.over
     c.requires.facts g.met.H.HasStore.replaced g.met.H.HasStore.apart c.requires.gathers g.met.C.Cursor.kept
     c.args.self.now.cursor c.next.new.self c.args.source.now c.store_mut.result.now c.write_chosen.new.store c.next.new.source (IsMine c.args.self.now.outputs c.args.numbers.now.next)
     c.store_mut.ensures.value (writes-mine (g.S.Store.facts c.store_mut.result.now) (g.S.Store.facts c.write_chosen.new.store) c.args.self.now.outputs c.args.numbers.now.next c.write_chosen.new.numbers.next c.write_chosen.new.numbers.in_range.1 c.in_ok-write_chosen.ensures.writes) h.apart h.ungathered c.in_ok-next.ensures.stays t)
     (c.in_ok-next.ensures.stays.limit (subst (λ (f : Facts). IsTrue f.faithful) (sym (c.requires.facts c.next.new.source)) t) past)
 
+pub returns-clause-torn : goal.returns-clause-torn
+returns-clause-torn g c = λ came entry rest t h cut torn.
+    let mid = g.H.HasStore.with_store c.args.source.now c.write_chosen.new.store in
+    g.met.C.Cursor.torn_kept c.args.self.now.cursor c.args.source.now mid cut (still-keeps g.K.KeyOrder.cmp (g.D.DeeperFiles.covers c.args.deeper.now) g.S.Store.facts g.H.HasStore.store_of g.H.HasStore.with_store g.H.HasStore.gathers g.C.Cursor.facts g.C.Cursor.lists g.C.Cursor.keeps g.C.Cursor.limited g.C.Cursor.torn g.C.Cursor.leaves g.C.Cursor.over
+    c.requires.facts g.met.H.HasStore.replaced g.met.H.HasStore.apart c.requires.gathers g.met.C.Cursor.kept
+    c.args.self.now.cursor c.next.new.self c.args.source.now c.store_mut.result.now c.write_chosen.new.store c.next.new.source (IsMine c.args.self.now.outputs c.args.numbers.now.next)
+    c.store_mut.ensures.value (writes-mine (g.S.Store.facts c.store_mut.result.now) (g.S.Store.facts c.write_chosen.new.store) c.args.self.now.outputs c.args.numbers.now.next c.write_chosen.new.numbers.next c.write_chosen.new.numbers.in_range.1 c.in_ok-write_chosen.ensures.writes) h.apart h.ungathered c.in_ok-next.ensures.stays t)
+    (c.in_ok-next.ensures.stays.tear (subst (λ (f : Facts). IsTrue f.faithful) (sym (c.requires.facts c.next.new.source)) t) cut torn)
+
 pub returns-in_err-write_chosen-clause-leaves : goal.returns-in_err-write_chosen-clause-leaves
 returns-in_err-write_chosen-clause-leaves g c =
-    leaves-written g.S.Store.facts g.H.HasStore.store_of g.H.HasStore.with_store g.C.Cursor.facts g.C.Cursor.keeps g.C.Cursor.limited g.C.Cursor.leaves g.C.Cursor.over (IsMineUpTo c.args.self.now.outputs c.args.numbers.now.next c.write_chosen.new.numbers.next)
+    leaves-written g.S.Store.facts g.H.HasStore.store_of g.H.HasStore.with_store g.C.Cursor.facts g.C.Cursor.keeps g.C.Cursor.limited g.C.Cursor.torn g.C.Cursor.leaves g.C.Cursor.over (IsMineUpTo c.args.self.now.outputs c.args.numbers.now.next c.write_chosen.new.numbers.next)
     c.args.self.now.cursor c.args.source.now c.store_mut.result.now c.write_chosen.new.store c.store_mut.ensures.value c.in_err-write_chosen.ensures.writes
 
 pub returns-in_err-next-clause-leaves : goal.returns-in_err-next-clause-leaves
 returns-in_err-next-clause-leaves g c =
-    leaves-moved g.S.Store.facts g.H.HasStore.store_of g.H.HasStore.with_store g.C.Cursor.facts g.C.Cursor.keeps g.C.Cursor.limited g.C.Cursor.leaves g.C.Cursor.over (IsMineUpTo c.args.self.now.outputs c.args.numbers.now.next c.write_chosen.new.numbers.next)
+    leaves-moved g.S.Store.facts g.H.HasStore.store_of g.H.HasStore.with_store g.C.Cursor.facts g.C.Cursor.keeps g.C.Cursor.limited g.C.Cursor.torn g.C.Cursor.leaves g.C.Cursor.over (IsMineUpTo c.args.self.now.outputs c.args.numbers.now.next c.write_chosen.new.numbers.next)
     c.args.self.now.cursor c.next.new.self c.args.source.now c.store_mut.result.now c.write_chosen.new.store c.next.new.source c.store_mut.ensures.value c.in_ok-write_chosen.ensures.writes c.in_err-next.ensures.stays
 
 pub returns-clause-leaves : goal.returns-clause-leaves
 returns-clause-leaves g c =
-    leaves-moved g.S.Store.facts g.H.HasStore.store_of g.H.HasStore.with_store g.C.Cursor.facts g.C.Cursor.keeps g.C.Cursor.limited g.C.Cursor.leaves g.C.Cursor.over (IsMineUpTo c.args.self.now.outputs c.args.numbers.now.next c.write_chosen.new.numbers.next)
+    leaves-moved g.S.Store.facts g.H.HasStore.store_of g.H.HasStore.with_store g.C.Cursor.facts g.C.Cursor.keeps g.C.Cursor.limited g.C.Cursor.torn g.C.Cursor.leaves g.C.Cursor.over (IsMineUpTo c.args.self.now.outputs c.args.numbers.now.next c.write_chosen.new.numbers.next)
     c.args.self.now.cursor c.next.new.self c.args.source.now c.store_mut.result.now c.write_chosen.new.store c.next.new.source c.store_mut.ensures.value c.in_ok-write_chosen.ensures.writes c.in_ok-next.ensures.stays

@@ -5,7 +5,7 @@ use Rattle.cursor.specs.Places.{within}
 use Rattle.store.specs.Files.{Facts}
 use Rattle.ikey.specs.Entries.{InternalEntry, entry_of}
 use Rattle.std.proofs.lemmas.Result.{err_from_is_err_and}
-use Rattle.compact.specs.Merging.{IsBetween, IsLimited, HaveOwnSequences}
+use Rattle.compact.specs.Merging.{IsBetween, IsLimited, HaveOwnSequences, ReadsIntact}
 use Rattle.compact.specs.Rooms.{AreLarge}
 use Rattle.compact.specs.Outputs.{IsMineUpTo}
 use Rattle.compact.proofs.Jobs.{job-more, job-all}
@@ -42,6 +42,9 @@ loop-merged-preserved g c =
             (λ past. at.5 (c.in_ok-merge_one.ensures.limits (came ++ front) entry found.1 t
                 (job-more g.K.KeyOrder.cmp (g.D.DeeperFiles.covers c.args.deeper.now) g.S.Store g.H.HasStore g.C.Cursor
                 c.loop-merged.self c.loop-merged.source c.loop-merged.numbers.next (came ++ front) at.1 (entry ∷ found.1) found.2 at.4) past)),
+            (λ cut torn. at.6 cut (c.in_ok-merge_one.ensures.torn (came ++ front) entry found.1 t
+                (job-more g.K.KeyOrder.cmp (g.D.DeeperFiles.covers c.args.deeper.now) g.S.Store g.H.HasStore g.C.Cursor
+                c.loop-merged.self c.loop-merged.source c.loop-merged.numbers.next (came ++ front) at.1 (entry ∷ found.1) found.2 at.4) cut torn)),
           )),
       mine-on c.args.self.now.outputs c.loop-merged.self.outputs c.merge_one.new.self.outputs c.args.numbers.now.next c.loop-merged.numbers.next c.merge_one.new.numbers.next inv.0 c.in_ok-merge_one.ensures.numbers inv.3 c.in_ok-merge_one.ensures.mine,
       writes-on a b d c.args.self.now.outputs c.loop-merged.self.outputs c.args.numbers.now.next c.loop-merged.numbers.next c.merge_one.new.numbers.next inv.0 c.in_ok-merge_one.ensures.numbers inv.3 inv.4 c.in_ok-merge_one.ensures.writes,
@@ -49,7 +52,7 @@ loop-merged-preserved g c =
       omega (arith, inv.6, c.in_ok-merge_one.ensures.drawn),
       numbers-then c.args.self.now.outputs c.loop-merged.self.outputs c.merge_one.new.self.outputs c.args.numbers.now.next c.loop-merged.numbers.next c.merge_one.new.numbers.next inv.0 inv.7 c.in_ok-merge_one.ensures.numbered,
       c.in_ok-merge_one.ensures.stood ∙ inv.8,
-      leaves-on g.S.Store.facts g.H.HasStore.store_of g.H.HasStore.with_store g.C.Cursor.facts g.C.Cursor.keeps g.C.Cursor.limited g.C.Cursor.leaves g.C.Cursor.over g.C.Cursor.leaves_more
+      leaves-on g.S.Store.facts g.H.HasStore.store_of g.H.HasStore.with_store g.C.Cursor.facts g.C.Cursor.keeps g.C.Cursor.limited g.C.Cursor.torn g.C.Cursor.leaves g.C.Cursor.over g.C.Cursor.leaves_more
           c.args.self.now.outputs c.loop-merged.self.outputs c.args.numbers.now.next c.loop-merged.numbers.next c.merge_one.new.numbers.next c.args.self.now.cursor c.loop-merged.self.cursor c.merge_one.new.self.cursor c.args.source.now c.loop-merged.source c.merge_one.new.source
           inv.0 c.in_ok-merge_one.ensures.numbers inv.3 inv.9 c.in_ok-merge_one.ensures.leaves,
     )
@@ -67,6 +70,7 @@ loop-merged-init g c =
         job-all g.K.KeyOrder.cmp (g.D.DeeperFiles.covers c.args.deeper.now) g.S.Store g.H.HasStore g.C.Cursor
             c.args.self.now c.args.source.now c.args.numbers.now.next came (came ++ []) rest (sym (append-nil came)) h,
         λ past. past,
+        λ cut torn. torn,
       )),
       (λ n is. inl is),
       writes-nothing a (IsMineUpTo c.args.self.now.outputs c.args.numbers.now.next c.args.numbers.now.next),
@@ -74,7 +78,7 @@ loop-merged-init g c =
       omega arith,
       numbers-same c.args.self.now.outputs c.args.numbers.now.next,
       refl,
-      leaves-all g.S.Store.facts g.H.HasStore.store_of g.H.HasStore.with_store g.C.Cursor.facts g.C.Cursor.keeps g.C.Cursor.limited g.C.Cursor.leaves g.C.Cursor.over (IsMineUpTo c.args.self.now.outputs c.args.numbers.now.next c.args.numbers.now.next) c.args.self.now.cursor c.args.source.now,
+      leaves-all g.S.Store.facts g.H.HasStore.store_of g.H.HasStore.with_store g.C.Cursor.facts g.C.Cursor.keeps g.C.Cursor.limited g.C.Cursor.torn g.C.Cursor.leaves g.C.Cursor.over (IsMineUpTo c.args.self.now.outputs c.args.numbers.now.next c.args.numbers.now.next) c.args.self.now.cursor c.args.source.now,
     )
 
 pub returns-in_err-merge_one-clause-writes : goal.returns-in_err-merge_one-clause-writes
@@ -84,7 +88,7 @@ returns-in_err-merge_one-clause-writes g c =
 
 pub returns-in_err-merge_one-clause-leaves : goal.returns-in_err-merge_one-clause-leaves
 returns-in_err-merge_one-clause-leaves g c =
-    leaves-on g.S.Store.facts g.H.HasStore.store_of g.H.HasStore.with_store g.C.Cursor.facts g.C.Cursor.keeps g.C.Cursor.limited g.C.Cursor.leaves g.C.Cursor.over g.C.Cursor.leaves_more
+    leaves-on g.S.Store.facts g.H.HasStore.store_of g.H.HasStore.with_store g.C.Cursor.facts g.C.Cursor.keeps g.C.Cursor.limited g.C.Cursor.torn g.C.Cursor.leaves g.C.Cursor.over g.C.Cursor.leaves_more
     c.args.self.now.outputs c.loop-merged.self.outputs c.args.numbers.now.next c.loop-merged.numbers.next c.merge_one.new.numbers.next c.args.self.now.cursor c.loop-merged.self.cursor c.merge_one.new.self.cursor c.args.source.now c.loop-merged.source c.merge_one.new.source
     c.loop-merged.invariant.0 c.in_err-merge_one.ensures.numbers c.loop-merged.invariant.3 c.loop-merged.invariant.9 c.in_err-merge_one.ensures.leaves
 
@@ -130,28 +134,28 @@ returns-in_err-merge_one-clause-refused g c =
     let p = err_from_is_err_and c.from_residual.result c.from_residual.ensures.1 in
     rw (p.1, p.2) (refuses-as c.in_err-merge_one.field-0.0 a b d
     (IsTrue d.faithful → (came : List InternalEntry) (entry : InternalEntry) (rest : List InternalEntry)
-    → IsBetween g.K.KeyOrder.cmp (g.D.DeeperFiles.covers c.args.deeper.now) g.S.Store g.H.HasStore g.C.Cursor c.loop-merged.self c.loop-merged.source c.loop-merged.numbers.next came (entry ∷ rest) → HaveOwnSequences (came ++ entry ∷ rest) → ⊥) _ spent
+    → IsBetween g.K.KeyOrder.cmp (g.D.DeeperFiles.covers c.args.deeper.now) g.S.Store g.H.HasStore g.C.Cursor c.loop-merged.self c.loop-merged.source c.loop-merged.numbers.next came (entry ∷ rest) → HaveOwnSequences (came ++ entry ∷ rest) → ReadsIntact g.C.Cursor.torn c.loop-merged.self c.loop-merged.source → ⊥) _ spent
     (IsTrue d.faithful → (came : List InternalEntry) (rest : List InternalEntry)
-    → IsBetween g.K.KeyOrder.cmp (g.D.DeeperFiles.covers c.args.deeper.now) g.S.Store g.H.HasStore g.C.Cursor c.args.self.now c.args.source.now c.args.numbers.now.next came rest → HaveOwnSequences (came ++ rest) → ⊥)
+    → IsBetween g.K.KeyOrder.cmp (g.D.DeeperFiles.covers c.args.deeper.now) g.S.Store g.H.HasStore g.C.Cursor c.args.self.now c.args.source.now c.args.numbers.now.next came rest → HaveOwnSequences (came ++ rest) → ReadsIntact g.C.Cursor.torn c.args.self.now c.args.source.now → ⊥)
     (IsTrue d.faithful → (came : List InternalEntry) (rest : List InternalEntry)
     → IsBetween g.K.KeyOrder.cmp (g.D.DeeperFiles.covers c.args.deeper.now) g.S.Store g.H.HasStore g.C.Cursor c.args.self.now c.args.source.now c.args.numbers.now.next came rest
-    → IsLimited g.C.Cursor.limited c.args.self.now c.args.source.now ⊎ AreLarge (map entry_of (came ++ rest))) spent
+    → ReadsIntact g.C.Cursor.torn c.args.self.now c.args.source.now → IsLimited g.C.Cursor.limited c.args.self.now c.args.source.now ⊎ AreLarge (map entry_of (came ++ rest))) spent
     inv.8
-    (λ none t came rest h own.
+    (λ none t came rest h own intact.
     let at = inv.2 came rest (c.in_err-merge_one.ensures.writes.faithful t) h in
     let all = (came ++ at.0) ++ at.1 in
     let found = some-left (came ++ at.0) at.1
     (sym (g.met.C.Cursor.placed c.loop-merged.self.cursor c.loop-merged.source (listed all (within all (length (came ++ at.0)))) at.4.left) ∙ sym c.stands.ensures ∙ c.if-not-stands.false) in
     none t (came ++ at.0) found.0 found.1
     (job-more g.K.KeyOrder.cmp (g.D.DeeperFiles.covers c.args.deeper.now) g.S.Store g.H.HasStore g.C.Cursor c.loop-merged.self c.loop-merged.source c.loop-merged.numbers.next (came ++ at.0) at.1 (found.0 ∷ found.1) found.2 at.4)
-    (subst HaveOwnSequences (ap (λ (l : List InternalEntry). came ++ l) (at.2 ∙ ap (λ (l : List InternalEntry). at.0 ++ l) found.2) ∙ sym (append_assoc came at.0 (found.0 ∷ found.1))) own))
-    (λ long t came rest h.
+    (subst HaveOwnSequences (ap (λ (l : List InternalEntry). came ++ l) (at.2 ∙ ap (λ (l : List InternalEntry). at.0 ++ l) found.2) ∙ sym (append_assoc came at.0 (found.0 ∷ found.1))) own) (λ cut torn. intact cut (at.6 cut torn)))
+    (λ long t came rest h intact.
     let at = inv.2 came rest (c.in_err-merge_one.ensures.writes.faithful t) h in
     let all = (came ++ at.0) ++ at.1 in
     let found = some-left (came ++ at.0) at.1
     (sym (g.met.C.Cursor.placed c.loop-merged.self.cursor c.loop-merged.source (listed all (within all (length (came ++ at.0)))) at.4.left) ∙ sym c.stands.ensures ∙ c.if-not-stands.false) in
     elim (long t (came ++ at.0) found.0 found.1
-    (job-more g.K.KeyOrder.cmp (g.D.DeeperFiles.covers c.args.deeper.now) g.S.Store g.H.HasStore g.C.Cursor c.loop-merged.self c.loop-merged.source c.loop-merged.numbers.next (came ++ at.0) at.1 (found.0 ∷ found.1) found.2 at.4)) [
+    (job-more g.K.KeyOrder.cmp (g.D.DeeperFiles.covers c.args.deeper.now) g.S.Store g.H.HasStore g.C.Cursor c.loop-merged.self c.loop-merged.source c.loop-merged.numbers.next (came ++ at.0) at.1 (found.0 ∷ found.1) found.2 at.4) (λ cut torn. intact cut (at.6 cut torn))) [
       | inl past ↦ inl (at.5 past)
       | inr many ↦ inr (subst (λ (es : List InternalEntry). AreLarge (map entry_of es))
           (append_assoc came at.0 (found.0 ∷ found.1) ∙ ap (λ (l : List InternalEntry). came ++ l) (ap (λ (l : List InternalEntry). at.0 ++ l) (sym found.2) ∙ sym at.2)) many)
@@ -163,3 +167,9 @@ returns-then-not-stands-clause-limits g c = λ came rest t h past. (c.loop-merge
 
 pub returns-clause-limits : goal.returns-clause-limits
 returns-clause-limits g c = λ came rest t h past. (c.loop-merged.invariant.2 came rest t h).5 past
+
+pub returns-then-not-stands-clause-torn : goal.returns-then-not-stands-clause-torn
+returns-then-not-stands-clause-torn g c = λ came rest t h cut torn. (c.loop-merged.invariant.2 came rest t h).6 cut torn
+
+pub returns-clause-torn : goal.returns-clause-torn
+returns-clause-torn g c = λ came rest t h cut torn. (c.loop-merged.invariant.2 came rest t h).6 cut torn

@@ -1,4 +1,5 @@
 use Rattle.std.proofs.Common.{◌≡◌, ◌≤◌, ◌+◌, ◌++◌, List, IsTrue, length}
+use Rattle.cursor.specs.Cuts.{Cut}
 use Rattle.ikey.specs.Entries.{InternalEntry}
 use Rattle.compact.specs.Leaving.{LeavesOthers}
 use Rattle.compact.specs.Merging.{IsBetween, IsLimited, KeepsMine}
@@ -15,7 +16,8 @@ invariant-loop-merged g l =
     → (front : List InternalEntry) × (back : List InternalEntry) × (rest ≡ front ++ back) × (length front ≡ l.merged)
     × IsBetween g.K.KeyOrder.cmp (g.D.DeeperFiles.covers l.deeper) g.S.Store g.H.HasStore g.C.Cursor
     l.self l.source l.numbers.next (came ++ front) back
-    × (IsLimited g.C.Cursor.limited l.self l.source → IsLimited g.C.Cursor.limited l.initial.self l.initial.source))
+    × (IsLimited g.C.Cursor.limited l.self l.source → IsLimited g.C.Cursor.limited l.initial.self l.initial.source)
+    × ((cut : Cut) → g.C.Cursor.torn l.self.cursor l.source cut → g.C.Cursor.torn l.initial.self.cursor l.initial.source cut))
     × KeepsMine l.initial.self.outputs l.initial.numbers.next l.self.outputs l.numbers.next
     × WritesTables (g.S.Store.facts (g.H.HasStore.store_of l.initial.source)) (g.S.Store.facts (g.H.HasStore.store_of l.source)) (IsMineUpTo l.initial.self.outputs l.initial.numbers.next l.numbers.next)
     × (l.self.plan ≡ l.initial.self.plan)

@@ -17,6 +17,7 @@ returns-clause-closed g c = λ pairs t h.
       record {
         file = w.0;
         has = w.1;
+        synced = c.in_ok-size.ensures.synced t ∙ w.1;
         table_of = w.3;
         size = w.2;
         smallest = either-end pairs (Some c.args.self.smallest) some h.smallest ∙ ap (λ (f : Filling). Some f.smallest) (sym c.self.view_is);

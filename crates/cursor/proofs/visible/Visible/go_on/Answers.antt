@@ -7,7 +7,7 @@ use Rattle.cursor.proofs.Strides.{placed_on, placed_none_on}
 use Rattle.cursor.proofs.visible.Visible.go_on.Goals as goal
 
 pub returns-in_err-copy_to-clause-wanders : goal.returns-in_err-copy_to-clause-wanders
-returns-in_err-copy_to-clause-wanders g c = wanders_still g.C.Cursor.facts g.C.Cursor.lists g.C.Cursor.keeps g.C.Cursor.limited g.C.Cursor.leaves g.C.Cursor.over g.met.C.Cursor.still g.C.Cursor.leaves_still c.args.self.now.cursor c.args.source.now
+returns-in_err-copy_to-clause-wanders g c = wanders_still g.C.Cursor.facts g.C.Cursor.lists g.C.Cursor.keeps g.C.Cursor.limited g.C.Cursor.torn g.C.Cursor.leaves g.C.Cursor.over g.met.C.Cursor.still g.C.Cursor.leaves_still c.args.self.now.cursor c.args.source.now
 
 pub returns-then-not-branch-clause-arrives : goal.returns-then-not-branch-clause-arrives
 returns-then-not-branch-clause-arrives g c = λ t entries pairs test index view l h.

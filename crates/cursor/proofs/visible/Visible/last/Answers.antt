@@ -4,7 +4,8 @@ use Rattle.cursor.specs.declared.standing.Position.TheVariants.{Astray}
 use Rattle.cursor.specs.Places.{index_before}
 use Rattle.cursor.specs.Merging.{listed}
 use Rattle.cursor.specs.Views.{passed, walk_last}
-use Rattle.cursor.proofs.Wanderings.{wanders_then, move_wanders, refused_then}
+use Rattle.cursor.specs.Cuts.{last_cut}
+use Rattle.cursor.proofs.Wanderings.{wanders_then, move_wanders, refused_at, refused_then}
 use Rattle.cursor.proofs.Beginnings.{from_last}
 use Rattle.cursor.proofs.Strides.{walk_somewhere, refused_walk, refuses_walk, arrived_walk, all_passed}
 use Rattle.cursor.proofs.Turns.{still_later}
@@ -14,34 +15,35 @@ pub returns-in_err-last-clause-moves : goal.returns-in_err-last-clause-moves
 returns-in_err-last-clause-moves g c =
     let p = err_from_is_err_and c.from_residual.result c.from_residual.ensures.1 in
     rw p.1
-    (λ t. refused_walk g.K.KeyOrder.cmp g.C.Cursor.lists c.args.self.now.cursor c.args.self.now.sequence c.args.self.now.stands c.args.self.now.position c.args.self.now.here.key.items c.args.self.now.here.value.items c.args.source.now g.C.Cursor.facts g.C.Cursor.keeps g.C.Cursor.limited g.C.Cursor.leaves g.C.Cursor.over c.last.new.self c.args.self.now.sequence c.args.self.now.stands Astray c.args.self.now.here.key.items c.args.self.now.here.value.items c.last.new.source refl refl refl refl (move_wanders g.C.Cursor.facts g.C.Cursor.lists g.C.Cursor.keeps g.C.Cursor.limited g.C.Cursor.leaves g.C.Cursor.over c.args.self.now.cursor c.last.new.self c.args.source.now c.last.new.source c.last.result _ c.last.ensures.moves c.last.ensures.stays) t)
+    (λ t. refused_walk g.K.KeyOrder.cmp g.C.Cursor.lists c.args.self.now.cursor c.args.self.now.sequence c.args.self.now.stands c.args.self.now.position c.args.self.now.here.key.items c.args.self.now.here.value.items c.args.source.now g.C.Cursor.facts g.C.Cursor.keeps g.C.Cursor.limited g.C.Cursor.torn g.C.Cursor.leaves g.C.Cursor.over c.last.new.self c.args.self.now.sequence c.args.self.now.stands Astray c.args.self.now.here.key.items c.args.self.now.here.value.items c.last.new.source refl refl refl refl (move_wanders g.C.Cursor.facts g.C.Cursor.lists g.C.Cursor.keeps g.C.Cursor.limited g.C.Cursor.torn g.C.Cursor.leaves g.C.Cursor.over c.args.self.now.cursor c.last.new.self c.args.source.now c.last.new.source c.last.result _ c.last.ensures.moves c.last.ensures.stays) t)
 
 pub returns-in_err-go_back-clause-moves : goal.returns-in_err-go_back-clause-moves
 returns-in_err-go_back-clause-moves g c =
     let p = err_from_is_err_and c.from_residual-in_err-go_back.result c.from_residual-in_err-go_back.ensures.1 in
     let stayed = c.in_err-go_back.ensures.stayed in
     rw p.1
-    (λ t. refused_walk g.K.KeyOrder.cmp g.C.Cursor.lists c.args.self.now.cursor c.args.self.now.sequence c.args.self.now.stands c.args.self.now.position c.args.self.now.here.key.items c.args.self.now.here.value.items c.args.source.now g.C.Cursor.facts g.C.Cursor.keeps g.C.Cursor.limited g.C.Cursor.leaves g.C.Cursor.over c.go_back.new.self.cursor c.go_back.new.self.sequence c.go_back.new.self.stands c.go_back.new.self.position c.go_back.new.self.here.key.items c.go_back.new.self.here.value.items c.go_back.new.source
-    c.go_back.ensures.sequence stayed.stands stayed.position stayed.key (wanders_then g.C.Cursor.facts g.C.Cursor.lists g.C.Cursor.keeps g.C.Cursor.limited g.C.Cursor.leaves g.C.Cursor.over g.met.C.Cursor.onward g.C.Cursor.leaves_onward g.C.Cursor.leaves_more c.args.self.now.cursor c.last.new.self c.go_back.new.self.cursor c.args.source.now c.last.new.source c.go_back.new.source (move_wanders g.C.Cursor.facts g.C.Cursor.lists g.C.Cursor.keeps g.C.Cursor.limited g.C.Cursor.leaves g.C.Cursor.over c.args.self.now.cursor c.last.new.self c.args.source.now c.last.new.source c.last.result _ c.last.ensures.moves c.last.ensures.stays) c.go_back.ensures.wanders) t)
+    (λ t. refused_walk g.K.KeyOrder.cmp g.C.Cursor.lists c.args.self.now.cursor c.args.self.now.sequence c.args.self.now.stands c.args.self.now.position c.args.self.now.here.key.items c.args.self.now.here.value.items c.args.source.now g.C.Cursor.facts g.C.Cursor.keeps g.C.Cursor.limited g.C.Cursor.torn g.C.Cursor.leaves g.C.Cursor.over c.go_back.new.self.cursor c.go_back.new.self.sequence c.go_back.new.self.stands c.go_back.new.self.position c.go_back.new.self.here.key.items c.go_back.new.self.here.value.items c.go_back.new.source
+    c.go_back.ensures.sequence stayed.stands stayed.position stayed.key (wanders_then g.C.Cursor.facts g.C.Cursor.lists g.C.Cursor.keeps g.C.Cursor.limited g.C.Cursor.torn g.C.Cursor.leaves g.C.Cursor.over g.met.C.Cursor.onward g.C.Cursor.leaves_onward g.C.Cursor.leaves_more c.args.self.now.cursor c.last.new.self c.go_back.new.self.cursor c.args.source.now c.last.new.source c.go_back.new.source (move_wanders g.C.Cursor.facts g.C.Cursor.lists g.C.Cursor.keeps g.C.Cursor.limited g.C.Cursor.torn g.C.Cursor.leaves g.C.Cursor.over c.args.self.now.cursor c.last.new.self c.args.source.now c.last.new.source c.last.result _ c.last.ensures.moves c.last.ensures.stays) c.go_back.ensures.wanders) t)
 
 pub returns-in_err-go_back-clause-stays : goal.returns-in_err-go_back-clause-stays
-returns-in_err-go_back-clause-stays g c = (wanders_then g.C.Cursor.facts g.C.Cursor.lists g.C.Cursor.keeps g.C.Cursor.limited g.C.Cursor.leaves g.C.Cursor.over g.met.C.Cursor.onward g.C.Cursor.leaves_onward g.C.Cursor.leaves_more c.args.self.now.cursor c.last.new.self c.go_back.new.self.cursor c.args.source.now c.last.new.source c.go_back.new.source (move_wanders g.C.Cursor.facts g.C.Cursor.lists g.C.Cursor.keeps g.C.Cursor.limited g.C.Cursor.leaves g.C.Cursor.over c.args.self.now.cursor c.last.new.self c.args.source.now c.last.new.source c.last.result _ c.last.ensures.moves c.last.ensures.stays) c.go_back.ensures.wanders).stays
+returns-in_err-go_back-clause-stays g c = (wanders_then g.C.Cursor.facts g.C.Cursor.lists g.C.Cursor.keeps g.C.Cursor.limited g.C.Cursor.torn g.C.Cursor.leaves g.C.Cursor.over g.met.C.Cursor.onward g.C.Cursor.leaves_onward g.C.Cursor.leaves_more c.args.self.now.cursor c.last.new.self c.go_back.new.self.cursor c.args.source.now c.last.new.source c.go_back.new.source (move_wanders g.C.Cursor.facts g.C.Cursor.lists g.C.Cursor.keeps g.C.Cursor.limited g.C.Cursor.torn g.C.Cursor.leaves g.C.Cursor.over c.args.self.now.cursor c.last.new.self c.args.source.now c.last.new.source c.last.result _ c.last.ensures.moves c.last.ensures.stays) c.go_back.ensures.wanders).stays
 
 pub returns-clause-stays : goal.returns-clause-stays
-returns-clause-stays g c = (wanders_then g.C.Cursor.facts g.C.Cursor.lists g.C.Cursor.keeps g.C.Cursor.limited g.C.Cursor.leaves g.C.Cursor.over g.met.C.Cursor.onward g.C.Cursor.leaves_onward g.C.Cursor.leaves_more c.args.self.now.cursor c.last.new.self c.go_back.new.self.cursor c.args.source.now c.last.new.source c.go_back.new.source (move_wanders g.C.Cursor.facts g.C.Cursor.lists g.C.Cursor.keeps g.C.Cursor.limited g.C.Cursor.leaves g.C.Cursor.over c.args.self.now.cursor c.last.new.self c.args.source.now c.last.new.source c.last.result _ c.last.ensures.moves c.last.ensures.stays) c.go_back.ensures.wanders).stays
+returns-clause-stays g c = (wanders_then g.C.Cursor.facts g.C.Cursor.lists g.C.Cursor.keeps g.C.Cursor.limited g.C.Cursor.torn g.C.Cursor.leaves g.C.Cursor.over g.met.C.Cursor.onward g.C.Cursor.leaves_onward g.C.Cursor.leaves_more c.args.self.now.cursor c.last.new.self c.go_back.new.self.cursor c.args.source.now c.last.new.source c.go_back.new.source (move_wanders g.C.Cursor.facts g.C.Cursor.lists g.C.Cursor.keeps g.C.Cursor.limited g.C.Cursor.torn g.C.Cursor.leaves g.C.Cursor.over c.args.self.now.cursor c.last.new.self c.args.source.now c.last.new.source c.last.result _ c.last.ensures.moves c.last.ensures.stays) c.go_back.ensures.wanders).stays
 
 pub returns-in_err-go_back-clause-refused : goal.returns-in_err-go_back-clause-refused
 returns-in_err-go_back-clause-refused g c =
     let p = err_from_is_err_and c.from_residual-in_err-go_back.result c.from_residual-in_err-go_back.ensures.1 in
     rw (p.1, p.2)
-    (refuses_walk g.K.KeyOrder.cmp g.C.Cursor.lists c.args.self.now.cursor c.args.self.now.sequence c.args.self.now.stands c.args.self.now.position c.args.self.now.here.key.items c.args.self.now.here.value.items c.args.source.now _ (g.C.Cursor.facts c.args.source.now) (g.C.Cursor.facts c.go_back.new.source) (g.C.Cursor.limited c.args.self.now.cursor c.args.source.now)
-    (refused_then g.C.Cursor.facts g.C.Cursor.lists g.C.Cursor.keeps g.C.Cursor.limited g.C.Cursor.leaves g.C.Cursor.over _ c.args.self.now.cursor c.last.new.self c.args.source.now c.last.new.source (g.C.Cursor.facts c.go_back.new.source) (move_wanders g.C.Cursor.facts g.C.Cursor.lists g.C.Cursor.keeps g.C.Cursor.limited g.C.Cursor.leaves g.C.Cursor.over c.args.self.now.cursor c.last.new.self c.args.source.now c.last.new.source c.last.result _ c.last.ensures.moves c.last.ensures.stays) c.go_back.ensures.wanders.stays.reads c.in_err-go_back.ensures.refused))
+    (refuses_walk g.K.KeyOrder.cmp g.C.Cursor.lists c.args.self.now.cursor c.args.self.now.sequence c.args.self.now.stands c.args.self.now.position c.args.self.now.here.key.items c.args.self.now.here.value.items c.args.source.now g.C.Cursor.torn _ (g.C.Cursor.facts c.args.source.now) (g.C.Cursor.facts c.go_back.new.source) (g.C.Cursor.limited c.args.self.now.cursor c.args.source.now)
+    (refused_then g.C.Cursor.facts g.C.Cursor.lists g.C.Cursor.keeps g.C.Cursor.limited g.C.Cursor.torn g.C.Cursor.leaves g.C.Cursor.over _ c.args.self.now.cursor c.last.new.self c.args.source.now c.last.new.source (g.C.Cursor.facts c.go_back.new.source) (move_wanders g.C.Cursor.facts g.C.Cursor.lists g.C.Cursor.keeps g.C.Cursor.limited g.C.Cursor.torn g.C.Cursor.leaves g.C.Cursor.over c.args.self.now.cursor c.last.new.self c.args.source.now c.last.new.source c.last.result _ c.last.ensures.moves c.last.ensures.stays) c.go_back.ensures.wanders.stays.reads c.in_err-go_back.ensures.refused))
 
 pub returns-in_err-last-clause-refused : goal.returns-in_err-last-clause-refused
 returns-in_err-last-clause-refused g c =
     let p = err_from_is_err_and c.from_residual.result c.from_residual.ensures.1 in
     rw (p.1, p.2)
-    (refuses_walk g.K.KeyOrder.cmp g.C.Cursor.lists c.args.self.now.cursor c.args.self.now.sequence c.args.self.now.stands c.args.self.now.position c.args.self.now.here.key.items c.args.self.now.here.value.items c.args.source.now _ (g.C.Cursor.facts c.args.source.now) (g.C.Cursor.facts c.last.new.source) (g.C.Cursor.limited c.args.self.now.cursor c.args.source.now) c.in_err-last.ensures.refused)
+    (refuses_walk g.K.KeyOrder.cmp g.C.Cursor.lists c.args.self.now.cursor c.args.self.now.sequence c.args.self.now.stands c.args.self.now.position c.args.self.now.here.key.items c.args.self.now.here.value.items c.args.source.now g.C.Cursor.torn _ (g.C.Cursor.facts c.args.source.now) (g.C.Cursor.facts c.last.new.source) (g.C.Cursor.limited c.args.self.now.cursor c.args.source.now)
+    (refused_at g.C.Cursor.lists g.C.Cursor.torn last_cut _ (g.C.Cursor.facts c.args.source.now) (g.C.Cursor.facts c.last.new.source) c.args.self.now.cursor c.args.source.now (g.C.Cursor.limited c.args.self.now.cursor c.args.source.now) c.in_err-last.ensures.refused))
 
 pub returns-clause-moves : goal.returns-clause-moves
 returns-clause-moves g c = λ t at h.

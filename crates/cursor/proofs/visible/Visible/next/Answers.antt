@@ -16,34 +16,34 @@ pub returns-in_err-stand_ahead-clause-moves : goal.returns-in_err-stand_ahead-cl
 returns-in_err-stand_ahead-clause-moves g c =
     let p = err_from_is_err_and c.from_residual.result c.from_residual.ensures.1 in
     rw p.1
-    (λ t. refused_walk g.K.KeyOrder.cmp g.C.Cursor.lists c.args.self.now.cursor c.args.self.now.sequence c.args.self.now.stands c.args.self.now.position c.args.self.now.here.key.items c.args.self.now.here.value.items c.args.source.now g.C.Cursor.facts g.C.Cursor.keeps g.C.Cursor.limited g.C.Cursor.leaves g.C.Cursor.over c.stand_ahead.new.cursor c.args.self.now.sequence c.args.self.now.stands Astray c.args.self.now.here.key.items c.args.self.now.here.value.items c.stand_ahead.new.source refl refl refl refl c.stand_ahead.ensures.wanders t)
+    (λ t. refused_walk g.K.KeyOrder.cmp g.C.Cursor.lists c.args.self.now.cursor c.args.self.now.sequence c.args.self.now.stands c.args.self.now.position c.args.self.now.here.key.items c.args.self.now.here.value.items c.args.source.now g.C.Cursor.facts g.C.Cursor.keeps g.C.Cursor.limited g.C.Cursor.torn g.C.Cursor.leaves g.C.Cursor.over c.stand_ahead.new.cursor c.args.self.now.sequence c.args.self.now.stands Astray c.args.self.now.here.key.items c.args.self.now.here.value.items c.stand_ahead.new.source refl refl refl refl c.stand_ahead.ensures.wanders t)
 
 pub returns-in_err-go_on-clause-moves : goal.returns-in_err-go_on-clause-moves
 returns-in_err-go_on-clause-moves g c =
     let p = err_from_is_err_and c.from_residual-in_err-go_on.result c.from_residual-in_err-go_on.ensures.1 in
     let stayed = c.in_err-go_on.ensures.stayed in
     rw p.1
-    (λ t. refused_walk g.K.KeyOrder.cmp g.C.Cursor.lists c.args.self.now.cursor c.args.self.now.sequence c.args.self.now.stands c.args.self.now.position c.args.self.now.here.key.items c.args.self.now.here.value.items c.args.source.now g.C.Cursor.facts g.C.Cursor.keeps g.C.Cursor.limited g.C.Cursor.leaves g.C.Cursor.over c.go_on.new.self.cursor c.go_on.new.self.sequence c.go_on.new.self.stands c.go_on.new.self.position c.go_on.new.self.here.key.items c.go_on.new.self.here.value.items c.go_on.new.source
-    c.go_on.ensures.sequence stayed.stands stayed.position stayed.key (wanders_then g.C.Cursor.facts g.C.Cursor.lists g.C.Cursor.keeps g.C.Cursor.limited g.C.Cursor.leaves g.C.Cursor.over g.met.C.Cursor.onward g.C.Cursor.leaves_onward g.C.Cursor.leaves_more c.args.self.now.cursor c.stand_ahead.new.cursor c.go_on.new.self.cursor c.args.source.now c.stand_ahead.new.source c.go_on.new.source c.stand_ahead.ensures.wanders c.go_on.ensures.wanders) t)
+    (λ t. refused_walk g.K.KeyOrder.cmp g.C.Cursor.lists c.args.self.now.cursor c.args.self.now.sequence c.args.self.now.stands c.args.self.now.position c.args.self.now.here.key.items c.args.self.now.here.value.items c.args.source.now g.C.Cursor.facts g.C.Cursor.keeps g.C.Cursor.limited g.C.Cursor.torn g.C.Cursor.leaves g.C.Cursor.over c.go_on.new.self.cursor c.go_on.new.self.sequence c.go_on.new.self.stands c.go_on.new.self.position c.go_on.new.self.here.key.items c.go_on.new.self.here.value.items c.go_on.new.source
+    c.go_on.ensures.sequence stayed.stands stayed.position stayed.key (wanders_then g.C.Cursor.facts g.C.Cursor.lists g.C.Cursor.keeps g.C.Cursor.limited g.C.Cursor.torn g.C.Cursor.leaves g.C.Cursor.over g.met.C.Cursor.onward g.C.Cursor.leaves_onward g.C.Cursor.leaves_more c.args.self.now.cursor c.stand_ahead.new.cursor c.go_on.new.self.cursor c.args.source.now c.stand_ahead.new.source c.go_on.new.source c.stand_ahead.ensures.wanders c.go_on.ensures.wanders) t)
 
 pub returns-in_err-go_on-clause-stays : goal.returns-in_err-go_on-clause-stays
-returns-in_err-go_on-clause-stays g c = (wanders_then g.C.Cursor.facts g.C.Cursor.lists g.C.Cursor.keeps g.C.Cursor.limited g.C.Cursor.leaves g.C.Cursor.over g.met.C.Cursor.onward g.C.Cursor.leaves_onward g.C.Cursor.leaves_more c.args.self.now.cursor c.stand_ahead.new.cursor c.go_on.new.self.cursor c.args.source.now c.stand_ahead.new.source c.go_on.new.source c.stand_ahead.ensures.wanders c.go_on.ensures.wanders).stays
+returns-in_err-go_on-clause-stays g c = (wanders_then g.C.Cursor.facts g.C.Cursor.lists g.C.Cursor.keeps g.C.Cursor.limited g.C.Cursor.torn g.C.Cursor.leaves g.C.Cursor.over g.met.C.Cursor.onward g.C.Cursor.leaves_onward g.C.Cursor.leaves_more c.args.self.now.cursor c.stand_ahead.new.cursor c.go_on.new.self.cursor c.args.source.now c.stand_ahead.new.source c.go_on.new.source c.stand_ahead.ensures.wanders c.go_on.ensures.wanders).stays
 
 pub returns-clause-stays : goal.returns-clause-stays
-returns-clause-stays g c = (wanders_then g.C.Cursor.facts g.C.Cursor.lists g.C.Cursor.keeps g.C.Cursor.limited g.C.Cursor.leaves g.C.Cursor.over g.met.C.Cursor.onward g.C.Cursor.leaves_onward g.C.Cursor.leaves_more c.args.self.now.cursor c.stand_ahead.new.cursor c.go_on.new.self.cursor c.args.source.now c.stand_ahead.new.source c.go_on.new.source c.stand_ahead.ensures.wanders c.go_on.ensures.wanders).stays
+returns-clause-stays g c = (wanders_then g.C.Cursor.facts g.C.Cursor.lists g.C.Cursor.keeps g.C.Cursor.limited g.C.Cursor.torn g.C.Cursor.leaves g.C.Cursor.over g.met.C.Cursor.onward g.C.Cursor.leaves_onward g.C.Cursor.leaves_more c.args.self.now.cursor c.stand_ahead.new.cursor c.go_on.new.self.cursor c.args.source.now c.stand_ahead.new.source c.go_on.new.source c.stand_ahead.ensures.wanders c.go_on.ensures.wanders).stays
 
 pub returns-in_err-go_on-clause-refused : goal.returns-in_err-go_on-clause-refused
 returns-in_err-go_on-clause-refused g c =
     let p = err_from_is_err_and c.from_residual-in_err-go_on.result c.from_residual-in_err-go_on.ensures.1 in
     rw (p.1, p.2)
-    (refuses_walk g.K.KeyOrder.cmp g.C.Cursor.lists c.args.self.now.cursor c.args.self.now.sequence c.args.self.now.stands c.args.self.now.position c.args.self.now.here.key.items c.args.self.now.here.value.items c.args.source.now _ (g.C.Cursor.facts c.args.source.now) (g.C.Cursor.facts c.go_on.new.source) (g.C.Cursor.limited c.args.self.now.cursor c.args.source.now)
-    (refused_then g.C.Cursor.facts g.C.Cursor.lists g.C.Cursor.keeps g.C.Cursor.limited g.C.Cursor.leaves g.C.Cursor.over _ c.args.self.now.cursor c.stand_ahead.new.cursor c.args.source.now c.stand_ahead.new.source (g.C.Cursor.facts c.go_on.new.source) c.stand_ahead.ensures.wanders c.go_on.ensures.wanders.stays.reads c.in_err-go_on.ensures.refused))
+    (refuses_walk g.K.KeyOrder.cmp g.C.Cursor.lists c.args.self.now.cursor c.args.self.now.sequence c.args.self.now.stands c.args.self.now.position c.args.self.now.here.key.items c.args.self.now.here.value.items c.args.source.now g.C.Cursor.torn _ (g.C.Cursor.facts c.args.source.now) (g.C.Cursor.facts c.go_on.new.source) (g.C.Cursor.limited c.args.self.now.cursor c.args.source.now)
+    (refused_then g.C.Cursor.facts g.C.Cursor.lists g.C.Cursor.keeps g.C.Cursor.limited g.C.Cursor.torn g.C.Cursor.leaves g.C.Cursor.over _ c.args.self.now.cursor c.stand_ahead.new.cursor c.args.source.now c.stand_ahead.new.source (g.C.Cursor.facts c.go_on.new.source) c.stand_ahead.ensures.wanders c.go_on.ensures.wanders.stays.reads c.in_err-go_on.ensures.refused))
 
 pub returns-in_err-stand_ahead-clause-refused : goal.returns-in_err-stand_ahead-clause-refused
 returns-in_err-stand_ahead-clause-refused g c =
     let p = err_from_is_err_and c.from_residual.result c.from_residual.ensures.1 in
     rw (p.1, p.2)
-    (refuses_walk g.K.KeyOrder.cmp g.C.Cursor.lists c.args.self.now.cursor c.args.self.now.sequence c.args.self.now.stands c.args.self.now.position c.args.self.now.here.key.items c.args.self.now.here.value.items c.args.source.now _ (g.C.Cursor.facts c.args.source.now) (g.C.Cursor.facts c.stand_ahead.new.source) (g.C.Cursor.limited c.args.self.now.cursor c.args.source.now) c.in_err-stand_ahead.ensures.refused)
+    (refuses_walk g.K.KeyOrder.cmp g.C.Cursor.lists c.args.self.now.cursor c.args.self.now.sequence c.args.self.now.stands c.args.self.now.position c.args.self.now.here.key.items c.args.self.now.here.value.items c.args.source.now g.C.Cursor.torn _ (g.C.Cursor.facts c.args.source.now) (g.C.Cursor.facts c.stand_ahead.new.source) (g.C.Cursor.limited c.args.self.now.cursor c.args.source.now) c.in_err-stand_ahead.ensures.refused)
 
 pub returns-in_err-stand_ahead-clause-stays : goal.returns-in_err-stand_ahead-clause-stays
 returns-in_err-stand_ahead-clause-stays g c = c.stand_ahead.ensures.wanders.stays

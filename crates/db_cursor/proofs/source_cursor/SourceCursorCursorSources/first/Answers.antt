@@ -3,6 +3,10 @@ use Rattle.db_cursor.proofs.SourceSteps.{StaysSource, stays_memory, stays_row}
 use Rattle.db_cursor.specs.declared.source_cursor.SourceCursor.TheVariants.{Memory, Row}
 use Rattle.table_access.specs.Tables.{seen}
 use Rattle.table_access.proofs.Standing.{nothing_called}
+use Rattle.cursor.specs.Cuts.{first_cut}
+use Rattle.cursor.specs.Moves.{RefusesMove}
+use Rattle.db_cursor.specs.Places.{LimitedSource, ListsSource, TornSource}
+use Rattle.db_cursor.specs.Whole.{whole}
 use Rattle.db_cursor.proofs.source_cursor.SourceCursorCursorSources.first.Goals as goal
 
 pub returns-in-Memory-clause-stays : goal.returns-in-Memory-clause-stays
@@ -19,3 +23,7 @@ returns-in-Row-clause-stays g c =
 
 pub returns-in-Memory-clause-still : goal.returns-in-Memory-clause-still
 returns-in-Memory-clause-still g c = nothing_called (g.S.Store.facts c.args.source.now.tables.store) c.first.result
+
+pub returns-in-Row-clause-refused : goal.returns-in-Row-clause-refused
+returns-in-Row-clause-refused g c = subst (λ cursor. RefusesMove (λ source. g.S.Store.facts source.tables.store) (λ cursor source at. ListsSource g.K.KeyOrder.cmp cursor (whole (g.S.Store.facts source.tables.store) source.tables.tables source.tables.blocks source.memory) at) (λ cursor source. LimitedSource g.K.KeyOrder.cmp cursor (whole (g.S.Store.facts source.tables.store) source.tables.tables source.tables.blocks source.memory))
+    (λ cursor source cut. TornSource g.K.KeyOrder.cmp cursor (whole (g.S.Store.facts source.tables.store) source.tables.tables source.tables.blocks source.memory) cut) first_cut cursor c.args.source.now (record c.args.source.now { tables = c.first-in-Row.new.source }) c.first-in-Row.result) (sym c.in-Row.is) (c.first-in-Row.ensures.refused)

@@ -43,7 +43,8 @@ returns-clause-goes_on g c = λ t d came left can.
       goes (order_of g.K.KeyOrder.name g.K.KeyOrder.cmp) (record { facts = g.S.Store.facts; store_of = λ s. s.tables.store; with_store = λ s t. record s { tables = record s.tables { store = t } }; tables_of = λ s. s.tables.tables.tables; blocks_of = λ s. s.tables.blocks.blocks; memory_of = λ s. s.memory; with_memory = λ s w. record s { memory = w } }) (record { stored = λ s t. refl; remembered = λ s w. refl })
           c.sound_lasts.ensures c.free_number_law.ensures c.args.self.now (record { job = c.step.new.self; version = c.args.self.now.version; next = c.step.new.numbers.next; merged = c.saturating_add-self.result; in_range = _; numbered = _; proper = _ }) c.args.source.now c.step.new.source c.args.numbers.now.next c.step.new.numbers.next c.in_ok-progress.ensures.numbers c.step.new.numbers.in_range.1 c.args.numbers.now.in_range.1 c.in_ok-progress.ensures.writes c.in_ok-progress.ensures.leaves
           c.in_ok-progress.ensures.plan refl (omega arith) c.in_ok-progress.progress.merged (omega (arith, c.saturating_add-self.ensures, c.from.ensures)) c.in_ok-progress.ensures.mine c.in_ok-progress.ensures.numbered (is_covered_below g.K.KeyOrder.cmp c.plan.result.now.output_level c.deref.result.now.tables) (λ i. is_covered_below g.K.KeyOrder.cmp (c.plan.ensures i).output_level (c.deref.ensures i).tables) t d came left s.0 s.1 can s.2 s.3.long s.4
-          (c.in_ok-progress.ensures.limits came left t (runs (order_of g.K.KeyOrder.name g.K.KeyOrder.cmp) (record { facts = g.S.Store.facts; store_of = λ s. s.tables.store; with_store = λ s t. record s { tables = record s.tables { store = t } }; tables_of = λ s. s.tables.tables.tables; blocks_of = λ s. s.tables.blocks.blocks; memory_of = λ s. s.memory; with_memory = λ s w. record s { memory = w } }) (record { stored = λ s t. refl; remembered = λ s w. refl }) c.sound_lasts.ensures d c.args.self.now (is_covered_below g.K.KeyOrder.cmp c.plan.result.now.output_level c.deref.result.now.tables) c.args.source.now c.args.numbers.now.next came left c.args.numbers.now.in_range.1 (λ i. is_covered_below g.K.KeyOrder.cmp (c.plan.ensures i).output_level (c.deref.ensures i).tables) can.running)),
+          (c.in_ok-progress.ensures.limits came left t (runs (order_of g.K.KeyOrder.name g.K.KeyOrder.cmp) (record { facts = g.S.Store.facts; store_of = λ s. s.tables.store; with_store = λ s t. record s { tables = record s.tables { store = t } }; tables_of = λ s. s.tables.tables.tables; blocks_of = λ s. s.tables.blocks.blocks; memory_of = λ s. s.memory; with_memory = λ s w. record s { memory = w } }) (record { stored = λ s t. refl; remembered = λ s w. refl }) c.sound_lasts.ensures d c.args.self.now (is_covered_below g.K.KeyOrder.cmp c.plan.result.now.output_level c.deref.result.now.tables) c.args.source.now c.args.numbers.now.next came left c.args.numbers.now.in_range.1 (λ i. is_covered_below g.K.KeyOrder.cmp (c.plan.ensures i).output_level (c.deref.ensures i).tables) can.running))
+          (c.in_ok-progress.ensures.torn came left t (runs (order_of g.K.KeyOrder.name g.K.KeyOrder.cmp) (record { facts = g.S.Store.facts; store_of = λ s. s.tables.store; with_store = λ s t. record s { tables = record s.tables { store = t } }; tables_of = λ s. s.tables.tables.tables; blocks_of = λ s. s.tables.blocks.blocks; memory_of = λ s. s.memory; with_memory = λ s w. record s { memory = w } }) (record { stored = λ s t. refl; remembered = λ s w. refl }) c.sound_lasts.ensures d c.args.self.now (is_covered_below g.K.KeyOrder.cmp c.plan.result.now.output_level c.deref.result.now.tables) c.args.source.now c.args.numbers.now.next came left c.args.numbers.now.in_range.1 (λ i. is_covered_below g.K.KeyOrder.cmp (c.plan.ensures i).output_level (c.deref.ensures i).tables) can.running)),
     )
 
 pub returns-in_err-progress-clause-refused : goal.returns-in_err-progress-clause-refused

@@ -1,6 +1,10 @@
 use Rattle.std.proofs.lemmas.Result.{err_from_is_err_and}
 use Rattle.table_access.specs.Tables.{seen}
 use Rattle.table_access.specs.TableLaws.{carries_itself}
+use Rattle.std.proofs.Common.{sym, ◌∙◌}
+use Rattle.table_access.specs.TableLaws.{placed_in}
+use Rattle.table_access.proofs.Arrivals.{refused_as}
+use Rattle.table_access.proofs.Cutting.{some_place, torn_next}
 use Rattle.table_access.proofs.Strides.{stays_put, went_on, reached_on, ended_on}
 use Rattle.table_access.proofs.table_cursor.TableCursor.step.Goals as goal
 
@@ -45,3 +49,14 @@ returns-in-None-2-clause-steps g c = λ t at lists.
       ended_on g.K.KeyOrder.cmp old new c.args.self.now.placed c.args.self.now.table.value.frame c.args.self.now.here at c.in_ok-found.ensures.carries t lists c.in-Some.start step.2 (found t lists.groups lists.has step.1),
       stays_put g.K.KeyOrder.cmp old new c.args.self.now.placed c.args.self.now.table.value.frame c.args.self.now.here c.step_on.new.here at c.in_ok-found.ensures.carries t lists step.0,
     )
+
+pub returns-in_err-found-clause-refused : goal.returns-in_err-found-clause-refused
+returns-in_err-found-clause-refused g c =
+    let p = err_from_is_err_and c.from_residual-in_err-found.result c.from_residual-in_err-found.ensures.1 in
+    let steps = rw c.in-Some.is at c.in_ok-start.ensures.ok in
+    rw (p.1, p.2)
+    (refused_as c.in_err-found.field-0.0 _ _ _ _ _
+    (λ lacks at lists.
+    let n = some_place at.place (sym (placed_in lists.groups c.args.self.now.here at.place lists.place) ∙ c.requires) in
+    torn_next g.K.KeyOrder.cmp g.met.K.KeyOrder.total (seen (g.S.Store.facts c.args.source.now.store) c.args.source.now.tables c.args.source.now.blocks) c.args.self.now.placed c.args.self.now.table.value.frame c.args.self.now.here at lists n.0 c.in-Some.start n.1 (steps lists.groups at.place lists.place).2 lacks)
+    (rw c.deref.ensures at c.in_err-found.ensures.refused))
