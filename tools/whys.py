@@ -59,6 +59,11 @@ def one(text, **how):
     return tables({5: text}, **how)
 
 
+def of_old_names(files):
+    """The same files, the tables named as older writers did."""
+    return {name.replace(".ldb", ".sst"): text for name, text in files.items()}
+
+
 def logged(text):
     """The files of a directory with this log."""
     return {"CURRENT": b"MANIFEST-000001\n", "MANIFEST-000001": Manifest(log=2, next_file=9).file(), "000002.log": text}
@@ -104,6 +109,10 @@ LOGS = [
     ("sequences that fall", logged(log_file([(5, [("61", "31"), ("62", None)]), (2, [("62", "32")])])), "000002.log", "record at 27: its sequence doesn't rise: 2 found, 7 at least wanted"),
 ]  # fmt: skip
 
+OVERLAPPING = edited(new_table(5, ("61", 1), ("63", 1)) + new_table(6, ("62", 1), ("64", 1)) + new_table(7, ("70", 1), ("71", 1)))
+
+OVERLAP = "overlaps another table of its level, by the keys that the MANIFEST says"
+
 MANIFESTS = [
     ("no newline", {"CURRENT": b"MANIFEST-000001"}, "CURRENT", "is no name of a MANIFEST with a newline behind it"),
     ("another name", {"CURRENT": b"000001.log\n"}, "CURRENT", "is no name of a MANIFEST with a newline behind it"),
@@ -118,8 +127,9 @@ MANIFESTS = [
     ("a table that is taken away twice", edited(b"\x06\x01\x05"), "MANIFEST-000001", None),
     ("an order of keys", edited(comparator="mine"), "MANIFEST-000001", "keys in another order than the one that is asked for"),
     ("a table of a high number", edited(new_table(2**62, ("61", 1), ("61", 1))), "MANIFEST-000001", "a table of a number that isn't read"),
-    ("tables that overlap", edited(new_table(5, ("61", 1), ("63", 1)) + new_table(6, ("62", 1), ("64", 1)) + new_table(7, ("70", 1), ("71", 1))), "000006.ldb",
-     "overlaps another table of its level, by the keys that the MANIFEST says"),
+    ("tables that overlap", OVERLAPPING, "000006.ldb", OVERLAP),
+    ("tables that overlap, of older names", {**OVERLAPPING, "000006.sst": b""}, "000006.sst", OVERLAP),
+    ("tables that overlap, of both names", {**OVERLAPPING, "000006.sst": b"", "000006.ldb": b""}, "000006.ldb", OVERLAP),
 ]  # fmt: skip
 
 EDITS = "the edits leave no layout: a field is missing, or tables are taken away that aren't there, or added that are"
@@ -145,14 +155,17 @@ TABLES = [
 
 # what a check alone sees, or says in these words
 CHECKED = [
-    ("a key that is none", one(table_of(sorted_block([(b"ab", b"")]))), "000005.ldb", "block at 0: a key is out of the block's bounds, or isn't in its filter"),
-    ("a key above its bound", one(table_of(index=[(internal_key("60", 1), handle(0, 21))])), "000005.ldb", "block at 0: a key is out of the block's bounds, or isn't in its filter"),
+    ("a key that is none", one(table_of(sorted_block([(b"ab", b"")]))), "000005.ldb", "block at 0: entries or restarts are in a wrong order"),
+    ("a key above its bound", one(table_of(index=[(internal_key("60", 1), handle(0, 21))])), "000005.ldb", "block at 0: entries or restarts are in a wrong order"),
     ("a key that its filter denies", one(table_of(filters=b"\x00" * 8 + b"\x06" + FILTER[9:])), "000005.ldb", "block at 0: a key is out of the block's bounds, or isn't in its filter"),
     ("no entry", one(table_of(sorted_block([]))), "000005.ldb", "has no entry"),
     ("other keys than those of the edit", one(ONE_TABLE, keys=(("60", 1), ("61", 1))), "000005.ldb", "its first or last key isn't the one that the MANIFEST says"),
     ("a sequence above the recorded one", one(ONE_TABLE, last=0), "000005.ldb", "has a newer entry than the MANIFEST's last sequence: 1 found, 0 at most wanted"),
     ("a log that is older", {**one(ONE_TABLE), "000004.log": GOOD}, "000005.ldb", "has a newer entry of a key than a log or a table that has to be newer"),
     ("tables of level 0 that are older", tables({5: ONE_TABLE, 6: ONE_TABLE}, level=0), "000005.ldb", "has a newer entry of a key than a log or a table that has to be newer"),
+    ("a sequence above the recorded one, in an older name", of_old_names(one(ONE_TABLE, last=0)), "000005.sst", "has a newer entry than the MANIFEST's last sequence: 1 found, 0 at most wanted"),
+    ("a log that is older than a table of an older name", of_old_names({**one(ONE_TABLE), "000004.log": GOOD}), "000005.sst", "has a newer entry of a key than a log or a table that has to be newer"),
+    ("tables of level 0 that are older, of older names", of_old_names(tables({5: ONE_TABLE, 6: ONE_TABLE}, level=0)), "000005.sst", "has a newer entry of a key than a log or a table that has to be newer"),
 ]  # fmt: skip
 
 

@@ -1,4 +1,4 @@
-//! How often a check reads a table.
+//! How often a check reads a table, and by which name it tells of one.
 
 use crate::checks::{ONE_ENTRY, directory};
 use crate::readings::put;
@@ -8,6 +8,7 @@ use ikey::Bytewise;
 use recover::{Report, check};
 use std::alloc::Global;
 use std::test::*;
+use store::{MemStore, ShortName, Store, Trouble, Why};
 
 // The table of one entry, with sequence 2.
 #[rattlefmt::skip]
@@ -29,6 +30,10 @@ const NEWER: [u8; 176] = [
 #[rattlefmt::skip]
 const EDIT: &[u8] = b"\x02\x03\x03\x08\x04\x02\x07\x00\x05\xb0\x01\x09a\x01\x01\0\0\0\0\0\0\x09a\x01\x01\0\0\0\0\0\0\x07\x00\x07\xb0\x01\x09a\x01\x02\0\0\0\0\0\0\x09a\x01\x02\0\0\0\0\0\0";
 
+// The same, but that the newer entry is in the table 5, which has to be the older one.
+#[rattlefmt::skip]
+const TURNED: &[u8] = b"\x02\x03\x03\x08\x04\x02\x07\x00\x05\xb0\x01\x09a\x01\x02\0\0\0\0\0\0\x09a\x01\x02\0\0\0\0\0\0\x07\x00\x07\xb0\x01\x09a\x01\x01\0\0\0\0\0\0\x09a\x01\x01\0\0\0\0\0\0";
+
 // Of each the footer, the metaindex, the filter, the index and the one block.
 const PARTS: u64 = 5;
 
@@ -45,4 +50,28 @@ fn checked(alloc: Global) -> Result<(bool, u64), DbError> {
 #[test]
 fn each_table_is_read_once(rt: HostRuntime) {
     assert_eq!(rt; checked(rt.alloc()), Ok((true, 2 * PARTS)));
+}
+
+// What is noted where the table of the first name has to be older than that of the second, and isn't.
+fn noted(alloc: Global, older: &str, newer: &str) -> Result<Trouble, DbError> {
+    let mut store = directory(alloc, TURNED, &[])?;
+    put(&mut store, older, &NEWER)?;
+    put(&mut store, newer, &ONE_ENTRY)?;
+    match check::<Bytewise, MemStore>(alloc, &mut store) {
+        Ok(_) => Ok(Trouble::none()),
+        Err(_) => Ok(store.noted()),
+    }
+}
+
+fn is_named(alloc: Global, older: &str, newer: &str) -> bool {
+    match noted(alloc, older, newer) {
+        Ok(noted) => noted.why == Why::Age && noted.name == ShortName::of(older),
+        Err(_) => false,
+    }
+}
+
+#[test]
+fn a_table_is_named_as_its_file_is(rt: HostRuntime) {
+    assert!(rt; is_named(rt.alloc(), "000005.sst", "000007.ldb"));
+    assert!(rt; is_named(rt.alloc(), "000005.ldb", "000007.sst"));
 }

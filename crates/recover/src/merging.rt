@@ -9,7 +9,7 @@ ghost use Rattle.recover.specs.internal.Merging.{IsLogged, IsOldEntry, IsSooner,
 
 use crate::comparing::is_in_front;
 use crate::logged::{Logged, is_older};
-use crate::noting::{note_sequence, note_table};
+use crate::noting::{note_file, note_sequence};
 use crate::report::TableSummary;
 use crate::table_entries::is_same;
 use crate::walking::{Head, TableWalk};
@@ -53,6 +53,8 @@ pub struct Merge<K: KeyOrder> {
     begun: Vec<bool>,
     lanes: Vec<Lane<K>>,
     last: Last,
+    // the name of the file of each of the tables, once it was begun
+    names: Vec<String>,
     /// What is reported of each of the tables, once it was read.
     pub summaries: Vec<TableSummary>,
 }
@@ -74,6 +76,7 @@ impl<K: KeyOrder> Merge<K> {
         let lanes = Vec::new(alloc);
         let mut begun = Vec::new(alloc);
         let mut summaries = Vec::new(alloc);
+        let mut names = Vec::new(alloc);
         for placed in tables {
             begun.push(false)?;
             summaries.push(TableSummary {
@@ -81,6 +84,7 @@ impl<K: KeyOrder> Merge<K> {
                 number: placed.table.number,
                 entries: 0,
             })?;
+            names.push(String::new(alloc))?;
         }
         Ok(Merge {
             begun,
@@ -91,6 +95,7 @@ impl<K: KeyOrder> Merge<K> {
                 place: 0,
                 level: 0,
             },
+            names,
             summaries,
         })
     }
@@ -176,6 +181,7 @@ impl<K: KeyOrder> Merge<K> {
     {
         let placed = placed_at(against.tables, place);
         let walk = TableWalk::<K>::begin(alloc, store, placed)?;
+        let name = String::from_str(alloc, walk.name.as_str())?;
         let lane = Lane {
             place,
             level: placed.level,
@@ -183,6 +189,7 @@ impl<K: KeyOrder> Merge<K> {
             stands: true,
         };
         put_lane(&mut self.lanes, lane)?;
+        put_name(&mut self.names, place, name);
         self.begun[place] = true;
         Ok(())
     }
@@ -209,7 +216,7 @@ impl<K: KeyOrder> Merge<K> {
         ensures begun { OnOk result (self.new.begun.items ≡ self.old.begun.items) }
     {
         let lane = &mut self.lanes[index];
-        judge(alloc, store, against, &self.last, lane)?;
+        judge(store, against, &self.names, &self.last, lane)?;
         set_last(&mut self.last, lane)?;
         let placed = placed_at(against.tables, lane.place);
         if lane.walk.go_on(alloc, store, placed)? {
@@ -331,6 +338,13 @@ fn ended_lane<K: KeyOrder>(lanes: &[Lane<K>]) -> Option<usize>
     None
 }
 
+// Keeps the name of the file of the table at a place of the row, which outlasts its lane.
+fn put_name(names: &mut Vec<String>, place: usize, name: String) {
+    if let Some(kept) = names.get_mut(place) {
+        *kept = name;
+    }
+}
+
 fn set_last<K: KeyOrder>(last: &mut Last, lane: &Lane<K>) -> Result<(), AllocError>
     ensures some { OnOk result (last.new.some ≡ true) }
     ensures user { OnOk result (last.new.head.user.items ≡ lane.now.walk.head.user.items) }
@@ -349,9 +363,9 @@ fn set_last<K: KeyOrder>(last: &mut Last, lane: &Lane<K>) -> Result<(), AllocErr
 // Whether the entry at which a lane stands is one that a consistent directory has there: it is recorded, older than what is
 // logged of its key, and of its key the next one that may come.
 fn judge<K: KeyOrder, S: Store>(
-    alloc: Global,
     store: &mut S,
     against: Against<'_>,
+    names: &[String],
     last: &Last,
     lane: &Lane<K>,
 ) -> Result<(), DbError>
@@ -363,23 +377,18 @@ fn judge<K: KeyOrder, S: Store>(
     ensures next { OnOk result (MayComeNext last.now lane.now) }
     ensures refused { IfErr result (λ error. Misplaces entries against.entry.recorded last.now lane.now error) }
 {
-    let number = number_at(against.tables, lane.place);
     let head = &lane.walk.head;
+    let name = lane.walk.name.as_str();
     if head.sequence > against.recorded {
-        note_sequence(alloc, store, number, head.sequence, against.recorded);
+        note_sequence(store, name, head.sequence, against.recorded);
         return Err(DbError::Corrupt(FileKind::Table, Damage::Number));
     }
     if !is_older::<K>(against.logged, head.user.as_slice(), head.sequence) {
-        note_table(alloc, store, number, Why::Age);
+        note_file(store, name, Why::Age);
         return Err(DbError::Corrupt(FileKind::Log, Damage::Order));
     }
     if !may_come(last, lane) {
-        note_table(
-            alloc,
-            store,
-            number_of_older(against.tables, last, lane),
-            Why::Age,
-        );
+        note_file(store, name_of_older(names, last, lane), Why::Age);
         return Err(DbError::Corrupt(FileKind::Table, Damage::Order));
     }
     Ok(())
@@ -423,17 +432,13 @@ fn placed_at(tables: &[PlacedTable], place: usize) -> &PlacedTable
     &tables[place]
 }
 
-fn number_at(tables: &[PlacedTable], place: usize) -> u64 {
-    match tables.get(place) {
-        Some(placed) => placed.table.number,
-        None => 0,
-    }
-}
-
-// The number of that one of two tables that has to be older.
-fn number_of_older<K: KeyOrder>(tables: &[PlacedTable], last: &Last, lane: &Lane<K>) -> u64 {
+// The name of the file of that one of two tables that has to be older.
+fn name_of_older<'a, K: KeyOrder>(names: &'a [String], last: &Last, lane: &'a Lane<K>) -> &'a str {
     if is_no_newer(last.level, last.place, lane.level, lane.place) {
-        return number_at(tables, lane.place);
+        return lane.walk.name.as_str();
     }
-    number_at(tables, last.place)
+    match names.get(last.place) {
+        Some(name) => name.as_str(),
+        None => "",
+    }
 }

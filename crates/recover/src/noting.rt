@@ -25,28 +25,34 @@ pub fn note_length<S: Store>(store: &mut S, name: &str, found: u64, wanted: u64)
     store.note(Trouble::of(Why::FileLength, name).found(found, wanted));
 }
 
-/// Notes what is wrong with the table of this number, by the name that we give it.
-pub fn note_table<S: Store>(alloc: Global, store: &mut S, number: u64, why: Why)
+/// Notes what is wrong with the table of this number, by the name that we give it or the one that older writers gave.
+pub fn note_table<S: Store>(alloc: Global, store: &mut S, number: u64, is_older: bool, why: Why)
     ensures { S.facts store.new ≡ S.facts store.old }
 {
-    store.note(table_trouble(alloc, number, why));
+    store.note(table_trouble(alloc, number, is_older, why));
 }
 
-fn table_trouble(alloc: Global, number: u64, why: Why) -> Trouble {
+fn table_trouble(alloc: Global, number: u64, is_older: bool, why: Why) -> Trouble {
     if number == 0 {
         return Trouble::none();
     }
-    match print_name(alloc, FileName::Table(number)) {
+    let name = if is_older {
+        print_name(alloc, FileName::OldTable(number))
+    } else {
+        print_name(alloc, FileName::Table(number))
+    };
+    match name {
         Ok(name) => Trouble::of(why, name.as_str()),
         Err(_) => Trouble::none(),
     }
 }
 
-/// Notes that the table of this number has a sequence above the recorded one.
-pub fn note_sequence<S: Store>(alloc: Global, store: &mut S, number: u64, found: u64, most: u64)
-    ensures { S.facts store.new ≡ S.facts store.old }
+/// Notes that a table has a sequence above the recorded one.
+pub fn note_sequence<S: Store>(store: &mut S, name: &str, found: u64, most: u64)
+    ensures same { S.facts store.new ≡ S.facts store.old }
+    ensures names { NamesFile name.now (S.told store.new) }
 {
-    store.note(table_trouble(alloc, number, Why::Recorded).found(found, most));
+    store.note(Trouble::of(Why::Recorded, name).found(found, most));
 }
 
 /// Notes what is wrong with a piece of a log, which begins with a block, from an offset on.

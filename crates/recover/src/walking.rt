@@ -64,7 +64,8 @@ impl Head {
 /// alone.
 #[derive(Drop)]
 pub struct TableWalk<K: KeyOrder> {
-    name: String,
+    /// The name of its file.
+    pub name: String,
     table: Table<K>,
     // how many of its blocks were read
     next: usize,

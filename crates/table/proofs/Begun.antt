@@ -5,12 +5,15 @@ use Rattle.std.specs.Prelude.{slice_get, option_map}
 use Rattle.std.specs.List.{AllByRecursion}
 use Rattle.std.specs.Cmp.{IsTotalOrder}
 use Rattle.std.specs.declared.cmp.Ordering.{Ordering}
+use Rattle.filter.specs.Hash.{hash_of}
+use Rattle.ikey.specs.Below.{same_key}
 use Rattle.ikey.specs.Entries.{InternalEntry, Pair}
+use Rattle.ikey.specs.Keys.{Key}
 use Rattle.table.specs.Blocks.{HasRight, IsCheckedAt, IsWrongAt, IsBegun}
-use Rattle.table.specs.Checking.{IsRight, AreChecked}
-use Rattle.table.specs.Frame.{Frame, IsFrame}
-use Rattle.table.specs.Intact.{floor_of, IsUnsupportedAt}
-use Rattle.table.specs.Refusals.{IsDamaged, IsUnsupported, IsOfOne}
+use Rattle.table.specs.Checking.{IsAdmitted, IsRight, AreChecked}
+use Rattle.table.specs.Frame.{Frame, IsFrame, TableAdmits}
+use Rattle.table.specs.Intact.{AreWithin, floor_of, IsUnsupportedAt}
+use Rattle.table.specs.Refusals.{IsUnsupported, IsOfOne}
 use Rattle.table.specs.Table.{HasBlock, ArePairs, IsTable}
 use Rattle.table.specs.declared.handle.Place.{Place}
 use Rattle.table.proofs.Checked.{checked_table, table_checked}
@@ -18,16 +21,34 @@ use Rattle.table.proofs.DataBlocks.{joined, one_data}
 
 -- ---- one block
 
--- it isn't read
-pub none_read_right : (cmp : List ℕ → List ℕ → Ordering) (file : List ℕ) (filter previous : Option (List ℕ)) (place : Place) → IsDamaged cmp file place.handle
-    → (pairs : List Pair) → HasRight cmp file filter previous place pairs → ⊥
-none_read_right cmp file filter previous place damaged pairs h = damaged.0 pairs h.0
+-- it isn't read within its bounds
+pub none_within_right : (cmp : List ℕ → List ℕ → Ordering) (file : List ℕ) (filter previous : Option (List ℕ)) (place : Place)
+    → ((pairs : List Pair) → HasBlock cmp file place.handle pairs → AreWithin cmp previous place.key pairs → ⊥) → (pairs : List Pair) → HasRight cmp file filter previous place pairs → ⊥
+none_within_right cmp file filter previous place none pairs h = none pairs h.0 (all_within pairs h.1)
+  where
+    all_within : (ps : List Pair) → AllByRecursion (IsRight cmp filter previous place) ps → AreWithin cmp previous place.key ps
+    all_within [] k = tt
+    all_within (x ∷ ps) k = (record { key = k.0.key; is = k.0.is; above = k.0.above; within = k.0.within }, all_within ps k.1)
 
--- one of its pairs isn't right
-pub none_right : (cmp : List ℕ → List ℕ → Ordering) (file : List ℕ) (filter previous : Option (List ℕ)) (place : Place) (found : List Pair) → HasBlock cmp file place.handle found
-    → (AllByRecursion (IsRight cmp filter previous place) found → ⊥) → (pairs : List Pair) → HasRight cmp file filter previous place pairs → ⊥
-none_right cmp file filter previous place found has wrong pairs h =
-    wrong (subst (AllByRecursion (IsRight cmp filter previous place)) (one_data cmp file place.handle pairs found h.0 has) h.1)
+-- the filter denies one of its pairs
+pub none_admitted : (cmp : List ℕ → List ℕ → Ordering) (file : List ℕ) (filter previous : Option (List ℕ)) (place : Place) (found : List Pair) → HasBlock cmp file place.handle found
+    → (AllByRecursion (IsAdmitted filter place.handle.offset) found → ⊥) → (pairs : List Pair) → HasRight cmp file filter previous place pairs → ⊥
+none_admitted cmp file filter previous place found has denied pairs h =
+    denied (all_admitted found (subst (AllByRecursion (IsRight cmp filter previous place)) (one_data cmp file place.handle pairs found h.0 has) h.1))
+  where
+    all_admitted : (ps : List Pair) → AllByRecursion (IsRight cmp filter previous place) ps → AllByRecursion (IsAdmitted filter place.handle.offset) ps
+    all_admitted [] k = tt
+    all_admitted (x ∷ ps) k = (record { key = k.0.key; is = k.0.is; admitted = k.0.admitted }, all_admitted ps k.1)
+
+-- what lies within the bounds and is admitted is right
+pub all_right : (cmp : List ℕ → List ℕ → Ordering) (filter previous : Option (List ℕ)) (place : Place) (pairs : List Pair) → AreWithin cmp previous place.key pairs → AllByRecursion (IsAdmitted filter place.handle.offset) pairs
+    → AllByRecursion (IsRight cmp filter previous place) pairs
+all_right cmp filter previous place [] h k = tt
+all_right cmp filter previous place (x ∷ pairs) h k =
+    let same : k.0.key ≡ h.0.key = same_key x.key k.0.key h.0.key k.0.is h.0.is in (
+      record { key = h.0.key; is = h.0.is; above = h.0.above; within = h.0.within; admitted = subst (λ (key : Key). TableAdmits filter place.handle.offset (hash_of key.user)) same k.0.admitted },
+      all_right cmp filter previous place pairs h.1 k.1,
+    )
 
 -- the place of an index is one
 pub wrong_at_place : (cmp : List ℕ → List ℕ → Ordering) (file : List ℕ) (frame : Frame) (index : ℕ) (place : Place) → slice_get frame.places index ≡ Some place

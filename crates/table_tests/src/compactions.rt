@@ -60,6 +60,8 @@ impl<K: KeyOrder, S: Store> Cursor<K, Alone<S>> for InMemory<K> {
 
     ghost limited = { λ cursor source. ⊥ };
 
+    ghost torn = { λ cursor source cut. ⊥ };
+
     ghost leaves = { λ numbers old new. old ≡ new };
 
     ghost over = { λ cursor number. ⊥ };
@@ -109,6 +111,10 @@ impl<K: KeyOrder, S: Store> Cursor<K, Alone<S>> for InMemory<K> {
     ghost onward = { λ cursor first second third k l. tt };
 
     ghost limits_kept = { λ cursor old new k l. l };
+
+    ghost torn_kept = { λ cursor old new cut k t. t };
+
+    ghost torn_same = { λ cursor source at a b h same t. t };
 
     ghost leaves_still = { λ numbers source. refl };
 

@@ -39,6 +39,8 @@ impl<K: KeyOrder, S: Store> Cursor<K, Counted<S>> for CountedCursor<K> {
 
     ghost limited = { λ cursor source. ⊥ };
 
+    ghost torn = { λ cursor source cut. ⊥ };
+
     ghost leaves = { λ numbers old new. Unit {0} };
 
     ghost over = { λ cursor number. ⊥ };
@@ -98,6 +100,10 @@ impl<K: KeyOrder, S: Store> Cursor<K, Counted<S>> for CountedCursor<K> {
     ghost onward = { λ cursor first second third k l. tt };
 
     ghost limits_kept = { λ cursor old new k l. l };
+
+    ghost torn_kept = { λ cursor old new cut k t. t };
+
+    ghost torn_same = { λ cursor source at a b h same t. t };
 
     ghost leaves_still = { λ numbers source. tt };
 

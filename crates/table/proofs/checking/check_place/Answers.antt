@@ -3,12 +3,13 @@ use Rattle.std.specs.List.{AllByRecursion}
 use Rattle.std.proofs.lemmas.Result.{err_from_is_err_and}
 use Rattle.ikey.specs.Entries.{Pair}
 use Rattle.table.specs.Blocks.{HasRight}
-use Rattle.table.specs.Checking.{IsRight}
-use Rattle.table.specs.Refusals.{IsDamaged, IsUnsupported}
+use Rattle.table.specs.Checking.{IsAdmitted}
+use Rattle.table.specs.Intact.{AreWithin}
+use Rattle.table.specs.Refusals.{IsUnsupported}
 use Rattle.table.specs.Table.{HasBlock}
 use Rattle.table.specs.Views.{pairs_of}
 use Rattle.table.specs.declared.pair.KeyValue.{KeyValue}
-use Rattle.table.proofs.Begun.{none_read_right, none_right}
+use Rattle.table.proofs.Begun.{none_within_right, none_admitted, all_right}
 use Rattle.table.proofs.Steps.{refuses_more, same_file}
 use Rattle.table.proofs.checking.check_place.Goals as goal
 
@@ -20,25 +21,31 @@ returns-in_err-block-clause-refused g c =
     let filter = c.args.filter.now in
     let previous = option_copied c.args.previous in
     rw (p.1, p.2)
-    (refuses_more c.in_err-block.field-0.0 (g.S.Store.facts c.args.store.now) (g.S.Store.facts c.read_data.new.store) c.args.name.now (λ (file : List ℕ). IsDamaged cmp file place.handle)
+    (refuses_more c.in_err-block.field-0.0 (g.S.Store.facts c.args.store.now) (g.S.Store.facts c.read_within.new.store) c.args.name.now
+    (λ (file : List ℕ). ((pairs : List Pair) → HasBlock cmp file place.handle pairs → AreWithin cmp previous place.key pairs → ⊥) × (IsUnsupported file place.handle → ⊥))
     (λ (file : List ℕ). (pairs : List Pair) → HasRight cmp file filter previous place pairs → ⊥) (λ (file : List ℕ). IsUnsupported file place.handle) (λ (file : List ℕ). IsUnsupported file place.handle)
-    (λ file damaged. none_read_right cmp file filter previous place damaged) (λ file u. u) c.in_err-block.ensures.refused)
+    (λ file none. none_within_right cmp file filter previous place none.0) (λ file u. u) c.in_err-block.ensures.refused)
 
-pub returns-then-not-are_right-clause-refused : goal.returns-then-not-are_right-clause-refused
-returns-then-not-are_right-clause-refused g c = rw c.note_parts.ensures.same (λ t file there.
+pub returns-then-not-are_admitted-clause-refused : goal.returns-then-not-are_admitted-clause-refused
+returns-then-not-are_admitted-clause-refused g c = rw c.note_parts.ensures.same (λ t file there.
     let cmp = g.K.KeyOrder.cmp in
     let old = g.S.Store.facts c.args.store.now in
     let place = c.args.place.now in
-    let right : List Pair → Type 0 = λ ps. AllByRecursion (IsRight cmp c.args.filter.now (option_copied c.args.previous) place) ps in
+    let admitted : List Pair → Type 0 = λ ps. AllByRecursion (IsAdmitted c.args.filter.now place.handle.offset) ps in
     let b = c.in_ok-block.ensures.found t in
     let has = subst (λ (x : List ℕ). HasBlock cmp x place.handle c.in_ok-block.block.pairs) (same_file old c.args.name.now b.0 file b.1 there) b.2 in
     let pairs : pairs_of c.deref.result.now ≡ c.in_ok-block.block.pairs = ap (λ (v : List KeyValue). pairs_of v) c.deref.ensures.value ∙ c.in_ok-pairs.ensures in
-    none_right cmp file c.args.filter.now (option_copied c.args.previous) place c.in_ok-block.block.pairs has (subst (λ (ps : List Pair). right ps → ⊥) pairs c.if-not-are_right.ensures))
+    none_admitted cmp file c.args.filter.now (option_copied c.args.previous) place c.in_ok-block.block.pairs has (subst (λ (ps : List Pair). admitted ps → ⊥) pairs c.if-not-are_admitted.ensures))
 
 pub returns-clause-found : goal.returns-clause-found
 returns-clause-found g c = λ t.
     let cmp = g.K.KeyOrder.cmp in
     let place = c.args.place.now in
-    let right : List Pair → Type 0 = λ ps. AllByRecursion (IsRight cmp c.args.filter.now (option_copied c.args.previous) place) ps in
+    let filter = c.args.filter.now in
+    let previous = option_copied c.args.previous in
+    let admitted : List Pair → Type 0 = λ ps. AllByRecursion (IsAdmitted filter place.handle.offset) ps in
     let b = c.in_ok-block.ensures.found t in
-    (b.0, b.1, (subst (λ (ps : List Pair). HasBlock cmp b.0 place.handle ps) (sym c.in_ok-pairs.ensures) b.2, subst (λ (ps : List KeyValue). right (pairs_of ps)) c.deref.ensures.value c.if-not-are_right.ensures))
+    let same = sym c.in_ok-pairs.ensures in
+    let within = subst (AreWithin cmp previous place.key) same c.in_ok-block.ensures.within in
+    let allowed = subst (λ (ps : List KeyValue). admitted (pairs_of ps)) c.deref.ensures.value c.if-not-are_admitted.ensures in
+    (b.0, b.1, (subst (λ (ps : List Pair). HasBlock cmp b.0 place.handle ps) same b.2, all_right cmp filter previous place _ within allowed))
