@@ -4,7 +4,7 @@ use crate::entries::{Keys, Values};
 use crate::tally::Tally;
 use batch::Batch;
 use coding::DbError;
-use engine::{Db, Progress};
+use engine::{Db, Pace, Progress};
 use ikey::Bytewise;
 use std::alloc::Global;
 use store::Store;
@@ -146,10 +146,12 @@ pub fn put_and_look_back<S: Store>(
     Ok(found)
 }
 
-// Does a piece of work where one is due behind the write of this index.
+// Does a piece of work where one is due behind the write of this index, and writes a memory table that it has sealed.
 fn work_after<S: Store>(alloc: Global, db: &mut Db<S, Bytewise>, i: u64) -> Result<(), DbError> {
     if i % WRITES_A_PIECE == WRITES_A_PIECE - 1 {
-        db.work(alloc, PIECE)?;
+        if let Pace::Refused(error) = db.keep_up(alloc, PIECE) {
+            return Err(error);
+        }
     }
     Ok(())
 }

@@ -5,6 +5,7 @@ pub mod FewLeft
 pub mod Filled
 pub mod FlushEdits
 pub mod Flushes
+pub mod InstallSynced
 pub mod Installing
 pub mod Installs
 pub mod JobFolds
@@ -28,6 +29,7 @@ pub mod Ranks
 pub mod Replacing
 pub mod Rooms
 pub mod Sizes
+pub mod Sparing
 pub mod StoreCalls
 pub mod TableEdits
 pub mod TableFiles

@@ -12,7 +12,7 @@ ghost use Rattle.versions.specs.Levels.{AreInOrder, pointers_after};
 ghost use Rattle.store.specs.Calls.{FailsAsWrite};
 ghost use Rattle.store.specs.Stops.{LeavesOnly};
 ghost use Rattle.directory_writes.specs.internal.Flush.{DrawsTable, Prepares, RefusesNewTable, RefusesVersion, edit_refusal};
-ghost use Rattle.directory_writes.specs.internal.Flush.{FlushTouches, RefusesFlush, SyncsFlush, AnswersVersion, FlushLeaves, FlushMayLeave};
+ghost use Rattle.directory_writes.specs.internal.Flush.{FlushTouches, RefusesFlush, SparesManifest, SyncsFlush, AnswersVersion, FlushLeaves, FlushMayLeave};
 ghost use Rattle.directory_writes.specs.internal.Level0.{HaveSequences};
 
 use crate::flush_edits::flush_edit;
@@ -97,6 +97,8 @@ pub fn flush_memory<K: KeyOrder, S: Store>(
     ensures drawn { DrawsTable (S.facts store.old) (S.facts store.new) numbers.old.next numbers.new.next }
     ensures version { AnswersVersion K.cmp version.now numbers.old.next numbers.new.next result }
     ensures syncs { SyncsFlush (S.facts store.new) (name_of (Table numbers.old.next)) (string_bytes manifest.now.name) result }
+    ensures spares { SparesManifest (S.facts store.old) (S.facts store.new) (string_bytes manifest.now.name)
+        (λ name. name ≡ name_of (Table numbers.old.next)) result }
     ensures leaves { FlushLeaves (order_of K.name K.cmp) (S.facts store.old)
         (S.facts store.new) numbers.old.next numbers.new.next plan manifest.now memory.now.inserts version.now.tables result }
     ensures stops { IsTrue (S.facts store.new).faithful → LeavesOnly (S.facts store.old) (S.facts store.new)

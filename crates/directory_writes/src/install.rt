@@ -4,10 +4,11 @@ ghost use Rattle.std.specs.Prelude.{◌≡◌, ◌<◌, ◌^◌, IfOk, IfErr, Is
 ghost use Rattle.std.specs.FinMap.{get};
 ghost use Rattle.ikey.specs.Orders.{order_of};
 ghost use Rattle.compact.specs.JobEdits.{IsPlanProper};
-ghost use Rattle.compact.specs.Outputs.{AreNumbered, IsNumberAtHand, WritesTables};
+ghost use Rattle.compact.specs.Outputs.{AreNumbered, IsNumberAtHand, IsTableName, WritesTables};
 ghost use Rattle.store.specs.Calls.{FailsAsWrite};
 ghost use Rattle.store.specs.Stops.{LeavesOnly};
-ghost use Rattle.directory_writes.specs.internal.Install.{HasJobVersion, HasPreparedJob, InstallLeaves, InstallMayLeave, InstallTouches, RefusesEdit, RefusesInstall};
+ghost use Rattle.directory_writes.specs.internal.Flush.{SparesManifest};
+ghost use Rattle.directory_writes.specs.internal.Install.{HasJobVersion, HasPreparedJob, InstallLeaves, InstallMayLeave, InstallSyncs, InstallTouches, RefusesEdit, RefusesInstall};
 
 use crate::flush::{FlushError, edit_refusal, version_after};
 use crate::manifest::{CurrentManifest, append_edit};
@@ -63,6 +64,10 @@ pub fn install_job<K: KeyOrder, C: Drop, S: Store>(
     ensures version { IfOk result (λ installed. HasJobVersion K.cmp job.plan job.outputs version.now installed.version.value) }
     ensures synced { OnOk result (IsTrue (S.facts store.new).faithful
         → (S.facts store.new).synced (string_bytes manifest.now.name) ≡ get (S.facts store.new).files (string_bytes manifest.now.name)) }
+    ensures keeps { InstallSyncs K.cmp job (S.facts store.old) (S.facts store.new) numbers.now.next (string_bytes manifest.now.name)
+        version.now.tables result }
+    ensures spares { SparesManifest (S.facts store.old) (S.facts store.new) (string_bytes manifest.now.name)
+        (IsTableName (IsNumberAtHand job.outputs)) result }
     ensures leaves { InstallLeaves (order_of K.name K.cmp) job (S.facts store.old)
         (S.facts store.new) numbers.now.next last_sequence manifest.now version.now.tables result }
     ensures stops { IsTrue (S.facts store.new).faithful → LeavesOnly (S.facts store.old) (S.facts store.new)

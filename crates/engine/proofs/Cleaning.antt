@@ -5,7 +5,7 @@ use Rattle.std.specs.declared.cmp.Ordering.{Ordering}
 use Rattle.std.specs.Option.{option_and_then}
 use Rattle.cache.specs.Tables.{KeptTable, IsNameOf, table_at}
 use Rattle.edits.specs.Names.{IsNumbered, name_of}
-use Rattle.edits.specs.declared.names.FileName.TheVariants.{Table}
+use Rattle.edits.specs.declared.names.FileName.TheVariants.{OldTable, Table}
 use Rattle.running_job.specs.declared.open_job.OpenJob.{OpenJob}
 use Rattle.edits.specs.declared.field.PlacedTable.{PlacedTable}
 use Rattle.ikey.specs.Orders.{Order}
@@ -23,6 +23,7 @@ use Rattle.table_access.specs.Tables.{Seen, IsSound, KeepsOf, SoundLasts}
 use Rattle.table_access.proofs.Sounding.{same_file, same_table}
 use Rattle.store.specs.Files.{Facts}
 use Rattle.table.specs.Reading.{HasFile}
+use Rattle.directory_writes.specs.internal.Calls.{LeavesFile}
 use Rattle.directory_writes.specs.internal.Removal.{AreOfDirectory, KeepsParts, KeepsTable, ListsToClose, MayLose}
 use Rattle.directory_writes.specs.Removal.{HasBoth}
 use Rattle.opening.specs.internal.Directories.{CanAppend}
@@ -31,6 +32,8 @@ use Rattle.engine.specs.InUse.{IsJobTable, IsMemoryUsed, IsTableUsed}
 use Rattle.reader.specs.internal.Iterators.{IsWalk}
 use Rattle.engine.specs.Reads.{kept_at}
 use Rattle.machine.specs.Machine.{Machine, Walk}
+use Rattle.running_job.specs.internal.Staying.{LeavesWhole}
+use Rattle.engine.proofs.Synced.{lost_kept, lost_table, synced_still}
 use Rattle.engine.specs.internal.Standing.{HasLog, HasTables, IsServing}
 use Rattle.engine.specs.internal.Pieces.{ClosesTables}
 use Rattle.engine.specs.Working.{numbers_of}
@@ -75,7 +78,8 @@ module _ {K : Type 0} {g : _} (order : Order) (kept : (scan : Scan K g) → Scan
 
     -- ---- the files
 
-    module _ (t : IsTrue facts.faithful) (each : (n : ℕ) → IsNumbered n → KeepsTable old.facts facts in_use n) (unused : ListsToClose old.facts facts in_use gone) (closes : ClosesTables old.tables tables gone) where
+    module _ (t : IsTrue facts.faithful) (each : (n : ℕ) → IsNumbered n → KeepsTable old.facts facts in_use n) (unused : ListsToClose old.facts facts in_use gone) (closes : ClosesTables old.tables tables gone)
+        (loses : (name : List ℕ) → LeavesFile old.facts facts name ⊎ (get facts.files name ≡ None)) where
       -- a table of which something is kept is as before, or gone
       same_at : (n : ℕ) (file : List ℕ) → IsNumbered n → table_at facts.files n ≡ Some file → table_at old.facts.files n ≡ Some file
       same_at n file numbered there = elim (each n numbered) [
@@ -130,6 +134,20 @@ module _ {K : Type 0} {g : _} (order : Order) (kept : (scan : Scan K g) → Scan
           | inr two ↦ (two.1, two.2)
         ]
       ]
+
+      -- and what of that is synced
+      whole_used : (n : ℕ) → IsNumbered n → in_use n → LeavesWhole old.facts facts (name_of (Table n)) × (table_at facts.files n ≡ table_at old.facts.files n)
+      whole_used n numbered used_one =
+          let same = used_same n numbered used_one in (
+            (
+              same.0,
+              λ file there was. elim (loses (name_of (Table n))) [
+                | inl left ↦ left.1 ∙ was
+                | inr none ↦ absurd (let bad : None ≡ Some file = sym none ∙ same.0 ∙ there in cc)
+              ],
+            ),
+            same.1,
+          )
 
       fewer_kept : (number : ℕ) → KeepsOf new number → KeepsOf old number
       fewer_kept number (inl (kept_one, is, same)) = inl (kept_one, closes.kept kept_one is, same)
@@ -216,9 +234,13 @@ module _ {K : Type 0} {g : _} (order : Order) (kept : (scan : Scan K g) → Scan
                 (λ content i. kept_parts.tables content.placed.table.number (table_of order old.facts.files d.tables content a.consistent.tables i) (listed content i)) (serving.readable.limits is);
           };
           numbers = serving.numbers;
+          synced = synced_still old.facts facts db.log db.directory db.directory db.tables refl refl refl refl (omega arith) serving.synced
+              (λ file is none. lost_kept old.facts facts (name_of file) (loses (name_of file)))
+              (λ p there known. lost_table old.facts facts p.table.number (loses (name_of (Table p.table.number))) (loses (name_of (OldTable p.table.number)))
+              (used_same p.table.number known.0 (table_used db.tables db.job db.iterators p.table.number (p, there, refl))).0);
           job = each_job _ _ db.job (λ work is c.
               goes_beside_read order (whole_of old db) (whole_of new after) db.directory.numbers.next db.directory.numbers.next db.snapshots db.snapshots db.iterators db.iterators db.tables d d work c
-              a.consistent serving.log.knows.free db.directory.numbers.in_range.1 (omega arith) (λ number numbered below one. used_same number numbered (inr (subst (λ (o : Option (OpenJob K g)). IsJobTable o number) (sym is) one)))
+              a.consistent serving.log.knows.free db.directory.numbers.in_range.1 (omega arith) (λ number numbered below one. whole_used number numbered (inr (subst (λ (o : Option (OpenJob K g)). IsJobTable o number) (sym is) one)))
               (λ h. sound_cleaned serving.contents serving.tables) (λ number kept_now. inl (fewer_kept number kept_now)) refl refl
               (omega (arith, last_same)) (known_itself db.snapshots db.memory.last) (have_itself db.iterators db.tables)
               (λ number. version_unowned work.job.outputs order old.facts.files d serving.contents db.tables number a.consistent a.in_tables serving.tables.version c.running.unused)) serving.job;

@@ -20,7 +20,7 @@ use Rattle.ikey.specs.Entries.{entry_of}
 use Rattle.ikey.specs.Orders.{Order}
 use Rattle.ikey.specs.Views.{Among}
 use Rattle.running_job.specs.Running.{IsRunning, is_input, is_to_write}
-use Rattle.running_job.specs.internal.Staying.{LeavesTables}
+use Rattle.running_job.specs.internal.Staying.{LeavesTables, LeavesWhole}
 use Rattle.running_job.specs.declared.open_job.OpenJob.{OpenJob}
 use Rattle.running_job.proofs.Staying.{stays_beside}
 use Rattle.recover.proofs.Adding.{table_of}
@@ -206,15 +206,15 @@ module _ {K : Type 0} {g : _} (order : Order) (old new : Whole) (next more : ℕ
   -- the files of its tables are as they were, under both of their names
   abbrev pub KeepsJobFiles : Type 0
   KeepsJobFiles = (number : ℕ) → IsNumbered number → number < next → IsJobTable (Some work) number
-      → (get new.seen.facts.files (name_of (Table number)) ≡ get old.seen.facts.files (name_of (Table number))) × (get new.seen.facts.files (name_of (OldTable number)) ≡ get old.seen.facts.files (name_of (OldTable number)))
+      → LeavesWhole old.seen.facts new.seen.facts (name_of (Table number)) × (get new.seen.facts.files (name_of (OldTable number)) ≡ get old.seen.facts.files (name_of (OldTable number)))
 
   -- its tables read as they did, and the files with their newer names are as they were
   abbrev pub KeepsJobTables : Type 0
   KeepsJobTables = (number : ℕ) → IsNumbered number → number < next → IsJobTable (Some work) number
-      → (get new.seen.facts.files (name_of (Table number)) ≡ get old.seen.facts.files (name_of (Table number))) × (table_at new.seen.facts.files number ≡ table_at old.seen.facts.files number)
+      → LeavesWhole old.seen.facts new.seen.facts (name_of (Table number)) × (table_at new.seen.facts.files number ≡ table_at old.seen.facts.files number)
 
   by_names : KeepsJobFiles → KeepsJobTables
-  by_names files number numbered below one = let both = files number numbered below one in (both.0, same_table old.seen.facts.files new.seen.facts.files number both.0 both.1)
+  by_names files number numbered below one = let both = files number numbered below one in (both.0, same_table old.seen.facts.files new.seen.facts.files number both.0.0 both.1)
 
   module _ (consistent : IsConsistent order old.seen.facts.files d) (free : IsFree order old.seen.facts.files next) (fits : next < 2 ^ 64) where
     pub is_input_number : (number : ℕ) → is_input work number → IsNumbered number × (number < next)

@@ -1,13 +1,14 @@
 -- What an open database is, and the machine, after a flush, however that ends.
-use Rattle.std.proofs.Common.{length, ◌≡◌, ℕ, ◌+◌, ◌≤◌, ◌<◌, ◌^◌, true, false, List, [], ◌∷◌, ◌++◌, Contains, None, IsSome, Result, Ok, Err, IsTrue, inl, inr, refl, sym, ap, subst, ◌∙◌, arith, string_bytes}
+use Rattle.std.proofs.Common.{length, ◌≡◌, ◌≢◌, ℕ, ◌+◌, ◌≤◌, ◌<◌, ◌^◌, true, false, List, [], ◌∷◌, ◌++◌, Contains, None, IsSome, Result, Ok, Err, IsTrue, inl, inr, refl, sym, ap, subst, ◌∙◌, arith, String, string_bytes}
 use Rattle.std.specs.declared.alloc.Global.{Global}
+use Rattle.std.specs.Global.{Vec}
 use Rattle.std.specs.declared.rc.Rc.{Rc}
 use Rattle.coding.specs.declared.error.DbError.{DbError}
 use Rattle.coding.specs.declared.error.DbError.TheVariants as error
 use Rattle.edits.specs.declared.numbers.FileNumbers.{FileNumbers}
-use Rattle.edits.specs.Names.{name_of}
+use Rattle.edits.specs.Names.{IsNumbered, name_of}
 use Rattle.edits.specs.declared.field.PlacedTable.{PlacedTable}
-use Rattle.edits.specs.declared.names.FileName.TheVariants.{Table}
+use Rattle.edits.specs.declared.names.FileName.TheVariants.{OldTable, Table}
 use Rattle.ikey.specs.Orders.{Order}
 use Rattle.ikey.specs.Sources.{SameEntries, SameViewLaw}
 use Rattle.ikey.specs.declared.entry.Entry.{Entry}
@@ -26,11 +27,13 @@ use Rattle.table_access.specs.Tables.{Seen, IsSound, SoundLasts}
 use Rattle.store.specs.Files.{Facts}
 use Rattle.store.specs.Stops.{LeavesOnly}
 use Rattle.directory_writes.specs.Replacing.{placed_in}
-use Rattle.directory_writes.specs.internal.Flush.{CanFlush, DrawsTable, FlushMayLeave, FlushMeans, FlushTouches, IsCorrupt, IsFlushed, MayBeFlushed, RefusesFlush, RefusesNewTable}
+use Rattle.directory_writes.specs.internal.Flush.{CanFlush, DrawsTable, FlushMayLeave, FlushMeans, FlushTouches, IsCorrupt, IsFlushed, MayBeFlushed, RefusesFlush, RefusesNewTable, SparesManifest}
+use Rattle.directory_writes.specs.internal.Calls.{LeavesFile}
 use Rattle.compact.specs.Rooms.{room_of}
 use Rattle.directory_writes.specs.internal.Level0.{IsTooLarge}
 use Rattle.directory_writes.specs.declared.flush.FlushError.{FlushError}
 use Rattle.directory_writes.specs.declared.flush.FlushError.TheVariants.{Before, Edit}
+use Rattle.directory_writes.specs.declared.flush.Flushed.{Flushed}
 use Rattle.directory_writes.specs.declared.flush.FlushPlan.{FlushPlan}
 use Rattle.versions.specs.Levels.{AreInOrder, Placement}
 use Rattle.engine.specs.declared.ids.Ids.{Ids}
@@ -38,6 +41,10 @@ use Rattle.engine.specs.declared.state.DbState.{DbState}
 use Rattle.engine.specs.declared.work.Progress.{Progress}
 use Rattle.engine.specs.internal.Leading.{LeadsOpen}
 use Rattle.engine.specs.OpenDb.{OpenDb, open_db, whole_of}
+use Rattle.opening.proofs.Reopening.{files_apart}
+use Rattle.engine.proofs.FrontSyncing.{same_or_other}
+use Rattle.engine.proofs.Synced.{kept_still, no_table, synced_same, synced_still, table_still}
+use Rattle.engine.specs.internal.Synced.{IsSyncedBut}
 use Rattle.engine.specs.internal.Standing.{entries_of, IsServing}
 use Rattle.engine.specs.internal.Stopping.{KeepsOpen}
 use Rattle.machine.specs.Machine.{Machine, entry_count, weight}
@@ -122,17 +129,40 @@ module _ {K : Type 0} {g : _} (order : Order) (kept : (scan : Scan K g) → Scan
     refused error.NumbersSpent f h sound same other = ((let most = h.0 in let below : next ≤ m.numbers = serving.numbers in omega (arith, most, below)), draws m 1 facts)
     refused _ f h sound same other = absurd h
 
+  -- a refusal before the edit leaves all that is synced, but for a table that has no number of one that is read
+  unflushed_synced : IsTrue facts.faithful → (m : Machine) → IsServing order old before m → ((string_bytes state.directory.manifest.name ≡ name_of (Table next) → ⊥) → LeavesFile old.facts facts (string_bytes state.directory.manifest.name))
+      → IsSyncedBut facts state.log drawn.directory state.version.value.tables
+  unflushed_synced f m serving spares = elim draws_number [
+    | inl none ↦ (let same = none.1 in let h = serving.synced in synced_same old.facts facts state.log state.directory drawn.directory state.version.value.tables refl refl refl refl upto.0 h (ap (λ (x : Facts). x.files) same) (ap (λ (x : Facts). x.synced) same))
+    | inr more ↦
+        let h = serving.synced in
+        let number : IsNumbered next = (more.1, (let few = more.2 in omega (arith, few))) in
+        let left : (q : List ℕ) → q ≢ name_of (Table next) → LeavesFile old.facts facts q = λ q apart. elim (same_or_other q (string_bytes state.directory.manifest.name)) [
+          | inl it ↦ subst (LeavesFile old.facts facts) (sym it) (spares (λ is. apart (it ∙ is)))
+          | inr other ↦ (touches.others f q apart other, touches.synced f q apart other)
+        ] in
+        synced_still old.facts facts state.log state.directory drawn.directory state.version.value.tables refl refl refl refl upto.0 h
+        (λ file is none. kept_still old.facts facts (name_of file) (left (name_of file) (files_apart file (Table next) is number (no_table file next none))))
+        (λ p there known.
+        table_still old.facts facts p.table.number
+        (left (name_of (Table p.table.number)) (files_apart (Table p.table.number) (Table next) known.0 number (λ e. let same : p.table.number ≡ next = cc in let less = known.1 in omega (arith, same, less))))
+        (left (name_of (OldTable p.table.number)) (files_apart (OldTable p.table.number) (Table next) known.0 number (λ e. cc))))
+  ]
+
+  abbrev Spares : FlushError → Type 0
+  Spares e = SparesManifest {T = Flushed K} old.facts facts (string_bytes state.directory.manifest.name) (λ (name : List ℕ). name ≡ name_of (Table next)) (Err e)
+
   abbrev Leaves : FlushError → Type 0
   Leaves e = IsTrue facts.faithful → (m : Machine) (serving : IsServing order old before m) → FlushMeans {K = K} order old.facts.files facts.files next numbers.next plan state.directory.manifest entries before.tables serving.log.directory.directory serving.log.logs.sealed serving.log.logs.current (Err e)
 
   -- nothing of the directory was changed
-  unflushed : {T : Type 0} (e : DbError) → RefusesNewTable e old.facts facts entries before.tables next numbers.next → Leaves (Before e) → (e ≡ error.Io → ⊥) → LeadsOpen order old new ids before (open_db memory drawn) (λ m n. IsPiece {T = T} m 1 (Err e) n)
-  unflushed e refuses leaves other =
+  unflushed : {T : Type 0} (e : DbError) → RefusesNewTable e old.facts facts entries before.tables next numbers.next → Leaves (Before e) → Spares (Before e) → (e ≡ error.Io → ⊥) → LeadsOpen order old new ids before (open_db memory drawn) (λ m n. IsPiece {T = T} m 1 (Err e) n)
+  unflushed e refuses leaves spares other =
       serves_on order old new ids before (open_db memory drawn) 1 (Err e) whole whole touches.faithful touches.failures touches.denials
       (λ m f same serving.
       let left = leaves f m serving in (
         refused m serving e f refuses left.0 same other,
-        serving_unflushed order kept one lasts law flushes old facts before m serving plan numbers.next (stays_below m serving f) (names_below m serving f) (sound_still m serving f) left.1.can.free upto.1 drawn.directory entries left.1 refl refl refl refl refl refl upto.0,
+        serving_unflushed order kept one lasts law flushes old facts before m serving plan numbers.next (stays_below m serving f) (names_below m serving f) (sound_still m serving f) left.1.can.free upto.1 drawn.directory entries left.1 refl refl refl refl refl refl upto.0 (unflushed_synced f m serving (spares f)),
       ))
 
   -- the device failed
@@ -145,51 +175,52 @@ module _ {K : Type 0} {g : _} (order : Order) (kept : (scan : Scan K g) → Scan
       let either = may f m serving in
       broken_flush order kept one lasts law flushes old facts before m serving plan numbers.next (stays_below m serving f) (names_below m serving f) (sound_still m serving f) either.free upto.1 entries either)
 
-  unflushed_by : {T : Type 0} (e : FlushError) → RefusesFlush e old.facts facts entries before.tables next numbers.next → Leaves e → LeadsOpen order old new ids before (open_db memory (broken_by drawn (flush_answer e))) (λ m n. IsPiece {T = T} m 1 (Err (flush_answer e)) n)
-  unflushed_by (Before error.OutOfMemory) refuses leaves = unflushed error.OutOfMemory refuses leaves (λ e. cc)
-  unflushed_by (Before error.Io) refuses leaves = failed refuses (λ f m serving. let left = (leaves f m serving).1 in record { either = inl (left.can.consistent, left.kept); free = left.can.free })
-  unflushed_by (Before (error.Unsupported what)) refuses leaves = unflushed (error.Unsupported what) refuses leaves (λ e. cc)
-  unflushed_by (Before (error.Corrupt file what)) refuses leaves = unflushed (error.Corrupt file what) refuses leaves (λ e. cc)
-  unflushed_by (Before error.NumbersSpent) refuses leaves = unflushed error.NumbersSpent refuses leaves (λ e. cc)
-  unflushed_by (Before _) refuses leaves = absurd refuses
-  unflushed_by Edit refuses leaves = failed refuses (λ f m serving. leaves f m serving)
+  unflushed_by : {T : Type 0} (e : FlushError) → RefusesFlush e old.facts facts entries before.tables next numbers.next → Leaves e → Spares e → LeadsOpen order old new ids before (open_db memory (broken_by drawn (flush_answer e))) (λ m n. IsPiece {T = T} m 1 (Err (flush_answer e)) n)
+  unflushed_by (Before error.OutOfMemory) refuses leaves spares = unflushed error.OutOfMemory refuses leaves spares (λ e. cc)
+  unflushed_by (Before error.Io) refuses leaves spares = failed refuses (λ f m serving. let left = (leaves f m serving).1 in record { either = inl (left.can.consistent, left.kept); free = left.can.free })
+  unflushed_by (Before (error.Unsupported what)) refuses leaves spares = unflushed (error.Unsupported what) refuses leaves spares (λ e. cc)
+  unflushed_by (Before (error.Corrupt file what)) refuses leaves spares = unflushed (error.Corrupt file what) refuses leaves spares (λ e. cc)
+  unflushed_by (Before error.NumbersSpent) refuses leaves spares = unflushed error.NumbersSpent refuses leaves spares (λ e. cc)
+  unflushed_by (Before _) refuses leaves spares = absurd refuses
+  unflushed_by Edit refuses leaves spares = failed refuses (λ f m serving. leaves f m serving)
 
   -- however it isn't flushed, where these are the tables of the version
   pub ends_unflushed : {T : Type 0} (tables : List PlacedTable) → tables ≡ before.tables → (e : FlushError) → RefusesFlush e old.facts facts entries tables next numbers.next
       → (IsTrue facts.faithful → (d : Directory) (sealed : List LogContent) (current : LogContent) → CanFlush order old.facts.files next plan state.directory.manifest entries tables d sealed current
       → FlushMeans {K = K} order old.facts.files facts.files next numbers.next plan state.directory.manifest entries tables d sealed current (Err e))
-      → LeadsOpen order old new ids before (open_db memory (broken_by drawn (flush_answer e))) (λ m n. IsPiece {T = T} m 1 (Err (flush_answer e)) n)
-  ends_unflushed tables are e refuses leaves =
+      → Spares e → LeadsOpen order old new ids before (open_db memory (broken_by drawn (flush_answer e))) (λ m n. IsPiece {T = T} m 1 (Err (flush_answer e)) n)
+  ends_unflushed tables are e refuses leaves spares =
       unflushed_by e (subst (λ (ts : List PlacedTable). RefusesFlush e old.facts facts entries ts next numbers.next) are refuses)
       (λ f m serving.
       let d = serving.log.directory.directory in
       let sealed = serving.log.logs.sealed in
       let current = serving.log.logs.current in
       subst (λ (ts : List PlacedTable). FlushMeans {K = K} order old.facts.files facts.files next numbers.next plan state.directory.manifest entries ts d sealed current (Err e)) are
-      (leaves f d sealed current (subst (λ (ts : List PlacedTable). CanFlush order old.facts.files next plan state.directory.manifest entries ts d sealed current) (sym are) (can m serving))))
+      (leaves f d sealed current (subst (λ (ts : List PlacedTable). CanFlush order old.facts.files next plan state.directory.manifest entries ts d sealed current) (sym are) (can m serving)))) spares
 
-  abbrev with_table : ℕ → Rc Placement Global → DbState K g
-  with_table end version = record state { version = version; directory = record state.directory { numbers = numbers; manifest = record state.directory.manifest { end = end }; first_log = state.log.number; previous_log = 0 } }
+  abbrev with_table : ℕ → Rc Placement Global → Vec (String Global) → DbState K g
+  with_table end version front = record state { version = version; log = record state.log { front = front }; directory = record state.directory { numbers = numbers; manifest = record state.directory.manifest { end = end }; first_log = state.log.number; previous_log = 0 } }
 
   -- the table is in the directory
-  pub ends_flushed : (end : ℕ) (version : Rc Placement Global) (after : DbState K g) → after ≡ with_table end version
+  pub ends_flushed : (end : ℕ) (version : Rc Placement Global) (front : Vec (String Global)) (after : DbState K g) → after ≡ with_table end version front
       → AreInOrder order.cmp version.value.tables
       → (IsTrue facts.faithful → (m : Machine) (serving : IsServing order old before m) → IsFlushed order old.facts.files facts.files next numbers.next end entries version.value.tables serving.log.directory.directory serving.log.logs.sealed serving.log.logs.current)
+      → (IsTrue facts.faithful → (m : Machine) → IsServing order old before m → IsSyncedBut facts (record state.log { front = front }) (with_table end version front).directory version.value.tables)
       → LeadsOpen order old new ids before (open_db (record memory { sealed = None }) after) (λ m n. IsPiece m 1 (Ok (tt {0})) n)
-  ends_flushed end version after is in_order has =
+  ends_flushed end version front after is in_order has synced =
       subst (λ (s : DbState K g). LeadsOpen order old new ids before (open_db (record memory { sealed = None }) s) (λ m n. IsPiece m 1 (Ok (tt {0})) n)) (sym is)
-      (serves_on order old new ids before (open_db (record memory { sealed = None }) (with_table end version)) 1 (Ok (tt {0})) whole whole touches.faithful touches.failures touches.denials
+      (serves_on order old new ids before (open_db (record memory { sealed = None }) (with_table end version front)) 1 (Ok (tt {0})) whole whole touches.faithful touches.failures touches.denials
       (λ m f same serving.
       let done = has f m serving in (
         draws m 1 facts,
-        serving_flushed order kept one lasts law flushes old facts before m serving plan numbers.next (stays_below m serving f) (names_below m serving f) (sound_still m serving f) done.free upto.1 end version.value.tables version.value.compact_pointers (with_table end version).directory entries in_order done refl refl refl refl refl refl upto.0,
+        serving_flushed order kept one lasts law flushes old facts before m serving plan numbers.next (stays_below m serving f) (names_below m serving f) (sound_still m serving f) done.free upto.1 end version.value.tables version.value.compact_pointers (with_table end version front).directory entries in_order done refl refl refl refl refl refl upto.0 front (synced f m serving),
       )))
 
   -- and its file has the entries of the memory table
-  pub table_put : (end : ℕ) (version : Rc Placement Global) (after : DbState K g) → after ≡ with_table end version
+  pub table_put : (end : ℕ) (version : Rc Placement Global) (front : Vec (String Global)) (after : DbState K g) → after ≡ with_table end version front
       → (IsTrue facts.faithful → (m : Machine) (serving : IsServing order old before m) → IsFlushed order old.facts.files facts.files next numbers.next end entries version.value.tables serving.log.directory.directory serving.log.logs.sealed serving.log.logs.current)
       → PutsSealed order old new before (open_db (record memory { sealed = None }) after)
-  table_put end version after is has =
+  table_put end version front after is has =
       subst (λ (s : DbState K g). PutsSealed order old new before (open_db (record memory { sealed = None }) s)) (sym is)
       (λ f given m s.
       let serving = serving_of order old given before m whole s in
@@ -248,10 +279,11 @@ module _ {K : Type 0} {g : _} (order : Order) (kept : (scan : Scan K g) → Scan
         accounted = rw (logged_same) h.accounted;
         readable = record { made = h.readable.made; numbers = free_up order source.facts.files m.numbers (m.numbers + 1) (omega arith) h.readable.numbers; limits = h.readable.limits };
         numbers = (let below = h.numbers in omega (arith, below));
+        synced = h.synced;
         job = each_job _ _ state.job (λ work is c.
             let d = a.directory in
             goes_beside order (whole_of source (open_db memory state)) (whole_of source (open_db let_go state)) state.directory.numbers.next state.directory.numbers.next state.snapshots state.snapshots state.iterators state.iterators state.version.value.tables d d work c
-            a.consistent knows.free state.directory.numbers.in_range.1 (omega arith) (λ number numbered below one. (refl, refl)) (λ sound. sound) (λ number kept_now. inl kept_now) refl refl
+            a.consistent knows.free state.directory.numbers.in_range.1 (omega arith) (λ number numbered below one. ((refl, λ file there was. was), refl)) (λ sound. sound) (λ number kept_now. inl kept_now) refl refl
             (omega arith) (known_itself state.snapshots memory.last) (have_itself state.iterators state.version.value.tables)
             (λ number. version_unowned work.job.outputs order source.facts.files d h.contents state.version.value.tables number a.consistent a.in_tables h.tables.version c.running.unused)) h.job;
       }

@@ -1,5 +1,7 @@
 -- What a flush leaves of an open database.
-use Rattle.std.proofs.Common.{true, ◌≡◌, ◌≢◌, ℕ, ◌+◌, ◌≤◌, ◌<◌, ◌^◌, List, [], ◌∷◌, ◌++◌, map, Option, Some, None, MatchOption, IsTrue, inl, inr, refl, sym, ap, subst, ◌∙◌, arith, string_bytes}
+use Rattle.std.proofs.Common.{true, ◌≡◌, ◌≢◌, ℕ, ◌+◌, ◌≤◌, ◌<◌, ◌^◌, List, [], ◌∷◌, ◌++◌, map, Option, Some, None, MatchOption, IsTrue, inl, inr, refl, sym, ap, subst, ◌∙◌, arith, String, string_bytes}
+use Rattle.std.specs.declared.alloc.Global.{Global}
+use Rattle.std.specs.Global.{Vec}
 use Rattle.std.proofs.lemmas.List.{append-nil}
 use Rattle.std.specs.FinMap.{get}
 use Rattle.std.specs.declared.cmp.Ordering.{Ordering}
@@ -38,6 +40,9 @@ use Rattle.opening.specs.declared.directory.DirectoryState.{DirectoryState}
 use Rattle.opening.specs.internal.Directories.{CanAppend}
 use Rattle.engine.specs.internal.Directory.{IsReadable}
 use Rattle.engine.specs.OpenDb.{OpenDb, whole_of}
+use Rattle.directory_writes.specs.internal.Calls.{LeavesFile}
+use Rattle.engine.proofs.Synced.{whole_left}
+use Rattle.engine.specs.internal.Synced.{IsSyncedBut}
 use Rattle.engine.specs.internal.Standing.{entries_of, HasLog, IsBroken, IsServing}
 use Rattle.reader.specs.internal.Iterators.{IsWalk}
 use Rattle.engine.specs.Reads.{kept_at}
@@ -107,9 +112,9 @@ module _ {K : Type 0} {g : _} (order : Order) (kept : (scan : Scan K g) → Scan
   abbrev pub StaysBelow : Type 0
   StaysBelow = (n : ℕ) → IsNumbered n → n < next → table_at facts.files n ≡ table_at old.facts.files n
 
-  -- under both of their names
+  -- under both of their names, and what of the newer one is synced
   abbrev pub NamesStay : Type 0
-  NamesStay = (n : ℕ) → IsNumbered n → n < next → (get facts.files (name_of (Table n)) ≡ get old.facts.files (name_of (Table n))) × (get facts.files (name_of (OldTable n)) ≡ get old.facts.files (name_of (OldTable n)))
+  NamesStay = (n : ℕ) → IsNumbered n → n < next → LeavesFile old.facts facts (name_of (Table n)) × (get facts.files (name_of (OldTable n)) ≡ get old.facts.files (name_of (OldTable n)))
 
   module _ (t : IsTrue facts.faithful) (drawn : 0 < next) (few : next < 2 ^ 62) (touches : FlushTouches old.facts facts (name_of (Table next)) (string_bytes db.directory.manifest.name)) where
     numbered_next : IsNumbered next
@@ -132,7 +137,14 @@ module _ {K : Type 0} {g : _} (order : Order) (kept : (scan : Scan K g) → Scan
     apart_next n less e = absurd (omega (arith, less, e))
 
     pub names_same : NamesStay
-    names_same n numbered less = (newer_same n numbered (apart_next n less), older_same n numbered)
+    names_same n numbered less = (
+      (
+        newer_same n numbered (apart_next n less),
+        touches.synced t (name_of (Table n)) (files_apart (Table n) (Table next) numbered numbered_next (λ e. apart_next n less (let is : n ≡ next = cc in is)))
+            (λ e. files_apart (Table n) (Manifest d.manifest) numbered a.consistent.manifest.numbered (λ same. cc) (e ∙ serving.log.knows.named)),
+      ),
+      older_same n numbered,
+    )
 
     pub table_same : StaysBelow
     table_same n numbered less = same_table old.facts.files facts.files n (newer_same n numbered (apart_next n less)) (older_same n numbered)
@@ -149,7 +161,7 @@ module _ {K : Type 0} {g : _} (order : Order) (kept : (scan : Scan K g) → Scan
 
   -- where nothing was done, too
   pub names_unchanged : facts ≡ old.facts → NamesStay
-  names_unchanged same n numbered less = (ap (λ (f : Facts). get f.files (name_of (Table n))) same, ap (λ (f : Facts). get f.files (name_of (OldTable n))) same)
+  names_unchanged same n numbered less = ((ap (λ (f : Facts). get f.files (name_of (Table n))) same, ap (λ (f : Facts). f.synced (name_of (Table n))) same), ap (λ (f : Facts). get f.files (name_of (OldTable n))) same)
 
   pub table_unchanged : facts ≡ old.facts → StaysBelow
   table_unchanged same n numbered less = ap (λ (f : Facts). table_at f.files n) same
@@ -191,7 +203,7 @@ module _ {K : Type 0} {g : _} (order : Order) (kept : (scan : Scan K g) → Scan
 
     module _ (end : ℕ) (tables : List PlacedTable) (pointers : List (Option (List ℕ))) (state : DirectoryState) (entries : List Entry) (in_order : AreInOrder order.cmp tables) (has : IsFlushed order old.facts.files facts.files next after end entries tables d sealed current)
         (number : state.manifest.number ≡ db.directory.manifest.number) (name : state.manifest.name ≡ db.directory.manifest.name) (ends : state.manifest.end ≡ end) (first_log : state.first_log ≡ db.log.number) (previous_log : state.previous_log ≡ 0)
-        (next_is : state.numbers.next ≡ after) (le : next ≤ after) where
+        (next_is : state.numbers.next ≡ after) (le : next ≤ after) (front : Vec (String Global)) (synced : IsSyncedBut facts (record db.log { front = front }) state tables) where
       abbrev f : HasFlushed order old.facts.files facts.files next after entries d sealed current
       f = has.has
 
@@ -202,7 +214,7 @@ module _ {K : Type 0} {g : _} (order : Order) (kept : (scan : Scan K g) → Scan
       memory = record db.memory { sealed = None }
 
       abbrev pub flushed_db : OpenDb K g
-      flushed_db = record db { memory = memory; tables = tables; compact_pointers = pointers; directory = state }
+      flushed_db = record db { memory = memory; tables = tables; compact_pointers = pointers; directory = state; log = record db.log { front = front } }
 
       in_current : db.memory.current.inserts ≡ logged (current ∷ [])
       in_current = serving.log.logs.current_are ∙ sym (append-nil (batch_entries current.batches))
@@ -248,7 +260,7 @@ module _ {K : Type 0} {g : _} (order : Order) (kept : (scan : Scan K g) → Scan
           (job_stays order work (whole_of old db) (whole_of new flushed_db) next state.numbers.next d e c.came c.left r (record {
             drawn = omega (arith, next_is, le);
             files = λ n input. let known = inputs_are n input in stays n known.0 known.1;
-            outputs = λ n own. let known = own_are n own in (names n known.0 known.1).0;
+            outputs = λ n own. let known = own_are n own in whole_left old.facts facts (name_of (Table n)) (names n known.0 known.1).0;
             sound = sound_still;
             unkept = λ n kept_now mine. r.unkept n kept_now (elim mine [ inl at ↦ inl at | inr come ↦ inr ((let from = come.0 in omega (arith, from, next_is, le)), come.1) ]);
             rest = with_content f.content r.rest;
@@ -280,6 +292,7 @@ module _ {K : Type 0} {g : _} (order : Order) (kept : (scan : Scan K g) → Scan
         accounted = accounted_same (entries_of serving.contents db) (entries_of e.tables flushed_db) (entry_count m) (weight m) same serving.accounted;
         readable = readable_as e f.consistent f.limits;
         numbers = (let below : next ≤ m.numbers = serving.numbers in omega (arith, next_is, upto, below));
+        synced = synced;
         job = job_flushed;
       }
 
@@ -287,7 +300,7 @@ module _ {K : Type 0} {g : _} (order : Order) (kept : (scan : Scan K g) → Scan
 
     module _ (state : DirectoryState) (entries : List Entry) (has : IsUnflushed order old.facts.files facts.files after plan db.directory.manifest entries db.tables d sealed current)
         (number : state.manifest.number ≡ db.directory.manifest.number) (name : state.manifest.name ≡ db.directory.manifest.name) (ends : state.manifest.end ≡ db.directory.manifest.end) (first_log : state.first_log ≡ db.directory.first_log)
-        (previous_log : state.previous_log ≡ db.directory.previous_log) (next_is : state.numbers.next ≡ after) (le : next ≤ after) where
+        (previous_log : state.previous_log ≡ db.directory.previous_log) (next_is : state.numbers.next ≡ after) (le : next ≤ after) (synced : IsSyncedBut facts db.log state db.tables) where
       abbrev pub unflushed_db : OpenDb K g
       unflushed_db = record db { directory = state }
 
@@ -340,9 +353,10 @@ module _ {K : Type 0} {g : _} (order : Order) (kept : (scan : Scan K g) → Scan
         accounted = serving.accounted;
         readable = readable_as d has.can.consistent passes_still;
         numbers = (let below : next ≤ m.numbers = serving.numbers in omega (arith, next_is, upto, below));
+        synced = synced;
         job = each_job _ _ db.job (λ work is c.
             goes_beside order (whole_of old db) (whole_of new unflushed_db) next state.numbers.next db.snapshots db.snapshots db.iterators db.iterators db.tables d d work c
-            a.consistent serving.log.knows.free db.directory.numbers.in_range.1 (omega (arith, next_is, le)) (λ n numbered below one. names n numbered below) sound_still (λ n kept_now. inl kept_now) refl refl
+            a.consistent serving.log.knows.free db.directory.numbers.in_range.1 (omega (arith, next_is, le)) (λ n numbered below one. let same = names n numbered below in (whole_left old.facts facts (name_of (Table n)) same.0, same.1)) sound_still (λ n kept_now. inl kept_now) refl refl
             (omega arith) (known_itself db.snapshots db.memory.last) (have_itself db.iterators db.tables)
             (λ number. version_unowned work.job.outputs order old.facts.files d serving.contents db.tables number a.consistent a.in_tables serving.tables.version c.running.unused)) serving.job;
       }

@@ -1,14 +1,15 @@
 -- What the end of a compaction leaves of an open database.
-use Rattle.std.proofs.Common.{true, ◌≡◌, ◌≢◌, ℕ, ◌+◌, ◌≤◌, List, [], ◌∷◌, ◌++◌, map, Option, Some, None, IsTrue, inl, inr, refl, sym, ap, subst, ◌∙◌, arith, string_bytes}
+use Rattle.std.proofs.Common.{true, ◌≡◌, ◌≢◌, ◌⊎◌, ◌<◌, ℕ, ◌+◌, ◌≤◌, List, Contains, [], ◌∷◌, ◌++◌, map, Option, Some, None, IsTrue, inl, inr, refl, sym, ap, subst, ◌∙◌, arith, string_bytes}
 use Rattle.std.specs.FinMap.{get}
 use Rattle.cache.specs.Tables.{table_at}
 use Rattle.compact.specs.Laws.{AreNewerOrDeep, SeesAsOne}
-use Rattle.compact.specs.Outputs.{IsNumberAtHand}
+use Rattle.compact.specs.Outputs.{IsNumberAtHand, IsTableName}
 use Rattle.edits.specs.Edit.{HasPastLimit}
 use Rattle.edits.specs.Layout.{fields_of}
-use Rattle.edits.specs.Names.{name_of, IsNumbered}
+use Rattle.edits.specs.Names.{name_of, IsFileName, IsNumbered}
 use Rattle.edits.specs.declared.field.Field.{Field}
 use Rattle.edits.specs.declared.field.PlacedTable.{PlacedTable}
+use Rattle.edits.specs.declared.names.FileName.{FileName}
 use Rattle.edits.specs.declared.names.FileName.TheVariants.{Manifest, Table, OldTable}
 use Rattle.ikey.proofs.SearchedSources.{among_split, among_front, among_back}
 use Rattle.ikey.specs.Entries.{InternalEntry, entry_of}
@@ -37,7 +38,9 @@ use Rattle.store.specs.Files.{Facts, Files}
 use Rattle.directory_writes.proofs.PlansMade.{planned_apart}
 use Rattle.directory_writes.specs.Replacing.{placed_in}
 use Rattle.directory_writes.specs.internal.Flush.{KeepsLogsAndTables, PassesNoLimit}
-use Rattle.directory_writes.specs.internal.Install.{HasInstalled, InstallTouches, IsUninstalled, MayBeInstalled}
+use Rattle.directory_writes.specs.internal.Calls.{LeavesFile}
+use Rattle.directory_writes.specs.internal.Install.{HasInstalled, InstallTouches, IsTableSynced, IsUninstalled, MayBeInstalled}
+use Rattle.directory_writes.specs.internal.Removal.{table_number}
 use Rattle.versions.specs.Levels.{AreInOrder, ListsSameTables}
 use Rattle.opening.specs.declared.directory.DirectoryState.{DirectoryState}
 use Rattle.engine.specs.internal.Accounted.{AreAccounted}
@@ -51,7 +54,13 @@ use Rattle.engine.specs.Reads.{kept_at}
 use Rattle.engine.specs.internal.Live.{AreSnapshots, IsSnapshot}
 use Rattle.machine.specs.Machine as machine
 use Rattle.machine.specs.Machine.{Machine, Walk, entry_count, view_at, weight}
-use Rattle.engine.proofs.Compacting.{own_number}
+use Rattle.opening.specs.Durable.{IsSynced}
+use Rattle.opening.specs.Losses.{IsKept, IsTableKept}
+use Rattle.engine.specs.internal.Synced.{IsSyncedBut}
+use Rattle.engine.proofs.Compacting.{own_number, version_number, version_unowned}
+use Rattle.engine.proofs.FrontSyncing.{same_or_other}
+use Rattle.engine.proofs.Synced.{kept_still, no_table, one_number, synced_still, synced_with, table_still, table_synced}
+use Rattle.engine.proofs.WriteSynced.{kept_synced}
 use Rattle.engine.proofs.Pieces.{free_up, live_each, made_still, rests_seen, walks_each}
 use Rattle.opening.proofs.Reopening.{files_apart, long_back}
 use Rattle.engine.proofs.WorkSteps.{drawing}
@@ -175,6 +184,31 @@ module _ {K : Type 0} {g : _} (order : Order) (kept : (scan : Scan K g) → Scan
         other_file (name_of (OldTable n)) (λ number at. files_apart (OldTable n) (Table number) numbered (at_hand number at) (λ e. cc))
         (files_apart (OldTable n) (Manifest d.manifest) numbered a.consistent.manifest.numbered (λ e. cc))
 
+    -- a file with none of these names, and what of it is synced
+    leaves_file : (file : FileName) → IsFileName file → ((number : ℕ) → IsNumberAtHand work.job.outputs number → file ≢ Table number) → name_of file ≢ string_bytes db.directory.manifest.name → LeavesFile old.facts facts (name_of file)
+    leaves_file file is apart other =
+        let named : (number : ℕ) → IsNumberAtHand work.job.outputs number → name_of file ≢ name_of (Table number) = λ number at. files_apart file (Table number) is (at_hand number at) (apart number at) in
+        (touches.others f (name_of file) named other, touches.synced f (name_of file) named other)
+
+    -- the tables that the version had
+    old_synced : (p : PlacedTable) → Contains db.tables p → IsTableKept old.facts p.table.number → IsTableKept facts p.table.number
+    old_synced p there kept_whole =
+        let known = serving.synced.names.placed p there in
+        let unowned_here = version_unowned work.job.outputs order old.facts.files d serving.contents db.tables p.table.number a.consistent a.in_tables serving.tables.version c.running.unused (p, there, refl) in
+        let manifest = serving.synced.names.manifest in
+        table_still old.facts facts p.table.number
+        (leaves_file (Table p.table.number) known.0 (λ number at e. unowned_here (inl (subst (IsNumberAtHand work.job.outputs) (one_number e) at)))
+        (λ e. files_apart (Table p.table.number) (Manifest db.directory.manifest.number) known.0 manifest.0 (λ same. cc) (e ∙ manifest.1)))
+        (leaves_file (OldTable p.table.number) known.0 (λ number at e. cc)
+        (λ e. files_apart (OldTable p.table.number) (Manifest db.directory.manifest.number) known.0 manifest.0 (λ same. cc) (e ∙ manifest.1))) kept_whole
+
+    -- and all else, by what became of the MANIFEST
+    beside_synced : (IsKept old.facts (string_bytes db.directory.manifest.name) → IsKept facts (string_bytes db.directory.manifest.name)) → (file : FileName) → IsFileName file → table_number file ≡ None → IsKept old.facts (name_of file) → IsKept facts (name_of file)
+    beside_synced manifest file is none kept_whole = elim (same_or_other (name_of file) (string_bytes db.directory.manifest.name)) [
+      | inl it ↦ subst (IsKept facts) (sym it) (manifest (subst (IsKept old.facts) it kept_whole))
+      | inr other ↦ kept_still old.facts facts (name_of file) (leaves_file file is (λ number at. no_table file number none) other) kept_whole
+    ]
+
     table_same : (n : ℕ) → IsNumbered n → (IsNumberAtHand work.job.outputs n → ⊥) → table_at facts.files n ≡ table_at old.facts.files n
     table_same n numbered apart = same_table old.facts.files facts.files n (newer_same n numbered apart) (older_same n numbered)
 
@@ -223,7 +257,8 @@ module _ {K : Type 0} {g : _} (order : Order) (kept : (scan : Scan K g) → Scan
 
       module _ (tables : List PlacedTable) (pointers : List (Option (List ℕ))) (state : DirectoryState) (in_order : AreInOrder order.cmp tables) (ends : ManifestEndsAt order facts.files d.manifest state.manifest.end (d.edits ++ has.edit ∷ []) has.next) (free : IsFree order facts.files next)
           (listed : ListsSameTables (placed_in has.contents) tables) (number : state.manifest.number ≡ db.directory.manifest.number) (name : state.manifest.name ≡ db.directory.manifest.name) (first_log : state.first_log ≡ db.directory.first_log)
-          (previous_log : state.previous_log ≡ db.directory.previous_log) (next_is : state.numbers.next ≡ next) where
+          (previous_log : state.previous_log ≡ db.directory.previous_log) (next_is : state.numbers.next ≡ next) (edited : IsSynced facts (string_bytes db.directory.manifest.name))
+          (put : (placed : PlacedTable) → Contains tables placed → name_of (Table placed.table.number) ≢ string_bytes db.directory.manifest.name → Contains db.tables placed ⊎ IsTableSynced facts placed.table.number) where
         abbrev pub installed_db : OpenDb K g
         installed_db = record db { tables = tables; compact_pointers = pointers; directory = state; job = None }
 
@@ -253,6 +288,22 @@ module _ {K : Type 0} {g : _} (order : Order) (kept : (scan : Scan K g) → Scan
               };
             }
 
+        named_now : (p : PlacedTable) → Contains tables p → IsNumbered p.table.number × (p.table.number < state.numbers.next)
+        named_now p there = (let known = version_number order facts.files e next has.contents tables p.table.number has.consistent free refl listed (p, there, refl) in (known.0, (let less = known.1 in omega (arith, less, next_is))))
+
+        placed_now : (p : PlacedTable) → Contains tables p → db.directory.manifest.number ≤ p.table.number → IsTableKept facts p.table.number
+        placed_now p there from =
+            let manifest = serving.synced.names.manifest in
+            elim (put p there (λ e. files_apart (Table p.table.number) (Manifest db.directory.manifest.number) (named_now p there).0 manifest.0 (λ same. cc) (e ∙ manifest.1))) [
+              | inl was ↦ old_synced p was (serving.synced.synced.placed p was from)
+              | inr whole ↦ table_synced facts p.table.number whole
+            ]
+
+        synced_installed : IsSyncedBut facts db.log state tables
+        synced_installed =
+            synced_with old.facts facts db.log db.directory state db.tables tables number name first_log previous_log (omega (arith, next_is))
+            (beside_synced (λ kept_whole. kept_synced facts (string_bytes db.directory.manifest.name) edited)) serving.synced placed_now named_now
+
         pub serving_installed : IsServing order new installed_db ended_by
         serving_installed = record {
           whole = serving.whole;
@@ -271,6 +322,7 @@ module _ {K : Type 0} {g : _} (order : Order) (kept : (scan : Scan K g) → Scan
           accounted = subst (λ (es : List Entry). AreAccounted es (entry_count m) (weight m)) (sym (logged_now facts.files has)) (accounted_on facts.files has);
           readable = readable_as e has.consistent has.limits free;
           numbers = (let below : next ≤ m.numbers = serving.numbers in omega (arith, next_is, below));
+          synced = synced_installed;
           job = tt;
         }
 
@@ -294,7 +346,8 @@ module _ {K : Type 0} {g : _} (order : Order) (kept : (scan : Scan K g) → Scan
       | inr long ↦ inr (long_back order old.facts.files facts.files d.tables parts.beside.tables long)
     ])
 
-    module _ (has : IsUninstalled order old.facts.files facts.files next db.directory.manifest db.tables d) where
+    module _ (has : IsUninstalled order old.facts.files facts.files next db.directory.manifest db.tables d)
+        (spares : (IsTableName (IsNumberAtHand work.job.outputs) (string_bytes db.directory.manifest.name) → ⊥) → LeavesFile old.facts facts (string_bytes db.directory.manifest.name)) where
       abbrev pub uninstalled_db : OpenDb K g
       uninstalled_db = record db { job = None }
 
@@ -317,6 +370,16 @@ module _ {K : Type 0} {g : _} (order : Order) (kept : (scan : Scan K g) → Scan
             };
           }
 
+      -- the MANIFEST is no table
+      manifest_left : LeavesFile old.facts facts (string_bytes db.directory.manifest.name)
+      manifest_left = (let manifest = serving.synced.names.manifest in spares (λ is.
+          files_apart (Manifest db.directory.manifest.number) (Table is.0) manifest.0 (at_hand is.0 is.1) (λ same. cc) (sym manifest.1 ∙ is.2)))
+
+      synced_uninstalled : IsSyncedBut facts db.log db.directory db.tables
+      synced_uninstalled =
+          synced_still old.facts facts db.log db.directory db.directory db.tables refl refl refl refl (omega arith) serving.synced
+          (beside_synced (kept_still old.facts facts (string_bytes db.directory.manifest.name) manifest_left)) (λ p there known. old_synced p there)
+
       pub serving_uninstalled : IsServing order new uninstalled_db ended_by
       serving_uninstalled = record {
         whole = serving.whole;
@@ -330,6 +393,7 @@ module _ {K : Type 0} {g : _} (order : Order) (kept : (scan : Scan K g) → Scan
         accounted = serving.accounted;
         readable = readable_as d has.served.consistent (passes_still has.kept) has.served.free;
         numbers = (let below : next ≤ m.numbers = serving.numbers in omega (arith, below));
+        synced = synced_uninstalled;
         job = tt;
       }
 

@@ -10,7 +10,7 @@ use Rattle.coding.specs.declared.error.DbError.{DbError}
 use Rattle.coding.specs.declared.error.DbError.TheVariants as error
 use Rattle.compact.specs.Deeper.{is_covered_below}
 use Rattle.compact.specs.Needed.{AreNeeded}
-use Rattle.compact.specs.Outputs.{IsOwn, RefusesEntry}
+use Rattle.compact.specs.Outputs.{IsNumberAtHand, IsOwn, IsTableName, RefusesEntry}
 use Rattle.compact.specs.Rooms.{AreLarge}
 use Rattle.compact.specs.declared.job.Progress.{Progress}
 use Rattle.edits.specs.declared.numbers.FileNumbers.{FileNumbers}
@@ -45,7 +45,9 @@ use Rattle.store.specs.Stops.{LeavesOnly}
 use Rattle.store.proofs.Stopping.{leaves_both, leaves_so}
 use Rattle.directory_writes.proofs.JobTables.{contains_among, content_at}
 use Rattle.directory_writes.specs.Replacing.{placed_in}
-use Rattle.directory_writes.specs.internal.Install.{InstallMeans, InstallTouches}
+use Rattle.directory_writes.specs.internal.Flush.{SparesManifest}
+use Rattle.directory_writes.specs.internal.Install.{InstallMeans, InstallSyncs, InstallTouches, IsTableSynced}
+use Rattle.opening.specs.Durable.{IsSynced}
 use Rattle.directory_writes.specs.declared.flush.FlushError.{FlushError}
 use Rattle.directory_writes.specs.declared.flush.FlushError.TheVariants.{Before, Edit}
 use Rattle.directory_writes.specs.declared.install.Installed.{Installed}
@@ -413,20 +415,32 @@ module _ {K : Type 0} {g : _} (order : Order) (total : IsTotalOrder order.cmp) (
           (subst (λ (ts : List PlacedTable). EndMayLeave order new.facts numbers.next sequence state.directory.manifest ts after files) tables_are left) in
           means_install order kept one lasts new facts mid end (on m serving f) after (c m serving f) (none_left m serving f) files (said (whole_of new mid) (on m serving f).log.directory.directory (c m serving f).came refl can)) (ends f))
 
+      -- the MANIFEST is synced, and so are the tables that were put in
+      abbrev Edited : Type 0
+      Edited = IsTrue facts.faithful → IsSynced facts (string_bytes state.directory.manifest.name)
+
+      abbrev PutsSynced : Installed K → Type 0
+      PutsSynced installed = InstallSyncs order.cmp after.job new.facts facts numbers.next (string_bytes state.directory.manifest.name) tables (Ok installed)
+
+      abbrev Spares : FlushError → Type 0
+      Spares e = SparesManifest {T = Installed K} new.facts facts (string_bytes state.directory.manifest.name) (IsTableName (IsNumberAtHand after.job.outputs)) (Err e)
+
       -- the outputs are in the place of the inputs
       abbrev pub installed_state : Installed K → DbState K g
       installed_state installed = record (with_job None) { version = installed.version; directory = record state.directory { numbers = numbers; manifest = record state.directory.manifest { end = installed.manifest_end } } }
 
       pub ends_installed : {T : Type 0} (done : T) (installed : Installed K) → result ≡ Ok installed → AreInOrder order.cmp installed.version.value.tables
-          → LeadsOpen order old last_seen ids db (open_db after_memory (installed_state installed)) (λ m n. IsPiece m most (Ok done) n)
-      ends_installed done installed said in_order =
+          → Edited → PutsSynced installed → LeadsOpen order old last_seen ids db (open_db after_memory (installed_state installed)) (λ m n. IsPiece m most (Ok done) n)
+      ends_installed done installed said in_order edited puts =
           serves_on order old last_seen ids db (open_db after_memory (installed_state installed)) most (Ok done) whole whole faithful rise undenied
           (λ m f same serving.
           let has = subst (λ (r : Result (Installed K) FlushError). Means m serving f r) said (means m serving f) in (
             draws m most facts,
             once m serving f last_seen (open_db after_memory (installed_state installed))
                 (serving_installed order kept one lasts new facts mid (drawing m most new.facts) (on m serving f) after (c m serving f) (none_left m serving f) f install has.has installed.version.value.tables installed.version.value.compact_pointers (installed_state installed).directory in_order has.ends has.free has.listed
-                refl refl refl refl refl),
+                refl refl refl refl refl (edited f)
+                (λ placed there apart.
+                subst (λ (ts : List PlacedTable). Contains ts placed ⊎ IsTableSynced facts placed.table.number) tables_are (puts f (deep_of order.cmp after) (c m serving f).came (c m serving f).running.merging placed there apart))),
           ))
 
       -- where it has taken all tables, what they have now is needed
@@ -482,9 +496,9 @@ module _ {K : Type 0} {g : _} (order : Order) (total : IsTotalOrder order.cmp) (
 
       -- no number more is drawn than entries came
       pub ends_counted : {T : Type 0} (budget_is : most ≤ max budget 1) (merged : after.merged ≡ shown (before.merged + progress.merged)) (few : most ≤ progress.merged) (done : T) (installed : Installed K) → result ≡ Ok installed
-          → AreInOrder order.cmp installed.version.value.tables → LeadsOpen order old last_seen ids db (open_db after_memory (installed_state installed)) (λ m n. HasCome budget db m (Ok done) n)
-      ends_counted budget_is merged few done installed said in_order =
-          let step = ends_installed done installed said in_order in
+          → AreInOrder order.cmp installed.version.value.tables → Edited → PutsSynced installed → LeadsOpen order old last_seen ids db (open_db after_memory (installed_state installed)) (λ m n. HasCome budget db m (Ok done) n)
+      ends_counted budget_is merged few done installed said in_order edited puts =
+          let step = ends_installed done installed said in_order edited puts in
           record {
             faithful = step.faithful;
             moved = λ f m s.
@@ -497,14 +511,14 @@ module _ {K : Type 0} {g : _} (order : Order) (total : IsTotalOrder order.cmp) (
 
       -- they aren't, and nothing was lost
       uninstalled : {T : Type 0} (e : DbError) → result ≡ Err (Before e) → ((m : Machine) → IsServing order old db m → IsTrue facts.faithful → UpkeepRefused m most e (drawing m most facts))
-          → LeadsOpen order old last_seen ids db (open_db after_memory (with_job None)) (λ m n. IsPiece {T = T} m most (Err e) n)
-      uninstalled e said why =
+          → Spares (Before e) → LeadsOpen order old last_seen ids db (open_db after_memory (with_job None)) (λ m n. IsPiece {T = T} m most (Err e) n)
+      uninstalled e said why spares =
           serves_on order old last_seen ids db (open_db after_memory (with_job None)) most (Err e) whole whole faithful rise undenied
           (λ m f same serving.
           let has = subst (λ (r : Result (Installed K) FlushError). Means m serving f r) said (means m serving f) in (
             why m serving f,
             once m serving f last_seen (open_db after_memory (with_job None))
-                (serving_uninstalled order kept one lasts new facts mid (drawing m most new.facts) (on m serving f) after (c m serving f) (none_left m serving f) f install has.1),
+                (serving_uninstalled order kept one lasts new facts mid (drawing m most new.facts) (on m serving f) after (c m serving f) (none_left m serving f) f install has.1 (spares f)),
           ))
 
       -- the device failed
@@ -516,12 +530,12 @@ module _ {K : Type 0} {g : _} (order : Order) (total : IsTotalOrder order.cmp) (
           (λ m f serving. once_broken m serving f (may m serving f))
 
       unended : {T : Type 0} (e : FlushError) → result ≡ Err e → RefusesEnd order new.facts facts numbers.next sequence state.directory.manifest tables after e
-          → LeadsOpen order old last_seen ids db (open_db after_memory (broken_by (with_job None) (flush_answer e))) (λ m n. IsPiece {T = T} m most (Err (flush_answer e)) n)
-      unended (Before error.OutOfMemory) said h = uninstalled error.OutOfMemory said (λ m serving f. draws m most facts)
-      unended (Before error.Io) said h = failed h (λ m serving f.
+          → Spares e → LeadsOpen order old last_seen ids db (open_db after_memory (broken_by (with_job None) (flush_answer e))) (λ m n. IsPiece {T = T} m most (Err (flush_answer e)) n)
+      unended (Before error.OutOfMemory) said h spares = uninstalled error.OutOfMemory said (λ m serving f. draws m most facts) spares
+      unended (Before error.Io) said h spares = failed h (λ m serving f.
           let has = (subst (λ (r : Result (Installed K) FlushError). Means m serving f r) said (means m serving f)).1 in
           broken_install order kept one lasts new facts mid (drawing m most new.facts) (on m serving f) after (c m serving f) (none_left m serving f) f install (record { either = inl (has.served.consistent, has.kept); free = has.served.free }))
-      unended (Before (error.Unsupported what)) said h = uninstalled (error.Unsupported what) said (λ m serving f. (inr (heavy m serving f (h f)), draws m most facts))
+      unended (Before (error.Unsupported what)) said h spares = uninstalled (error.Unsupported what) said (λ m serving f. (inr (heavy m serving f (h f)), draws m most facts)) spares
         where
           heavy : (m : Machine) (serving : IsServing order old db m) (f : IsTrue facts.faithful)
               → ((seen_whole : Whole) (e : Directory) (came : List InternalEntry) → seen_whole.seen.facts ≡ new.facts → CanEnd order seen_whole numbers.next sequence state.directory.manifest tables e after came → AreLarge (map entry_of came)) → 2 ^ 29 ≤ weight m
@@ -532,13 +546,13 @@ module _ {K : Type 0} {g : _} (order : Order) (total : IsTotalOrder order.cmp) (
               let few = large (whole_of new mid) (on m serving f).log.directory.directory (c m serving f).came refl said_can in
               let all = sym (ap (λ (es : List InternalEntry). (c m serving f).came ++ es) (none_left m serving f) ∙ append-nil (c m serving f).came) in
               job_heavy order total new mid (drawing m most new.facts) (on m serving f) after (c m serving f) (subst (λ (es : List InternalEntry). AreLarge (map entry_of es)) all few)
-      unended (Before (error.Corrupt file what)) said h = uninstalled (error.Corrupt file what) said (λ m serving f.
-          absurd ((subst (λ (r : Result (Installed K) FlushError). Means m serving f r) said (means m serving f)).0 tt))
-      unended (Before error.NumbersSpent) said h = uninstalled error.NumbersSpent said (λ m serving f. ((let below : next ≤ m.numbers = serving.numbers in omega (arith, h, below, upto)), draws m most facts))
-      unended (Before _) said h = absurd h
-      unended Edit said h = failed h (λ m serving f.
+      unended (Before (error.Corrupt file what)) said h spares = uninstalled (error.Corrupt file what) said (λ m serving f.
+          absurd ((subst (λ (r : Result (Installed K) FlushError). Means m serving f r) said (means m serving f)).0 tt)) spares
+      unended (Before error.NumbersSpent) said h spares = uninstalled error.NumbersSpent said (λ m serving f. ((let below : next ≤ m.numbers = serving.numbers in omega (arith, h, below, upto)), draws m most facts)) spares
+      unended (Before _) said h spares = absurd h
+      unended Edit said h spares = failed h (λ m serving f.
           broken_install order kept one lasts new facts mid (drawing m most new.facts) (on m serving f) after (c m serving f) (none_left m serving f) f install (subst (λ (r : Result (Installed K) FlushError). Means m serving f r) said (means m serving f)))
 
       pub ends_unended : {T : Type 0} (e : FlushError) → result ≡ Err e → RefusesEnd order new.facts facts numbers.next sequence state.directory.manifest tables after e
-          → LeadsOpen order old last_seen ids db (open_db after_memory (broken_by (with_job None) (flush_answer e))) (λ m n. IsPiece {T = T} m most (Err (flush_answer e)) n)
-      ends_unended e said h = unended e said h
+          → Spares e → LeadsOpen order old last_seen ids db (open_db after_memory (broken_by (with_job None) (flush_answer e))) (λ m n. IsPiece {T = T} m most (Err (flush_answer e)) n)
+      ends_unended e said h spares = unended e said h spares

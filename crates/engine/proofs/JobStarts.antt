@@ -32,6 +32,7 @@ use Rattle.engine.specs.internal.Leading.{LeadsOpen}
 use Rattle.engine.specs.OpenDb.{OpenDb, open_db, whole_of}
 use Rattle.engine.specs.Reads.{kept_at}
 use Rattle.machine.specs.Machine.{Machine}
+use Rattle.engine.proofs.Synced.{stays_same}
 use Rattle.engine.specs.internal.Standing.{IsServing}
 use Rattle.machine.specs.Upkeep.{UpkeepRefused}
 use Rattle.engine.specs.internal.Pieces.{IsPiece}
@@ -65,6 +66,7 @@ module _ {K : Type 0} {g : _} (order : Order) (source : Seen) (db : OpenDb K g) 
     accounted = h.accounted;
     readable = h.readable;
     numbers = h.numbers;
+    synced = h.synced;
     job = c;
   }
 
@@ -106,7 +108,7 @@ module _ {K : Type 0} {g : _} (order : Order) (kept : (scan : Scan K g) → Scan
     gathers number is_kept = elim (leaves.carries.gathered number is_kept) [ inl was ↦ inl was | inr has ↦ inr (inl (of_version number has)) ]
 
     abbrev read_on : IsServing order new (record db { memory = after_memory }) (read_by new.facts m)
-    read_on = serving_read order kept old new db after_memory m (leaves.carries.reads.files f) (leaves.carries.sound f) there gathers leaves.memory serving
+    read_on = serving_read order kept old new db after_memory m (leaves.carries.reads.files f) (leaves.carries.sound f) there gathers leaves.memory (stays_same old.facts new.facts db.log db.directory db.tables (leaves.carries.reads.files f) (leaves.carries.reads.synced f)) serving
 
     -- none was drawn
     pub on : IsServing order new (record db { memory = after_memory }) (drawing m 0 new.facts)

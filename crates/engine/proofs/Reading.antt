@@ -46,6 +46,7 @@ use Rattle.engine.specs.internal.Compacting.{IsCompacting}
 use Rattle.engine.specs.Reads.{kept_at}
 use Rattle.engine.specs.internal.Live.{AreLive, AreWalks, IsBoth}
 use Rattle.machine.specs.Machine.{Machine, Walk}
+use Rattle.engine.proofs.Synced.{StaysSynced, stays_same}
 use Rattle.engine.specs.internal.Standing.{HasLog, HasTables, IsBroken, IsServing, StandsOpen}
 use Rattle.engine.proofs.Compacting.{each_job, goes_beside, have_itself, known_itself, version_number, version_unowned}
 use Rattle.engine.proofs.LiveIds.{live_then}
@@ -179,7 +180,7 @@ module _ {K : Type 0} {g : _} (order : Order) (kept : (scan : Scan K g) → Scan
 
   -- files and memory are the same, whatever else the calls did
   module _ (old new : Seen) (db : OpenDb K g) (memory : Memories) (m : Machine) (files : new.facts.files ≡ old.facts.files) (sound : IsSound order.cmp old → IsSound order.cmp new)
-      (keeps : KeepsThere old new) (gathers : GathersRead db old new) (left : LeavesMemories db.memory memory) where
+      (keeps : KeepsThere old new) (gathers : GathersRead db old new) (left : LeavesMemories db.memory memory) (stays : StaysSynced old.facts new.facts db.log db.log db.directory db.tables) where
     pub inserts : logged_in memory ≡ logged_in db.memory
     inserts = left_logged db.memory memory left
 
@@ -246,7 +247,7 @@ module _ {K : Type 0} {g : _} (order : Order) (kept : (scan : Scan K g) → Scan
         let contents : h.contents ≡ d.tables = a.in_tables in
         let unowned_here = λ (number : ℕ). version_unowned work.job.outputs order old.facts.files d h.contents db.tables number a.consistent contents h.tables.version c.running.unused in
         goes_beside order (whole_of old db) (whole_of new after) db.directory.numbers.next db.directory.numbers.next db.snapshots db.snapshots db.iterators db.iterators db.tables d d work c a.consistent free fits (omega arith)
-        (λ number numbered below one. (ap (λ (fs : Files). get fs (name_of (Table number))) files, ap (λ (fs : Files). get fs (name_of (OldTable number))) files)) sound
+        (λ number numbered below one. ((ap (λ (fs : Files). get fs (name_of (Table number))) files, λ file there was. (stays h.synced).1 number numbered ∙ was), ap (λ (fs : Files). get fs (name_of (OldTable number))) files)) sound
         (λ number kept_now. elim (gathers number kept_now) [
           | inl before ↦ inl before
           | inr (inl has) ↦ inr ((version_number order old.facts.files d db.directory.numbers.next h.contents db.tables number a.consistent free contents h.tables.version has).1, unowned_here number has)
@@ -275,6 +276,7 @@ module _ {K : Type 0} {g : _} (order : Order) (kept : (scan : Scan K g) → Scan
       accounted = rw (inserts) h.accounted;
       readable = readable_read h.readable;
       numbers = h.numbers;
+      synced = (stays h.synced).0;
       job = job_read h h.job;
     }
 
@@ -295,4 +297,5 @@ module _ {K : Type 0} {g : _} (order : Order) (kept : (scan : Scan K g) → Scan
   -- Calls of a faithful store that only read it leave all but the counts.
   pub stands_read : {numbers : ℕ → Type 0} (old new : Seen) (ids : Ids) (db : OpenDb K g) (memory : Memories) (m : Machine) → Carries order.cmp numbers old new → GathersRead db old new → IsTrue new.facts.faithful
       → LeavesMemories db.memory memory → StandsOpen order old ids db m → StandsOpen order new ids (record db { memory = memory }) (read_by new.facts m)
-  stands_read old new ids db memory m carries gathers f left s = stands_kept old new db memory m (carries.reads.files f) (carries.sound f) (carried_there order.cmp old new carries f) gathers left ids s
+  stands_read old new ids db memory m carries gathers f left s = stands_kept old new db memory m (carries.reads.files f) (carries.sound f) (carried_there order.cmp old new carries f) gathers left
+      (stays_same old.facts new.facts db.log db.directory db.tables (carries.reads.files f) (carries.reads.synced f)) ids s

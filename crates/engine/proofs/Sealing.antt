@@ -1,5 +1,5 @@
 -- What the sealing of the memory table and a new log leave of an open database.
-use Rattle.std.proofs.Common.{true, ◌≡◌, ◌⊎◌, ℕ, ◌+◌, ◌≤◌, ◌<◌, ◌^◌, List, [], ◌++◌, length, max, Option, Some, None, IsTrue, IsSome, inl, inr, refl, sym, ap, subst, ◌∙◌, arith, string_bytes}
+use Rattle.std.proofs.Common.{true, ◌≡◌, ◌≢◌, ◌⊎◌, ℕ, ◌+◌, ◌≤◌, ◌<◌, ◌^◌, List, [], ◌∷◌, ◌++◌, map, length, max, Option, Some, None, IsTrue, IsSome, inl, inr, refl, sym, ap, subst, ◌∙◌, arith, string_bytes}
 use Rattle.std.proofs.lemmas.List.{append-nil}
 use Rattle.std.specs.FinMap.{get}
 use Rattle.cache.specs.Tables.{table_at}
@@ -38,6 +38,7 @@ use Rattle.opening.specs.declared.directory.CurrentLog.{CurrentLog}
 use Rattle.opening.specs.internal.Directories.{CanAppend}
 use Rattle.engine.specs.internal.Directory.{IsReadable}
 use Rattle.engine.specs.OpenDb.{OpenDb, whole_of}
+use Rattle.engine.proofs.Synced.{sealed_synced, synced_same, whole_left}
 use Rattle.engine.specs.internal.Standing.{entries_of, HasLog, IsBroken, IsServing}
 use Rattle.reader.specs.internal.Iterators.{IsWalk}
 use Rattle.engine.specs.Reads.{kept_at}
@@ -84,9 +85,10 @@ module _ {K : Type 0} {g : _} (order : Order) (source : Seen) (db : OpenDb K g) 
         accounted = h.accounted;
         readable = record { made = h.readable.made; numbers = free_up order source.facts.files m.numbers (m.numbers + 1) (omega arith) h.readable.numbers; limits = h.readable.limits };
         numbers = (let below = h.numbers in omega (arith, below, upto));
+        synced = synced_same source.facts source.facts db.log db.directory state db.tables number name first_log previous_log le h.synced refl refl;
         job = each_job _ _ db.job (λ work is c.
             goes_beside order (whole_of source db) (whole_of source db) db.directory.numbers.next state.numbers.next db.snapshots db.snapshots db.iterators db.iterators db.tables d d work c
-            h.log.directory.consistent knows.free db.directory.numbers.in_range.1 le (λ number numbered below one. (refl, refl)) (λ sound. sound) (λ number kept_now. inl kept_now) refl refl
+            h.log.directory.consistent knows.free db.directory.numbers.in_range.1 le (λ number numbered below one. ((refl, λ file there was. was), refl)) (λ sound. sound) (λ number kept_now. inl kept_now) refl refl
             (omega arith) (known_itself db.snapshots db.memory.last) (have_itself db.iterators db.tables)
             (λ number. version_unowned work.job.outputs order source.facts.files d h.contents db.tables number h.log.directory.consistent h.log.directory.in_tables h.tables.version c.running.unused)) h.job;
       }
@@ -105,7 +107,7 @@ SealKept cmp = (cursor : MemoriesPlace) (old new : Memories) → IsSome (table_i
 
 module _ {K : Type 0} {g : _} (order : Order) (kept : (scan : Scan K g) → ScanIsKept order.cmp scan) (one : OneDirectoryLaw) (lasts : SoundLasts) (law : SameViewLaw) (seals : SealKept order.cmp)
     (old : Seen) (facts : Facts) (db : OpenDb K g) (m : Machine) (serving : IsServing order old db m) (t : IsTrue facts.faithful) (few : db.directory.numbers.next < 2 ^ 62)
-    (others : KeepsOthers old.facts.files facts.files (name_of (Log db.directory.numbers.next))) where
+    (others : KeepsOthers old.facts.files facts.files (name_of (Log db.directory.numbers.next))) (stays : (q : List ℕ) → q ≢ name_of (Log db.directory.numbers.next) → facts.synced q ≡ old.facts.synced q) where
   abbrev next : ℕ
   next = db.directory.numbers.next
 
@@ -166,7 +168,8 @@ module _ {K : Type 0} {g : _} (order : Order) (kept : (scan : Scan K g) → Scan
       (has : HasNewLog order facts.files d next) (ends : ManifestEndsAt order facts.files d.manifest db.directory.manifest.end d.edits d.layout) (freed : IsFree order facts.files (next + 1))
       (log_number : log.number ≡ next) (log_name : string_bytes log.name ≡ name_of (Log next)) (log_end : log.end ≡ 0)
       (number : state.manifest.number ≡ db.directory.manifest.number) (name : state.manifest.name ≡ db.directory.manifest.name) (end : state.manifest.end ≡ db.directory.manifest.end)
-      (first_log : state.first_log ≡ db.directory.first_log) (previous_log : state.previous_log ≡ db.directory.previous_log) (next_is : state.numbers.next ≡ next + 1) where
+      (first_log : state.first_log ≡ db.directory.first_log) (previous_log : state.previous_log ≡ db.directory.previous_log) (next_is : state.numbers.next ≡ next + 1)
+      (front : map string_bytes log.front.items ≡ map string_bytes db.log.front.items ++ string_bytes db.log.name ∷ []) where
     abbrev pub sealed_db : OpenDb K g
     sealed_db = record db { memory = memory; log = log; directory = state }
 
@@ -249,9 +252,11 @@ module _ {K : Type 0} {g : _} (order : Order) (kept : (scan : Scan K g) → Scan
       accounted = rw (entries_now) serving.accounted;
       readable = readable_as (with_log d next) has.consistent refl refl freed;
       numbers = (let below : next ≤ m.numbers = serving.numbers in omega (arith, next_is, below));
+      synced = synced_same facts facts log (record db.directory { numbers = state.numbers }) state db.tables number name first_log previous_log (omega arith)
+          (sealed_synced old.facts facts db.log log db.directory state.numbers db.tables log_number log_name front next_is few (λ q apart. (others q apart, stays q apart)) serving.synced) refl refl;
       job = each_job _ _ db.job (λ work is c.
           goes_beside order (whole_of old db) (whole_of new sealed_db) next state.numbers.next db.snapshots db.snapshots db.iterators db.iterators db.tables d (with_log d next) work c
-          a.consistent serving.log.knows.free db.directory.numbers.in_range.1 (omega (arith, next_is)) (λ number numbered below one. (newer_same number numbered, older_same number numbered)) sound_still (λ number kept_now. inl kept_now) refl refl
+          a.consistent serving.log.knows.free db.directory.numbers.in_range.1 (omega (arith, next_is)) (λ number numbered below one. (whole_left old.facts facts (name_of (Table number)) (newer_same number numbered, stays (name_of (Table number)) (files_apart (Table number) (Log next) numbered numbered_next (λ e. cc))), older_same number numbered)) sound_still (λ number kept_now. inl kept_now) refl refl
           (let last = sealed.last in omega (arith, last)) (known_itself db.snapshots db.memory.last) (have_itself db.iterators db.tables)
           (λ number. version_unowned work.job.outputs order old.facts.files d serving.contents db.tables number a.consistent a.in_tables serving.tables.version c.running.unused)) serving.job;
     }

@@ -1,12 +1,16 @@
 -- What a step of a compaction leaves of an open database.
-use Rattle.std.proofs.Common.{◌≡◌, ◌⊎◌, ◌<◌, ◌≤◌, ◌+◌, ◌++◌, ℕ, true, List, [], map, Contains, Option, Some, IsTrue, MatchOption, inl, inr, refl, sym, ap, subst, ◌∙◌, arith}
+use Rattle.std.proofs.Common.{◌≡◌, ◌≢◌, ◌⊎◌, ◌<◌, ◌≤◌, ◌+◌, ◌++◌, ℕ, true, List, [], map, Contains, Option, Some, IsTrue, MatchOption, inl, inr, refl, sym, ap, subst, ◌∙◌, arith}
 use Rattle.std.proofs.lemmas.List.{append_assoc}
 use Rattle.compact.specs.Laws.{SeesAsOne}
 use Rattle.compact.specs.Merging.{IsStepOf}
 use Rattle.compact.specs.Outputs.{IsMineUpTo, IsOwn}
 use Rattle.compact.specs.declared.job.Progress.{Progress}
 use Rattle.edits.specs.declared.numbers.FileNumbers.{FileNumbers}
-use Rattle.edits.specs.Names.{IsNumbered}
+use Rattle.edits.specs.Names.{IsFileName, IsNumbered, name_of}
+use Rattle.edits.specs.declared.field.PlacedTable.{PlacedTable}
+use Rattle.edits.specs.declared.names.FileName.{FileName}
+use Rattle.edits.specs.declared.names.FileName.TheVariants.{OldTable, Table}
+use Rattle.directory_writes.specs.internal.Calls.{LeavesFile}
 use Rattle.ikey.specs.Entries.{InternalEntry, entry_of}
 use Rattle.ikey.specs.Orders.{Order}
 use Rattle.ikey.specs.Views.{AllUpTo}
@@ -32,7 +36,10 @@ use Rattle.reader.specs.internal.Iterators.{IsWalk}
 use Rattle.engine.specs.Reads.{kept_at}
 use Rattle.machine.specs.Machine.{Machine, Walk}
 use Rattle.engine.specs.internal.Standing.{HasLog, IsServing}
-use Rattle.engine.proofs.Compacting.{is_input_number, listed_number, unowned}
+use Rattle.engine.specs.internal.Synced.{IsSyncedBut}
+use Rattle.opening.proofs.Reopening.{files_apart}
+use Rattle.engine.proofs.Compacting.{is_input_number, listed_number, own_number, unowned, version_unowned}
+use Rattle.engine.proofs.Synced.{kept_still, no_table, one_number, synced_still, table_still}
 use Rattle.engine.proofs.Pieces.{free_up, limits_stay, made_still, walks_each}
 use Rattle.engine.proofs.Reading.{below_next, has_placed, live_of}
 use Rattle.engine.proofs.WorkSteps.{drawing}
@@ -150,6 +157,32 @@ module _ {K : Type 0} {g : _} (order : Order) (kept : (scan : Scan K g) → Scan
         sound = λ h. kept_parts.sound;
       }
 
+      -- it writes tables of its own numbers alone
+      mine_numbered : (number : ℕ) → IsMineUpTo before.job.outputs next numbers.next number → IsNumbered number
+      mine_numbered number (inl at) = (let known = own_number before.job.outputs next number the_job.running.numbered (inl at) in let fits = db.directory.numbers.in_range.1 in (known.0, (let less = known.1 in omega (arith, less, fits))))
+      mine_numbered number (inr drawn) =
+          let some = serving.log.knows.free.some in
+          let fits = numbers.in_range.1 in
+          let least = drawn.0 in
+          let most = drawn.1 in
+          (omega (arith, some, least), omega (arith, most, fits))
+
+      beside_mine : (file : FileName) → IsFileName file → ((number : ℕ) → IsMineUpTo before.job.outputs next numbers.next number → file ≢ Table number) → LeavesFile old.facts new.facts (name_of file)
+      beside_mine file is apart =
+          let other : (number : ℕ) → IsMineUpTo before.job.outputs next numbers.next number → name_of file ≢ name_of (Table number) = λ number mine. files_apart file (Table number) is (mine_numbered number mine) (apart number mine) in
+          (touches.writes.others f (name_of file) other, touches.writes.synced f (name_of file) other)
+
+      unowned_here : (p : PlacedTable) → Contains db.tables p → IsOwn before.job.outputs p.table.number → ⊥
+      unowned_here p there = version_unowned before.job.outputs order old.facts.files d serving.contents db.tables p.table.number a.consistent a.in_tables serving.tables.version the_job.running.unused (p, there, refl)
+
+      pub synced_stepped : IsSyncedBut new.facts db.log (record db.directory { numbers = numbers }) db.tables
+      synced_stepped =
+          synced_still old.facts new.facts db.log db.directory (record db.directory { numbers = numbers }) db.tables refl refl refl refl le serving.synced
+          (λ file is none. kept_still old.facts new.facts (name_of file) (beside_mine file is (λ number mine. no_table file number none)))
+          (λ p there known. table_still old.facts new.facts p.table.number
+          (beside_mine (Table p.table.number) known.0 (λ number mine e. not_mine p.table.number known.1 (unowned_here p there) (subst (IsMineUpTo before.job.outputs next numbers.next) (one_number e) mine)))
+          (beside_mine (OldTable p.table.number) known.0 (λ number mine e. cc)))
+
       -- whatever becomes of the job
       abbrev pub serving_stepped : (job : Option (OpenJob K g)) → MatchOption job (Unit {0}) (IsCompacting order stepped_whole numbers.next db.snapshots db.iterators d) → IsServing order new (stepped_db job) (drawing m most new.facts)
       serving_stepped job job_is = record {
@@ -174,6 +207,7 @@ module _ {K : Type 0} {g : _} (order : Order) (kept : (scan : Scan K g) → Scan
               (λ content i. kept_parts.others.tables content.placed.table.number (table_of order old.facts.files d.tables content a.consistent.tables i) (listed_apart content i)) (serving.readable.limits within);
         };
         numbers = (let below : next ≤ m.numbers = serving.numbers in omega (arith, below, upto));
+        synced = synced_stepped;
         job = job_is;
       }
 

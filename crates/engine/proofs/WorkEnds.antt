@@ -1,12 +1,14 @@
 -- What an open database is, and the machine, when files were removed or a new log was begun, however that ends.
-use Rattle.std.proofs.Common.{◌≡◌, ℕ, ◌+◌, ◌≤◌, ◌<◌, true, false, List, length, Some, None, Ok, Err, IsTrue, inl, inr, refl, ap, subst, ◌∙◌, arith, String}
+use Rattle.std.proofs.Common.{◌≡◌, ◌≢◌, ◌⊎◌, ℕ, ◌+◌, ◌≤◌, ◌<◌, true, false, List, [], ◌∷◌, ◌++◌, map, length, Some, None, Ok, Err, IsTrue, inl, inr, refl, ap, subst, ◌∙◌, arith, String, string_bytes}
 use Rattle.std.specs.FinMap.{get}
 use Rattle.std.specs.declared.alloc.Global.{Global}
+use Rattle.std.specs.Global.{Vec}
 use Rattle.cache.specs.Tables.{KeptTable, table_at}
 use Rattle.coding.specs.declared.error.DbError.{DbError}
 use Rattle.coding.specs.declared.error.DbError.TheVariants as error
 use Rattle.edits.specs.declared.numbers.FileNumbers.{FileNumbers}
-use Rattle.edits.specs.Names.{IsNumbered}
+use Rattle.edits.specs.Names.{IsNumbered, name_of}
+use Rattle.edits.specs.declared.names.FileName.TheVariants.{Log}
 use Rattle.ikey.specs.Orders.{Order}
 use Rattle.ikey.specs.Sources.{SameViewLaw}
 use Rattle.memtables.specs.Changes.{IsSealed, IsUsed, KeepsUsed}
@@ -19,7 +21,7 @@ use Rattle.db_cursor.specs.internal.Scanning.{ScanIsKept}
 use Rattle.db_cursor.specs.declared.scan.Scan.{Scan}
 use Rattle.table_access.specs.Tables.{Seen, IsSound, SoundLasts}
 use Rattle.store.specs.Files.{Files, Facts}
-use Rattle.directory_writes.specs.internal.Calls.{Touches}
+use Rattle.directory_writes.specs.internal.Calls.{LeavesFile, Touches}
 use Rattle.directory_writes.specs.internal.LogFile.{BeginsLog, DrawsLog, RefusesLog}
 use Rattle.directory_writes.specs.internal.Removal.{AreOfDirectory, KeepsParts, KeepsTable, ListsToClose, RefusesList}
 use Rattle.engine.specs.declared.ids.Ids.{Ids}
@@ -27,6 +29,7 @@ use Rattle.engine.specs.declared.state.DbState.{DbState}
 use Rattle.engine.specs.internal.Leading.{LeadsOpen}
 use Rattle.engine.specs.OpenDb.{OpenDb, open_db}
 use Rattle.machine.specs.Machine.{Machine}
+use Rattle.engine.proofs.Synced.{stays_same}
 use Rattle.engine.specs.internal.Standing.{IsServing}
 use Rattle.machine.specs.Upkeep.{UpkeepRefused}
 use Rattle.engine.specs.internal.Pieces.{ClosesTables, IsPiece, IsSameMemory, broken_by}
@@ -55,14 +58,15 @@ module _ {K : Type 0} {g : _} (order : Order) (kept : (scan : Scan K g) → Scan
   new = record old { facts = facts }
 
   -- where the files are the same, and of the memory tables all that is read
-  pub serving_same : (db : OpenDb K g) (memory : Memories) (m : Machine) → facts.files ≡ old.facts.files → LeavesMemories db.memory memory → IsServing order old db m → IsServing order new (record db { memory = memory }) (read_by facts m)
-  serving_same db memory m same left h = serving_read order kept old new db memory m same (sound_same order lasts old facts same) (λ number is. inl is) (λ number is. inl is) left h
+  pub serving_same : (db : OpenDb K g) (memory : Memories) (m : Machine) → facts.files ≡ old.facts.files → facts.synced ≡ old.facts.synced → LeavesMemories db.memory memory → IsServing order old db m → IsServing order new (record db { memory = memory }) (read_by facts m)
+  serving_same db memory m same synced left h =
+      serving_read order kept old new db memory m same (sound_same order lasts old facts same) (λ number is. inl is) (λ number is. inl is) left (stays_same old.facts facts db.log db.directory db.tables same synced) h
 
   -- and perhaps a number was drawn
-  pub serving_numbered : (db : OpenDb K g) (memory : Memories) (numbers : FileNumbers) (m : Machine) → facts.files ≡ old.facts.files → LeavesMemories db.memory memory → db.directory.numbers.next ≤ numbers.next → numbers.next ≤ db.directory.numbers.next + 1
+  pub serving_numbered : (db : OpenDb K g) (memory : Memories) (numbers : FileNumbers) (m : Machine) → facts.files ≡ old.facts.files → facts.synced ≡ old.facts.synced → LeavesMemories db.memory memory → db.directory.numbers.next ≤ numbers.next → numbers.next ≤ db.directory.numbers.next + 1
       → IsServing order old db m → IsServing order new (record db { memory = memory; directory = record db.directory { numbers = numbers } }) (drawing m 1 facts)
-  serving_numbered db memory numbers m same left le upto h =
-      serving_drawn order new (record db { memory = memory }) (read_by facts m) (record db.directory { numbers = numbers }) (serving_same db memory m same left h) refl refl refl refl refl le upto
+  serving_numbered db memory numbers m same synced left le upto h =
+      serving_drawn order new (record db { memory = memory }) (read_by facts m) (record db.directory { numbers = numbers }) (serving_same db memory m same synced left h) refl refl refl refl refl le upto
 
 -- ---- files that aren't listed
 
@@ -72,11 +76,11 @@ list_refused m old facts error.Io h same = (omega (arith, h, same), (omega arith
 list_refused m old facts _ h same = absurd h
 
 module _ {K : Type 0} {g : _} (order : Order) (kept : (scan : Scan K g) → ScanIsKept order.cmp scan) (lasts : SoundLasts) (old : Seen) (facts : Facts) (ids : Ids) (db : OpenDb K g) where
-  pub ends_unlisted : {T : Type 0} (e : DbError) → db.broken ≡ false → Touches old.facts facts → RefusesList e old.facts facts → (IsTrue facts.faithful → facts.files ≡ old.facts.files)
+  pub ends_unlisted : {T : Type 0} (e : DbError) → db.broken ≡ false → Touches old.facts facts → RefusesList e old.facts facts → (IsTrue facts.faithful → (facts.files ≡ old.facts.files) × (facts.synced ≡ old.facts.synced))
       → LeadsOpen order old (record old { facts = facts }) ids db db (λ m n. IsPiece {T = T} m 0 (Err e) n)
   ends_unlisted e whole touches refused files =
       serves_on order old (record old { facts = facts }) ids db db 0 (Err e) whole whole touches.faithful touches.failures touches.denials
-      (λ m f same serving. (list_refused m old.facts facts e refused same, undrawn order (record old { facts = facts }) db m facts (serving_same order kept lasts old facts db db.memory m (files f) (leaves_same db.memory) serving)))
+      (λ m f same serving. (list_refused m old.facts facts e refused same, undrawn order (record old { facts = facts }) db m facts (serving_same order kept lasts old facts db db.memory m (files f).0 (files f).1 (leaves_same db.memory) serving)))
 
 -- nothing was done
 module _ {K : Type 0} {g : _} (order : Order) (kept : (scan : Scan K g) → ScanIsKept order.cmp scan) (lasts : SoundLasts) (source : Seen) (ids : Ids) (db : OpenDb K g) where
@@ -84,37 +88,38 @@ module _ {K : Type 0} {g : _} (order : Order) (kept : (scan : Scan K g) → Scan
   ends_idle most done whole =
       piece_within order source source ids db db 0 most (Ok done) (omega arith)
       (serves_on order source source ids db db 0 (Ok done) whole whole (λ f. f) (omega arith) refl
-      (λ m f same serving. (draws m 0 source.facts, undrawn order source db m source.facts (serving_same order kept lasts source source.facts db db.memory m refl (leaves_same db.memory) serving))))
+      (λ m f same serving. (draws m 0 source.facts, undrawn order source db m source.facts (serving_same order kept lasts source source.facts db db.memory m refl refl (leaves_same db.memory) serving))))
 
   -- there was no memory for it
   pub ends_full : {T : Type 0} (most : ℕ) → db.broken ≡ false → LeadsOpen order source source ids db db (λ m n. IsPiece {T = T} m most (Err error.OutOfMemory) n)
   ends_full most whole =
       piece_within order source source ids db db 0 most (Err error.OutOfMemory) (omega arith)
       (serves_on order source source ids db db 0 (Err error.OutOfMemory) whole whole (λ f. f) (omega arith) refl
-      (λ m f same serving. (draws m 0 source.facts, undrawn order source db m source.facts (serving_same order kept lasts source source.facts db db.memory m refl (leaves_same db.memory) serving))))
+      (λ m f same serving. (draws m 0 source.facts, undrawn order source db m source.facts (serving_same order kept lasts source source.facts db db.memory m refl refl (leaves_same db.memory) serving))))
 
 -- ---- a new log
 
 module _ {K : Type 0} {g : _} (order : Order) (kept : (scan : Scan K g) → ScanIsKept order.cmp scan) (one : OneDirectoryLaw) (lasts : SoundLasts) (law : SameViewLaw) (seals : SealKept order.cmp)
-    (old : Seen) (facts : Facts) (ids : Ids) (state : DbState K g) (memory : Memories) (numbers : FileNumbers) (whole : state.broken ≡ false) (touches : Touches old.facts facts) where
+    (old : Seen) (facts : Facts) (ids : Ids) (state : DbState K g) (memory : Memories) (numbers : FileNumbers) (whole : state.broken ≡ false) (touches : Touches old.facts facts)
+    (synced : IsTrue facts.faithful → (q : List ℕ) → q ≢ name_of (Log state.directory.numbers.next) → facts.synced q ≡ old.facts.synced q) where
   abbrev next : ℕ
   next = state.directory.numbers.next
 
   abbrev drawn : DbState K g
   drawn = record state { directory = record state.directory { numbers = numbers } }
 
-  pub ends_sealed : (number : ℕ) (name : String Global) (sealed : Memories) → memory.sealed ≡ None → 0 < length memory.current.inserts → IsSealed memory sealed → sealed_inserts sealed ≡ memory.current.inserts
+  pub ends_sealed : (number : ℕ) (name : String Global) (front : Vec (String Global)) (sealed : Memories) → map string_bytes front.items ≡ map string_bytes state.log.front.items ++ string_bytes state.log.name ∷ [] → memory.sealed ≡ None → 0 < length memory.current.inserts → IsSealed memory sealed → sealed_inserts sealed ≡ memory.current.inserts
       → DrawsLog old.facts facts next numbers.next (Ok (number, name)) → BeginsLog {T = ℕ × String Global} order old.facts facts next numbers.next (Ok (number, name))
-      → LeadsOpen order old (record old { facts = facts }) ids (open_db memory state) (open_db sealed (record drawn { log = record { number = number; name = name; end = 0 } })) (λ m n. IsPiece m 1 (Ok (tt {0})) n)
-  ends_sealed number name sealed unsealed filled is inserts draws_log begins =
-      serves_on order old (record old { facts = facts }) ids (open_db memory state) (open_db sealed (record drawn { log = record { number = number; name = name; end = 0 } })) 1 (Ok (tt {0})) whole whole touches.faithful touches.failures touches.denials
+      → LeadsOpen order old (record old { facts = facts }) ids (open_db memory state) (open_db sealed (record drawn { log = record { number = number; name = name; end = 0; front = front } })) (λ m n. IsPiece m 1 (Ok (tt {0})) n)
+  ends_sealed number name front sealed behind unsealed filled is inserts draws_log begins =
+      serves_on order old (record old { facts = facts }) ids (open_db memory state) (open_db sealed (record drawn { log = record { number = number; name = name; end = 0; front = front } })) 1 (Ok (tt {0})) whole whole touches.faithful touches.failures touches.denials
       (λ m f same serving.
       let knows = serving.log.knows in
       let d = serving.log.directory.directory in (
         draws m 1 facts,
-        serving_sealed order kept one lasts law seals old facts (open_db memory state) m serving f draws_log.3 (begins.others f) sealed (record { number = number; name = name; end = 0 }) (record state.directory { numbers = numbers }) unsealed filled is inserts
+        serving_sealed order kept one lasts law seals old facts (open_db memory state) m serving f draws_log.3 (begins.others f) (synced f) sealed (record { number = number; name = name; end = 0; front = front }) (record state.directory { numbers = numbers }) unsealed filled is inserts
             (begins.ok f d serving.log.directory.consistent knows.free) (begins.manifest f d.manifest state.directory.manifest.end d.edits d.layout knows.ends) (subst (λ (n : ℕ). IsFree order facts.files n) draws_log.2 (begins.free f knows.free))
-            draws_log.0 draws_log.1 refl refl refl refl refl refl draws_log.2,
+            draws_log.0 draws_log.1 refl refl refl refl refl refl draws_log.2 behind,
       ))
 
   log_refused : (m : Machine) (e : DbError) → RefusesLog e old.facts facts next numbers.next → m.failures ≡ old.facts.failures → next ≤ m.numbers → (e ≡ error.Io → ⊥) → UpkeepRefused m 1 e (drawing m 1 facts)
@@ -133,40 +138,40 @@ module _ {K : Type 0} {g : _} (order : Order) (kept : (scan : Scan K g) → Scan
       let d = serving.log.directory.directory in
       elim draws_log [
         | inl none ↦ absurd (let same : facts.failures ≡ old.facts.failures = ap (λ (x : Facts). x.failures) none.1 in omega (arith, rise, same))
-        | inr more ↦ broken_seal order kept one lasts law seals old facts (open_db memory state) m serving f more.1 (begins.others f) (begins.err f d serving.log.directory.consistent knows.free)
+        | inr more ↦ broken_seal order kept one lasts law seals old facts (open_db memory state) m serving f more.1 (begins.others f) (synced f) (begins.err f d serving.log.directory.consistent knows.free)
             (subst (λ (n : ℕ). IsFree order facts.files n) more.0 (begins.free f knows.free))
       ])
 
   -- the files are as before
-  log_unbegun : {T : Type 0} (e : DbError) (back : Memories) → (e ≡ error.Io → ⊥) → (IsTrue facts.faithful → facts.files ≡ old.facts.files) → RefusesLog e old.facts facts next numbers.next → DrawsLog old.facts facts next numbers.next (Err e) → LeavesMemories memory back
+  log_unbegun : {T : Type 0} (e : DbError) (back : Memories) → (e ≡ error.Io → ⊥) → (IsTrue facts.faithful → (facts.files ≡ old.facts.files) × (facts.synced ≡ old.facts.synced)) → RefusesLog e old.facts facts next numbers.next → DrawsLog old.facts facts next numbers.next (Err e) → LeavesMemories memory back
       → LeadsOpen order old (record old { facts = facts }) ids (open_db memory state) (open_db back drawn) (λ m n. IsPiece {T = T} m 1 (Err e) n)
   log_unbegun e back other files refused draws_log left =
       serves_on order old (record old { facts = facts }) ids (open_db memory state) (open_db back drawn) 1 (Err e) whole whole touches.faithful touches.failures touches.denials
       (λ m f same serving.
       let below : next ≤ m.numbers = serving.numbers in
       let upto : (next ≤ numbers.next) × (numbers.next ≤ next + 1) = elim draws_log [ inl none ↦ (let is = none.0 in (omega (arith, is), omega (arith, is))) | inr more ↦ (let is = more.0 in (omega (arith, is), omega (arith, is))) ] in
-      (log_refused m e refused same below other, serving_numbered order kept lasts old facts (open_db memory state) back numbers m (files f) left upto.0 upto.1 serving))
+      (log_refused m e refused same below other, serving_numbered order kept lasts old facts (open_db memory state) back numbers m (files f).0 (files f).1 left upto.0 upto.1 serving))
 
   -- however it isn't
   pub ends_unsealed : {T : Type 0} (e : DbError) (back : Memories) → RefusesLog e old.facts facts next numbers.next → DrawsLog old.facts facts next numbers.next (Err e) → BeginsLog {T = ℕ × String Global} order old.facts facts next numbers.next (Err e) → LeavesMemories memory back
       → LeadsOpen order old (record old { facts = facts }) ids (open_db memory state) (open_db back (broken_by drawn e)) (λ m n. IsPiece {T = T} m 1 (Err e) n)
-  ends_unsealed error.OutOfMemory back refused draws_log begins left = log_unbegun error.OutOfMemory back (λ e. cc) (λ f. (refused f).0) refused draws_log left
+  ends_unsealed error.OutOfMemory back refused draws_log begins left = log_unbegun error.OutOfMemory back (λ e. cc) refused refused draws_log left
   ends_unsealed error.Io back refused draws_log begins left = log_failed back refused draws_log begins
-  ends_unsealed error.NumbersSpent back refused draws_log begins left = log_unbegun error.NumbersSpent back (λ e. cc) (λ f. ap (λ (x : Facts). x.files) refused.2) refused draws_log left
+  ends_unsealed error.NumbersSpent back refused draws_log begins left = log_unbegun error.NumbersSpent back (λ e. cc) (λ f. (ap (λ (x : Facts). x.files) refused.2, ap (λ (x : Facts). x.synced) refused.2)) refused draws_log left
   ends_unsealed _ back refused draws_log begins left = absurd refused
 
 -- ---- files that are gone
 
 module _ {K : Type 0} {g : _} (order : Order) (kept : (scan : Scan K g) → ScanIsKept order.cmp scan) (one : OneDirectoryLaw) (lasts : SoundLasts) (drops : DropsKept order.cmp)
     (old : Seen) (facts : Facts) (ids : Ids) (db : OpenDb K g) (tables : List KeptTable) (memory : Memories) (gone : List ℕ) where
-  pub ends_cleaned : {T : Type 0} (done : T) → db.broken ≡ false → Touches old.facts facts → KeepsUsed (IsUsed (λ generation. IsMemoryUsed db.iterators generation) db.memory) db.memory memory
+  pub ends_cleaned : {T : Type 0} (done : T) → db.broken ≡ false → (IsTrue facts.faithful → (name : List ℕ) → LeavesFile old.facts facts name ⊎ (get facts.files name ≡ None)) → Touches old.facts facts → KeepsUsed (IsUsed (λ generation. IsMemoryUsed db.iterators generation) db.memory) db.memory memory
       → (IsTrue facts.faithful → (n : ℕ) → IsNumbered n → KeepsTable old.facts facts (λ number. IsTableUsed db.tables db.job db.iterators number) n) → ListsToClose old.facts facts (λ number. IsTableUsed db.tables db.job db.iterators number) gone → ClosesTables old.tables tables gone
       → (IsTrue facts.faithful → (d : Directory) → IsConsistent order old.facts.files d → AreOfDirectory (numbers_of db.directory) (λ number. IsTableUsed db.tables db.job db.iterators number) d
       → KeepsParts order old.facts.files facts.files (λ number. IsTableUsed db.tables db.job db.iterators number) d)
       → LeadsOpen order old (record { facts = facts; tables = tables; blocks = old.blocks }) ids db (record db { memory = memory }) (λ m n. IsPiece m 0 (Ok done) n)
-  ends_cleaned done whole touches used each unused closes parts =
+  ends_cleaned done whole loses touches used each unused closes parts =
       serves_on order old (record { facts = facts; tables = tables; blocks = old.blocks }) ids db (record db { memory = memory }) 0 (Ok done) whole whole touches.faithful touches.failures touches.denials
-      (λ m f same serving. (draws m 0 facts, undrawn order (record { facts = facts; tables = tables; blocks = old.blocks }) (record db { memory = memory }) m facts (serving_cleaned order kept one lasts drops old facts tables db memory gone used f (each f) unused closes m serving (parts f))))
+      (λ m f same serving. (draws m 0 facts, undrawn order (record { facts = facts; tables = tables; blocks = old.blocks }) (record db { memory = memory }) m facts (serving_cleaned order kept one lasts drops old facts tables db memory gone used f (each f) unused closes (loses f) m serving (parts f))))
 
   pub memory_cleaned : KeepsUsed (IsUsed (λ generation. IsMemoryUsed db.iterators generation) db.memory) db.memory memory → IsSameMemory db.memory memory
   memory_cleaned used = record {

@@ -1,5 +1,5 @@
 -- All that is said of a command in a session, and of a list of commands.
-use Rattle.std.specs.Prelude.{◌≡◌, ◌⊎◌, ◌≤◌, ℕ, Bool, false, IsTrue, IsSome, string_bytes, Option, Some, None, List, [], ◌∷◌, Result, Ok, Err}
+use Rattle.std.specs.Prelude.{◌≡◌, ◌⊎◌, ◌≤◌, ℕ, Bool, false, IsTrue, IsSome, map, string_bytes, Option, Some, None, List, [], ◌∷◌, Result, Ok, Err}
 use Rattle.batch.specs.declared.operation.Operation.{Operation}
 use Rattle.coding.specs.declared.error.DbError.{DbError}
 use Rattle.cursor.specs.Places.{Cmp}
@@ -215,8 +215,8 @@ AllApplied order facts (op ∷ ops) [] old new = ⊥
 abbrev pub DbCaused : {S K T : Type 0} {g : _} → (Status → Option DbError) → Db S K g → Db S K g → Result T DbError → Type 0
 DbCaused cause old new result = IsCausedIn (cause (open_status old.ids (open_by old))) (db_store_of old) (db_store_of new) result
 
-abbrev pub DbSyncs : {S K T : Type 0} {g : _} → Type 0 → Bool → (S → Facts) → Db S K g → Db S K g → Result T DbError → Type 0
-DbSyncs asked sync facts old new result = SyncsLog asked sync (string_bytes old.state.log.name) (facts (db_store_of old)) (facts (db_store_of new)) result
+abbrev pub DbSyncs : {S K T : Type 0} {g : _} → Type 0 → Type 0 → Bool → (S → Facts) → Db S K g → Db S K g → Result T DbError → Type 0
+DbSyncs some asked sync facts old new result = SyncsLog some asked sync (string_bytes old.state.log.name) (map string_bytes old.state.log.front.items) (facts (db_store_of old)) (facts (db_store_of new)) result
 
 -- A write of no operations to one that isn't broken, which makes no call of the store.
 abbrev pub DbWritesEmpty : {S K : Type 0} {g : _} → List Operation → Db S K g → Db S K g → Result (Unit {0}) DbError → Type 0

@@ -1,5 +1,6 @@
 -- What a command does to its store, faithful or not.
-use Rattle.std.specs.Prelude.{◌≡◌, ◌≢◌, ◌⊎◌, ◌<◌, ◌+◌, ℕ, Bool, true, false, IsSome, IsTrue, Option, Some, None, List, [], Result, Ok, Err, OnOk, OnErr, IfErr, string_bytes}
+use Rattle.std.specs.Prelude.{◌≡◌, ◌≢◌, ◌⊎◌, ◌<◌, ◌+◌, ℕ, Bool, true, false, IsSome, IsTrue, Option, Some, None, List, [], Result, Ok, Err, OnOk, OnErr, IfErr, map, string_bytes}
+use Rattle.std.specs.List.{AllByRecursion}
 use Rattle.std.specs.FinMap.{get}
 use Rattle.batch.specs.declared.operation.Operation.{Operation}
 use Rattle.coding.specs.declared.error.DbError.{DbError}
@@ -11,7 +12,8 @@ use Rattle.machine.specs.declared.command.Op.TheVariants.{Open, Write, Work, Com
 use Rattle.machine.specs.declared.command.Answer.{Answer}
 use Rattle.machine.specs.declared.command.Answer.TheVariants.{Refused}
 use Rattle.engine.specs.OpenDb.{OpenDb}
-use Rattle.opening.specs.Durable.{SyncsOnly, IsSynced, KeepsForeign, LeavesDurable, LeavesFile}
+use Rattle.opening.specs.Durable.{IsSynced, KeepsForeign, LeavesDurable, LeavesFile}
+use Rattle.opening.specs.Losses.{IsNoneOf}
 
 -- whether it was refused
 abbrev pub unit_result : Answer → Result (Unit {0}) DbError
@@ -24,22 +26,32 @@ done = Ok tt
 
 -- ---- a write
 
--- What was put behind the file of this name is synced where that was asked for, and nothing else is.
-pub record SyncsLog {T E : Type 0} (asked : Type 0) (sync : Bool) (name : List ℕ) (old new : Facts) (result : Result T E) : Type 0 where
+-- What was put behind the file of this name is synced where that was asked for. Those in front of it are synced wherever something was put there;
+-- nothing else is.
+pub record SyncsLog {T E : Type 0} (some asked : Type 0) (sync : Bool) (name : List ℕ) (front : List (List ℕ)) (old new : Facts) (result : Result T E) : Type 0 where
   pub kept : IsTrue new.faithful → asked → OnOk result (IsSynced new name)
-  pub others : IsTrue new.faithful → SyncsOnly old.synced new.synced name
-  pub unasked : IsTrue new.faithful → sync ≡ false → new.synced ≡ old.synced
-  pub refused : IsTrue new.faithful → OnErr result (new.synced ≡ old.synced)
+  pub front_kept : IsTrue new.faithful → some → IsNoneOf name front → OnOk result (AllByRecursion (IsSynced new) front)
+  pub others : IsTrue new.faithful → (q : List ℕ) → q ≢ name → IsNoneOf q front → new.synced q ≡ old.synced q
+  pub unasked : IsTrue new.faithful → sync ≡ false → (q : List ℕ) → IsNoneOf q front → new.synced q ≡ old.synced q
+  pub refused : IsTrue new.faithful → OnErr result ((q : List ℕ) → IsNoneOf q front → new.synced q ≡ old.synced q)
   pub locked : new.locked ≡ old.locked
 
--- a write asks for it where it is to be synced and has operations
+-- a write that has operations puts something there, and asks for it where it is to be synced
+abbrev pub PutsSome : List Operation → Type 0
+PutsSome operations = operations ≢ []
+
 abbrev pub AsksSync : List Operation → Bool → Type 0
-AsksSync operations sync = (sync ≡ true) × (operations ≢ [])
+AsksSync operations sync = (sync ≡ true) × PutsSome operations
 
 -- the name of the log that an open database writes to
 abbrev pub log_of : {K : Type 0} {g : _} → Option (OpenDb K g) → List ℕ
 log_of None = []
 log_of (Some state) = string_bytes state.log.name
+
+-- and those of the live logs in front of it that the device may not have whole
+abbrev pub front_of : {K : Type 0} {g : _} → Option (OpenDb K g) → List (List ℕ)
+front_of None = []
+front_of (Some state) = map string_bytes state.log.front.items
 
 -- ---- open and close
 
@@ -97,7 +109,7 @@ CloseTouches None old new = LeavesStore old new
 CloseTouches (Some state) old new = ClosesStore old new
 
 abbrev pub WriteTouches : {K : Type 0} {g : _} → List Operation → Bool → Option (OpenDb K g) → Facts → Facts → Answer → Type 0
-WriteTouches operations sync state old new answer = SyncsLog (AsksSync operations sync) sync (log_of state) old new (unit_result answer)
+WriteTouches operations sync state old new answer = SyncsLog (PutsSome operations) (AsksSync operations sync) sync (log_of state) (front_of state) old new (unit_result answer)
 
 -- work and compactions leave the lock
 abbrev pub WorkTouches : {K : Type 0} {g : _} → Option (OpenDb K g) → Facts → Facts → Answer → Type 0

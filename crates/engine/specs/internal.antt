@@ -15,4 +15,5 @@ pub mod Resting
 pub mod Shorthands
 pub mod Standing
 pub mod Stopping
+pub mod Synced
 pub mod TakingAll

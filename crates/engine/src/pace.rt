@@ -110,11 +110,13 @@ impl<S: Store, K: KeyOrder> Db<S, K> {
         Ok(self.keep_up(alloc, share))
     }
 
-    /// Works by pieces of so many entries, one at least, until work keeps up with what was written.
+    /// Works by pieces of so many entries, one at least, until work keeps up with what was written. A memory table that is sealed is written
+    /// into a table in the same call: the next write would have the device keep its log otherwise.
     pub fn keep_up(&mut self, alloc: Global, budget: u32) -> Pace
         ensures step { FollowsDb (order_of K.name K.cmp) S.facts self.old self.new (WorksAtPace result) }
         // Over any store:
         ensures kept { result ≡ KeepsUp → HasKeptUp (db_options_of self.new) (open_by self.new) }
+        ensures flushed { result ≡ KeepsUp → (open_by self.new).memory.sealed ≡ None }
         ensures refused { (error : DbError) → result ≡ Refused error → MayRefuseWork error }
         ensures ids { db_ids_of self.new ≡ db_ids_of self.old }
         ensures opening { KeepsOpening self.old self.new }
@@ -126,11 +128,21 @@ impl<S: Store, K: KeyOrder> Db<S, K> {
                 Err(error) => return Pace::Refused(error),
                 Ok(Progress::Worked) => {}
             }
-            if self.has_kept_up() {
+            if self.can_rest() {
                 return Pace::KeepsUp;
             }
         }
         Pace::Refused(DbError::OutOfMemory)
+    }
+
+    // Whether it has kept up, and no memory table waits for its table.
+    fn can_rest(&self) -> bool
+        ensures { MatchBool result (HasKeptUp (db_options_of self.now) (open_by self.now) × ((open_by self.now).memory.sealed ≡ None)) (Unit {0}) }
+    {
+        if self.source.memory.sealed_generation().is_some() {
+            return false;
+        }
+        self.has_kept_up()
     }
 
     fn has_kept_up(&self) -> bool

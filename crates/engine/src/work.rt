@@ -1,10 +1,11 @@
 //! What an open database does beside its commands: the removal of files, flushes, and new logs (LevelDB's db/db_impl.cc,
 //! DBImpl::RemoveObsoleteFiles, CompactMemTable and MakeRoomForWrite).
 
-ghost use Rattle.std.specs.Prelude.{◌≡◌, ◌<◌, length, max, nat_eq, None, IsSome, false, if◌then◌else◌, IsTrue, IfErr, IfOk, Ok, OnErr, OnOk};
+ghost use Rattle.std.specs.Prelude.{◌≡◌, ◌<◌, [], length, max, nat_eq, None, IsSome, false, if◌then◌else◌, IsTrue, IfErr, IfOk, Ok, OnErr, OnOk};
 ghost use Rattle.engine.specs.internal.Pieces.{ClosesTables, refused_as};
 ghost use Rattle.ikey.specs.Orders.{order_of};
 
+use crate::log::names_behind;
 use crate::options::Options;
 use crate::state::DbState;
 use cache::TableCache;
@@ -289,6 +290,7 @@ impl<K: KeyOrder> DbState<K> {
         changes_are_kept::<K>();
         one_directory();
         same_view();
+        let front = names_behind(alloc, &self.log)?;
         source.memory.seal(alloc)?;
         match begin_log(alloc, &mut source.tables.store, &mut self.directory.numbers) {
             Ok((number, name)) => {
@@ -296,6 +298,7 @@ impl<K: KeyOrder> DbState<K> {
                     number,
                     name,
                     end: 0,
+                    front,
                 };
                 Ok(())
             }
@@ -306,11 +309,12 @@ impl<K: KeyOrder> DbState<K> {
         }
     }
 
-    // What is new after a flush.
+    // What is new after a flush. The logs in front of the current one aren't read any more, so that none of them is to be synced.
     fn take_flushed(&mut self, flushed: Flushed<K>)
-        ensures { self.new ≡ record
+        ensures state { self.new ≡ record
             self.old {
               version = flushed.version;
+              log = record self.old.log { front = self.new.log.front };
               directory = record
                   self.old.directory {
                     manifest = record self.old.directory.manifest { end = flushed.manifest_end };
@@ -319,11 +323,14 @@ impl<K: KeyOrder> DbState<K> {
                     previous_log = 0;
                   };
             } }
+        ensures front { self.new.log.front.items ≡ [] }
     {
         self.version = flushed.version;
         self.directory.manifest.end = flushed.manifest_end;
         self.directory.first_log = self.log.number;
         self.directory.previous_log = 0;
+        let log = &mut self.log;
+        log.front.clear();
     }
 
     // How a flush that didn't come about is answered, as below.

@@ -1,12 +1,19 @@
 -- What of an open's writing is synced, behind what it only read.
-use Rattle.std.proofs.Common.{◌≡◌, ap, ◌∙◌, Ok, Err, IsTrue, inl, inr}
+use Rattle.std.proofs.Common.{◌≡◌, ◌<◌, ◌≤◌, ℕ, ap, sym, subst, ◌∙◌, Result, Ok, Err, IsTrue, inl, inr, arith}
 use Rattle.std.specs.FinMap.{get}
 use Rattle.coding.specs.declared.error.DbError.{DbError}
+use Rattle.coding.specs.declared.error.DbError.TheVariants as error
+use Rattle.ikey.specs.Orders.{Order}
+use Rattle.recover.specs.Reading.{ReadsDirectory}
 use Rattle.store.specs.Files.{Facts, Files, Synced}
 use Rattle.edits.specs.Names.{name_of}
 use Rattle.edits.specs.declared.names.FileName.TheVariants.{Current}
 use Rattle.opening.specs.Durable.{LeavesFile, LeavesDurable}
-use Rattle.opening.specs.internal.Durable.{Spares}
+use Rattle.opening.specs.Refusals.{MayRefuseOpen}
+use Rattle.opening.specs.Telling.{RefusalTells, Tells}
+use Rattle.opening.specs.internal.Calls.{Attempts}
+use Rattle.opening.specs.internal.Outcome.{OpenOutcome}
+use Rattle.opening.specs.internal.Durable.{Spares, SparesBeside}
 
 pub left_by : (old new : Facts) → new.files ≡ old.files → new.synced ≡ old.synced → LeavesFile old new (name_of Current)
 left_by old new files synced = (ap (λ (fs : Files). get fs (name_of Current)) files, ap (λ (s : Synced). s (name_of Current)) synced)
@@ -36,6 +43,26 @@ done_durable old mid new x y d = record { ok = d.ok; err = λ f. tt }
 pub spared_same : (old new : Facts) → new.files ≡ old.files → new.synced ≡ old.synced → Spares old new
 spared_same old new files synced name is = (ap (λ (fs : Files). get fs name) files, ap (λ (s : Synced). s name) synced)
 
+pub beside_behind : (n : ℕ) (old mid new : Facts) → mid.files ≡ old.files → mid.synced ≡ old.synced → SparesBeside n mid new → SparesBeside n old new
+beside_behind n old mid new files synced kept name is = let b = kept name is in (b.0 ∙ ap (λ (fs : Files). get fs name) files, b.1 ∙ ap (λ (s : Synced). s name) synced)
+
 -- behind what was only read
 pub spared_behind : (old mid new : Facts) → mid.files ≡ old.files → mid.synced ≡ old.synced → Spares mid new → Spares old new
 spared_behind old mid new files synced kept name is = let a = spared_same old mid files synced name is in let b = kept name is in (b.0 ∙ a.0, b.1 ∙ a.1)
+
+-- ---- where the writing fails
+
+pub outcome_behind : {T U V : Type 0} (old mid new : Facts) (e : DbError) {found : Result V DbError} → ReadsDirectory old mid found → mid.failures ≡ old.failures → Attempts {T = T} mid new (Err e) → OpenOutcome {T = U} old new (Err e)
+outcome_behind old mid new e reads stood a = record {
+  failures = (let rise = a.failures in omega (arith, rise, stood));
+  denials = (let same = a.denials in let before = reads.denials in omega (arith, same, before));
+  io = λ is. (let same : e ≡ error.Io = cc in let rise = a.io (ap Err same) in omega (arith, rise, stood));
+  locked = λ is. absurd (let same : e ≡ error.Locked = cc in elim a.errors [ inl memory ↦ (let bad : error.Locked ≡ error.OutOfMemory = sym same ∙ memory in cc) | inr io ↦ (let bad : error.Locked ≡ error.Io = sym same ∙ io in cc) ]);
+  undenied = λ other. a.denials ∙ reads.denials;
+  memory = λ is. inl (let same : e ≡ error.OutOfMemory = cc in a.unfailed (λ io. (let bad : e ≡ error.Io = cc in let both : error.OutOfMemory ≡ error.Io = sym same ∙ bad in cc)) ∙ stood);
+  allowed = elim a.errors [ inl memory ↦ subst MayRefuseOpen (sym memory) tt | inr io ↦ subst MayRefuseOpen (sym io) tt ];
+}
+
+pub tells_behind : {T U : Type 0} (order : Order) (files : Files) (mid new : Facts) (e : DbError) (result : Result U DbError) → result ≡ Err e → Attempts {T = T} mid new (Err e) → Tells order files result
+tells_behind {T} {U} order files mid new e result is a = subst (λ (r : Result U DbError). Tells order files r) (sym is)
+    (elim a.errors [ inl memory ↦ subst (RefusalTells order files) (sym memory) tt | inr io ↦ subst (RefusalTells order files) (sym io) tt ])

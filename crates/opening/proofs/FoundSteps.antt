@@ -52,9 +52,9 @@ plain_directory order files r h plain = record {
 }
 
 pub database_found : (order : Order) (files : Files) (r : Recovered) → Recovers order files r → r.next_number < 2 ^ 62 - 1
-    → Finds order files (record { layout = r.layout; entries = r.entries; used = r.used; number = r.next_number })
+    → Finds order files (record { layout = r.layout; entries = r.entries; logs = r.logs; used = r.used; number = r.next_number })
 database_found order files r h lt = record {
-  what = inr (record { recovered = r; read = h; layout = refl; entries = refl; used = refl });
+  what = inr (record { recovered = r; read = h; layout = refl; entries = refl; logs = refl; used = refl });
   number = number_is order files r.next_number h.next_number lt;
 }
 

@@ -11,12 +11,13 @@ use Rattle.store.specs.Files.{Facts, Files, Synced, Renames, with_synced, rename
 use Rattle.store.specs.Calls.{KeepsSynced, Changes, ChangesSynced}
 use Rattle.store.specs.declared.error.StoreError.{StoreError}
 use Rattle.store.specs.declared.error.StoreError.TheVariants as store_error
-use Rattle.edits.specs.Names.{name_of, IsNumbered}
-use Rattle.edits.specs.declared.names.FileName.TheVariants.{Current, Log, Manifest, Temporary}
+use Rattle.edits.specs.Names.{name_of, IsFileName, IsNumbered}
+use Rattle.edits.specs.declared.names.FileName.{FileName}
+use Rattle.edits.specs.declared.names.FileName.TheVariants.{Current, Log, Manifest, OldTable, Table, Temporary}
 use Rattle.recover.proofs.NamedFiles.{get_other}
 use Rattle.opening.specs.internal.Calls.{KeepsOthers, Writes, SetsCurrent, MakesCurrent}
 use Rattle.opening.specs.Durable.{SyncsOnly, LeavesFile, HasSyncedCurrent, IsDurable, IsDurableAt, LeavesDurable}
-use Rattle.opening.specs.internal.Durable.{WritesSynced, MakesSynced, HasDurable, IsSpared, Spares}
+use Rattle.opening.specs.internal.Durable.{WritesSynced, MakesSynced, HasDurable, IsBeside, IsSpared, Spares, SparesBeside, SparesTables}
 use Rattle.opening.proofs.Reopening.{files_apart}
 use Rattle.opening.proofs.StoreCalls.{Creates, renamed_sets}
 
@@ -184,8 +185,8 @@ module _ (n : ℕ) (num : IsNumbered n) (manifest : List ℕ) (old mid : Facts) 
   }
 
   -- the names that an open writes are of known shapes, and none is the lock's
-  pub manifest_spared : (new : Facts) {r : Result (Unit {0}) DbError} → Writes old new (name_of (Manifest n)) manifest r → WritesSynced old new (name_of (Manifest n)) manifest r → IsTrue new.faithful → Spares old new
-  manifest_spared new w s f q spared = let named = spared (Manifest n) num (λ e. cc) in (w.others f q named, s.others f q named)
+  pub manifest_spared : (new : Facts) {r : Result (Unit {0}) DbError} → Writes old new (name_of (Manifest n)) manifest r → WritesSynced old new (name_of (Manifest n)) manifest r → IsTrue new.faithful → SparesBeside n old new
+  manifest_spared new w s f q spared = let named = spared.manifest in (w.others f q named, s.others f q named)
 
   module _ (w : Writes old mid (name_of (Manifest n)) manifest (Ok tt)) (s : WritesSynced old mid (name_of (Manifest n)) manifest (Ok tt)) where
     left_by_manifest : IsTrue mid.faithful → LeavesFile old mid (name_of Current)
@@ -211,17 +212,17 @@ module _ (n : ℕ) (num : IsNumbered n) (manifest : List ℕ) (old mid : Facts) 
           ];
     }
 
-    spared_both : (new : Facts) → (KeepsOthers mid.files new.files (name_of (Temporary n)) ⊎ SetsCurrent mid.files new.files (name_of (Temporary n)) new_current) → (q : List ℕ) → IsSpared q → get new.files q ≡ get mid.files q
-    spared_both new (inl kept) q spared = kept q (spared (Temporary n) num (λ e. cc))
-    spared_both new (inr set) q spared = set.1 q (spared (Temporary n) num (λ e. cc)) (spared Current tt (λ e. cc))
+    spared_both : (new : Facts) → (KeepsOthers mid.files new.files (name_of (Temporary n)) ⊎ SetsCurrent mid.files new.files (name_of (Temporary n)) new_current) → (q : List ℕ) → IsBeside n q → get new.files q ≡ get mid.files q
+    spared_both new (inl kept) q spared = kept q spared.temporary
+    spared_both new (inr set) q spared = set.1 q spared.temporary spared.current
 
     spared_beside : (new : Facts) {r : Result (Unit {0}) DbError} → MakesCurrent mid new (name_of (Temporary n)) new_current r → MakesSynced mid new (name_of (Temporary n)) new_current r → IsTrue new.faithful
-        → (KeepsOthers mid.files new.files (name_of (Temporary n)) ⊎ SetsCurrent mid.files new.files (name_of (Temporary n)) new_current) → Spares old new
+        → (KeepsOthers mid.files new.files (name_of (Temporary n)) ⊎ SetsCurrent mid.files new.files (name_of (Temporary n)) new_current) → SparesBeside n old new
     spared_beside new m t f made q spared =
         let first = manifest_spared mid w s (m.call.faithful f) q spared in
-        (spared_both new made q spared ∙ first.0, t.others f q (spared (Temporary n) num (λ e. cc)) (spared Current tt (λ e. cc)) ∙ first.1)
+        (spared_both new made q spared ∙ first.0, t.others f q spared.temporary spared.current ∙ first.1)
 
-    pub current_spared : (new : Facts) (e : DbError) → MakesCurrent mid new (name_of (Temporary n)) new_current (Err e) → MakesSynced mid new (name_of (Temporary n)) new_current (Err e) → IsTrue new.faithful → Spares old new
+    pub current_spared : (new : Facts) (e : DbError) → MakesCurrent mid new (name_of (Temporary n)) new_current (Err e) → MakesSynced mid new (name_of (Temporary n)) new_current (Err e) → IsTrue new.faithful → SparesBeside n old new
     current_spared new e m t f = spared_beside new m t f (m.err f)
 
     -- ---- it is current, and the new log was made or not
@@ -247,10 +248,10 @@ module _ (n : ℕ) (num : IsNumbered n) (manifest : List ℕ) (old mid : Facts) 
           | inr made ↦ ap (λ (fs : Files). get fs q) made ∙ get_other most.files new_log [] q apart
         ]
 
-        pub log_spared : (r : Result (Unit {0}) DbError) → Creates most new new_log r → (IsTrue new.faithful → SyncsOnly most.synced new.synced new_log) → IsTrue new.faithful → Spares old new
+        pub log_spared : (r : Result (Unit {0}) DbError) → Creates most new new_log r → (IsTrue new.faithful → SyncsOnly most.synced new.synced new_log) → IsTrue new.faithful → SparesBeside n old new
         log_spared r c synced f q spared =
             let at_most = c.call.faithful f in
-            let log = spared (Log (n + 1)) next (λ e. cc) in
+            let log = spared.log in
             let first = spared_beside most m t at_most (inr (m.ok at_most)) q spared in
             (log_others r c f q log ∙ first.0, synced f q log ∙ first.1)
 
@@ -259,6 +260,41 @@ module _ (n : ℕ) (num : IsNumbered n) (manifest : List ℕ) (old mid : Facts) 
             let at : IsTrue new.faithful → IsDurableAt n new = λ f. durable_at (c.call.faithful f) (log_others (Ok x) c f) (synced f) in
             (record { ok = λ f. (n, at f); err = λ f. tt }, λ f. record { numbered = num; durable = at f })
         log_durable_named (Err e) c synced = (record { ok = λ f. tt; err = λ f. inr (n, durable_at (c.call.faithful f) (log_others (Err e) c f) (synced f)) }, λ f. tt)
+
+-- ---- which files an open spares
+
+beside_spared : (n : ℕ) (q : List ℕ) → IsNumbered n → IsNumbered (n + 1) → IsSpared q → IsBeside n q
+beside_spared n q num next spared = record {
+  current = spared Current tt (λ e. cc);
+  manifest = spared (Manifest n) num (λ e. cc);
+  log = spared (Log (n + 1)) next (λ e. cc);
+  temporary = spared (Temporary n) num (λ e. cc);
+}
+
+pub spares_of : (n : ℕ) (old new : Facts) → IsNumbered n → IsNumbered (n + 1) → SparesBeside n old new → Spares old new
+spares_of n old new num next spares q spared = spares q (beside_spared n q num next spared)
+
+-- of a known shape, and none of those that it writes
+beside_file : (n : ℕ) (file : FileName) → IsNumbered n → IsNumbered (n + 1) → IsFileName file → file ≢ Current → file ≢ Manifest n → file ≢ Log (n + 1) → file ≢ Temporary n → IsBeside n (name_of file)
+beside_file n file num next is a b c d = record {
+  current = files_apart file Current is tt a;
+  manifest = files_apart file (Manifest n) is num b;
+  log = files_apart file (Log (n + 1)) is next c;
+  temporary = files_apart file (Temporary n) is num d;
+}
+
+pub spares_tables : (n : ℕ) (old new : Facts) → IsNumbered n → IsNumbered (n + 1) → SparesBeside n old new → SparesTables old new
+spares_tables n old new num next spares k numbered = (
+  spares (name_of (Table k)) (beside_file n (Table k) num next numbered (λ e. cc) (λ e. cc) (λ e. cc) (λ e. cc)),
+  spares (name_of (OldTable k)) (beside_file n (OldTable k) num next numbered (λ e. cc) (λ e. cc) (λ e. cc) (λ e. cc)),
+)
+
+log_of : {a b : ℕ} → Log a ≡ Log b → a ≡ b
+log_of e = cc
+
+pub spares_log : (n : ℕ) (old new : Facts) (k : ℕ) → IsNumbered n → IsNumbered (n + 1) → SparesBeside n old new → IsNumbered k → k ≢ n + 1 → LeavesFile old new (name_of (Log k))
+spares_log n old new k num next spares numbered other =
+    spares (name_of (Log k)) (beside_file n (Log k) num next numbered (λ e. cc) (λ e. cc) (λ e. other (log_of e)) (λ e. cc))
 
 -- ---- a record behind the log
 

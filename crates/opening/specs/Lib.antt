@@ -1,5 +1,6 @@
 pub mod Durable
 pub mod Looking
+pub mod Losses
 pub mod Refusals
 pub mod Telling
 pub mod internal

@@ -10,7 +10,7 @@ ghost use Rattle.opening.specs.Durable.{LeavesDurable};
 ghost use Rattle.opening.specs.Refusals.{IsMet};
 ghost use Rattle.opening.specs.Telling.{Tells};
 ghost use Rattle.opening.specs.internal.Outcome.{OpenOutcome};
-ghost use Rattle.opening.specs.internal.Begun.{IsBegun, Begins, IsUnwritten};
+ghost use Rattle.opening.specs.internal.Begun.{IsBegun, Begins, BeginsSynced, IsUnwritten};
 
 use crate::directory::{CurrentLog, DirectoryState};
 use crate::finding::find;
@@ -57,6 +57,8 @@ pub fn begin<K: KeyOrder, S: Store>(
     ensures current { IfOk result (λ begun. IsTrue (S.facts store.new).faithful
         → HasDurable begun.directory.manifest.number (S.facts store.new)) }
     ensures spared { IsTrue (S.facts store.new).faithful → Spares (S.facts store.old) (S.facts store.new) }
+    ensures synced { IfOk result (λ begun. IsTrue (S.facts store.new).faithful
+        → BeginsSynced (S.facts store.old) (S.facts store.new) begun.log begun.directory) }
     ensures whole { IfOk result (IsBegun (order_of K.name K.cmp)) }
     ensures begun { IfOk result (λ begun. IsTrue (S.facts store.new).faithful
         → Begins (order_of K.name K.cmp) mode (S.facts store.old).files (S.facts store.new).files begun) }
@@ -84,6 +86,7 @@ pub fn begin<K: KeyOrder, S: Store>(
             number: found.number + 1,
             name: rewrite.log_name,
             end: 0,
+            front: rewrite.front,
         },
         directory: known_after(&found, rewrite.manifest_name, end),
     })

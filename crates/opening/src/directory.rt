@@ -26,4 +26,6 @@ pub struct CurrentLog {
     pub name: String,
     /// Its length in bytes, where the next record begins.
     pub end: u64,
+    /// The names of the live logs in front of it that the device may not have whole: the next write has it keep these first.
+    pub front: Vec<String>,
 }

@@ -13,7 +13,7 @@ use coding::DbError;
 use edits::{Layout, NUMBER_END};
 use ikey::{Entry, KeyOrder};
 use machine::Mode;
-use recover::{Listing, first_number, list_directory};
+use recover::{Listing, LogSummary, first_number, list_directory};
 use std::alloc::{AllocError, Global};
 use store::Store;
 
@@ -24,6 +24,8 @@ pub struct Found {
     pub layout: Layout,
     /// The entries of the live logs, as they were written.
     pub entries: Vec<Entry>,
+    /// What is reported of each of these logs.
+    pub logs: Vec<LogSummary>,
     /// The last sequence used.
     pub used: u64,
     /// The number of the new MANIFEST; the new log has the next one.
@@ -62,6 +64,7 @@ pub fn find<K: KeyOrder, S: Store>(
     Ok(Found {
         layout: recovered.layout,
         entries: recovered.entries,
+        logs: recovered.logs,
         used: recovered.used,
         number: recovered.next_number,
     })
@@ -84,6 +87,7 @@ fn find_none<K: KeyOrder>(alloc: Global, listing: &Listing, mode: Mode) -> Resul
     Ok(Found {
         layout: empty_layout(alloc)?,
         entries: Vec::new(alloc),
+        logs: Vec::new(alloc),
         used: 0,
         number,
     })

@@ -6,9 +6,11 @@ mod beginning;
 mod directory;
 mod files;
 mod finding;
+mod laws;
 mod looking;
 mod rewriting;
 
 pub use beginning::{Begun, begin};
 pub use directory::{CurrentLog, DirectoryState};
+pub use laws::{cut_law, kept_law};
 pub use looking::{look, look_at, sealed_memory, version_of};

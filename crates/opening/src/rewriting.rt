@@ -1,12 +1,13 @@
 //! What an open writes: a new MANIFEST, `CURRENT`, and a new log (LevelDB's db/db_impl.cc, DBImpl::NewDB, and
 //! db/version_set.cc, VersionSet::LogAndApply).
 
-ghost use Rattle.std.specs.Prelude.{◌≡◌, ◌<◌, ◌+◌, ◌^◌, ◌++◌, ◌∷◌, [], IfOk, IfErr, IsTrue, OnOk, length, string_bytes};
+ghost use Rattle.std.specs.Prelude.{◌≡◌, ◌<◌, ◌+◌, ◌^◌, ◌++◌, ◌∷◌, [], IfOk, IfErr, IsTrue, OnOk, length, map, string_bytes};
 ghost use Rattle.coding.specs.declared.error.DbError.TheVariants.{OutOfMemory};
 ghost use Rattle.ikey.specs.Orders.{order_of};
-ghost use Rattle.opening.specs.internal.Durable.{HasDurable, Spares};
+ghost use Rattle.opening.specs.internal.Durable.{HasDurable, SparesBeside};
 ghost use Rattle.opening.specs.Durable.{LeavesDurable};
 ghost use Rattle.store.specs.Stops.{LeavesOnly};
+ghost use Rattle.opening.specs.internal.Begun.{IsFront, names_of_log};
 ghost use Rattle.opening.specs.internal.Opening.{Finds, IsContinued, IsUsable, KeepsLogs, IsKnownAfter, IsNewManifest, IsRewrite, Rewrites};
 
 use crate::directory::DirectoryState;
@@ -18,7 +19,8 @@ use edits::{FileName, FileNumbers, encode_edit, print_name, snapshot_edit};
 use ikey::KeyOrder;
 use logfile::LogWriter;
 use recover::{
-    begin_log_law, free_change_law, one_directory, one_manifest, recovered_law, reopen_law,
+    LogSummary, begin_log_law, free_change_law, one_directory, one_manifest, recovered_law,
+    reopen_law,
 };
 use std::alloc::{AllocError, Global};
 use store::Store;
@@ -36,12 +38,15 @@ pub struct Rewrite {
     pub current: Vec<u8>,
     /// The name of the new log.
     pub log_name: String,
+    /// The names of the logs in front of it, where they have entries.
+    pub front: Vec<String>,
 }
 
 /// All that an open writes, before it writes any of it.
 pub fn plan_rewrite<K: KeyOrder>(alloc: Global, found: &Found) -> Result<Rewrite, DbError>
     requires { IsUsable (order_of K.name K.cmp) found.now }
     ensures planned { IfOk result (IsRewrite (order_of K.name K.cmp) found.now) }
+    ensures front { IfOk result (λ rewrite. IsFront found.now (map string_bytes rewrite.front.items)) }
     ensures memory { IfErr result (λ error. error ≡ OutOfMemory) }
 {
     let manifest_name = print_name(alloc, FileName::Manifest(found.number))?;
@@ -49,13 +54,41 @@ pub fn plan_rewrite<K: KeyOrder>(alloc: Global, found: &Found) -> Result<Rewrite
     let temporary_name = print_name(alloc, FileName::Temporary(found.number))?;
     let current = current_content(alloc, manifest_name.as_str())?;
     let log_name = print_name(alloc, FileName::Log(found.number + 1))?;
+    let front = logs_in_front(alloc, found)?;
     Ok(Rewrite {
         manifest_name,
         manifest,
         temporary_name,
         current,
         log_name,
+        front,
     })
+}
+
+// The names of the logs that were found, where they have entries: who wrote these may not have had the device keep them.
+fn logs_in_front(alloc: Global, found: &Found) -> Result<Vec<String>, AllocError>
+    ensures { IfOk result (λ names. IsFront found.now (map string_bytes names.items)) }
+{
+    let mut names = Vec::new(alloc);
+    if found.entries.is_empty() {
+        return Ok(names);
+    }
+    for log in &found.logs {
+        push_name(alloc, &mut names, log)?;
+    }
+    Ok(names)
+}
+
+// Puts the name of a log behind the others. (None has the number 0.)
+fn push_name(alloc: Global, names: &mut Vec<String>, log: &LogSummary) -> Result<(), AllocError>
+    ensures { OnOk result (map string_bytes names.new.items ≡ map string_bytes names.old.items ++ names_of_log log.now.number) }
+{
+    if log.number == 0 {
+        return Ok(());
+    }
+    let name = print_name(alloc, FileName::Log(log.number))?;
+    names.push(name)?;
+    Ok(())
 }
 
 // The content of `CURRENT`: a name and a newline.
@@ -147,7 +180,7 @@ pub fn rewrite_directory<K: KeyOrder, S: Store>(
         (length rewrite.now.manifest.items) result }
     ensures durable { LeavesDurable (S.facts store.old) (S.facts store.new) result }
     ensures current { IsTrue (S.facts store.new).faithful → OnOk result (HasDurable found.now.number (S.facts store.new)) }
-    ensures spared { IsTrue (S.facts store.new).faithful → Spares (S.facts store.old) (S.facts store.new) }
+    ensures spared { IsTrue (S.facts store.new).faithful → SparesBeside found.now.number (S.facts store.old) (S.facts store.new) }
     ensures stops { IsTrue (S.facts store.new).faithful → Finds (order_of K.name K.cmp) (S.facts store.old).files found.now
         → LeavesOnly (S.facts store.old) (S.facts store.new) (IsContinued (order_of K.name K.cmp) (S.facts store.old).files) }
 {

@@ -1,6 +1,7 @@
 -- One batch of an import, and the work behind it.
 use Rattle.std.proofs.Common.{◌≡◌, ℕ, ◌+◌, ◌*◌, ◌≤◌, List, [], ◌∷◌, ◌++◌, length, Bool, refl, sym, ap, ◌∙◌, subst, inl, inr, append_assoc, append-nil, arith}
 use Rattle.std.specs.Prelude.{◌⊎◌}
+use Rattle.std.proofs.lemmas.List.{length-append, nil_from_length}
 use Rattle.std.proofs.lemmas.List.Elements.{All-nil, All-cons, All-head, All-tail, All-append}
 use Rattle.batch.specs.declared.operation.Operation.{Operation}
 use Rattle.store.specs.Files.{Facts}
@@ -14,7 +15,7 @@ use Rattle.engine.specs.Outcomes.{IsAnswerTo, IsWriteAnswer, AreAnswersTo}
 use Rattle.engine.specs.Applied.{Applied}
 use Rattle.script.specs.Script.{IsWrite}
 use Rattle.script.specs.Commands.{IsRefusal, AreWell, AreGiven}
-use Rattle.script.specs.Importing.{AreBatches, WritesBatch, written_by, all_written, taken_by, all_taken}
+use Rattle.script.specs.Importing.{AreBatches, WorksBehind, WritesBatch, written_by, all_written, taken_by, all_taken}
 use Rattle.script.proofs.Going.{goes_one, goes_then}
 
 pub refusal_or_not : (answer : Answer) → IsRefusal answer ⊎ (IsRefusal answer → ⊥)
@@ -52,6 +53,25 @@ well_taken (c ∷ commands) (x ∷ answers) may well =
 well_taken [] (x ∷ answers) may well = absurd may
 well_taken (c ∷ commands) [] may well = absurd may
 
+front_none : (xs ys : List Operation) → xs ++ ys ≡ [] → xs ≡ []
+front_none xs ys none = let e : length (xs ++ ys) ≡ 0 = ap length none in nil_from_length xs (omega (arith, e, length-append xs ys))
+
+rest_none : (xs ys : List Operation) → xs ++ ys ≡ [] → ys ≡ []
+rest_none xs ys none = let e : length (xs ++ ys) ≡ 0 = ap length none in nil_from_length ys (omega (arith, e, length-append xs ys))
+
+-- the first ones of commands that write nothing
+none_all_taken : (commands undone : List Op) (answers : List Answer) → all_written (commands ++ undone) ≡ [] → all_taken commands answers ≡ []
+none_all_taken [] undone [] none = refl
+none_all_taken [] undone (x ∷ answers) none = refl
+none_all_taken (c ∷ commands) undone [] none = refl
+none_all_taken (c ∷ commands) undone (x ∷ answers) none =
+    ap (λ (front : List Operation). front ++ all_taken commands answers) (none_taken c x (front_none (written_by c) (all_written (commands ++ undone)) none))
+    ∙ none_all_taken commands undone answers (rest_none (written_by c) (all_written (commands ++ undone)) none)
+
+work_takes_none : (entries : ℕ) (commands : List Op) (answers : List Answer) (ended : Answer) → AreGiven (Work entries ∷ Work 1 ∷ []) commands answers ended → all_taken commands answers ≡ []
+work_takes_none entries commands answers ended (inl all) = none_all_taken commands [] answers (subst (λ (cs : List Op). all_written (cs ++ []) ≡ []) (sym all.1) refl)
+work_takes_none entries commands answers ended (inr some) = none_all_taken commands some.1 answers (sym (ap all_written some.3))
+
 pub taken_then : (cs ds : List Op) (xs ys : List Answer) → AreAnswersTo cs xs → all_taken (cs ++ ds) (xs ++ ys) ≡ all_taken cs xs ++ all_taken ds ys
 taken_then [] ds [] ys may = refl
 taken_then (c ∷ cs) ds (x ∷ xs) ys may =
@@ -65,7 +85,7 @@ written_then (c ∷ cs) ds = ap (λ (rest : List Operation). written_by c ++ res
 
 pub batches_then : (most : ℕ) (sync : Bool) (cs ds : List Op) → AreBatches most sync cs → AreBatches most sync ds → AreBatches most sync (cs ++ ds)
 batches_then most sync [] ds h g = g
-batches_then most sync (Write operations synced ∷ Work entries ∷ cs) ds h g = (h.0, h.1, h.2, batches_then most sync cs ds h.3 g)
+batches_then most sync (Write operations synced ∷ Work entries ∷ Work last ∷ cs) ds h g = (h.0, h.1, h.2, h.3, batches_then most sync cs ds h.4 g)
 batches_then most sync _ ds h g = absurd h
 
 -- behind commands that were given and not refused
@@ -86,9 +106,9 @@ given_then front plan commands xs ys ended well (inr some) =
 -- ---- a batch
 
 batch_shape : (most : ℕ) (sync : Bool) (operations : List Operation) (write : Op) (entries : ℕ)
-    → IsWrite operations sync write → length operations ≤ most → entries ≡ 6 * length operations → AreBatches most sync (write ∷ Work entries ∷ [])
+    → IsWrite operations sync write → length operations ≤ most → entries ≡ 6 * length operations → AreBatches most sync (write ∷ Work entries ∷ Work 1 ∷ [])
 batch_shape most sync operations (Write written synced) entries is few work =
-    (subst (λ (os : List Operation). length os ≤ most) (sym is.0) few, is.1, work ∙ ap (λ (os : List Operation). 6 * length os) (sym is.0), tt)
+    (subst (λ (os : List Operation). length os ≤ most) (sym is.0) few, is.1, work ∙ ap (λ (os : List Operation). 6 * length os) (sym is.0), refl, tt)
 batch_shape most sync operations _ entries is few work = absurd is
 
 writes_these : (sync : Bool) (operations : List Operation) (write : Op) → IsWrite operations sync write → written_by write ≡ operations
@@ -107,11 +127,12 @@ batch_refused order facts most sync old new operations count write entries answe
     record {
       write = write;
       work = Work entries;
+      last = Work 1;
       shape = batch_shape most sync operations write entries is few work;
       written = append-nil (written_by write) ∙ writes_these sync operations write is;
       commands = write ∷ [];
       answers = answer ∷ [];
-      given = inr (refused, Work entries ∷ [], [], refl, refl, All-nil (λ a. IsRefusal a → ⊥));
+      given = inr (refused, Work entries ∷ Work 1 ∷ [], [], refl, refl, All-nil (λ a. IsRefusal a → ⊥));
       ran = goes_one order facts old new write answer applied;
       left = operations;
       taken = sym (ap (λ (front : List Operation). front ++ operations) none);
@@ -119,32 +140,48 @@ batch_refused order facts most sync old new operations count write entries answe
       counted = let e : length (all_taken (write ∷ []) (answer ∷ [])) ≡ 0 = ap length none in omega (arith, e);
     }
 
-pub batch_taken : {S K : Type 0} {g : _} (order : Order) (facts : S → Facts) (most : ℕ) (sync : Bool) (old mid new : Session S K g) (operations : List Operation) (before after : ℕ) (write : Op) (entries : ℕ) (answer worked ended : Answer)
+pub batch_taken : {S K : Type 0} {g : _} (order : Order) (facts : S → Facts) (most : ℕ) (sync : Bool) (old mid new : Session S K g) (operations : List Operation) (before after : ℕ) (write : Op) (entries : ℕ) (answer ended : Answer)
     → IsWrite operations sync write → length operations ≤ most → entries ≡ 6 * length operations → Applied order facts write old mid answer → (IsRefusal answer → ⊥)
-    → Applied order facts (Work entries) mid new worked → (IsRefusal worked → ended ≡ worked) → ((IsRefusal worked → ⊥) → ended ≡ Done)
-    → after ≡ before + length operations → WritesBatch order facts most sync old new operations before after ended
-batch_taken order facts most sync old mid new operations before after write entries answer worked ended is few work first well second refused done count =
+    → WorksBehind order facts entries mid new ended → after ≡ before + length operations → WritesBatch order facts most sync old new operations before after ended
+batch_taken order facts most sync old mid new operations before after write entries answer ended is few work first well (commands, answers, given, ran) count =
     let front : taken_by write answer ≡ operations = one_taken write answer first.outcome.allowed well ∙ writes_these sync operations write is in
-    let back : taken_by (Work entries) worked ++ [] ≡ [] = append-nil (taken_by (Work entries) worked) ∙ none_taken (Work entries) worked refl in
-    let all : all_taken (write ∷ Work entries ∷ []) (answer ∷ worked ∷ []) ≡ operations = ap (λ (rest : List Operation). taken_by write answer ++ rest) back ∙ append-nil (taken_by write answer) ∙ front in
+    let back : all_taken commands answers ≡ [] = work_takes_none entries commands answers ended given in
+    let all : all_taken (write ∷ commands) (answer ∷ answers) ≡ operations = ap (λ (rest : List Operation). taken_by write answer ++ rest) back ∙ append-nil (taken_by write answer) ∙ front in
     record {
       write = write;
       work = Work entries;
+      last = Work 1;
       shape = batch_shape most sync operations write entries is few work;
       written = append-nil (written_by write) ∙ writes_these sync operations write is;
-      commands = write ∷ Work entries ∷ [];
-      answers = answer ∷ worked ∷ [];
-      given = elim (refusal_or_not worked) [
-        | inl h ↦
-            let same = refused h in
-            inr (subst IsRefusal (sym same) h, [], answer ∷ [], refl, ap (λ (a : Answer). answer ∷ a ∷ []) (sym same), All-cons (λ a. IsRefusal a → ⊥) answer [] well (All-nil (λ a. IsRefusal a → ⊥)))
-        | inr h ↦
-            inl (done h, refl, All-cons (λ a. IsRefusal a → ⊥) answer (worked ∷ []) well (All-cons (λ a. IsRefusal a → ⊥) worked [] h (All-nil (λ a. IsRefusal a → ⊥))))
-      ];
-      ran = goes_then order facts old mid new (write ∷ []) (Work entries ∷ []) (answer ∷ []) (worked ∷ [])
-          (goes_one order facts old mid write answer first) (goes_one order facts mid new (Work entries) worked second);
+      commands = write ∷ commands;
+      answers = answer ∷ answers;
+      given = given_then (write ∷ []) (Work entries ∷ Work 1 ∷ []) commands (answer ∷ []) answers ended (All-cons (λ a. IsRefusal a → ⊥) answer [] well (All-nil (λ a. IsRefusal a → ⊥))) given;
+      ran = goes_then order facts old mid new (write ∷ []) commands (answer ∷ []) answers (goes_one order facts old mid write answer first) ran;
       left = [];
-      taken = sym (append-nil (all_taken (write ∷ Work entries ∷ []) (answer ∷ worked ∷ [])) ∙ all);
+      taken = sym (append-nil (all_taken (write ∷ commands) (answer ∷ answers)) ∙ all);
       whole = λ done. refl;
-      counted = let e : length (all_taken (write ∷ Work entries ∷ []) (answer ∷ worked ∷ [])) ≡ length operations = ap length all in omega (arith, e, count);
+      counted = let e : length (all_taken (write ∷ commands) (answer ∷ answers)) ≡ length operations = ap length all in omega (arith, e, count);
     }
+
+-- ---- the work behind it
+
+pub works_refused : {S K : Type 0} {g : _} (order : Order) (facts : S → Facts) (old new : Session S K g) (entries : ℕ) (worked : Answer)
+    → Applied order facts (Work entries) old new worked → IsRefusal worked → WorksBehind order facts entries old new worked
+works_refused order facts old new entries worked applied refused =
+    (Work entries ∷ [], worked ∷ [], inr (refused, Work 1 ∷ [], [], refl, refl, All-nil (λ a. IsRefusal a → ⊥)), goes_one order facts old new (Work entries) worked applied)
+
+pub works_given : {S K : Type 0} {g : _} (order : Order) (facts : S → Facts) (old mid new : Session S K g) (entries : ℕ) (worked last ended : Answer)
+    → Applied order facts (Work entries) old mid worked → (IsRefusal worked → ⊥) → Applied order facts (Work 1) mid new last
+    → (IsRefusal last → ended ≡ last) → ((IsRefusal last → ⊥) → ended ≡ Done) → WorksBehind order facts entries old new ended
+works_given order facts old mid new entries worked last ended first well second refused done = (
+  Work entries ∷ Work 1 ∷ [],
+  worked ∷ last ∷ [],
+  elim (refusal_or_not last) [
+    | inl h ↦
+        let same = refused h in
+        inr (subst IsRefusal (sym same) h, [], worked ∷ [], refl, ap (λ (a : Answer). worked ∷ a ∷ []) (sym same), All-cons (λ a. IsRefusal a → ⊥) worked [] well (All-nil (λ a. IsRefusal a → ⊥)))
+    | inr h ↦
+        inl (done h, refl, All-cons (λ a. IsRefusal a → ⊥) worked (last ∷ []) well (All-cons (λ a. IsRefusal a → ⊥) last [] h (All-nil (λ a. IsRefusal a → ⊥))))
+  ],
+  goes_then order facts old mid new (Work entries ∷ []) (Work 1 ∷ []) (worked ∷ []) (last ∷ []) (goes_one order facts old mid (Work entries) worked first) (goes_one order facts mid new (Work 1) last second),
+)

@@ -89,7 +89,7 @@ pub taken_batch : {S K : Type 0} {g : _} (order : Order) (facts : S → Facts) (
     → HasTaken order facts how old new script left [] after
 taken_batch order facts how old now new script left waiting before after h b = elim b.given [
   | inl all ↦
-      let plan = b.write ∷ b.work ∷ [] in
+      let plan = b.write ∷ b.work ∷ b.last ∷ [] in
       let written : all_written (h.batches ++ plan) ≡ all_written h.batches ++ waiting = written_then h.batches plan ∙ ap (λ (os : List Operation). all_written h.batches ++ os) b.written in
       let taken : waiting ≡ all_taken b.commands b.answers = b.taken ∙ ap (λ (os : List Operation). all_taken b.commands b.answers ++ os) (b.whole refl) ∙ append-nil (all_taken b.commands b.answers) in
       let long : length (all_written (h.batches ++ plan)) ≡ length (all_written h.batches) + length waiting = ap length written ∙ length-append (all_written h.batches) waiting in
@@ -162,7 +162,7 @@ taken_here order facts how old now new script left waiting before after sync out
 -- the end behind a batch, at the end of the lines or before it
 ends_behind : {S K : Type 0} {g : _} (order : Order) (facts : S → Facts) (how : ImportValues) (old now new : Session S K g) (script left : Option (List ℕ)) (waiting : List Operation) (before after : ℕ) (sync : Bool) (outcome : Answer)
     (h : HasTaken order facts how old now script left waiting before) (b : WritesBatch order facts how.batch sync now new waiting before after outcome) (all : Bool) (later : List (List ℕ))
-    → IfSome script (λ bytes. lines_of bytes ≡ h.lines ++ later) → (all ≡ true → later ≡ []) → IsPlan how all (Open Any ∷ h.batches ++ b.write ∷ b.work ∷ [])
+    → IfSome script (λ bytes. lines_of bytes ≡ h.lines ++ later) → (all ≡ true → later ≡ []) → IsPlan how all (Open Any ∷ h.batches ++ b.write ∷ b.work ∷ b.last ∷ [])
     → ((outcome ≡ Done) × (all ≡ true) × (b.left ≡ [])) ⊎ IsRefusal outcome → EndsImport order facts how old new script outcome after
 ends_behind order facts how old now new script left waiting before after sync outcome h b all later first last planned end =
     let here = taken_here order facts how old now new script left waiting before after sync outcome h b in
@@ -178,15 +178,15 @@ ends_behind order facts how old now new script left waiting before after sync ou
         last = last;
         operations = h.operations;
         said = h.said;
-        plan = Open Any ∷ h.batches ++ b.write ∷ b.work ∷ [];
+        plan = Open Any ∷ h.batches ++ b.write ∷ b.work ∷ b.last ∷ [];
         planned = planned;
         gathered = [];
-        written = h.written ∙ ap (λ (os : List Operation). all_written h.batches ++ os) (sym b.written) ∙ sym (written_then h.batches (b.write ∷ b.work ∷ []))
-            ∙ sym (append-nil (all_written (Open Any ∷ h.batches ++ b.write ∷ b.work ∷ [])));
+        written = h.written ∙ ap (λ (os : List Operation). all_written h.batches ++ os) (sym b.written) ∙ sym (written_then h.batches (b.write ∷ b.work ∷ b.last ∷ []))
+            ∙ sym (append-nil (all_written (Open Any ∷ h.batches ++ b.write ∷ b.work ∷ b.last ∷ [])));
         whole = λ e. refl;
         commands = Open Any ∷ h.batches ++ b.commands;
         answers = h.answers ++ b.answers;
-        given = given_then (Open Any ∷ h.batches) (b.write ∷ b.work ∷ []) b.commands h.answers b.answers outcome h.well b.given;
+        given = given_then (Open Any ∷ h.batches) (b.write ∷ b.work ∷ b.last ∷ []) b.commands h.answers b.answers outcome h.well b.given;
         ran = goes_then order facts old now new (Open Any ∷ h.batches) b.commands h.answers b.answers h.ran b.ran;
         left = b.left;
         taken = h.written ∙ ap (λ (os : List Operation). all_written h.batches ++ os) b.taken ∙ sym (append_assoc (all_written h.batches) (all_taken b.commands b.answers) b.left)
@@ -204,14 +204,14 @@ pub ends_refused : {S K : Type 0} {g : _} (order : Order) (facts : S → Facts) 
     → EndsImport order facts how old new script outcome after
 ends_refused order facts how old now new script left waiting before after outcome h b refused =
     ends_behind order facts how old now new script left waiting before after how.sync outcome h b false (later_of left) (first_lines script left h.lines h.leaves) (λ e. absurd (false≢true e))
-    (h.batches ++ b.write ∷ b.work ∷ [], refl, batches_then how.batch how.sync h.batches (b.write ∷ b.work ∷ []) h.shape b.shape) (inr refused)
+    (h.batches ++ b.write ∷ b.work ∷ b.last ∷ [], refl, batches_then how.batch how.sync h.batches (b.write ∷ b.work ∷ b.last ∷ []) h.shape b.shape) (inr refused)
 
 pub ends_whole : {S K : Type 0} {g : _} (order : Order) (facts : S → Facts) (how : ImportValues) (old now new : Session S K g) (script left next : Option (List ℕ)) (waiting : List Operation) (before after : ℕ) (outcome : Answer) (line : List ℕ)
     → HasTaken order facts how old now script left waiting before → TakesLine left next false line → WritesBatch order facts how.batch true now new waiting before after outcome
     → EndsImport order facts how old new script outcome after
 ends_whole order facts how old now new script left next waiting before after outcome line h none b =
     ends_behind order facts how old now new script left waiting before after true outcome h b true [] (all_lines script h.lines (leaves_none script left next h.lines line h.leaves none)) (λ e. refl)
-    (h.batches, b.write, b.work, refl, h.shape, b.shape) (elim b.given [
+    (h.batches, b.write, b.work, b.last, refl, h.shape, b.shape) (elim b.given [
       | inl all ↦ inl (all.0, refl, b.whole all.0)
       | inr some ↦ inr some.0
     ])

@@ -38,19 +38,20 @@ SayOperations (line ∷ lines) [] = ⊥
 
 -- ---- commands
 
--- Batches of at most so many operations, all synced or none, and behind each one six entries of work for each of its operations.
+-- Batches of at most so many operations, all synced or none. Behind each one six entries of work for each of its operations, and one more: it
+-- writes the table of a memory table that the work has sealed, before the next batch comes.
 abbrev pub AreBatches : ℕ → Bool → List Op → Type 0
 AreBatches most sync [] = Unit {0}
-AreBatches most sync (Write operations synced ∷ Work entries ∷ commands) =
-    (length operations.items ≤ most) × (synced ≡ sync) × (entries ≡ 6 * length operations.items) × AreBatches most sync commands
+AreBatches most sync (Write operations synced ∷ Work entries ∷ Work last ∷ commands) =
+    (length operations.items ≤ most) × (synced ≡ sync) × (entries ≡ 6 * length operations.items) × (last ≡ 1) × AreBatches most sync commands
 AreBatches most sync _ = ⊥
 
 -- An open and batches; behind all lines one more, which is synced.
 abbrev pub IsPlan : ImportValues → Bool → List Op → Type 0
 IsPlan how false plan = (batches : List Op) × (plan ≡ Open Any ∷ batches) × AreBatches how.batch how.sync batches
 IsPlan how true plan =
-    (batches : List Op) × (write work : Op) × (plan ≡ Open Any ∷ batches ++ write ∷ work ∷ [])
-    × AreBatches how.batch how.sync batches × AreBatches how.batch true (write ∷ work ∷ [])
+    (batches : List Op) × (write work last : Op) × (plan ≡ Open Any ∷ batches ++ write ∷ work ∷ last ∷ [])
+    × AreBatches how.batch how.sync batches × AreBatches how.batch true (write ∷ work ∷ last ∷ [])
 
 -- the operations that a command writes
 abbrev pub written_by : Op → List Operation
@@ -158,20 +159,26 @@ pub record HasTaken {S K : Type 0} {g : _} (order : Order) (facts : S → Facts)
   pub ran : GoesOn order facts old now (Open Any ∷ batches) answers
   pub counted : count ≡ length (all_written batches)
 
--- A batch was given, and work behind it where that was taken.
+-- A batch was given, and the work behind it, up to the first of the three that was refused.
 pub record WritesBatch {S K : Type 0} {g : _} (order : Order) (facts : S → Facts) (most : ℕ) (sync : Bool) (old new : Session S K g) (operations : List Operation) (before after : ℕ) (outcome : Answer) : Type 0 where
   pub write : Op
   pub work : Op
-  pub shape : AreBatches most sync (write ∷ work ∷ [])
-  pub written : all_written (write ∷ work ∷ []) ≡ operations
+  pub last : Op
+  pub shape : AreBatches most sync (write ∷ work ∷ last ∷ [])
+  pub written : all_written (write ∷ work ∷ last ∷ []) ≡ operations
   pub commands : List Op
   pub answers : List Answer
-  pub given : AreGiven (write ∷ work ∷ []) commands answers outcome
+  pub given : AreGiven (write ∷ work ∷ last ∷ []) commands answers outcome
   pub ran : GoesOn order facts old new commands answers
   pub left : List Operation
   pub taken : operations ≡ all_taken commands answers ++ left
   pub whole : outcome ≡ Done → left ≡ []
   pub counted : after ≡ before + length (all_taken commands answers)
+
+-- So many entries of work were given, and one more behind them where they weren't refused.
+abbrev pub WorksBehind : {S K : Type 0} {g : _} → Order → (S → Facts) → ℕ → Session S K g → Session S K g → Answer → Type 0
+WorksBehind order facts entries old new outcome =
+    (commands : List Op) × (answers : List Answer) × AreGiven (Work entries ∷ Work 1 ∷ []) commands answers outcome × GoesOn order facts old new commands answers
 
 -- A line says no operation; or its operation waits now; or it was written with those that waited.
 abbrev pub TakesOperation : {S K : Type 0} {g : _} → Order → (S → Facts) → ImportValues → Session S K g → Session S K g → List ℕ → List Operation → List Operation → ℕ → ℕ → Answer → Type 0

@@ -9,7 +9,7 @@ ghost use Rattle.machine.specs.declared.command.Answer.TheVariants.{Done};
 ghost use Rattle.engine.specs.Applied.{IsShut};
 ghost use Rattle.script.specs.Commands.{GoesOn, IsRefusal};
 ghost use Rattle.script.specs.Closing.{EndsClosed, TakesClosed};
-ghost use Rattle.script.specs.Importing.{EndsImport, EndsRest, Imports, StopsImport, TakesOperation, TakesRest, TakesSome, WritesBatch};
+ghost use Rattle.script.specs.Importing.{EndsImport, EndsRest, Imports, StopsImport, TakesOperation, TakesRest, TakesSome, WorksBehind, WritesBatch};
 ghost use Rattle.script.specs.Importing.{refusal_line, report_of};
 
 use crate::answer::push_with_number;
@@ -196,7 +196,7 @@ fn take_line<S: Store, K: KeyOrder>(
     Ok(ended)
 }
 
-// Writes what waits as one batch, and does work behind it: `Done`, or the refusal of one of the two. Where there is no memory,
+// Writes what waits as one batch, and does work behind it: `Done`, or the refusal that ended it. Where there is no memory,
 // nothing is done.
 fn write_gathered<S: Store, K: KeyOrder>(
     alloc: Global,
@@ -224,8 +224,24 @@ fn write_gathered<S: Store, K: KeyOrder>(
         return Ok(written);
     }
     *taken = after;
+    Ok(work_behind_batch(alloc, session, entries))
+}
+
+// Does the work behind a batch: so many entries, and one more, which writes the table of a memory table that these have sealed. The
+// next batch would have the device keep its log otherwise. `Done`, or the first refusal.
+fn work_behind_batch<S: Store, K: KeyOrder>(
+    alloc: Global,
+    session: &mut Session<S, K>,
+    entries: u32,
+) -> Answer
+    ensures { WorksBehind (order_of K.name K.cmp) S.facts entries session.old session.new result }
+{
     let worked = give(alloc, session, &Op::Work(entries));
-    Ok(done_or_refused(worked))
+    if is_refusal(&worked) {
+        return worked;
+    }
+    let last = give(alloc, session, &Op::Work(1));
+    done_or_refused(last)
 }
 
 // How many entries of work are done behind so many operations.

@@ -182,9 +182,9 @@ pub const OPERATIONS: &str = "\
 K and V are bytes in hexadecimal, as 6b6579, or - for none. Where DIR has no
 database one is made. The lines are written in batches of --batch operations,
 fewer where their keys and values have 1 MiB or more, each whole or not at all;
-behind each comes work, six entries for each of its operations; what is left to
-merge then, `ldbtool compact` does. At the end the device has kept everything.
-What was done is told by a line
+behind each comes work, six entries for each of its operations and one more;
+what is left to merge then, `ldbtool compact` does. At the end the device has
+kept everything. What was done is told by a line
 
   taken N                             so many of the first lines are in the database
 

@@ -24,6 +24,7 @@ use Rattle.recover.specs.Directory.{Directory, IsConsistent, EndsAt, entries_in,
 use Rattle.recover.specs.internal.Changes.{ManifestEndsAt, AgreeBeside, IsFlush, flushed, with_content}
 use Rattle.recover.specs.Numbers.{IsFree}
 use Rattle.recover.specs.Report.{IsLongTable, AnyHasBytes}
+use Rattle.directory_writes.specs.internal.Calls.{LeavesFile}
 use Rattle.directory_writes.specs.internal.FlushEdits.{IsAfterFlush, flush_fields}
 use Rattle.directory_writes.specs.internal.Level0.{IsLevel0, IsTooLarge}
 use Rattle.directory_writes.specs.declared.flush.FlushError.{FlushError}
@@ -48,6 +49,12 @@ pub record FlushTouches (old new : Facts) (table manifest : List ℕ) : Type 0 w
   pub locked : new.locked ≡ old.locked
   pub others : IsTrue new.faithful → (name : List ℕ) → name ≢ table → name ≢ manifest → get new.files name ≡ get old.files name
   pub synced : IsTrue new.faithful → (name : List ℕ) → name ≢ table → name ≢ manifest → new.synced name ≡ old.synced name
+
+-- A refusal before the edit leaves the MANIFEST, whose name is none of these.
+abbrev pub SparesManifest : {T : Type 0} → Facts → Facts → List ℕ → (List ℕ → Type 0) → Result T FlushError → Type 0
+SparesManifest old new manifest is_table (Ok x) = Unit {0}
+SparesManifest old new manifest is_table (Err Edit) = Unit {0}
+SparesManifest old new manifest is_table (Err (Before e)) = IsTrue new.faithful → (is_table manifest → ⊥) → LeavesFile old new manifest
 
 -- Why there is no version after an edit: out of memory, or since its tables don't fit in.
 abbrev pub RefusesVersion : DbError → Type 0 → Type 0

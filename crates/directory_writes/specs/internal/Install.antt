@@ -1,6 +1,6 @@
 -- What the end of a job does to the directory: its outputs come in the place of its inputs (LevelDB's db/db_impl.cc,
 -- InstallCompactionResults).
-use Rattle.std.specs.Prelude.{◌≡◌, ◌≢◌, ◌⊎◌, ◌<◌, ◌≤◌, ◌^◌, ℕ, Bool, List, [], ◌∷◌, ◌++◌, map, All, IsTrue, Result, Ok, Err, string_bytes}
+use Rattle.std.specs.Prelude.{◌≡◌, ◌≢◌, ◌⊎◌, ◌<◌, ◌≤◌, ◌^◌, ℕ, Bool, List, [], ◌∷◌, ◌++◌, map, All, IsTrue, IfOk, Some, Result, Ok, Err, string_bytes}
 use Rattle.std.specs.FinMap.{get}
 use Rattle.std.specs.List.{AllByRecursion, Contains}
 use Rattle.std.specs.List.Sorted.{IsPermutation}
@@ -84,6 +84,14 @@ RefusesInstall Edit cmp job old new next last_sequence tables = old.failures < n
 abbrev pub AreOldOrOwn : TablesWritten → List PlacedTable → List PlacedTable → Type 0
 AreOldOrOwn w old new = (placed : PlacedTable) → Contains new placed → Contains old placed ⊎ IsOwn w placed.table.number
 
+-- the file of this table is there, and is synced whole
+abbrev pub IsTableSynced : Facts → ℕ → Type 0
+IsTableSynced facts number = (file : List ℕ) × (get facts.files (table_name number) ≡ Some file) × (facts.synced (table_name number) ≡ Some file)
+
+-- each of these tables is an old one, or is synced
+abbrev pub AreOldOrSynced : Facts → List PlacedTable → List PlacedTable → Type 0
+AreOldOrSynced facts old new = (placed : PlacedTable) → Contains new placed → Contains old placed ⊎ IsTableSynced facts placed.table.number
+
 -- The new version is in order, and is the old one after an edit that can be written: that of the plan, which takes its inputs away
 -- and puts tables into its output level that the job wrote.
 pub record HasJobVersion (cmp : List ℕ → List ℕ → Ordering) (plan : JobPlan) (w : TablesWritten) (old new : Placement) : Type 0 where
@@ -105,6 +113,8 @@ pub record HasPreparedJob {K C : Type 0} (cmp : List ℕ → List ℕ → Orderi
   pub leads : LeadsLayout (after_edit prepared.edit) version.tables prepared.version.value.tables
   pub replaces : ReplacesInputs job.plan version.tables prepared.version.value.tables
   pub tables : AreOldOrOwn job.outputs version.tables prepared.version.value.tables
+  pub synced : (deep : List ℕ → Bool) (came : List InternalEntry) → IsTrue new.faithful → IsMerging cmp deep job.last.items job.selection job.outputs old next came
+      → AreOldOrSynced new version.tables prepared.version.value.tables
   pub in_order : AreInOrder cmp prepared.version.value.tables
   pub pointers : prepared.version.value.compact_pointers ≡ pointers_after prepared.edit 0 version.compact_pointers
 
@@ -185,3 +195,9 @@ abbrev pub InstallLeaves : {K C : Type 0} → Order → Job K C → Facts → Fa
 InstallLeaves order job old new next last_sequence manifest tables result =
     IsTrue new.faithful → (deep : List ℕ → Bool) (came : List InternalEntry) (d : Directory) (inputs rest : List TableContent)
     → CanInstall order deep job old next last_sequence manifest tables came d inputs rest → InstallMeans order deep job old.files new.files next manifest tables came d inputs rest result
+
+-- The tables that it puts into the version are synced. (The name of none is that of the MANIFEST.)
+abbrev pub InstallSyncs : {K C : Type 0} → (List ℕ → List ℕ → Ordering) → Job K C → Facts → Facts → ℕ → List ℕ → List PlacedTable → Result (Installed K) FlushError → Type 0
+InstallSyncs cmp job old new next manifest tables result =
+    IsTrue new.faithful → (deep : List ℕ → Bool) (came : List InternalEntry) → IsMerging cmp deep job.last.items job.selection job.outputs old next came
+    → IfOk result (λ done. (placed : PlacedTable) → Contains done.version.value.tables placed → table_name placed.table.number ≢ manifest → Contains tables placed ⊎ IsTableSynced new placed.table.number)

@@ -1,7 +1,9 @@
 -- What putting a batch behind the log does to the directory.
-use Rattle.std.specs.Prelude.{◌≡◌, ◌⊎◌, ℕ, ◌+◌, ◌<◌, ◌≤◌, List, ◌++◌, length, IsTrue, Result, Err, IfOk, OnOk}
+use Rattle.std.specs.Prelude.{◌≡◌, ◌⊎◌, ℕ, Bool, true, ◌+◌, ◌<◌, ◌≤◌, List, ◌++◌, length, IsTrue, Result, Err, IfOk, IfErr, OnOk}
+use Rattle.std.specs.List.{AllByRecursion}
 use Rattle.std.specs.FinMap.{get}
 use Rattle.batch.specs.declared.operation.Operation.{Operation}
+use Rattle.store.specs.Calls.{FailsAsWrite}
 use Rattle.store.specs.Files.{Files, Facts, Appends, AppendsBeginning}
 use Rattle.edits.specs.Names.{name_of}
 use Rattle.edits.specs.declared.field.Field.{Field}
@@ -16,6 +18,8 @@ use Rattle.recover.specs.Tables.{TableContent}
 use Rattle.engine.specs.declared.log.LogError.{LogError}
 use Rattle.engine.specs.declared.log.LogError.TheVariants.{Memory, Device}
 use Rattle.machine.specs.Machine.{Machine}
+use Rattle.opening.specs.Durable.{IsSynced}
+use Rattle.opening.specs.Losses.{IsNoneOf}
 use Rattle.engine.specs.internal.Directory.{IsReadable}
 use Rattle.opening.specs.internal.Directories.{IsDirectoryOf, CanAppend}
 
@@ -28,6 +32,23 @@ pub record AppendsRecord (old new : Facts) (name bytes : List ℕ) (result : Res
   pub device : IsTrue new.faithful → result ≡ Err Device → AppendsBeginning old.files new.files name bytes
   pub counted : result ≡ Err Device → old.failures < new.failures
   pub memory : IsTrue new.faithful → result ≡ Err Memory → new.files ≡ old.files
+
+-- The files of these names are synced, and no other; no file changes.
+pub record SyncsThese (names : List (List ℕ)) (old new : Facts) : Type 0 where
+  pub faithful : IsTrue new.faithful → IsTrue old.faithful
+  pub failures : old.failures ≤ new.failures
+  pub writes : FailsAsWrite old new
+  pub denials : new.denials ≡ old.denials
+  pub locked : new.locked ≡ old.locked
+  pub files : IsTrue new.faithful → new.files ≡ old.files
+  pub others : IsTrue new.faithful → (q : List ℕ) → IsNoneOf q names → new.synced q ≡ old.synced q
+
+-- Each of them is; or, where the device fails, some are.
+pub record SyncsFront (names : List (List ℕ)) (old new : Facts) (result : Result (Unit {0}) LogError) : Type 0 where
+  pub these : SyncsThese names old new
+  pub kept : IsTrue new.faithful → OnOk result (AllByRecursion (IsSynced new) names)
+  pub done : OnOk result (new.failures ≡ old.failures)
+  pub refused : IfErr result (λ e. (e ≡ Device) × (old.failures < new.failures))
 
 -- The files of all tables are as before, under both of their names.
 abbrev pub KeepsTables : Files → Files → Type 0

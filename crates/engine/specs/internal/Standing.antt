@@ -19,6 +19,7 @@ use Rattle.opening.specs.internal.Knowing.{HasLogs, KnowsDirectory}
 use Rattle.opening.specs.internal.Directories.{CanAppend}
 use Rattle.engine.specs.internal.Directory.{IsAtRest, IsReadable}
 use Rattle.engine.specs.internal.Live.{AreSnapshots, AreWalks}
+use Rattle.engine.specs.internal.Synced.{IsSyncedBut}
 
 -- all its entries, where its tables have these contents
 abbrev pub entries_of : {K : Type 0} {g : _} → List TableContent → OpenDb K g → List Entry
@@ -67,6 +68,7 @@ pub record IsServing {K : Type 0} {g : _} (order : Order) (source : Seen) (db : 
   pub accounted : AreAccounted (entries_of contents db) (entry_count m) (weight m)
   pub readable : IsReadable order source.facts.files m
   pub numbers : db.directory.numbers.next ≤ m.numbers
+  pub synced : IsSyncedBut source.facts db.log db.directory db.tables
   pub job : MatchOption db.job (Unit {0}) (IsCompacting order (whole_of source db) db.directory.numbers.next db.snapshots db.iterators log.directory.directory)
 
 -- A broken one: its directory is what counts from now on.

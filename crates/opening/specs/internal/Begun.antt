@@ -1,19 +1,26 @@
 -- What an open has before its database is made, and what it leaves of the directory (LevelDB's db/db_impl.cc, DB::Open).
-use Rattle.std.specs.Prelude.{◌≡◌, ◌⊎◌, ◌<◌, ◌≤◌, ◌+◌, ◌^◌, ℕ, true, IsTrue, List, [], map, string_bytes}
+use Rattle.std.specs.Prelude.{◌≡◌, ◌≢◌, ◌⊎◌, ◌<◌, ◌≤◌, ◌+◌, ◌^◌, ℕ, zero, suc, true, IsSome, IsTrue, List, [], ◌∷◌, map, string_bytes}
+use Rattle.std.specs.List.{flat_map}
 use Rattle.std.specs.FinMap.{contains_key}
 use Rattle.coding.specs.declared.error.DbError.{DbError}
 use Rattle.coding.specs.declared.error.DbError.TheVariants.{OutOfMemory, Io}
 use Rattle.store.specs.Files.{Facts, Files}
 use Rattle.ikey.specs.Orders.{Order}
 use Rattle.ikey.specs.declared.entry.Entry.{Entry}
-use Rattle.edits.specs.Names.{name_of}
+use Rattle.edits.specs.Names.{name_of, IsNumbered}
 use Rattle.edits.specs.declared.names.FileName.TheVariants.{Current, Log}
 use Rattle.memtables.specs.Memories.{logged_in}
+use Rattle.recover.specs.declared.report.LogSummary.{LogSummary}
 use Rattle.recover.specs.Numbers.{IsFree}
-use Rattle.recover.specs.Tables.{TableContent}
+use Rattle.recover.specs.Tables.{TableContent, table_at}
 use Rattle.versions.specs.Levels.{ListsSameTables, AreInOrder}
 use Rattle.machine.specs.declared.command.Mode.{Mode}
+use Rattle.opening.specs.Losses.{AreInDoubt}
+use Rattle.opening.specs.internal.Durable.{SparesTables}
 use Rattle.opening.specs.declared.beginning.Begun.{Begun}
+use Rattle.opening.specs.declared.directory.CurrentLog.{CurrentLog}
+use Rattle.opening.specs.declared.directory.DirectoryState.{DirectoryState}
+use Rattle.opening.specs.declared.finding.Found.{Found}
 use Rattle.opening.specs.internal.Directories.{IsDirectoryOf, CanAppend}
 use Rattle.opening.specs.internal.Knowing.{HasLogs, KnowsDirectory}
 use Rattle.opening.specs.internal.Opening.{AllowsFiles}
@@ -47,3 +54,23 @@ pub record Begins {K : Type 0} (order : Order) (mode : Mode) (old new : Files) (
 -- A refusal came before anything was written, or for want of memory, or since the store failed.
 abbrev pub IsUnwritten : DbError → Facts → Facts → Type 0
 IsUnwritten error old new = (IsTrue new.faithful → new.files ≡ old.files) ⊎ ((error ≡ OutOfMemory) ⊎ (error ≡ Io))
+
+-- The name of the log of a number. (None has 0.)
+abbrev pub names_of_log : ℕ → List (List ℕ)
+names_of_log zero = []
+names_of_log (suc n) = name_of (Log (suc n)) ∷ []
+
+abbrev pub names_of_logs : List LogSummary → List (List ℕ)
+names_of_logs logs = flat_map (λ (log : LogSummary). names_of_log log.number) logs
+
+-- They are the names of the logs that were found, where these have entries.
+pub record IsFront (found : Found) (names : List (List ℕ)) : Type 0 where
+  pub none : found.entries.items ≡ [] → names ≡ []
+  pub all : found.entries.items ≢ [] → names ≡ names_of_logs found.logs.items
+
+-- Which of the logs that the next open reads the device may not have whole, and that an open leaves tables alone: those that are there have numbers
+-- below that of its MANIFEST.
+pub record BeginsSynced (old new : Facts) (log : CurrentLog) (state : DirectoryState) : Type 0 where
+  pub logs : AreInDoubt new.files log state
+  pub tables : SparesTables old new
+  pub found : (n : ℕ) → IsNumbered n → IsSome (table_at new.files n) → n < state.manifest.number

@@ -1,10 +1,10 @@
 -- What the calls of an open leave of what is synced.
-use Rattle.std.specs.Prelude.{◌≡◌, ◌≢◌, ◌⊎◌, ℕ, Some, IsTrue, List, Result, OnOk, OnErr}
+use Rattle.std.specs.Prelude.{◌≡◌, ◌≢◌, ◌⊎◌, ◌+◌, ℕ, Some, IsTrue, List, Result, OnOk, OnErr}
 use Rattle.coding.specs.declared.error.DbError.{DbError}
 use Rattle.store.specs.Files.{Facts}
 use Rattle.edits.specs.Names.{name_of, IsFileName, IsNumbered}
 use Rattle.edits.specs.declared.names.FileName.{FileName}
-use Rattle.edits.specs.declared.names.FileName.TheVariants.{Current, Lock}
+use Rattle.edits.specs.declared.names.FileName.TheVariants.{Current, Lock, Log, Manifest, OldTable, Table, Temporary}
 use Rattle.opening.specs.Durable.{HasSyncedCurrent, IsDurableAt, LeavesFile, SyncsOnly}
 
 -- The name of a file that an open neither writes nor removes: another program's, or the lock's.
@@ -14,6 +14,20 @@ IsSpared name = (file : FileName) → IsFileName file → file ≢ Lock → name
 -- Such files, and what of them is synced, are as before.
 abbrev pub Spares : Facts → Facts → Type 0
 Spares old new = (name : List ℕ) → IsSpared name → LeavesFile old new name
+
+-- The name of a file that an open doesn't write which draws this number: not `CURRENT`, nor its MANIFEST, its log or the temporary file.
+pub record IsBeside (n : ℕ) (name : List ℕ) : Type 0 where
+  pub current : name ≢ name_of Current
+  pub manifest : name ≢ name_of (Manifest n)
+  pub log : name ≢ name_of (Log (n + 1))
+  pub temporary : name ≢ name_of (Temporary n)
+
+abbrev pub SparesBeside : ℕ → Facts → Facts → Type 0
+SparesBeside n old new = (name : List ℕ) → IsBeside n name → LeavesFile old new name
+
+-- The files of tables, and what of them is synced, are as before.
+abbrev pub SparesTables : Facts → Facts → Type 0
+SparesTables old new = (n : ℕ) → IsNumbered n → LeavesFile old new (name_of (Table n)) × LeavesFile old new (name_of (OldTable n))
 
 -- A file that was written anew is synced whole.
 pub record WritesSynced (old new : Facts) (name bytes : List ℕ) (result : Result (Unit {0}) DbError) : Type 0 where

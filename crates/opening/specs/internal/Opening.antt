@@ -46,6 +46,7 @@ pub record FindsDirectory (order : Order) (files : Files) (found : Found) : Type
   pub read : Recovers order files recovered
   pub layout : found.layout ≡ recovered.layout
   pub entries : found.entries.items ≡ recovered.entries.items
+  pub logs : found.logs.items ≡ recovered.logs.items
   pub used : found.used ≡ recovered.used
 
 -- what an open found, and the file number that it draws

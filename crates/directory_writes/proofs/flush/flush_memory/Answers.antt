@@ -1,10 +1,12 @@
-use Rattle.std.proofs.Common.{Err, sym, subst, string_bytes, arith}
+use Rattle.std.proofs.Common.{◌≡◌, Err, sym, subst, string_bytes, arith}
 use Rattle.ikey.specs.Orders.{order_of}
 use Rattle.edits.specs.Names.{name_of}
 use Rattle.edits.specs.declared.names.FileName.TheVariants.{Table}
-use Rattle.directory_writes.specs.internal.Flush.{FlushLeaves}
+use Rattle.directory_writes.specs.internal.Flush.{FlushLeaves, SparesManifest}
+use Rattle.directory_writes.specs.declared.flush.Flushed.{Flushed}
 use Rattle.directory_writes.specs.declared.flush.FlushError.{FlushError}
 use Rattle.directory_writes.proofs.Flushes.{touches_table, touches_both, syncs_both, flush_stopped, leaves_none, leaves_ok, leaves_maybe, table_stopped}
+use Rattle.directory_writes.proofs.Sparing.{spares_edit}
 use Rattle.directory_writes.proofs.flush.flush_memory.Goals as goal
 
 pub returns-in-Err-clause-call : goal.returns-in-Err-clause-call
@@ -77,3 +79,18 @@ returns-in-Err-append_edit-clause-stops g c f =
     flush_stopped order (g.S.Store.facts c.args.store.now) c.args.numbers.now.next c.prepare.new.numbers.next c.args.plan c.args.manifest.now c.args.memory.now.inserts
     c.unread_law.ensures c.flush_law.ensures c.same_manifest_law.ensures (g.S.Store.facts c.prepare.new.store) (g.S.Store.facts c.append_edit.new.store) c.args.version.now c.in-Ok.prepared
     c.in-Ok.ensures.writes c.in-Ok.ensures.drawn c.in-Err-append_edit.ensures.call p.0 p.1 p.2 p.3 p.4 (c.in-Err-append_edit.ensures.stops f order) f
+
+pub returns-in-Err-clause-spares : goal.returns-in-Err-clause-spares
+returns-in-Err-clause-spares g c f apart = (c.in-Err.ensures.writes.others f (string_bytes c.args.manifest.now.name) apart, c.in-Err.ensures.writes.synced f (string_bytes c.args.manifest.now.name) apart)
+
+pub returns-in-Err-append_edit-clause-spares : goal.returns-in-Err-append_edit-clause-spares
+returns-in-Err-append_edit-clause-spares g c =
+    let order = order_of g.K.KeyOrder.name g.K.KeyOrder.cmp in
+    let old = g.S.Store.facts c.args.store.now in
+    let new = g.S.Store.facts c.append_edit.new.store in
+    let name = string_bytes c.args.manifest.now.name in
+    let P : FlushError → Type 0 = λ e. SparesManifest {T = Flushed g.row.K.Denot} old new name (λ q. q ≡ name_of (Table c.args.numbers.now.next)) (Err e) in
+    subst P (sym c.edit_refusal.ensures)
+    (spares_edit (Flushed g.row.K.Denot) order old (g.S.Store.facts c.prepare.new.store) new c.args.manifest.now.number name c.args.manifest.now.end c.in-Ok.prepared.edit (λ q. q ≡ name_of (Table c.args.numbers.now.next))
+    c.in-Err-append_edit.error c.in-Err-append_edit.ensures.refused c.in-Err-append_edit.ensures.call.faithful
+    (λ f apart. (c.in-Ok.ensures.writes.others f name apart, c.in-Ok.ensures.writes.synced f name apart)) (c.in-Err-append_edit.ensures.appends order) c.in-Err-append_edit.ensures.syncs)

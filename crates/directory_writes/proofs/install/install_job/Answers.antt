@@ -1,8 +1,13 @@
 use Rattle.std.proofs.Common.{Err, string_bytes, sym, subst, arith}
 use Rattle.ikey.specs.Orders.{order_of}
+use Rattle.compact.specs.Outputs.{IsNumberAtHand, IsTableName}
+use Rattle.directory_writes.specs.declared.install.Installed.{Installed}
+use Rattle.directory_writes.specs.internal.Flush.{SparesManifest}
 use Rattle.directory_writes.specs.internal.Install.{InstallLeaves}
 use Rattle.directory_writes.specs.declared.flush.FlushError.{FlushError}
+use Rattle.directory_writes.proofs.InstallSynced.{synced_still}
 use Rattle.directory_writes.proofs.Installing.{touches_job, install_stopped, leaves_none, leaves_ok, leaves_maybe, table_stopped}
+use Rattle.directory_writes.proofs.Sparing.{spares_edit}
 use Rattle.directory_writes.proofs.install.install_job.Goals as goal
 
 pub returns-in-Err-clause-leaves : goal.returns-in-Err-clause-leaves
@@ -21,6 +26,13 @@ returns-in-Ok-append_edit-clause-leaves g c =
     leaves_ok order c.args.job c.args.numbers.now.next c.args.last_sequence c.args.numbers.now.in_range.1 c.requires.numbered (g.S.Store.facts c.args.store.now) (g.S.Store.facts c.prepare_job.new.store)
     c.in-Ok.ensures.writes c.args.manifest.now (g.S.Store.facts c.append_edit.new.store) c.in-Ok-append_edit.ensures.call c.args.version.now c.in-Ok.prepared c.in-Ok.ensures.prepared
     c.in-Ok-append_edit.manifest_end (c.in-Ok-append_edit.ensures.appends order)
+
+pub returns-in-Ok-append_edit-clause-keeps : goal.returns-in-Ok-append_edit-clause-keeps
+returns-in-Ok-append_edit-clause-keeps g c f deep came merging =
+    let mid = g.S.Store.facts c.prepare_job.new.store in
+    let new = g.S.Store.facts c.append_edit.new.store in
+    synced_still mid new (string_bytes c.args.manifest.now.name) ((c.in-Ok-append_edit.ensures.appends (order_of g.K.KeyOrder.name g.K.KeyOrder.cmp)).others f) (c.in-Ok-append_edit.ensures.syncs.others f)
+    c.args.version.now.tables c.in-Ok.prepared.version.value.tables (c.in-Ok.ensures.prepared.synced deep came (c.in-Ok-append_edit.ensures.call.faithful f) merging)
 
 pub returns-in-Err-append_edit-clause-call : goal.returns-in-Err-append_edit-clause-call
 returns-in-Err-append_edit-clause-call g c =
@@ -61,3 +73,22 @@ returns-in-Err-append_edit-clause-stops g c f =
     install_stopped order c.args.job c.args.numbers.now.next c.args.last_sequence c.args.numbers.now.in_range.1 c.requires.numbered (g.S.Store.facts c.args.store.now) (g.S.Store.facts c.prepare_job.new.store)
     c.in-Ok.ensures.writes c.args.manifest.now (c.in-Err-append_edit.ensures.call.faithful f) c.same_manifest_law.ensures (g.S.Store.facts c.append_edit.new.store) c.args.version.now c.in-Ok.prepared c.in-Ok.ensures.prepared
     (c.in-Err-append_edit.ensures.stops f order)
+
+pub returns-in-Err-clause-spares : goal.returns-in-Err-clause-spares
+returns-in-Err-clause-spares g c f apart =
+    let name = string_bytes c.args.manifest.now.name in
+    (c.in-Err.ensures.writes.others f name (λ number at is. apart (number, at, is)), c.in-Err.ensures.writes.synced f name (λ number at is. apart (number, at, is)))
+
+pub returns-in-Err-append_edit-clause-spares : goal.returns-in-Err-append_edit-clause-spares
+returns-in-Err-append_edit-clause-spares g c =
+    let order = order_of g.K.KeyOrder.name g.K.KeyOrder.cmp in
+    let old = g.S.Store.facts c.args.store.now in
+    let new = g.S.Store.facts c.append_edit.new.store in
+    let name = string_bytes c.args.manifest.now.name in
+    let mine = IsTableName (IsNumberAtHand c.args.job.outputs) in
+    let P : FlushError → Type 0 = λ e. SparesManifest {T = Installed g.row.K.Denot} old new name mine (Err e) in
+    subst P (sym c.edit_refusal.ensures)
+    (spares_edit (Installed g.row.K.Denot) order old (g.S.Store.facts c.prepare_job.new.store) new c.args.manifest.now.number name c.args.manifest.now.end c.in-Ok.prepared.edit mine
+    c.in-Err-append_edit.error c.in-Err-append_edit.ensures.refused c.in-Err-append_edit.ensures.call.faithful
+    (λ f apart. (c.in-Ok.ensures.writes.others f name (λ number at is. apart (number, at, is)), c.in-Ok.ensures.writes.synced f name (λ number at is. apart (number, at, is))))
+    (c.in-Err-append_edit.ensures.appends order) c.in-Err-append_edit.ensures.syncs)

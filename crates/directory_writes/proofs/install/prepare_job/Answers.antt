@@ -1,6 +1,7 @@
 use Rattle.std.proofs.Common.{◌≡◌, Err, Result, IfErr, sym, subst, rules}
 use Rattle.coding.specs.declared.error.DbError.{DbError}
 use Rattle.directory_writes.specs.internal.Install.{RefusesEdit}
+use Rattle.directory_writes.proofs.InstallSynced.{put_synced}
 use Rattle.directory_writes.proofs.Installing.{old_or_own, unversioned}
 use Rattle.directory_writes.proofs.Replacing.{replaced}
 use Rattle.directory_writes.proofs.install.prepare_job.Goals as goal
@@ -20,6 +21,9 @@ returns-clause-prepared g c =
       leads = said.tables;
       replaces = replaced c.args.job.plan c.in_ok-edit.edit made.of_plan g.K.KeyOrder.cmp c.args.version.now.tables c.in_ok-version.version.value.tables said.old said.tables;
       tables = old_or_own g.K.KeyOrder.cmp c.args.job.outputs c.args.version.now.tables c.in_ok-version.version.value.tables c.in_ok-edit.edit said.old made.own said.tables;
+      synced = λ deep came f merging.
+          put_synced g.K.KeyOrder.cmp deep c.args.job.plan c.args.job.last.items c.args.job.selection (g.S.Store.facts c.finish.new.store) c.args.numbers.now.next c.args.last_sequence came c.in_ok-edit.edit
+          c.args.version.now.tables c.in_ok-version.version.value.tables said.old said.tables (made.finished deep came f merging);
       in_order = said.order;
       pointers = said.pointers;
     }

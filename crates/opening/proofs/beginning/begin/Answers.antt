@@ -1,5 +1,5 @@
 use Rattle.ikey.specs.Orders.{order_of}
-use Rattle.std.proofs.Common.{◌≡◌, ℕ, List, length, string_bytes, Result, Err, refl, sym, subst, arith, rules}
+use Rattle.std.proofs.Common.{◌≡◌, ◌<◌, ℕ, List, length, map, string_bytes, Result, Err, refl, sym, subst, arith, rules}
 use Rattle.coding.specs.declared.error.DbError.{DbError}
 use Rattle.ikey.specs.declared.entry.Entry.{Entry}
 use Rattle.opening.specs.Looking.{IsSealedOf}
@@ -7,9 +7,13 @@ use Rattle.opening.specs.internal.Durable.{HasDurable}
 use Rattle.opening.specs.Durable.{LeavesDurable}
 use Rattle.opening.specs.declared.beginning.Begun.{Begun}
 use Rattle.opening.proofs.BegunSteps.{behind_stops, continued_same, continued_behind, begins, unwritten_stops}
+use Rattle.opening.specs.internal.Outcome.{OpenOutcome}
 use Rattle.opening.specs.Telling.{Tells}
 use Rattle.opening.proofs.Telling.{found_openable, store_tells}
-use Rattle.opening.proofs.AfterReading.{behind_read, spared_behind, spared_same}
+use Rattle.opening.proofs.AfterReading.{behind_read, beside_behind, outcome_behind, spared_behind, spared_same}
+use Rattle.opening.proofs.InDoubt.{entries_or_none, in_doubt, tables_found}
+use Rattle.opening.proofs.Reopening.{numbered_of, next_of}
+use Rattle.opening.proofs.Syncing.{spares_of, spares_tables}
 use Rattle.opening.proofs.beginning.begin.Goals as goal
 
 pub returns-in_err-found-clause-continued : goal.returns-in_err-found-clause-continued
@@ -93,12 +97,53 @@ returns-in_err-memory-clause-spared g c = λ f. spared_same (g.S.Store.facts c.a
 pub returns-in_err-rewrite_directory-clause-spared : goal.returns-in_err-rewrite_directory-clause-spared
 returns-in_err-rewrite_directory-clause-spared g c = λ f.
     let back = c.in_err-rewrite_directory.ensures.files.call.faithful f in
-    spared_behind (g.S.Store.facts c.args.store.now) (g.S.Store.facts c.find.new.store) (g.S.Store.facts c.rewrite_directory.new.store) (c.in_ok-found.ensures.store.same back) (c.in_ok-found.ensures.store.synced back) (c.in_err-rewrite_directory.ensures.spared f)
+    let found = c.in_ok-found.found in
+    let usable = c.in_ok-found.ensures.usable in
+    let mid = g.S.Store.facts c.find.new.store in
+    let new = g.S.Store.facts c.rewrite_directory.new.store in
+    spared_behind (g.S.Store.facts c.args.store.now) mid new (c.in_ok-found.ensures.store.same back) (c.in_ok-found.ensures.store.synced back)
+    (spares_of found.number mid new (numbered_of found usable) (next_of found usable) (c.in_err-rewrite_directory.ensures.spared f))
 
 pub returns-clause-spared : goal.returns-clause-spared
 returns-clause-spared g c = λ f.
     let back = c.in_ok-rewrite_directory.ensures.files.call.faithful f in
-    spared_behind (g.S.Store.facts c.args.store.now) (g.S.Store.facts c.find.new.store) (g.S.Store.facts c.rewrite_directory.new.store) (c.in_ok-found.ensures.store.same back) (c.in_ok-found.ensures.store.synced back) (c.in_ok-rewrite_directory.ensures.spared f)
+    let found = c.in_ok-found.found in
+    let usable = c.in_ok-found.ensures.usable in
+    let mid = g.S.Store.facts c.find.new.store in
+    let new = g.S.Store.facts c.rewrite_directory.new.store in
+    spared_behind (g.S.Store.facts c.args.store.now) mid new (c.in_ok-found.ensures.store.same back) (c.in_ok-found.ensures.store.synced back)
+    (spares_of found.number mid new (numbered_of found usable) (next_of found usable) (c.in_ok-rewrite_directory.ensures.spared f))
+
+pub returns-clause-synced : goal.returns-clause-synced
+returns-clause-synced g c = λ f.
+    let order = order_of g.K.KeyOrder.name g.K.KeyOrder.cmp in
+    let back = c.in_ok-rewrite_directory.ensures.files.call.faithful f in
+    let found = c.in_ok-found.found in
+    let usable = c.in_ok-found.ensures.usable in
+    let old = g.S.Store.facts c.args.store.now in
+    let mid = g.S.Store.facts c.find.new.store in
+    let new = g.S.Store.facts c.rewrite_directory.new.store in
+    let num = numbered_of found usable in
+    let next = next_of found usable in
+    let spares = beside_behind found.number old mid new (c.in_ok-found.ensures.store.same back) (c.in_ok-found.ensures.store.synced back) (c.in_ok-rewrite_directory.ensures.spared f) in
+    record {
+      logs = in_doubt order old new found usable (c.in_ok-found.ensures.found back) (map string_bytes c.in_ok-rewrite.rewrite.front.items) c.in_ok-rewrite.ensures.front spares _ _ refl c.in_ok-rewrite.ensures.planned.log_name refl c.known_after.ensures.logs
+          (entries_or_none found.entries.items);
+      tables = spares_tables found.number old new num next spares;
+      found = λ n is there. subst (λ (k : ℕ). n < k) (sym c.known_after.ensures.number) (tables_found order old new found (c.in_ok-found.ensures.found back) (spares_tables found.number old new num next spares) n is there);
+    }
+
+-- ---- where the writing fails
+
+pub returns-in_err-rewrite_directory-clause-outcome : goal.returns-in_err-rewrite_directory-clause-outcome
+returns-in_err-rewrite_directory-clause-outcome g c =
+    let old = g.S.Store.facts c.args.store.now in
+    let mid = g.S.Store.facts c.find.new.store in
+    let new = g.S.Store.facts c.rewrite_directory.new.store in
+    let e = c.in_err-rewrite_directory.field-0.0 in
+    let is : c.from_residual-in_err-rewrite_directory.result ≡ Err e = search rules in
+    subst (λ (r : Result (Begun _) DbError). OpenOutcome old new r) (sym is)
+    (outcome_behind {T = Unit {0}} {U = Begun _} old mid new e c.in_ok-found.ensures.store c.in_ok-found.ensures.counted c.in_err-rewrite_directory.ensures.files.call)
 
 -- ---- what a stop leaves
 

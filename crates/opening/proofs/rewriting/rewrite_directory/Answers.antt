@@ -9,7 +9,7 @@ use Rattle.edits.specs.Names.{name_of}
 use Rattle.edits.specs.declared.names.FileName.TheVariants.{Manifest}
 use Rattle.opening.specs.internal.Opening.{Rewrites}
 use Rattle.opening.specs.Durable.{SyncsOnly, LeavesDurable}
-use Rattle.opening.specs.internal.Durable.{WritesSynced, MakesSynced, HasDurable, Spares}
+use Rattle.opening.specs.internal.Durable.{WritesSynced, MakesSynced, HasDurable, SparesBeside}
 use Rattle.opening.proofs.Reopening.{OpenLaws, numbered_of, next_of}
 use Rattle.opening.proofs.Syncing.{manifest_spared, manifest_unwritten, current_spared, current_interrupted, log_durable_named, log_spared}
 use Rattle.opening.proofs.OpenSteps.{manifest_failed, current_failed, log_created, manifest_stops, current_stops, log_stops}
@@ -125,7 +125,7 @@ returns-in_err-make_current-clause-spared g c =
 -- once all is written
 done_durable : (g : _) (c : goal.After-create_file g)
     → LeavesDurable (g.S.Store.facts c.args.store.now) (g.S.Store.facts c.create_file.new.store) c.create_file.result × (IsTrue (g.S.Store.facts c.create_file.new.store).faithful → OnOk c.create_file.result (HasDurable c.args.found.now.number (g.S.Store.facts c.create_file.new.store)))
-    × (IsTrue (g.S.Store.facts c.create_file.new.store).faithful → Spares (g.S.Store.facts c.args.store.now) (g.S.Store.facts c.create_file.new.store))
+    × (IsTrue (g.S.Store.facts c.create_file.new.store).faithful → SparesBeside c.args.found.now.number (g.S.Store.facts c.args.store.now) (g.S.Store.facts c.create_file.new.store))
 done_durable g c =
     let old = g.S.Store.facts c.args.store.now in
     let mid = g.S.Store.facts c.write_file.new.store in

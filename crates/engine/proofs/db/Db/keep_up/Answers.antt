@@ -31,8 +31,11 @@ returns-in-Ok-Idle-clause-kept g c is =
     rests_at_pace (db_options_of c.work.new.self) (open_by c.work.new.self)
     (subst (λ (options : OptionValues). HasNoWork options (open_by c.work.new.self)) (sym c.work.ensures.opening.options) does.1)
 
-pub returns-then-has_kept_up-clause-step : goal.returns-then-has_kept_up-clause-step
-returns-then-has_kept_up-clause-step g c = leads_then (λ m n o h k. draws_then m n o h (worked_only n o c.args.budget k)) c.loop.invariant.steps (rw c.in-Ok-Worked.field-0-is at c.in-Ok-Worked.ensures.step)
+pub returns-in-Ok-Idle-clause-flushed : goal.returns-in-Ok-Idle-clause-flushed
+returns-in-Ok-Idle-clause-flushed g c is = (let does = rw c.in-Ok-Idle.field-0-is at c.in-Ok-Idle.ensures.does in does.1.ease.none)
+
+pub returns-then-can_rest-clause-step : goal.returns-then-can_rest-clause-step
+returns-then-can_rest-clause-step g c = leads_then (λ m n o h k. draws_then m n o h (worked_only n o c.args.budget k)) c.loop.invariant.steps (rw c.in-Ok-Worked.field-0-is at c.in-Ok-Worked.ensures.step)
 
 pub returns-in-Err-clause-step : goal.returns-in-Err-clause-step
 returns-in-Err-clause-step g c = leads_then (λ m n o h k. works_then m n o h.0 (refusal_only n o c.args.budget c.in-Err.error k)) c.loop.invariant.steps c.in-Err.ensures.step
@@ -48,8 +51,8 @@ returns-in-Ok-Idle-clause-stops g c = db_stops_then (order_of g.K.KeyOrder.name 
 pub returns-in-Err-clause-stops : goal.returns-in-Err-clause-stops
 returns-in-Err-clause-stops g c = db_stops_then (order_of g.K.KeyOrder.name g.K.KeyOrder.cmp) g.S.Store.facts c.args.self.now c.loop.self c.work.new.self c.loop.invariant.steps c.work.ensures.step.faithful c.loop.invariant.stops c.work.ensures.stops
 
-pub returns-then-has_kept_up-clause-stops : goal.returns-then-has_kept_up-clause-stops
-returns-then-has_kept_up-clause-stops g c = db_stops_then (order_of g.K.KeyOrder.name g.K.KeyOrder.cmp) g.S.Store.facts c.args.self.now c.loop.self c.work.new.self c.loop.invariant.steps c.work.ensures.step.faithful c.loop.invariant.stops c.work.ensures.stops
+pub returns-then-can_rest-clause-stops : goal.returns-then-can_rest-clause-stops
+returns-then-can_rest-clause-stops g c = db_stops_then (order_of g.K.KeyOrder.name g.K.KeyOrder.cmp) g.S.Store.facts c.args.self.now c.loop.self c.work.new.self c.loop.invariant.steps c.work.ensures.step.faithful c.loop.invariant.stops c.work.ensures.stops
 
 pub returns-clause-stops : goal.returns-clause-stops
 returns-clause-stops g c = c.loop.invariant.stops

@@ -19,6 +19,7 @@ use Rattle.engine.proofs.Breaking.{settles_broken, shows, flush_io, rose_all, so
 use Rattle.engine.specs.Breaking.{BreaksExactly}
 use Rattle.engine.specs.Outcomes.{DbOutcome}
 use Rattle.engine.proofs.StopSteps.{keeps_none}
+use Rattle.engine.proofs.Synced.{drawn_some, flushed_synced, no_old_table}
 use Rattle.engine.proofs.state.DbState.flush.Goals as goal
 
 pub returns-then-is_empty-clause-step : goal.returns-then-is_empty-clause-step
@@ -43,11 +44,18 @@ returns-in-Ok-clause-step g c ids =
     let flushed = c.in-Ok.flushed in
     subst (λ (mem : Memories). LeadsOpen order source (record source { facts = facts }) ids (open_db memory state) (open_db mem c.take_flushed.new.self) (λ m n. IsPiece m 1 (Ok (tt {0})) n)) (sym c.flushed-in-Ok.ensures)
     (ends_flushed order (λ scan. scan_kept order.cmp scan) c.one_directory.ensures c.sound_lasts.ensures c.same_view.ensures c.changes_are_kept.ensures.flushed source facts ids state memory numbers plan entries
-    c.requires.whole ensures.call ensures.drawn refl refl c.last-last_sequence.ensures.is (ap inserts_of c.in-Some.ensures) flushed.manifest_end flushed.version c.take_flushed.new.self c.take_flushed.ensures ensures.version.2.in_order
+    c.requires.whole ensures.call ensures.drawn refl refl c.last-last_sequence.ensures.is (ap inserts_of c.in-Some.ensures) flushed.manifest_end flushed.version c.take_flushed.new.self.log.front c.take_flushed.new.self c.take_flushed.ensures.state ensures.version.2.in_order
     (λ f m serving.
     ensures.leaves f serving.log.directory.directory serving.log.logs.sealed serving.log.logs.current
     (can order (λ scan. scan_kept order.cmp scan) c.one_directory.ensures c.sound_lasts.ensures c.same_view.ensures c.changes_are_kept.ensures.flushed source facts ids state memory numbers plan entries
-    c.requires.whole ensures.call ensures.drawn refl refl c.last-last_sequence.ensures.is (ap inserts_of c.in-Some.ensures) m serving)))
+    c.requires.whole ensures.call ensures.drawn refl refl c.last-last_sequence.ensures.is (ap inserts_of c.in-Some.ensures) m serving))
+    (λ f m serving.
+    let version = ensures.version in
+    let drawn = drawn_some source.facts facts state.directory.numbers.next numbers.next version.1 ensures.drawn in
+    flushed_synced source.facts facts state.log (record state.log { front = c.take_flushed.new.self.log.front }) state.directory numbers flushed.manifest_end state.version.value.tables flushed.version.value.tables version.2.table
+    refl refl c.take_flushed.ensures.front version.1 drawn.0 drawn.1 version.2.number_is version.2.lists
+    (λ q table manifest. (ensures.call.others f q table manifest, ensures.call.synced f q table manifest)) (ensures.syncs.table f) (ensures.syncs.manifest f)
+    (no_old_table order source.facts.files state.directory.numbers.next serving.log.knows.free drawn.0 drawn.1) serving.synced))
 
 pub returns-then-is_empty-clause-puts : goal.returns-then-is_empty-clause-puts
 returns-then-is_empty-clause-puts g c f ids m s =
@@ -67,7 +75,7 @@ returns-in-Ok-clause-puts g c =
     let flushed = c.in-Ok.flushed in
     subst (λ (mem : Memories). PutsSealed order source (record source { facts = facts }) (open_db memory state) (open_db mem c.take_flushed.new.self)) (sym c.flushed-in-Ok.ensures)
     (table_put order (λ scan. scan_kept order.cmp scan) c.one_directory.ensures c.sound_lasts.ensures c.same_view.ensures c.changes_are_kept.ensures.flushed source facts no_ids state memory numbers plan entries
-    c.requires.whole ensures.call ensures.drawn refl refl c.last-last_sequence.ensures.is (ap inserts_of c.in-Some.ensures) flushed.manifest_end flushed.version c.take_flushed.new.self c.take_flushed.ensures
+    c.requires.whole ensures.call ensures.drawn refl refl c.last-last_sequence.ensures.is (ap inserts_of c.in-Some.ensures) flushed.manifest_end flushed.version c.take_flushed.new.self.log.front c.take_flushed.new.self c.take_flushed.ensures.state
     (λ f m serving.
     ensures.leaves f serving.log.directory.directory serving.log.logs.sealed serving.log.logs.current
     (can order (λ scan. scan_kept order.cmp scan) c.one_directory.ensures c.sound_lasts.ensures c.same_view.ensures c.changes_are_kept.ensures.flushed source facts no_ids state memory numbers plan entries
@@ -97,7 +105,7 @@ returns-in-Err-clause-step g c ids =
     (λ io. shows source.facts facts failed is ensures.fails (flush_io source.facts facts _ _ _ _ e ensures.refused io) b refl)
     (rose_all source.facts facts failed is (some_as source.facts facts ensures.call.failures ensures.fails))
     (ends_unflushed order (λ scan. scan_kept order.cmp scan) c.one_directory.ensures c.sound_lasts.ensures c.same_view.ensures law source facts ids state memory numbers plan entries
-    c.requires.whole ensures.call ensures.drawn refl refl c.last-last_sequence.ensures.is (ap inserts_of c.in-Some.ensures) c.deref.result.now.tables (ap (λ (p : Placement). p.tables) c.deref.ensures) e ensures.refused ensures.leaves)))
+    c.requires.whole ensures.call ensures.drawn refl refl c.last-last_sequence.ensures.is (ap inserts_of c.in-Some.ensures) c.deref.result.now.tables (ap (λ (p : Placement). p.tables) c.deref.ensures) e ensures.refused ensures.leaves ensures.spares)))
 
 pub returns-in-Err-clause-outcome : goal.returns-in-Err-clause-outcome
 returns-in-Err-clause-outcome g c =
@@ -123,7 +131,7 @@ pub returns-then-is_empty-clause-breaks : goal.returns-then-is_empty-clause-brea
 returns-then-is_empty-clause-breaks g c = unbroken (g.S.Store.facts c.args.source.now.tables.store) (g.S.Store.facts c.args.source.now.tables.store) c.args.self.now.broken c.requires.whole refl
 
 pub returns-in-Ok-clause-breaks : goal.returns-in-Ok-clause-breaks
-returns-in-Ok-clause-breaks g c = unbroken (g.S.Store.facts c.args.source.now.tables.store) (g.S.Store.facts c.flush_memory.new.store) c.take_flushed.new.self.broken (ap (λ (t : DbState g.row.K.Denot g.K.KeyOrder). t.broken) c.take_flushed.ensures ∙ c.requires.whole) (as_unwritten (g.S.Store.facts c.args.source.now.tables.store) (g.S.Store.facts c.flush_memory.new.store) c.in-Ok.ensures.fails c.in-Ok.ensures.stood)
+returns-in-Ok-clause-breaks g c = unbroken (g.S.Store.facts c.args.source.now.tables.store) (g.S.Store.facts c.flush_memory.new.store) c.take_flushed.new.self.broken (ap (λ (t : DbState g.row.K.Denot g.K.KeyOrder). t.broken) c.take_flushed.ensures.state ∙ c.requires.whole) (as_unwritten (g.S.Store.facts c.args.source.now.tables.store) (g.S.Store.facts c.flush_memory.new.store) c.in-Ok.ensures.fails c.in-Ok.ensures.stood)
 
 pub returns-in-Err-clause-breaks : goal.returns-in-Err-clause-breaks
 returns-in-Err-clause-breaks g c =

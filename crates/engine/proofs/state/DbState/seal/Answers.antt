@@ -1,4 +1,4 @@
-use Rattle.std.proofs.Common.{◌≡◌, Result, Err, sym, subst, rules, refl}
+use Rattle.std.proofs.Common.{◌≡◌, false, Result, Err, sym, subst, rules, refl}
 use Rattle.coding.specs.declared.error.DbError.{DbError}
 use Rattle.coding.specs.declared.error.DbError.TheVariants.{OutOfMemory}
 use Rattle.ikey.specs.Orders.{order_of}
@@ -19,7 +19,7 @@ pub returns-in_err-seal-clause-step : goal.returns-in_err-seal-clause-step
 returns-in_err-seal-clause-step g c ids =
     let order = order_of g.K.KeyOrder.name g.K.KeyOrder.cmp in
     let source = seen_of g.S.Store.facts c.args.source.now in
-    let memory : c.from_residual.result ≡ Err OutOfMemory = search rules in
+    let memory : c.from_residual-in_err-seal.result ≡ Err OutOfMemory = search rules in
     subst (λ (r : Result _ DbError). LeadsOpen order source source ids (open_db c.args.source.now.memory c.args.self.now) (open_db c.seal.new.self c.args.self.now) (λ m n. IsPiece m 1 r n)) (sym memory)
     (subst (λ (mem : Memories). LeadsOpen order source source ids (open_db c.args.source.now.memory c.args.self.now) (open_db mem c.args.self.now) (λ m n. IsPiece m 1 (Err OutOfMemory) n)) (sym c.in_err-seal.ensures.err)
     (ends_full order (λ scan. scan_kept order.cmp scan) c.sound_lasts.ensures source ids (open_db c.args.source.now.memory c.args.self.now) 1 c.requires.whole))
@@ -30,7 +30,7 @@ returns-in-Ok-clause-step g c ids =
     let source = seen_of g.S.Store.facts c.args.source.now in
     let ensures = c.in-Ok.ensures in
     ends_sealed order (λ scan. scan_kept order.cmp scan) c.one_directory.ensures c.sound_lasts.ensures c.same_view.ensures c.changes_are_kept.ensures.sealed source (g.S.Store.facts c.begin_log.new.store) ids c.args.self.now c.args.source.now.memory c.begin_log.new.numbers
-    c.requires.whole ensures.call c.in-Ok.number c.in-Ok.name c.seal.new.self c.requires.unsealed c.requires.filled c.in_ok-seal.ensures.ok c.in_ok-seal.ensures.inserts ensures.drawn (ensures.begins order)
+    c.requires.whole ensures.call ensures.synced c.in-Ok.number c.in-Ok.name c.in_ok-front.front c.seal.new.self c.in_ok-front.ensures c.requires.unsealed c.requires.filled c.in_ok-seal.ensures.ok c.in_ok-seal.ensures.inserts ensures.drawn (ensures.begins order)
 
 pub returns-in-Err-clause-step : goal.returns-in-Err-clause-step
 returns-in-Err-clause-step g c ids =
@@ -44,7 +44,19 @@ returns-in-Err-clause-step g c ids =
     subst (after c.refuse.new.self) (sym c.refuse.ensures.answer)
     (subst (λ (s : DbState _ _). after s e) (sym c.refuse.ensures.broken)
     (ends_unsealed order (λ scan. scan_kept order.cmp scan) c.one_directory.ensures c.sound_lasts.ensures c.same_view.ensures c.changes_are_kept.ensures.sealed source facts ids c.args.self.now c.args.source.now.memory c.begin_log.new.numbers
-    c.requires.whole ensures.call e c.unseal.new.self ensures.refused ensures.drawn (ensures.begins order) left))
+    c.requires.whole ensures.call ensures.synced e c.unseal.new.self ensures.refused ensures.drawn (ensures.begins order) left))
+
+pub returns-in_err-front-clause-step : goal.returns-in_err-front-clause-step
+returns-in_err-front-clause-step g c ids =
+    let order = order_of g.K.KeyOrder.name g.K.KeyOrder.cmp in
+    let source = seen_of g.S.Store.facts c.args.source.now in
+    let db = open_db c.args.source.now.memory c.args.self.now in
+    let memory : c.from_residual.result ≡ Err OutOfMemory = search rules in
+    subst (λ (r : Result _ DbError). LeadsOpen order source source ids db db (λ m n. IsPiece m 1 r n)) (sym memory)
+    (ends_full order (λ scan. scan_kept order.cmp scan) c.sound_lasts.ensures source ids db 1 c.requires.whole)
+
+pub returns-in_err-front-clause-breaks : goal.returns-in_err-front-clause-breaks
+returns-in_err-front-clause-breaks g c = unbroken (g.S.Store.facts c.args.source.now.tables.store) (g.S.Store.facts c.args.source.now.tables.store) c.args.self.now.broken c.requires.whole refl
 
 pub returns-in_err-seal-clause-breaks : goal.returns-in_err-seal-clause-breaks
 returns-in_err-seal-clause-breaks g c = unbroken (g.S.Store.facts c.args.source.now.tables.store) (g.S.Store.facts c.args.source.now.tables.store) c.args.self.now.broken c.requires.whole refl
@@ -63,6 +75,9 @@ returns-in-Err-clause-breaks g c =
     (breaks_counted {T = Unit {0}} old new given c.in-Err.error c.requires.whole c.in-Err.ensures.fails c.in-Err.ensures.counted))
 
 -- ---- what a stop leaves
+
+pub returns-in_err-front-clause-stops : goal.returns-in_err-front-clause-stops
+returns-in_err-front-clause-stops g c = keeps_none (order_of g.K.KeyOrder.name g.K.KeyOrder.cmp) (seen_of g.S.Store.facts c.args.source.now) (open_db c.args.source.now.memory c.args.self.now)
 
 pub returns-in_err-seal-clause-stops : goal.returns-in_err-seal-clause-stops
 returns-in_err-seal-clause-stops g c = keeps_none (order_of g.K.KeyOrder.name g.K.KeyOrder.cmp) (seen_of g.S.Store.facts c.args.source.now) (open_db c.args.source.now.memory c.args.self.now)

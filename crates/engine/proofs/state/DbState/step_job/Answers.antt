@@ -1,4 +1,4 @@
-use Rattle.std.proofs.Common.{◌≡◌, ◌≤◌, ◌+◌, ◌∷◌, ℕ, Bool, true, false, List, Option, Some, None, Ok, Err, IsTrue, MatchOption, max, min, refl, sym, ap, subst, ◌∙◌, arith, rules}
+use Rattle.std.proofs.Common.{◌≡◌, ◌≤◌, ◌+◌, ◌∷◌, ℕ, Bool, true, false, List, Option, Some, None, Ok, Err, IsTrue, MatchOption, max, min, refl, sym, ap, subst, ◌∙◌, arith, rules, string_bytes}
 use Rattle.coding.specs.declared.error.DbError.{DbError}
 use Rattle.ikey.specs.Orders.{order_of}
 use Rattle.running_job.specs.declared.open_job.OpenJob.{OpenJob}
@@ -6,6 +6,9 @@ use Rattle.running_job.specs.internal.Ending.{EndLeaves, EndMayLeave}
 use Rattle.db_cursor.proofs.ScanSteps.{scan_kept}
 use Rattle.std.specs.Map.{values_of}
 use Rattle.edits.specs.declared.field.PlacedTable.{PlacedTable}
+use Rattle.compact.specs.Outputs.{IsNumberAtHand, IsTableName}
+use Rattle.directory_writes.specs.declared.install.Installed.{Installed}
+use Rattle.directory_writes.specs.internal.Flush.{SparesManifest}
 use Rattle.directory_writes.specs.Replacing.{ReplacesInputs}
 use Rattle.versions.specs.Levels.{Placement}
 use Rattle.versions.specs.declared.plan.JobPlan.{JobPlan}
@@ -149,7 +152,7 @@ returns-in-Ok-install-clause-step g c ids =
     subst (λ (t : DbState g.row.K.Denot g.K.KeyOrder). LeadsOpen order old (record new { facts = facts }) ids (open_db memory state) (open_db after_memory t) (λ m n. IsPiece m most (Ok true) n)) (sym (taken ∙ ap after none))
     (ends_installed order g.met.K.KeyOrder.total (λ scan. scan_kept order.cmp scan) c.one_directory.ensures c.sound_lasts.ensures old new ids state memory after_memory numbers most c.in-Some.running c.step-stepped.new.self is c.requires.whole
     s.numbers s.drawn s.touches s.keeps c.args.budget c.in-Ok.progress s.goes_on s.snapshots s.owns facts ended c.last-last_sequence.result c.last-last_sequence.ensures.is c.deref.result.now.tables (ap (λ (p : Placement). p.tables) c.deref.ensures) (Ok installed)
-    i.call i.leaves true installed refl i.version.in_order)
+    i.call i.leaves true installed refl i.version.in_order i.synced i.keeps)
 
 pub returns-in-Ok-install-clause-on : goal.returns-in-Ok-install-clause-on
 returns-in-Ok-install-clause-on g c =
@@ -219,7 +222,7 @@ returns-in-Ok-install-clause-come g c said ids =
     subst (λ (t : DbState g.row.K.Denot g.K.KeyOrder). LeadsOpen order old (record new { facts = facts }) ids (open_db memory state) (open_db after_memory t) (λ m n. HasCome c.args.budget (open_db memory state) m (Ok true) n)) (sym (taken ∙ ap after none))
     (ends_counted order g.met.K.KeyOrder.total (λ scan. scan_kept order.cmp scan) c.one_directory.ensures c.sound_lasts.ensures old new ids state memory after_memory numbers most c.in-Some.running c.step-stepped.new.self is c.requires.whole
     s.numbers upto s.touches s.keeps c.args.budget progress s.goes_on s.snapshots s.owns facts ended c.last-last_sequence.result c.last-last_sequence.ensures.is c.deref.result.now.tables (ap (λ (p : Placement). p.tables) c.deref.ensures) (Ok installed)
-    i.call i.leaves no_more s.merged no_fewer true installed refl i.version.in_order)
+    i.call i.leaves no_more s.merged no_fewer true installed refl i.version.in_order i.synced i.keeps)
 
 pub returns-in-Ok-install-clause-needed : goal.returns-in-Ok-install-clause-needed
 returns-in-Ok-install-clause-needed g c said takes =
@@ -306,6 +309,7 @@ returns-in-Err-install-clause-step g c ids =
     let i = rw taken_out at c.in-Err-install.ensures in
     let e = c.in-Err-install.error in
     let leaves = subst (λ (w : OpenJob g.row.K.Denot g.K.KeyOrder). EndLeaves order new.facts facts numbers.next c.last-last_sequence.result state.directory.manifest c.deref.result.now.tables w (Err e)) taken_out c.in-Err-install.ensures.leaves in
+    let spares = subst (λ (w : OpenJob g.row.K.Denot g.K.KeyOrder). SparesManifest {T = Installed g.row.K.Denot} new.facts facts (string_bytes state.directory.manifest.name) (IsTableName (IsNumberAtHand w.job.outputs)) (Err e)) taken_out c.in-Err-install.ensures.spares in
     let is : state.job ≡ Some c.in-Some.running = search rules in
     let none : c.take.new.self ≡ None = search rules in
     let ended : c.in-Ok.progress.ended ≡ true = search rules in
@@ -324,7 +328,7 @@ returns-in-Err-install-clause-step g c ids =
     (rose_all old.facts facts failed is_old (some_behind old.facts new.facts facts still s.stood (some_as new.facts facts i.call.failures i.fails)))
     (ends_unended order g.met.K.KeyOrder.total (λ scan. scan_kept order.cmp scan) c.one_directory.ensures c.sound_lasts.ensures old new ids state memory after_memory numbers most c.in-Some.running c.step-stepped.new.self is c.requires.whole
     s.numbers s.drawn s.touches s.keeps c.args.budget c.in-Ok.progress s.goes_on s.snapshots s.owns facts ended c.last-last_sequence.result c.last-last_sequence.ensures.is c.deref.result.now.tables (ap (λ (p : Placement). p.tables) c.deref.ensures) (Err e)
-    i.call leaves e refl i.refused))))
+    i.call leaves e refl i.refused spares))))
 
 pub returns-in-Err-install-clause-outcome : goal.returns-in-Err-install-clause-outcome
 returns-in-Err-install-clause-outcome g c =

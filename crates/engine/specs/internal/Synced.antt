@@ -1,0 +1,31 @@
+-- What of its files an open database has had the device keep.
+use Rattle.std.specs.Prelude.{◌≡◌, ◌<◌, ◌≤◌, ℕ, List, Contains, map, string_bytes}
+use Rattle.std.specs.List.{AllByRecursion}
+use Rattle.edits.specs.Names.{name_of, IsNumbered}
+use Rattle.edits.specs.declared.field.PlacedTable.{PlacedTable}
+use Rattle.edits.specs.declared.names.FileName.TheVariants.{Current, Log, Manifest}
+use Rattle.opening.specs.Losses.{IsKept, IsLogBelow, IsLogRead, IsNoneOf, IsTableKept, logs_in_doubt}
+use Rattle.opening.specs.declared.directory.CurrentLog.{CurrentLog}
+use Rattle.opening.specs.declared.directory.DirectoryState.{DirectoryState}
+use Rattle.store.specs.Files.{Facts}
+
+-- All that the next open reads is synced, but for the logs of these names, and for tables that were there before this open: their numbers are below that
+-- of its MANIFEST, and what the device kept of them is known to who wrote them.
+pub record AreSyncedBut (logs : List (List ℕ)) (facts : Facts) (state : DirectoryState) (tables : List PlacedTable) : Type 0 where
+  pub current : IsKept facts (name_of Current)
+  pub manifest : IsKept facts (name_of (Manifest state.manifest.number))
+  pub others : (n : ℕ) → IsNumbered n → IsLogRead state n → IsNoneOf (name_of (Log n)) logs → IsKept facts (name_of (Log n))
+  pub placed : (placed : PlacedTable) → Contains tables placed → state.manifest.number ≤ placed.table.number → IsTableKept facts placed.table.number
+
+-- The files have the names that they should have, and their numbers were drawn.
+pub record HaveNames (log : CurrentLog) (state : DirectoryState) (tables : List PlacedTable) : Type 0 where
+  pub last : IsNumbered log.number × (log.number < state.numbers.next) × (string_bytes log.name ≡ name_of (Log log.number))
+  pub front : AllByRecursion (IsLogBelow log.number) (map string_bytes log.front.items)
+  pub forward : state.first_log ≤ log.number
+  pub manifest : IsNumbered state.manifest.number × (string_bytes state.manifest.name ≡ name_of (Manifest state.manifest.number))
+  pub placed : (placed : PlacedTable) → Contains tables placed → IsNumbered placed.table.number × (placed.table.number < state.numbers.next)
+
+-- All is synced but for the logs that a write with sync has the device keep.
+pub record IsSyncedBut (facts : Facts) (log : CurrentLog) (state : DirectoryState) (tables : List PlacedTable) : Type 0 where
+  pub synced : AreSyncedBut (logs_in_doubt log) facts state tables
+  pub names : HaveNames log state tables
