@@ -134,17 +134,17 @@ def want_stops(recording, readers):
 # docs/INTEROP.md says it in words
 SEEN = {
     "a log that is sealed": (SEALED, {
-        OURS: ({GAP}, {GAP}, {GAP}),
+        OURS: (set(), set(), set()),
         THEIRS: ({GAP}, {GAP, GONE}, {GAP, REFUSED}),
         REUSING: ({GAP}, {GAP, GONE, REFUSED}, {GAP}),
     }),
     "a log that an open finds": (FOUND, {
-        OURS: ({GAP}, {GAP}, {GAP}),
+        OURS: (set(), set(), set()),
         THEIRS: (set(), {GAP}, {REFUSED}),
         REUSING: (set(), {GONE}, set()),
     }),
     "tables": (TABLES, {
-        OURS: ({GAP}, {GAP}, {GAP}),
+        OURS: (set(), set(), set()),
         THEIRS: (set(), {GAP, REFUSED}, {REFUSED}),
         REUSING: (set(), {GONE, REFUSED}, set()),
     }),

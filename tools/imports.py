@@ -140,7 +140,7 @@ def cut_copy(room):
 def full_disk(room):
     operations = [f"put {n:04x} {'5a' * 60}" for n in range(200)]
     cut = 0
-    for count in (*range(0, 3_000, 211), 5_000, 8_000, 20_000, 60_000):
+    for count in (*range(0, 1_300, 89), 3_000, 5_000, 8_000, 20_000, 60_000):
         folder = new_folder(room, f"{count}")
         ran = subprocess.run([under_test(), "import", "--batch", "9", *OPTIONS, folder], input=lines(*operations), capture_output=True, preexec_fn=failing_behind(count), timeout=SECONDS)
         told = ran.stdout.decode().splitlines()

@@ -16,6 +16,17 @@ def is_named(name, words):
     return any(name.endswith(it) or name.startswith(it) for it in words)
 
 
+def sealed_unsynced(calls, _):
+    """No log is synced once there is one behind it."""
+    names, found = {}, []
+    for it in calls:
+        if isinstance(it, Opened) and it.name.endswith(".log"):
+            names[it.file] = it.name
+        if not (isinstance(it, Synced) and it.file in names and names[it.file] < max(names.values())):
+            found.append(it)
+    return found
+
+
 def folder_unsynced(calls, folder):
     """The folder is never synced."""
     return [it for it in calls if not (isinstance(it, Synced) and it.file == folder)]
@@ -117,6 +128,7 @@ def log_removed_early(calls, _):
 
 PLANTS = {
     "a log is never synced": unsynced(".log"),
+    "a log is never synced once there is one behind it": sealed_unsynced,
     "a table is never synced": unsynced(".ldb"),
     "a MANIFEST is never synced": unsynced("MANIFEST-"),
     "what becomes CURRENT is never synced": unsynced(".dbtmp"),

@@ -14,9 +14,6 @@ WRITES = ("put", "del", "write")
 # what is made to have the lock
 LOCKS = ("LOCK", "LOCK-wal")
 
-# Why an earlier batch may be lost today, and a later one be there: they lie in two logs, and no sync of the later one syncs the other.
-SEALED, KEPT = "a log that is sealed", "a log that an open keeps"
-
 
 @dataclass(frozen=True)
 class Found:
@@ -155,35 +152,7 @@ def breach_of_stop(story, remains, found):
 
 
 def breach_of_loss(story, remains, found):
-    """All up to the last synced batch that was answered is there, and of what came behind it a beginning. (A MANIFEST that was synced may
-    tell of sequences whose batches are lost.)"""
+    """All up to the last synced batch that was answered is there, and of what came behind it a beginning: no batch is gone while a later one is
+    there. (A MANIFEST that was synced may tell of sequences whose batches are lost.)"""
     count, synced, is_under_way = story.accepted(remains.moment)
     return breach(story, found, synced, count + is_under_way, operator.ge)
-
-
-# ---- what isn't promised yet
-
-
-def gaps(story, remains):
-    """Why a batch may be gone and a later one be there, in what is left: none, where no log lost more than one behind it has."""
-    here = {id(file) for file in remains.names.values()}
-    of_logs = [it for it in story.batches if it.log and id(it.log) in here]
-    gone = [it for it in of_logs if remains.lengths[it.log] < it.end]
-    there = [it for it in of_logs if remains.lengths[it.log] >= it.end]
-    return {kind(story, first, then) for first in gone for then in there if first.line < then.line and first.log is not then.log}
-
-
-def kind(story, first, then):
-    between = story.script[first.line : then.line]
-    return KEPT if any(line.startswith("open") for line in between) else SEALED
-
-
-def breach_of_logs(story, remains, found):
-    """What holds even so: a beginning of each log's batches is there, with what of it was synced at least, and all that tables have."""
-    if found.refusal:
-        return found.refusal
-    oldest, here, pairs = min(found.live_logs, default=math.inf), {id(it) for it in remains.names.values()}, story.pairs
-    for it in story.batches:
-        if it.number < oldest or id(it.log) in here and remains.lengths[it.log] >= it.end:
-            pairs = applied(pairs, it.text)
-    return "" if found.pairs == pairs else f"its pairs aren't those of the batches that its logs have, of which {oldest} is the oldest"

@@ -3,7 +3,6 @@ import itertools
 from dataclasses import dataclass
 
 from machine import word
-from promises import KEPT, SEALED
 
 # each begins in an empty folder: its name, the options, and its runs one behind the other
 SESSIONS = [
@@ -33,13 +32,10 @@ SESSIONS = [
 # into the calls of these runs bugs are planted
 PLANTED = [*SESSIONS[2][2], "open; close"]
 
-FIRST, RENAMED = "CURRENT at a first open, on a device to which names come in any order", "CURRENT at an open, on a device to which names come in any order"
-
 
 @dataclass(frozen=True)
 class Case:
-    """A session that shows one thing which a loss of power may do, from one of its lines on; and whether names come to the device in
-    any order."""
+    """A session for one thing that a loss of power could do, from one of its lines on; and whether names come to the device in any order."""
 
     options: str
     script: str
@@ -48,16 +44,12 @@ class Case:
 
 
 CASES = {
-    SEALED: Case("--write-buffer 1", "open new; put 61 01; work 9; write sync put 62 02; close", 4),
-    KEPT: Case("", "open new; put 61 01; close; open; write sync put 62 02; close", 5),
-    FIRST: Case("", "open new; close", 0, True),
-    RENAMED: Case("", "open new; write sync put 61 01; close; open; close", 3, True),
-}
-
-# What isn't promised today, and why. A line here is wrong once it is kept after all; it goes then, and tools/stops asks for it everywhere.
-NOT_KEPT = {
-    SEALED: "a write with sync syncs the log that it goes to, and not the one that was sealed before",
-    KEPT: "a write with sync syncs the log that it goes to, and not those that an open keeps since no table has their entries",
+    "a log that is sealed, behind a write with sync": Case("--write-buffer 1", "open new; put 61 01; work 9; write sync put 62 02; close", 4),
+    "a log that is sealed": Case("--write-buffer 1", "open new; put 61 01; work 9; put 62 02; close", 0),
+    "a log that an open keeps, behind a write with sync": Case("", "open new; put 61 01; close; open; write sync put 62 02; close", 5),
+    "a log that an open keeps": Case("", "open new; put 61 01; close; open; put 62 02; close", 0),
+    "CURRENT at a first open, on a device to which names come in any order": Case("", "open new; close", 0, True),
+    "CURRENT at an open, on a device to which names come in any order": Case("", "open new; write sync put 61 01; close; open; close", 3, True),
 }
 
 
