@@ -2,6 +2,7 @@
 
 ghost use Rattle.std.specs.Prelude.{◌≡◌, ◌<◌, ◌≤◌, ◌+◌, ◌++◌, ◌∷◌, ℕ, List, [], Some, length, slice_get, IfOk, IfErr, OnOk, IsTrue, MatchBool, MatchOption};
 ghost use Rattle.std.specs.FinMap.{get};
+ghost use Rattle.std.specs.Option.{ForSome};
 ghost use Rattle.ikey.specs.Entries.{InternalEntry, Pair};
 ghost use Rattle.ikey.specs.Keys.{Key};
 ghost use Rattle.ikey.specs.KeyViews.{key_of};
@@ -12,23 +13,23 @@ ghost use Rattle.table.specs.Frame.{IsFrame};
 ghost use Rattle.table.specs.Reading.{Reads, Answers, Refuses};
 ghost use Rattle.table.specs.Refusals.{IsUnsupported, IsOfOne};
 ghost use Rattle.table.specs.Table.{IsTable};
-ghost use Rattle.table.specs.Views.{pairs_of};
 ghost use Rattle.recover.specs.internal.Parts.{IsUnchanged, RefusesBytes};
-ghost use Rattle.recover.specs.internal.Walking.{stamp, IsKeyAt};
+ghost use Rattle.recover.specs.internal.Walking.{stamp, IsKeyAt, IsHere, IsPairAt, HasMore, HasNoMore, AddsPairs};
 ghost use Rattle.recover.specs.Limits.{IsUnsupportedTable, TellsUnsupported};
 ghost use Rattle.recover.specs.Reading.{IsStill, RefusesDirectory};
 ghost use Rattle.recover.specs.Report.{IsLongTable};
 
 use crate::comparing::is_in_front;
 use crate::noting::note_file;
-use crate::table_entries::{begins_at, is_same};
+use crate::table_entries::is_same;
 use crate::tables::table_name;
+use block::BlockCursor;
 use coding::{Damage, DbError, FileKind};
 use edits::PlacedTable;
-use ikey::{InternalKey, KeyOrder, unpack};
+use ikey::{EntryOrder, Internal, KeyOrder, unpack};
 use std::alloc::{AllocError, Global};
 use store::{Store, Why};
-use table::{KeyValue, Table};
+use table::Table;
 
 /// A user key, and the sequence of one write to it.
 #[derive(Drop)]
@@ -61,7 +62,7 @@ impl Head {
 }
 
 /// A table that is read from its front. Each of its blocks is checked as it comes, with the index and the filter, and stands in memory
-/// alone.
+/// alone; keys are read where they lie in it.
 #[derive(Drop)]
 pub struct TableWalk<K: KeyOrder> {
     /// The name of its file.
@@ -69,9 +70,8 @@ pub struct TableWalk<K: KeyOrder> {
     table: Table<K>,
     // how many of its blocks were read
     next: usize,
-    // the pairs of the last of them, and the place of the one at hand
-    pairs: Vec<KeyValue>,
-    at: usize,
+    // the last of them, at the pair at hand
+    block: BlockCursor<Internal<K>>,
     /// How many pairs were passed.
     pub passed: u64,
     /// The key at hand.
@@ -85,7 +85,8 @@ impl<K: KeyOrder> TableWalk<K> {
     ghost use Rattle.ikey.specs.declared.entry.Entry.{Entry as EntryValue};
     ghost use Rattle.recover.specs.internal.Checks.{Never, IsOnly};
     ghost use Rattle.recover.specs.internal.Parts.{IsUnchanged, RefusesBytes};
-    ghost use Rattle.recover.specs.internal.Walking.{Passes, IsSmallest, IsPassed, IsToldOf, IsOnlyOf};
+    ghost use Rattle.edits.specs.declared.field.PlacedTable.{PlacedTable};
+    ghost use Rattle.recover.specs.internal.Walking.{HasMore, HasNoMore, Passes, IsSmallest, IsPassed, IsToldOf, IsOnlyOf};
     ghost use Rattle.recover.specs.Limits.{IsUnsupportedFile, TellsUnsupported};
     ghost use Rattle.recover.specs.Reading.{IsStill, RefusesDirectory};
     ghost use Rattle.recover.specs.Report.{IsLongTable};
@@ -107,11 +108,11 @@ impl<K: KeyOrder> TableWalk<K> {
     {
         let name = table_name(alloc, store, placed)?;
         let mut walk = open_first::<K, S>(alloc, store, name.as_str())?;
-        if !begins_at(placed.table.smallest.as_slice(), &walk.pairs) {
+        if !is_at(placed.table.smallest.as_slice(), &walk.block) {
             note_file(store, name.as_str(), Why::Span);
             return Err(DbError::Corrupt(FileKind::Table, Damage::Order));
         }
-        let head = first_head(alloc, &walk.pairs)?;
+        let head = first_head(alloc, &walk.block)?;
         walk.head = head;
         Ok(walk)
     }
@@ -131,9 +132,8 @@ impl<K: KeyOrder> TableWalk<K> {
             (IsOnlyOf Never (order_of K.name K.cmp) (S.facts store.old).files placed.now self.old)
             (IsOnlyOf (IsLongTable (order_of K.name K.cmp)) (order_of K.name K.cmp) (S.facts store.old).files placed.now self.old)) }
     {
-        let behind = self.at.saturating_add(1);
-        if behind < self.pairs.len() {
-            self.step(store, placed, behind)?;
+        if has_more(&self.block) {
+            self.step(store)?;
             return Ok(true);
         }
         let more = self.enter(alloc, store, placed)?;
@@ -141,26 +141,20 @@ impl<K: KeyOrder> TableWalk<K> {
     }
 
     // Passes a pair behind which there is another one in its block.
-    fn step<S: Store>(
-        &mut self,
-        store: &mut S,
-        placed: &PlacedTable,
-        behind: usize,
-    ) -> Result<(), DbError>
-        requires behind { behind ≡ self.old.at + 1 }
-        requires inside { behind < length self.old.pairs.items }
+    fn step<S: Store>(&mut self, store: &mut S) -> Result<(), DbError>
+        requires { HasMore self.old.block }
         ensures same { S.facts store.new ≡ S.facts store.old }
-        ensures found { IfOk result (λ _. (files : Files) → IsPassed (order_of K.name K.cmp) files placed.now true self.old self.new) }
-        ensures refused { IfErr result (λ error. RefusesBytes error ((files : Files) → IsOnlyOf Never (order_of K.name K.cmp) files placed.now self.old) ⊥) }
+        ensures found { IfOk result (λ _. (files : Files) (placed : PlacedTable) → IsPassed (order_of K.name K.cmp) files placed true self.old self.new) }
+        ensures refused { IfErr result (λ error. RefusesBytes error ((files : Files) (placed : PlacedTable) → IsOnlyOf Never (order_of K.name K.cmp) files placed self.old) ⊥) }
     {
         let Some(passed) = self.passed.checked_add(1) else {
             return Err(DbError::OutOfMemory);
         };
-        if !rise::<K>(&mut self.head, &self.pairs, behind)? {
+        self.block.next()?;
+        if !rise::<K>(&mut self.head, &self.block)? {
             note_file(store, self.name.as_str(), Why::KeyBound);
             return Err(DbError::Corrupt(FileKind::Table, Damage::Order));
         }
-        self.at = behind;
         self.passed = passed;
         Ok(())
     }
@@ -172,7 +166,7 @@ impl<K: KeyOrder> TableWalk<K> {
         store: &mut S,
         placed: &PlacedTable,
     ) -> Result<bool, DbError>
-        requires { length self.old.pairs.items ≤ self.old.at + 1 }
+        requires { HasNoMore self.old.block }
         ensures store { IsUnchanged (S.facts store.old) (S.facts store.new) }
         ensures still { IsStill (S.facts store.old) (S.facts store.new) result }
         ensures told { IfErr result (λ error. TellsUnsupported error (S.facts store.new) (IsToldOf (order_of K.name K.cmp) (S.facts store.old).files placed.now self.old)) }
@@ -184,33 +178,31 @@ impl<K: KeyOrder> TableWalk<K> {
         let Some(passed) = self.passed.checked_add(1) else {
             return Err(DbError::OutOfMemory);
         };
-        let is_largest = is_at(placed.table.largest.as_slice(), &self.pairs, self.at);
-        let read = next_block::<K, S>(alloc, store, &self.table, self.next)?;
-        if has_none(&read.pairs) {
+        let is_largest = is_at(placed.table.largest.as_slice(), &self.block);
+        let Some(read) = next_block::<K, S>(alloc, store, &self.table, self.next)? else {
             if !is_largest {
                 note_file(store, self.name.as_str(), Why::Span);
                 return Err(DbError::Corrupt(FileKind::Table, Damage::Order));
             }
             self.passed = passed;
             return Ok(false);
-        }
-        if !rise::<K>(&mut self.head, &read.pairs, 0)? {
+        };
+        if !rise::<K>(&mut self.head, &read.block)? {
             note_file(store, self.name.as_str(), Why::KeyBound);
             return Err(DbError::Corrupt(FileKind::Table, Damage::Order));
         }
         self.next = read.next;
-        self.pairs = read.pairs;
-        self.at = 0;
+        self.block = read.block;
         self.passed = passed;
         Ok(true)
     }
 }
 
-// How many blocks of a table were read, and the pairs of the last of them.
+// How many blocks of a table were read, and the last of them, at its first pair.
 #[derive(Drop)]
-struct BlockRead {
+struct BlockRead<K: KeyOrder> {
     next: usize,
-    pairs: Vec<KeyValue>,
+    block: BlockCursor<Internal<K>>,
 }
 
 // A walk over the table of this file, which has read the first block that has pairs, and has no key at hand yet.
@@ -223,10 +215,9 @@ fn open_first<K: KeyOrder, S: Store>(
     ensures still { IsStill (S.facts store.old) (S.facts store.new) result }
     ensures told { IfErr result (λ error. TellsUnsupported error (S.facts store.new) ((bytes : List ℕ) → get (S.facts store.old).files name.now ≡ Some bytes → IsUnsupportedTable (order_of K.name K.cmp) bytes)) }
     ensures found { IfOk result (λ walk. IsTrue (S.facts store.new).faithful → (bytes : List ℕ) → get (S.facts store.old).files name.now ≡ Some bytes
-        → IsFrame K.cmp bytes walk.table.frame × IsBegun K.cmp bytes walk.table.frame walk.next (pairs_of walk.pairs.items)) }
+        → IsFrame K.cmp bytes walk.table.frame × IsBegun K.cmp bytes walk.table.frame walk.next walk.block.pairs) }
     ensures name { IfOk result (λ walk. walk.table.name ≡ name.now) }
-    ensures some { IfOk result (λ walk. 0 < length walk.pairs.items) }
-    ensures at { IfOk result (λ walk. walk.at ≡ 0) }
+    ensures first { IfOk result (λ walk. IsHere walk.block 0) }
     ensures passed { IfOk result (λ walk. walk.passed ≡ 0) }
     ensures refused { IfErr result (λ error. RefusesDirectory error (S.facts store.old) (S.facts store.new)
         ((bytes : List ℕ) (kept : List InternalEntry) → get (S.facts store.old).files name.now ≡ Some bytes → IsTable K.cmp bytes kept → ⊥)
@@ -234,90 +225,79 @@ fn open_first<K: KeyOrder, S: Store>(
 {
     let own = String::from_str(alloc, name)?;
     let table = Table::<K>::open(alloc, store, name)?;
-    let read = next_block::<K, S>(alloc, store, &table, 0)?;
-    if has_none(&read.pairs) {
+    let Some(read) = next_block::<K, S>(alloc, store, &table, 0)? else {
         note_file(store, name, Why::NoEntries);
         return Err(DbError::Corrupt(FileKind::Table, Damage::Missing));
-    }
+    };
     Ok(TableWalk {
         name: own,
         table,
         next: read.next,
-        pairs: read.pairs,
-        at: 0,
+        block: read.block,
         passed: 0,
         head: Head::new(alloc),
     })
 }
 
-// Reads blocks from this one on, up to one that has pairs; at the end there are none.
+// Reads blocks from this one on, up to one that has pairs, if there is one.
 fn next_block<K: KeyOrder, S: Store>(
     alloc: Global,
     store: &mut S,
     table: &Table<K>,
     next: usize,
-) -> Result<BlockRead, DbError>
+) -> Result<Option<BlockRead<K>>, DbError>
     ensures reads { Reads (S.facts store.old) (S.facts store.new) }
     ensures stood { OnOk result ((S.facts store.new).failures ≡ (S.facts store.old).failures) }
-    ensures found { IfOk result (λ read. Answers (S.facts store.old) (S.facts store.new) table.now.name
-        (λ file. (found : List Pair) → IsBegun K.cmp file table.now.frame next found → IsBegun K.cmp file table.now.frame read.next (found ++ pairs_of read.pairs.items))) }
-    ensures end { IfOk result (λ read. read.pairs.items ≡ [] → length table.now.frame.places ≤ read.next) }
+    ensures found { IfOk result (λ read. MatchOption read
+        (Answers (S.facts store.old) (S.facts store.new) table.now.name (λ file. AddsPairs K.cmp file table.now.frame next (length table.now.frame.places) []))
+        (λ read. Answers (S.facts store.old) (S.facts store.new) table.now.name (λ file. AddsPairs K.cmp file table.now.frame next read.next read.block.pairs))) }
+    ensures first { IfOk result (λ read. ForSome read (λ read. IsHere read.block 0)) }
     ensures told { IfErr result (λ e. Refuses e (S.facts store.old) (S.facts store.new) table.now.name
         (λ file. (entries : List InternalEntry) → IsFrame K.cmp file table.now.frame → IsTable K.cmp file entries → ⊥) (λ file. IsOfOne (IsUnsupported file) table.now.frame.places)) }
 {
     let count = table.places().len();
     for index in next..count {
-        let pairs = table.check_block(alloc, store, index)?;
-        if !has_none(&pairs) {
-            return Ok(BlockRead {
+        let block = table.check_block(alloc, store, index)?;
+        let mut block = BlockCursor::new(alloc, block);
+        block.first()?;
+        if block.stands() {
+            return Ok(Some(BlockRead {
                 next: index + 1,
-                pairs,
-            });
+                block,
+            }));
         }
     }
-    Ok(BlockRead {
-        next: count,
-        pairs: Vec::new(alloc),
-    })
+    Ok(None)
 }
 
-// Whether there is no pair.
-fn has_none(pairs: &[KeyValue]) -> bool
-    ensures { MatchBool result (pairs.now ≡ []) (0 < length pairs.now) }
+// Whether a pair stands behind the one at hand.
+fn has_more<O: EntryOrder>(block: &BlockCursor<O>) -> bool
+    ensures { MatchBool result (HasMore block.now) (HasNoMore block.now) }
 {
-    match pairs {
-        [] => true,
-        [..] => false,
+    if !block.stands() {
+        return false;
     }
+    block.has_next()
 }
 
-// The key of the pair at this place.
-fn key_at(pairs: &[KeyValue], at: usize) -> Option<InternalKey<'_>>
-    ensures { MatchOption result ((key : Key) → IsKeyAt (pairs_of pairs.now) at key → ⊥) (λ key. IsKeyAt (pairs_of pairs.now) at (key_of key)) }
+// Whether the pair at hand has this key, if there is one.
+fn is_at<O: EntryOrder>(key: &[u8], block: &BlockCursor<O>) -> bool
+    ensures { MatchBool result ((at : ℕ) (pair : Pair) → IsPairAt block.now at pair → pair.key ≡ key.now)
+        ((at : ℕ) (pair : Pair) → IsPairAt block.now at pair → pair.key ≡ key.now → ⊥) }
 {
-    match pairs.get(at) {
-        None => None,
-        Some(pair) => unpack(pair.key.as_slice()),
+    if !block.stands() {
+        return true;
     }
+    is_same(block.key(), key)
 }
 
-// Whether the pair at this place has this key.
-fn is_at(key: &[u8], pairs: &[KeyValue], at: usize) -> bool
-    ensures { MatchBool result ((pair : Pair) → slice_get (pairs_of pairs.now) at ≡ Some pair → pair.key ≡ key.now)
-        ((pair : Pair) → slice_get (pairs_of pairs.now) at ≡ Some pair → pair.key ≡ key.now → ⊥) }
+// The key of the pair at hand, the first one.
+fn first_head<O: EntryOrder>(alloc: Global, block: &BlockCursor<O>) -> Result<Head, DbError>
+    requires { IsHere block.now 0 }
+    ensures found { IfOk result (λ head. (key : Key) × IsKeyAt block.now.pairs 0 key × (key.user ≡ head.user.items) × (key.sequence ≡ head.sequence)) }
+    ensures refused { IfErr result (λ error. RefusesBytes error ((key : Key) → IsKeyAt block.now.pairs 0 key → ⊥) ⊥) }
 {
-    match pairs.get(at) {
-        None => true,
-        Some(pair) => is_same(pair.key.as_slice(), key),
-    }
-}
-
-// The key of the first pair.
-fn first_head(alloc: Global, pairs: &[KeyValue]) -> Result<Head, DbError>
-    ensures found { IfOk result (λ head. (key : Key) × IsKeyAt (pairs_of pairs.now) 0 key × (key.user ≡ head.user.items) × (key.sequence ≡ head.sequence)) }
-    ensures refused { IfErr result (λ error. RefusesBytes error ((key : Key) → IsKeyAt (pairs_of pairs.now) 0 key → ⊥) ⊥) }
-{
-    let Some(key) = key_at(pairs, 0) else {
+    let Some(key) = unpack(block.key()) else {
         return Err(DbError::Corrupt(FileKind::Table, Damage::Kind));
     };
     let mut head = Head::new(alloc);
@@ -325,14 +305,18 @@ fn first_head(alloc: Global, pairs: &[KeyValue]) -> Result<Head, DbError>
     Ok(head)
 }
 
-// Takes the key of the pair at this place, where it comes behind the one that was taken before.
-fn rise<K: KeyOrder>(head: &mut Head, pairs: &[KeyValue], at: usize) -> Result<bool, AllocError>
-    ensures { IfOk result (λ rises. MatchBool rises
-        ((key : Key) × IsKeyAt (pairs_of pairs.now) at key × (key.user ≡ head.new.user.items) × (key.sequence ≡ head.new.sequence)
+// Takes the key of the pair at hand, where it comes behind the one that was taken before.
+fn rise<K: KeyOrder>(
+    head: &mut Head,
+    block: &BlockCursor<Internal<K>>,
+) -> Result<bool, AllocError>
+    requires { (at : ℕ) × IsHere block.now at }
+    ensures { IfOk result (λ rises. (at : ℕ) → IsHere block.now at → MatchBool rises
+        ((key : Key) × IsKeyAt block.now.pairs at key × (key.user ≡ head.new.user.items) × (key.sequence ≡ head.new.sequence)
         × ComesBefore (order_of K.name K.cmp) (stamp head.old.user.items head.old.sequence) (stamp key.user key.sequence))
-        ((key : Key) → IsKeyAt (pairs_of pairs.now) at key → ComesBefore (order_of K.name K.cmp) (stamp head.old.user.items head.old.sequence) (stamp key.user key.sequence) → ⊥)) }
+        ((key : Key) → IsKeyAt block.now.pairs at key → ComesBefore (order_of K.name K.cmp) (stamp head.old.user.items head.old.sequence) (stamp key.user key.sequence) → ⊥)) }
 {
-    let Some(key) = key_at(pairs, at) else {
+    let Some(key) = unpack(block.key()) else {
         return Ok(false);
     };
     if !is_in_front::<K>(head.user.as_slice(), head.sequence, key.user, key.sequence) {

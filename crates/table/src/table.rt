@@ -21,6 +21,7 @@ use filter::FilterBlock;
 use ikey::{Front, Internal, KeyOrder};
 use std::alloc::{AllocError, Global};
 use std::marker::{Model, PhantomData};
+use std::rc::Rc;
 use store::{Store, Why};
 
 /// A table that is open (LevelDB's `doc/table_format.md`), whose user keys are in the order K. Contracts see the name
@@ -211,18 +212,18 @@ impl<K: KeyOrder> Table<K> {
         Ok(found)
     }
 
-    /// The pairs of the data block of this index, in order, with all that makes it the block of a table checked: their keys are internal
-    /// keys, each is within the bounds of its block, and its filter admits it. Corrupt, where that isn't so or there is no such block,
+    /// The data block of this index, with all that makes it the block of a table checked: its keys are internal keys, each is within the
+    /// bounds of the block, and the filter admits it. Corrupt, where that isn't so or there is no such block,
     /// and Corrupt and Unsupported as `read_data`.
     pub fn check_block<S: Store>(
         &self,
         alloc: Global,
         store: &mut S,
         index: usize,
-    ) -> Result<Vec<KeyValue>, DbError>
+    ) -> Result<Rc<Block<Internal<K>>>, DbError>
         ensures reads { Reads (S.facts store.old) (S.facts store.new) }
-        ensures found { IfOk result (λ found. Finds (S.facts store.old) (S.facts store.new) self.now.name
-            (λ file. IsCheckedAt K.cmp file self.now.frame index (pairs_of found.items))) }
+        ensures found { IfOk result (λ block. Finds (S.facts store.old) (S.facts store.new) self.now.name
+            (λ file. IsCheckedAt K.cmp file self.now.frame index block.value.pairs)) }
         ensures stood { OnOk result ((S.facts store.new).failures ≡ (S.facts store.old).failures) }
         ensures noted { IfErr result (λ e. index < length self.now.frame.places → IsNoted self.now.name e (S.told store.new)) }
         ensures refused { IfErr result (λ e. Refuses e (S.facts store.old) (S.facts store.new) self.now.name
@@ -241,7 +242,7 @@ impl<K: KeyOrder> Table<K> {
             floor,
             &self.filter,
         ) {
-            Ok(pairs) => Ok(pairs),
+            Ok(block) => Ok(block),
             Err(e) => Err(e),
         }
     }

@@ -1,6 +1,8 @@
 -- A table that is read from its front.
-use Rattle.std.specs.Prelude.{◌≡◌, ℕ, Bool, MatchBool, List, [], ◌∷◌, ◌++◌, Some, None, length, map, drop, slice_get}
+use Rattle.std.specs.Prelude.{◌≡◌, ◌<◌, ◌≤◌, ◌+◌, ℕ, Bool, MatchBool, List, [], ◌∷◌, ◌++◌, Some, None, length, map, drop, slice_get}
 use Rattle.std.specs.FinMap.{get}
+use Rattle.std.specs.declared.cmp.Ordering.{Ordering}
+use Rattle.block.specs.Places.{Placed}
 use Rattle.edits.specs.Names.{IsNumbered}
 use Rattle.edits.specs.declared.field.PlacedTable.{PlacedTable}
 use Rattle.ikey.specs.Entries.{InternalEntry, Pair, IsPair, entry_of}
@@ -10,9 +12,8 @@ use Rattle.ikey.specs.Sources.{ComesBefore, AreSorted}
 use Rattle.ikey.specs.declared.entry.Entry.{Entry}
 use Rattle.store.specs.Files.{Files}
 use Rattle.table.specs.Blocks.{IsBegun}
-use Rattle.table.specs.Frame.{IsFrame, Opened}
+use Rattle.table.specs.Frame.{Frame, IsFrame, Opened}
 use Rattle.table.specs.Table.{ArePairs}
-use Rattle.table.specs.Views.{pairs_of}
 use Rattle.recover.specs.internal.Checks.{first_key, content_of, IsOnly}
 use Rattle.recover.specs.declared.walking.Head.{Head}
 use Rattle.recover.specs.declared.walking.TableWalk.{TableWalk}
@@ -33,6 +34,26 @@ IsHead head entry = (entry.key ≡ head.user.items) × (entry.sequence ≡ head.
 abbrev pub IsKeyAt : List Pair → ℕ → Key → Type 0
 IsKeyAt pairs at key = (pair : Pair) × (slice_get pairs at ≡ Some pair) × IsKey pair.key key
 
+-- the cursor stands on the pair of this index
+abbrev pub IsHere : Placed → ℕ → Type 0
+IsHere block at = (block.place ≡ Some at) × (at < length block.pairs)
+
+-- and this is the pair
+abbrev pub IsPairAt : Placed → ℕ → Pair → Type 0
+IsPairAt block at pair = (block.place ≡ Some at) × (slice_get block.pairs at ≡ Some pair)
+
+-- a pair stands behind it
+abbrev pub HasMore : Placed → Type 0
+HasMore block = (at : ℕ) × (block.place ≡ Some at) × (at + 1 < length block.pairs)
+
+-- none stands behind it
+abbrev pub HasNoMore : Placed → Type 0
+HasNoMore block = (at : ℕ) → block.place ≡ Some at → length block.pairs ≤ at + 1
+
+-- whatever the first blocks of the file have, so many, those from there up to this number have these pairs
+abbrev pub AddsPairs : (List ℕ → List ℕ → Ordering) → List ℕ → Frame → ℕ → ℕ → List Pair → Type 0
+AddsPairs cmp file frame from to pairs = (found : List Pair) → IsBegun cmp file frame from found → IsBegun cmp file frame to (found ++ pairs)
+
 -- the smallest key of the edit is that of the entry
 abbrev pub IsSmallest : PlacedTable → Entry → Type 0
 IsSmallest placed entry = (key : Key) × IsKey placed.table.smallest key × (key.user ≡ entry.key) × (key.sequence ≡ entry.sequence)
@@ -52,12 +73,14 @@ pub record AreFirst (order : Order) (files : Files) (placed : PlacedTable) (tabl
 -- The walk has passed the first entries of its table, which are in order, and stands on the next one.
 pub record Passes {K : Type 0} (order : Order) (files : Files) (placed : PlacedTable) (walk : TableWalk K) (passed : List Entry) (here : Entry) : Type 0 where
   pub front : List Pair
-  pub first : AreFirst order files placed walk.table walk.next (front ++ drop walk.at (pairs_of walk.pairs.items))
+  pub at : ℕ
+  pub at_is : walk.block.place ≡ Some at
+  pub first : AreFirst order files placed walk.table walk.next (front ++ drop at walk.block.pairs)
   pub kept : List InternalEntry
   pub kept_are : ArePairs front kept
   pub passed_are : passed ≡ map entry_of kept
   pub pair : Pair
-  pub pair_is : slice_get (pairs_of walk.pairs.items) walk.at ≡ Some pair
+  pub pair_is : slice_get walk.block.pairs at ≡ Some pair
   pub entry : InternalEntry
   pub entry_is : IsPair pair entry
   pub here_is : here ≡ entry_of entry
