@@ -16,7 +16,6 @@ use Rattle.store.specs.Files.{Files}
 use Rattle.table.specs.Blocks.{IsBegun}
 use Rattle.table.specs.Frame.{Opened}
 use Rattle.table.specs.Table.{IsTable, ArePairs}
-use Rattle.table.specs.Views.{pairs_of}
 use Rattle.table.proofs.Begun.{begun_first, begun_whole}
 use Rattle.recover.specs.declared.walking.Head.{Head}
 use Rattle.recover.specs.declared.walking.TableWalk.{TableWalk}
@@ -97,10 +96,10 @@ among_at (y ∷ xs) x ys = inr (among_at xs x ys)
 pub passes_inside : {K : Type 0} (order : Order) (files : Files) (placed : PlacedTable) (walk : TableWalk K) (passed : List Entry) (here : Entry) → Passes order files placed walk passed here
     → (entries : List Entry) → HasTable order files (content_of placed entries) → Among entries here
 passes_inside order files placed walk passed here h entries table =
-    let pairs = pairs_of walk.pairs.items in
-    let tail = drop (suc walk.at) pairs in
+    let pairs = walk.block.pairs in
+    let tail = drop (suc h.at) pairs in
     let F : List Pair → Type 0 = λ ps. AreFirst order files placed walk.table walk.next (h.front ++ ps) in
-    let a = around order files placed walk.table walk.next h.front h.pair tail h.kept h.entry entries (subst F (drop_at pairs walk.at h.pair h.pair_is) h.first) h.kept_are h.entry_is table in
+    let a = around order files placed walk.table walk.next h.front h.pair tail h.kept h.entry entries (subst F (drop_at pairs h.at h.pair h.pair_is) h.first) h.kept_are h.entry_is table in
     let there : Among (map entry_of h.kept ++ entry_of h.entry ∷ map entry_of a.0) (entry_of h.entry) = among_at (map entry_of h.kept) (entry_of h.entry) (map entry_of a.0) in
     let P : Entry → Type 0 = λ e. Among entries e in
     subst P (sym h.here_is) (subst (λ (es : List Entry). Among es (entry_of h.entry)) (sym a.1) there)
@@ -165,10 +164,10 @@ passed_length m n xs x h e = let long : length (xs ++ x ∷ []) ≡ length xs + 
 
 -- where it does, the walk has passed one more
 goes_on : {K : Type 0} (order : Order) (o : IsTotalOrder order.cmp) (files : Files) (placed : PlacedTable) (walk new : TableWalk K) (passed : List Entry) (here : Entry) (h : Passes order files placed walk passed here) (other : Pair) (key : Key)
-    → AreFirst order files placed new.table new.next ((h.front ++ h.pair ∷ []) ++ drop new.at (pairs_of new.pairs.items)) → slice_get (pairs_of new.pairs.items) new.at ≡ Some other → IsKey other.key key
+    → (n : ℕ) → new.block.place ≡ Some n → AreFirst order files placed new.table new.next ((h.front ++ h.pair ∷ []) ++ drop n new.block.pairs) → slice_get new.block.pairs n ≡ Some other → IsKey other.key key
     → key.user ≡ new.head.user.items → key.sequence ≡ new.head.sequence → new.passed ≡ walk.passed + 1
     → ComesBefore order (stamp walk.head.user.items walk.head.sequence) (stamp key.user key.sequence) → GoesOn order files placed new passed here
-goes_on {K} order o files placed walk new passed here h other key first at is user sequence count rises =
+goes_on {K} order o files placed walk new passed here h other key n place first at is user sequence count rises =
     let kept : InternalEntry = record { key = key; value = other.value } in
     let next : Entry = entry_of kept in
     let behind : ComesBefore order here next = after_head order walk.head here next h.head rises in
@@ -176,6 +175,8 @@ goes_on {K} order o files placed walk new passed here h other key first at is us
       next,
       record {
         front = h.front ++ h.pair ∷ [];
+        at = n;
+        at_is = place;
         first = first;
         kept = h.kept ++ h.entry ∷ [];
         kept_are = pairs_push h.front h.kept h.pair h.entry h.kept_are h.entry_is;
@@ -255,29 +256,29 @@ no_first_key order files placed table next (p ∷ found) f some none entries h =
     by [] rest k = k
     by (e ∷ kept) rest k = none e.key (p, refl, k.0.key)
 
-pub begins : {K : Type 0} (order : Order) (files : Files) (placed : PlacedTable) (walk : TableWalk K) (key : Key) → AreFirst order files placed walk.table walk.next (pairs_of walk.pairs.items) → walk.at ≡ 0 → walk.passed ≡ 0
-    → first_key (pairs_of walk.pairs.items) ≡ Some placed.table.smallest → IsKeyAt (pairs_of walk.pairs.items) 0 key → key.user ≡ walk.head.user.items → key.sequence ≡ walk.head.sequence
+pub begins : {K : Type 0} (order : Order) (files : Files) (placed : PlacedTable) (walk : TableWalk K) (key : Key) → AreFirst order files placed walk.table walk.next walk.block.pairs → walk.block.place ≡ Some 0 → walk.passed ≡ 0
+    → first_key walk.block.pairs ≡ Some placed.table.smallest → IsKeyAt walk.block.pairs 0 key → key.user ≡ walk.head.user.items → key.sequence ≡ walk.head.sequence
     → (here : Entry) × Passes order files placed walk [] here × IsSmallest placed here
-begins order files placed walk key first at count smallest is user sequence = by (pairs_of walk.pairs.items) refl is smallest
+begins order files placed walk key first at count smallest is user sequence = by walk.block.pairs refl is smallest
   where
-    by : (found : List Pair) → found ≡ pairs_of walk.pairs.items → IsKeyAt found 0 key → first_key found ≡ Some placed.table.smallest → (here : Entry) × Passes order files placed walk [] here × IsSmallest placed here
+    by : (found : List Pair) → found ≡ walk.block.pairs → IsKeyAt found 0 key → first_key found ≡ Some placed.table.smallest → (here : Entry) × Passes order files placed walk [] here × IsSmallest placed here
     by [] e is small = absurd (let bad : None ≡ Some is.0 = is.1 in cc)
     by (p ∷ found) e is small =
         let same : p ≡ is.0 = let both : Some p ≡ Some is.0 = is.1 in cc in
         let kept : InternalEntry = record { key = key; value = p.value } in
         let here_key : IsKey p.key key = subst (λ (q : Pair). IsKey q.key key) (sym same) is.2 in
-        let smallest : p.key ≡ placed.table.smallest = let both : Some p.key ≡ Some placed.table.smallest = small in cc in
-        let F : ℕ → Type 0 = λ n. AreFirst order files placed walk.table walk.next ([] ++ drop n (pairs_of walk.pairs.items)) in
-        let G : ℕ → Type 0 = λ n. slice_get (pairs_of walk.pairs.items) n ≡ Some p in (
+        let smallest : p.key ≡ placed.table.smallest = let both : Some p.key ≡ Some placed.table.smallest = small in cc in (
           entry_of kept,
           record {
             front = [];
-            first = subst F (sym at) first;
+            at = 0;
+            at_is = at;
+            first = first;
             kept = [];
             kept_are = tt;
             passed_are = refl;
             pair = p;
-            pair_is = subst G (sym at) (ap (λ (ps : List Pair). slice_get ps 0) (sym e));
+            pair_is = ap (λ (ps : List Pair). slice_get ps 0) (sym e);
             entry = kept;
             entry_is = record { key = here_key; value = refl };
             here_is = refl;
@@ -293,23 +294,23 @@ begins order files placed walk key first at count smallest is user sequence = by
 
 module _ {K : Type 0} (order : Order) (o : IsTotalOrder order.cmp) (files : Files) (placed : PlacedTable) (walk : TableWalk K) (passed : List Entry) (here : Entry) (h : Passes order files placed walk passed here) where
   abbrev Pairs : List Pair
-  Pairs = pairs_of walk.pairs.items
+  Pairs = walk.block.pairs
 
   is_head : IsHead walk.head (entry_of h.entry)
   is_head = let P : Entry → Type 0 = λ e. IsHead walk.head e in subst P h.here_is h.head
 
   -- the next pair of the block
-  within : (other : Pair) → slice_get Pairs (walk.at + 1) ≡ Some other → AreFirst order files placed walk.table walk.next (h.front ++ h.pair ∷ drop (walk.at + 1) Pairs)
+  within : (other : Pair) → slice_get Pairs (h.at + 1) ≡ Some other → AreFirst order files placed walk.table walk.next (h.front ++ h.pair ∷ drop (h.at + 1) Pairs)
   within other at =
-      let e : suc walk.at ≡ walk.at + 1 = omega arith in
+      let e : suc h.at ≡ h.at + 1 = omega arith in
       let F : List Pair → Type 0 = λ ps. AreFirst order files placed walk.table walk.next (h.front ++ ps) in
-      subst F (drop_at Pairs walk.at h.pair h.pair_is ∙ ap (λ (n : ℕ). h.pair ∷ drop n Pairs) e) h.first
+      subst F (drop_at Pairs h.at h.pair h.pair_is ∙ ap (λ (n : ℕ). h.pair ∷ drop n Pairs) e) h.first
 
-  pub stays_within : ((key : Key) → IsKeyAt Pairs (walk.at + 1) key → ComesBefore order (stamp walk.head.user.items walk.head.sequence) (stamp key.user key.sequence) → ⊥) → walk.at + 1 < length Pairs → IsOnly Never order files placed
+  pub stays_within : ((key : Key) → IsKeyAt Pairs (h.at + 1) key → ComesBefore order (stamp walk.head.user.items walk.head.sequence) (stamp key.user key.sequence) → ⊥) → h.at + 1 < length Pairs → IsOnly Never order files placed
   stays_within none lt =
-      let at = there Pairs (walk.at + 1) lt in
+      let at = there Pairs (h.at + 1) lt in
       let F : List Pair → Type 0 = λ ps. AreFirst order files placed walk.table walk.next (h.front ++ h.pair ∷ ps) in
-      no_rise order files placed walk.table walk.next h.front h.pair at.0 (drop (suc (walk.at + 1)) Pairs) h.kept h.entry walk.head (subst F (drop_at Pairs (walk.at + 1) at.0 at.1) (within at.0 at.1)) h.kept_are h.entry_is is_head
+      no_rise order files placed walk.table walk.next h.front h.pair at.0 (drop (suc (h.at + 1)) Pairs) h.kept h.entry walk.head (subst F (drop_at Pairs (h.at + 1) at.0 at.1) (within at.0 at.1)) h.kept_are h.entry_is is_head
       (λ key is. none key (at.0, at.1, is))
     where
       there : (xs : List Pair) (n : ℕ) → n < length xs → (x : Pair) × (slice_get xs n ≡ Some x)
@@ -317,56 +318,49 @@ module _ {K : Type 0} (order : Order) (o : IsTotalOrder order.cmp) (files : File
       there (x ∷ xs) zero lt = (x, refl)
       there (x ∷ xs) (suc n) lt = there xs n (omega (arith, lt))
 
-  pub goes_within : (new : TableWalk K) (key : Key) → new.table ≡ walk.table → new.next ≡ walk.next → pairs_of new.pairs.items ≡ Pairs → new.at ≡ walk.at + 1 → new.passed ≡ walk.passed + 1 → IsKeyAt Pairs (walk.at + 1) key
+  pub goes_within : (new : TableWalk K) (key : Key) → new.table ≡ walk.table → new.next ≡ walk.next → new.block.pairs ≡ Pairs → new.block.place ≡ Some (h.at + 1) → new.passed ≡ walk.passed + 1 → IsKeyAt Pairs (h.at + 1) key
       → key.user ≡ new.head.user.items → key.sequence ≡ new.head.sequence → ComesBefore order (stamp walk.head.user.items walk.head.sequence) (stamp key.user key.sequence) → GoesOn order files placed new passed here
   goes_within new key table next pairs at count is user sequence rises =
-      let F : Opened → ℕ → ℕ → List Pair → Type 0 = λ t n i ps. AreFirst order files placed t n ((h.front ++ h.pair ∷ []) ++ drop i ps) in
-      let G : ℕ → List Pair → Type 0 = λ i ps. slice_get ps i ≡ Some is.0 in
-      let first : F walk.table walk.next (walk.at + 1) Pairs = subst (λ (ps : List Pair). AreFirst order files placed walk.table walk.next ps) (sym (append_assoc h.front (h.pair ∷ []) (drop (walk.at + 1) Pairs))) (within is.0 is.1) in
-      let back_t = sym table in
-      let back_n = sym next in
-      let back_i = sym at in
-      let back_p = sym pairs in
-      goes_on order o files placed walk new passed here h is.0 key
-      (subst (λ (t : Opened). F t new.next new.at (pairs_of new.pairs.items)) back_t (subst (λ (n : ℕ). F walk.table n new.at (pairs_of new.pairs.items)) back_n
-      (subst (λ (i : ℕ). F walk.table walk.next i (pairs_of new.pairs.items)) back_i (subst (λ (ps : List Pair). F walk.table walk.next (walk.at + 1) ps) back_p first))))
-      (subst (λ (i : ℕ). G i (pairs_of new.pairs.items)) back_i (subst (λ (ps : List Pair). G (walk.at + 1) ps) back_p is.1)) is.2 user sequence count rises
+      let F : Opened → ℕ → List Pair → Type 0 = λ t n ps. AreFirst order files placed t n ((h.front ++ h.pair ∷ []) ++ drop (h.at + 1) ps) in
+      let first : F walk.table walk.next Pairs = subst (λ (ps : List Pair). AreFirst order files placed walk.table walk.next ps) (sym (append_assoc h.front (h.pair ∷ []) (drop (h.at + 1) Pairs))) (within is.0 is.1) in
+      goes_on order o files placed walk new passed here h is.0 key (h.at + 1) at
+      (subst (λ (t : Opened). F t new.next new.block.pairs) (sym table) (subst (λ (n : ℕ). F walk.table n new.block.pairs) (sym next) (subst (λ (ps : List Pair). F walk.table walk.next ps) (sym pairs) first)))
+      (subst (λ (ps : List Pair). slice_get ps (h.at + 1) ≡ Some is.0) (sym pairs) is.1) is.2 user sequence count rises
 
   -- the next block
-  across : (next : ℕ) (more : List Pair) → length Pairs ≤ walk.at + 1 → ((found : List Pair) → IsBegun order.cmp h.first.bytes walk.table.frame walk.next found → IsBegun order.cmp h.first.bytes walk.table.frame next (found ++ more))
+  across : (next : ℕ) (more : List Pair) → length Pairs ≤ h.at + 1 → ((found : List Pair) → IsBegun order.cmp h.first.bytes walk.table.frame walk.next found → IsBegun order.cmp h.first.bytes walk.table.frame next (found ++ more))
       → AreFirst order files placed walk.table next (h.front ++ h.pair ∷ more)
   across next more past grows =
       let f = h.first in
-      let tail : drop (suc walk.at) Pairs ≡ [] = drop_past Pairs (suc walk.at) (omega (arith, past)) in
-      let found : (h.front ++ drop walk.at Pairs) ++ more ≡ h.front ++ h.pair ∷ more =
-      append_assoc h.front (drop walk.at Pairs) more ∙ ap (λ (ps : List Pair). h.front ++ (ps ++ more)) (drop_at Pairs walk.at h.pair h.pair_is ∙ ap (λ (ps : List Pair). h.pair ∷ ps) tail) in
-      record { numbered = f.numbered; bytes = f.bytes; there = f.there; size = f.size; named = f.named; frame = f.frame; begun = subst (λ (ps : List Pair). IsBegun order.cmp f.bytes walk.table.frame next ps) found (grows (h.front ++ drop walk.at Pairs) f.begun) }
+      let tail : drop (suc h.at) Pairs ≡ [] = drop_past Pairs (suc h.at) (omega (arith, past)) in
+      let found : (h.front ++ drop h.at Pairs) ++ more ≡ h.front ++ h.pair ∷ more =
+      append_assoc h.front (drop h.at Pairs) more ∙ ap (λ (ps : List Pair). h.front ++ (ps ++ more)) (drop_at Pairs h.at h.pair h.pair_is ∙ ap (λ (ps : List Pair). h.pair ∷ ps) tail) in
+      record { numbered = f.numbered; bytes = f.bytes; there = f.there; size = f.size; named = f.named; frame = f.frame; begun = subst (λ (ps : List Pair). IsBegun order.cmp f.bytes walk.table.frame next ps) found (grows (h.front ++ drop h.at Pairs) f.begun) }
 
   -- none that has pairs follows
-  pub ends : (next : ℕ) → length Pairs ≤ walk.at + 1 → ((found : List Pair) → IsBegun order.cmp h.first.bytes walk.table.frame walk.next found → IsBegun order.cmp h.first.bytes walk.table.frame next (found ++ [])) → length walk.table.frame.places ≤ next
-      → ((pair : Pair) → slice_get Pairs walk.at ≡ Some pair → pair.key ≡ placed.table.largest) → HasTable order files (content_of placed (passed ++ here ∷ []))
+  pub ends : (next : ℕ) → length Pairs ≤ h.at + 1 → ((found : List Pair) → IsBegun order.cmp h.first.bytes walk.table.frame walk.next found → IsBegun order.cmp h.first.bytes walk.table.frame next (found ++ [])) → length walk.table.frame.places ≤ next
+      → ((pair : Pair) → slice_get Pairs h.at ≡ Some pair → pair.key ≡ placed.table.largest) → HasTable order files (content_of placed (passed ++ here ∷ []))
   ends next past grows all largest =
       let e : passed ++ here ∷ [] ≡ map entry_of h.kept ++ entry_of h.entry ∷ [] = (let a = h.passed_are in let b = h.here_is in λ i. a i ++ b i ∷ []) in
       subst (λ (es : List Entry). HasTable order files (content_of placed es)) (sym e)
       (whole_table order o files placed walk.table next h.front h.pair (across next [] past grows) all h.kept h.kept_are h.entry h.entry_is (subst (λ (es : List Entry). AreSorted order es) e h.sorted) h.smallest (largest h.pair h.pair_is))
 
-  pub ends_not : (next : ℕ) → length Pairs ≤ walk.at + 1 → ((found : List Pair) → IsBegun order.cmp h.first.bytes walk.table.frame walk.next found → IsBegun order.cmp h.first.bytes walk.table.frame next (found ++ [])) → length walk.table.frame.places ≤ next
-      → ((pair : Pair) → slice_get Pairs walk.at ≡ Some pair → pair.key ≡ placed.table.largest → ⊥) → IsOnly Never order files placed
+  pub ends_not : (next : ℕ) → length Pairs ≤ h.at + 1 → ((found : List Pair) → IsBegun order.cmp h.first.bytes walk.table.frame walk.next found → IsBegun order.cmp h.first.bytes walk.table.frame next (found ++ [])) → length walk.table.frame.places ≤ next
+      → ((pair : Pair) → slice_get Pairs h.at ≡ Some pair → pair.key ≡ placed.table.largest → ⊥) → IsOnly Never order files placed
   ends_not next past grows all other = no_largest order o files placed walk.table next h.front h.pair (across next [] past grows) all h.kept h.kept_are h.entry h.entry_is (other h.pair h.pair_is)
 
-  pub stays_across : (next : ℕ) (more : List Pair) → length Pairs ≤ walk.at + 1 → ((found : List Pair) → IsBegun order.cmp h.first.bytes walk.table.frame walk.next found → IsBegun order.cmp h.first.bytes walk.table.frame next (found ++ more))
+  pub stays_across : (next : ℕ) (more : List Pair) → length Pairs ≤ h.at + 1 → ((found : List Pair) → IsBegun order.cmp h.first.bytes walk.table.frame walk.next found → IsBegun order.cmp h.first.bytes walk.table.frame next (found ++ more))
       → 0 < length more → ((key : Key) → IsKeyAt more 0 key → ComesBefore order (stamp walk.head.user.items walk.head.sequence) (stamp key.user key.sequence) → ⊥) → IsOnly Never order files placed
   stays_across next [] past grows some none = absurd (omega (arith, some))
   stays_across next (p ∷ more) past grows some none =
       no_rise order files placed walk.table next h.front h.pair p more h.kept h.entry walk.head (across next (p ∷ more) past grows) h.kept_are h.entry_is is_head (λ key is. none key (p, refl, is))
 
-  pub goes_across : (new : TableWalk K) (key : Key) → length Pairs ≤ walk.at + 1
-      → ((found : List Pair) → IsBegun order.cmp h.first.bytes walk.table.frame walk.next found → IsBegun order.cmp h.first.bytes walk.table.frame new.next (found ++ pairs_of new.pairs.items))
-      → new.table ≡ walk.table → new.at ≡ 0 → new.passed ≡ walk.passed + 1 → IsKeyAt (pairs_of new.pairs.items) 0 key
+  pub goes_across : (new : TableWalk K) (key : Key) → length Pairs ≤ h.at + 1
+      → ((found : List Pair) → IsBegun order.cmp h.first.bytes walk.table.frame walk.next found → IsBegun order.cmp h.first.bytes walk.table.frame new.next (found ++ new.block.pairs))
+      → new.table ≡ walk.table → new.block.place ≡ Some 0 → new.passed ≡ walk.passed + 1 → IsKeyAt new.block.pairs 0 key
       → key.user ≡ new.head.user.items → key.sequence ≡ new.head.sequence → ComesBefore order (stamp walk.head.user.items walk.head.sequence) (stamp key.user key.sequence) → GoesOn order files placed new passed here
   goes_across new key past grows table at count is user sequence rises =
-      let more = pairs_of new.pairs.items in
-      let F : Opened → ℕ → Type 0 = λ t i. AreFirst order files placed t new.next ((h.front ++ h.pair ∷ []) ++ drop i more) in
-      let G : ℕ → Type 0 = λ i. slice_get more i ≡ Some is.0 in
-      let first : F walk.table 0 = subst (λ (ps : List Pair). AreFirst order files placed walk.table new.next ps) (sym (append_assoc h.front (h.pair ∷ []) more)) (across new.next more past grows) in
-      goes_on order o files placed walk new passed here h is.0 key (subst (λ (t : Opened). F t new.at) (sym table) (subst (λ (i : ℕ). F walk.table i) (sym at) first)) (subst G (sym at) is.1) is.2 user sequence count rises
+      let more = new.block.pairs in
+      let F : Opened → Type 0 = λ t. AreFirst order files placed t new.next ((h.front ++ h.pair ∷ []) ++ more) in
+      let first : F walk.table = subst (λ (ps : List Pair). AreFirst order files placed walk.table new.next ps) (sym (append_assoc h.front (h.pair ∷ []) more)) (across new.next more past grows) in
+      goes_on order o files placed walk new passed here h is.0 key 0 at (subst F (sym table) first) is.1 is.2 user sequence count rises

@@ -1,17 +1,16 @@
 -- Steps of a walk over a table.
-use Rattle.std.proofs.Common.{◌≡◌, ◌<◌, ◌≤◌, ◌+◌, ℕ, zero, suc, Bool, true, false, MatchBool, MatchOption, List, [], ◌∷◌, ◌++◌, length, Option, Some, None, refl, sym, ap, ◌∙◌, subst, arith}
+use Rattle.std.proofs.Common.{◌≡◌, ◌<◌, ◌≤◌, ◌+◌, ℕ, zero, suc, Bool, true, false, MatchBool, List, [], ◌∷◌, ◌++◌, length, Option, Some, None, refl, sym, ap, ◌∙◌, subst, arith}
 use Rattle.std.proofs.lemmas.List.{append-nil}
 use Rattle.std.specs.Prelude.{slice_get}
 use Rattle.std.specs.declared.cmp.Ordering.{Ordering}
+use Rattle.block.specs.Places.{Placed}
 use Rattle.coding.specs.declared.error.DbError.{DbError}
 use Rattle.coding.specs.declared.error.DbError.TheVariants.{OutOfMemory, Io, Corrupt, Unsupported}
 use Rattle.ikey.specs.Below.{same_key}
 use Rattle.ikey.specs.Entries.{InternalEntry, Pair}
-use Rattle.ikey.specs.KeyViews.{key_of}
 use Rattle.ikey.specs.Keys.{Key, IsKey}
 use Rattle.ikey.specs.Orders.{Order}
 use Rattle.ikey.specs.Sources.{ComesBefore}
-use Rattle.ikey.specs.declared.internal_key.InternalKey.{InternalKey}
 use Rattle.store.specs.Files.{Facts}
 use Rattle.table.specs.Blocks.{IsCheckedAt, IsWrongAt, IsBegun}
 use Rattle.table.specs.Frame.{IsFrame, Opened}
@@ -19,38 +18,33 @@ use Rattle.table.specs.Intact.{IsUnsupportedAt}
 use Rattle.table.specs.Reading.{Reads, Finds, Answers, Refuses}
 use Rattle.table.specs.Refusals.{IsUnsupported, IsOfOne}
 use Rattle.table.specs.Table.{IsTable}
-use Rattle.table.specs.Views.{pair_of, pairs_of}
-use Rattle.table.specs.declared.pair.KeyValue.{KeyValue}
 use Rattle.table.proofs.Begun.{begun_more, wrong_none, unsupported_one}
 use Rattle.table.proofs.Steps.{reads_then, file_on, same_file}
-use Rattle.recover.specs.internal.Walking.{stamp, IsKeyAt}
+use Rattle.recover.specs.internal.Walking.{stamp, IsKeyAt, IsHere, IsPairAt, AddsPairs}
 
 -- ---- pairs
 
-pub get_pairs : (xs : List KeyValue) (n : ℕ) (x : KeyValue) → slice_get xs n ≡ Some x → slice_get (pairs_of xs) n ≡ Some (pair_of x)
-get_pairs [] n x h = let bad : None ≡ Some x = h in absurd cc
-get_pairs (y ∷ xs) zero x h = let same : y ≡ x = let both : Some y ≡ Some x = h in cc in ap (λ (z : KeyValue). Some (pair_of z)) same
-get_pairs (y ∷ xs) (suc n) x h = get_pairs xs n x h
+-- the cursor's words about the key at hand
+abbrev pub Says : Placed → List ℕ → Type 0
+Says block bytes = (index : ℕ) (pair : Pair) → block.place ≡ Some index → slice_get block.pairs index ≡ Some pair → bytes ≡ pair.key
 
-pub is_at_by : (xs : List KeyValue) (n : ℕ) (x : KeyValue) (bytes key : List ℕ) (b : Bool) → slice_get xs n ≡ Some x → bytes ≡ x.key → MatchBool b (bytes ≡ key) (bytes ≡ key → ⊥)
-    → MatchBool b ((pair : Pair) → slice_get (pairs_of xs) n ≡ Some pair → pair.key ≡ key) ((pair : Pair) → slice_get (pairs_of xs) n ≡ Some pair → pair.key ≡ key → ⊥)
-is_at_by xs n x bytes key true at e h = λ pair is.
-    let both : Some (pair_of x) ≡ Some pair = sym (get_pairs xs n x at) ∙ is in
-    let same : pair_of x ≡ pair = cc in
-    sym (ap (λ (p : Pair). p.key) same) ∙ sym e ∙ h
-is_at_by xs n x bytes key false at e h = λ pair is k.
-    let both : Some (pair_of x) ≡ Some pair = sym (get_pairs xs n x at) ∙ is in
-    let same : pair_of x ≡ pair = cc in
-    h (e ∙ ap (λ (p : Pair). p.key) same ∙ k)
+pub is_at_by : (block : Placed) (bytes key : List ℕ) (b : Bool) → Says block bytes → MatchBool b (bytes ≡ key) (bytes ≡ key → ⊥)
+    → MatchBool b ((at : ℕ) (pair : Pair) → IsPairAt block at pair → pair.key ≡ key) ((at : ℕ) (pair : Pair) → IsPairAt block at pair → pair.key ≡ key → ⊥)
+is_at_by block bytes key true says h = λ at pair is. sym (says at pair is.0 is.1) ∙ h
+is_at_by block bytes key false says h = λ at pair is k. h (says at pair is.0 is.1 ∙ k)
 
-pub key_found : (xs : List KeyValue) (n : ℕ) (x : KeyValue) (bytes : List ℕ) (result : Option InternalKey) → slice_get xs n ≡ Some x → bytes ≡ x.key
-    → MatchOption result ((key : Key) → IsKey bytes key → ⊥) (λ (k : InternalKey). IsKey bytes (key_of k))
-    → MatchOption result ((key : Key) → IsKeyAt (pairs_of xs) n key → ⊥) (λ (k : InternalKey). IsKeyAt (pairs_of xs) n (key_of k))
-key_found xs n x bytes None at e h = λ key is.
-    let both : Some (pair_of x) ≡ Some is.0 = sym (get_pairs xs n x at) ∙ is.1 in
-    let same : pair_of x ≡ is.0 = cc in
-    h key (subst (λ (b : List ℕ). IsKey b key) (sym (ap (λ (p : Pair). p.key) same) ∙ sym e) is.2)
-key_found xs n x bytes (Some k) at e h = (pair_of x, get_pairs xs n x at, subst (λ (b : List ℕ). IsKey b (key_of k)) e h)
+pair_there : (xs : List Pair) (n : ℕ) → n < length xs → (x : Pair) × (slice_get xs n ≡ Some x)
+pair_there [] n lt = absurd (omega (arith, lt))
+pair_there (x ∷ xs) zero lt = (x, refl)
+pair_there (x ∷ xs) (suc n) lt = pair_there xs n (omega (arith, lt))
+
+-- what unpacks is the key at hand
+pub key_here : (block : Placed) (at : ℕ) (bytes : List ℕ) (key : Key) → IsHere block at → Says block bytes → IsKey bytes key → IsKeyAt block.pairs at key
+key_here block at bytes key here says is = let p = pair_there block.pairs at here.1 in (p.0, p.1, subst (λ (b : List ℕ). IsKey b key) (says at p.0 here.0 p.1) is)
+
+-- what doesn't is none
+pub no_key_here : (block : Placed) (at : ℕ) (bytes : List ℕ) → IsHere block at → Says block bytes → ((key : Key) → IsKey bytes key → ⊥) → (key : Key) → IsKeyAt block.pairs at key → ⊥
+no_key_here block at bytes here says none key is = none key (subst (λ (b : List ℕ). IsKey b key) (sym (says at is.0 here.0 is.1)) is.2)
 
 one_key_at : (pairs : List Pair) (at : ℕ) (k l : Key) → IsKeyAt pairs at k → IsKeyAt pairs at l → k ≡ l
 one_key_at pairs at k l h j =
@@ -91,25 +85,24 @@ block_more cmp old now new table next index pairs h reads block t file there fou
     let is = subst (λ (x : List ℕ). IsCheckedAt cmp x table.frame index pairs) (same_file now table.name b.0 file b.1 here) b.2 in
     begun_more cmp file table.frame index found pairs (h.begun (reads.faithful t) file there found begun) is
 
-pub skipped_more : (cmp : List ℕ → List ℕ → Ordering) (old now new : Facts) (table : Opened) (next index : ℕ) (pairs : List KeyValue) → HasSkipped cmp old now table next index → Reads now new → new.failures ≡ now.failures
-    → Finds now new table.name (λ (file : List ℕ). IsCheckedAt cmp file table.frame index (pairs_of pairs)) → pairs ≡ [] → HasSkipped cmp old new table next (index + 1)
+pub skipped_more : (cmp : List ℕ → List ℕ → Ordering) (old now new : Facts) (table : Opened) (next index : ℕ) (pairs : List Pair) → HasSkipped cmp old now table next index → Reads now new → new.failures ≡ now.failures
+    → Finds now new table.name (λ (file : List ℕ). IsCheckedAt cmp file table.frame index pairs) → pairs ≡ [] → HasSkipped cmp old new table next (index + 1)
 skipped_more cmp old now new table next index pairs h reads still block none = record {
   reads = reads_then old now new h.reads reads;
   stood = still ∙ h.stood;
   begun = λ t file there found begun.
-      let more = block_more cmp old now new table next index (pairs_of pairs) h reads block t file there found begun in
-      let e : found ++ pairs_of pairs ≡ found = ap (λ (ps : List KeyValue). found ++ pairs_of ps) none ∙ append-nil found in
+      let more = block_more cmp old now new table next index pairs h reads block t file there found begun in
+      let e : found ++ pairs ≡ found = ap (λ (ps : List Pair). found ++ ps) none ∙ append-nil found in
       subst (λ (ps : List Pair). IsBegun cmp file table.frame (index + 1) ps) e more;
 }
 
-pub skipped_all : (cmp : List ℕ → List ℕ → Ordering) (old now : Facts) (table : Opened) (next index count : ℕ) (pairs : List KeyValue) → HasSkipped cmp old now table next index → count ≡ length table.frame.places → count ≤ index → pairs ≡ []
-    → Answers old now table.name (λ (file : List ℕ). (found : List Pair) → IsBegun cmp file table.frame next found → IsBegun cmp file table.frame count (found ++ pairs_of pairs))
-skipped_all cmp old now table next index count pairs h all past none t file there found begun =
+pub skipped_all : (cmp : List ℕ → List ℕ → Ordering) (old now : Facts) (table : Opened) (next index : ℕ) → HasSkipped cmp old now table next index → length table.frame.places ≤ index
+    → Answers old now table.name (λ (file : List ℕ). AddsPairs cmp file table.frame next (length table.frame.places) [])
+skipped_all cmp old now table next index h past t file there found begun =
     let b = h.begun t file there found begun in
     let le = b.within in
-    let same : index ≡ count = omega (arith, all, past, le) in
-    let e : found ≡ found ++ pairs_of pairs = sym (append-nil found) ∙ ap (λ (ps : List KeyValue). found ++ pairs_of ps) (sym none) in
-    subst (λ (ps : List Pair). IsBegun cmp file table.frame count ps) e (subst (λ (n : ℕ). IsBegun cmp file table.frame n found) same b)
+    let same : index ≡ length table.frame.places = omega (arith, past, le) in
+    subst (λ (ps : List Pair). IsBegun cmp file table.frame (length table.frame.places) ps) (sym (append-nil found)) (subst (λ (n : ℕ). IsBegun cmp file table.frame n found) same b)
 
 -- a block isn't read
 pub skipped_not : (cmp : List ℕ → List ℕ → Ordering) (e : DbError) (old now new : Facts) (table : Opened) (next index : ℕ) → index < length table.frame.places → HasSkipped cmp old now table next index → Reads now new
