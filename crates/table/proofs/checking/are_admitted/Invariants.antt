@@ -1,12 +1,13 @@
-use Rattle.std.proofs.Common.{drop}
+use Rattle.std.specs.Prelude.{List}
 use Rattle.std.specs.List.{AllByRecursion}
+use Rattle.ikey.specs.Entries.{Pair}
 use Rattle.table.specs.Checking.{IsAdmitted}
-use Rattle.table.specs.Views.{pairs_of}
+use Rattle.table.proofs.Walks.{IsWalked, left_at}
 use Rattle.table.proofs.checking.are_admitted.Given as goal
 
--- the pairs that are left are admitted where all are
-abbrev pub invariant-loop-pair : goal.invariant-loop-pair
-invariant-loop-pair l = record {
-  to : AllByRecursion (IsAdmitted l.filter l.offset) (pairs_of (drop l.pair-index l.pairs)) → AllByRecursion (IsAdmitted l.filter l.offset) (pairs_of l.pairs);
-  from : AllByRecursion (IsAdmitted l.filter l.offset) (pairs_of l.pairs) → AllByRecursion (IsAdmitted l.filter l.offset) (pairs_of (drop l.pair-index l.pairs));
-}
+-- the pairs in front of the cursor are admitted
+abbrev pub invariant-loop-cursor : goal.invariant-loop-cursor
+invariant-loop-cursor g l = (found : List Pair) × IsWalked l.initial.cursor.pairs l.cursor found × AllByRecursion (IsAdmitted l.filter l.offset) found
+
+abbrev pub decreases-loop-cursor : goal.decreases-loop-cursor
+decreases-loop-cursor g l = left_at l.cursor.pairs l.cursor.place
