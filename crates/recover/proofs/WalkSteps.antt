@@ -1,9 +1,10 @@
 -- Steps of a walk over a table.
 use Rattle.std.proofs.Common.{◌≡◌, ◌<◌, ◌≤◌, ◌+◌, ℕ, zero, suc, Bool, true, false, MatchBool, List, [], ◌∷◌, ◌++◌, length, Option, Some, None, refl, sym, ap, ◌∙◌, subst, arith}
 use Rattle.std.proofs.lemmas.List.{append-nil}
-use Rattle.std.specs.Prelude.{slice_get}
+use Rattle.std.proofs.lemmas.Bool.{cond_below}
+use Rattle.std.specs.Prelude.{slice_get, option_and_then, is_some}
 use Rattle.std.specs.declared.cmp.Ordering.{Ordering}
-use Rattle.block.specs.Places.{Placed}
+use Rattle.block.specs.Places.{Placed, within, index_behind}
 use Rattle.coding.specs.declared.error.DbError.{DbError}
 use Rattle.coding.specs.declared.error.DbError.TheVariants.{OutOfMemory, Io, Corrupt, Unsupported}
 use Rattle.ikey.specs.Below.{same_key}
@@ -19,8 +20,10 @@ use Rattle.table.specs.Reading.{Reads, Finds, Answers, Refuses}
 use Rattle.table.specs.Refusals.{IsUnsupported, IsOfOne}
 use Rattle.table.specs.Table.{IsTable}
 use Rattle.table.proofs.Begun.{begun_more, wrong_none, unsupported_one}
+use Rattle.table.proofs.Walks.{stood, not_stood, within_yes}
 use Rattle.table.proofs.Steps.{reads_then, file_on, same_file}
-use Rattle.recover.specs.internal.Walking.{stamp, IsKeyAt, IsHere, IsPairAt, AddsPairs}
+use Rattle.recover.specs.internal.Walking.{stamp, IsKeyAt, IsHere, IsPairAt, HasMore, HasNoMore, AddsPairs}
+use Rattle.recover.specs.internal.Checks.{first_key}
 
 -- ---- pairs
 
@@ -45,6 +48,40 @@ key_here block at bytes key here says is = let p = pair_there block.pairs at her
 -- what doesn't is none
 pub no_key_here : (block : Placed) (at : ℕ) (bytes : List ℕ) → IsHere block at → Says block bytes → ((key : Key) → IsKey bytes key → ⊥) → (key : Key) → IsKeyAt block.pairs at key → ⊥
 no_key_here block at bytes here says none key is = none key (subst (λ (b : List ℕ). IsKey b key) (sym (says at is.0 here.0 is.1)) is.2)
+
+-- the first key is this one; it isn't
+pub first_by : (pairs : List Pair) (key : List ℕ) → 0 < length pairs → ((pair : Pair) → slice_get pairs 0 ≡ Some pair → pair.key ≡ key) → first_key pairs ≡ Some key
+first_by [] key some all = absurd (omega (arith, some))
+first_by (p ∷ pairs) key some all = ap (λ (k : List ℕ). Some k) (all p refl)
+
+pub not_first_by : (pairs : List Pair) (key : List ℕ) → ((pair : Pair) → slice_get pairs 0 ≡ Some pair → pair.key ≡ key → ⊥) → first_key pairs ≡ Some key → ⊥
+not_first_by [] key none e = let bad : None ≡ Some key = e in absurd cc
+not_first_by (p ∷ pairs) key none e = none p refl (let both : Some p.key ≡ Some key = e in cc)
+
+-- a step leads to the next pair
+pub stepped : (old new : Placed) (n : ℕ) → HasMore old → old.place ≡ Some n → new ≡ record old { place = option_and_then (index_behind old.pairs) old.place } → (new.pairs ≡ old.pairs) × IsHere new (n + 1)
+stepped old new n more place step =
+    let both : Some more.0 ≡ Some n = sym more.1 ∙ place in
+    let same : more.0 ≡ n = cc in
+    let lt : suc n < length old.pairs = omega (arith, same, more.2) in
+    let e : suc n ≡ n + 1 = omega arith in
+    let there : within old.pairs (suc n) ≡ Some (suc n) = sym (cond_below (suc n) (length old.pairs) (Some (suc n)) None lt) in
+    let pairs : new.pairs ≡ old.pairs = ap (λ (p : Placed). p.pairs) step in
+    let at : new.place ≡ Some (n + 1) = ap (λ (p : Placed). p.place) step ∙ ap (option_and_then (index_behind old.pairs)) place ∙ there ∙ ap (λ (m : ℕ). Some m) e in
+    (pairs, (at, subst (λ (ps : List Pair). n + 1 < length ps) (sym pairs) (omega (arith, lt))))
+
+-- a cursor that was put on the first pair
+pub first_stands : (pairs : List Pair) (block : Placed) → block ≡ record { pairs = pairs; place = within pairs 0 } → is_some (within pairs 0) ≡ true → IsHere block 0
+first_stands pairs block e stands =
+    let some : 0 < length pairs = stood pairs 0 stands in
+    (ap (λ (b : Placed). b.place) e ∙ within_yes pairs 0 some, subst (λ (b : Placed). 0 < length b.pairs) (sym e) some)
+
+pub none_within : (pairs : List Pair) → is_some (within pairs 0) ≡ false → pairs ≡ []
+none_within pairs none = empty pairs (not_stood pairs 0 none)
+  where
+    empty : (xs : List Pair) → length xs ≤ 0 → xs ≡ []
+    empty [] few = refl
+    empty (x ∷ xs) few = absurd (omega (arith, few))
 
 one_key_at : (pairs : List Pair) (at : ℕ) (k l : Key) → IsKeyAt pairs at k → IsKeyAt pairs at l → k ≡ l
 one_key_at pairs at k l h j =

@@ -306,10 +306,7 @@ fn first_head<O: EntryOrder>(alloc: Global, block: &BlockCursor<O>) -> Result<He
 }
 
 // Takes the key of the pair at hand, where it comes behind the one that was taken before.
-fn rise<K: KeyOrder>(
-    head: &mut Head,
-    block: &BlockCursor<Internal<K>>,
-) -> Result<bool, AllocError>
+fn rise<K: KeyOrder>(head: &mut Head, block: &BlockCursor<Internal<K>>) -> Result<bool, AllocError>
     requires { (at : ℕ) × IsHere block.now at }
     ensures { IfOk result (λ rises. (at : ℕ) → IsHere block.now at → MatchBool rises
         ((key : Key) × IsKeyAt block.now.pairs at key × (key.user ≡ head.new.user.items) × (key.sequence ≡ head.new.sequence)

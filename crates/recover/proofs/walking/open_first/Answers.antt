@@ -1,12 +1,11 @@
-use Rattle.std.proofs.Common.{◌≡◌, ◌<◌, ℕ, List, [], length, refl, sym, ap, ◌∙◌, subst}
+use Rattle.std.proofs.Common.{rules, ◌≡◌, ℕ, List, [], None, length, refl, arith}
+use Rattle.std.proofs.lemmas.Option.{MatchOption-at_some, MatchOption-at_none}
 use Rattle.std.proofs.lemmas.Result.{err_from_is_err_and}
 use Rattle.ikey.specs.Entries.{InternalEntry}
 use Rattle.ikey.specs.Orders.{order_of}
 use Rattle.table.specs.Frame.{Frame, IsFrame, IsOversized}
 use Rattle.table.specs.Refusals.{IsUnsupported, IsOfOne, IsFrameDamaged}
 use Rattle.table.specs.Table.{IsTable}
-use Rattle.table.specs.Views.{pairs_of}
-use Rattle.table.specs.declared.pair.KeyValue.{KeyValue}
 use Rattle.recover.proofs.NotSupported.{told_frame, told_blocks}
 use Rattle.recover.proofs.ReadTables.{no_frame, no_entries, table_still}
 use Rattle.recover.proofs.WalkReads.{as_all, opened_found, none_at_all}
@@ -55,20 +54,22 @@ returns-in_err-read-clause-told g c =
     rw (p.1, p.2) (told_blocks (order_of g.K.KeyOrder.name cmp) c.in_err-read.field-0.0 (g.S.Store.facts c.args.store.now) (g.S.Store.facts c.open.new.store) (g.S.Store.facts c.next_block.new.store) c.args.name.now c.in_ok-table.table
     (λ (file : List ℕ). (entries : List InternalEntry) → IsFrame cmp file frame → IsTable cmp file entries → ⊥) c.in_ok-table.ensures.reads c.in_err-read.ensures.reads c.in_ok-table.ensures.name c.in_ok-table.ensures.found c.in_err-read.ensures.told)
 
-pub returns-then-has_none-clause-refused : goal.returns-then-has_none-clause-refused
-returns-then-has_none-clause-refused g c = rw c.note_file.ensures.same (λ t bytes kept there is.
+pub returns-in_default-clause-refused : goal.returns-in_default-clause-refused
+returns-in_default-clause-refused g c = rw c.note_file.ensures.same (λ t bytes kept there is.
     let cmp = g.K.KeyOrder.cmp in
-    let read = c.in_ok-read.read in
-    let none : read.pairs.items ≡ [] = sym c.deref.ensures.value ∙ c.if-has_none.ensures in
-    let o = opened_found cmp (g.S.Store.facts c.args.store.now) (g.S.Store.facts c.open.new.store) (g.S.Store.facts c.next_block.new.store) c.args.name.now c.in_ok-table.table read.next (pairs_of read.pairs.items)
-    c.in_ok-table.ensures.reads c.in_ok-read.ensures.reads c.in_ok-table.ensures.name c.in_ok-table.ensures.found c.in_ok-read.ensures.found t bytes there in
-    absurd (none_at_all cmp bytes c.in_ok-table.table.frame read.next (pairs_of read.pairs.items) kept o.0 o.1 (c.in_ok-read.ensures.end none) (ap (λ (ps : List KeyValue). pairs_of ps) none) is))
+    let table = c.in_ok-table.table in
+    let none : c.in_ok-read.field-0 ≡ None = search rules in
+    let found = MatchOption-at_none _ _ none c.in_ok-read.ensures.found in
+    let o = opened_found cmp (g.S.Store.facts c.args.store.now) (g.S.Store.facts c.open.new.store) (g.S.Store.facts c.next_block.new.store) c.args.name.now table (length table.frame.places) []
+    c.in_ok-table.ensures.reads c.in_ok-read.ensures.reads c.in_ok-table.ensures.name c.in_ok-table.ensures.found found t bytes there in
+    absurd (none_at_all cmp bytes table.frame (length table.frame.places) [] kept o.0 o.1 (omega arith) refl is))
 
 pub returns-clause-found : goal.returns-clause-found
 returns-clause-found g c =
-    let read = c.in_ok-read.read in
-    opened_found g.K.KeyOrder.cmp (g.S.Store.facts c.args.store.now) (g.S.Store.facts c.open.new.store) (g.S.Store.facts c.next_block.new.store) c.args.name.now c.in_ok-table.table read.next (pairs_of read.pairs.items)
-    c.in_ok-table.ensures.reads c.in_ok-read.ensures.reads c.in_ok-table.ensures.name c.in_ok-table.ensures.found c.in_ok-read.ensures.found
+    let read = c.in-Some.read in
+    let found = MatchOption-at_some _ _ _ c.in-Some.is c.in_ok-read.ensures.found in
+    opened_found g.K.KeyOrder.cmp (g.S.Store.facts c.args.store.now) (g.S.Store.facts c.open.new.store) (g.S.Store.facts c.next_block.new.store) c.args.name.now c.in_ok-table.table read.next read.block.pairs
+    c.in_ok-table.ensures.reads c.in_ok-read.ensures.reads c.in_ok-table.ensures.name c.in_ok-table.ensures.found found
 
-pub returns-clause-some : goal.returns-clause-some
-returns-clause-some g c = subst (λ (ps : List KeyValue). 0 < length ps) c.deref.ensures.value c.if-has_none.ensures
+pub returns-clause-first : goal.returns-clause-first
+returns-clause-first g c = c.in_ok-read.ensures.first c.in-Some.read c.in-Some.is
