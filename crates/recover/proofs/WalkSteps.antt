@@ -1,5 +1,5 @@
 -- Steps of a walk over a table.
-use Rattle.std.proofs.Common.{◌≡◌, ◌<◌, ◌≤◌, ◌+◌, ℕ, zero, suc, Bool, true, false, MatchBool, List, [], ◌∷◌, ◌++◌, length, Option, Some, None, refl, sym, ap, ◌∙◌, subst, arith}
+use Rattle.std.proofs.Common.{◌≡◌, ◌<◌, ◌≤◌, ◌+◌, ℕ, zero, suc, Bool, true, false, MatchBool, List, [], ◌∷◌, ◌++◌, length, Some, None, refl, sym, ap, ◌∙◌, subst, arith}
 use Rattle.std.proofs.lemmas.List.{append-nil}
 use Rattle.std.proofs.lemmas.Bool.{cond_below}
 use Rattle.std.specs.Prelude.{slice_get, option_and_then, is_some}
@@ -22,7 +22,7 @@ use Rattle.table.specs.Table.{IsTable}
 use Rattle.table.proofs.Begun.{begun_more, wrong_none, unsupported_one}
 use Rattle.table.proofs.Walks.{stood, not_stood, within_yes}
 use Rattle.table.proofs.Steps.{reads_then, file_on, same_file}
-use Rattle.recover.specs.internal.Walking.{stamp, IsKeyAt, IsHere, IsPairAt, HasMore, HasNoMore, AddsPairs}
+use Rattle.recover.specs.internal.Walking.{stamp, IsKeyAt, IsHere, IsPairAt, HasMore, AddsPairs}
 use Rattle.recover.specs.internal.Checks.{first_key}
 
 -- ---- pairs

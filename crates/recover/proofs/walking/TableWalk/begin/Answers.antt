@@ -4,7 +4,6 @@ use Rattle.std.proofs.lemmas.Result.{err_from_is_err_and}
 use Rattle.ikey.specs.Keys.{Key}
 use Rattle.ikey.specs.Orders.{order_of}
 use Rattle.recover.specs.internal.Checks.{Never, IsOnly, first_key}
-use Rattle.recover.specs.internal.Parts.{RefusesBytes}
 use Rattle.recover.specs.internal.Walking.{IsKeyAt}
 use Rattle.recover.specs.Limits.{IsUnsupportedFile}
 use Rattle.recover.specs.Ranges.{HasFileOfTable}
