@@ -25,10 +25,10 @@ use Rattle.memtables.specs.Places.{ListsMemories}
 use Rattle.memtable.specs.Contents.{Contents as MemoryContents}
 use Rattle.db_cursor.specs.Rows.{IsGenerationOf}
 use Rattle.db_cursor.specs.internal.Rows.{memory_spots, place_in, spot_of, spots_of}
-use Rattle.db_cursor.specs.Scans.{BeginsScan, IsOnePastLimit, ListsMerged, reads_memory, reads_table, tables_of}
+use Rattle.db_cursor.specs.Scans.{IsOnePastLimit, IsOneTornFile, ListsMerged, MayBeginScan, reads_memory, reads_table, tables_of}
 use Rattle.db_cursor.specs.Whole.{Whole}
 use Rattle.db_cursor.proofs.Joining.{all_entries, entries_of, seen_from, seen_has, union_from, union_has, view_up_to}
-use Rattle.db_cursor.proofs.NewScans.{HaveUnions, IsNew, RowsBegin, all_limited, all_listed, all_new, cursors_of, in_front, keeps_new, merge_begun, new_at, none_torn, seen_current, seen_sealed, version_intact}
+use Rattle.db_cursor.proofs.NewScans.{HaveUnions, IsNew, RowsBegin, all_limited, all_listed, all_new, all_torn, cursors_of, in_front, keeps_new, merge_begun, new_at, seen_current, seen_sealed}
 use Rattle.db_cursor.proofs.ReadTables.{new_there, sealed_none}
 use Rattle.db_cursor.proofs.Slices.{all_ranges}
 use Rattle.db_cursor.proofs.ViewPairs.{listed_again, pairs_of_view}
@@ -143,7 +143,7 @@ module _ {K : Type 0} {g : _} (order : Order) (total : IsTotalOrder order.cmp)
           | inr j ↦ join_three sealed inserts rest e (behind_from whole.memory.sealed refl e j)
         ])
 
-  pub begins_scan : (sequence ≤ whole.memory.last → up_to ≡ sequence) → BeginsScan order tables sequence whole scan
+  pub begins_scan : (sequence ≤ whole.memory.last → up_to ≡ sequence) → MayBeginScan order tables sequence whole scan
   begins_scan least contents view below sound has newer seen_view =
       let rest = joined (table_sources contents) in
       let listing = all_listed order whole tables contents has in_order sound begins up_to are memory cursors spots in
@@ -163,7 +163,7 @@ module _ {K : Type 0} {g : _} (order : Order) (total : IsTotalOrder order.cmp)
           bound = λ old new k i child is. keeps_new (reads_memory scan) scan.walk.sequence tables order.cmp (reads_table scan) child.cursor old new (λ number over. inr (i, child, is, over))
               (new_at (reads_memory scan) scan.walk.sequence tables children news i child is) k;
           limits = λ l. subst (λ (ts : List PlacedTable). IsOnePastLimit order.cmp ts whole) (sym version) (all_limited (reads_memory scan) scan.walk.sequence tables children news order.cmp whole lists listing.2 l);
-          intact = none_torn (reads_memory scan) scan.walk.sequence tables children news order.cmp whole (version_intact order total whole tables contents sound has);
+          torn = λ cut t. subst (λ (ts : List PlacedTable). IsOneTornFile order.cmp ts whole cut) (sym version) (all_torn (reads_memory scan) scan.walk.sequence tables children news order.cmp whole lists listing.2 cut t);
           walk = (
             union,
             subst (λ (ps : List Pair). IsViewList order.cmp union scan.walk.sequence ps) (sym again) (subst (λ (n : ℕ). IsViewList order.cmp union n viewed.0) (sym (same ∙ at)) viewed.1),

@@ -3,6 +3,7 @@ pub mod FirstPlaces
 pub mod Joining
 pub mod KeptMerges
 pub mod NewScans
+pub mod Origins
 pub mod OwnSequences
 pub mod Ranges
 pub mod ReadTables
@@ -13,5 +14,7 @@ pub mod SourceSteps
 pub mod TableMerges
 pub mod TableNames
 pub mod TakenBack
+pub mod Untorn
 pub mod ViewPairs
+pub mod WholeScans
 pub mod WritesBeside

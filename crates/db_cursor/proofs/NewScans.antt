@@ -19,12 +19,12 @@ use Rattle.ikey.specs.Orders.{Order}
 use Rattle.ikey.specs.declared.key_order.KeyOrder.{Ghosts}
 use Rattle.ikey.specs.Sources.{AreInRow, AreSearched, AreSorted, joined}
 use Rattle.ikey.proofs.SearchedSources as sources
-use Rattle.recover.specs.Tables.{TableContent, HasTables}
+use Rattle.recover.specs.Tables.{TableContent}
 use Rattle.recover.proofs.NameScan.{in_cons, in_none}
 use Rattle.level_cursor.specs.declared.row_cursor.RowCursor.{RowCursor}
-use Rattle.level_cursor.specs.InRows.{ListsNumber, HaveLists, IsOpenLimited, IsOpenNumber, IsOpenTorn, IsTornOne}
+use Rattle.level_cursor.specs.InRows.{ListsNumber, HaveLists, IsOpenLimited, IsOpenNumber, IsOpenTorn, IsTornFile}
 use Rattle.level_cursor.specs.RowLists.{member_at}
-use Rattle.level_cursor.specs.Rows.{ListsRow, rows_tables}
+use Rattle.level_cursor.specs.Rows.{ListsRow, MayBeTables, rows_tables}
 use Rattle.level_cursor.proofs.Beginning.{whole_all}
 use Rattle.db_cursor.specs.declared.source_cursor.SourceCursor.{SourceCursor}
 use Rattle.db_cursor.specs.declared.source_cursor.SourceCursor.TheVariants.{Memory, Row}
@@ -34,15 +34,16 @@ use Rattle.memtables.specs.Places.{ListsMemories, MemoriesPlace}
 use Rattle.memtable.specs.Contents.{Contents as MemoryContents}
 use Rattle.db_cursor.specs.Rows.{IsGenerationOf}
 use Rattle.db_cursor.specs.internal.Rows.{OfMemory, OfRow, memory_spots, place_in, spot_of, spots_of}
-use Rattle.db_cursor.specs.Scans.{IsOnePastLimit, KeepsWhole}
+use Rattle.db_cursor.specs.Scans.{IsOnePastLimit, IsOneTornFile, KeepsWhole}
 use Rattle.db_cursor.specs.internal.SourceLaws.{source_rises}
 use Rattle.db_cursor.specs.Whole.{Whole}
 use Rattle.db_cursor.proofs.Joining.{all_entries, entries_of, share_none}
-use Rattle.db_cursor.proofs.Slices.{IsRow, Kept, LevelsRise, all_ranges, all_rows, entries_in, kept_joined, kept_searched, kept_sources, placed_of, slice}
-use Rattle.version_laws.specs.Places.{HasVersion, lists_of, table_sources}
+use Rattle.db_cursor.proofs.Slices.{IsRow, Kept, LevelsRise, all_ranges, may_be_each, all_rows, entries_in, kept_joined, kept_searched, kept_sources, placed_of, slice}
+use Rattle.version_laws.specs.Places.{HasVersion, MayHaveVersion, lists_of, table_sources}
 use Rattle.version_laws.proofs.Orders.{ForTwo, for_two}
 use Rattle.db_cursor.proofs.ReadTables.{current_there, files_kept, row_kept, sealed_there}
 use Rattle.table_access.specs.Memory.{seen_entries}
+use Rattle.table_access.specs.Possible.{MayBeTable}
 use Rattle.table_access.specs.Tables.{Seen, HasSoundTable, IsSound}
 use Rattle.std.proofs.lemmas.Option.{slice_get-map}
 use Rattle.store.specs.Files.{Files}
@@ -181,11 +182,13 @@ module _ {K : Type 0} {g : _} (reads : ℕ → Type 0) (sequence : ℕ) (tables 
       (l.0, subst (λ (ts : List PlacedTable). Contains ts l.0) h.1 (row_within cursor l.0 l.1), file.0, file.1.file_is, l.2 file.0 file.1)
   limited_new cmp (Row cursor) whole list h lists (inr l) = absurd (subst (λ o. IsOpenLimited o) h.0 l)
 
-  torn_new : (cmp : Cmp) (cursor : SourceCursor K g) (whole : Whole) → ((placed : PlacedTable) → Contains tables placed → (cut : Cut) → IsTornOne cmp whole.seen placed cut → ⊥) → New cursor → (cut : Cut) → TornSource cmp cursor whole cut → ⊥
-  torn_new cmp (Memory cursor) whole intact h cut t = t
-  torn_new cmp (Row cursor) whole intact h cut (inl t) =
-      intact t.placed (subst (λ (ts : List PlacedTable). Contains ts t.placed) h.1 (row_within cursor t.placed (member_at (rows_tables cursor) t.index t.placed t.placed_is))) cut t.torn
-  torn_new cmp (Row cursor) whole intact h cut (inr t) = absurd (subst (λ o. IsOpenTorn cmp whole.seen (rows_tables cursor) o cut) h.0 t)
+  torn_new : (cmp : Cmp) (cursor : SourceCursor K g) (whole : Whole) (list : List InternalEntry) → New cursor → ListsSource cmp cursor whole (listed list None) → (cut : Cut) → TornSource cmp cursor whole cut → IsOneTornFile cmp tables whole cut
+  torn_new cmp (Memory cursor) whole list h lists cut t = absurd t
+  torn_new cmp (Row cursor) whole list h lists cut (inl t) =
+      let there = member_at (rows_tables cursor) t.index t.placed t.placed_is in
+      let file = has_file cmp whole.seen (rows_tables cursor) lists.lists t.placed lists.tables there in
+      (t.placed, subst (λ (ts : List PlacedTable). Contains ts t.placed) h.1 (row_within cursor t.placed there), file.0, file.1.file_is, t.torn file.0 file.1)
+  torn_new cmp (Row cursor) whole list h lists cut (inr t) = absurd (subst (λ o. IsOpenTorn cmp whole.seen (rows_tables cursor) o cut) h.0 t)
 
   module _ (children : List (Child (SourceCursor K g))) (news : AllByRecursion New (cursors_of children)) where
     pub new_at : (i : ℕ) (child : Child (SourceCursor K g)) → slice_get children i ≡ Some child → New child.cursor
@@ -202,15 +205,22 @@ module _ {K : Type 0} {g : _} (reads : ℕ → Type 0) (sequence : ℕ) (tables 
         let list = two_has (λ (cursor : SourceCursor K g) (list : List InternalEntry). ListsSource cmp cursor whole (listed list None)) (cursors_of children) lists l.0 l.1.cursor each (cursor_at children l.0 l.1 l.2) in
         limited_new cmp l.1.cursor whole list.0 (new_at l.0 l.1 l.2) list.1 l.3
 
-    -- and come to torn blocks only where one of these has some
-    pub none_torn : (cmp : Cmp) (whole : Whole) → ((placed : PlacedTable) → Contains tables placed → (cut : Cut) → IsTornOne cmp whole.seen placed cut → ⊥) → (cut : Cut) → AnyTorn (TornSource cmp) children whole cut → ⊥
-    none_torn cmp whole intact cut t = torn_new cmp t.1.cursor whole intact (new_at t.0 t.1 t.2) cut t.3
+    -- and come to torn blocks only where the file of one of these has some
+    pub all_torn : (cmp : Cmp) (whole : Whole) (lists : List (List InternalEntry)) → AllTwo (λ (cursor : SourceCursor K g) (list : List InternalEntry). ListsSource cmp cursor whole (listed list None)) (cursors_of children) lists
+        → (cut : Cut) → AnyTorn (TornSource cmp) children whole cut → IsOneTornFile cmp tables whole cut
+    all_torn cmp whole lists each cut t =
+        let list = two_has (λ (cursor : SourceCursor K g) (list : List InternalEntry). ListsSource cmp cursor whole (listed list None)) (cursors_of children) lists t.0 t.1.cursor each (cursor_at children t.0 t.1 t.2) in
+        torn_new cmp t.1.cursor whole list.0 (new_at t.0 t.1 t.2) list.1 cut t.3
 
--- the tables of a version have no torn blocks
+-- the files of a version that is there aren't torn
 pub version_intact : (order : Order) → IsTotalOrder order.cmp → (whole : Whole) (tables : List PlacedTable) (contents : List TableContent) → IsSound order.cmp whole.seen → HasVersion order whole.seen.facts.files tables contents
-    → (placed : PlacedTable) → Contains tables placed → (cut : Cut) → IsTornOne order.cmp whole.seen placed cut → ⊥
-version_intact order total whole tables contents sound has placed i =
-    whole_all order total whole.seen contents sound has.are placed (subst (λ (ts : List PlacedTable). Contains ts placed) (sym has.placed) i)
+    → (cut : Cut) → IsOneTornFile order.cmp tables whole cut → ⊥
+version_intact order total whole tables contents sound has cut one =
+    whole_all order total whole.seen contents sound has.are one.0 (subst (λ (ts : List PlacedTable). Contains ts one.0) (sym has.placed) one.1) cut
+    (λ file there.
+    let both : Some one.2 ≡ Some file = sym one.3 ∙ there.file_is in
+    let same : one.2 ≡ file = cc in
+    subst (λ (bytes : List ℕ). IsTornFile order.cmp one.0 bytes cut) same one.4)
 
 module _ {K : Type 0} {g : _} (generation : ℕ) (sealed : Option ℕ) (sequence : ℕ) (tables : List PlacedTable) where
   abbrev NewOver : SourceCursor K g → Type 0
@@ -255,7 +265,7 @@ in_front cmp memory sequence (Some named) lists = seen_sealed cmp memory sequenc
 
 -- each row of tables is a list
 abbrev pub RowsBegin : (K : Type 0) → Ghosts K → Order → Type 0
-RowsBegin K g order = (source : Seen) (row : List TableContent) → IsSound order.cmp source → HasTables order source.facts.files row → AreInRow order (lists_of row)
+RowsBegin K g order = (source : Seen) (row : List TableContent) → IsSound order.cmp source → MayBeTables order source.facts.files row → AreInRow order (lists_of row)
     → (entries : List InternalEntry) × (map entry_of entries ≡ joined (lists_of row)) × ((cursor : RowCursor K g) → rows_tables cursor ≡ placed_of row → cursor.here ≡ None → ListsRow order.cmp source cursor (listed entries None))
 
 -- lists that share no key have a union
@@ -266,7 +276,7 @@ rows_sorted : (order : Order) (files : Files) (contents : List TableContent) (ra
 rows_sorted order files contents [] h = tt
 rows_sorted order files contents (range ∷ ranges) h = (sources.in_row order (lists_of (slice range contents)) h.0.1, rows_sorted order files contents ranges h.1)
 
-module _ {K : Type 0} {g : _} (order : Order) (whole : Whole) (tables : List PlacedTable) (contents : List TableContent) (has : HasVersion order whole.seen.facts.files tables contents) (in_order : AreInOrder order.cmp tables)
+module _ {K : Type 0} {g : _} (order : Order) (whole : Whole) (tables : List PlacedTable) (contents : List TableContent) (has : MayHaveVersion (MayBeTable order.cmp) order whole.seen.facts.files tables contents) (in_order : AreInOrder order.cmp tables)
     (sound : IsSound order.cmp whole.seen) (begins : RowsBegin K g order) where
   abbrev pub Lists : SourceCursor K g → List InternalEntry → Type 0
   Lists cursor list = ListsSource order.cmp cursor whole (listed list None)
@@ -279,7 +289,7 @@ module _ {K : Type 0} {g : _} (order : Order) (whole : Whole) (tables : List Pla
       let same : cursor.version.value.tables ≡ tables = cc in
       let from : cursor.from ≡ range.0 = cc in
       let end : cursor.end ≡ range.1 = cc in
-      let over : rows_tables cursor ≡ slice range (placed_of contents) = λ i. take (end i - from i) (drop (from i) ((same ∙ sym has.placed) i)) in
+      let over : rows_tables cursor ≡ slice range (placed_of contents) = λ i. take (end i - from i) (drop (from i) ((same ∙ sym has.fit.placed) i)) in
       let mapped : slice range (placed_of contents) ≡ placed_of (slice range contents) =
       ap (take (range.1 - range.0)) (drop-map (λ (t : TableContent). t.placed) range.0 contents) ∙ take-map (λ (t : TableContent). t.placed) (range.1 - range.0) (drop range.0 contents) in
       let list = begins whole.seen (slice range contents) sound row.0 row.1 in
@@ -304,14 +314,14 @@ module _ {K : Type 0} {g : _} (order : Order) (whole : Whole) (tables : List Pla
   pub all_rows_listed : (cursors : List (SourceCursor K g)) → map spot_of cursors ≡ spots_of tables (all_ranges tables) → Rows cursors
   all_rows_listed cursors e =
       let files = whole.seen.facts.files in
-      let rise = levels_rise order.cmp contents (subst (λ (ts : List PlacedTable). ForTwo (StandsBefore order.cmp) ts) (sym has.placed) (for_two (StandsBefore order.cmp) tables in_order.places)) in
-      let rows = subst (λ (ts : List PlacedTable). AllByRecursion (IsRow order files contents) (all_ranges ts)) has.placed (all_rows order files contents rise has.are has.rows) in
-      let kept = subst (λ (ts : List PlacedTable). Kept (map (entries_in contents) (all_ranges ts)) (table_sources contents)) has.placed (kept_sources contents rise) in
+      let rise = levels_rise order.cmp contents (subst (λ (ts : List PlacedTable). ForTwo (StandsBefore order.cmp) ts) (sym has.fit.placed) (for_two (StandsBefore order.cmp) tables in_order.places)) in
+      let rows = subst (λ (ts : List PlacedTable). AllByRecursion (IsRow order files contents) (all_ranges ts)) has.fit.placed (all_rows order files contents rise (may_be_each order files contents has.may has.fit.each) has.fit.rows) in
+      let kept = subst (λ (ts : List PlacedTable). Kept (map (entries_in contents) (all_ranges ts)) (table_sources contents)) has.fit.placed (kept_sources contents rise) in
       let listing = rows_listed (all_ranges tables) cursors e rows in (
         listing.0,
         listing.2,
         ap joined listing.1 ∙ kept_joined _ _ kept,
-        subst AreSearched (sym listing.1) (kept_searched _ _ kept has.searched),
+        subst AreSearched (sym listing.1) (kept_searched _ _ kept has.fit.searched),
         subst (AllByRecursion (AreSorted order)) (sym listing.1) (rows_sorted order files contents (all_ranges tables) rows),
       )
 

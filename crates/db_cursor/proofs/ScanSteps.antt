@@ -19,11 +19,12 @@ use Rattle.memtables.specs.Places.{MemoriesPlace, KeepsMemories, LeavesMemories}
 use Rattle.db_cursor.specs.declared.scan.Scan.{Scan}
 use Rattle.db_cursor.specs.declared.source_cursor.SourceCursor.{SourceCursor}
 use Rattle.db_cursor.specs.Places.{KeepsSource, LeavesSource, LimitedSource, ListsSource, OneGoesOver, TornSource}
-use Rattle.db_cursor.specs.internal.Scanning.{IsScanned, ReadsAs, ScanIsKept, ScanPastLimit, has_pair}
-use Rattle.db_cursor.specs.Scans.{IsOnePastLimit, KeepsScan, ListsMerged, reads_memory, reads_table, tables_of}
+use Rattle.db_cursor.specs.internal.Scanning.{IsScanned, MayBeIsKept, ReadsAs, ScanIsKept, ScanPastLimit, has_pair}
+use Rattle.db_cursor.specs.Scans.{IsOnePastLimit, IsOneTornFile, IsScanTorn, KeepsScan, ListsMerged, reads_memory, reads_table, tables_of}
 use Rattle.db_cursor.specs.internal.SourceLaws.{source_kept, source_limits, source_torn}
 use Rattle.db_cursor.specs.Whole.{Whole}
 use Rattle.store.specs.Files.{Facts}
+use Rattle.db_cursor.proofs.Untorn.{intact_scan, may_of}
 use Rattle.db_cursor.proofs.KeptMerges.{memory_as}
 use Rattle.db_cursor.proofs.ReadTables.{files_kept, read_after, read_before, source_stays, table_before, tables_as, there_kept, there_left}
 use Rattle.db_cursor.proofs.Sights.{merged_as, placed_as}
@@ -35,12 +36,19 @@ use Rattle.table.specs.Reading.{IsStill}
 limit_kept : {K : Type 0} {g : Ghosts K} (cmp : Cmp) (scan : Scan K g) (old new : Whole) → KeepsScan cmp scan old new → IsOnePastLimit cmp (tables_of scan) old → IsOnePastLimit cmp (tables_of scan) new
 limit_kept cmp scan old new k l = (l.0, l.1, l.2, k.files l.0.table.number (inl (l.0, l.1, refl)) ∙ l.3, l.4)
 
-pub scan_kept : {K : Type 0} {g : Ghosts K} (cmp : Cmp) (scan : Scan K g) → ScanIsKept cmp scan
-scan_kept cmp scan old new at k h = record {
+torn_kept : {K : Type 0} {g : Ghosts K} (cmp : Cmp) (scan : Scan K g) (old new : Whole) (cut : Cut) → KeepsScan cmp scan old new → IsOneTornFile cmp (tables_of scan) old cut → IsOneTornFile cmp (tables_of scan) new cut
+torn_kept cmp scan old new cut k t = (t.0, t.1, t.2, k.files t.0.table.number (inl (t.0, t.1, refl)) ∙ t.3, t.4)
+
+-- it comes to no further torn block
+torn_before : {K : Type 0} {g : Ghosts K} (cmp : Cmp) (scan : Scan K g) (old new : Whole) (cut : Cut) → KeepsAll (KeepsSource cmp) scan.walk.cursor.children.items old new → IsScanTorn cmp scan new cut → IsScanTorn cmp scan old cut
+torn_before cmp scan old new cut k t = any_torn_kept (KeepsSource cmp) (TornSource cmp) (source_torn cmp) scan.walk.cursor.children.items old new cut k t
+
+pub may_kept : {K : Type 0} {g : Ghosts K} (cmp : Cmp) (scan : Scan K g) → MayBeIsKept cmp scan
+may_kept cmp scan old new at k h = record {
   there = there_kept cmp (reads_memory scan) (reads_table scan) scan.walk.sequence old new k h.there;
   bound = h.bound;
   limits = λ l. limit_kept cmp scan old new k (h.limits (l.0, l.1, l.2, source_limits cmp l.1.cursor old new (h.bound old new k l.0 l.1 l.2) l.3));
-  intact = λ cut l. h.intact cut (any_torn_kept (KeepsSource cmp) (TornSource cmp) (source_torn cmp) scan.walk.cursor.children.items old new cut (h.bound old new k) l);
+  torn = λ cut t. torn_kept cmp scan old new cut k (h.torn cut (torn_before cmp scan old new cut (h.bound old new k) t));
   walk = (
     h.walk.0,
     h.walk.1,
@@ -51,19 +59,22 @@ scan_kept cmp scan old new at k h = record {
   );
 }
 
+pub scan_kept : {K : Type 0} {g : Ghosts K} (cmp : Cmp) (scan : Scan K g) → ScanIsKept cmp scan
+scan_kept cmp scan old new at k h = intact_scan cmp scan new at (may_kept cmp scan old new at k (may_of cmp scan old at h)) (λ cut t. h.intact cut (torn_before cmp scan old new cut (h.bound old new k) t))
+
 pub past_limit : {K : Type 0} {g : Ghosts K} (cmp : Cmp) (scan : Scan K g) → ScanPastLimit cmp scan
 past_limit cmp scan whole at h l = h.limits l
 
 -- ---- refusals
 
-refuses_more : (e : DbError) (old new : Facts) (damaged other limited : Type 0) → (damaged → other) → Refuses e old new damaged limited → Refuses e old new other limited
+pub refuses_more : (e : DbError) (old new : Facts) (damaged other limited : Type 0) → (damaged → other) → Refuses e old new damaged limited → Refuses e old new other limited
 refuses_more OutOfMemory old new damaged other limited f h = h
 refuses_more Io old new damaged other limited f h = h
 refuses_more (Corrupt file what) old new damaged other limited f h = λ t. f (h t)
 refuses_more (Unsupported what) old new damaged other limited f h = λ t. elim (h t) [ inl d ↦ inl (f d) | inr l ↦ inr l ]
 refuses_more e old new damaged other limited f h = absurd h
 
-if_refuses : (result : Result (Unit {0}) DbError) (old new : Facts) (damaged other limited : Type 0) → (damaged → other) → IfErr result (λ e. Refuses e old new damaged limited) → IfErr result (λ e. Refuses e old new other limited)
+pub if_refuses : (result : Result (Unit {0}) DbError) (old new : Facts) (damaged other limited : Type 0) → (damaged → other) → IfErr result (λ e. Refuses e old new damaged limited) → IfErr result (λ e. Refuses e old new other limited)
 if_refuses (Ok done) old new damaged other limited f h = h
 if_refuses (Err e) old new damaged other limited f h = refuses_more e old new damaged other limited f h
 
@@ -133,9 +144,13 @@ module _ {K : Type 0} {g : Ghosts K} {S : Type 0} (cmp : Cmp) (whole_of : S → 
             let past = h.limits (stays.limit t l) in
             subst (λ (tables : List PlacedTable). IsOnePastLimit cmp tables (whole_of after)) (sym (tables_as old new reads))
             (past.0, past.1, past.2, ap (λ files. table_at files past.0.table.number) (stays.reads.files t) ∙ past.3, past.4);
-        intact = λ cut l. h.intact cut (stays.tear t cut l);
+        torn = λ cut l.
+            let torn = h.torn cut (stays.tear t cut l) in
+            subst (λ (tables : List PlacedTable). IsOneTornFile cmp tables (whole_of after) cut) (sym (tables_as old new reads))
+            (torn.0, torn.1, torn.2, ap (λ files. table_at files torn.0.table.number) (stays.reads.files t) ∙ torn.3, torn.4);
         walk = seen_whole new after _ (moves t at (read_whole old before at h.walk));
       };
+      tear = λ t cut l. stays.tear t cut l;
       at_hand = at_hand;
       sequence = sequence;
       reads_as = reads;
@@ -151,7 +166,7 @@ module _ {K : Type 0} {g : Ghosts K} {S : Type 0} (cmp : Cmp) (whole_of : S → 
       still = still;
       stayed = stayed;
       left = left;
-      refused = if_refuses result (whole_of before).seen.facts (whole_of after).seen.facts _ _ _ (λ damaged at h. let torn = damaged at (read_whole old before at h.walk) in h.intact torn.0 torn.1) refused;
+      refused = if_refuses result (whole_of before).seen.facts (whole_of after).seen.facts _ _ _ (λ damaged at h. damaged at (read_whole old before at h.walk)) refused;
     }
       where
         stays_left : (place : MemoriesPlace) → LeavesMemories (whole_of before).memory (whole_of after).memory → KeepsMemories cmp place (whole_of before).memory (whole_of after).memory

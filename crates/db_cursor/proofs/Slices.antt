@@ -9,10 +9,12 @@ use Rattle.edits.specs.declared.field.PlacedTable.{PlacedTable}
 use Rattle.ikey.specs.declared.entry.Entry.{Entry}
 use Rattle.ikey.specs.Orders.{Order}
 use Rattle.ikey.specs.Sources.{AreInRow, AreSearched, IsNewerThan, joined}
-use Rattle.recover.specs.Tables.{TableContent, HasTables}
+use Rattle.recover.specs.Tables.{TableContent}
+use Rattle.level_cursor.specs.Rows.{MayBeTables}
+use Rattle.table_access.specs.Possible.{MayBeTable}
 use Rattle.db_cursor.specs.internal.Rows.{OfRow, Spot, below, deeper_ranges, newest_ranges, range_kept, spots_of}
 use Rattle.db_cursor.proofs.Ranges.{level_fits}
-use Rattle.version_laws.specs.Places.{contents_at, lists_of, table_sources}
+use Rattle.version_laws.specs.Places.{FitsEdit, MayHold, contents_at, lists_of, table_sources}
 use Rattle.store.specs.Files.{Files}
 use Rattle.versions.specs.Levels.{tables_at}
 
@@ -211,30 +213,34 @@ kept_sources contents h =
 
 -- ---- what lies over a range
 
-abbrev pub IsRow : Order → Files → List TableContent → ℕ × ℕ → Type 0
-IsRow order files contents range = HasTables order files (slice range contents) × AreInRow order (lists_of (slice range contents))
+pub may_be_each : (order : Order) (files : Files) (contents : List TableContent) → AllByRecursion (MayHold (MayBeTable order.cmp) files) contents → AllByRecursion (FitsEdit order) contents → MayBeTables order files contents
+may_be_each order files [] may fit = tt
+may_be_each order files (c ∷ contents) may fit = ((may.0, fit.0), may_be_each order files contents may.1 fit.1)
 
-has_front : (order : Order) (files : Files) (contents : List TableContent) (n : ℕ) → HasTables order files contents → HasTables order files (take n contents)
-has_front order files contents zero h = subst (HasTables order files) (sym (take_none contents)) tt
+abbrev pub IsRow : Order → Files → List TableContent → ℕ × ℕ → Type 0
+IsRow order files contents range = MayBeTables order files (slice range contents) × AreInRow order (lists_of (slice range contents))
+
+has_front : (order : Order) (files : Files) (contents : List TableContent) (n : ℕ) → MayBeTables order files contents → MayBeTables order files (take n contents)
+has_front order files contents zero h = subst (λ (ts : List TableContent). MayBeTables order files ts) (sym (take_none contents)) tt
 has_front order files [] (suc n) h = h
 has_front order files (c ∷ contents) (suc n) h = (h.0, has_front order files contents n h.1)
 
-has_rest : (order : Order) (files : Files) (contents : List TableContent) (n : ℕ) → HasTables order files contents → HasTables order files (drop n contents)
-has_rest order files contents zero h = subst (HasTables order files) (sym (drop_none contents)) h
+has_rest : (order : Order) (files : Files) (contents : List TableContent) (n : ℕ) → MayBeTables order files contents → MayBeTables order files (drop n contents)
+has_rest order files contents zero h = subst (λ (ts : List TableContent). MayBeTables order files ts) (sym (drop_none contents)) h
 has_rest order files [] (suc n) h = h
 has_rest order files (c ∷ contents) (suc n) h = has_rest order files contents n h.1
 
-has_slice : (order : Order) (files : Files) (contents : List TableContent) (range : ℕ × ℕ) → HasTables order files contents → HasTables order files (slice range contents)
+has_slice : (order : Order) (files : Files) (contents : List TableContent) (range : ℕ × ℕ) → MayBeTables order files contents → MayBeTables order files (slice range contents)
 has_slice order files contents range h = has_front order files (drop range.0 contents) (range.1 - range.0) (has_rest order files contents range.0 h)
 
-newest_rows : (order : Order) (files : Files) (contents : List TableContent) (n : ℕ) → n ≤ length contents → HasTables order files contents → AllByRecursion (IsRow order files contents) (newest_ranges n)
+newest_rows : (order : Order) (files : Files) (contents : List TableContent) (n : ℕ) → n ≤ length contents → MayBeTables order files contents → AllByRecursion (IsRow order files contents) (newest_ranges n)
 newest_rows order files contents zero le h = tt
 newest_rows order files contents (suc n) le h =
     let one = one_more contents n (omega (arith, le)) in
     let is = single contents n one.0 one.1 in
     let has = has_slice order files contents (n, suc n) h in
-    let own = subst (HasTables order files) is has in (
-      (has, subst (λ (ts : List TableContent). AreInRow order (lists_of ts)) (sym is) (own.0.sorted, tt, tt)),
+    let own = subst (λ (ts : List TableContent). MayBeTables order files ts) is has in (
+      (has, subst (λ (ts : List TableContent). AreInRow order (lists_of ts)) (sym is) (own.0.1.sorted, tt, tt)),
       newest_rows order files contents n (omega (arith, le)) h,
     )
 
@@ -242,7 +248,7 @@ all_both : {A : Type 0} (P : A → Type 0) (xs ys : List A) → AllByRecursion P
 all_both P [] ys h k = k
 all_both P (x ∷ xs) ys h k = (h.0, all_both P xs ys h.1 k)
 
-deeper_rows : (order : Order) (files : Files) (contents : List TableContent) (level : ℕ) → LevelsRise contents → HasTables order files contents → ((above : ℕ) → 0 < above → AreInRow order (lists_of (contents_at above contents)))
+deeper_rows : (order : Order) (files : Files) (contents : List TableContent) (level : ℕ) → LevelsRise contents → MayBeTables order files contents → ((above : ℕ) → 0 < above → AreInRow order (lists_of (contents_at above contents)))
     → AllByRecursion (IsRow order files contents) (deeper_ranges (placed_of contents) level)
 deeper_rows order files contents zero rise h rows = tt
 deeper_rows order files contents (suc level) rise h rows =
@@ -257,7 +263,7 @@ deeper_rows order files contents (suc level) rise h rows =
     by true own = (own, tt)
     by false own = tt
 
-pub all_rows : (order : Order) (files : Files) (contents : List TableContent) → LevelsRise contents → HasTables order files contents → ((above : ℕ) → 0 < above → AreInRow order (lists_of (contents_at above contents)))
+pub all_rows : (order : Order) (files : Files) (contents : List TableContent) → LevelsRise contents → MayBeTables order files contents → ((above : ℕ) → 0 < above → AreInRow order (lists_of (contents_at above contents)))
     → AllByRecursion (IsRow order files contents) (all_ranges (placed_of contents))
 all_rows order files contents rise h rows =
     let n = length (tables_at 0 (placed_of contents)) in

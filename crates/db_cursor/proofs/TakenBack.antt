@@ -14,7 +14,7 @@ use Rattle.db_cursor.specs.declared.scan.Scan.{Scan}
 use Rattle.db_cursor.specs.declared.source_cursor.SourceCursor.{SourceCursor}
 use Rattle.db_cursor.specs.Places.{KeepsSource, OneGoesOver}
 use Rattle.db_cursor.specs.internal.Scanning.{TakesBack, ReadsAs}
-use Rattle.db_cursor.specs.Scans.{IsOnePastLimit, KeepsScan, ListsMerged, reads_table}
+use Rattle.db_cursor.specs.Scans.{IsOnePastLimit, IsOneTornFile, KeepsScan, ListsMerged, reads_table}
 use Rattle.db_cursor.specs.Whole.{Whole}
 use Rattle.db_cursor.proofs.ReadTables.{read_after, read_before, table_before}
 use Rattle.db_cursor.proofs.Sights.{walks_again}
@@ -35,7 +35,7 @@ taken_back {K} {g} cmp stood old new cursor sequence stands position key reads f
       there = λ generation is. k.there generation (read_before old new reads generation is);
       bound = λ s t w. subst (λ (m : Merge K (SourceCursor K g)). KeepsAll (KeepsSource cmp) m.children.items s t) (sym cursor) (k.bound s t (keeps_before w));
       limits = λ l. subst (λ (v : _). IsOnePastLimit cmp v.value.tables after) (sym reads.version) (k.limits (l.0, l.1, ap (λ (m : Merge K (SourceCursor K g)). slice_get m.children.items l.0) (sym cursor) ∙ l.2, l.3));
-      intact = λ cut l. k.intact cut (l.0, l.1, ap (λ (m : Merge K (SourceCursor K g)). slice_get m.children.items l.0) (sym cursor) ∙ l.2, l.3);
+      torn = λ cut l. subst (λ (v : _). IsOneTornFile cmp v.value.tables after cut) (sym reads.version) (k.torn cut (l.0, l.1, ap (λ (m : Merge K (SourceCursor K g)). slice_get m.children.items l.0) (sym cursor) ∙ l.2, l.3));
       walk = (
         k.walk.0,
         view,

@@ -1,4 +1,5 @@
 pub mod Inputs
+pub mod Origins
 pub mod Pairs
 pub mod Places
 pub mod Rows

@@ -16,14 +16,15 @@ use Rattle.memtables.specs.Memories.{logged_in, table_in}
 use Rattle.memtables.specs.Places.{MemoriesPlace, KeepsMemories}
 use Rattle.recover.specs.Tables.{TableContent}
 use Rattle.db_cursor.specs.declared.scan.Scan.{Scan}
-use Rattle.level_cursor.specs.InRows.{ListsNumber}
+use Rattle.level_cursor.specs.InRows.{IsTornFile, ListsNumber}
 use Rattle.db_cursor.specs.declared.source_cursor.SourceCursor.{SourceCursor}
 use Rattle.db_cursor.specs.Pairs.{listed_pair}
 use Rattle.machine.specs.Views.{AreSortedPairs}
 use Rattle.db_cursor.specs.Places.{ListsSource, KeepsSource, LimitedSource, OneGoesOver, TornSource}
 use Rattle.db_cursor.specs.Rows.{IsGenerationOf}
 use Rattle.db_cursor.specs.Whole.{Whole}
-use Rattle.version_laws.specs.Places.{table_sources, HasVersion}
+use Rattle.version_laws.specs.Places.{table_sources, HasVersion, MayHaveVersion}
+use Rattle.table_access.specs.Possible.{MayBeTable}
 use Rattle.table_access.specs.Tables.{IsSound}
 use Rattle.table_access.specs.Values.{IsTablePastLimit}
 
@@ -64,6 +65,11 @@ KeepsScan cmp scan old new = KeepsWhole cmp (reads_memory scan) (reads_table sca
 
 -- ---- what it is
 
+-- the file of one of these tables is torn at this cut
+abbrev pub IsOneTornFile : Cmp → List PlacedTable → Whole → Cut → Type 0
+IsOneTornFile cmp tables whole cut =
+    (placed : PlacedTable) × Contains tables placed × (file : List ℕ) × (table_at whole.seen.facts.files placed.table.number ≡ Some file) × IsTornFile cmp placed file cut
+
 -- the file of one of these tables passes a limit of reading
 abbrev pub IsOnePastLimit : Cmp → List PlacedTable → Whole → Type 0
 IsOnePastLimit cmp tables whole =
@@ -74,6 +80,20 @@ abbrev pub IsScanLimited : {K : Type 0} {g : _} → Cmp → Scan K g → Whole �
 IsScanLimited {K} {g} cmp scan whole =
     (i : ℕ) × (child : Child (SourceCursor K g)) × (slice_get scan.walk.cursor.children.items i ≡ Some child) × LimitedSource cmp child.cursor whole
 
+-- a block to which one of its cursors comes at this cut is none
+abbrev pub IsScanTorn : {K : Type 0} {g : _} → Cmp → Scan K g → Whole → Cut → Type 0
+IsScanTorn cmp scan whole cut = AnyTorn (TornSource cmp) scan.walk.cursor.children.items whole cut
+
+-- The scan, over this source, is this list of pairs at this place, as far as the blocks of its tables tell: it is each that they may have.
+pub record MayBeScan {K : Type 0} {g : _} (cmp : Cmp) (scan : Scan K g) (whole : Whole) (at : Walked) : Type 0 where
+  -- the memory tables that it reads are there
+  pub there : (generation : ℕ) → reads_memory scan generation → IsSome (table_in whole.memory generation)
+  -- it reads no more than what a scan at its sequence does
+  pub bound : (old new : Whole) → KeepsScan cmp scan old new → KeepsAll (KeepsSource cmp) scan.walk.cursor.children.items old new
+  pub limits : IsScanLimited cmp scan whole → IsOnePastLimit cmp (tables_of scan) whole
+  pub torn : (cut : Cut) → IsScanTorn cmp scan whole cut → IsOneTornFile cmp (tables_of scan) whole cut
+  pub walk : IsWalk cmp (ListsMerged cmp) scan.walk whole at
+
 -- The scan, over this source, is this list of pairs at this place.
 pub record IsScan {K : Type 0} {g : _} (cmp : Cmp) (scan : Scan K g) (whole : Whole) (at : Walked) : Type 0 where
   -- the memory tables that it reads are there
@@ -82,11 +102,18 @@ pub record IsScan {K : Type 0} {g : _} (cmp : Cmp) (scan : Scan K g) (whole : Wh
   pub bound : (old new : Whole) → KeepsScan cmp scan old new → KeepsAll (KeepsSource cmp) scan.walk.cursor.children.items old new
   pub limits : IsScanLimited cmp scan whole → IsOnePastLimit cmp (tables_of scan) whole
   -- the blocks of its tables are intact, so that its list is their own
-  pub intact : (cut : Cut) → AnyTorn (TornSource cmp) scan.walk.cursor.children.items whole cut → ⊥
+  pub intact : (cut : Cut) → IsScanTorn cmp scan whole cut → ⊥
   pub walk : IsWalk cmp (ListsMerged cmp) scan.walk whole at
 
--- A new scan over a version of these tables, up to a sequence, goes over the pairs of the view, in the order of their keys, and has
--- no place.
+-- A new scan over a version of these tables, up to a sequence, goes over the pairs of the view of whichever contents they may have, as far
+-- as their blocks tell, in the order of their keys, and has no place.
+abbrev pub MayBeginScan : {K : Type 0} {g : _} → Order → List PlacedTable → ℕ → Whole → Scan K g → Type 0
+MayBeginScan order tables sequence whole scan = (contents : List TableContent) (view : Contents) → sequence ≤ whole.memory.last
+    → IsSound order.cmp whole.seen → MayHaveVersion (MayBeTable order.cmp) order whole.seen.facts.files tables contents → IsNewerThan (logged_in whole.memory) (joined (table_sources contents))
+    → IsView (logged_in whole.memory ++ joined (table_sources contents)) sequence view
+    → (pairs : List (List ℕ × List ℕ)) × AreSortedPairs order.cmp view pairs × MayBeScan order.cmp scan whole (walked (map listed_pair pairs) None)
+
+-- So over the contents that they have, whose blocks are all intact.
 abbrev pub BeginsScan : {K : Type 0} {g : _} → Order → List PlacedTable → ℕ → Whole → Scan K g → Type 0
 BeginsScan order tables sequence whole scan = (contents : List TableContent) (view : Contents) → sequence ≤ whole.memory.last
     → IsSound order.cmp whole.seen → HasVersion order whole.seen.facts.files tables contents → IsNewerThan (logged_in whole.memory) (joined (table_sources contents))

@@ -6,7 +6,7 @@ ghost use Rattle.compact.specs.Outputs.{IsToCome};
 ghost use Rattle.cursor.specs.declared.merge.Merge.{Merge};
 ghost use Rattle.ikey.specs.Orders.{order_of};
 ghost use Rattle.level_cursor.specs.InRows.{ListsNumber};
-ghost use Rattle.db_cursor.specs.internal.Inputs.{BeginsMerge, MergeIsKept};
+ghost use Rattle.db_cursor.specs.internal.Inputs.{BeginsMerge, MayBeginMerge, MergeIsKept};
 ghost use Rattle.db_cursor.specs.Inputs.{KeepsMerge, ReadsNoMemory};
 ghost use Rattle.db_cursor.specs.Places.{OneGoesOver};
 ghost use Rattle.db_cursor.specs.Whole.{whole_in};
@@ -35,6 +35,7 @@ pub fn merge_tables<K: KeyOrder>(
     ensures over { IfOk result (λ merge. (number : ℕ) → OneGoesOver merge.children.items number
         → ListsNumber version.now.value.tables number) }
     ensures no_memory { IfOk result (λ merge. ReadsNoMemory K.cmp merge) }
+    ensures may { IfOk result (λ merge. MayBeginMerge (order_of K.name K.cmp) version.now.value.tables merge) }
     ensures begins { IfOk result (λ merge. BeginsMerge (order_of K.name K.cmp) version.now.value.tables merge) }
 {
     // Laws, for the proof alone.

@@ -1,5 +1,6 @@
-//! Laws of scans.
+//! Laws of scans, and of what they go over.
 
+ghost use Rattle.db_cursor.specs.Origins.{OriginLaw, OriginStaysLaw, SameOriginLaw};
 ghost use Rattle.db_cursor.specs.internal.Scanning.{WritesAreKept};
 
 use ikey::KeyOrder;
@@ -12,3 +13,18 @@ pub fn writes_are_kept<K: KeyOrder>()
     // Laws, for the proof alone.
     changes_are_kept::<K>();
 }
+
+/// Law: tables that may have come from those of a version may have its contents.
+pub fn origins_fit()
+    ensures { OriginLaw }
+{}
+
+/// Law: a file may have come from itself, and so has each table that two directories have alike.
+pub fn same_origin()
+    ensures { SameOriginLaw }
+{}
+
+/// Law: a table comes from the same as long as both directories keep its file.
+pub fn origin_stays()
+    ensures { OriginStaysLaw }
+{}

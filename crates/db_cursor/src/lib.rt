@@ -10,7 +10,7 @@ mod source;
 mod source_cursor;
 
 pub use inputs::{inputs_read_apart, merge_stays, merge_tables, moves_read_no_memory};
-pub use laws::writes_are_kept;
+pub use laws::{origin_stays, origins_fit, same_origin, writes_are_kept};
 pub use scan::Scan;
 pub use source::Sources;
 pub use source_cursor::SourceCursor;

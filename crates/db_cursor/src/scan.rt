@@ -30,8 +30,8 @@ impl<K: KeyOrder> Scan<K> {
     ghost use Rattle.ikey.specs.Orders.{order_of};
     ghost use Rattle.level_cursor.specs.InRows.{ListsNumber};
     ghost use Rattle.db_cursor.specs.Pairs.{pair_on};
-    ghost use Rattle.db_cursor.specs.internal.Scanning.{IsScanned, ReadsAs, ScanIsKept, ScanPastLimit, TakesBack, has_pair};
-    ghost use Rattle.db_cursor.specs.Scans.{BeginsScan, IsScan, reads_memory, reads_table, tables_of};
+    ghost use Rattle.db_cursor.specs.internal.Scanning.{IsScanned, IntactScans, MayBeIsKept, ReadsAs, ScanIsKept, ScanPastLimit, TakesBack, has_pair};
+    ghost use Rattle.db_cursor.specs.Scans.{BeginsScan, MayBeScan, MayBeginScan, reads_memory, reads_table, tables_of};
     ghost use Rattle.db_cursor.specs.Whole.{whole_in};
     ghost use Rattle.versions.specs.Levels as versions;
 
@@ -47,6 +47,8 @@ impl<K: KeyOrder> Scan<K> {
         ensures sequence { IfOk result (λ scan. scan.walk.sequence ≡ min sequence source.now.memory.last) }
         ensures tables { IfOk result (λ scan. tables_of scan ≡ version.now.value.tables) }
         ensures within { IfOk result (λ scan. (number : ℕ) → reads_table scan number → ListsNumber version.now.value.tables number) }
+        ensures may { IfOk result (λ scan. MayBeginScan (order_of K.name K.cmp) version.now.value.tables sequence
+            (whole_in S.facts source.now) scan) }
         ensures begins { IfOk result (λ scan. BeginsScan (order_of K.name K.cmp) version.now.value.tables sequence
             (whole_in S.facts source.now) scan) }
     {
@@ -72,8 +74,8 @@ impl<K: KeyOrder> Scan<K> {
         })
     }
 
-    /// Stands on the pair of the least key, or nowhere where there is none. `Corrupt` only where a faithful source doesn't hold what
-    /// the scan was made for, `Unsupported` there or where the file of one of its tables passes a limit of reading.
+    /// Stands on the pair of the least key, or nowhere where there is none. `Corrupt` only where a block of a faithful source to which it
+    /// came is torn, `Unsupported` there or where the file of one of its tables passes a limit of reading.
     pub fn first<S: Store>(
         &mut self,
         alloc: Global,
@@ -160,7 +162,7 @@ impl<K: KeyOrder> Scan<K> {
         source: &Sources<K, S>,
     ) -> Result<Option<(Bytes, Bytes)>, AllocError>
         requires { self.now.walk.stands ≡ true → has_pair self.now ≡ true }
-        ensures { IfOk result (λ pair. (at : Walked) → IsScan K.cmp self.now (whole_in S.facts source.now) at → pair ≡ pair_on at) }
+        ensures { IfOk result (λ pair. (at : Walked) → MayBeScan K.cmp self.now (whole_in S.facts source.now) at → pair ≡ pair_on at) }
     {
         if !self.walk.stands() {
             return Ok(None);
@@ -187,6 +189,20 @@ impl<K: KeyOrder> Scan<K> {
     /// Law: a scan stays where it is while what it reads is kept.
     pub fn stays(&self)
         ensures { ScanIsKept K.cmp self.now }
+    {
+        let _ = self;
+    }
+
+    /// Law: so does each list of pairs that its tables may have.
+    pub fn may_stay(&self)
+        ensures { MayBeIsKept K.cmp self.now }
+    {
+        let _ = self;
+    }
+
+    /// Law: where no block is torn, that is the list that they have.
+    pub fn is_intact(&self)
+        ensures { IntactScans K.cmp self.now }
     {
         let _ = self;
     }

@@ -1,6 +1,6 @@
 -- The list with which a cursor over a row begins.
-use Rattle.std.proofs.Common.{◌≡◌, ◌⊎◌, ◌<◌, ◌^◌, ◌++◌, ℕ, List, [], ◌∷◌, Option, Some, None, map, refl, sym, ap, ◌∙◌, subst, arith, inl, inr}
-use Rattle.std.specs.Prelude.{Contains}
+use Rattle.std.proofs.Common.{◌≡◌, ◌⊎◌, ◌<◌, ◌++◌, ℕ, zero, suc, List, [], ◌∷◌, Option, Some, None, length, map, refl, sym, ap, ◌∙◌, subst, arith, inl, inr}
+use Rattle.std.specs.Prelude.{Contains, slice_get}
 use Rattle.std.specs.Cmp.{IsTotalOrder, nat_cmp_is, tied_itself}
 use Rattle.std.specs.List.{AllByRecursion}
 use Rattle.std.specs.Ordering.{nat_cmp, ordering_then}
@@ -19,20 +19,21 @@ use Rattle.ikey.specs.Keys.{Key, IsKey, key_cmp, tag_of}
 use Rattle.ikey.specs.Orders.{Order}
 use Rattle.ikey.specs.Sources.{AreInRow, ComesAllBefore, ComesBefore, joined as joined_entries}
 use Rattle.ikey.specs.Views.{Among}
-use Rattle.recover.specs.Tables.{HasTable, HasTables, TableContent, internal_key}
+use Rattle.recover.specs.Tables.{HasTable, HasTables, TableContent}
 use Rattle.recover.proofs.NameScan.{in_cons, in_none}
-use Rattle.recover.proofs.TableFacts.{fits_of, key_is}
+use Rattle.store.specs.Files.{Files}
 use Rattle.level_cursor.specs.declared.row_cursor.RowCursor.{RowCursor}
 use Rattle.level_cursor.specs.declared.in_table.InTable.{InTable}
 use Rattle.level_cursor.specs.InRows.{EndsBy, HasList, HaveLists, IsOpenTorn, IsPlacedRow, IsTornOne, joined}
-use Rattle.level_cursor.specs.Rows.{IsRowTorn, ListsRow, rows_tables}
+use Rattle.level_cursor.specs.Rows.{IsRowTorn, ListsRow, MayBeTables, rows_tables}
 use Rattle.level_cursor.specs.RowLists.{member_at}
-use Rattle.version_laws.specs.Places.{lists_of}
+use Rattle.version_laws.specs.Places.{FitsEdit, MayHold, lists_of}
+use Rattle.version_laws.proofs.Fitting.{fits_edit}
 use Rattle.version_laws.proofs.Sought.{kind_at_most}
 use Rattle.version_laws.proofs.TableKeys.{first_kept, last_kept}
 use Rattle.table_access.specs.Ends.{HasKeysOf}
+use Rattle.table_access.specs.Possible.{MayBeTable}
 use Rattle.table_access.specs.Tables.{Seen, IsSound}
-use Rattle.table_access.proofs.Opening.{entries_rise}
 use Rattle.table_access.proofs.Wholes.{may_be, none_torn}
 
 abbrev pub placed_of : List TableContent → List PlacedTable
@@ -64,28 +65,79 @@ module _ (order : Order) (total : IsTotalOrder order.cmp) where
       ap (λ (o : Ordering). ordering_then o (nat_cmp (tag_of (internal_key_of b)) (tag_of (internal_key_of a)))) tied
       ∙ less_number (tag_of (internal_key_of b)) (tag_of (internal_key_of a)) (omega (arith, newer.1, most))
 
+  -- the same of a kept entry and another one
+  is_before : (a : InternalEntry) (b : Entry) → ComesBefore order (entry_of a) b → key_cmp order.cmp a.key (internal_key_of b) ≡ Less
+  is_before a b before = ap (λ (k : Key). key_cmp order.cmp k (internal_key_of b)) (sym (key_again a)) ∙ before_less (entry_of a) b before
+
+  comes_before : (a : Entry) (b : InternalEntry) → ComesBefore order a (entry_of b) → key_cmp order.cmp (internal_key_of a) b.key ≡ Less
+  comes_before a b before = ap (λ (k : Key). key_cmp order.cmp (internal_key_of a) k) (sym (key_again b)) ∙ before_less a (entry_of b) before
+
+  not_both : (a b : Key) → key_cmp order.cmp a b ≡ Less → key_cmp order.cmp b a ≡ Less → ⊥
+  not_both a b less more = not_below_itself a a refl ((key_total order.cmp total).trans a b a less more)
+
   before_kept : (a b : InternalEntry) → ComesBefore order (entry_of a) (entry_of b) → key_cmp order.cmp a.key b.key ≡ Less
   before_kept a b before = (λ i. key_cmp order.cmp (sym (key_again a) i) (sym (key_again b) i)) ∙ before_less (entry_of a) (entry_of b) before
 
   -- ---- no entry behind the last
 
-  ends_all : (last : Entry) (largest : List ℕ) → internal_key last ≡ largest → last.sequence < 2 ^ 56 → (kept : List InternalEntry) → ((other : Entry) → Among (map entry_of kept) other → (other ≡ last) ⊎ ComesBefore order other last)
+  ends_all : (last : Entry) (largest : List ℕ) → IsKey largest (internal_key_of last) → (kept : List InternalEntry) → ((other : Entry) → Among (map entry_of kept) other → (other ≡ last) ⊎ ComesBefore order other last)
       → EndsBy order.cmp largest kept
-  ends_all last largest e fits [] h = tt
-  ends_all last largest e fits (entry ∷ kept) h = (
+  ends_all last largest its [] h = tt
+  ends_all last largest its (entry ∷ kept) h = (
     λ bytes is below.
-        let left : below.0 ≡ internal_key_of last = same_key largest below.0 (internal_key_of last) below.2 (subst (λ (v : List ℕ). IsKey v (internal_key_of last)) e (key_is last fits)) in
+        let left : below.0 ≡ internal_key_of last = same_key largest below.0 (internal_key_of last) below.2 its in
         let right : below.1 ≡ entry.key = same_key bytes below.1 entry.key below.3 is in
         let less : key_cmp order.cmp (internal_key_of last) entry.key ≡ Less = (λ i. key_cmp order.cmp (sym left i) (sym right i)) ∙ below.4 in
         elim (h (entry_of entry) (inl refl)) [
           | inl same ↦ not_below_itself (internal_key_of last) entry.key (sym (ap internal_key_of same) ∙ key_again entry) less
-          | inr before ↦
-              let back : key_cmp order.cmp entry.key (internal_key_of last) ≡ Less =
-              ap (λ (k : Key). key_cmp order.cmp k (internal_key_of last)) (sym (key_again entry)) ∙ before_less (entry_of entry) last before in
-              not_below_itself entry.key entry.key refl ((key_total order.cmp total).trans entry.key (internal_key_of last) entry.key back less)
+          | inr before ↦ not_both entry.key (internal_key_of last) (is_before entry last before) less
         ],
-    ends_all last largest e fits kept (λ other i. h other (inr i)),
+    ends_all last largest its kept (λ other i. h other (inr i)),
   )
+
+  -- ---- the edit's keys are those of the first and the last entry
+
+  below_all : (entry : InternalEntry) (kept : List InternalEntry) (other : Entry) → AllByRecursion (λ (later : InternalEntry). key_cmp order.cmp entry.key later.key ≡ Less) kept → Among (map entry_of kept) other
+      → key_cmp order.cmp entry.key (internal_key_of other) ≡ Less
+  below_all entry [] other h i = absurd i
+  below_all entry (x ∷ kept) other h (inl e) = ap (λ (k : Key). key_cmp order.cmp entry.key k) (ap internal_key_of e ∙ key_again x) ∙ h.0
+  below_all entry (x ∷ kept) other h (inr i) = below_all entry kept other h.1 i
+
+  first_is : (kept : List InternalEntry) (entry : InternalEntry) (first : Entry) → slice_get kept 0 ≡ Some entry → Rises order.cmp kept → Among (map entry_of kept) first
+      → ((other : Entry) → Among (map entry_of kept) other → (other ≡ first) ⊎ ComesBefore order first other) → internal_key_of first ≡ entry.key
+  first_is [] entry first at rises i least = absurd i
+  first_is (x ∷ kept) entry first at rises (inl e) least = ap internal_key_of e ∙ key_again x ∙ ap (λ (y : InternalEntry). y.key) (let t : Some x ≡ Some entry = at in let same : x ≡ entry = cc in same)
+  first_is (x ∷ kept) entry first at rises (inr i) least = absurd (elim (least (entry_of x) (inl refl)) [
+    | inl e ↦ not_below_itself x.key (internal_key_of first) (sym (key_again x) ∙ ap internal_key_of e) (below_all x kept first rises.0 i)
+    | inr before ↦ not_both (internal_key_of first) x.key (comes_before first x before) (below_all x kept first rises.0 i)
+  ])
+
+  last_is : (kept : List InternalEntry) (n : ℕ) (entry : InternalEntry) (last : Entry) → suc n ≡ length kept → slice_get kept n ≡ Some entry → Rises order.cmp kept → Among (map entry_of kept) last
+      → ((other : Entry) → Among (map entry_of kept) other → (other ≡ last) ⊎ ComesBefore order other last) → internal_key_of last ≡ entry.key
+  last_is [] n entry last long at rises i most = absurd i
+  last_is (x ∷ []) zero entry last long at rises (inl e) most = ap internal_key_of e ∙ key_again x ∙ ap (λ (y : InternalEntry). y.key) (let t : Some x ≡ Some entry = at in let same : x ≡ entry = cc in same)
+  last_is (x ∷ []) (suc n) entry last long at rises (inl e) most = absurd (omega (arith, long))
+  last_is (x ∷ []) n entry last long at rises (inr i) most = absurd i
+  last_is (x ∷ (y ∷ kept)) zero entry last long at rises i most = absurd (omega (arith, long))
+  last_is (x ∷ (y ∷ kept)) (suc n) entry last long at rises (inl e) most = absurd (elim (most (entry_of y) (inr (inl refl))) [
+    | inl f ↦ not_below_itself x.key y.key (sym (key_again x) ∙ ap internal_key_of (sym e ∙ sym f) ∙ key_again y) rises.0.0
+    | inr before ↦ not_both y.key x.key (ap (λ (k : Key). key_cmp order.cmp y.key k) (sym (key_again x) ∙ ap internal_key_of (sym e)) ∙ is_before y last before) rises.0.0
+  ])
+  last_is (x ∷ (y ∷ kept)) (suc n) entry last long at rises (inr i) most = last_is (y ∷ kept) n entry last (omega (arith, long)) at rises.1 i (λ other j. most other (inr j))
+
+  keys_of : (content : TableContent) (kept : List InternalEntry) → content.entries ≡ map entry_of kept → Rises order.cmp kept → FitsEdit order content → HasKeysOf content.placed kept
+  keys_of content kept e rises fits = record {
+    first = λ entry at. subst (λ (k : Key). IsKey content.placed.table.smallest k)
+        (first_is kept entry fits.smallest.0 at rises (there fits.smallest.0 fits.smallest.1) (λ other i. fits.smallest.3 other (back other i))) fits.smallest.2;
+    last = λ n entry long at. subst (λ (k : Key). IsKey content.placed.table.largest k)
+        (last_is kept n entry fits.largest.0 long at rises (there fits.largest.0 fits.largest.1) (λ other i. fits.largest.3 other (back other i))) fits.largest.2;
+  }
+    where
+      there : (other : Entry) → Among content.entries other → Among (map entry_of kept) other
+      there other i = subst (λ (es : List Entry). Among es other) e i
+
+      back : (other : Entry) → Among (map entry_of kept) other → Among content.entries other
+      back other i = subst (λ (es : List Entry). Among es other) (sym e) i
 
   -- ---- lists one behind the other
 
@@ -130,37 +182,53 @@ module _ (order : Order) (total : IsTotalOrder order.cmp) where
     pub same : map entry_of (joined lists) ≡ joined_entries (lists_of contents)
     pub rises : Rises order.cmp (joined lists)
 
-  has_list : (source : Seen) (content : TableContent) → IsSound order.cmp source → (has : HasTable order source.facts.files content) → HasList order.cmp source content.placed has.spelled.0
-  has_list source content sound has = record {
-    positive = has.numbered.0;
-    file = has.bytes;
-    there = record { sound = sound; file_is = has.there };
-    spelled = may_be order.cmp total content.placed has.bytes has.spelled.0 has.spelled.1;
-    keys = record { first = first_kept order total source.facts.files content has; last = last_kept order total source.facts.files content has };
-    ends = ends_all has.largest.0 content.placed.table.largest has.largest.2 (fits_of order has.bytes content.entries has.largest.0 has.spelled has.largest.1) has.spelled.0
-        (λ other i. has.largest.3 other (subst (λ (es : List Entry). Among es other) (sym has.spelled.2) i));
+  has_list : (source : Seen) (content : TableContent) → IsSound order.cmp source → (may : MayHold (MayBeTable order.cmp) source.facts.files content) → FitsEdit order content → HasList order.cmp source content.placed may.kept
+  has_list source content sound may fits = record {
+    positive = may.numbered.0;
+    file = may.bytes;
+    there = record { sound = sound; file_is = may.there };
+    spelled = may.held;
+    keys = keys_of content may.kept may.entries_are may.held.rises fits;
+    ends = ends_all fits.largest.0 content.placed.table.largest fits.largest.2 may.kept (λ other i. fits.largest.3 other (subst (λ (es : List Entry). Among es other) (sym may.entries_are) i));
   }
 
-  pub has_row : (source : Seen) (contents : List TableContent) → IsSound order.cmp source → HasTables order source.facts.files contents → AreInRow order (lists_of contents) → HasRow source contents
-  has_row source [] sound has row = record { lists = []; have = tt; same = refl; rises = tt }
-  has_row source (content ∷ contents) sound has row =
-      let rest = has_row source contents sound has.1 row.2 in
-      let kept = has.0.spelled.0 in
-      let spelled = has.0.spelled.1 in
-      let same = has.0.spelled.2 in
+  pub has_row : (source : Seen) (contents : List TableContent) → IsSound order.cmp source → MayBeTables order source.facts.files contents → AreInRow order (lists_of contents) → HasRow source contents
+  has_row source [] sound may row = record { lists = []; have = tt; same = refl; rises = tt }
+  has_row source (content ∷ contents) sound may row =
+      let rest = has_row source contents sound may.1 row.2 in
+      let kept = may.0.0.kept in
+      let same = may.0.0.entries_are in
       record {
         lists = kept ∷ rest.lists;
-        have = (has_list source content sound has.0, rest.have);
+        have = (has_list source content sound may.0.0 may.0.1, rest.have);
         same = map_append kept (joined rest.lists) ∙ (λ i. sym same i ++ rest.same i);
-        rises = rises_append kept (joined rest.lists) (entries_rise order.cmp total _ kept spelled.2.rises spelled.2.entries_are) rest.rises
+        rises = rises_append kept (joined rest.lists) may.0.0.held.rises rest.rises
             (λ x y i j.
             before_kept x y
             (before_all content.entries (lists_of contents) row.1 (entry_of x) (entry_of y) (subst (λ (es : List Entry). Among es (entry_of x)) (sym same) (among_entry kept x i))
             (subst (λ (es : List Entry). Among es (entry_of y)) rest.same (among_entry (joined rest.lists) y j))));
       }
 
+  -- tables that the files have may have their entries
+  pub may_be_tables : (files : Files) (contents : List TableContent) → HasTables order files contents → MayBeTables order files contents
+  may_be_tables files [] has = tt
+  may_be_tables files (content ∷ contents) has = (
+    (
+      record {
+        numbered = has.0.numbered;
+        bytes = has.0.bytes;
+        there = has.0.there;
+        kept = has.0.spelled.0;
+        held = may_be order.cmp total content.placed has.0.bytes has.0.spelled.0 has.0.spelled.1;
+        entries_are = has.0.spelled.2;
+      },
+      fits_edit order files content has.0,
+    ),
+    may_be_tables files contents has.1,
+  )
+
   -- A cursor that stands nowhere in a row of tables is the list of their entries.
-  pub row_has_list : {K : Type 0} {g : _} (source : Seen) (contents : List TableContent) → IsSound order.cmp source → HasTables order source.facts.files contents → AreInRow order (lists_of contents)
+  pub row_has_list : {K : Type 0} {g : _} (source : Seen) (contents : List TableContent) → IsSound order.cmp source → MayBeTables order source.facts.files contents → AreInRow order (lists_of contents)
       → (entries : List InternalEntry) × (map entry_of entries ≡ joined_entries (lists_of contents))
       × ((cursor : RowCursor K g) → rows_tables cursor ≡ placed_of contents → cursor.here ≡ None → ListsRow order.cmp source cursor (listed entries None))
   row_has_list {K} {g} source contents sound has row =

@@ -1,11 +1,25 @@
 -- A cursor over tables of a version that lie in a row.
 use Rattle.std.specs.Prelude.{◌⊎◌, ◌-◌, ℕ, Bool, List, take, drop}
+use Rattle.std.specs.List.{AllByRecursion}
 use Rattle.cursor.specs.Cuts.{Cut}
 use Rattle.cursor.specs.Places.{Cmp, Listed}
 use Rattle.edits.specs.declared.field.PlacedTable.{PlacedTable}
 use Rattle.level_cursor.specs.declared.row_cursor.RowCursor.{RowCursor}
 use Rattle.level_cursor.specs.InRows.{ListsNumber, IsOneLimited, IsOneTorn, IsOpenLimited, IsOpenNumber, IsOpenTorn, KeepsTables, ListsTables, table_stands}
+use Rattle.ikey.specs.Orders.{Order}
+use Rattle.recover.specs.Tables.{TableContent}
+use Rattle.store.specs.Files.{Files}
+use Rattle.table_access.specs.Possible.{MayBeTable}
 use Rattle.table_access.specs.Tables.{Seen}
+use Rattle.version_laws.specs.Places.{FitsEdit, MayHold}
+
+-- ---- what the tables may have
+
+-- As far as their blocks tell the files may be these tables, with such entries, each of which fit their edit.
+abbrev pub MayBeTables : Order → Files → List TableContent → Type 0
+MayBeTables order files contents = AllByRecursion (λ (content : TableContent). MayHold (MayBeTable order.cmp) files content × FitsEdit order content) contents
+
+-- ---- a cursor over them
 
 -- the tables of a row: those of the version from one index on, up to another
 abbrev pub row_of : ℕ → ℕ → List PlacedTable → List PlacedTable

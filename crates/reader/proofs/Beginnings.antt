@@ -16,7 +16,7 @@ use Rattle.versions.specs.Levels.{ListsSameTables, AreInOrder}
 use Rattle.db_cursor.specs.Whole.{Whole}
 use Rattle.opening.specs.Looking.{IsSealedOf}
 use Rattle.opening.proofs.BegunSteps.{sealed_logged}
-use Rattle.reader.specs.internal.Shows.{Shows}
+use Rattle.reader.specs.internal.Shows.{HoldsRead, Shows}
 
 -- ---- what is shown
 
@@ -27,19 +27,32 @@ sound_empty cmp facts tables blocks law t b =
     let B : List KeptBlock → Type 0 = λ bs. IsSound cmp (record { facts = facts; tables = []; blocks = bs }) in
     subst T (sym t) (subst B (sym b) (law cmp facts))
 
--- What was read of the directory is shown, whichever map it has.
-pub shown_found : (order : Order) (old : Files) (whole : Whole) (found : Recovered) (tables : List PlacedTable) → RecoveredLaw → Recovers order old found → whole.seen.facts.files ≡ old → ListsSameTables found.layout.tables.items tables → AreInOrder order.cmp tables
-    → IsSound order.cmp whole.seen → IsSealedOf whole.memory found.entries.items found.used
+-- What was read of the directory is held.
+pub held_found : (order : Order) (old : Files) (whole : Whole) (found : Recovered) (tables : List PlacedTable) → Recovers order old found → whole.seen.facts.files ≡ old → ListsSameTables found.layout.tables.items tables → AreInOrder order.cmp tables
+    → IsSound order.cmp whole.seen → IsSealedOf whole.memory found.entries.items found.used → HoldsRead order old whole tables
+held_found order old whole found tables read same lists in_order sound sealed = record {
+  recovered = found;
+  read = read;
+  same = same;
+  listed = lists;
+  in_order = in_order;
+  sound = sound;
+  logs = sealed_logged whole.memory found.entries.items found.used sealed;
+  last = sealed.last;
+}
+
+-- So it is shown, whichever map it has.
+pub shown_found : (order : Order) (old : Files) (whole : Whole) (tables : List PlacedTable) → RecoveredLaw → HoldsRead order old whole tables
     → (d : Directory) (contents : Contents) → IsConsistent order old d → IsView (entries_in d) (used_in d) contents → Shows order whole tables contents
-shown_found order old whole found tables law read same lists in_order sound sealed d contents good view =
-    let parts = law order old found d read good in
+shown_found order old whole tables law held d contents good view =
+    let parts = law order old held.recovered d held.read good in
     record {
       directory = d;
-      consistent = subst (λ (fs : Files). IsConsistent order fs d) (sym same) good;
-      version = subst (λ (ps : List PlacedTable). ListsSameTables ps tables) (sym parts.0.tables) lists;
-      in_order = in_order;
-      sound = sound;
-      logs = sealed_logged whole.memory found.entries.items found.used sealed ∙ sym parts.1;
-      last = sealed.last ∙ sym parts.2;
+      consistent = subst (λ (fs : Files). IsConsistent order fs d) (sym held.same) good;
+      version = subst (λ (ps : List PlacedTable). ListsSameTables ps tables) (sym parts.0.tables) held.listed;
+      in_order = held.in_order;
+      sound = held.sound;
+      logs = held.logs ∙ sym parts.1;
+      last = held.last ∙ sym parts.2;
       view = view;
     }

@@ -1,5 +1,5 @@
 -- An iterator through a move of its scan.
-use Rattle.std.proofs.Common.{◌≡◌, ◌⊎◌, ℕ, ◌≤◌, Bool, true, false, cond, List, Option, Some, None, Result, Ok, Err, MatchOption, IsTrue, IsSome, inl, inr, refl, sym, ap, subst, ◌∙◌, arith}
+use Rattle.std.proofs.Common.{◌≡◌, ◌⊎◌, ℕ, ◌≤◌, Bool, true, false, cond, List, Option, Some, None, Result, Ok, Err, IfErr, MatchOption, IsTrue, IsSome, inl, inr, refl, sym, ap, subst, ◌∙◌, arith}
 use Rattle.std.specs.declared.cmp.Ordering.{Ordering}
 use Rattle.cache.specs.Tables.{table_at}
 use Rattle.coding.specs.declared.error.DbError.{DbError}
@@ -11,13 +11,16 @@ use Rattle.cursor.specs.Walks.{key_before}
 use Rattle.db_cursor.specs.Pairs.{pair_on}
 use Rattle.db_cursor.specs.internal.Scanning.{IsScanned, ReadsAs, TakesBack}
 use Rattle.level_cursor.specs.InRows.{ListsNumber}
-use Rattle.db_cursor.specs.Scans.{IsOnePastLimit, IsScan, IsScanLimited, reads_table, tables_of}
+use Rattle.db_cursor.specs.Scans.{IsOnePastLimit, IsScan, IsScanLimited, MayBeScan, reads_table, tables_of}
+use Rattle.db_cursor.proofs.ScanSteps.{if_refuses}
+use Rattle.db_cursor.proofs.Untorn.{may_of}
+use Rattle.db_cursor.proofs.WholeScans.{back_whole, moves_whole, refused_whole}
 use Rattle.db_cursor.specs.Whole.{Whole}
 use Rattle.db_cursor.specs.declared.scan.Scan.{Scan}
 use Rattle.store.specs.Files.{Facts}
 use Rattle.reader.specs.internal.Iterators.{walked_of, destination}
 use Rattle.machine.specs.Machine.{Walk}
-use Rattle.reader.specs.Moving.{IsMoved, IsNoWalk, IsReadError, MayRefuseMotion}
+use Rattle.reader.specs.Moving.{HasTornFile, IsMoved, IsNoWalk, IsReadError, MayRefuseMotion}
 use Rattle.machine.specs.Walks.{place_after}
 use Rattle.machine.specs.Causes.{Motion, needs_place, lacks_place}
 use Rattle.reader.proofs.Walking.{destination_is, pair_is}
@@ -94,6 +97,11 @@ module _ {K : Type 0} {g : _} (cmp : Order) (motion : Motion) (before after : Wh
         subst (λ files. IsSome (table_at files number)) (sym (w.reads.files f)) there.2,
       )
 
+  -- where it is refused as damaged, the file of one of its tables is torn
+  torn_of : (result : Result (Unit {0}) DbError) → IsScanned cmp (destination cmp motion) before after old new result
+      → IfErr result (λ e. Refuses e before.seen.facts after.seen.facts (HasTornFile cmp before old) (IsScanLimited cmp old before))
+  torn_of result w = if_refuses result before.seen.facts after.seen.facts _ _ _ (λ damaged walk h. let one = damaged (walked_of walk) h.scan in (one.0, h.scan.torn one.0 one.1)) w.refused
+
   pub moved_err : (e : DbError) → IsScanned cmp (destination cmp motion) before after old new (Err e) → IsMoved cmp motion before after old new (Err e)
   moved_err e w = record {
     memory = w.memory;
@@ -102,16 +110,19 @@ module _ {K : Type 0} {g : _} (cmp : Order) (motion : Motion) (before after : Wh
     still = w.still;
     stayed = same_standing new.walk.sequence old.walk.sequence new.walk.stands old.walk.stands new.walk.here.key.items old.walk.here.key.items w.sequence w.stayed.0 w.stayed.1;
     version = ap (λ v. v.value.tables) w.reads_as.version;
+    tables = w.tables;
     allowed = may_refuse motion e before.seen.facts after.seen.facts _ _ w.refused;
     placeless = not_lacking (lacks_place old.walk.stands motion) _ placed;
     placed = λ none. is_read_error e before.seen.facts after.seen.facts _ _ w.refused;
     refused = λ none. refuses_as e before.seen.facts after.seen.facts ((at : Walked) → IsScan cmp old before at → ⊥) (IsNoWalk cmp before old) (IsScanLimited cmp old before)
-        (λ none_is limited walk is. none_is (walked_of walk) is.scan) w.refused;
+        (λ none_is limited walk is. none_is (walked_of walk) is.scan) (refused_whole cmp (destination cmp motion) before after old new (Err e) w);
+    torn = λ none. torn_of (Err e) w;
+    may_move = λ f none m h. record { bound = bound_on (Err e) new w refl h.bound; scan = w.moves f (walked_of m) h.scan };
     keeps = w.keeps;
-    moves = λ f none limited m h. record { bound = bound_on (Err e) new w refl h.bound; scan = w.moves f (walked_of m) h.scan; limits = λ is past. h.limits is (past_before (Err e) new w w.reads_as f past); tables = tables_on (Err e) new w w.reads_as (λ number read. read) f h.tables };
+    moves = λ f none limited m h. record { bound = bound_on (Err e) new w refl h.bound; scan = moves_whole cmp (destination cmp motion) before after old new (Err e) w f (walked_of m) h.scan; limits = λ is past. h.limits is (past_before (Err e) new w w.reads_as f past); tables = tables_on (Err e) new w w.reads_as (λ number read. read) f h.tables };
   }
 
-  pub moved_ok : (pair : Option (List ℕ × List ℕ)) → ((at : Walked) → IsScan cmp new after at → pair ≡ pair_on at) → IsScanned cmp (destination cmp motion) before after old new (Ok tt)
+  pub moved_ok : (pair : Option (List ℕ × List ℕ)) → ((at : Walked) → MayBeScan cmp new after at → pair ≡ pair_on at) → IsScanned cmp (destination cmp motion) before after old new (Ok tt)
       → IsMoved cmp motion before after old new (Ok pair)
   moved_ok pair reads w = record {
     memory = w.memory;
@@ -120,36 +131,50 @@ module _ {K : Type 0} {g : _} (cmp : Order) (motion : Motion) (before after : Wh
     still = w.still;
     stayed = tt;
     version = ap (λ v. v.value.tables) w.reads_as.version;
+    tables = w.tables;
     allowed = tt;
     placeless = not_lacking (lacks_place old.walk.stands motion) _ placed;
     placed = λ none. tt;
     refused = λ none. tt;
+    torn = λ none. tt;
+    may_move = λ f none m h.
+        let there : Walk = record m { place = place_after cmp motion m } in
+        let on : MayBeScan cmp new after (walked_of there) =
+        subst (λ (place : Option ℕ). MayBeScan cmp new after (record (walked_of m) { place = place })) (destination_is cmp motion m) (w.moves f (walked_of m) h.scan) in
+        (record { bound = bound_on (Ok tt) new w refl h.bound; scan = on }, reads (walked_of there) on ∙ pair_is there);
     keeps = w.keeps;
     moves = λ f none limited m h.
         let there : Walk = record m { place = place_after cmp motion m } in
         let on : IsScan cmp new after (walked_of there) =
-        subst (λ (place : Option ℕ). IsScan cmp new after (record (walked_of m) { place = place })) (destination_is cmp motion m) (w.moves f (walked_of m) h.scan) in
-        (record { bound = bound_on (Ok tt) new w refl h.bound; scan = on; limits = λ is past. h.limits is (past_before (Ok tt) new w w.reads_as f past); tables = tables_on (Ok tt) new w w.reads_as (λ number read. read) f h.tables }, reads (walked_of there) on ∙ pair_is there);
+        subst (λ (place : Option ℕ). IsScan cmp new after (record (walked_of m) { place = place })) (destination_is cmp motion m) (moves_whole cmp (destination cmp motion) before after old new (Ok tt) w f (walked_of m) h.scan) in
+        (record { bound = bound_on (Ok tt) new w refl h.bound; scan = on; limits = λ is past. h.limits is (past_before (Ok tt) new w w.reads_as f past); tables = tables_on (Ok tt) new w w.reads_as (λ number read. read) f h.tables }, reads (walked_of there) (may_of cmp new after (walked_of there) on) ∙ pair_is there);
   }
 
   -- the pair found no memory, and the move was taken back
-  pub taken_back : (stood : Bool) (back : Scan K g) → stood ≡ old.walk.stands → TakesBack cmp stood new back → back.walk.sequence ≡ new.walk.sequence → back.walk.stands ≡ stood → back.walk.here.key.items ≡ key_before new.walk → ReadsAs new back
+  pub taken_back : (stood : Bool) (back : Scan K g) → stood ≡ old.walk.stands → back.walk.cursor ≡ new.walk.cursor → TakesBack cmp stood new back → back.walk.sequence ≡ new.walk.sequence → back.walk.stands ≡ stood → back.walk.here.key.items ≡ key_before new.walk → ReadsAs new back
       → ((number : ℕ) → reads_table back number → reads_table new number) → IsScanned cmp (destination cmp motion) before after old new (Ok tt) → IsMoved cmp motion before after old back (Err error.OutOfMemory)
-  taken_back stood back was again sequence stands key alike fewer w = record {
+  taken_back stood back was cursor again sequence stands key alike fewer w = record {
     memory = w.memory;
     reads = w.reads;
     carries = w.carries;
     still = w.still;
     stayed = same_standing back.walk.sequence old.walk.sequence back.walk.stands old.walk.stands back.walk.here.key.items old.walk.here.key.items (sequence ∙ w.sequence) (stands ∙ was) (key ∙ w.left);
     version = ap (λ v. v.value.tables) both.version;
+    tables = λ number read. w.tables number (fewer number read);
     allowed = tt;
     placeless = not_lacking (lacks_place old.walk.stands motion) _ placed;
     placed = λ none. tt;
     refused = λ none. tt;
+    torn = λ none. tt;
+    may_move = λ f none m h. record {
+      bound = bound_on (Ok tt) back w sequence h.bound;
+      scan = again old before after (walked_of m).pairs m.place (destination cmp motion (walked_of m)) h.scan (w.moves f (walked_of m) h.scan) (sym was) w.sequence w.left;
+    };
     keeps = w.keeps;
     moves = λ f none limited m h. record {
       bound = bound_on (Ok tt) back w sequence h.bound;
-      scan = again old before after (walked_of m).pairs m.place (destination cmp motion (walked_of m)) h.scan (w.moves f (walked_of m) h.scan) (sym was) w.sequence w.left;
+      scan = back_whole cmp stood new back cursor again old before after (walked_of m).pairs m.place (destination cmp motion (walked_of m)) h.scan
+          (moves_whole cmp (destination cmp motion) before after old new (Ok tt) w f (walked_of m) h.scan) (sym was) w.sequence w.left;
       limits = λ is past. h.limits is (past_before (Ok tt) back w both f past);
       tables = tables_on (Ok tt) back w both fewer f h.tables;
     };

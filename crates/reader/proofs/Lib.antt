@@ -3,3 +3,4 @@ pub mod Iterations
 pub mod Shown
 pub mod Beginnings
 pub mod Starting
+pub mod MayShown

@@ -1,7 +1,7 @@
 -- What a map that is shown says of the tables and of the logs' entries.
 use Rattle.std.proofs.Common.{◌≡◌, inl, inr, ℕ, ◌≤◌, suc, IsTrue, IsSome, ◌⊎◌, Option, Some, None, List, [], ◌∷◌, ◌++◌, Contains, map, unwrap_or, refl, sym, ap, subst, ◌∙◌, arith}
 use Rattle.std.specs.Cmp.{IsTotalOrder}
-use Rattle.std.specs.FinMap.{IsAntisymmetric, get}
+use Rattle.std.specs.FinMap.{IsAntisymmetric}
 use Rattle.cache.specs.Tables.{table_at}
 use Rattle.coding.specs.declared.error.DbError.{DbError}
 use Rattle.coding.specs.declared.error.DbError.TheVariants as error
@@ -9,17 +9,16 @@ use Rattle.cursor.specs.Moves.{Refuses}
 use Rattle.edits.specs.declared.field.PlacedTable.{PlacedTable}
 use Rattle.ikey.specs.declared.entry.Entry.{Entry}
 use Rattle.ikey.specs.Orders.{Order}
-use Rattle.ikey.specs.Sources.{IsNewerThan, joined, SameEntries, IsAnswer, FrontLaw, BehindLaw, SameViewLaw}
-use Rattle.ikey.specs.Views.{Among, Contents, IsUnseen, IsValueAt, view-value}
-use Rattle.ikey.proofs.SearchedSources.{among_split, among_front, among_back}
+use Rattle.ikey.specs.Sources.{IsNewerThan, joined, SameEntries, IsAnswer}
+use Rattle.ikey.specs.Views.{Among, Contents, IsValueAt}
 use Rattle.memtables.specs.Memories.{logged_in}
 use Rattle.memtables.specs.PlaceLaws.{left_kept, left_logged}
 use Rattle.memtables.specs.Places.{LeavesMemories}
-use Rattle.recover.specs.Directory.{IsConsistent, entries_in, used_in}
+use Rattle.recover.specs.Directory.{IsConsistent, entries_in}
 use Rattle.recover.specs.Tables.{TableContent, InTables, tabled}
 use Rattle.store.specs.Files.{Files}
-use Rattle.table_access.specs.Tables.{Seen, Carries}
-use Rattle.version_get.specs.Gets.{HasTablesOf, HasNoTablesOf, IsOneTooLong, IsTooLong, SaysOfAll}
+use Rattle.table_access.specs.Tables.{Carries}
+use Rattle.version_get.specs.Gets.{HasTablesOf, HasNoTablesOf, IsOneTooLong, IsTooLong}
 use Rattle.version_laws.specs.Laws.{VersionLaw}
 use Rattle.version_laws.specs.Places.{table_sources}
 use Rattle.db_cursor.specs.Scans.{IsOnePastLimit, KeepsScan, KeepsUpTo, reads_memory, reads_table, tables_of}
@@ -34,32 +33,10 @@ use Rattle.reader.specs.Refusals.{RefusesRead}
 use Rattle.table.specs.Reading.{IsErrorStill}
 use Rattle.std.specs.declared.cmp.Ordering.{Ordering}
 
--- ---- values of entries, of which some lie in tables, and the newer ones in the logs
-
-turned : (xs ys : List Entry) → SameEntries (xs ++ ys) (ys ++ xs)
-turned xs ys e = (
-  λ i. elim (among_split xs ys e i) [ inl j ↦ among_back ys xs e j | inr j ↦ among_front ys xs e j ],
-  λ i. elim (among_split ys xs e i) [ inl j ↦ among_back xs ys e j | inr j ↦ among_front xs ys e j ],
-)
-
 -- the value of what a search has found
-answered : (source : List Entry) (sequence : ℕ) (key : List ℕ) (answer : Option (Option (List ℕ))) → IsAnswer source sequence key answer → IsValueAt source sequence key (unwrap_or answer None)
+pub answered : (source : List Entry) (sequence : ℕ) (key : List ℕ) (answer : Option (Option (List ℕ))) → IsAnswer source sequence key answer → IsValueAt source sequence key (unwrap_or answer None)
 answered source sequence key (Some value) a = inl a
 answered source sequence key None a = inr (a, refl)
-
-module _ (front : FrontLaw) (behind : BehindLaw) (same : SameViewLaw) (tables inserts : List Entry) (sequence : ℕ) (key : List ℕ) where
-  -- what is found in the logs
-  value_in_memory : (value : Option (List ℕ)) → IsNewerThan inserts tables → IsAnswer inserts sequence key (Some value) → IsValueAt (tables ++ inserts) sequence key value
-  value_in_memory value newer a =
-      (same (inserts ++ tables) (tables ++ inserts) sequence (turned inserts tables)).1 key value (inl (a.0, front inserts tables sequence a.0 newer a.1, a.2, a.3))
-
-  -- and where nothing is, what is found in the tables
-  value_behind : (sources : List (List Entry)) (answer : Option (Option (List ℕ))) → SameEntries (joined sources) tables → IsAnswer inserts sequence key None → IsAnswer (joined sources) sequence key answer
-      → IsValueAt (tables ++ inserts) sequence key (unwrap_or answer None)
-  value_behind sources answer are unseen a =
-      let value = unwrap_or answer None in
-      let in_tables : IsValueAt tables sequence key value = (same (joined sources) tables sequence are).1 key value (answered (joined sources) sequence key answer a) in
-      (same (inserts ++ tables) (tables ++ inserts) sequence (turned inserts tables)).1 key value (behind inserts tables sequence key value unseen in_tables)
 
 -- ---- members
 
@@ -85,25 +62,6 @@ module _ (order : Order) (whole : Whole) (tables : List PlacedTable) (contents :
   -- all entries
   pub entries_are : tabled shown.directory.tables ++ logged_in whole.memory ≡ entries_in shown.directory
   entries_are = ap (λ (es : List Entry). tabled shown.directory.tables ++ es) shown.logs
-
-  -- the value that they have of a key is the map's
-  value_is : (key : List ℕ) (value : Option (List ℕ)) → IsValueAt (tabled shown.directory.tables ++ logged_in whole.memory) whole.memory.last key value → value ≡ get contents key
-  value_is key value h =
-      let E : List Entry → Type 0 = λ es. IsValueAt es whole.memory.last key value in
-      let U : ℕ → Type 0 = λ used. IsValueAt (entries_in shown.directory) used key value in
-      view-value (entries_in shown.directory) (used_in shown.directory) contents key value shown.view (subst U shown.last (subst E entries_are h))
-
-  module _ (front : FrontLaw) (behind : BehindLaw) (same : SameViewLaw) (key : List ℕ) where
-    -- what the logs answer
-    pub logs_answer : (value : Option (List ℕ)) → IsAnswer (logged_in whole.memory) whole.memory.last key (Some value) → value ≡ get contents key
-    logs_answer value a = value_is key value (value_in_memory front behind same (tabled shown.directory.tables) (logged_in whole.memory) whole.memory.last key value newer a)
-
-    -- and where they have none, the tables
-    pub tables_answer : VersionLaw → IsTotalOrder order.cmp → IsAntisymmetric order.cmp → (new : Seen) (answer : Option (Option (List ℕ))) → IsTrue new.facts.faithful → IsUnseen (logged_in whole.memory) whole.memory.last key
-        → SaysOfAll order whole.seen new tables key whole.memory.last answer → unwrap_or answer None ≡ get contents key
-    tables_answer law total exact new answer f unseen says =
-        let t = tables_found law total exact in
-        value_is key (unwrap_or answer None) (value_behind front behind same (tabled shown.directory.tables) (logged_in whole.memory) whole.memory.last key (table_sources t.0) answer t.2 unseen (says f t.0 t.1))
 
   -- calls that only read leave it
   pub shown_read : {numbers : ℕ → Type 0} (new : Whole) → Carries order.cmp numbers whole.seen new.seen → LeavesMemories whole.memory new.memory → IsTrue new.seen.facts.faithful → Shows order new tables contents

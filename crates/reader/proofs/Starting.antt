@@ -25,11 +25,11 @@ use Rattle.reader.specs.internal.Shows.{Shows}
 use Rattle.reader.proofs.Shown.{entries_are, newer, tables_found}
 
 -- what is newer than entries is newer than the same in another order
-newer_as : (front old new : List Entry) → SameEntries new old → IsNewerThan front old → IsNewerThan front new
+pub newer_as : (front old new : List Entry) → SameEntries new old → IsNewerThan front old → IsNewerThan front new
 newer_as front old new same newer a b i j key = newer a b i ((same b).0 j) key
 
 -- the entries in memory in front of the same in another order
-in_front : (inserts old new : List Entry) → SameEntries new old → SameEntries (old ++ inserts) (inserts ++ new)
+pub in_front : (inserts old new : List Entry) → SameEntries new old → SameEntries (old ++ inserts) (inserts ++ new)
 in_front inserts old new same e = (
   λ i. elim (among_split old inserts e i) [ inl j ↦ among_back inserts new e ((same e).1 j) | inr j ↦ among_front inserts new e j ],
   λ i. elim (among_split inserts new e i) [ inl j ↦ among_back old inserts e j | inr j ↦ among_front old inserts e ((same e).0 j) ],

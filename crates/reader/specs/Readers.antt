@@ -1,7 +1,7 @@
 -- What a reader holds, as its contracts see it.
 use Rattle.std.specs.Prelude.{ℕ, List, IsTrue}
 use Rattle.coding.specs.declared.error.DbError.{DbError}
-use Rattle.store.specs.Files.{Facts}
+use Rattle.store.specs.Files.{Facts, Files}
 use Rattle.ikey.specs.Orders.{Order}
 use Rattle.ikey.specs.Views.{Contents}
 use Rattle.edits.specs.declared.field.PlacedTable.{PlacedTable}
@@ -11,7 +11,7 @@ use Rattle.reader.specs.declared.read_only.ReadOnly.{ReadOnly}
 use Rattle.reader.specs.declared.reader.Reader.{Reader}
 use Rattle.reader.specs.declared.reader.ReaderWalk.{ReaderWalk}
 use Rattle.reader.specs.ReadOnly.{looked_at}
-use Rattle.reader.specs.internal.Shows.{Shows}
+use Rattle.reader.specs.internal.Shows.{HoldsRead, MayShow, Shows}
 use Rattle.reader.specs.Refusals.{RefusesRead}
 
 abbrev pub store_of : {S K : Type 0} → Reader S K → ReadOnly S
@@ -38,6 +38,14 @@ scan_of walk = walk.scan
 abbrev pub ShowsMap : {S K : Type 0} → Order → (S → Facts) → Reader S K → Contents → Type 0
 ShowsMap order facts reader map = Shows order (whole_of facts reader) (tables_of reader) map
 
+-- the reader holds what was read of a directory
+abbrev pub HoldsDirectory : {S K : Type 0} → Order → (S → Facts) → Files → Reader S K → Type 0
+HoldsDirectory order facts files reader = HoldsRead order files (whole_of facts reader) (tables_of reader)
+
+-- as far as the blocks of its tables tell, it may show this one
+abbrev pub MayShowMap : {S K : Type 0} → Order → (S → Facts) → Reader S K → Contents → Type 0
+MayShowMap order facts reader map = MayShow order (whole_of facts reader) (tables_of reader) map
+
 -- Why a key isn't read.
 abbrev pub RefusesGet : {S K : Type 0} → Order → (S → Facts) → Reader S K → Reader S K → DbError → Type 0
 RefusesGet order facts old new e = RefusesRead order (tables_of old) (whole_of facts old) (whole_of facts new) e
@@ -45,3 +53,7 @@ RefusesGet order facts old new e = RefusesRead order (tables_of old) (whole_of f
 -- While the store is faithful, a call leaves the map that is shown.
 abbrev pub KeepsMaps : {S K : Type 0} → Order → (S → Facts) → Reader S K → Reader S K → Type 0
 KeepsMaps order facts old new = IsTrue (facts_of facts new).faithful → (map : Contents) → ShowsMap order facts old map → ShowsMap order facts new map
+
+-- And each that may be shown.
+abbrev pub KeepsMayMaps : {S K : Type 0} → Order → (S → Facts) → Reader S K → Reader S K → Type 0
+KeepsMayMaps order facts old new = IsTrue (facts_of facts new).faithful → (map : Contents) → MayShowMap order facts old map → MayShowMap order facts new map

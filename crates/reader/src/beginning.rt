@@ -8,7 +8,7 @@ ghost use Rattle.recover.specs.Reading.{ReadsDirectory, IsCounted, Recovers};
 ghost use Rattle.recover.specs.declared.reading.Recovered.{Recovered};
 ghost use Rattle.db_cursor.specs.Whole.{whole_in};
 ghost use Rattle.reader.specs.Refusals.{RefusesReader};
-ghost use Rattle.reader.specs.internal.Shows.{Shows};
+ghost use Rattle.reader.specs.internal.Shows.{HoldsRead, Shows};
 
 use coding::DbError;
 use db_cursor::Sources;
@@ -33,6 +33,8 @@ pub fn begin<K: KeyOrder, S: Store>(
     ensures counted { IsCounted (S.facts source.old.tables.store) (S.facts source.new.tables.store) result }
     ensures found { IfOk result (λ _. IsTrue (S.facts source.new.tables.store).faithful
         → (recovered : Recovered) × Recovers (order_of K.name K.cmp) (S.facts source.old.tables.store).files recovered) }
+    ensures holds { IfOk result (λ version. IsTrue (S.facts source.new.tables.store).faithful
+        → HoldsRead (order_of K.name K.cmp) (S.facts source.old.tables.store).files (whole_in S.facts source.new) version.value.tables) }
     ensures shows { IfOk result (λ version. IsTrue (S.facts source.new.tables.store).faithful → (d : Directory) (map : Contents)
         → IsConsistent (order_of K.name K.cmp) (S.facts source.old.tables.store).files d → IsView (entries_in d) (used_in d) map
         → Shows (order_of K.name K.cmp) (whole_in S.facts source.new) version.value.tables map) }

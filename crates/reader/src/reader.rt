@@ -46,10 +46,10 @@ impl<S: Store, K: KeyOrder> Reader<S, K> {
     ghost use Rattle.db_cursor.specs.declared.scan.Scan.{Scan};
     ghost use Rattle.reader.specs.Refusals.{RefusesReader};
     ghost use Rattle.reader.specs.internal.Motions.{motion_of};
-    ghost use Rattle.reader.specs.Moving.{BeginsWalk, IsMoved, KeepsWalks};
+    ghost use Rattle.reader.specs.Moving.{BeginsWalk, IsMoved, KeepsMayBe, KeepsWalks, MayBeginWalk};
     ghost use Rattle.reader.specs.ReadOnly.{looked_at};
     ghost use Rattle.reader.specs.Readers.{facts_of, whole_of, scan_of, store_of, last_of};
-    ghost use Rattle.reader.specs.Readers.{RefusesGet, ShowsMap, KeepsMaps};
+    ghost use Rattle.reader.specs.Readers.{HoldsDirectory, RefusesGet, ShowsMap, KeepsMaps, KeepsMayMaps, MayShowMap};
 
     /// Reads `CURRENT`, the MANIFEST and the logs, and sees that each table is there with its length. `NoDatabase` for an empty
     /// directory, Corrupt and Unsupported as an open of a database. It asks for no lock and draws no number. So many blocks are kept in
@@ -63,6 +63,9 @@ impl<S: Store, K: KeyOrder> Reader<S, K> {
         ensures shows { IfOk result (λ reader. IsTrue (facts_of S.facts reader).faithful → (d : Directory) (map : Contents)
             → IsConsistent (order_of K.name K.cmp) (looked_at S.facts store).files d → IsView (entries_in d) (used_in d) map
             → ShowsMap (order_of K.name K.cmp) S.facts reader map) }
+        // Whatever its tables hold: its version and its logs' entries are those of the directory.
+        ensures holds { IfOk result (λ reader. IsTrue (facts_of S.facts reader).faithful
+            → HoldsDirectory (order_of K.name K.cmp) S.facts (looked_at S.facts store).files reader) }
         ensures found { IfOk result (λ reader. IsTrue (facts_of S.facts reader).faithful
             → (recovered : Recovered) × Recovers (order_of K.name K.cmp) (looked_at S.facts store).files recovered) }
         ensures refused { IfErr result (λ e. RefusesReader (order_of K.name K.cmp) e.0 (looked_at S.facts store) (looked_at S.facts e.1)) }
@@ -84,6 +87,12 @@ impl<S: Store, K: KeyOrder> Reader<S, K> {
         // While the store is faithful, it is that of the map that is shown.
         ensures found { IfOk result (λ value. IsTrue (facts_of S.facts self.new).faithful → (map : Contents)
             → ShowsMap (order_of K.name K.cmp) S.facts self.old map → value ≡ get map key.now) }
+        // So it is of each map that its tables may have, as far as their blocks tell.
+        ensures may { IfOk result (λ value. IsTrue (facts_of S.facts self.new).faithful → (map : Contents)
+            → MayShowMap (order_of K.name K.cmp) S.facts self.old map → value ≡ get map key.now) }
+        ensures may_show { KeepsMayMaps (order_of K.name K.cmp) S.facts self.old self.new }
+        ensures may_walk { IsTrue (facts_of S.facts self.new).faithful → (scan : Scan K K.KeyOrder)
+            → KeepsMayBe K.cmp scan (whole_of S.facts self.old) (whole_of S.facts self.new) }
         ensures shows { KeepsMaps (order_of K.name K.cmp) S.facts self.old self.new }
         ensures walks { IsTrue (facts_of S.facts self.new).faithful → (scan : Scan K K.KeyOrder)
             → KeepsWalks K.cmp scan (whole_of S.facts self.old) (whole_of S.facts self.new) }
@@ -97,8 +106,10 @@ impl<S: Store, K: KeyOrder> Reader<S, K> {
 
     /// A walk over all pairs of the map. Nothing is read.
     pub fn walk(&self, alloc: Global) -> Result<ReaderWalk<K>, AllocError>
-        ensures { IfOk result (λ walk. (map : Contents) → ShowsMap (order_of K.name K.cmp) S.facts self.now map
+        ensures begins { IfOk result (λ walk. (map : Contents) → ShowsMap (order_of K.name K.cmp) S.facts self.now map
             → BeginsWalk K.cmp true map (whole_of S.facts self.now) (scan_of walk)) }
+        ensures may { IfOk result (λ walk. (map : Contents) → MayShowMap (order_of K.name K.cmp) S.facts self.now map
+            → MayBeginWalk K.cmp map (whole_of S.facts self.now) (scan_of walk)) }
     {
         // Laws, for the proof alone.
         same_view();
@@ -117,6 +128,9 @@ impl<S: Store, K: KeyOrder> Reader<S, K> {
         movement: Movement<'_>,
     ) -> Result<Option<(Bytes, Bytes)>, DbError>
         ensures moved { IsMoved K.cmp (motion_of movement.entry) (whole_of S.facts self.old) (whole_of S.facts self.new) (scan_of walk.old) (scan_of walk.new) result }
+        ensures may_show { KeepsMayMaps (order_of K.name K.cmp) S.facts self.old self.new }
+        ensures may_walk { IsTrue (facts_of S.facts self.new).faithful → (scan : Scan K K.KeyOrder)
+            → KeepsMayBe K.cmp scan (whole_of S.facts self.old) (whole_of S.facts self.new) }
         ensures shows { KeepsMaps (order_of K.name K.cmp) S.facts self.old self.new }
         ensures walks { IsTrue (facts_of S.facts self.new).faithful → (scan : Scan K K.KeyOrder)
             → KeepsWalks K.cmp scan (whole_of S.facts self.old) (whole_of S.facts self.new) }

@@ -7,8 +7,8 @@ ghost use Rattle.ikey.specs.Views.{Contents};
 ghost use Rattle.table.specs.Reading.{Reads};
 ghost use Rattle.db_cursor.specs.Whole.{whole_in};
 ghost use Rattle.db_cursor.specs.declared.scan.Scan.{Scan};
-ghost use Rattle.reader.specs.Moving.{KeepsWalks};
-ghost use Rattle.reader.specs.internal.Shows.{Shows, KeepsShown};
+ghost use Rattle.reader.specs.Moving.{KeepsMayBe, KeepsWalks};
+ghost use Rattle.reader.specs.internal.Shows.{KeepsMayShow, KeepsShown, MayShow, Shows};
 ghost use Rattle.reader.specs.Refusals.{RefusesRead};
 
 use coding::{Bytes, DbError};
@@ -30,6 +30,12 @@ pub fn value_of<K: KeyOrder, S: Store>(
 ) -> Result<Option<Bytes>, DbError>
     ensures found { IfOk result (λ value. IsTrue (S.facts source.new.tables.store).faithful → (map : Contents)
         → Shows (order_of K.name K.cmp) (whole_in S.facts source.old) version.now.value.tables map → value ≡ get map key.now) }
+    // So whichever entries the tables may have, as far as their blocks tell.
+    ensures may { IfOk result (λ value. IsTrue (S.facts source.new.tables.store).faithful → (map : Contents)
+        → MayShow (order_of K.name K.cmp) (whole_in S.facts source.old) version.now.value.tables map → value ≡ get map key.now) }
+    ensures may_show { KeepsMayShow (order_of K.name K.cmp) version.now.value.tables (whole_in S.facts source.old) (whole_in S.facts source.new) }
+    ensures may_walk { IsTrue (S.facts source.new.tables.store).faithful → (scan : Scan K K.KeyOrder)
+        → KeepsMayBe K.cmp scan (whole_in S.facts source.old) (whole_in S.facts source.new) }
     ensures shows { KeepsShown (order_of K.name K.cmp) version.now.value.tables (whole_in S.facts source.old) (whole_in S.facts source.new) }
     ensures walks { IsTrue (S.facts source.new.tables.store).faithful → (scan : Scan K K.KeyOrder)
         → KeepsWalks K.cmp scan (whole_in S.facts source.old) (whole_in S.facts source.new) }

@@ -1,29 +1,24 @@
--- What a get through tables has found, and why it was refused.
-use Rattle.std.proofs.Common.{◌≡◌, inl, inr, ◌==◌, ◌+◌, ◌-◌, ◌<◌, ◌≤◌, ℕ, suc, Bool, true, false, cond, IsTrue, Option, Some, None, is_some, List, [], ◌∷◌, map, length, refl, sym, ap, ◌∙◌, subst, arith}
+-- How far a get through tables has come, and why it was refused.
+use Rattle.std.proofs.Common.{◌≡◌, inl, inr, ◌==◌, ◌+◌, ◌-◌, ◌<◌, ◌≤◌, ℕ, suc, Bool, true, false, cond, IsTrue, Option, Some, None, List, [], ◌∷◌, map, length, refl, sym, ap, ◌∙◌, subst, arith}
 use Rattle.std.specs.Prelude.{Contains}
 use Rattle.std.specs.Cmp.{IsTotalOrder}
-use Rattle.std.specs.FinMap.{IsAntisymmetric}
 use Rattle.cursor.specs.Moves.{Refuses}
 use Rattle.coding.specs.declared.error.DbError.{DbError}
 use Rattle.coding.specs.declared.error.DbError.TheVariants.{OutOfMemory, Io, Corrupt, Unsupported}
 use Rattle.edits.specs.declared.field.PlacedTable.{PlacedTable}
 use Rattle.ikey.specs.declared.entry.Entry.{Entry}
-use Rattle.ikey.specs.Entries.{entry_of}
-use Rattle.ikey.specs.Keys.{IsFirstKey}
 use Rattle.ikey.specs.Orders.{Order}
 use Rattle.ikey.specs.Sources.{IsAnswer}
 use Rattle.recover.specs.internal.Checks.{content_of}
 use Rattle.recover.specs.Tables.{TableContent, HasTable, InTables}
 use Rattle.recover.proofs.Memberships.{one_of_tables}
 use Rattle.recover.proofs.NameScan.{in_cons, in_none}
-use Rattle.version_get.specs.Gets.{TableHasEntries, TableHasNoEntries, SaysOfTable, IsTooLong, IsOnlyTooLong, HasTablesOf, HasNoTablesOf, SaysOfAll, IsOneTooLong}
-use Rattle.version_laws.specs.Laws.{IsSearchedUpTo, IsStep}
+use Rattle.version_get.specs.Gets.{TableHasEntries, TableHasNoEntries, IsTooLong, IsOnlyTooLong, HasTablesOf, HasNoTablesOf, IsOneTooLong}
 use Rattle.version_laws.specs.Places.{HasVersion}
-use Rattle.version_laws.proofs.Walking.{step, found, ended}
 use Rattle.version_laws.proofs.TableKeys.{first_kept, last_kept}
 use Rattle.table_access.specs.Ends.{HasKeysOf}
-use Rattle.table_access.specs.Tables.{Seen, Carries, HasSoundTable as HasFileOf, Only, SaysOf}
-use Rattle.table_access.specs.Values.{HasValue, IsLookUp, IsNoTable, IsTablePastLimit}
+use Rattle.table_access.specs.Tables.{Seen, Carries, HasSoundTable as HasFileOf, Only}
+use Rattle.table_access.specs.Values.{IsLookUp, IsNoTable, IsTablePastLimit}
 use Rattle.table_access.specs.TableLaws.{carries_both, carries_itself, carries_more}
 use Rattle.cache.specs.Tables.{table_at}
 use Rattle.versions.specs.Levels.{HasNumber}
@@ -32,18 +27,13 @@ use Rattle.versions.specs.Searches.{IsSearchedAt, IsSearchedNext, search_length}
 
 -- ---- one table
 
-answer_is : (entries : List Entry) (key : List ℕ) (sequence : ℕ) (value : Option (Option (List ℕ))) → IsLookUp entries sequence key value → IsAnswer entries sequence key value
+pub answer_is : (entries : List Entry) (key : List ℕ) (sequence : ℕ) (value : Option (Option (List ℕ))) → IsLookUp entries sequence key value → IsAnswer entries sequence key value
 answer_is entries key sequence None h = h
 answer_is entries key sequence (Some value) h = h
 
 module _ (order : Order) (total : IsTotalOrder order.cmp) (old new : Seen) (placed : PlacedTable) where
   file_of : (entries : List Entry) (has : TableHasEntries order old placed entries) → HasFileOf order.cmp old placed.table.number has.1.bytes
   file_of entries has = record { sound = has.0; file_is = has.1.there }
-
-  pub value_is : (key : List ℕ) (sequence : ℕ) (value : Option (Option (List ℕ))) → SaysOf order.cmp old new placed.table.number (λ file. HasValue order.cmp file key sequence value) → SaysOfTable order old new placed key sequence value
-  value_is key sequence value says t entries has =
-      let kept = has.1.spelled in
-      subst (λ (es : List Entry). IsAnswer es sequence key value) (sym kept.2) (answer_is (map entry_of kept.0) key sequence value (says t has.1.bytes (file_of entries has) kept.0 kept.1))
 
   keys_of : (entries : List Entry) (has : TableHasEntries order old placed entries) → HasKeysOf placed has.1.spelled.0
   keys_of entries has = record { first = first_kept order total old.facts.files (content_of placed entries) has.1; last = last_kept order total old.facts.files (content_of placed entries) has.1 }
@@ -116,85 +106,52 @@ none_behind order tables key from end e le place placed low is =
 
 -- ---- a search
 
--- So far it has read the tables at the places in front of this one, in which the key isn't seen.
-pub record IsSought (order : Order) (old now : Seen) (tables : List PlacedTable) (key : List ℕ) (sequence from : ℕ) : Type 0 where
+-- So far it has read some of the tables.
+pub record IsSought (order : Order) (old now : Seen) (tables : List PlacedTable) : Type 0 where
   pub carries : Carries order.cmp (λ number. HasNumber number tables) old now
   pub still : now.facts.failures ≡ old.facts.failures
-  pub so_far : IsTrue now.facts.faithful → (contents : List TableContent) → HasTablesOf order old tables contents → IsSearchedUpTo contents key sequence from
 
-pub begins : (order : Order) (old : Seen) (tables : List PlacedTable) (key : List ℕ) (sequence : ℕ) → IsSought order old old tables key sequence 0
-begins order old tables key sequence = record { carries = carries_itself order.cmp old; still = refl; so_far = λ t contents has i lt. absurd (omega (arith, lt)) }
+pub begins : (order : Order) (old : Seen) (tables : List PlacedTable) → IsSought order old old tables
+begins order old tables = record { carries = carries_itself order.cmp old; still = refl }
 
-module _ (order : Order) (o : IsTotalOrder order.cmp) (exact : IsAntisymmetric order.cmp) (old now : Seen) (tables : List PlacedTable) (key : List ℕ) (sequence : ℕ) (target : List ℕ) (first : IsFirstKey key sequence target) (from : ℕ)
-    (sought : IsSought order old now tables key sequence from) where
-  -- where no table is searched any more
-  pub has_ended : ((place : ℕ) (placed : PlacedTable) → from ≤ place → IsSearchedAt order.cmp target tables place placed → ⊥) → SaysOfAll order old now tables key sequence None
-  has_ended none t contents has = ended order old.facts.files tables contents key sequence target from o exact has.1 first (sought.so_far t contents has) none
+module _ (order : Order) (old now : Seen) (tables : List PlacedTable) (target : List ℕ) (from : ℕ) (sought : IsSought order old now tables) (place : ℕ) (placed : PlacedTable) (next : IsSearchedNext order.cmp target tables from place placed) where
+  content_at : (contents : List TableContent) → HasVersion order old.facts.files tables contents → (content : TableContent) × InTables contents content × (content.placed ≡ placed)
+  content_at contents version = from_placed contents placed (subst (λ (ps : List PlacedTable). Contains ps placed) (sym version.placed) (in_version order tables target place placed next.here))
 
-  module _ (place : ℕ) (placed : PlacedTable) (next : IsSearchedNext order.cmp target tables from place placed) where
-    content_at : (contents : List TableContent) → HasVersion order old.facts.files tables contents → (content : TableContent) × InTables contents content × (content.placed ≡ placed)
-    content_at contents version = from_placed contents placed (subst (λ (ps : List PlacedTable). Contains ps placed) (sym version.placed) (in_version order tables target place placed next.here))
+  -- the table has its entries, in the source as it was and as it is
+  has_old : (contents : List TableContent) (version : HasVersion order old.facts.files tables contents) → HasTable order old.facts.files (content_of placed (content_at contents version).0.entries)
+  has_old contents version =
+      let c = content_at contents version in
+      let P : PlacedTable → Type 0 = λ p. HasTable order old.facts.files (content_of p c.0.entries) in
+      subst P c.2 (one_of_tables order old.facts.files contents c.0 version.are c.1)
 
-    -- the table has its entries, in the source as it was and as it is
-    has_old : (contents : List TableContent) (version : HasVersion order old.facts.files tables contents) → HasTable order old.facts.files (content_of placed (content_at contents version).0.entries)
-    has_old contents version =
-        let c = content_at contents version in
-        let P : PlacedTable → Type 0 = λ p. HasTable order old.facts.files (content_of p c.0.entries) in
-        subst P c.2 (one_of_tables order old.facts.files contents c.0 version.are c.1)
+  has_now : IsTrue now.facts.faithful → (contents : List TableContent) (has : HasTablesOf order old tables contents) → TableHasEntries order now placed (content_at contents has.1).0.entries
+  has_now t contents has =
+      let entries = (content_at contents has.1).0.entries in
+      (sought.carries.sound t has.0, subst (λ files. HasTable order files (content_of placed entries)) (sym (sought.carries.reads.files t)) (has_old contents has.1))
 
-    has_now : IsTrue now.facts.faithful → (contents : List TableContent) (has : HasTablesOf order old tables contents) → TableHasEntries order now placed (content_at contents has.1).0.entries
-    has_now t contents has =
-        let entries = (content_at contents has.1).0.entries in
-        (sought.carries.sound t has.0, subst (λ files. HasTable order files (content_of placed entries)) (sym (sought.carries.reads.files t)) (has_old contents has.1))
+  its_number : (number : ℕ) → Only placed.table.number number → HasNumber number tables
+  its_number number same = let there = in_version order tables target place placed next.here in (there.0, placed, there.1, there.2, sym same)
 
-    is_step : IsTrue now.facts.faithful → (contents : List TableContent) (has : HasTablesOf order old tables contents) → IsStep order old.facts.files tables contents key sequence target from place placed (content_at contents has.1).0.entries
-    is_step t contents has = record { total = o; exact = exact; version = has.1; sought = first; so_far = sought.so_far t contents has; next = next; has = has_old contents has.1 }
+  module _ (new : Seen) (carries : Carries order.cmp (Only placed.table.number) now new) where
+    pub carried : Carries order.cmp (λ number. HasNumber number tables) old new
+    carried = carries_both order.cmp old now new sought.carries (carries_more order.cmp now new its_number carries)
 
-    its_number : (number : ℕ) → Only placed.table.number number → HasNumber number tables
-    its_number number same = let there = in_version order tables target place placed next.here in (there.0, placed, there.1, there.2, sym same)
+    -- the table is read
+    pub goes_on : new.facts.failures ≡ now.facts.failures → IsSought order old new tables
+    goes_on stood = record { carries = carried; still = stood ∙ sought.still }
 
-    module _ (new : Seen) (carries : Carries order.cmp (Only placed.table.number) now new) where
-      pub carried : Carries order.cmp (λ number. HasNumber number tables) old new
-      carried = carries_both order.cmp old now new sought.carries (carries_more order.cmp now new its_number carries)
-
-      -- the key isn't seen in the table
-      pub goes_on : new.facts.failures ≡ now.facts.failures → SaysOfTable order now new placed key sequence None → IsSought order old new tables key sequence (place + 1)
-      goes_on stood says = record {
-        carries = carried;
-        still = stood ∙ sought.still;
-        so_far = λ t contents has.
-            let before = carries.reads.faithful t in
-            let entries = (content_at contents has.1).0.entries in
-            step order old.facts.files tables contents key sequence target from place placed entries (is_step before contents has) (says t entries (has_now before contents has));
-      }
-
-      -- it is
-      pub is_found : (value : Option (List ℕ)) → SaysOfTable order now new placed key sequence (Some value) → SaysOfAll order old new tables key sequence (Some value)
-      is_found value says t contents has =
-          let before = carries.reads.faithful t in
-          let entries = (content_at contents has.1).0.entries in
-          found order old.facts.files tables contents key sequence target from place placed entries value (is_step before contents has) (says t entries (has_now before contents has))
-
-      -- and so of an answer that is one of these
-      pub is_answer : (answer : Option (Option (List ℕ))) → true ≡ is_some answer → SaysOfTable order now new placed key sequence answer → SaysOfAll order old new tables key sequence answer
-      is_answer None e says = absurd (let t : true ≡ false = e in cc)
-      is_answer (Some value) e says = is_found value says
-
-      pub is_none : (answer : Option (Option (List ℕ))) → new.facts.failures ≡ now.facts.failures → false ≡ is_some answer → SaysOfTable order now new placed key sequence answer → IsSought order old new tables key sequence (place + 1)
-      is_none None stood e says = goes_on stood says
-      is_none (Some value) stood e says = absurd (let t : false ≡ true = e in cc)
-
-      -- the table isn't read
-      pub not_read : (e : DbError) → Refuses e now.facts new.facts (TableHasNoEntries order now placed) (IsOnlyTooLong order now placed) → Refuses e old.facts new.facts (HasNoTablesOf order old tables) (IsOneTooLong order old tables)
-      not_read OutOfMemory h = tt
-      not_read Io h = let f = sought.carries.reads.failures in omega (arith, f, h)
-      not_read (Corrupt kind what) h = λ t contents has. let before = carries.reads.faithful t in h t (content_at contents has.1).0.entries (has_now before contents has)
-      not_read (Unsupported what) h = λ t. let before = carries.reads.faithful t in elim (h t) [
-        | inl none ↦ inl (λ contents has. none (content_at contents has.1).0.entries (has_now before contents has))
-        | inr past ↦ inr (λ contents has.
-            let c = content_at contents has.1 in
-            let long = past c.0.entries (has_now before contents has) in
-            let here : IsTooLong order old placed = (long.0, ap (λ files. table_at files placed.table.number) (sym (sought.carries.reads.files before)) ∙ long.1, long.2) in
-            (c.0, c.1, subst (λ (p : PlacedTable). IsTooLong order old p) (sym c.2) here))
-      ]
-      not_read e h = absurd h
+    -- it isn't
+    pub not_read : (e : DbError) → Refuses e now.facts new.facts (TableHasNoEntries order now placed) (IsOnlyTooLong order now placed) → Refuses e old.facts new.facts (HasNoTablesOf order old tables) (IsOneTooLong order old tables)
+    not_read OutOfMemory h = tt
+    not_read Io h = let f = sought.carries.reads.failures in omega (arith, f, h)
+    not_read (Corrupt kind what) h = λ t contents has. let before = carries.reads.faithful t in h t (content_at contents has.1).0.entries (has_now before contents has)
+    not_read (Unsupported what) h = λ t. let before = carries.reads.faithful t in elim (h t) [
+      | inl none ↦ inl (λ contents has. none (content_at contents has.1).0.entries (has_now before contents has))
+      | inr past ↦ inr (λ contents has.
+          let c = content_at contents has.1 in
+          let long = past c.0.entries (has_now before contents has) in
+          let here : IsTooLong order old placed = (long.0, ap (λ files. table_at files placed.table.number) (sym (sought.carries.reads.files before)) ∙ long.1, long.2) in
+          (c.0, c.1, subst (λ (p : PlacedTable). IsTooLong order old p) (sym c.2) here))
+    ]
+    not_read e h = absurd h

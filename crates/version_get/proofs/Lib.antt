@@ -1,2 +1,3 @@
 pub mod Getting
+pub mod Possible
 mod Turns

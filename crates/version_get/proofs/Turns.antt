@@ -14,13 +14,13 @@ use Rattle.version_get.specs.Gets.{TableTears, TableTells, TablesTear, TellFirst
 use Rattle.version_get.proofs.Getting.{IsSought, begins}
 use Rattle.versions.specs.Searches.{IsSearchedAt, IsSearchedNext}
 
--- So far it has read the tables in front of this place, in which the key isn't seen, and which tell nothing of it.
+-- So far it has read the tables in front of this place, which tell nothing of the key.
 pub record IsTurned (order : Order) (old now : Seen) (tables : List PlacedTable) (key : List ℕ) (sequence : ℕ) (target : List ℕ) (from : ℕ) : Type 0 where
-  pub sought : IsSought order old now tables key sequence from
+  pub sought : IsSought order old now tables
   pub told : TellNothing order.cmp old now tables key sequence target from
 
 pub turns_begin : (order : Order) (old : Seen) (tables : List PlacedTable) (key : List ℕ) (sequence : ℕ) (target : List ℕ) → IsTurned order old old tables key sequence target 0
-turns_begin order old tables key sequence target = record { sought = begins order old tables key sequence; told = λ place less. absurd (omega (arith, less)) }
+turns_begin order old tables key sequence target = record { sought = begins order old tables; told = λ place less. absurd (omega (arith, less)) }
 
 module _ (cmp : Cmp) (old now : Seen) (tables : List PlacedTable) (key : List ℕ) (sequence : ℕ) (target : List ℕ) (from : ℕ) (told : TellNothing cmp old now tables key sequence target from) where
   -- no table is searched from here on

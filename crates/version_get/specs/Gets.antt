@@ -9,7 +9,8 @@ use Rattle.ikey.specs.Orders.{Order}
 use Rattle.ikey.specs.Sources.{IsAnswer, joined}
 use Rattle.recover.specs.internal.Checks.{content_of}
 use Rattle.recover.specs.Tables.{TableContent, HasTable, InTables}
-use Rattle.version_laws.specs.Places.{table_sources, HasVersion}
+use Rattle.version_laws.specs.Places.{table_sources, HasVersion, MayHaveVersion}
+use Rattle.table_access.specs.Possible.{MayBeTable}
 use Rattle.table_access.specs.Tables.{Seen, IsSound, SaysOf}
 use Rattle.table_access.specs.Telling.{TellsOfKey, TornOfKey}
 use Rattle.table_access.specs.Values.{IsTablePastLimit}
@@ -25,10 +26,6 @@ TableHasEntries order source placed entries = IsSound order.cmp source × HasTab
 -- no entries are those of the table
 abbrev pub TableHasNoEntries : Order → Seen → PlacedTable → Type 0
 TableHasNoEntries order source placed = (entries : List Entry) → TableHasEntries order source placed entries → ⊥
-
--- of a faithful store, this is what the table says of the key
-abbrev pub SaysOfTable : Order → Seen → Seen → PlacedTable → List ℕ → ℕ → Option (Option (List ℕ)) → Type 0
-SaysOfTable order old new placed key sequence value = IsTrue new.facts.faithful → (entries : List Entry) → TableHasEntries order old placed entries → IsAnswer entries sequence key value
 
 -- the file of the table is past a limit of reading
 abbrev pub IsTooLong : Order → Seen → PlacedTable → Type 0
@@ -52,6 +49,15 @@ HasNoTablesOf order source tables = (contents : List TableContent) → HasTables
 abbrev pub SaysOfAll : Order → Seen → Seen → List PlacedTable → List ℕ → ℕ → Option (Option (List ℕ)) → Type 0
 SaysOfAll order old new tables key sequence value =
     IsTrue new.facts.faithful → (contents : List TableContent) → HasTablesOf order old tables contents → IsAnswer (joined (table_sources contents)) sequence key value
+
+-- what is kept is right, and as far as their blocks tell the files may be the tables of the version, with these contents
+abbrev pub MayHaveTablesOf : Order → Seen → List PlacedTable → List TableContent → Type 0
+MayHaveTablesOf order source tables contents = IsSound order.cmp source × MayHaveVersion (MayBeTable order.cmp) order source.facts.files tables contents
+
+-- of a faithful store, this is what all contents say of the key that the tables of the version may have
+abbrev pub SaysOfEach : Order → Seen → Seen → List PlacedTable → List ℕ → ℕ → Option (Option (List ℕ)) → Type 0
+SaysOfEach order old new tables key sequence value =
+    IsTrue new.facts.faithful → (contents : List TableContent) → MayHaveTablesOf order old tables contents → IsAnswer (joined (table_sources contents)) sequence key value
 
 -- whatever contents they have, the file of one of them is past a limit of reading
 abbrev pub IsOneTooLong : Order → Seen → List PlacedTable → Type 0

@@ -3,7 +3,7 @@
 ghost use Rattle.std.specs.Prelude.{◌≡◌, ◌<◌, ◌^◌, ◌+◌, length, IfOk, IfErr};
 ghost use Rattle.cursor.specs.Moves.{Refuses};
 ghost use Rattle.ikey.specs.Orders.{order_of};
-ghost use Rattle.version_get.specs.Gets.{TableHasNoEntries, HasNoTablesOf, IsOneTooLong, IsOnlyTooLong, SaysOfAll, SaysOfTable, TableTears, TableTells, TablesTear, TablesTell};
+ghost use Rattle.version_get.specs.Gets.{TableHasNoEntries, HasNoTablesOf, IsOneTooLong, IsOnlyTooLong, SaysOfAll, SaysOfEach, TableTears, TableTells, TablesTear, TablesTell};
 ghost use Rattle.table_access.specs.Tables.{Carries, Only, seen_through};
 ghost use Rattle.table_access.specs.Telling.{IfCorrupt};
 ghost use Rattle.table.specs.Reading.{IsStill};
@@ -14,7 +14,7 @@ use edits::{LEVELS, PlacedTable};
 use ikey::{KeyOrder, seek_key};
 use std::alloc::Global;
 use store::Store;
-use table_access::{Tables, table_value};
+use table_access::{Tables, table_value, told_for_all};
 use versions::Version;
 
 /// What the newest entry of a user key up to a sequence, below `SEQUENCE_END`, put in the tables of a version: nothing
@@ -31,6 +31,9 @@ pub fn value_in_tables<K: KeyOrder, S: Store>(
     requires { sequence < 2 ^ 56 }
     ensures carries { Carries K.cmp (λ number. HasNumber number version.now.tables) (seen_through S.facts source.old)
         (seen_through S.facts source.new) }
+    // Whichever contents the tables may have, as far as their blocks tell; and so those that they have.
+    ensures may { IfOk result (λ value. SaysOfEach (order_of K.name K.cmp) (seen_through S.facts source.old) (seen_through S.facts source.new)
+        version.now.tables key.now sequence value) }
     ensures found { IfOk result (λ value. SaysOfAll (order_of K.name K.cmp) (seen_through S.facts source.old) (seen_through S.facts source.new)
         version.now.tables key.now sequence value) }
     // Whatever their files hold beside: the first of the tables that tells anything of the key, in the order of the search, tells this.
@@ -44,6 +47,8 @@ pub fn value_in_tables<K: KeyOrder, S: Store>(
         (HasNoTablesOf (order_of K.name K.cmp) (seen_through S.facts source.old) version.now.tables)
         (IsOneTooLong (order_of K.name K.cmp) (seen_through S.facts source.old) version.now.tables)) }
 {
+    // Law, for the proof alone.
+    told_for_all::<K>();
     let target = seek_key(alloc, key, sequence)?;
     let end = search_end(version);
     let mut from = 0;
@@ -78,8 +83,6 @@ fn value_in_table<K: KeyOrder, S: Store>(
 ) -> Result<Option<Option<Bytes>>, DbError>
     requires { sequence < 2 ^ 56 }
     ensures carries { Carries K.cmp (Only placed.now.table.number) (seen_through S.facts source.old) (seen_through S.facts source.new) }
-    ensures found { IfOk result (λ value. SaysOfTable (order_of K.name K.cmp) (seen_through S.facts source.old) (seen_through S.facts source.new)
-        placed.now key.now sequence value) }
     ensures told { IfOk result (λ value. TableTells K.cmp (seen_through S.facts source.old) (seen_through S.facts source.new)
         key.now sequence placed.now value) }
     ensures torn { IfErr result (λ e. IfCorrupt e (TableTears K.cmp (seen_through S.facts source.old) (seen_through S.facts source.new)

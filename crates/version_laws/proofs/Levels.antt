@@ -8,23 +8,20 @@ use Rattle.std.specs.FinMap.{IsAntisymmetric}
 use Rattle.std.specs.Ordering.{is_le}
 use Rattle.ikey.specs.declared.entry.Entry.{Entry}
 use Rattle.ikey.specs.Entries.{internal_key_of}
-use Rattle.ikey.specs.Keys.{IsKey, IsFirstKey}
+use Rattle.ikey.specs.Keys.{IsFirstKey}
 use Rattle.ikey.specs.Orders.{Order}
 use Rattle.ikey.specs.Sources.{joined, IsAnswer, AreInRow, ComesBefore, ComesBeforeSought}
 use Rattle.ikey.specs.Views.{Among, IsUnseen}
 use Rattle.ikey.proofs.SearchedSources as sources
-use Rattle.store.specs.Files.{Files}
 use Rattle.edits.specs.declared.field.PlacedTable.{PlacedTable}
 use Rattle.recover.specs.internal.Checks.{content_of}
-use Rattle.recover.specs.Tables.{TableContent, HasTable, HasTables, internal_key}
-use Rattle.recover.proofs.OneMeaning.{same_table_content}
-use Rattle.recover.proofs.TableFacts.{key_is, fits_of}
+use Rattle.recover.specs.Tables.{TableContent, InTables}
 use Rattle.versions.specs.Levels.{tables_at}
 use Rattle.versions.specs.Ranges.{covers, is_up_to, user_of, first_user, last_user}
 use Rattle.versions.specs.Searches.{EndsBelow, IsTableFor, IsSearchedAt}
 use Rattle.versions.proofs.Keys.{user_of_key, up_refl, true_or_false}
 use Rattle.version_laws.specs.Laws.{SearchedLaw, AnsweredLaw, PassedLaw}
-use Rattle.version_laws.specs.Places.{contents_at, lists_of, table_sources, HasVersion}
+use Rattle.version_laws.specs.Places.{contents_at, lists_of, table_sources, FitVersion, FitsEdit}
 use Rattle.version_laws.proofs.Orders.{placed_of, not_itself}
 use Rattle.version_laws.proofs.Sought.{all_before, last_not, ends_or_not}
 
@@ -39,13 +36,34 @@ placed_at level (c ∷ contents) = by (c.placed.level == level) (placed_at level
     by true e = ap (λ (ps : List PlacedTable). c.placed ∷ ps) e
     by false e = e
 
-has_at : (order : Order) (files : Files) (level : ℕ) (contents : List TableContent) → HasTables order files contents → HasTables order files (contents_at level contents)
-has_at order files level [] h = tt
-has_at order files level (c ∷ contents) h = by (c.placed.level == level) (has_at order files level contents h.1)
+abbrev Fit : Order → List TableContent → Type 0
+Fit order contents = AllByRecursion (FitsEdit order) contents
+
+fit_at : (order : Order) (level : ℕ) (contents : List TableContent) → Fit order contents → Fit order (contents_at level contents)
+fit_at order level [] h = tt
+fit_at order level (c ∷ contents) h = by (c.placed.level == level) (fit_at order level contents h.1)
   where
-    by : (b : Bool) → HasTables order files (contents_at level contents) → HasTables order files (cond b (c ∷ contents_at level contents) (contents_at level contents))
+    by : (b : Bool) → Fit order (contents_at level contents) → Fit order (cond b (c ∷ contents_at level contents) (contents_at level contents))
     by true g = (h.0, g)
     by false g = g
+
+-- a table of a level is one of all
+in_all : (level : ℕ) (contents : List TableContent) (c : TableContent) → InTables (contents_at level contents) c → InTables contents c
+in_all level [] c i = i
+in_all level (x ∷ contents) c i = by (x.placed.level == level) (in_all level contents c) i
+  where
+    by : (b : Bool) → (InTables (contents_at level contents) c → InTables contents c) → InTables (cond b (x ∷ contents_at level contents) (contents_at level contents)) c → InTables (x ∷ contents) c
+    by true rest (inl e) = inl e
+    by true rest (inr j) = inr (rest j)
+    by false rest j = inr (rest j)
+
+in_middle : (before : List TableContent) (c : TableContent) (behind : List TableContent) → InTables (before ++ c ∷ behind) c
+in_middle [] c behind = inl refl
+in_middle (t ∷ before) c behind = inr (in_middle before c behind)
+
+-- the table between those in front and those behind is one of all
+in_parted : (level : ℕ) (contents before : List TableContent) (c : TableContent) (behind : List TableContent) → contents_at level contents ≡ before ++ c ∷ behind → InTables contents c
+in_parted level contents before c behind e = in_all level contents c (subst (λ (ts : List TableContent). InTables ts c) (sym e) (in_middle before c behind))
 
 -- the table at an index, those in front of it, and those behind
 split_at : (P : PlacedTable → Type 0) (own : List TableContent) (i : ℕ) → i < length (placed_of own) → AllWithin P (placed_of own) 0 i
@@ -69,9 +87,9 @@ front_length : (before : List TableContent) (c : TableContent) (behind : List Ta
 front_length [] c behind = omega arith
 front_length (t ∷ before) c behind = omega (arith, front_length before c behind)
 
-has_front : (order : Order) (files : Files) (before : List TableContent) (c : TableContent) (behind : List TableContent) → HasTables order files (before ++ c ∷ behind) → HasTables order files before × HasTable order files c
-has_front order files [] c behind h = (tt, h.0)
-has_front order files (t ∷ before) c behind h = let rest = has_front order files before c behind h.1 in ((h.0, rest.0), rest.1)
+fit_front : (order : Order) (before : List TableContent) (c : TableContent) (behind : List TableContent) → Fit order (before ++ c ∷ behind) → Fit order before × FitsEdit order c
+fit_front order [] c behind h = (tt, h.0)
+fit_front order (t ∷ before) c behind h = let rest = fit_front order before c behind h.1 in ((h.0, rest.0), rest.1)
 
 -- ---- the six deeper levels
 
@@ -123,59 +141,56 @@ from_up : (order : Order) → IsTotalOrder order.cmp → (a b : Entry) → (a �
 from_up order o a b (inl same) = up_to order o a b (inl (sym same))
 from_up order o a b (inr h) = up_to order o a b (inr h)
 
-end_key : (order : Order) (files : Files) (content : TableContent) (h : HasTable order files content) (e : Entry) (bytes : List ℕ) → Among content.entries e → internal_key e ≡ bytes → user_of bytes ≡ e.key
-end_key order files content h e bytes i is = user_of_key bytes (internal_key_of e) (subst (λ (b : List ℕ). IsKey b (internal_key_of e)) is (key_is e (fits_of order h.bytes content.entries e h.spelled i)))
-
-covered : (order : Order) (files : Files) (content : TableContent) (user key : List ℕ) (e : Entry) → IsTotalOrder order.cmp → user_of key ≡ user → HasTable order files content → Among content.entries e → e.key ≡ user
+covered : (order : Order) (content : TableContent) (user key : List ℕ) (e : Entry) → IsTotalOrder order.cmp → user_of key ≡ user → FitsEdit order content → Among content.entries e → e.key ≡ user
     → covers order.cmp content.placed (user_of key) ≡ true
-covered order files content user key e o is h i same =
+covered order content user key e o is h i same =
     let low = h.smallest.0 in
     let high = h.largest.0 in
     let at : user_of key ≡ e.key = is ∙ sym same in
-    let first : first_user content.placed ≡ low.key = end_key order files content h low content.placed.table.smallest h.smallest.1 h.smallest.2 in
-    let last : last_user content.placed ≡ high.key = end_key order files content h high content.placed.table.largest h.largest.1 h.largest.2 in
+    let first : first_user content.placed ≡ low.key = user_of_key content.placed.table.smallest (internal_key_of low) h.smallest.2 in
+    let last : last_user content.placed ≡ high.key = user_of_key content.placed.table.largest (internal_key_of high) h.largest.2 in
     and_from (is_up_to order.cmp (first_user content.placed) (user_of key)) (is_up_to order.cmp (user_of key) (last_user content.placed))
     ((λ j. is_up_to order.cmp (first j) (at j)) ∙ up_to order o low e (h.smallest.3 e i))
     ((λ j. is_up_to order.cmp (at j) (last j)) ∙ from_up order o e high (h.largest.3 e i))
 
 -- a table that doesn't cover the key has no entry of it
-not_covered : (order : Order) (files : Files) (content : TableContent) (user key : List ℕ) (sequence : ℕ) → IsTotalOrder order.cmp → user_of key ≡ user → HasTable order files content → covers order.cmp content.placed (user_of key) ≡ false
+not_covered : (order : Order) (content : TableContent) (user key : List ℕ) (sequence : ℕ) → IsTotalOrder order.cmp → user_of key ≡ user → FitsEdit order content → covers order.cmp content.placed (user_of key) ≡ false
     → IsUnseen content.entries sequence user
-not_covered order files content user key sequence o is h no' e i same = let t : false ≡ true = sym no' ∙ covered order files content user key e o is h i same in cc
+not_covered order content user key sequence o is h no' e i same = let t : false ≡ true = sym no' ∙ covered order content user key e o is h i same in cc
 
 -- ---- one level below 0
 
-module _ (order : Order) (files : Files) (o : IsTotalOrder order.cmp) (exact : IsAntisymmetric order.cmp) (user : List ℕ) (sequence : ℕ) (key : List ℕ) (first : IsFirstKey user sequence key) where
+module _ (order : Order) (o : IsTotalOrder order.cmp) (exact : IsAntisymmetric order.cmp) (user : List ℕ) (sequence : ℕ) (key : List ℕ) (first : IsFirstKey user sequence key) where
   every : (P : Entry → Type 0) (es : List Entry) → ((e : Entry) → Among es e → P e) → AllByRecursion P es
   every P [] h = tt
   every P (e ∷ es) h = (h e (inl refl), every P es (λ f i. h f (inr i)))
 
   -- tables that end below the key have none but entries that come before what is sought
-  passed_tables : (own : List TableContent) → HasTables order files own → AllByRecursion (λ (t : TableContent). EndsBelow order.cmp key t.placed) own → AllByRecursion (AllByRecursion (ComesBeforeSought order sequence user)) (lists_of own)
+  passed_tables : (own : List TableContent) → Fit order own → AllByRecursion (λ (t : TableContent). EndsBelow order.cmp key t.placed) own → AllByRecursion (AllByRecursion (ComesBeforeSought order sequence user)) (lists_of own)
   passed_tables [] h g = tt
-  passed_tables (t ∷ own) h g = (every (ComesBeforeSought order sequence user) t.entries (all_before order o exact user sequence key first files t h.0 g.0), passed_tables own h.1 g.1)
+  passed_tables (t ∷ own) h g = (every (ComesBeforeSought order sequence user) t.entries (all_before order o exact user sequence key first t h.0 g.0), passed_tables own h.1 g.1)
 
   parts : (before : List TableContent) (c : TableContent) (behind : List TableContent) → lists_of (before ++ c ∷ behind) ≡ lists_of before ++ c.entries ∷ lists_of behind
   parts before c behind = map-append (λ (t : TableContent). t.entries) before (c ∷ behind)
 
   -- the first table that doesn't end below the key answers for the level
-  answered_at : (before : List TableContent) (c : TableContent) (behind : List TableContent) (answer : Option (Option (List ℕ))) → HasTables order files (before ++ c ∷ behind) → AreInRow order (lists_of (before ++ c ∷ behind))
+  answered_at : (before : List TableContent) (c : TableContent) (behind : List TableContent) (answer : Option (Option (List ℕ))) → Fit order (before ++ c ∷ behind) → AreInRow order (lists_of (before ++ c ∷ behind))
       → AllByRecursion (λ (t : TableContent). EndsBelow order.cmp key t.placed) before → (EndsBelow order.cmp key c.placed → ⊥) → IsAnswer c.entries sequence user answer
       → IsAnswer (joined (lists_of (before ++ c ∷ behind))) sequence user answer
   answered_at before c behind answer has row below none h =
-      let both = has_front order files before c behind has in
+      let both = fit_front order before c behind has in
       let whole = parts before c behind in
       let Q : List (List Entry) → Type 0 = λ lists. IsAnswer (joined lists) sequence user answer in
       subst Q (sym whole) (sources.row_answer order (lists_of before) c.entries (lists_of behind) both.1.largest.0 sequence user answer o
       (subst (λ (lists : List (List Entry)). AreInRow order lists) whole row) (passed_tables before both.0 below) both.1.largest.1
-      (last_not order o exact user sequence key first files c both.1 none) h)
+      (last_not order o exact user sequence key first c both.1 none) h)
 
   -- the first that doesn't end below the key, if there is one
-  find_first : (own : List TableContent) → HasTables order files own → AllByRecursion (λ (t : TableContent). EndsBelow order.cmp key t.placed) own
+  find_first : (own : List TableContent) → Fit order own → AllByRecursion (λ (t : TableContent). EndsBelow order.cmp key t.placed) own
       ⊎ ((before : List TableContent) × (c : TableContent) × (behind : List TableContent) × (own ≡ before ++ c ∷ behind) × AllByRecursion (λ (t : TableContent). EndsBelow order.cmp key t.placed) before × (EndsBelow order.cmp key c.placed → ⊥))
   find_first [] h = inl tt
   find_first (t ∷ own) h =
-      elim (ends_or_not order o exact user sequence key first files t h.0) [
+      elim (ends_or_not order o exact user sequence key first t h.0) [
         | inr none ↦ inr ([], t, own, refl, tt, none)
         | inl below ↦ elim (find_first own h.1) [
           | inl all ↦ inl (below, all)
@@ -185,25 +200,24 @@ module _ (order : Order) (files : Files) (o : IsTotalOrder order.cmp) (exact : I
 
 -- ---- the laws
 
-searched_in : (order : Order) (files : Files) (level i : ℕ) (tables : List PlacedTable) (contents : List TableContent) (placed : PlacedTable) → HasVersion order files tables contents → i < length (tables_at level tables)
-    → ((d : PlacedTable) → get_or (tables_at level tables) i d ≡ placed) → (entries : List Entry) × HasTable order files (content_of placed entries)
-searched_in order files level i tables contents placed v lt at =
+searched_in : (order : Order) (level i : ℕ) (tables : List PlacedTable) (contents : List TableContent) (placed : PlacedTable) → FitVersion order tables contents → i < length (tables_at level tables)
+    → ((d : PlacedTable) → get_or (tables_at level tables) i d ≡ placed) → (entries : List Entry) × InTables contents (content_of placed entries)
+searched_in order level i tables contents placed v lt at =
     let own = contents_at level contents in
     let same : placed_of own ≡ tables_at level tables = placed_at level contents ∙ ap (λ (ps : List PlacedTable). tables_at level ps) v.placed in
     let one = split_at (λ (t : PlacedTable). Unit {0}) own i (omega (arith, lt, ap length same)) (λ k d low high. tt) in
     let c = one.1 in
     let here : c.placed ≡ placed = sym (one.4 placed) ∙ ap (λ (ps : List PlacedTable). get_or ps i placed) same ∙ at placed in
-    let mine = (has_front order files one.0 c one.2 (subst (λ (ts : List TableContent). HasTables order files ts) one.3 (has_at order files level contents v.are))).1 in
     let content : c ≡ content_of placed c.entries = (λ j. record { placed = here j; entries = c.entries }) in
-    (c.entries, subst (λ (t : TableContent). HasTable order files t) content mine)
+    (c.entries, subst (λ (t : TableContent). InTables contents t) content (in_parted level contents one.0 c one.2 one.3))
 
 pub searched_table : SearchedLaw
-searched_table order files tables contents key place placed v (inl h, cover) =
-    searched_in order files 0 (length (tables_at 0 tables) - 1 - place) tables contents placed v (omega (arith, h.0)) h.1
-searched_table order files tables contents key place placed v (inr h, cover) = searched_in order files (h.0 + 1) h.3.0 tables contents placed v h.3.1 h.3.2
+searched_table order tables contents key place placed v (inl h, cover) =
+    searched_in order 0 (length (tables_at 0 tables) - 1 - place) tables contents placed v (omega (arith, h.0)) h.1
+searched_table order tables contents key place placed v (inr h, cover) = searched_in order (h.0 + 1) h.3.0 tables contents placed v h.3.1 h.3.2
 
 pub answered : AnsweredLaw
-answered order files tables contents user sequence key place placed entries answer o exact v first (inl h, cover) has is =
+answered order tables contents user sequence key place placed answer o exact v first (inl h, cover) says =
     let own = contents_at 0 contents in
     let n = length (tables_at 0 tables) in
     let same : placed_of own ≡ tables_at 0 tables = placed_at 0 contents ∙ ap (λ (ps : List PlacedTable). tables_at 0 ps) v.placed in
@@ -212,12 +226,12 @@ answered order files tables contents user sequence key place placed entries answ
     let one = split_at (λ (t : PlacedTable). Unit {0}) own (n - 1 - place) inside (λ k d low high. tt) in
     let c = one.1 in
     let here : c.placed ≡ placed = sym (one.4 placed) ∙ ap (λ (ps : List PlacedTable). get_or ps (n - 1 - place) placed) same ∙ h.1 placed in
-    let mine = (has_front order files one.0 c one.2 (subst (λ (ts : List TableContent). HasTables order files ts) one.3 (has_at order files 0 contents v.are))).1 in
-    let content : c ≡ content_of placed entries = same_table_content order files c (content_of placed entries) here mine has in
-    let at : get_or (table_sources contents) place [] ≡ entries =
-    at_newest contents place (omega (arith, h.0, count)) ∙ ap (λ (m : ℕ). get_or (lists_of own) (m - 1 - place) []) count ∙ one.5 [] ∙ ap (λ (t : TableContent). t.entries) content in
-    subst (λ (es : List Entry). IsAnswer es sequence user answer) (sym at) is
-answered order files tables contents user sequence key place placed entries answer o exact v first (inr h, cover) has is =
+    let content : c ≡ content_of placed c.entries = (λ j. record { placed = here j; entries = c.entries }) in
+    let mine = subst (λ (t : TableContent). InTables contents t) content (in_parted 0 contents one.0 c one.2 one.3) in
+    let at : get_or (table_sources contents) place [] ≡ c.entries =
+    at_newest contents place (omega (arith, h.0, count)) ∙ ap (λ (m : ℕ). get_or (lists_of own) (m - 1 - place) []) count ∙ one.5 [] in
+    subst (λ (es : List Entry). IsAnswer es sequence user answer) (sym at) (says c.entries mine)
+answered order tables contents user sequence key place placed answer o exact v first (inr h, cover) says =
     let above = h.0 in
     let level = above + 1 in
     let own = contents_at level contents in
@@ -226,14 +240,13 @@ answered order files tables contents user sequence key place placed entries answ
     let one = split_at (EndsBelow order.cmp key) own f.0 f.1 f.4 in
     let c = one.1 in
     let here : c.placed ≡ placed = sym (one.4 placed) ∙ f.2 placed in
-    let hasown = has_at order files level contents v.are in
     let parted = one.3 in
-    let whole = subst (λ (ts : List TableContent). HasTables order files ts) parted hasown in
-    let mine = (has_front order files one.0 c one.2 whole).1 in
-    let content : c ≡ content_of placed entries = same_table_content order files c (content_of placed entries) here mine has in
+    let whole = subst (λ (ts : List TableContent). Fit order ts) parted (fit_at order level contents v.each) in
+    let content : c ≡ content_of placed c.entries = (λ j. record { placed = here j; entries = c.entries }) in
+    let mine = subst (λ (t : TableContent). InTables contents t) content (in_parted level contents one.0 c one.2 parted) in
     let row = subst (λ (ts : List TableContent). AreInRow order (lists_of ts)) parted (v.rows level (omega arith)) in
     let none = subst (λ (p : PlacedTable). EndsBelow order.cmp key p → ⊥) (sym here) f.3 in
-    let all = answered_at order files o exact user sequence key first one.0 c one.2 answer whole row one.6 none (subst (λ (t : TableContent). IsAnswer t.entries sequence user answer) (sym content) is) in
+    let all = answered_at order o exact user sequence key first one.0 c one.2 answer whole row one.6 none (says c.entries mine) in
     let at : get_or (table_sources contents) place [] ≡ joined (lists_of own) = at_deeper contents place above h.1 (h.2 ∙ ap (λ (ps : List PlacedTable). length (tables_at 0 ps) + above) (sym v.placed)) in
     subst (λ (es : List Entry). IsAnswer es sequence user answer) (sym at) (subst (λ (ts : List TableContent). IsAnswer (joined (lists_of ts)) sequence user answer) (sym parted) all)
 
@@ -259,9 +272,9 @@ source_count contents =
     length-append (reverse (lists_of (contents_at 0 contents))) (map (level_source contents) (1 ∷ 2 ∷ 3 ∷ 4 ∷ 5 ∷ 6 ∷ [])) ∙ ap (λ (n : ℕ). n + 6) (newest_length contents)
 
 -- a table of level 0 that isn't searched
-passed_newest : (order : Order) (files : Files) (tables : List PlacedTable) (contents : List TableContent) (user : List ℕ) (sequence : ℕ) (key : List ℕ) (place : ℕ) → IsTotalOrder order.cmp → HasVersion order files tables contents
+passed_newest : (order : Order) (tables : List PlacedTable) (contents : List TableContent) (user : List ℕ) (sequence : ℕ) (key : List ℕ) (place : ℕ) → IsTotalOrder order.cmp → FitVersion order tables contents
     → user_of key ≡ user → ((placed : PlacedTable) → IsSearchedAt order.cmp key tables place placed → ⊥) → place < length (tables_at 0 tables) → IsUnseen (get_or (table_sources contents) place []) sequence user
-passed_newest order files tables contents user sequence key place o v is none lt =
+passed_newest order tables contents user sequence key place o v is none lt =
     let own = contents_at 0 contents in
     let n = length (tables_at 0 tables) in
     let same : placed_of own ≡ tables_at 0 tables = placed_at 0 contents ∙ ap (λ (ps : List PlacedTable). tables_at 0 ps) v.placed in
@@ -269,26 +282,26 @@ passed_newest order files tables contents user sequence key place o v is none lt
     let inside : n - 1 - place < length (placed_of own) = omega (arith, lt, ap length same) in
     let one = split_at (λ (t : PlacedTable). Unit {0}) own (n - 1 - place) inside (λ k d low high. tt) in
     let c = one.1 in
-    let mine = (has_front order files one.0 c one.2 (subst (λ (ts : List TableContent). HasTables order files ts) one.3 (has_at order files 0 contents v.are))).1 in
+    let mine = (fit_front order one.0 c one.2 (subst (λ (ts : List TableContent). Fit order ts) one.3 (fit_at order 0 contents v.each))).1 in
     let at : get_or (table_sources contents) place [] ≡ c.entries =
     at_newest contents place (omega (arith, lt, count)) ∙ ap (λ (m : ℕ). get_or (lists_of own) (m - 1 - place) []) count ∙ one.5 [] in
     subst (λ (es : List Entry). IsUnseen es sequence user) (sym at) (elim (true_or_false (covers order.cmp c.placed (user_of key))) [
       | inl cover ↦ absurd (none c.placed (inl (lt, λ d. ap (λ (ps : List PlacedTable). get_or ps (n - 1 - place) d) (sym same) ∙ one.4 d), cover))
-      | inr other ↦ not_covered order files c user key sequence o is mine other
+      | inr other ↦ not_covered order c user key sequence o is mine other
     ])
 
 -- a deeper level of which no table is searched
-passed_level : (order : Order) (files : Files) (tables : List PlacedTable) (contents : List TableContent) (user : List ℕ) (sequence : ℕ) (key : List ℕ) (place above : ℕ) → IsTotalOrder order.cmp → IsAntisymmetric order.cmp → HasVersion order files tables contents
+passed_level : (order : Order) (tables : List PlacedTable) (contents : List TableContent) (user : List ℕ) (sequence : ℕ) (key : List ℕ) (place above : ℕ) → IsTotalOrder order.cmp → IsAntisymmetric order.cmp → FitVersion order tables contents
     → IsFirstKey user sequence key → user_of key ≡ user → ((placed : PlacedTable) → IsSearchedAt order.cmp key tables place placed → ⊥) → above < 6 → place ≡ length (tables_at 0 tables) + above
     → IsUnseen (level_source contents (above + 1)) sequence user
-passed_level order files tables contents user sequence key place above o exact v first is none few e =
+passed_level order tables contents user sequence key place above o exact v first is none few e =
     let level = above + 1 in
     let own = contents_at level contents in
     let same : placed_of own ≡ tables_at level tables = placed_at level contents ∙ ap (λ (ps : List PlacedTable). tables_at level ps) v.placed in
-    let hasown = has_at order files level contents v.are in
-    elim (find_first order files o exact user sequence key first own hasown) [
+    let hasown = fit_at order level contents v.each in
+    elim (find_first order o exact user sequence key first own hasown) [
       | inl all ↦ λ entry i is_user.
-          elim (joined_all (ComesBeforeSought order sequence user) (lists_of own) (passed_tables order files o exact user sequence key first own hasown all) entry i) [
+          elim (joined_all (ComesBeforeSought order sequence user) (lists_of own) (passed_tables order o exact user sequence key first own hasown all) entry i) [
             | inl less ↦ absurd (not_itself order entry.key user o is_user less)
             | inr h ↦ h.1
           ]
@@ -297,33 +310,33 @@ passed_level order files tables contents user sequence key place above o exact v
           let c = f.1 in
           let behind = f.2 in
           let parted = f.3 in
-          let whole = subst (λ (ts : List TableContent). HasTables order files ts) parted hasown in
+          let whole = subst (λ (ts : List TableContent). Fit order ts) parted hasown in
           let row = subst (λ (ts : List TableContent). AreInRow order (lists_of ts)) parted (v.rows level (omega arith)) in
-          let mine = (has_front order files before c behind whole).1 in
+          let mine = (fit_front order before c behind whole).1 in
           let here : placed_of (before ++ c ∷ behind) ≡ tables_at level tables = ap placed_of (sym parted) ∙ same in
           let found : IsTableFor order.cmp key (tables_at level tables) c.placed =
           subst (λ (ps : List PlacedTable). IsTableFor order.cmp key ps c.placed) here
           (length before, front_length before c behind, holds_front before c behind, f.5, within_front (EndsBelow order.cmp key) before c behind f.4) in
           let unseen : IsUnseen c.entries sequence user = elim (true_or_false (covers order.cmp c.placed (user_of key))) [
             | inl cover ↦ absurd (none c.placed (inr (above, few, e, found), cover))
-            | inr other ↦ not_covered order files c user key sequence o is mine other
+            | inr other ↦ not_covered order c user key sequence o is mine other
           ] in
           subst (λ (ts : List TableContent). IsUnseen (joined (lists_of ts)) sequence user) (sym parted)
-          (answered_at order files o exact user sequence key first before c behind None whole row f.4 f.5 unseen)
+          (answered_at order o exact user sequence key first before c behind None whole row f.4 f.5 unseen)
     ]
 
 pub passed : PassedLaw
-passed order files tables contents user sequence key place o exact v first none =
+passed order tables contents user sequence key place o exact v first none =
     let is : user_of key ≡ user = user_of_key key first.key first.encoded ∙ first.user_is in
     let n = length (tables_at 0 tables) in
     let count : length (tables_at 0 (placed_of contents)) ≡ n = ap (λ (ps : List PlacedTable). length (tables_at 0 ps)) v.placed in
     elim (cases_lt place n) [
-      | inl lt ↦ passed_newest order files tables contents user sequence key place o v is none lt
+      | inl lt ↦ passed_newest order tables contents user sequence key place o v is none lt
       | inr le ↦ elim (cases_lt (place - n) 6) [
         | inl few ↦
             let e : place ≡ n + (place - n) = omega (arith, le) in
             subst (λ (es : List Entry). IsUnseen es sequence user) (sym (at_deeper contents place (place - n) few (omega (arith, le, count))))
-            (passed_level order files tables contents user sequence key place (place - n) o exact v first is none few e)
+            (passed_level order tables contents user sequence key place (place - n) o exact v first is none few e)
         | inr many ↦ subst (λ (es : List Entry). IsUnseen es sequence user) (sym (past (table_sources contents) place (omega (arith, le, many, count, source_count contents)))) (λ entry i same. absurd i)
       ]
     ]

@@ -5,3 +5,4 @@ pub mod Walking
 pub mod Memory
 pub mod Version
 pub mod TableKeys
+pub mod Fitting

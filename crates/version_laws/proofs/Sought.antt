@@ -1,5 +1,5 @@
 -- Which entries of a table come before what is sought.
-use Rattle.std.proofs.Common.{◌≡◌, ◌≢◌, ◌⊎◌, inl, inr, ◌+◌, ◌*◌, ◌^◌, ◌<◌, ◌≤◌, ℕ, List, refl, sym, ap, ◌∙◌, subst, arith}
+use Rattle.std.proofs.Common.{◌≡◌, ◌≢◌, ◌⊎◌, inl, inr, ◌+◌, ◌*◌, ◌<◌, ◌≤◌, ℕ, List, refl, sym, ap, ◌∙◌, subst, arith}
 use Rattle.std.proofs.lemmas.Bool.{cases_lt}
 use Rattle.std.specs.Cmp.{IsTotalOrder, tied_itself, nat_cmp_is}
 use Rattle.std.specs.FinMap.{IsAntisymmetric}
@@ -15,10 +15,9 @@ use Rattle.ikey.specs.Below.{IsBelowInternal, same_key}
 use Rattle.ikey.specs.Orders.{Order}
 use Rattle.ikey.specs.Sources.{ComesBefore, ComesBeforeSought}
 use Rattle.ikey.specs.Views.{Among}
-use Rattle.store.specs.Files.{Files}
-use Rattle.recover.specs.Tables.{TableContent, HasTable, internal_key}
-use Rattle.recover.proofs.TableFacts.{key_is, fits_of}
+use Rattle.recover.specs.Tables.{TableContent}
 use Rattle.versions.specs.Searches.{EndsBelow}
+use Rattle.version_laws.specs.Places.{FitsEdit}
 
 -- ---- numbers
 
@@ -61,11 +60,10 @@ module _ (order : Order) (o : IsTotalOrder order.cmp) (exact : IsAntisymmetric o
       not_greater (tag_of other) (tag_of first.key) (λ e. h (ap (λ (c : Ordering). ordering_then c (nat_cmp (tag_of other) (tag_of first.key))) tied ∙ e))
 
   -- an entry whose internal key is below the sought one comes before it
-  from_below : (entry : Entry) (bytes : List ℕ) → internal_key entry ≡ bytes → entry.sequence < 2 ^ 56 → IsBelowInternal order.cmp bytes key → ComesBeforeSought order sequence user entry
-  from_below entry bytes e fits below =
+  from_below : (entry : Entry) (bytes : List ℕ) → IsKey bytes (internal_key_of entry) → IsBelowInternal order.cmp bytes key → ComesBeforeSought order sequence user entry
+  from_below entry bytes mine below =
       let k = below.0 in
       let l = below.1 in
-      let mine : IsKey bytes (internal_key_of entry) = subst (λ (b : List ℕ). IsKey b (internal_key_of entry)) e (key_is entry fits) in
       let left : k ≡ internal_key_of entry = same_key bytes k (internal_key_of entry) below.2 mine in
       let right : l ≡ first.key = same_key key l first.key below.3 first.encoded in
       let less : key_cmp order.cmp (internal_key_of entry) first.key ≡ Less = (λ i. key_cmp order.cmp (sym left i) (sym right i)) ∙ below.4 in
@@ -77,10 +75,8 @@ module _ (order : Order) (o : IsTotalOrder order.cmp) (exact : IsAntisymmetric o
       ]
 
   -- and back
-  to_below : (entry : Entry) (bytes : List ℕ) → internal_key entry ≡ bytes → entry.sequence < 2 ^ 56 → ComesBeforeSought order sequence user entry → IsBelowInternal order.cmp bytes key
-  to_below entry bytes e fits before =
-      let mine : IsKey bytes (internal_key_of entry) = subst (λ (b : List ℕ). IsKey b (internal_key_of entry)) e (key_is entry fits) in
-      (internal_key_of entry, first.key, mine, first.encoded, less before)
+  to_below : (entry : Entry) (bytes : List ℕ) → IsKey bytes (internal_key_of entry) → ComesBeforeSought order sequence user entry → IsBelowInternal order.cmp bytes key
+  to_below entry bytes mine before = (internal_key_of entry, first.key, mine, first.encoded, less before)
     where
       less : ComesBeforeSought order sequence user entry → key_cmp order.cmp (internal_key_of entry) first.key ≡ Less
       less (inl lt) = ap (λ (c : Ordering). ordering_then c (nat_cmp (tag_of first.key) (tag_of (internal_key_of entry)))) (ap (λ (u : List ℕ). order.cmp entry.key u) first.user_is ∙ lt)
@@ -98,17 +94,13 @@ module _ (order : Order) (o : IsTotalOrder order.cmp) (exact : IsAntisymmetric o
   before_by a b (inr (inr x)) (inl y) = inl (subst (λ (k : List ℕ). order.cmp k user ≡ Less) (sym x.0) y)
   before_by a b (inr (inr x)) (inr y) = inr (x.0 ∙ y.0, omega (arith, x.1, y.1))
 
-  last_fits : (files : Files) (content : TableContent) → (h : HasTable order files content) → h.largest.0.sequence < 2 ^ 56
-  last_fits files content h = fits_of order h.bytes content.entries h.largest.0 h.spelled h.largest.1
-
   -- a table that ends below the key has none but entries that come before what is sought
-  pub all_before : (files : Files) (content : TableContent) → HasTable order files content → EndsBelow order.cmp key content.placed → (e : Entry) → Among content.entries e → ComesBeforeSought order sequence user e
-  all_before files content h below e i =
-      before_by e h.largest.0 (h.largest.3 e i) (from_below h.largest.0 content.placed.table.largest h.largest.2 (last_fits files content h) below)
+  pub all_before : (content : TableContent) → FitsEdit order content → EndsBelow order.cmp key content.placed → (e : Entry) → Among content.entries e → ComesBeforeSought order sequence user e
+  all_before content h below e i = before_by e h.largest.0 (h.largest.3 e i) (from_below h.largest.0 content.placed.table.largest h.largest.2 below)
 
   -- one that doesn't has its last entry from there on
-  pub last_not : (files : Files) (content : TableContent) → (h : HasTable order files content) → (EndsBelow order.cmp key content.placed → ⊥) → ComesBeforeSought order sequence user h.largest.0 → ⊥
-  last_not files content h none before = none (to_below h.largest.0 content.placed.table.largest h.largest.2 (last_fits files content h) before)
+  pub last_not : (content : TableContent) → (h : FitsEdit order content) → (EndsBelow order.cmp key content.placed → ⊥) → ComesBeforeSought order sequence user h.largest.0 → ⊥
+  last_not content h none before = none (to_below h.largest.0 content.placed.table.largest h.largest.2 before)
 
   -- it can be told which
   sought_or_not : (entry : Entry) → ComesBeforeSought order sequence user entry ⊎ (ComesBeforeSought order sequence user entry → ⊥)
@@ -125,9 +117,9 @@ module _ (order : Order) (o : IsTotalOrder order.cmp) (exact : IsAntisymmetric o
         | inr h ↦ (let t : Greater ≡ Equal = sym e ∙ ap (λ (k : List ℕ). order.cmp k user) h.0 ∙ tied_itself o user in cc)
       ])
 
-  pub ends_or_not : (files : Files) (content : TableContent) → HasTable order files content → EndsBelow order.cmp key content.placed ⊎ (EndsBelow order.cmp key content.placed → ⊥)
-  ends_or_not files content h =
+  pub ends_or_not : (content : TableContent) → FitsEdit order content → EndsBelow order.cmp key content.placed ⊎ (EndsBelow order.cmp key content.placed → ⊥)
+  ends_or_not content h =
       elim (sought_or_not h.largest.0) [
-        | inl before ↦ inl (to_below h.largest.0 content.placed.table.largest h.largest.2 (last_fits files content h) before)
-        | inr none ↦ inr (λ below. none (from_below h.largest.0 content.placed.table.largest h.largest.2 (last_fits files content h) below))
+        | inl before ↦ inl (to_below h.largest.0 content.placed.table.largest h.largest.2 before)
+        | inr none ↦ inr (λ below. none (from_below h.largest.0 content.placed.table.largest h.largest.2 below))
       ]

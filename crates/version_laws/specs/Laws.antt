@@ -1,5 +1,5 @@
 -- What a search by places tells of the sources.
-use Rattle.std.specs.Prelude.{◌≡◌, ◌<◌, ◌≤◌, ◌+◌, ℕ, Option, Some, List, [], ◌∷◌, ◌++◌, get_or, map}
+use Rattle.std.specs.Prelude.{◌≡◌, ◌<◌, ◌≤◌, ◌+◌, ℕ, Option, None, Some, List, [], ◌∷◌, ◌++◌, get_or, map}
 use Rattle.std.specs.Cmp.{IsTotalOrder}
 use Rattle.std.specs.FinMap.{IsAntisymmetric}
 use Rattle.std.specs.List.Sorted.{IsPermutation}
@@ -17,24 +17,32 @@ use Rattle.recover.specs.Directory.{Directory, IsConsistent, entries_in}
 use Rattle.recover.specs.Logs.{LogContent, batch_entries, logged}
 use Rattle.recover.specs.Tables.{TableContent, HasTable, InTables, tabled, table_at}
 use Rattle.recover.specs.internal.Checks.{content_of}
-use Rattle.version_laws.specs.Places.{table_sources, HasVersion}
+use Rattle.version_laws.specs.Places.{table_sources, FitVersion, HasVersion}
+
+-- The contents that a version has fit it, and a table of it has no other entries.
+abbrev pub FitLaw : Type 0
+FitLaw = (order : Order) (files : Files) (tables : List PlacedTable) (contents : List TableContent) → HasVersion order files tables contents
+    → FitVersion order tables contents × ((content other : TableContent) → InTables contents content → HasTable order files other → content.placed ≡ other.placed → content ≡ other)
 
 -- A table that is searched at a place is one of the version's.
 abbrev pub SearchedLaw : Type 0
-SearchedLaw = (order : Order) (files : Files) (tables : List PlacedTable) (contents : List TableContent) (key : List ℕ) (place : ℕ) (placed : PlacedTable)
-    → HasVersion order files tables contents → IsSearchedAt order.cmp key tables place placed → (entries : List Entry) × HasTable order files (content_of placed entries)
+SearchedLaw = (order : Order) (tables : List PlacedTable) (contents : List TableContent) (key : List ℕ) (place : ℕ) (placed : PlacedTable)
+    → FitVersion order tables contents → IsSearchedAt order.cmp key tables place placed → (entries : List Entry) × InTables contents (content_of placed entries)
+
+-- whatever entries the contents have as those of the table, this is what a search for the key in them tells
+abbrev pub TableAnswers : List TableContent → PlacedTable → ℕ → List ℕ → Option (Option (List ℕ)) → Type 0
+TableAnswers contents placed sequence user answer = (entries : List Entry) → InTables contents (content_of placed entries) → IsAnswer entries sequence user answer
 
 -- What a table that is searched at a place answers, the source of the place answers.
 abbrev pub AnsweredLaw : Type 0
-AnsweredLaw = (order : Order) (files : Files) (tables : List PlacedTable) (contents : List TableContent) (user : List ℕ) (sequence : ℕ) (key : List ℕ) (place : ℕ) (placed : PlacedTable) (entries : List Entry) (answer : Option (Option (List ℕ)))
-    → IsTotalOrder order.cmp → IsAntisymmetric order.cmp → HasVersion order files tables contents → IsFirstKey user sequence key
-    → IsSearchedAt order.cmp key tables place placed → HasTable order files (content_of placed entries)
-    → IsAnswer entries sequence user answer → IsAnswer (get_or (table_sources contents) place []) sequence user answer
+AnsweredLaw = (order : Order) (tables : List PlacedTable) (contents : List TableContent) (user : List ℕ) (sequence : ℕ) (key : List ℕ) (place : ℕ) (placed : PlacedTable) (answer : Option (Option (List ℕ)))
+    → IsTotalOrder order.cmp → IsAntisymmetric order.cmp → FitVersion order tables contents → IsFirstKey user sequence key
+    → IsSearchedAt order.cmp key tables place placed → TableAnswers contents placed sequence user answer → IsAnswer (get_or (table_sources contents) place []) sequence user answer
 
 -- The source of a place at which no table is searched has no entry of the key that is seen.
 abbrev pub PassedLaw : Type 0
-PassedLaw = (order : Order) (files : Files) (tables : List PlacedTable) (contents : List TableContent) (user : List ℕ) (sequence : ℕ) (key : List ℕ) (place : ℕ)
-    → IsTotalOrder order.cmp → IsAntisymmetric order.cmp → HasVersion order files tables contents → IsFirstKey user sequence key
+PassedLaw = (order : Order) (tables : List PlacedTable) (contents : List TableContent) (user : List ℕ) (sequence : ℕ) (key : List ℕ) (place : ℕ)
+    → IsTotalOrder order.cmp → IsAntisymmetric order.cmp → FitVersion order tables contents → IsFirstKey user sequence key
     → ((placed : PlacedTable) → IsSearchedAt order.cmp key tables place placed → ⊥)
     → IsUnseen (get_or (table_sources contents) place []) sequence user
 
@@ -44,30 +52,29 @@ PassedLaw = (order : Order) (files : Files) (tables : List PlacedTable) (content
 abbrev pub IsSearchedUpTo : List TableContent → List ℕ → ℕ → ℕ → Type 0
 IsSearchedUpTo contents user sequence place = (i : ℕ) → i < place → IsUnseen (get_or (table_sources contents) i []) sequence user
 
--- What a step begins with: the next table that is searched from a place on, and its entries.
-pub record IsStep (order : Order) (files : Files) (tables : List PlacedTable) (contents : List TableContent) (user : List ℕ) (sequence : ℕ) (key : List ℕ) (from place : ℕ) (placed : PlacedTable) (entries : List Entry) : Type 0 where
+-- What a step begins with: the next table that is searched from a place on.
+pub record IsStep (order : Order) (tables : List PlacedTable) (contents : List TableContent) (user : List ℕ) (sequence : ℕ) (key : List ℕ) (from place : ℕ) (placed : PlacedTable) : Type 0 where
   pub total : IsTotalOrder order.cmp
   pub exact : IsAntisymmetric order.cmp
-  pub version : HasVersion order files tables contents
+  pub version : FitVersion order tables contents
   pub sought : IsFirstKey user sequence key
   pub so_far : IsSearchedUpTo contents user sequence from
   pub next : IsSearchedNext order.cmp key tables from place placed
-  pub has : HasTable order files (content_of placed entries)
 
 -- Where the key isn't seen in the table, the search goes on behind its place.
 abbrev pub StepLaw : Type 0
-StepLaw = (order : Order) (files : Files) (tables : List PlacedTable) (contents : List TableContent) (user : List ℕ) (sequence : ℕ) (key : List ℕ) (from place : ℕ) (placed : PlacedTable) (entries : List Entry)
-    → IsStep order files tables contents user sequence key from place placed entries → IsUnseen entries sequence user → IsSearchedUpTo contents user sequence (place + 1)
+StepLaw = (order : Order) (tables : List PlacedTable) (contents : List TableContent) (user : List ℕ) (sequence : ℕ) (key : List ℕ) (from place : ℕ) (placed : PlacedTable)
+    → IsStep order tables contents user sequence key from place placed → TableAnswers contents placed sequence user None → IsSearchedUpTo contents user sequence (place + 1)
 
 -- Where it is seen, that is what all tables answer.
 abbrev pub TableFoundLaw : Type 0
-TableFoundLaw = (order : Order) (files : Files) (tables : List PlacedTable) (contents : List TableContent) (user : List ℕ) (sequence : ℕ) (key : List ℕ) (from place : ℕ) (placed : PlacedTable) (entries : List Entry) (value : Option (List ℕ))
-    → IsStep order files tables contents user sequence key from place placed entries → IsAnswer entries sequence user (Some value) → IsAnswer (joined (table_sources contents)) sequence user (Some value)
+TableFoundLaw = (order : Order) (tables : List PlacedTable) (contents : List TableContent) (user : List ℕ) (sequence : ℕ) (key : List ℕ) (from place : ℕ) (placed : PlacedTable) (value : Option (List ℕ))
+    → IsStep order tables contents user sequence key from place placed → TableAnswers contents placed sequence user (Some value) → IsAnswer (joined (table_sources contents)) sequence user (Some value)
 
 -- Where no table is searched from a place on, the key is seen in none.
 abbrev pub EndLaw : Type 0
-EndLaw = (order : Order) (files : Files) (tables : List PlacedTable) (contents : List TableContent) (user : List ℕ) (sequence : ℕ) (key : List ℕ) (from : ℕ)
-    → IsTotalOrder order.cmp → IsAntisymmetric order.cmp → HasVersion order files tables contents → IsFirstKey user sequence key → IsSearchedUpTo contents user sequence from
+EndLaw = (order : Order) (tables : List PlacedTable) (contents : List TableContent) (user : List ℕ) (sequence : ℕ) (key : List ℕ) (from : ℕ)
+    → IsTotalOrder order.cmp → IsAntisymmetric order.cmp → FitVersion order tables contents → IsFirstKey user sequence key → IsSearchedUpTo contents user sequence from
     → ((place : ℕ) (placed : PlacedTable) → from ≤ place → IsSearchedAt order.cmp key tables place placed → ⊥) → IsUnseen (joined (table_sources contents)) sequence user
 
 -- ---- the memory tables in front

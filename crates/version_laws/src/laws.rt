@@ -1,6 +1,11 @@
 //! What a search by places tells of the sources.
 
-ghost use Rattle.version_laws.specs.Laws.{SearchedLaw, AnsweredLaw, PassedLaw, StepLaw, TableFoundLaw, EndLaw, MemoryLaw, VersionLaw, PartLaw, KeptLaw};
+ghost use Rattle.version_laws.specs.Laws.{FitLaw, SearchedLaw, AnsweredLaw, PassedLaw, StepLaw, TableFoundLaw, EndLaw, MemoryLaw, VersionLaw, PartLaw, KeptLaw};
+
+/// Law: contents that a version has fit it, and it has no others.
+pub fn version_fits()
+    ensures { FitLaw }
+{}
 
 /// Law: a table that is searched at a place is one of the version's.
 pub fn searched_table()

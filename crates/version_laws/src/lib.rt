@@ -5,5 +5,5 @@ mod laws;
 
 pub use laws::{
     answered_place, goes_on, has_ended, is_found, memory_in_front, passed_place, searched_table,
-    version_is_kept, version_of_directory, version_of_part,
+    version_fits, version_is_kept, version_of_directory, version_of_part,
 };

@@ -13,11 +13,30 @@ use Rattle.ikey.specs.Sources.{SameEntries, joined}
 use Rattle.recover.specs.Tables.{TableContent, tabled}
 use Rattle.db_cursor.specs.declared.source_cursor.SourceCursor.{SourceCursor}
 use Rattle.db_cursor.specs.Places.{OneGoesOver}
-use Rattle.db_cursor.specs.Scans.{IsOnePastLimit, ListsMerged}
+use Rattle.db_cursor.specs.Scans.{IsOnePastLimit, IsOneTornFile, ListsMerged}
 use Rattle.db_cursor.specs.Whole.{Whole}
-use Rattle.version_laws.specs.Places.{HasVersion, table_sources}
+use Rattle.version_laws.specs.Places.{HasVersion, MayHaveVersion, table_sources}
+use Rattle.table_access.specs.Possible.{MayBeTable}
 use Rattle.table_access.specs.Tables.{Seen, IsSound}
 use Rattle.db_cursor.specs.Inputs.{IsMergeIntact, IsMergeLimited, IsMergeTorn, KeepsMerge, ReadsNoMemory}
+
+-- It goes over entries that these tables may have, as far as their blocks tell, which are those of the places where they are searched, in
+-- the order of their internal keys, and has no place. It passes a limit, or comes to a torn block, only where the file of one of the
+-- tables does.
+pub record MayBeMergeOf {K : Type 0} {g : _} (cmp : Cmp) (tables : List PlacedTable) (contents : List TableContent) (whole : Whole) (merge : Merge K (SourceCursor K g)) : Type 0 where
+  pub entries : List InternalEntry
+  pub same : SameEntries (map entry_of entries) (tabled contents)
+  pub searched : SameEntries (map entry_of entries) (joined (table_sources contents))
+  pub own : HaveOwnSequences entries
+  pub lists : ListsMerged cmp merge whole (listed entries None)
+  pub limits : IsMergeLimited cmp merge whole → IsOnePastLimit cmp tables whole
+  pub torn : (cut : Cut) → IsMergeTorn cmp merge whole cut → IsOneTornFile cmp tables whole cut
+
+-- So it is with a new merge over a version of these tables, whichever source has files that may be theirs, and whichever contents they may
+-- have.
+abbrev pub MayBeginMerge : {K : Type 0} {g : _} → Order → List PlacedTable → Merge K (SourceCursor K g) → Type 0
+MayBeginMerge order tables merge = (whole : Whole) (contents : List TableContent) → IsSound order.cmp whole.seen
+    → MayHaveVersion (MayBeTable order.cmp) order whole.seen.facts.files tables contents → MayBeMergeOf order.cmp tables contents whole merge
 
 -- It goes over the entries of these tables, which are those of the places where they are searched, in the order of their internal
 -- keys, and has no place. It passes a limit only where the file of one of the tables does, and all their blocks are intact.

@@ -3,6 +3,7 @@ use Rattle.std.specs.Prelude.{◌≡◌, ◌<◌, ◌≤◌, ℕ, Bool, true, Is
 use Rattle.std.specs.List.{AllByRecursion}
 use Rattle.cache.specs.Tables.{table_at}
 use Rattle.coding.specs.declared.error.DbError.{DbError}
+use Rattle.cursor.specs.Cuts.{Cut}
 use Rattle.cursor.specs.Merging.{child_stands}
 use Rattle.cursor.specs.Moves.{Refuses}
 use Rattle.cursor.specs.Places.{Cmp}
@@ -14,7 +15,7 @@ use Rattle.memtables.specs.Changes.{HasMoreEntries}
 use Rattle.memtables.specs.Places.{LeavesMemories}
 use Rattle.db_cursor.specs.declared.scan.Scan.{Scan}
 use Rattle.db_cursor.specs.Places.{source_stands}
-use Rattle.db_cursor.specs.Scans.{IsScan, IsScanLimited, IsOnePastLimit, KeepsScan, KeepsUpTo, reads_table, tables_of}
+use Rattle.db_cursor.specs.Scans.{IsScan, IsScanLimited, IsScanTorn, IsOnePastLimit, KeepsScan, KeepsUpTo, MayBeScan, reads_table, tables_of}
 use Rattle.db_cursor.specs.Whole.{Whole}
 use Rattle.table_access.specs.Tables.{Carries, IsSound}
 use Rattle.table.specs.Reading.{Reads, IsStill}
@@ -31,7 +32,9 @@ pub record ReadsAs {K : Type 0} {g : _} (old new : Scan K g) : Type 0 where
 
 -- What a move of a scan does, which leads from one place to another; an Err leaves the place.
 pub record IsScanned {K : Type 0} {g : _} (cmp : Cmp) (to : Walked → Option ℕ) (before after : Whole) (old new : Scan K g) (result : Result (Unit {0}) DbError) : Type 0 where
-  pub moves : IsTrue after.seen.facts.faithful → (at : Walked) → IsScan cmp old before at → IsScan cmp new after (walk_after result (to at) at)
+  pub moves : IsTrue after.seen.facts.faithful → (at : Walked) → MayBeScan cmp old before at → MayBeScan cmp new after (walk_after result (to at) at)
+  -- it comes to no further torn block
+  pub tear : IsTrue after.seen.facts.faithful → (cut : Cut) → IsScanTorn cmp new after cut → IsScanTorn cmp old before cut
   pub at_hand : OnOk result (new.walk.stands ≡ true → has_pair new ≡ true)
   pub sequence : new.walk.sequence ≡ old.walk.sequence
   pub reads_as : ReadsAs old new
@@ -47,21 +50,30 @@ pub record IsScanned {K : Type 0} {g : _} (cmp : Cmp) (to : Walked → Option �
   -- whatever it was
   pub stayed : OnErr result ((new.walk.stands ≡ old.walk.stands) × (new.walk.here.key.items ≡ old.walk.here.key.items))
   pub left : OnOk result (key_before new.walk ≡ old.walk.here.key.items)
-  pub refused : IfErr result (λ e. Refuses e before.seen.facts after.seen.facts ((at : Walked) → IsScan cmp old before at → ⊥) (IsScanLimited cmp old before))
+  -- where that is damage, a torn block lies at a cut to which it came, whichever list it is
+  pub refused : IfErr result (λ e. Refuses e before.seen.facts after.seen.facts ((at : Walked) → MayBeScan cmp old before at → (cut : Cut) × IsScanTorn cmp old before cut) (IsScanLimited cmp old before))
 
 -- Where a scan has come to a place by a move, and the one before it stood elsewhere among the same pairs, the move taken back
 -- leads to where that one stood.
 abbrev pub TakesBack : {K : Type 0} {g : _} → Cmp → Bool → Scan K g → Scan K g → Type 0
 TakesBack {K} {g} cmp stood old new = (first : Scan K g) (before after : Whole) (pairs : List Pair) (from to : Option ℕ)
-    → IsScan cmp first before (walked pairs from) → IsScan cmp old after (walked pairs to)
+    → MayBeScan cmp first before (walked pairs from) → MayBeScan cmp old after (walked pairs to)
     → first.walk.stands ≡ stood → old.walk.sequence ≡ first.walk.sequence → key_before old.walk ≡ first.walk.here.key.items
-    → IsScan cmp new after (walked pairs from)
+    → MayBeScan cmp new after (walked pairs from)
 
 -- ---- laws
 
 -- A scan stays where what it reads is kept.
 abbrev pub ScanIsKept : {K : Type 0} {g : _} → Cmp → Scan K g → Type 0
 ScanIsKept cmp scan = (old new : Whole) (at : Walked) → KeepsScan cmp scan old new → IsScan cmp scan old at → IsScan cmp scan new at
+
+-- And so does each that its tables may have.
+abbrev pub MayBeIsKept : {K : Type 0} {g : _} → Cmp → Scan K g → Type 0
+MayBeIsKept cmp scan = (old new : Whole) (at : Walked) → KeepsScan cmp scan old new → MayBeScan cmp scan old at → MayBeScan cmp scan new at
+
+-- Where no block is torn, it is the one list that its tables have.
+abbrev pub IntactScans : {K : Type 0} {g : _} → Cmp → Scan K g → Type 0
+IntactScans cmp scan = (whole : Whole) (at : Walked) → MayBeScan cmp scan whole at → ((cut : Cut) → IsScanTorn cmp scan whole cut → ⊥) → IsScan cmp scan whole at
 
 -- What is written above a scan's sequence leaves what it reads, where files and what is kept of them do.
 abbrev pub WritesAreKept : Cmp → Type 0

@@ -6,7 +6,7 @@ use Rattle.db_cursor.specs.Pairs.{listed_pair}
 use Rattle.cache.specs.Tables.{table_at}
 use Rattle.edits.specs.Names.{IsNumbered}
 use Rattle.level_cursor.specs.InRows.{ListsNumber}
-use Rattle.db_cursor.specs.Scans.{IsOnePastLimit, IsScan, reads_table, tables_of}
+use Rattle.db_cursor.specs.Scans.{IsOnePastLimit, IsScan, MayBeScan, reads_table, tables_of}
 use Rattle.db_cursor.specs.Whole.{Whole}
 use Rattle.db_cursor.specs.declared.scan.Scan.{Scan}
 use Rattle.machine.specs.Machine.{Walk}
@@ -22,6 +22,11 @@ pub record IsWalk {K : Type 0} {g : _} (cmp : List ℕ → List ℕ → Ordering
   pub scan : IsScan cmp iterator whole (walked_of walk)
   pub limits : limited ≡ false → IsOnePastLimit cmp (tables_of iterator) whole → ⊥
   pub tables : (number : ℕ) → reads_table iterator number → ListsNumber (tables_of iterator) number × IsNumbered number × IsSome (table_at whole.seen.facts.files number)
+
+-- So it is as far as the blocks of its tables tell: it goes over such pairs as they may have.
+pub record MayBeWalk {K : Type 0} {g : _} (cmp : List ℕ → List ℕ → Ordering) (whole : Whole) (iterator : Scan K g) (walk : Walk) : Type 0 where
+  pub bound : iterator.walk.sequence ≤ whole.memory.last
+  pub scan : MayBeScan cmp iterator whole (walked_of walk)
 
 -- where a motion leads a walk
 abbrev pub destination : (List ℕ → List ℕ → Ordering) → Motion → Walked → Option ℕ

@@ -3,7 +3,7 @@ use Rattle.ikey.specs.Orders.{order_of}
 use Rattle.db_cursor.specs.internal.Rows.{spot_of, spots_of}
 use Rattle.db_cursor.proofs.NewScans.{cursors_of}
 use Rattle.db_cursor.proofs.Slices.{all_ranges, spots_together}
-use Rattle.db_cursor.proofs.TableMerges.{begins_merge, merge_over, merge_reads_none}
+use Rattle.db_cursor.proofs.TableMerges.{begins_merge, begins_whole, merge_over, merge_reads_none}
 use Rattle.versions.specs.Levels.{AreInOrder, Placement}
 use Rattle.db_cursor.proofs.inputs.merge_tables.Given.{Over}
 use Rattle.db_cursor.proofs.inputs.merge_tables.Goals as goal
@@ -21,9 +21,12 @@ returns-clause-over g c = merge_over (order_of g.K.KeyOrder.name g.K.KeyOrder.cm
 pub returns-clause-no_memory : goal.returns-clause-no_memory
 returns-clause-no_memory g c = merge_reads_none (order_of g.K.KeyOrder.name g.K.KeyOrder.cmp) c.args.version.now.value.tables c.in_ok-new.field-0 (spots_are g c)
 
-pub returns-clause-begins : goal.returns-clause-begins
-returns-clause-begins g c =
+pub returns-clause-may : goal.returns-clause-may
+returns-clause-may g c =
     let cmp = g.K.KeyOrder.cmp in
     let tables = c.args.version.now.value.tables in
     let in_order = subst (λ (v : Placement). AreInOrder cmp v.tables) c.deref.ensures c.tables-tables.ensures.order in
     begins_merge (order_of g.K.KeyOrder.name cmp) tables c.in_ok-new.field-0 (spots_are g c) g.met.K.KeyOrder.total c.lists_have_a_union.ensures c.row_begins.ensures in_order c.in_ok-new.ensures.nowhere c.in_ok-new.ensures.astray
+
+pub returns-clause-begins : goal.returns-clause-begins
+returns-clause-begins g c = begins_whole (order_of g.K.KeyOrder.name g.K.KeyOrder.cmp) c.args.version.now.value.tables c.in_ok-new.field-0 g.met.K.KeyOrder.total (returns-clause-may g c)

@@ -7,7 +7,7 @@ use Rattle.table_access.specs.Tables.{seen}
 use Rattle.db_cursor.specs.Whole.{Whole}
 use Rattle.opening.specs.Looking.{IsFound}
 use Rattle.opening.specs.Looking.{IsSealedOf}
-use Rattle.reader.proofs.Beginnings.{shown_found, sound_empty}
+use Rattle.reader.proofs.Beginnings.{held_found, shown_found, sound_empty}
 use Rattle.reader.proofs.beginning.begin.Goals as goal
 
 pub returns-clause-found : goal.returns-clause-found
@@ -18,8 +18,8 @@ returns-clause-found g c = λ f.
     let there = subst (λ (o : Option Recovered). IsFound order (facts c.begin.new.self.store).files o) c.in-Some.is (c.in_ok-found.ensures.found f) in
     (found, subst (λ s. Recovers order (facts s).files found) c.in_ok-begin.ensures.store there)
 
-pub returns-clause-shows : goal.returns-clause-shows
-returns-clause-shows g c = λ f d contents good view.
+pub returns-clause-holds : goal.returns-clause-holds
+returns-clause-holds g c = λ f.
     let order = order_of g.K.KeyOrder.name g.K.KeyOrder.cmp in
     let facts = g.S.Store.facts in
     let old = (facts c.args.source.now.tables.store).files in
@@ -32,6 +32,13 @@ returns-clause-shows g c = λ f d contents good view.
     let read = subst (λ s. Recovers order (facts s).files found) c.in_ok-begin.ensures.store there in
     let same : new.files ≡ old = c.in_ok-found.ensures.store.same f ∙ ap (λ s. (facts s).files) c.in_ok-begin.ensures.store in
     let sealed = subst (λ (es : List Entry). IsSealedOf memory es found.used) c.deref.ensures.value c.in_ok-source.ensures in
-    shown_found order old whole found c.in_ok-version.version.value.tables c.recovered_law.ensures read same c.in_ok-version.ensures.found.tables c.in_ok-version.ensures.order
+    held_found order old whole found c.in_ok-version.version.value.tables read same c.in_ok-version.ensures.found.tables c.in_ok-version.ensures.order
     (sound_empty order.cmp new kept.tables.tables kept.blocks.blocks c.empty_is_sound.ensures c.in_ok-begin.ensures.tables c.in_ok-begin.ensures.blocks)
-    sealed d contents good view
+    sealed
+
+pub returns-clause-shows : goal.returns-clause-shows
+returns-clause-shows g c = λ f d contents good view.
+    let new = g.S.Store.facts c.look.new.store in
+    let kept = c.begin.new.self in
+    let whole : Whole = record { seen = seen new kept.tables kept.blocks; memory = c.in_ok-source.field-0 } in
+    shown_found (order_of g.K.KeyOrder.name g.K.KeyOrder.cmp) (g.S.Store.facts c.args.source.now.tables.store).files whole c.in_ok-version.version.value.tables c.recovered_law.ensures (returns-clause-holds g c f) d contents good view

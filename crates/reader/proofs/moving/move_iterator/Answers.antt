@@ -22,7 +22,7 @@ returns-in_default-clause-moved g c =
     let back = c.take_back.ensures in
     let placed = has_place motion c.args.scan.now.walk.stands (elim c.if-needs_place.branch [ then-needs_place+else-not-stood w ↦ inr (sym c.stands-stood.ensures ∙ w.if-not-stood.false) | else-needs_place w ↦ inl (sym c.needs_place.ensures ∙ w.if-needs_place.false) ]) in
     taken_back g.K.KeyOrder.cmp motion (whole_in g.S.Store.facts c.args.source.now) (whole_in g.S.Store.facts c.move_scan.new.source) c.args.scan.now c.move_scan.new.scan placed
-    c.stands-stood.result c.take_back.new.self c.stands-stood.ensures back.back back.sequence back.stands back.key back.reads_as back.within c.in_ok-move_scan.ensures
+    c.stands-stood.result c.take_back.new.self c.stands-stood.ensures back.cursor back.back back.sequence back.stands back.key back.reads_as back.within c.in_ok-move_scan.ensures
 
 pub returns-clause-moved : goal.returns-clause-moved
 returns-clause-moved g c =

@@ -8,6 +8,7 @@ use Rattle.db_cursor.specs.Rows.{IsGenerationOf}
 use Rattle.db_cursor.specs.internal.Rows.{memory_spots, spot_of, spots_of}
 use Rattle.db_cursor.specs.Whole.{whole}
 use Rattle.db_cursor.proofs.FirstPlaces.{begins_scan}
+use Rattle.db_cursor.proofs.WholeScans.{begins_whole}
 use Rattle.db_cursor.proofs.NewScans.{all_new, all_over, cursors_of}
 use Rattle.db_cursor.proofs.Slices.{all_ranges, spots_together}
 use Rattle.versions.specs.Levels.{AreInOrder, Placement}
@@ -24,8 +25,8 @@ spots_are g c =
     ∙ spots_together c.args.version.now.value.tables memory (map spot_of c.add_memory.new.cursors.items) (map spot_of c.add_newest.new.cursors.items) (map spot_of c.add_levels.new.cursors.items)
     (c.in_ok-add_memory.ensures.spots ∙ ap (λ xs. map spot_of xs ++ memory) c.new-cursors.ensures.items) c.in_ok-add_newest.ensures c.in_ok-add_levels.ensures
 
-pub returns-clause-begins : goal.returns-clause-begins
-returns-clause-begins g c =
+pub returns-clause-may : goal.returns-clause-may
+returns-clause-may g c =
     let cmp = g.K.KeyOrder.cmp in
     let s = c.args.source.now in
     let tables = c.args.version.now.value.tables in
@@ -46,6 +47,12 @@ returns-clause-begins g c =
     c.are_bounded.ensures
     c.in_ok-add_memory.ensures.lists
     (λ below. omega (arith, c.min-sequence.ensures, c.last.ensures.is, below))
+
+pub returns-clause-begins : goal.returns-clause-begins
+returns-clause-begins g c =
+    let s = c.args.source.now in
+    begins_whole (order_of g.K.KeyOrder.name g.K.KeyOrder.cmp) g.met.K.KeyOrder.total (whole (g.S.Store.facts s.tables.store) s.tables.tables s.tables.blocks s.memory) c.args.version.now.value.tables c.args.sequence _
+    (ap (λ (v : Placement). v.tables) c.in_ok-clone.ensures.cases) (returns-clause-may g c)
 
 pub returns-clause-within : goal.returns-clause-within
 returns-clause-within g c = λ number reads.

@@ -5,3 +5,6 @@ returns-in-Ok-clause-shows g c = rw c.sources_over-source.ensures at c.in-Ok.ens
 
 pub returns-in-Ok-clause-found : goal.returns-in-Ok-clause-found
 returns-in-Ok-clause-found g c = rw c.sources_over-source.ensures at c.in-Ok.ensures.found
+
+pub returns-in-Ok-clause-holds : goal.returns-in-Ok-clause-holds
+returns-in-Ok-clause-holds g c = rw c.sources_over-source.ensures at c.in-Ok.ensures.holds
