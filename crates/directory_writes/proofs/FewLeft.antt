@@ -1,7 +1,7 @@
 -- How many of the files that aren't live a removal leaves.
-use Rattle.std.proofs.Common.{◌≡◌, ◌≢◌, ◌⊎◌, ◌↔◌, ℕ, ◌+◌, ◌<◌, ◌≤◌, Bool, true, false, List, [], ◌∷◌, ◌++◌, length, length-append, Result, Ok, Err, None, IsTrue, inl, inr, refl, sym, ap, subst, ◌∙◌, arith}
+use Rattle.std.proofs.Common.{◌≡◌, ◌≢◌, ◌↔◌, ℕ, ◌<◌, Bool, true, false, List, [], ◌∷◌, ◌++◌, length-append, Result, Ok, Err, IsTrue, inl, inr, refl, sym, subst, ◌∙◌, arith}
 use Rattle.std.specs.Prelude.{Contains}
-use Rattle.std.specs.FinMap.{get, contains_key}
+use Rattle.std.specs.FinMap.{contains_key}
 use Rattle.std.specs.Result.{is_ok}
 use Rattle.std.proofs.lemmas.Bool.{cases_eq}
 use Rattle.std.proofs.lemmas.List.Elements.{Contains-append_left, Contains-append_right, Contains-push_cases}
@@ -13,9 +13,8 @@ use Rattle.edits.specs.Names.{name_of, IsFileName}
 use Rattle.edits.specs.declared.names.FileName.{FileName}
 use Rattle.edits.specs.declared.names.FileName.TheVariants.{Current, Lock, Log, Manifest, Table, OldTable, Temporary}
 use Rattle.recover.proofs.NameScan.{first_in, in_cons, in_none, name_listed}
-use Rattle.directory_writes.specs.internal.Calls.{LeavesFile, Touches}
+use Rattle.directory_writes.specs.internal.Calls.{Touches}
 use Rattle.directory_writes.specs.internal.Removal.{HasOlderToo, HasTwo, IsLeft, LeavesFew, RemovesNamed}
-use Rattle.directory_writes.specs.Removal.{IsDead}
 use Rattle.directory_writes.proofs.Cleaning.{Knows, gone_later}
 
 -- nothing waits in a turn

@@ -1,6 +1,5 @@
 -- The tables that a job puts into a version are synced.
-use Rattle.std.proofs.Common.{◌≡◌, ◌≢◌, ◌⊎◌, ℕ, Bool, List, [], ◌∷◌, ◌++◌, map, Option, Some, None, IsTrue, inl, inr, sym, ap, subst, ◌∙◌}
-use Rattle.std.specs.FinMap.{get}
+use Rattle.std.proofs.Common.{◌≢◌, ◌⊎◌, ℕ, Bool, List, [], ◌∷◌, ◌++◌, map, Option, Some, None, inl, inr, sym, subst, ◌∙◌}
 use Rattle.std.specs.List.{AllByRecursion, Contains}
 use Rattle.std.specs.declared.cmp.Ordering.{Ordering}
 use Rattle.std.proofs.lemmas.List.Elements.{All-contains, All-from_recursion, recursion_from_All}
@@ -13,7 +12,7 @@ use Rattle.edits.specs.declared.field.Field.{Field}
 use Rattle.edits.specs.declared.field.PlacedTable.{PlacedTable}
 use Rattle.edits.specs.declared.field.TableFile.{TableFile}
 use Rattle.ikey.specs.Entries.{InternalEntry, Pair}
-use Rattle.store.specs.Files.{Facts, Files}
+use Rattle.store.specs.Files.{Facts}
 use Rattle.table.specs.Writing.{KeepsOthers, SyncsOnly}
 use Rattle.compact.specs.Choosing.{Choosing}
 use Rattle.compact.specs.JobEdits.{gone, placed_at, pointer_fields}

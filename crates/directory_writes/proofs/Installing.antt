@@ -30,13 +30,13 @@ use Rattle.compact.specs.declared.job.Job.{Job}
 use Rattle.directory_writes.specs.internal.Calls.{Touches}
 use Rattle.directory_writes.specs.Replacing.{placed_in}
 use Rattle.directory_writes.specs.internal.Flush.{IsCorrupt, RefusesVersion, edit_refusal}
-use Rattle.directory_writes.specs.internal.Install.{AreOldOrOwn, CanInstall, HasPreparedJob, InstallLeaves, InstallMayLeave, InstallMeans, InstallTouches, IsJobEdit, RefusesEdit}
+use Rattle.directory_writes.specs.internal.Install.{AreOldOrOwn, CanInstall, HasPreparedJob, InstallLeaves, InstallMayLeave, InstallMeans, InstallPutsOwn, InstallTouches, IsJobEdit, RefusesEdit}
 use Rattle.directory_writes.specs.internal.Manifest.{AppendsEdit}
 use Rattle.directory_writes.specs.declared.flush.FlushError.TheVariants.{Before}
 use Rattle.directory_writes.specs.declared.install.PreparedJob.{PreparedJob}
 use Rattle.directory_writes.specs.declared.manifest.CurrentManifest.{CurrentManifest}
 use Rattle.directory_writes.proofs.AfterEdits.{PutsIn, all_edit}
-use Rattle.directory_writes.proofs.Installs.{IsFit, after, compaction, installed_ok, kept_tables, maybe_installed, outputs_put, served_mid, uninstalled, uninstalled_still}
+use Rattle.directory_writes.proofs.Installs.{IsFit, after, compaction, installed_ok, kept_tables, maybe_installed, maybe_own, outputs_put, served_mid, uninstalled, uninstalled_still}
 use Rattle.directory_writes.proofs.Rooms.{are_apart, lie_apart}
 
 -- ---- which files change
@@ -134,6 +134,19 @@ module _ {K C : Type 0} (order : Order) (job : Job K C) (next last_sequence : �
             uninstalled_still order job next last_sequence fits numbered old mid w (t.faithful g) deep manifest version.tables came d inputs rest can prepared.edit p.edit new g (subst A memory r),
           )
           | inr io ↦ subst M (sym io) (maybe_installed order job next last_sequence fits numbered old mid w (t.faithful g) deep manifest version.tables came d inputs rest can prepared.edit p.edit same new g (subst A io r))
+        ]
+
+    -- whose tables it puts in then
+    pub owns_maybe : SameManifestLaw → (e : DbError) → (e ≡ OutOfMemory) ⊎ (e ≡ Io) → AppendsEdit order mid new manifest.number (string_bytes manifest.name) manifest.end prepared.edit (Err e)
+        → InstallPutsOwn order job old new next last_sequence manifest version.tables (Err (edit_refusal e))
+    owns_maybe same e which r =
+        let P : DbError → Type 0 = λ x. InstallPutsOwn order job old new next last_sequence manifest version.tables (Err (edit_refusal x)) in
+        let A : DbError → Type 0 = λ x. AppendsEdit order mid new manifest.number (string_bytes manifest.name) manifest.end prepared.edit (Err x) in
+        elim which [
+          | inl memory ↦ subst P (sym memory) (λ is. absurd (cc))
+          | inr io ↦ subst P (sym io) (λ is g deep came d inputs rest can.
+              maybe_own order job next last_sequence fits numbered old mid w (t.faithful g) deep manifest version.tables came d inputs rest can prepared.edit p.edit same new g (subst A io r) prepared.version.value.tables p.leads p.tables
+              (p.synced deep came (t.faithful g) can.merging))
         ]
 
 -- ---- a stop in the middle

@@ -1,9 +1,10 @@
 -- The edit of a job behind the MANIFEST.
-use Rattle.std.proofs.Common.{◌≡◌, ◌<◌, ◌≤◌, ◌^◌, ℕ, suc, Bool, List, [], ◌∷◌, ◌++◌, length, map, Some, Option, All, Ok, Err, IsTrue, string_bytes, inl, inr, refl, sym, ap, subst, ◌∙◌, arith}
+use Rattle.std.proofs.Common.{◌≡◌, ◌<◌, ◌≤◌, ◌^◌, ℕ, suc, Bool, List, [], ◌∷◌, ◌++◌, length, map, Some, Option, All, Contains, Ok, Err, IsTrue, string_bytes, inl, inr, refl, sym, ap, subst, ◌∙◌, arith}
 use Rattle.std.specs.Global.{Vec}
 use Rattle.std.specs.List.{AllByRecursion}
 use Rattle.std.specs.List.Sorted.{IsPermutation}
-use Rattle.std.proofs.lemmas.List.Elements.{All-cons, recursion_from_All}
+use Rattle.std.specs.FinMap.{get}
+use Rattle.std.proofs.lemmas.List.Elements.{All-cons, All-contains, recursion_from_All}
 use Rattle.std.proofs.lemmas.List.Sorted.{All-permutation, IsPermutation-sym}
 use Rattle.coding.specs.declared.error.DbError.TheVariants.{OutOfMemory, Io}
 use Rattle.ikey.specs.Entries.{InternalEntry}
@@ -18,7 +19,8 @@ use Rattle.edits.specs.declared.field.Field.TheVariants as field
 use Rattle.edits.specs.declared.field.PlacedTable.{PlacedTable}
 use Rattle.edits.specs.declared.field.TableFile.{TableFile}
 use Rattle.edits.specs.declared.layout.Layout.{Layout}
-use Rattle.edits.specs.declared.names.FileName.TheVariants.{Manifest}
+use Rattle.edits.specs.declared.names.FileName.TheVariants.{Manifest, Table}
+use Rattle.edits.proofs.FileNames.{one_file}
 use Rattle.table.specs.Writing.{KeepsOthers}
 use Rattle.versions.specs.Applying.{LeadsLayout}
 use Rattle.versions.specs.Levels.{ListsSameTables, pointers_after}
@@ -27,21 +29,24 @@ use Rattle.recover.specs.Tables.{TableContent, InTables}
 use Rattle.recover.specs.Directory.{Directory, IsConsistent, HasManifest, EndsAt, used_in}
 use Rattle.recover.specs.internal.Changes.{ManifestEndsAt, AgreeBeside, SameManifestLaw, IsCompaction, compacted}
 use Rattle.recover.specs.Numbers.{NamesBelow}
+use Rattle.recover.proofs.Adding.{table_of}
 use Rattle.recover.proofs.Flushing.{kept_by}
+use Rattle.recover.proofs.OneMeaning.{same_directory}
 use Rattle.recover.proofs.Memberships.{from_chosen, from_rest, in_part}
 use Rattle.compact.specs.JobEdits.{IsEditOf, gone, placed_at}
-use Rattle.compact.specs.Outputs.{AreNumbered, IsDrawnNumber, IsNumberAtHand, WritesTables}
+use Rattle.compact.specs.Outputs.{AreNumbered, IsDrawnNumber, IsNumberAtHand, IsOwn, WritesTables, table_name}
 use Rattle.compact.specs.declared.job.Job.{Job}
 use Rattle.directory_writes.specs.Replacing.{placed_in}
 use Rattle.directory_writes.specs.internal.Compactions.{IsJobDone, IsJobPut}
 use Rattle.directory_writes.specs.internal.Flush.{KeepsLogsAndTables, PassesNoLimit}
-use Rattle.directory_writes.specs.internal.Install.{CanInstall, HasInstalled, IsInstalled, IsJobEdit, IsServed, IsUninstalled, MayBeInstalled}
+use Rattle.directory_writes.specs.internal.Install.{AreOldOrOwn, AreOldOrSynced, CanInstall, HasInstalled, IsInstalled, IsJobEdit, IsServed, IsUninstalled, MayBeInstalled, PutsOwn}
 use Rattle.directory_writes.specs.internal.JobWrites.{KeepsOtherTables}
 use Rattle.directory_writes.specs.internal.Manifest.{CanAddEdit, IsRecordedBelow, AppendsEdit}
 use Rattle.directory_writes.specs.declared.manifest.CurrentManifest.{CurrentManifest}
 use Rattle.directory_writes.proofs.AfterEdits.{PutsIn, AreKept, kept_edit, distinct}
 use Rattle.directory_writes.proofs.FlushEdits.{all_fields, fields_last}
 use Rattle.directory_writes.proofs.JobFolds.{front_of, front_all, job_folds}
+use Rattle.directory_writes.proofs.JobTables.{contains_among, content_at}
 use Rattle.directory_writes.proofs.JobWritten.{hand_below, beside_written, keeps_others}
 use Rattle.directory_writes.proofs.JobsDone.{job_done}
 use Rattle.directory_writes.proofs.JobsPut.{agree, job_put, same_table, still_there, unused_by}
@@ -346,6 +351,43 @@ module _ {K C : Type 0} (order : Order) (job : Job K C) (next last_sequence : �
       ];
       free = r.free g d.edits d.layout after can_add next served_mid.free recorded;
     }
+
+    old_placed : (placed : PlacedTable) → Contains tables placed → Contains d.layout.tables.items placed
+    old_placed placed there =
+        subst (λ (ps : List PlacedTable). Contains ps placed) can.served.consistent.placed (All-contains (Contains (placed_in d.tables)) tables placed can.served.listed.only there)
+
+    same_layout : (new : Files) (x y : Directory) → IsConsistent order new x → IsConsistent order new y → x.layout.tables.items ≡ y.layout.tables.items
+    same_layout new x y a b = sym a.placed ∙ ap placed_in (same_directory order new x y a b).3 ∙ b.placed
+
+    -- a table of a directory that is left has no MANIFEST's name, so that its file is as it was
+    file_behind : (new : Facts) → KeepsOthers mid.files new.files (string_bytes manifest.name) → (x : Directory) → IsConsistent order new.files x → (placed : PlacedTable) → Contains x.layout.tables.items placed
+        → get new.files (table_name placed.table.number) ≡ get mid.files (table_name placed.table.number)
+    file_behind new others x good placed there =
+        let content = content_at x.tables placed (contains_among (placed_in x.tables) placed (subst (λ (ps : List PlacedTable). Contains ps placed) (sym good.placed) there)) in
+        let numbered : IsNumbered placed.table.number = subst (λ (p : PlacedTable). IsNumbered p.table.number) content.2 (table_of order new.files x.tables content.0 good.tables content.1) in
+        others (table_name placed.table.number) (λ is.
+        let same : Table placed.table.number ≡ Manifest d.manifest = one_file (Table placed.table.number) (Manifest d.manifest) numbered can.served.consistent.manifest.numbered (is ∙ can.served.named) in cc)
+
+    -- whose tables the directory has then
+    pub maybe_own : SameManifestLaw → (new : Facts) → IsTrue new.faithful → AppendsEdit order mid new manifest.number (string_bytes manifest.name) manifest.end edit (Err Io)
+        → (left : List PlacedTable) → LeadsLayout (after_edit edit) tables left → AreOldOrOwn job.outputs tables left → AreOldOrSynced mid tables left → PutsOwn order job.outputs new.files d
+    unfolding has_installed
+    maybe_own same new g r left leads own synced x good placed there = elim (r.device g refl d.edits d.layout after can_add) [
+      | inl has ↦
+          let kept = has_kept new.files (r.others g) same (subst (λ (k : ℕ). HasManifest order new.files k d.edits d.layout) can.served.number has) in
+          inl (subst (λ (ps : List PlacedTable). Contains ps placed) (same_layout new.files x d good kept.0) there)
+      | inr has ↦
+          let is = has_installed new.files (r.others g) (subst (λ (k : ℕ). HasManifest order new.files k (d.edits ++ edit ∷ []) after) can.served.number has) in
+          let here : Contains (placed_in contents) placed = subst (λ (ps : List PlacedTable). Contains ps placed) (same_layout new.files x (result new.files (r.others g)) good is.consistent) there in
+          let in_left = All-contains (Contains left) (placed_in contents) placed (listed_behind left leads).all here in
+          elim (own placed in_left) [
+            | inl old ↦ inl (old_placed placed old)
+            | inr mine ↦ elim (synced placed in_left) [
+              | inl old ↦ inl (old_placed placed old)
+              | inr kept ↦ inr (mine, (kept.0, file_behind new (r.others g) x good placed there ∙ kept.1))
+            ]
+          ]
+    ]
 
     pub uninstalled_still : (new : Facts) → IsTrue new.faithful → AppendsEdit order mid new manifest.number (string_bytes manifest.name) manifest.end edit (Err OutOfMemory)
         → IsUninstalled order old.files new.files next manifest tables d

@@ -4,8 +4,10 @@ pub mod EditSteps
 pub mod FewLeft
 pub mod Filled
 pub mod FlushEdits
+pub mod FlushedEach
 pub mod Flushes
 pub mod InstallSynced
+pub mod InstalledEach
 pub mod Installing
 pub mod Installs
 pub mod JobFolds
@@ -14,8 +16,10 @@ pub mod JobTables
 pub mod JobWritten
 pub mod JobsDeep
 pub mod JobsDone
+pub mod JobsEach
 pub mod JobsPut
 pub mod KeyEnds
+pub mod LogsBegun
 pub mod Losing
 pub mod Made
 pub mod Meaning
@@ -26,8 +30,11 @@ pub mod PlansClosed
 pub mod PlansKept
 pub mod PlansMade
 pub mod Ranks
+pub mod RemovedEach
 pub mod Replacing
 pub mod Rooms
+pub mod SameCalls
+pub mod SameChanges
 pub mod Sizes
 pub mod Sparing
 pub mod StoreCalls

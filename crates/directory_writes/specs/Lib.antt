@@ -1,3 +1,4 @@
+pub mod Differing
 pub mod Removal
 pub mod Replacing
 pub mod internal

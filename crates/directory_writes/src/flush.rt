@@ -11,6 +11,7 @@ ghost use Rattle.versions.specs.Applying.{LeadsLayout, LeadsAstray};
 ghost use Rattle.versions.specs.Levels.{AreInOrder, pointers_after};
 ghost use Rattle.store.specs.Calls.{FailsAsWrite};
 ghost use Rattle.store.specs.Stops.{LeavesOnly};
+ghost use Rattle.directory_writes.specs.Differing.{OfEach, with_files};
 ghost use Rattle.directory_writes.specs.internal.Flush.{DrawsTable, Prepares, RefusesNewTable, RefusesVersion, edit_refusal};
 ghost use Rattle.directory_writes.specs.internal.Flush.{FlushTouches, RefusesFlush, SparesManifest, SyncsFlush, AnswersVersion, FlushLeaves, FlushMayLeave};
 ghost use Rattle.directory_writes.specs.internal.Level0.{HaveSequences};
@@ -101,9 +102,15 @@ pub fn flush_memory<K: KeyOrder, S: Store>(
         (λ name. name ≡ name_of (Table numbers.old.next)) result }
     ensures leaves { FlushLeaves (order_of K.name K.cmp) (S.facts store.old)
         (S.facts store.new) numbers.old.next numbers.new.next plan manifest.now memory.now.inserts version.now.tables result }
+    ensures leaves_each { OfEach (λ whole after. FlushLeaves (order_of K.name K.cmp) (with_files (S.facts store.old) whole)
+        (with_files (S.facts store.new) after) numbers.old.next numbers.new.next plan manifest.now memory.now.inserts version.now.tables result)
+        (S.facts store.old).files (S.facts store.new).files }
     ensures stops { IsTrue (S.facts store.new).faithful → LeavesOnly (S.facts store.old) (S.facts store.new)
         (FlushMayLeave (order_of K.name K.cmp) (S.facts store.old).files numbers.old.next numbers.new.next plan manifest.now
         memory.now.inserts version.now.tables) }
+    ensures stops_each { IsTrue (S.facts store.new).faithful → LeavesOnly (S.facts store.old) (S.facts store.new)
+        (λ files. OfEach (λ whole after. FlushMayLeave (order_of K.name K.cmp) whole numbers.old.next numbers.new.next plan manifest.now
+        memory.now.inserts version.now.tables after) (S.facts store.old).files files) }
 {
     // Laws, for the proof alone.
     flush_law();

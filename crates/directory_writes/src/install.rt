@@ -7,8 +7,10 @@ ghost use Rattle.compact.specs.JobEdits.{IsPlanProper};
 ghost use Rattle.compact.specs.Outputs.{AreNumbered, IsNumberAtHand, IsTableName, WritesTables};
 ghost use Rattle.store.specs.Calls.{FailsAsWrite};
 ghost use Rattle.store.specs.Stops.{LeavesOnly};
+ghost use Rattle.directory_writes.specs.Differing.{OfEach, with_files};
+ghost use Rattle.directory_writes.specs.internal.Each.{HasSameOutputs};
 ghost use Rattle.directory_writes.specs.internal.Flush.{SparesManifest};
-ghost use Rattle.directory_writes.specs.internal.Install.{HasJobVersion, HasPreparedJob, InstallLeaves, InstallMayLeave, InstallSyncs, InstallTouches, RefusesEdit, RefusesInstall};
+ghost use Rattle.directory_writes.specs.internal.Install.{HasJobVersion, HasPreparedJob, InstallLeaves, InstallMayLeave, InstallPutsOwn, InstallSyncs, InstallTouches, RefusesEdit, RefusesInstall};
 
 use crate::flush::{FlushError, edit_refusal, version_after};
 use crate::manifest::{CurrentManifest, append_edit};
@@ -70,8 +72,17 @@ pub fn install_job<K: KeyOrder, C: Drop, S: Store>(
         (IsTableName (IsNumberAtHand job.outputs)) result }
     ensures leaves { InstallLeaves (order_of K.name K.cmp) job (S.facts store.old)
         (S.facts store.new) numbers.now.next last_sequence manifest.now version.now.tables result }
+    ensures leaves_each { OfEach (λ whole after. HasSameOutputs job.outputs (S.facts store.old).files whole → InstallLeaves (order_of K.name K.cmp) job
+        (with_files (S.facts store.old) whole) (with_files (S.facts store.new) after) numbers.now.next last_sequence manifest.now version.now.tables result)
+        (S.facts store.old).files (S.facts store.new).files }
+    ensures owns_each { OfEach (λ whole after. HasSameOutputs job.outputs (S.facts store.old).files whole
+        → InstallPutsOwn (order_of K.name K.cmp) job (with_files (S.facts store.old) whole) (with_files (S.facts store.new) after)
+        numbers.now.next last_sequence manifest.now version.now.tables result) (S.facts store.old).files (S.facts store.new).files }
     ensures stops { IsTrue (S.facts store.new).faithful → LeavesOnly (S.facts store.old) (S.facts store.new)
         (InstallMayLeave (order_of K.name K.cmp) job (S.facts store.old) numbers.now.next last_sequence manifest.now version.now.tables) }
+    ensures stops_each { IsTrue (S.facts store.new).faithful → LeavesOnly (S.facts store.old) (S.facts store.new)
+        (λ files. OfEach (λ whole after. HasSameOutputs job.outputs (S.facts store.old).files whole → InstallMayLeave (order_of K.name K.cmp) job
+        (with_files (S.facts store.old) whole) numbers.now.next last_sequence manifest.now version.now.tables after) (S.facts store.old).files files) }
 {
     // Laws, for the proof alone.
     same_manifest_law();

@@ -8,6 +8,7 @@ ghost use Rattle.recover.specs.Reading.{IsCounted};
 ghost use Rattle.table.specs.Writing.{SyncsOnly};
 ghost use Rattle.store.specs.Calls.{FailsAsWrite};
 ghost use Rattle.store.specs.Stops.{LeavesOnly};
+ghost use Rattle.directory_writes.specs.Differing.{OfEach, with_files};
 ghost use Rattle.directory_writes.specs.internal.Calls.{Touches};
 ghost use Rattle.directory_writes.specs.internal.LogFile.{DrawsLog, RefusesLog, BeginsLog, MayHaveLog};
 
@@ -32,10 +33,14 @@ pub fn begin_log<S: Store>(
     ensures drawn { DrawsLog (S.facts store.old) (S.facts store.new) numbers.old.next numbers.new.next result }
     ensures refused { IfErr result (λ error. RefusesLog error (S.facts store.old) (S.facts store.new) numbers.old.next numbers.new.next) }
     ensures begins { (order : Order) → BeginsLog order (S.facts store.old) (S.facts store.new) numbers.old.next numbers.new.next result }
+    ensures begins_each { (order : Order) → OfEach (λ whole after. BeginsLog order (with_files (S.facts store.old) whole)
+        (with_files (S.facts store.new) after) numbers.old.next numbers.new.next result) (S.facts store.old).files (S.facts store.new).files }
     ensures synced { IsTrue (S.facts store.new).faithful
         → SyncsOnly (S.facts store.old).synced (S.facts store.new).synced (name_of (Log numbers.old.next)) }
     ensures stops { IsTrue (S.facts store.new).faithful → (order : Order) → LeavesOnly (S.facts store.old) (S.facts store.new)
         (MayHaveLog order (S.facts store.old).files numbers.old.next) }
+    ensures stops_each { IsTrue (S.facts store.new).faithful → (order : Order) → LeavesOnly (S.facts store.old) (S.facts store.new)
+        (λ files. OfEach (λ whole after. MayHaveLog order whole numbers.old.next after) (S.facts store.old).files files) }
 {
     // Laws, for the proof alone.
     begin_log_law();

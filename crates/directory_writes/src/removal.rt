@@ -11,6 +11,7 @@ ghost use Rattle.recover.specs.Directory.{Directory, IsConsistent};
 ghost use Rattle.recover.specs.Reading.{ReadsDirectory, IsCounted};
 ghost use Rattle.store.specs.Calls.{FailsNoWrite};
 ghost use Rattle.store.specs.Stops.{LeavesOnly};
+ghost use Rattle.directory_writes.specs.Differing.{OfEach};
 ghost use Rattle.directory_writes.specs.internal.Calls.{Touches};
 ghost use Rattle.directory_writes.specs.internal.Removal as removal;
 ghost use Rattle.directory_writes.specs.internal.Removal.{AreBoth, AreOfDirectory, AreOlder, AreToClose, HasOlderToo, HasTwo, IsLeft};
@@ -71,8 +72,13 @@ pub fn remove_files<S: Store, L: LiveTables>(
     ensures meaning { IsTrue (S.facts store.new).faithful → (order : Order) (d : Directory)
         → IsConsistent order (S.facts store.old).files d → AreOfDirectory numbers.now (L.has live.now) d
         → KeepsParts order (S.facts store.old).files (S.facts store.new).files (L.has live.now) d }
+    ensures meaning_each { OfEach (λ whole after. IsTrue (S.facts store.new).faithful → (order : Order) (d : Directory) → IsConsistent order whole d
+        → AreOfDirectory numbers.now (L.has live.now) d → KeepsParts order whole after (L.has live.now) d)
+        (S.facts store.old).files (S.facts store.new).files }
     ensures stops { IsTrue (S.facts store.new).faithful → LeavesOnly (S.facts store.old) (S.facts store.new)
         (StaysConsistent numbers.now (L.has live.now) (S.facts store.old).files) }
+    ensures stops_each { IsTrue (S.facts store.new).faithful → LeavesOnly (S.facts store.old) (S.facts store.new)
+        (λ files. OfEach (λ whole after. StaysConsistent numbers.now (L.has live.now) whole after) (S.facts store.old).files files) }
 {
     // Laws, for the proof alone.
     free_change_law();

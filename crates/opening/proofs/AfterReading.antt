@@ -1,5 +1,5 @@
 -- What of an open's writing is synced, behind what it only read.
-use Rattle.std.proofs.Common.{◌≡◌, ◌<◌, ◌≤◌, ℕ, ap, sym, subst, ◌∙◌, Result, Ok, Err, IsTrue, inl, inr, arith}
+use Rattle.std.proofs.Common.{◌≡◌, ℕ, ap, sym, subst, ◌∙◌, Result, Ok, Err, IsTrue, inl, inr, arith}
 use Rattle.std.specs.FinMap.{get}
 use Rattle.coding.specs.declared.error.DbError.{DbError}
 use Rattle.coding.specs.declared.error.DbError.TheVariants as error

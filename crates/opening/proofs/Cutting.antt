@@ -1,10 +1,8 @@
 -- What a loss of power leaves of a directory whose logs aren't synced whole.
-use Rattle.std.proofs.Common.{◌≡◌, ◌≤◌, ◌<◌, ◌+◌, ◌⊎◌, inl, inr, ℕ, Bool, true, false, List, [], ◌∷◌, ◌++◌, length, take, drop, Option, Some, None, is_some, refl, sym, ap, subst, ◌∙◌, arith, append_assoc}
-use Rattle.std.proofs.lemmas.List.{append-nil, length-append, take_all}
-use Rattle.std.specs.FinMap.{get, contains_key}
-use Rattle.store.specs.Files.{Facts, Files, Disk, Call, disk_of}
-use Rattle.store.specs.Losses.{IsLost, BeginsWith}
-use Rattle.ikey.specs.Orders.{Order}
+use Rattle.std.proofs.Common.{◌≡◌, ◌≤◌, ◌<◌, ◌⊎◌, inl, inr, ℕ, false, List, [], ◌∷◌, ◌++◌, length, take, Some, is_some, refl, sym, ap, subst, ◌∙◌, arith, append_assoc}
+use Rattle.std.specs.FinMap.{get}
+use Rattle.store.specs.Files.{Facts, Files, disk_of}
+use Rattle.store.specs.Losses.{IsLost}
 use Rattle.ikey.specs.declared.entry.Entry.{Entry}
 use Rattle.ikey.specs.Views.{Among}
 use Rattle.logfile.specs.Log.{IsLog, shorter}
@@ -12,10 +10,10 @@ use Rattle.logfile.specs.declared.record.Tail.{Tail}
 use Rattle.logfile.specs.declared.record.Tail.TheVariants.{Clean}
 use Rattle.logfile.proofs.LogLaws.{same_log}
 use Rattle.logfile.proofs.Parts.{between}
-use Rattle.edits.specs.Names.{name_of, IsNumbered}
+use Rattle.edits.specs.Names.{name_of}
 use Rattle.edits.specs.declared.layout.Layout.{Layout}
 use Rattle.edits.specs.declared.names.FileName.TheVariants.{Current, Log, Manifest}
-use Rattle.recover.specs.Directory.{Directory, IsConsistent}
+use Rattle.recover.specs.Directory.{Directory}
 use Rattle.recover.specs.Entries.{RiseAbove, entries_of}
 use Rattle.recover.specs.Logs.{AreBatches, AreLive, Batch, HasLog, HasLogs, InLogs, IsBatchLog, IsLive, LogContent, NumbersRise, batch_entries, logged}
 use Rattle.recover.specs.Tables.{TableContent, InTables, table_at}
@@ -95,7 +93,7 @@ cut_log facts lost whole h has =
       },
     )
 
-cut_logs : (facts : Facts) (lost : Files) (wholes : List LogContent) → IsLost facts.files [] (disk_of facts) lost → HasLogs facts.files wholes → (cuts : List LogContent) × HasLogs lost cuts × AreCut facts wholes cuts
+pub cut_logs : (facts : Facts) (lost : Files) (wholes : List LogContent) → IsLost facts.files [] (disk_of facts) lost → HasLogs facts.files wholes → (cuts : List LogContent) × HasLogs lost cuts × AreCut facts wholes cuts
 cut_logs facts lost [] h has = ([], tt, tt)
 cut_logs facts lost (whole ∷ wholes) h has =
     let one = cut_log facts lost whole h has.0 in
@@ -104,20 +102,20 @@ cut_logs facts lost (whole ∷ wholes) h has =
 
 -- ---- what is said of logs goes for cut ones
 
-cut_live : (facts : Facts) (layout : Layout) (wholes cuts : List LogContent) → AreCut facts wholes cuts → AreLive layout wholes → AreLive layout cuts
+pub cut_live : (facts : Facts) (layout : Layout) (wholes cuts : List LogContent) → AreCut facts wholes cuts → AreLive layout wholes → AreLive layout cuts
 cut_live facts layout [] [] c h = tt
 cut_live facts layout [] (cut ∷ cuts) c h = absurd c
 cut_live facts layout (whole ∷ wholes) [] c h = absurd c
 cut_live facts layout (whole ∷ wholes) (cut ∷ cuts) c h = (subst (λ (n : ℕ). IsLive layout n) (sym c.0.number) h.0, cut_live facts layout wholes cuts c.1 h.1)
 
-cut_rising : (facts : Facts) (low : ℕ) (wholes cuts : List LogContent) → AreCut facts wholes cuts → NumbersRise low wholes → NumbersRise low cuts
+pub cut_rising : (facts : Facts) (low : ℕ) (wholes cuts : List LogContent) → AreCut facts wholes cuts → NumbersRise low wholes → NumbersRise low cuts
 cut_rising facts low [] [] c h = tt
 cut_rising facts low [] (cut ∷ cuts) c h = absurd c
 cut_rising facts low (whole ∷ wholes) [] c h = absurd c
 cut_rising facts low (whole ∷ wholes) (cut ∷ cuts) c h =
     subst (λ (n : ℕ). (low < n) × NumbersRise n cuts) (sym c.0.number) (h.0, cut_rising facts whole.number wholes cuts c.1 h.1)
 
-cut_in : (facts : Facts) (n : ℕ) (wholes cuts : List LogContent) → AreCut facts wholes cuts → InLogs wholes n → InLogs cuts n
+pub cut_in : (facts : Facts) (n : ℕ) (wholes cuts : List LogContent) → AreCut facts wholes cuts → InLogs wholes n → InLogs cuts n
 cut_in facts n [] [] c i = absurd i
 cut_in facts n [] (cut ∷ cuts) c i = absurd c
 cut_in facts n (whole ∷ wholes) [] c i = absurd c
@@ -143,7 +141,7 @@ in_either [] ys e i = inr i
 in_either (x ∷ xs) ys e (inl is) = inl (inl is)
 in_either (x ∷ xs) ys e (inr i) = elim (in_either xs ys e i) [ inl here ↦ inl (inr here) | inr there ↦ inr there ]
 
-cut_among : (facts : Facts) (wholes cuts : List LogContent) → AreCut facts wholes cuts → (e : Entry) → Among (logged cuts) e → Among (logged wholes) e
+pub cut_among : (facts : Facts) (wholes cuts : List LogContent) → AreCut facts wholes cuts → (e : Entry) → Among (logged cuts) e → Among (logged wholes) e
 cut_among facts [] [] c e i = absurd i
 cut_among facts [] (cut ∷ cuts) c e i = absurd c
 cut_among facts (whole ∷ wholes) [] c e i = absurd c
@@ -168,7 +166,7 @@ rise_both : (low : ℕ) (xs rest other : List Entry) → ((least : ℕ) → Rise
 rise_both low [] rest other goes h = goes low h
 rise_both low (x ∷ xs) rest other goes h = (h.0, rise_both x.sequence xs rest other goes h.1)
 
-cut_rise : (facts : Facts) (wholes cuts : List LogContent) → AreCut facts wholes cuts → (low : ℕ) → RiseAbove low (logged wholes) → RiseAbove low (logged cuts)
+pub cut_rise : (facts : Facts) (wholes cuts : List LogContent) → AreCut facts wholes cuts → (low : ℕ) → RiseAbove low (logged wholes) → RiseAbove low (logged cuts)
 cut_rise facts [] [] c low h = tt
 cut_rise facts [] (cut ∷ cuts) c low h = absurd c
 cut_rise facts (whole ∷ wholes) [] c low h = absurd c

@@ -1,7 +1,5 @@
 -- Which logs the device may not have whole behind an open.
-use Rattle.std.proofs.Common.{◌≡◌, ◌≢◌, ◌⊎◌, ◌<◌, ◌≤◌, ◌+◌, ◌++◌, ℕ, zero, suc, true, false, is_some, IsSome, List, [], ◌∷◌, map, Option, Some, None, IsTrue, String, string_bytes, inl, inr, refl, sym, ap, subst, ◌∙◌, arith}
-use Rattle.std.specs.declared.alloc.Global.{Global}
-use Rattle.std.proofs.lemmas.Bool.{cases_lt}
+use Rattle.std.proofs.Common.{◌≡◌, ◌≢◌, ◌⊎◌, ◌<◌, ◌≤◌, ◌+◌, ◌++◌, ℕ, zero, suc, true, false, is_some, IsSome, List, [], ◌∷◌, map, Option, Some, None, string_bytes, inl, inr, refl, sym, ap, subst, ◌∙◌, arith}
 use Rattle.std.specs.FinMap.{get, contains_key}
 use Rattle.std.specs.Option.{option_or}
 use Rattle.std.specs.List.{AllByRecursion}
@@ -12,8 +10,7 @@ use Rattle.edits.specs.declared.names.FileName.TheVariants.{Log, Table, OldTable
 use Rattle.recover.specs.Logs.{HasLogs, InLogs, IsLive, LogContent}
 use Rattle.recover.specs.Report.{log_summary}
 use Rattle.recover.specs.Tables.{table_at}
-use Rattle.recover.specs.declared.report.LogSummary.{LogSummary}
-use Rattle.opening.specs.Losses.{AreInDoubt, IsLogBelow, IsLogRead, IsNoneOf, logs_in_doubt}
+use Rattle.opening.specs.Losses.{AreInDoubt, IsLogBelow, IsLogRead, IsNoneOf}
 use Rattle.opening.specs.declared.directory.CurrentLog.{CurrentLog}
 use Rattle.opening.specs.declared.directory.DirectoryState.{DirectoryState}
 use Rattle.opening.specs.declared.finding.Found.{Found}

@@ -1,13 +1,17 @@
 pub mod AfterReading
 pub mod BegunSteps
 pub mod Cutting
+pub mod FoundEach
 pub mod FoundSteps
 pub mod Fronts
 pub mod InDoubt
 pub mod Losing
+pub mod LosingEach
 pub mod NewManifests
 pub mod OpenSteps
+pub mod RefusedEach
 pub mod Reopening
+pub mod RewrittenEach
 pub mod StoreCalls
 pub mod Syncing
 pub mod Telling

@@ -1,9 +1,9 @@
 -- What a loss of power leaves of what is synced.
-use Rattle.std.proofs.Common.{◌≡◌, ◌≤◌, ◌+◌, ℕ, Bool, true, false, if◌then◌else◌, List, [], ◌∷◌, ◌++◌, length, take, drop, Option, Some, None, is_some, inl, inr, refl, sym, ap, subst, ◌∙◌, arith}
+use Rattle.std.proofs.Common.{◌≡◌, ◌≤◌, ℕ, Bool, true, false, if◌then◌else◌, List, [], ◌∷◌, ◌++◌, length, take, drop, Option, Some, None, is_some, inl, inr, refl, sym, ap, subst, ◌∙◌, arith}
 use Rattle.std.proofs.lemmas.List.{append-nil, drop_all, length-append, take_all}
-use Rattle.std.specs.FinMap.{get, contains_key}
+use Rattle.std.specs.FinMap.{get}
 use Rattle.std.specs.Option.{option_or}
-use Rattle.store.specs.Files.{Facts, Files, Disk, Call, disk_of}
+use Rattle.store.specs.Files.{Facts, Files, Call, disk_of}
 use Rattle.store.specs.Losses.{IsLost, IsLostSince, Lost, BeginsWith, behind_sync, disk_before, is_sync}
 use Rattle.store.specs.Stops.{moment}
 use Rattle.edits.specs.Names.{name_of}

@@ -12,6 +12,7 @@ use Rattle.edits.specs.declared.names.FileName.TheVariants.{Current, Log, Manife
 use Rattle.recover.specs.Directory.{Directory, IsConsistent}
 use Rattle.recover.specs.Logs.{Batch, IsBatchLog, IsLive, LogContent}
 use Rattle.recover.specs.Tables.{TableContent, InTables, table_at}
+use Rattle.directory_writes.specs.Differing.{OfEach}
 use Rattle.opening.specs.declared.directory.CurrentLog.{CurrentLog}
 use Rattle.opening.specs.declared.directory.DirectoryState.{DirectoryState}
 
@@ -90,3 +91,23 @@ AreCut facts wholes cuts = ⊥
 abbrev pub CutLaw : Type 0
 CutLaw = (order : Order) (facts : Facts) (d : Directory) (lost : Files) → IsConsistent order facts.files d → IsKeptButLogs facts d → IsLost facts.files [] (disk_of facts) lost
     → (logs : List LogContent) × AreCut facts d.logs logs × IsConsistent order lost (record d { logs = logs })
+
+-- ---- in each directory that differs in tables alone
+
+-- So is all that such a directory reads, and its tables but for those that the same loss has left there.
+pub record IsKeptOver (facts : Facts) (whole after : Files) (d : Directory) : Type 0 where
+  pub current : IsKept facts (name_of Current)
+  pub manifest : IsKept facts (name_of (Manifest d.manifest))
+  pub logs : (n : ℕ) → IsNumbered n → IsLive d.layout n → IsKept facts (name_of (Log n))
+  pub tables : (content : TableContent) → InTables d.tables content
+      → IsTableKept facts content.placed.table.number ⊎ (table_at after content.placed.table.number ≡ table_at whole content.placed.table.number)
+
+-- Behind a sync, every loss of power until the next call leaves that directory then.
+abbrev pub KeptEachLaw : Type 0
+KeptEachLaw = (order : Order) (facts : Facts) (d : Directory) (lost : Files) → EndsInSync facts → Lost facts (moment facts) lost
+    → OfEach (λ whole after. IsConsistent order whole d → IsKeptOver facts whole after d → IsConsistent order after d) facts.files lost
+
+-- One that leaves the names as they are leaves it with logs that may be cut.
+abbrev pub CutEachLaw : Type 0
+CutEachLaw = (order : Order) (facts : Facts) (d : Directory) (lost : Files) → IsKeptButLogs facts d → IsLost facts.files [] (disk_of facts) lost
+    → OfEach (λ whole after. IsConsistent order whole d → (logs : List LogContent) × AreCut facts d.logs logs × IsConsistent order after (record d { logs = logs })) facts.files lost

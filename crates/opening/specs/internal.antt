@@ -4,5 +4,6 @@ pub mod Calls
 pub mod Directories
 pub mod Durable
 pub mod Knowing
+pub mod OpenedEach
 pub mod Opening
 pub mod Outcome

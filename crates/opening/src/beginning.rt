@@ -4,6 +4,7 @@ ghost use Rattle.std.specs.Prelude.{◌≡◌, IsTrue, Err, IfOk, IfErr, OnOk};
 ghost use Rattle.coding.specs.declared.error.DbError.TheVariants.{OutOfMemory};
 ghost use Rattle.ikey.specs.Orders.{order_of};
 ghost use Rattle.store.specs.Stops.{LeavesOnly};
+ghost use Rattle.directory_writes.specs.Differing.{OfEach};
 ghost use Rattle.opening.specs.internal.Opening.{IsContinued, RefusesOpen};
 ghost use Rattle.opening.specs.internal.Durable.{HasDurable, Spares};
 ghost use Rattle.opening.specs.Durable.{LeavesDurable};
@@ -62,11 +63,17 @@ pub fn begin<K: KeyOrder, S: Store>(
     ensures whole { IfOk result (IsBegun (order_of K.name K.cmp)) }
     ensures begun { IfOk result (λ begun. IsTrue (S.facts store.new).faithful
         → Begins (order_of K.name K.cmp) mode (S.facts store.old).files (S.facts store.new).files begun) }
+    ensures begun_each { IfOk result (λ begun. IsTrue (S.facts store.new).faithful
+        → OfEach (λ whole after. Begins (order_of K.name K.cmp) mode whole after begun) (S.facts store.old).files (S.facts store.new).files) }
     ensures continued { IsTrue (S.facts store.new).faithful
         → IsContinued (order_of K.name K.cmp) (S.facts store.old).files (S.facts store.new).files }
+    ensures continued_each { IsTrue (S.facts store.new).faithful
+        → OfEach (λ whole after. IsContinued (order_of K.name K.cmp) whole after) (S.facts store.old).files (S.facts store.new).files }
     // A stop in its middle leaves that too.
     ensures stops { IsTrue (S.facts store.new).faithful → LeavesOnly (S.facts store.old) (S.facts store.new)
         (IsContinued (order_of K.name K.cmp) (S.facts store.old).files) }
+    ensures stops_each { IsTrue (S.facts store.new).faithful → LeavesOnly (S.facts store.old) (S.facts store.new)
+        (λ files. OfEach (λ whole after. IsContinued (order_of K.name K.cmp) whole after) (S.facts store.old).files files) }
     ensures refused { IfErr result (λ error. RefusesOpen (order_of K.name K.cmp) mode error (S.facts store.old) (S.facts store.new)) }
     ensures unwritten { IfErr result (λ error. IsUnwritten error (S.facts store.old) (S.facts store.new)) }
     ensures tells { IsTrue (S.facts store.new).faithful → Tells (order_of K.name K.cmp) (S.facts store.old).files result }

@@ -1,6 +1,7 @@
 //! What a loss of power leaves.
 
-ghost use Rattle.opening.specs.Losses.{CutLaw, KeptLaw};
+ghost use Rattle.opening.specs.internal.OpenedEach.{RefusedEachLaw};
+ghost use Rattle.opening.specs.Losses.{CutEachLaw, CutLaw, KeptEachLaw, KeptLaw};
 
 use recover::free_change_law;
 
@@ -15,4 +16,21 @@ pub fn kept_law()
 /// have lost batches from their ends, but none that was synced.
 pub fn cut_law()
     ensures { CutLaw }
+{}
+
+/// Law: the same of each directory that differs in tables alone, where all that it reads is synced.
+pub fn kept_each_law()
+    ensures { KeptEachLaw }
+{
+    free_change_law();
+}
+
+/// Law: the same of each, where all but the logs is.
+pub fn cut_each_law()
+    ensures { CutEachLaw }
+{}
+
+/// Law: an open that is refused, but as damaged, would be refused so over each directory that differs in tables alone.
+pub fn refused_each_law()
+    ensures { RefusedEachLaw }
 {}

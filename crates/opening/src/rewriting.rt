@@ -7,6 +7,7 @@ ghost use Rattle.ikey.specs.Orders.{order_of};
 ghost use Rattle.opening.specs.internal.Durable.{HasDurable, SparesBeside};
 ghost use Rattle.opening.specs.Durable.{LeavesDurable};
 ghost use Rattle.store.specs.Stops.{LeavesOnly};
+ghost use Rattle.directory_writes.specs.Differing.{OfEach, with_files};
 ghost use Rattle.opening.specs.internal.Begun.{IsFront, names_of_log};
 ghost use Rattle.opening.specs.internal.Opening.{Finds, IsContinued, IsUsable, KeepsLogs, IsKnownAfter, IsNewManifest, IsRewrite, Rewrites};
 
@@ -178,11 +179,17 @@ pub fn rewrite_directory<K: KeyOrder, S: Store>(
     requires planned { IsRewrite (order_of K.name K.cmp) found.now rewrite.now }
     ensures files { Rewrites (order_of K.name K.cmp) (S.facts store.old) (S.facts store.new) found.now
         (length rewrite.now.manifest.items) result }
+    ensures files_each { OfEach (λ whole after. Rewrites (order_of K.name K.cmp) (with_files (S.facts store.old) whole)
+        (with_files (S.facts store.new) after) found.now (length rewrite.now.manifest.items) result)
+        (S.facts store.old).files (S.facts store.new).files }
     ensures durable { LeavesDurable (S.facts store.old) (S.facts store.new) result }
     ensures current { IsTrue (S.facts store.new).faithful → OnOk result (HasDurable found.now.number (S.facts store.new)) }
     ensures spared { IsTrue (S.facts store.new).faithful → SparesBeside found.now.number (S.facts store.old) (S.facts store.new) }
     ensures stops { IsTrue (S.facts store.new).faithful → Finds (order_of K.name K.cmp) (S.facts store.old).files found.now
         → LeavesOnly (S.facts store.old) (S.facts store.new) (IsContinued (order_of K.name K.cmp) (S.facts store.old).files) }
+    ensures stops_each { IsTrue (S.facts store.new).faithful → LeavesOnly (S.facts store.old) (S.facts store.new)
+        (λ files. OfEach (λ whole after. Finds (order_of K.name K.cmp) whole found.now → IsContinued (order_of K.name K.cmp) whole after)
+        (S.facts store.old).files files) }
 {
     // Laws, for the proof alone.
     free_change_law();

@@ -190,6 +190,17 @@ abbrev pub InstallMayLeave : {K C : Type 0} → Order → Job K C → Facts → 
 InstallMayLeave order job old next last_sequence manifest tables new = (deep : List ℕ → Bool) (came : List InternalEntry) (d : Directory) (inputs rest : List TableContent)
     → CanInstall order deep job old next last_sequence manifest tables came d inputs rest → MayBeInstalled order deep job.plan.output_level job.selection.snapshots old.files new next came d inputs rest
 
+-- Each table of what is left was there before, or is one that the job wrote, whose file is there.
+abbrev pub PutsOwn : Order → TablesWritten → Files → Directory → Type 0
+PutsOwn order w new d = (e : Directory) → IsConsistent order new e → (placed : PlacedTable) → Contains e.layout.tables.items placed
+    → Contains d.layout.tables.items placed ⊎ (IsOwn w placed.table.number × ((file : List ℕ) × (get new (table_name placed.table.number) ≡ Some file)))
+
+-- So it is where the device failed at the edit.
+abbrev pub InstallPutsOwn : {K C : Type 0} → Order → Job K C → Facts → Facts → ℕ → ℕ → CurrentManifest → List PlacedTable → Result (Installed K) FlushError → Type 0
+InstallPutsOwn order job old new next last_sequence manifest tables result =
+    result ≡ Err Edit → IsTrue new.faithful → (deep : List ℕ → Bool) (came : List InternalEntry) (d : Directory) (inputs rest : List TableContent)
+    → CanInstall order deep job old next last_sequence manifest tables came d inputs rest → PutsOwn order job.outputs new.files d
+
 -- What the end of a job leaves of a directory, while the store is faithful.
 abbrev pub InstallLeaves : {K C : Type 0} → Order → Job K C → Facts → Facts → ℕ → ℕ → CurrentManifest → List PlacedTable → Result (Installed K) FlushError → Type 0
 InstallLeaves order job old new next last_sequence manifest tables result =

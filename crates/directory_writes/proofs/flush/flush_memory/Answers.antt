@@ -5,6 +5,7 @@ use Rattle.edits.specs.declared.names.FileName.TheVariants.{Table}
 use Rattle.directory_writes.specs.internal.Flush.{FlushLeaves, SparesManifest}
 use Rattle.directory_writes.specs.declared.flush.Flushed.{Flushed}
 use Rattle.directory_writes.specs.declared.flush.FlushError.{FlushError}
+use Rattle.directory_writes.proofs.FlushedEach.{FlushEach, flush_stopped_each, maybe_each, none_each, ok_each, table_stopped_each}
 use Rattle.directory_writes.proofs.Flushes.{touches_table, touches_both, syncs_both, flush_stopped, leaves_none, leaves_ok, leaves_maybe, table_stopped}
 use Rattle.directory_writes.proofs.Sparing.{spares_edit}
 use Rattle.directory_writes.proofs.flush.flush_memory.Goals as goal
@@ -94,3 +95,50 @@ returns-in-Err-append_edit-clause-spares g c =
     (spares_edit (Flushed g.row.K.Denot) order old (g.S.Store.facts c.prepare.new.store) new c.args.manifest.now.number name c.args.manifest.now.end c.in-Ok.prepared.edit (λ q. q ≡ name_of (Table c.args.numbers.now.next))
     c.in-Err-append_edit.error c.in-Err-append_edit.ensures.refused c.in-Err-append_edit.ensures.call.faithful
     (λ f apart. (c.in-Ok.ensures.writes.others f name apart, c.in-Ok.ensures.writes.synced f name apart)) (c.in-Err-append_edit.ensures.appends order) c.in-Err-append_edit.ensures.syncs)
+
+-- ---- in each directory that differs in tables alone
+
+pub returns-in-Err-clause-leaves_each : goal.returns-in-Err-clause-leaves_each
+returns-in-Err-clause-leaves_each g c =
+    none_each g.row.K.Denot (order_of g.K.KeyOrder.name g.K.KeyOrder.cmp) (g.S.Store.facts c.args.store.now) c.args.numbers.now.next c.prepare.new.numbers.next c.args.plan c.args.manifest.now c.args.memory.now.inserts
+    c.unread_law.ensures (g.S.Store.facts c.prepare.new.store) c.args.version.now.tables c.in-Err.error c.in-Err.ensures.writes c.in-Err.ensures.drawn c.in-Err.ensures.refused
+
+pub returns-in-Ok-append_edit-clause-leaves_each : goal.returns-in-Ok-append_edit-clause-leaves_each
+returns-in-Ok-append_edit-clause-leaves_each g c =
+    let order = order_of g.K.KeyOrder.name g.K.KeyOrder.cmp in
+    let p = c.in-Ok.ensures.prepares in
+    ok_each order (g.S.Store.facts c.args.store.now) c.args.numbers.now.next c.prepare.new.numbers.next c.args.plan c.args.manifest.now c.args.memory.now.inserts
+    c.unread_law.ensures c.flush_law.ensures c.same_manifest_law.ensures (g.S.Store.facts c.prepare.new.store) (g.S.Store.facts c.append_edit.new.store) c.args.version.now c.in-Ok.prepared
+    c.in-Ok.ensures.writes c.in-Ok-append_edit.ensures.call p.0 p.1 p.2 p.3 p.4 c.in-Ok-append_edit.manifest_end (c.in-Ok-append_edit.ensures.appends order)
+
+pub returns-in-Err-append_edit-clause-leaves_each : goal.returns-in-Err-append_edit-clause-leaves_each
+returns-in-Err-append_edit-clause-leaves_each g c =
+    let order = order_of g.K.KeyOrder.name g.K.KeyOrder.cmp in
+    let p = c.in-Ok.ensures.prepares in
+    let P : FlushError → Type 0 = λ e. FlushEach g.row.K.Denot order (g.S.Store.facts c.args.store.now) c.args.numbers.now.next c.prepare.new.numbers.next c.args.plan c.args.manifest.now c.args.memory.now.inserts
+    (g.S.Store.facts c.append_edit.new.store) c.args.version.now.tables (Err e) in
+    subst P (sym c.edit_refusal.ensures)
+    (maybe_each order (g.S.Store.facts c.args.store.now) c.args.numbers.now.next c.prepare.new.numbers.next c.args.plan c.args.manifest.now c.args.memory.now.inserts
+    c.unread_law.ensures c.flush_law.ensures c.same_manifest_law.ensures (g.S.Store.facts c.prepare.new.store) (g.S.Store.facts c.append_edit.new.store) c.args.version.now c.in-Ok.prepared
+    c.in-Ok.ensures.writes c.in-Err-append_edit.ensures.call p.0 p.1 p.2 p.3 p.4 c.in-Err-append_edit.error c.in-Err-append_edit.ensures.refused (c.in-Err-append_edit.ensures.appends order))
+
+pub returns-in-Err-clause-stops_each : goal.returns-in-Err-clause-stops_each
+returns-in-Err-clause-stops_each g c f =
+    table_stopped_each (order_of g.K.KeyOrder.name g.K.KeyOrder.cmp) (g.S.Store.facts c.args.store.now) c.args.numbers.now.next c.prepare.new.numbers.next c.args.plan c.args.manifest.now c.args.memory.now.inserts c.args.version.now.tables
+    c.unread_law.ensures (g.S.Store.facts c.prepare.new.store) c.in-Err.ensures.drawn (c.in-Err.ensures.writes.calls f)
+
+pub returns-in-Ok-append_edit-clause-stops_each : goal.returns-in-Ok-append_edit-clause-stops_each
+returns-in-Ok-append_edit-clause-stops_each g c f =
+    let order = order_of g.K.KeyOrder.name g.K.KeyOrder.cmp in
+    let p = c.in-Ok.ensures.prepares in
+    flush_stopped_each order (g.S.Store.facts c.args.store.now) c.args.numbers.now.next c.prepare.new.numbers.next c.args.plan c.args.manifest.now c.args.memory.now.inserts
+    c.unread_law.ensures c.flush_law.ensures c.same_manifest_law.ensures (g.S.Store.facts c.prepare.new.store) (g.S.Store.facts c.append_edit.new.store) c.args.version.now c.in-Ok.prepared
+    c.in-Ok.ensures.writes c.in-Ok.ensures.drawn c.in-Ok-append_edit.ensures.call p.0 p.1 p.2 p.3 p.4 (c.in-Ok-append_edit.ensures.stops f order) f
+
+pub returns-in-Err-append_edit-clause-stops_each : goal.returns-in-Err-append_edit-clause-stops_each
+returns-in-Err-append_edit-clause-stops_each g c f =
+    let order = order_of g.K.KeyOrder.name g.K.KeyOrder.cmp in
+    let p = c.in-Ok.ensures.prepares in
+    flush_stopped_each order (g.S.Store.facts c.args.store.now) c.args.numbers.now.next c.prepare.new.numbers.next c.args.plan c.args.manifest.now c.args.memory.now.inserts
+    c.unread_law.ensures c.flush_law.ensures c.same_manifest_law.ensures (g.S.Store.facts c.prepare.new.store) (g.S.Store.facts c.append_edit.new.store) c.args.version.now c.in-Ok.prepared
+    c.in-Ok.ensures.writes c.in-Ok.ensures.drawn c.in-Err-append_edit.ensures.call p.0 p.1 p.2 p.3 p.4 (c.in-Err-append_edit.ensures.stops f order) f

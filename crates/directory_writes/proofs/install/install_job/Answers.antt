@@ -6,6 +6,7 @@ use Rattle.directory_writes.specs.internal.Flush.{SparesManifest}
 use Rattle.directory_writes.specs.internal.Install.{InstallLeaves}
 use Rattle.directory_writes.specs.declared.flush.FlushError.{FlushError}
 use Rattle.directory_writes.proofs.InstallSynced.{synced_still}
+use Rattle.directory_writes.proofs.InstalledEach.{InstallEach, OwnsEach, install_stopped_each, maybe_each, none_each, ok_each, owns_each, table_stopped_each}
 use Rattle.directory_writes.proofs.Installing.{touches_job, install_stopped, leaves_none, leaves_ok, leaves_maybe, table_stopped}
 use Rattle.directory_writes.proofs.Sparing.{spares_edit}
 use Rattle.directory_writes.proofs.install.install_job.Goals as goal
@@ -92,3 +93,64 @@ returns-in-Err-append_edit-clause-spares g c =
     c.in-Err-append_edit.error c.in-Err-append_edit.ensures.refused c.in-Err-append_edit.ensures.call.faithful
     (λ f apart. (c.in-Ok.ensures.writes.others f name (λ number at is. apart (number, at, is)), c.in-Ok.ensures.writes.synced f name (λ number at is. apart (number, at, is))))
     (c.in-Err-append_edit.ensures.appends order) c.in-Err-append_edit.ensures.syncs)
+
+-- ---- in each directory that differs in tables alone
+
+pub returns-in-Err-clause-leaves_each : goal.returns-in-Err-clause-leaves_each
+returns-in-Err-clause-leaves_each g c =
+    let order = order_of g.K.KeyOrder.name g.K.KeyOrder.cmp in
+    none_each order c.args.job c.args.numbers.now.next c.args.last_sequence c.args.numbers.now.in_range.1 c.requires.numbered (g.S.Store.facts c.args.store.now) (g.S.Store.facts c.prepare_job.new.store)
+    c.in-Err.ensures.writes c.args.manifest.now g.met.K.KeyOrder.total c.args.version.now.tables c.in-Err.error c.in-Err.ensures.refused
+
+pub returns-in-Ok-append_edit-clause-leaves_each : goal.returns-in-Ok-append_edit-clause-leaves_each
+returns-in-Ok-append_edit-clause-leaves_each g c =
+    let order = order_of g.K.KeyOrder.name g.K.KeyOrder.cmp in
+    ok_each order c.args.job c.args.numbers.now.next c.args.last_sequence c.args.numbers.now.in_range.1 c.requires.numbered (g.S.Store.facts c.args.store.now) (g.S.Store.facts c.prepare_job.new.store)
+    c.in-Ok.ensures.writes c.args.manifest.now (g.S.Store.facts c.append_edit.new.store) c.in-Ok-append_edit.ensures.call c.args.version.now c.in-Ok.prepared c.in-Ok.ensures.prepared
+    c.in-Ok-append_edit.manifest_end (c.in-Ok-append_edit.ensures.appends order)
+
+pub returns-in-Err-append_edit-clause-leaves_each : goal.returns-in-Err-append_edit-clause-leaves_each
+returns-in-Err-append_edit-clause-leaves_each g c =
+    let order = order_of g.K.KeyOrder.name g.K.KeyOrder.cmp in
+    let P : FlushError → Type 0 = λ e. InstallEach {K = g.row.K.Denot} {C = g.row.C.Denot} order c.args.job c.args.numbers.now.next c.args.last_sequence c.args.numbers.now.in_range.1 c.requires.numbered (g.S.Store.facts c.args.store.now) (g.S.Store.facts c.prepare_job.new.store)
+    c.in-Ok.ensures.writes c.args.manifest.now (g.S.Store.facts c.append_edit.new.store) c.args.version.now.tables (Err e) in
+    subst P (sym c.edit_refusal.ensures)
+    (maybe_each order c.args.job c.args.numbers.now.next c.args.last_sequence c.args.numbers.now.in_range.1 c.requires.numbered (g.S.Store.facts c.args.store.now) (g.S.Store.facts c.prepare_job.new.store)
+    c.in-Ok.ensures.writes c.args.manifest.now (g.S.Store.facts c.append_edit.new.store) c.in-Err-append_edit.ensures.call c.args.version.now c.in-Ok.prepared c.in-Ok.ensures.prepared
+    c.same_manifest_law.ensures c.in-Err-append_edit.error c.in-Err-append_edit.ensures.refused (c.in-Err-append_edit.ensures.appends order))
+
+pub returns-in-Err-clause-owns_each : goal.returns-in-Err-clause-owns_each
+returns-in-Err-clause-owns_each g c whole behind d same outputs is = absurd (cc)
+
+pub returns-in-Ok-append_edit-clause-owns_each : goal.returns-in-Ok-append_edit-clause-owns_each
+returns-in-Ok-append_edit-clause-owns_each g c whole behind d same outputs is = absurd (cc)
+
+pub returns-in-Err-append_edit-clause-owns_each : goal.returns-in-Err-append_edit-clause-owns_each
+returns-in-Err-append_edit-clause-owns_each g c =
+    let order = order_of g.K.KeyOrder.name g.K.KeyOrder.cmp in
+    let P : FlushError → Type 0 = λ e. OwnsEach {K = g.row.K.Denot} {C = g.row.C.Denot} order c.args.job c.args.numbers.now.next c.args.last_sequence c.args.numbers.now.in_range.1 c.requires.numbered (g.S.Store.facts c.args.store.now) (g.S.Store.facts c.prepare_job.new.store)
+    c.in-Ok.ensures.writes c.args.manifest.now (g.S.Store.facts c.append_edit.new.store) c.args.version.now.tables (Err e) in
+    subst P (sym c.edit_refusal.ensures)
+    (owns_each order c.args.job c.args.numbers.now.next c.args.last_sequence c.args.numbers.now.in_range.1 c.requires.numbered (g.S.Store.facts c.args.store.now) (g.S.Store.facts c.prepare_job.new.store)
+    c.in-Ok.ensures.writes c.args.manifest.now (g.S.Store.facts c.append_edit.new.store) c.in-Err-append_edit.ensures.call c.args.version.now c.in-Ok.prepared c.in-Ok.ensures.prepared
+    c.same_manifest_law.ensures c.in-Err-append_edit.error c.in-Err-append_edit.ensures.refused (c.in-Err-append_edit.ensures.appends order))
+
+pub returns-in-Err-clause-stops_each : goal.returns-in-Err-clause-stops_each
+returns-in-Err-clause-stops_each g c f =
+    let order = order_of g.K.KeyOrder.name g.K.KeyOrder.cmp in
+    table_stopped_each order c.args.job c.args.numbers.now.next c.args.last_sequence c.args.numbers.now.in_range.1 c.requires.numbered (g.S.Store.facts c.args.store.now) (g.S.Store.facts c.prepare_job.new.store)
+    c.in-Err.ensures.writes c.args.manifest.now f c.args.version.now.tables
+
+pub returns-in-Ok-append_edit-clause-stops_each : goal.returns-in-Ok-append_edit-clause-stops_each
+returns-in-Ok-append_edit-clause-stops_each g c f =
+    let order = order_of g.K.KeyOrder.name g.K.KeyOrder.cmp in
+    install_stopped_each order c.args.job c.args.numbers.now.next c.args.last_sequence c.args.numbers.now.in_range.1 c.requires.numbered (g.S.Store.facts c.args.store.now) (g.S.Store.facts c.prepare_job.new.store)
+    c.in-Ok.ensures.writes c.args.manifest.now (c.in-Ok-append_edit.ensures.call.faithful f) c.same_manifest_law.ensures (g.S.Store.facts c.append_edit.new.store) c.args.version.now c.in-Ok.prepared c.in-Ok.ensures.prepared
+    (c.in-Ok-append_edit.ensures.stops f order)
+
+pub returns-in-Err-append_edit-clause-stops_each : goal.returns-in-Err-append_edit-clause-stops_each
+returns-in-Err-append_edit-clause-stops_each g c f =
+    let order = order_of g.K.KeyOrder.name g.K.KeyOrder.cmp in
+    install_stopped_each order c.args.job c.args.numbers.now.next c.args.last_sequence c.args.numbers.now.in_range.1 c.requires.numbered (g.S.Store.facts c.args.store.now) (g.S.Store.facts c.prepare_job.new.store)
+    c.in-Ok.ensures.writes c.args.manifest.now (c.in-Err-append_edit.ensures.call.faithful f) c.same_manifest_law.ensures (g.S.Store.facts c.append_edit.new.store) c.args.version.now c.in-Ok.prepared c.in-Ok.ensures.prepared
+    (c.in-Err-append_edit.ensures.stops f order)

@@ -12,6 +12,7 @@ use Rattle.directory_writes.specs.Removal.{IsLiveAmong, IsLiveFile}
 use Rattle.directory_writes.proofs.Cleaning.{Knows, all_live, knows_both, lists_to_close, removes_all, removes_as, removes_refused, same_live, table_from, table_kept}
 use Rattle.directory_writes.proofs.FewLeft.{Among, few_all, few_as}
 use Rattle.directory_writes.proofs.Meaning.{keeps_meaning, meaning_stopped, meaning_unstopped}
+use Rattle.directory_writes.proofs.RemovedEach.{meaning_each, removed_each, unremoved_each}
 use Rattle.directory_writes.specs.declared.removal.Removal.{Removal}
 use Rattle.directory_writes.proofs.removal.remove_files.Given.{Over}
 use Rattle.directory_writes.proofs.removal.remove_files.Goals as goal
@@ -174,4 +175,71 @@ returns-clause-stops g c f =
     let early = c.remove_listed-complete.ensures.call.faithful f in
     let B : List ℕ → Type 0 = λ bs. LeavesOnly mid new (LosesOnly mid.files (live bs)) in
     meaning_stopped c.args.numbers.now in_use old mid (c.in_ok-names.ensures.store.calls early) (c.in_ok-names.ensures.store.same early) c.free_change_law.ensures (live both)
+    (λ file is. (same_live c.args.numbers.now in_use old.files both (knows g c early) file is).1) new (subst B c.deref-7.ensures.value (c.remove_listed-complete.ensures.stops f))
+
+-- ---- in each directory that differs in tables alone
+
+pub returns-in_err-names-clause-meaning_each : goal.returns-in_err-names-clause-meaning_each
+returns-in_err-names-clause-meaning_each g c =
+    let old = g.S.Store.facts c.args.store.now in
+    let new = g.S.Store.facts c.list_names.new.store in
+    let in_use = g.L.LiveTables.has c.args.live.now in
+    meaning_each c.args.numbers.now in_use old new _
+    (removes_refused old new (IsLiveAmong old.files c.args.numbers.now in_use) OutOfMemory c.in_err-names.ensures.store.same c.in_err-names.ensures.store.synced) c.free_change_law.ensures
+
+pub returns-in_err-names-clause-stops_each : goal.returns-in_err-names-clause-stops_each
+returns-in_err-names-clause-stops_each g c f =
+    unremoved_each c.args.numbers.now (g.L.LiveTables.has c.args.live.now) (g.S.Store.facts c.args.store.now) (g.S.Store.facts c.list_names.new.store) (c.in_err-names.ensures.store.calls f) (c.in_err-names.ensures.store.same f)
+
+pub returns-in_err-older-clause-meaning_each : goal.returns-in_err-older-clause-meaning_each
+returns-in_err-older-clause-meaning_each g c =
+    let old = g.S.Store.facts c.args.store.now in
+    let new = g.S.Store.facts c.list_names.new.store in
+    let in_use = g.L.LiveTables.has c.args.live.now in
+    meaning_each c.args.numbers.now in_use old new _
+    (removes_refused old new (IsLiveAmong old.files c.args.numbers.now in_use) OutOfMemory c.in_ok-names.ensures.store.same c.in_ok-names.ensures.store.synced) c.free_change_law.ensures
+
+pub returns-in_err-older-clause-stops_each : goal.returns-in_err-older-clause-stops_each
+returns-in_err-older-clause-stops_each g c f =
+    unremoved_each c.args.numbers.now (g.L.LiveTables.has c.args.live.now) (g.S.Store.facts c.args.store.now) (g.S.Store.facts c.list_names.new.store) (c.in_ok-names.ensures.store.calls f) (c.in_ok-names.ensures.store.same f)
+
+pub returns-in_err-tables-clause-meaning_each : goal.returns-in_err-tables-clause-meaning_each
+returns-in_err-tables-clause-meaning_each g c =
+    let old = g.S.Store.facts c.args.store.now in
+    let new = g.S.Store.facts c.list_names.new.store in
+    let in_use = g.L.LiveTables.has c.args.live.now in
+    meaning_each c.args.numbers.now in_use old new _
+    (removes_refused old new (IsLiveAmong old.files c.args.numbers.now in_use) OutOfMemory c.in_ok-names.ensures.store.same c.in_ok-names.ensures.store.synced) c.free_change_law.ensures
+
+pub returns-in_err-tables-clause-stops_each : goal.returns-in_err-tables-clause-stops_each
+returns-in_err-tables-clause-stops_each g c f =
+    unremoved_each c.args.numbers.now (g.L.LiveTables.has c.args.live.now) (g.S.Store.facts c.args.store.now) (g.S.Store.facts c.list_names.new.store) (c.in_ok-names.ensures.store.calls f) (c.in_ok-names.ensures.store.same f)
+
+pub returns-in_err-both-clause-meaning_each : goal.returns-in_err-both-clause-meaning_each
+returns-in_err-both-clause-meaning_each g c =
+    let old = g.S.Store.facts c.args.store.now in
+    let new = g.S.Store.facts c.list_names.new.store in
+    let in_use = g.L.LiveTables.has c.args.live.now in
+    meaning_each c.args.numbers.now in_use old new _
+    (removes_refused old new (IsLiveAmong old.files c.args.numbers.now in_use) OutOfMemory c.in_ok-names.ensures.store.same c.in_ok-names.ensures.store.synced) c.free_change_law.ensures
+
+pub returns-in_err-both-clause-stops_each : goal.returns-in_err-both-clause-stops_each
+returns-in_err-both-clause-stops_each g c f =
+    unremoved_each c.args.numbers.now (g.L.LiveTables.has c.args.live.now) (g.S.Store.facts c.args.store.now) (g.S.Store.facts c.list_names.new.store) (c.in_ok-names.ensures.store.calls f) (c.in_ok-names.ensures.store.same f)
+
+pub returns-clause-meaning_each : goal.returns-clause-meaning_each
+returns-clause-meaning_each g c =
+    meaning_each c.args.numbers.now (g.L.LiveTables.has c.args.live.now) (g.S.Store.facts c.args.store.now) (g.S.Store.facts c.remove_listed-complete.new.store) _ (returns-clause-removes g c) c.free_change_law.ensures
+
+pub returns-clause-stops_each : goal.returns-clause-stops_each
+returns-clause-stops_each g c f =
+    let in_use : ℕ → Type 0 = g.L.LiveTables.has c.args.live.now in
+    let both = c.in_ok-both.both.items in
+    let live : List ℕ → FileName → Type 0 = λ bs. IsLiveFile c.args.numbers.now in_use (λ n. Contains bs n) in
+    let old = g.S.Store.facts c.args.store.now in
+    let mid = g.S.Store.facts c.list_names.new.store in
+    let new = g.S.Store.facts c.remove_listed-complete.new.store in
+    let early = c.remove_listed-complete.ensures.call.faithful f in
+    let B : List ℕ → Type 0 = λ bs. LeavesOnly mid new (LosesOnly mid.files (live bs)) in
+    removed_each c.args.numbers.now in_use old mid (c.in_ok-names.ensures.store.calls early) (c.in_ok-names.ensures.store.same early) c.free_change_law.ensures (live both)
     (λ file is. (same_live c.args.numbers.now in_use old.files both (knows g c early) file is).1) new (subst B c.deref-7.ensures.value (c.remove_listed-complete.ensures.stops f))

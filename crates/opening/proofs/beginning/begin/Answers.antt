@@ -7,6 +7,7 @@ use Rattle.opening.specs.internal.Durable.{HasDurable}
 use Rattle.opening.specs.Durable.{LeavesDurable}
 use Rattle.opening.specs.declared.beginning.Begun.{Begun}
 use Rattle.opening.proofs.BegunSteps.{behind_stops, continued_same, continued_behind, begins, unwritten_stops}
+use Rattle.opening.proofs.FoundEach.{begins_each, behind_each, stops_behind_each, stops_unwritten_each, unwritten_each}
 use Rattle.opening.specs.internal.Outcome.{OpenOutcome}
 use Rattle.opening.specs.Telling.{Tells}
 use Rattle.opening.proofs.Telling.{found_openable, store_tells}
@@ -174,3 +175,64 @@ returns-clause-stops g c f =
     let m = c.in_ok-rewrite_directory.ensures.files.call.faithful f in
     behind_stops (order_of g.K.KeyOrder.name g.K.KeyOrder.cmp) (g.S.Store.facts c.args.store.now) (g.S.Store.facts c.find.new.store) (g.S.Store.facts c.rewrite_directory.new.store) c.in_ok-found.found
     (c.in_ok-found.ensures.store.calls m) (c.in_ok-found.ensures.store.same m) (c.in_ok-found.ensures.found m) (c.in_ok-rewrite_directory.ensures.stops f)
+
+-- ---- in each directory that differs in tables alone
+
+pub returns-in_err-found-clause-continued_each : goal.returns-in_err-found-clause-continued_each
+returns-in_err-found-clause-continued_each g c = λ f. unwritten_each (order_of g.K.KeyOrder.name g.K.KeyOrder.cmp) (g.S.Store.facts c.args.store.now).files (g.S.Store.facts c.find.new.store).files (c.in_err-found.ensures.store.same f)
+
+pub returns-in_err-found-clause-stops_each : goal.returns-in_err-found-clause-stops_each
+returns-in_err-found-clause-stops_each g c f = stops_unwritten_each (order_of g.K.KeyOrder.name g.K.KeyOrder.cmp) (g.S.Store.facts c.args.store.now) (g.S.Store.facts c.find.new.store) (c.in_err-found.ensures.store.calls f) (c.in_err-found.ensures.store.same f)
+
+pub returns-in_err-version-clause-continued_each : goal.returns-in_err-version-clause-continued_each
+returns-in_err-version-clause-continued_each g c = λ f. unwritten_each (order_of g.K.KeyOrder.name g.K.KeyOrder.cmp) (g.S.Store.facts c.args.store.now).files (g.S.Store.facts c.find.new.store).files (c.in_ok-found.ensures.store.same f)
+
+pub returns-in_err-version-clause-stops_each : goal.returns-in_err-version-clause-stops_each
+returns-in_err-version-clause-stops_each g c f = stops_unwritten_each (order_of g.K.KeyOrder.name g.K.KeyOrder.cmp) (g.S.Store.facts c.args.store.now) (g.S.Store.facts c.find.new.store) (c.in_ok-found.ensures.store.calls f) (c.in_ok-found.ensures.store.same f)
+
+pub returns-in_err-rewrite-clause-continued_each : goal.returns-in_err-rewrite-clause-continued_each
+returns-in_err-rewrite-clause-continued_each g c = λ f. unwritten_each (order_of g.K.KeyOrder.name g.K.KeyOrder.cmp) (g.S.Store.facts c.args.store.now).files (g.S.Store.facts c.find.new.store).files (c.in_ok-found.ensures.store.same f)
+
+pub returns-in_err-rewrite-clause-stops_each : goal.returns-in_err-rewrite-clause-stops_each
+returns-in_err-rewrite-clause-stops_each g c f = stops_unwritten_each (order_of g.K.KeyOrder.name g.K.KeyOrder.cmp) (g.S.Store.facts c.args.store.now) (g.S.Store.facts c.find.new.store) (c.in_ok-found.ensures.store.calls f) (c.in_ok-found.ensures.store.same f)
+
+pub returns-in_err-memory-clause-continued_each : goal.returns-in_err-memory-clause-continued_each
+returns-in_err-memory-clause-continued_each g c = λ f. unwritten_each (order_of g.K.KeyOrder.name g.K.KeyOrder.cmp) (g.S.Store.facts c.args.store.now).files (g.S.Store.facts c.find.new.store).files (c.in_ok-found.ensures.store.same f)
+
+pub returns-in_err-memory-clause-stops_each : goal.returns-in_err-memory-clause-stops_each
+returns-in_err-memory-clause-stops_each g c f = stops_unwritten_each (order_of g.K.KeyOrder.name g.K.KeyOrder.cmp) (g.S.Store.facts c.args.store.now) (g.S.Store.facts c.find.new.store) (c.in_ok-found.ensures.store.calls f) (c.in_ok-found.ensures.store.same f)
+
+pub returns-in_err-rewrite_directory-clause-continued_each : goal.returns-in_err-rewrite_directory-clause-continued_each
+returns-in_err-rewrite_directory-clause-continued_each g c =
+    behind_each (order_of g.K.KeyOrder.name g.K.KeyOrder.cmp) (g.S.Store.facts c.args.store.now) (g.S.Store.facts c.find.new.store) (g.S.Store.facts c.rewrite_directory.new.store) c.in_ok-found.found (length c.in_ok-rewrite.rewrite.manifest.items) _
+    c.in_ok-found.ensures.store.same c.in_ok-found.ensures.found c.in_err-rewrite_directory.ensures.files.call.faithful c.in_err-rewrite_directory.ensures.files_each
+
+pub returns-in_err-rewrite_directory-clause-stops_each : goal.returns-in_err-rewrite_directory-clause-stops_each
+returns-in_err-rewrite_directory-clause-stops_each g c f =
+    let m = c.in_err-rewrite_directory.ensures.files.call.faithful f in
+    stops_behind_each (order_of g.K.KeyOrder.name g.K.KeyOrder.cmp) (g.S.Store.facts c.args.store.now) (g.S.Store.facts c.find.new.store) (g.S.Store.facts c.rewrite_directory.new.store) c.in_ok-found.found
+    (c.in_ok-found.ensures.store.calls m) (c.in_ok-found.ensures.store.same m) (c.in_ok-found.ensures.found m) (c.in_err-rewrite_directory.ensures.stops_each f)
+
+pub returns-clause-continued_each : goal.returns-clause-continued_each
+returns-clause-continued_each g c =
+    behind_each (order_of g.K.KeyOrder.name g.K.KeyOrder.cmp) (g.S.Store.facts c.args.store.now) (g.S.Store.facts c.find.new.store) (g.S.Store.facts c.rewrite_directory.new.store) c.in_ok-found.found (length c.in_ok-rewrite.rewrite.manifest.items) _
+    c.in_ok-found.ensures.store.same c.in_ok-found.ensures.found c.in_ok-rewrite_directory.ensures.files.call.faithful c.in_ok-rewrite_directory.ensures.files_each
+
+pub returns-clause-stops_each : goal.returns-clause-stops_each
+returns-clause-stops_each g c f =
+    let m = c.in_ok-rewrite_directory.ensures.files.call.faithful f in
+    stops_behind_each (order_of g.K.KeyOrder.name g.K.KeyOrder.cmp) (g.S.Store.facts c.args.store.now) (g.S.Store.facts c.find.new.store) (g.S.Store.facts c.rewrite_directory.new.store) c.in_ok-found.found
+    (c.in_ok-found.ensures.store.calls m) (c.in_ok-found.ensures.store.same m) (c.in_ok-found.ensures.found m) (c.in_ok-rewrite_directory.ensures.stops_each f)
+
+pub returns-clause-begun_each : goal.returns-clause-begun_each
+returns-clause-begun_each g c =
+    begins_each (order_of g.K.KeyOrder.name g.K.KeyOrder.cmp) c.args.mode (g.S.Store.facts c.args.store.now) (g.S.Store.facts c.find.new.store) (g.S.Store.facts c.rewrite_directory.new.store) c.in_ok-found.found
+    (string_bytes c.in_ok-rewrite.rewrite.manifest_name) (length c.in_ok-rewrite.rewrite.manifest.items) _
+    c.recovered_law.ensures c.in_ok-found.ensures.store.same c.in_ok-found.ensures.found c.in_ok-found.ensures.allowed c.in_ok-rewrite_directory.ensures.files.call.faithful c.in_ok-rewrite_directory.ensures.files_each (record {
+      memory = subst (λ (es : List Entry). IsSealedOf c.in_ok-memory.memory es c.in_ok-found.found.used) c.deref.ensures.value c.in_ok-memory.ensures;
+      lists = c.in_ok-version.ensures.found.tables;
+      number = refl;
+      empty = refl;
+      named = c.in_ok-rewrite.ensures.planned.manifest_name;
+      known = let k = c.known_after.ensures in record { number = k.number; named = k.named; ends = omega (arith, k.ends, c.len-end.ensures, c.in_ok-rewrite.rewrite.manifest.ok.0); next = k.next; logs = k.logs };
+    })

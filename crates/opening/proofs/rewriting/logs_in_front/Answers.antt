@@ -1,7 +1,5 @@
-use Rattle.std.proofs.Common.{rules, ◌≡◌, ◌≤◌, List, ℕ, [], length, drop, map, string_bytes, sym, ap, ◌∙◌, arith}
-use Rattle.std.proofs.lemmas.List.{append-nil, drop_all}
+use Rattle.std.proofs.Common.{rules, ◌≡◌, map, string_bytes, arith}
 use Rattle.logfile.specs.declared.record.Tail.TheVariants.{Clean}
-use Rattle.opening.specs.internal.Begun.{names_of_logs}
 use Rattle.opening.proofs.Fronts.{all_named, names_more}
 use Rattle.opening.proofs.rewriting.logs_in_front.Goals as goal
 

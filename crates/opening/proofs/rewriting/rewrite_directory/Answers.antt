@@ -1,5 +1,5 @@
 use Rattle.ikey.specs.Orders.{order_of}
-use Rattle.std.proofs.Common.{◌≡◌, ◌⊎◌, ◌+◌, List, [], ◌∷◌, ◌++◌, length, ℕ, Result, Ok, Err, IsTrue, OnOk, sym, subst, ◌∙◌, rules}
+use Rattle.std.proofs.Common.{◌≡◌, ◌⊎◌, List, [], ◌∷◌, ◌++◌, length, ℕ, Result, Ok, Err, IsTrue, OnOk, sym, subst, ◌∙◌, rules}
 use Rattle.coding.specs.declared.error.DbError.{DbError}
 use Rattle.std.specs.FinMap.{insert}
 use Rattle.store.specs.Stops.{LeavesOnly}
@@ -13,6 +13,7 @@ use Rattle.opening.specs.internal.Durable.{WritesSynced, MakesSynced, HasDurable
 use Rattle.opening.proofs.Reopening.{OpenLaws, numbered_of, next_of}
 use Rattle.opening.proofs.Syncing.{manifest_spared, manifest_unwritten, current_spared, current_interrupted, log_durable_named, log_spared}
 use Rattle.opening.proofs.OpenSteps.{manifest_failed, current_failed, log_created, manifest_stops, current_stops, log_stops}
+use Rattle.opening.proofs.RewrittenEach.{RewritesEach, manifest_failed_each, current_failed_each, log_created_each, manifest_stops_each, current_stops_each, log_stops_each}
 use Rattle.opening.proofs.rewriting.rewrite_directory.Goals as goal
 
 pub returns-in_err-write_file-clause-files : goal.returns-in_err-write_file-clause-files
@@ -206,4 +207,110 @@ returns-clause-stops g c f h =
     (subst (OnlyIt old mid) (c.as_str.ensures.value ∙ c.requires.planned.manifest_name) (c.in_ok-write_file.ensures.stops l))
     (subst V (c.as_str-2.ensures.value ∙ c.requires.planned.temporary_name) (subst D c.deref-2.ensures.value (c.in_ok-make_current.ensures.stops m))) in
     log_stops (order_of g.K.KeyOrder.name g.K.KeyOrder.cmp) laws old c.args.found.now c.requires.usable c.args.rewrite.now.manifest.items c.requires.planned.manifest h mid most new c.args.rewrite.now.current.items written c.requires.planned.current l
+    (made.ok m) stopped (subst L (c.as_str-3.ensures.value ∙ c.requires.planned.log_name) (c.create_file.ensures.stops f))
+
+-- ---- in each directory that differs in tables alone
+
+pub returns-in_err-write_file-clause-files_each : goal.returns-in_err-write_file-clause-files_each
+returns-in_err-write_file-clause-files_each g c =
+    let order = order_of g.K.KeyOrder.name g.K.KeyOrder.cmp in
+    let old = g.S.Store.facts c.args.store.now in
+    let new = g.S.Store.facts c.write_file.new.store in
+    let e = c.in_err-write_file.field-0.0 in
+    let is : c.from_residual.result ≡ Err e = search rules in
+    let N : List ℕ → Type 0 = λ name. Writes old new name c.args.rewrite.now.manifest.items (Err e) in
+    let B : List ℕ → Type 0 = λ bytes. Writes old new c.as_str.result.now bytes (Err e) in
+    let written = subst N (c.as_str.ensures.value ∙ c.requires.planned.manifest_name) (subst B c.deref.ensures.value c.in_err-write_file.ensures.files) in
+    let laws : OpenLaws = record { free = c.free_change_law.ensures; reopen = c.reopen_law.ensures; log = c.begin_log_law.ensures; manifest = c.one_manifest.ensures; directory = c.one_directory.ensures; recovered = c.recovered_law.ensures } in
+    subst (λ (r : Result _ DbError). RewritesEach order old new c.args.found.now (length c.args.rewrite.now.manifest.items) r) (sym is)
+    (manifest_failed_each order laws old c.args.found.now c.requires.usable c.args.rewrite.now.manifest.items c.requires.planned.manifest new e written)
+
+pub returns-in_err-make_current-clause-files_each : goal.returns-in_err-make_current-clause-files_each
+returns-in_err-make_current-clause-files_each g c =
+    let order = order_of g.K.KeyOrder.name g.K.KeyOrder.cmp in
+    let old = g.S.Store.facts c.args.store.now in
+    let mid = g.S.Store.facts c.write_file.new.store in
+    let new = g.S.Store.facts c.make_current.new.store in
+    let e = c.in_err-make_current.field-0.0 in
+    let is : c.from_residual-in_err-make_current.result ≡ Err e = search rules in
+    let done = Ok c.in_ok-write_file.field-0 in
+    let N : List ℕ → Type 0 = λ name. Writes old mid name c.args.rewrite.now.manifest.items done in
+    let B : List ℕ → Type 0 = λ bytes. Writes old mid c.as_str.result.now bytes done in
+    let written = subst N (c.as_str.ensures.value ∙ c.requires.planned.manifest_name) (subst B c.deref.ensures.value c.in_ok-write_file.ensures.files) in
+    let M : List ℕ → Type 0 = λ name. MakesCurrent mid new name c.args.rewrite.now.current.items (Err e) in
+    let C : List ℕ → Type 0 = λ bytes. MakesCurrent mid new c.as_str-2.result.now bytes (Err e) in
+    let made = subst M (c.as_str-2.ensures.value ∙ c.requires.planned.temporary_name) (subst C c.deref-2.ensures.value c.in_err-make_current.ensures.files) in
+    let laws : OpenLaws = record { free = c.free_change_law.ensures; reopen = c.reopen_law.ensures; log = c.begin_log_law.ensures; manifest = c.one_manifest.ensures; directory = c.one_directory.ensures; recovered = c.recovered_law.ensures } in
+    subst (λ (r : Result _ DbError). RewritesEach order old new c.args.found.now (length c.args.rewrite.now.manifest.items) r) (sym is)
+    (current_failed_each order laws old c.args.found.now c.requires.usable c.args.rewrite.now.manifest.items c.requires.planned.manifest mid new c.args.rewrite.now.current.items e written c.requires.planned.current made)
+
+pub returns-clause-files_each : goal.returns-clause-files_each
+returns-clause-files_each g c =
+    let order = order_of g.K.KeyOrder.name g.K.KeyOrder.cmp in
+    let old = g.S.Store.facts c.args.store.now in
+    let mid = g.S.Store.facts c.write_file.new.store in
+    let most = g.S.Store.facts c.make_current.new.store in
+    let new = g.S.Store.facts c.create_file.new.store in
+    let done = Ok c.in_ok-write_file.field-0 in
+    let set = Ok c.in_ok-make_current.field-0 in
+    let N : List ℕ → Type 0 = λ name. Writes old mid name c.args.rewrite.now.manifest.items done in
+    let B : List ℕ → Type 0 = λ bytes. Writes old mid c.as_str.result.now bytes done in
+    let written = subst N (c.as_str.ensures.value ∙ c.requires.planned.manifest_name) (subst B c.deref.ensures.value c.in_ok-write_file.ensures.files) in
+    let M : List ℕ → Type 0 = λ name. MakesCurrent mid most name c.args.rewrite.now.current.items set in
+    let C : List ℕ → Type 0 = λ bytes. MakesCurrent mid most c.as_str-2.result.now bytes set in
+    let made = subst M (c.as_str-2.ensures.value ∙ c.requires.planned.temporary_name) (subst C c.deref-2.ensures.value c.in_ok-make_current.ensures.files) in
+    let L : List ℕ → Type 0 = λ name. Creates most new name c.create_file.result in
+    let created = subst L (c.as_str-3.ensures.value ∙ c.requires.planned.log_name) (created most new c.as_str-3.result.now c.create_file.result c.create_file.ensures.call c.create_file.ensures.counted c.create_file.ensures.refused c.create_file.ensures.creates) in
+    let laws : OpenLaws = record { free = c.free_change_law.ensures; reopen = c.reopen_law.ensures; log = c.begin_log_law.ensures; manifest = c.one_manifest.ensures; directory = c.one_directory.ensures; recovered = c.recovered_law.ensures } in
+    log_created_each order laws old c.args.found.now c.requires.usable c.args.rewrite.now.manifest.items c.requires.planned.manifest mid most new c.args.rewrite.now.current.items c.create_file.result written c.requires.planned.current made created
+
+pub returns-in_err-write_file-clause-stops_each : goal.returns-in_err-write_file-clause-stops_each
+returns-in_err-write_file-clause-stops_each g c f =
+    let old = g.S.Store.facts c.args.store.now in
+    let new = g.S.Store.facts c.write_file.new.store in
+    let laws : OpenLaws = record { free = c.free_change_law.ensures; reopen = c.reopen_law.ensures; log = c.begin_log_law.ensures; manifest = c.one_manifest.ensures; directory = c.one_directory.ensures; recovered = c.recovered_law.ensures } in
+    manifest_stops_each (order_of g.K.KeyOrder.name g.K.KeyOrder.cmp) laws old c.args.found.now c.requires.usable c.args.rewrite.now.manifest.items c.requires.planned.manifest new
+    (subst (OnlyIt old new) (c.as_str.ensures.value ∙ c.requires.planned.manifest_name) (c.in_err-write_file.ensures.stops f))
+
+pub returns-in_err-make_current-clause-stops_each : goal.returns-in_err-make_current-clause-stops_each
+returns-in_err-make_current-clause-stops_each g c f =
+    let old = g.S.Store.facts c.args.store.now in
+    let mid = g.S.Store.facts c.write_file.new.store in
+    let new = g.S.Store.facts c.make_current.new.store in
+    let m = c.in_err-make_current.ensures.files.call.faithful f in
+    let done = Ok c.in_ok-write_file.field-0 in
+    let N : List ℕ → Type 0 = λ name. Writes old mid name c.args.rewrite.now.manifest.items done in
+    let B : List ℕ → Type 0 = λ bytes. Writes old mid c.as_str.result.now bytes done in
+    let written = subst N (c.as_str.ensures.value ∙ c.requires.planned.manifest_name) (subst B c.deref.ensures.value c.in_ok-write_file.ensures.files) in
+    let M : List ℕ → Type 0 = λ name. LeavesOnly mid new (MaySet mid.files name c.args.rewrite.now.current.items) in
+    let C : List ℕ → Type 0 = λ bytes. LeavesOnly mid new (MaySet mid.files c.as_str-2.result.now bytes) in
+    let laws : OpenLaws = record { free = c.free_change_law.ensures; reopen = c.reopen_law.ensures; log = c.begin_log_law.ensures; manifest = c.one_manifest.ensures; directory = c.one_directory.ensures; recovered = c.recovered_law.ensures } in
+    current_stops_each (order_of g.K.KeyOrder.name g.K.KeyOrder.cmp) laws old c.args.found.now c.requires.usable c.args.rewrite.now.manifest.items c.requires.planned.manifest mid new c.args.rewrite.now.current.items written c.requires.planned.current m
+    (subst (OnlyIt old mid) (c.as_str.ensures.value ∙ c.requires.planned.manifest_name) (c.in_ok-write_file.ensures.stops m))
+    (subst M (c.as_str-2.ensures.value ∙ c.requires.planned.temporary_name) (subst C c.deref-2.ensures.value (c.in_err-make_current.ensures.stops f)))
+
+pub returns-clause-stops_each : goal.returns-clause-stops_each
+returns-clause-stops_each g c f =
+    let old = g.S.Store.facts c.args.store.now in
+    let mid = g.S.Store.facts c.write_file.new.store in
+    let most = g.S.Store.facts c.make_current.new.store in
+    let new = g.S.Store.facts c.create_file.new.store in
+    let m = c.create_file.ensures.call.faithful f in
+    let l = c.make_current.ensures.files.call.faithful m in
+    let done = Ok c.in_ok-write_file.field-0 in
+    let set = Ok c.in_ok-make_current.field-0 in
+    let N : List ℕ → Type 0 = λ name. Writes old mid name c.args.rewrite.now.manifest.items done in
+    let B : List ℕ → Type 0 = λ bytes. Writes old mid c.as_str.result.now bytes done in
+    let written = subst N (c.as_str.ensures.value ∙ c.requires.planned.manifest_name) (subst B c.deref.ensures.value c.in_ok-write_file.ensures.files) in
+    let M : List ℕ → Type 0 = λ name. MakesCurrent mid most name c.args.rewrite.now.current.items set in
+    let C : List ℕ → Type 0 = λ bytes. MakesCurrent mid most c.as_str-2.result.now bytes set in
+    let made = subst M (c.as_str-2.ensures.value ∙ c.requires.planned.temporary_name) (subst C c.deref-2.ensures.value c.in_ok-make_current.ensures.files) in
+    let L : List ℕ → Type 0 = λ name. LeavesOnly most new (λ files. (files ≡ most.files) ⊎ (files ≡ insert most.files name [])) in
+    let laws : OpenLaws = record { free = c.free_change_law.ensures; reopen = c.reopen_law.ensures; log = c.begin_log_law.ensures; manifest = c.one_manifest.ensures; directory = c.one_directory.ensures; recovered = c.recovered_law.ensures } in
+    let V : List ℕ → Type 0 = λ name. LeavesOnly mid most (MaySet mid.files name c.args.rewrite.now.current.items) in
+    let D : List ℕ → Type 0 = λ bytes. LeavesOnly mid most (MaySet mid.files c.as_str-2.result.now bytes) in
+    let stopped = current_stops_each (order_of g.K.KeyOrder.name g.K.KeyOrder.cmp) laws old c.args.found.now c.requires.usable c.args.rewrite.now.manifest.items c.requires.planned.manifest mid most c.args.rewrite.now.current.items written c.requires.planned.current l
+    (subst (OnlyIt old mid) (c.as_str.ensures.value ∙ c.requires.planned.manifest_name) (c.in_ok-write_file.ensures.stops l))
+    (subst V (c.as_str-2.ensures.value ∙ c.requires.planned.temporary_name) (subst D c.deref-2.ensures.value (c.in_ok-make_current.ensures.stops m))) in
+    log_stops_each (order_of g.K.KeyOrder.name g.K.KeyOrder.cmp) laws old c.args.found.now c.requires.usable c.args.rewrite.now.manifest.items c.requires.planned.manifest mid most new c.args.rewrite.now.current.items written c.requires.planned.current l
     (made.ok m) stopped (subst L (c.as_str-3.ensures.value ∙ c.requires.planned.log_name) (c.create_file.ensures.stops f))

@@ -1,0 +1,24 @@
+-- A job under way, in each directory that differs in tables alone.
+use Rattle.std.proofs.Common.{inl, inr, refl}
+use Rattle.edits.specs.declared.names.FileName.TheVariants.{Table}
+use Rattle.compact.specs.Outputs.{IsMineUpTo, table_name}
+use Rattle.directory_writes.specs.Differing.{with_files}
+use Rattle.directory_writes.specs.internal.JobsEach.{JobWritesEachLaw, MergingEachLaw, SameOutputsLaw}
+use Rattle.directory_writes.proofs.InstalledEach.{Agrees, each_closed, merging_too}
+use Rattle.directory_writes.proofs.JobWritten.{job_writes}
+use Rattle.directory_writes.proofs.SameCalls.{writes_tables_too}
+use Rattle.directory_writes.proofs.SameChanges.{also, free_file}
+
+pub merging_each : MergingEachLaw
+merging_each cmp deep last c w facts next came whole numbered same m =
+    merging_too cmp facts (with_files facts whole) refl deep last c w next came numbered.at_hand (each_closed (Agrees facts.files whole) w.closed (λ number at. same number (inr at))) (λ number at. same number (inl at)) m
+
+pub same_outputs : SameOutputsLaw
+same_outputs order old new whole after w v next d c free same owns number own = also old new whole after d c (table_name number) (elim (owns number own) [
+  | inl was ↦ same number was
+  | inr fresh ↦ free_file order old whole next (Table number) d free fresh.1 fresh.0
+])
+
+pub job_writes_each : JobWritesEachLaw
+job_writes_each order old new w next more d f writes le fits numbered none whole after differs c good free =
+    job_writes order (with_files old whole) (with_files new after) w next more d f (writes_tables_too old new whole after c.stays (IsMineUpTo w next more) writes) le fits good free numbered none

@@ -1,0 +1,68 @@
+-- What a loss of power leaves of what is synced, in each directory that differs in tables alone.
+use Rattle.std.proofs.Common.{◌≡◌, ℕ, List, [], Option, Some, None, is_some, inl, inr, refl, sym, ap, ◌∙◌}
+use Rattle.std.specs.FinMap.{get}
+use Rattle.std.specs.Option.{option_or}
+use Rattle.store.specs.Files.{Facts, Files, disk_of}
+use Rattle.store.specs.Losses.{IsLost}
+use Rattle.edits.specs.Names.{name_of}
+use Rattle.edits.specs.declared.names.FileName.TheVariants.{Current, Log, Manifest, Table, OldTable}
+use Rattle.recover.specs.Tables.{table_at}
+use Rattle.recover.specs.internal.Laws.{FreeChangeLaw}
+use Rattle.recover.proofs.Keeping.{keep_logs, keep_manifest, keep_tables}
+use Rattle.directory_writes.specs.Differing.{DiffersInTables, IsSameChange}
+use Rattle.directory_writes.proofs.Cleaning.{read_newer}
+use Rattle.directory_writes.proofs.SameChanges.{differs_after, log_other}
+use Rattle.opening.specs.Losses.{CutEachLaw, IsTableKept, KeptEachLaw}
+use Rattle.opening.proofs.Cutting.{cut_among, cut_in, cut_live, cut_logs, cut_rise, cut_rising}
+use Rattle.opening.proofs.Losing.{lost_now, same_at}
+
+module _ (facts : Facts) (lost whole after : Files) (d : DiffersInTables facts.files whole) (c : IsSameChange facts.files lost whole after) (h : IsLost facts.files [] (disk_of facts) lost) where
+  table_found : (n : ℕ) (o : Option (List ℕ)) → get facts.files (name_of (Table n)) ≡ o → IsTableKept facts n → table_at after n ≡ table_at whole n
+  table_found n None is kept =
+      let newer = c.stays (name_of (Table n)) (same_at facts lost (name_of (Table n)) h kept.0) in
+      let older = c.stays (name_of (OldTable n)) (same_at facts lost (name_of (OldTable n)) h (kept.1 is)) in
+      λ i. option_or (newer i) (older i)
+  table_found n (Some file) is kept =
+      read_newer (get whole (name_of (Table n))) (get whole (name_of (OldTable n))) (get after (name_of (Table n))) (get after (name_of (OldTable n)))
+      (c.stays (name_of (Table n)) (same_at facts lost (name_of (Table n)) h kept.0)) (d.names (name_of (Table n)) ∙ ap is_some is)
+
+  -- the table reads the same there
+  table_there : (n : ℕ) → IsTableKept facts n → table_at after n ≡ table_at whole n
+  table_there n kept = table_found n (get facts.files (name_of (Table n))) refl kept
+
+pub kept_each : FreeChangeLaw → KeptEachLaw
+kept_each law order facts d lost ends h whole after differs c good k =
+    let now = lost_now facts lost ends h in
+    law order whole after d (record {
+      current = c.stays (name_of Current) (same_at facts lost (name_of Current) now k.current);
+      manifest = c.stays (name_of (Manifest d.manifest)) (same_at facts lost (name_of (Manifest d.manifest)) now k.manifest);
+      logs = λ n num live. c.stays (name_of (Log n)) (same_at facts lost (name_of (Log n)) now (k.logs n num live));
+      tables = λ content among. elim (k.tables content among) [
+        | inl kept ↦ table_there facts lost whole after differs c now content.placed.table.number kept
+        | inr left ↦ left
+      ];
+    }) good
+
+pub cut_each : CutEachLaw
+cut_each order facts d lost k h whole after differs c good =
+    let behind = differs_after facts.files lost whole after differs c in
+    let here = keep_logs whole facts.files d.logs (λ n num i. sym (differs.others (name_of (Log n)) (log_other n num))) good.logs in
+    let cuts = cut_logs facts lost d.logs h here in (
+      cuts.0,
+      cuts.2,
+      record {
+        manifest = keep_manifest order whole after d.manifest d.edits d.layout (c.stays (name_of Current) (same_at facts lost (name_of Current) h k.current))
+            (c.stays (name_of (Manifest d.manifest)) (same_at facts lost (name_of (Manifest d.manifest)) h k.manifest)) good.manifest;
+        tables = keep_tables order whole after d.tables (λ content among. table_there facts lost whole after differs c h content.placed.table.number (k.tables content among)) good.tables;
+        placed = good.placed;
+        logs = keep_logs lost after cuts.0 (λ n num i. behind.others (name_of (Log n)) (log_other n num)) cuts.1;
+        live = cut_live facts d.layout d.logs cuts.0 cuts.2 good.live;
+        rising = cut_rising facts 0 d.logs cuts.0 cuts.2 good.rising;
+        all = λ n num live there. cut_in facts n d.logs cuts.0 cuts.2
+            (good.all n num live (differs.names (name_of (Log n)) ∙ sym (h.names (name_of (Log n))) ∙ sym (behind.names (name_of (Log n))) ∙ there));
+        apart = good.apart;
+        newer = λ e f i j same. good.newer e f (cut_among facts d.logs cuts.0 cuts.2 e i) j same;
+        sequences = cut_rise facts d.logs cuts.0 cuts.2 0 good.sequences;
+        recorded = good.recorded;
+      },
+    )
