@@ -19,8 +19,8 @@ use Rattle.ikey.specs.Entries.{InternalEntry, entry_of}
 use Rattle.ikey.specs.Orders.{Order}
 use Rattle.ikey.specs.Sources.{SameEntries}
 use Rattle.running_job.specs.declared.open_job.OpenJob.{OpenJob}
-use Rattle.running_job.specs.internal.Beginning.{CanBegin}
-use Rattle.running_job.specs.Running.{IsRunning, deep_of}
+use Rattle.running_job.specs.internal.Beginning.{CanBegin, MayBegin}
+use Rattle.running_job.specs.Running.{IsRunning, MayRun, deep_of}
 use Rattle.running_job.proofs.Read.{Gathers, IsView, Keeps, Limited, Lists, Over, View, read_lists, reads_apart, seen_lists, whole_of, Torn}
 use Rattle.running_job.proofs.Stepped.{IsJobOver, planned_as}
 use Rattle.recover.specs.Directory.{Directory, IsConsistent}
@@ -30,10 +30,10 @@ use Rattle.recover.specs.Tables.{TableContent, tabled, table_at}
 use Rattle.recover.proofs.Memberships.{from_chosen}
 use Rattle.level_cursor.specs.InRows.{ListsNumber}
 use Rattle.db_cursor.specs.declared.source_cursor.SourceCursor.{SourceCursor}
-use Rattle.db_cursor.specs.internal.Inputs.{BeginsMerge}
-use Rattle.db_cursor.specs.Inputs.{IsMergeIntact, IsMergeLimited, ReadsNoMemory}
+use Rattle.db_cursor.specs.internal.Inputs.{BeginsMerge, MayBeginMerge}
+use Rattle.db_cursor.specs.Inputs.{IsMergeIntact, IsMergeLimited, IsMergeTorn, ReadsNoMemory}
 use Rattle.db_cursor.specs.Places.{OneGoesOver}
-use Rattle.db_cursor.specs.Scans.{IsOnePastLimit, ListsMerged}
+use Rattle.db_cursor.specs.Scans.{IsOnePastLimit, IsOneTornFile, ListsMerged}
 use Rattle.db_cursor.specs.Whole.{Whole}
 use Rattle.db_cursor.proofs.KeptMerges.{moved_read_none}
 use Rattle.version_laws.specs.Laws.{PartLaw}
@@ -98,6 +98,26 @@ ready order a next tables plan d merge planned_law part_law total exact in_order
       below = input_below order a.seen.facts.files d next plan.inputs.items p.0 p.1 can.consistent can.free p.2.parted p.2.planned;
     }
 
+-- So over contents that the inputs may have.
+pub record MayBeReady {K : Type 0} {g : Ghosts K} (order : Order) (a : Whole) (next : ℕ) (plan : JobPlan) (contents : List TableContent) (merge : Merge K (SourceCursor K g)) : Type 0 where
+  pub entries : List InternalEntry
+  pub same : SameEntries (map entry_of entries) (tabled contents)
+  pub own : HaveOwnSequences entries
+  pub lists : ListsMerged order.cmp merge a (listed entries None)
+  pub limits : IsMergeLimited order.cmp merge a → IsOnePastLimit order.cmp plan.inputs.items a
+  pub torn : (cut : Cut) → IsMergeTorn order.cmp merge a cut → IsOneTornFile order.cmp plan.inputs.items a cut
+  pub below : (number : ℕ) → ListsNumber plan.inputs.items number → number < next
+
+pub may_be_ready : {K : Type 0} {g : Ghosts K} (order : Order) (a : Whole) (next : ℕ) (plan : JobPlan) (contents : List TableContent) (merge : Merge K (SourceCursor K g))
+    → MayBeginMerge order plan.inputs.items merge → MayBegin order a next plan contents → MayBeReady order a next plan contents merge
+may_be_ready order a next plan contents merge begins can =
+    let m = begins a contents can.sound can.may in
+    record { entries = m.entries; same = m.same; own = m.own; lists = m.lists; limits = m.limits; torn = m.torn; below = can.below }
+
+abbrev as_ready : {K : Type 0} {g : Ghosts K} (order : Order) (a : Whole) (next : ℕ) (tables : List PlacedTable) (plan : JobPlan) (d : Directory) (merge : Merge K (SourceCursor K g)) → (r : IsReady order a next tables plan d merge)
+    → MayBeReady order a next plan r.inputs merge
+as_ready order a next tables plan d merge r = record { entries = r.entries; same = r.same; own = r.own; lists = r.lists; limits = r.limits; torn = λ cut t. absurd (r.intact cut t); below = r.below }
+
 -- an edit can name what is planned for a directory
 pub nameable : (order : Order) (a : Whole) (next : ℕ) (tables : List PlacedTable) (plan : JobPlan) (d : Directory)
     → PlannedLaw → IsTotalOrder order.cmp → IsAntisymmetric order.cmp → AreInOrder order.cmp tables → IsPlanOf order.cmp tables plan → CanBegin order a next tables d → IsPlanProper plan
@@ -128,18 +148,15 @@ module _ {K : Type 0} {g : Ghosts K} {H S : Type 0} (order : Order) (v : View H 
       → ReadsApart v.facts v.store_of v.with_store (Gathers v) (Keeps order.cmp v) merge (IsToCome next)
   apart_before lasts plan merge next none over below = reads_apart order.cmp v view merge lasts (IsToCome next) (λ n come. come.1) none (none_over plan merge next over below)
 
-  pub begun : (a b : H) (next : ℕ) (tables : List PlacedTable) (plan : JobPlan) (d : Directory) (merge : Merge K (SourceCursor K g)) (work : OpenJob K g) → (r : IsReady order (whole_of v a) next tables plan d merge)
+  pub may_begin : (a b : H) (next : ℕ) (plan : JobPlan) (contents : List TableContent) (merge : Merge K (SourceCursor K g)) (work : OpenJob K g) → (r : MayBeReady order (whole_of v a) next plan contents merge)
       → ReadsNoMemory order.cmp merge → ((number : ℕ) → OneGoesOver merge.children.items number → ListsNumber plan.inputs.items number)
-      → work.job.plan ≡ plan → work.version.value.tables ≡ tables → work.job.outputs ≡ record { closed = []; at_hand = None } → work.next ≡ 0 → work.merged ≡ 0
+      → work.job.plan ≡ plan → work.job.outputs ≡ record { closed = []; at_hand = None } → work.next ≡ 0 → work.merged ≡ 0
       → ((number : ℕ) → Over work.job.cursor number → Over merge number) → ((s t : H) → Keeps order.cmp v merge s t → Keeps order.cmp v work.job.cursor s t)
       → IsTrue (v.facts (v.store_of b)).faithful → Reads (v.facts (v.store_of a)) (v.facts (v.store_of b))
       → (Limited order.cmp v work.job.cursor b → Limited order.cmp v merge a) → ((cut : Cut) → Torn order.cmp v work.job.cursor b cut → Torn order.cmp v merge a cut)
       → IsJobOver order v (deep_of order.cmp work) work b next [] r.entries
-      → IsRunning order (whole_of v b) next d work [] r.entries
-  begun a b next tables plan d merge work r none over plan_is tables_is outputs none_drawn none_merged within same t reads limit torn j = record {
-    inputs = r.inputs;
-    rest = r.rest;
-    planned = planned_as order d r.inputs r.rest plan work.job.plan tables work.version.value.tables plan_is tables_is r.planned;
+      → MayRun order (whole_of v b) next contents work [] r.entries
+  may_begin a b next plan contents merge work r none over plan_is outputs none_drawn none_merged within same t reads limit torn j = record {
     entries = r.same;
     own_sequences = r.own;
     merging = j.merging;
@@ -155,13 +172,46 @@ module _ {K : Type 0} {g : Ghosts K} {H S : Type 0} (order : Order) (v : View H 
     numbered = numbered_none work.job.outputs next outputs;
     drawn = omega (arith, none_drawn);
     counted = omega (arith, none_merged);
-    unused = owns_none work.job.outputs d.layout.tables.items outputs;
     limits = λ l.
         let past = r.limits (limit l) in
         subst (λ (q : JobPlan). IsOnePastLimit order.cmp q.inputs.items (whole_of v b)) (sym plan_is)
         (past.0, past.1, past.2, ap (λ (files : Files). table_at files past.0.table.number) (reads.files t) ∙ past.3, past.4);
-    intact = λ cut l. r.intact cut (torn cut l);
+    torn = λ cut l.
+        let one = r.torn cut (torn cut l) in
+        subst (λ (q : JobPlan). IsOneTornFile order.cmp q.inputs.items (whole_of v b) cut) (sym plan_is)
+        (one.0, one.1, one.2, ap (λ (files : Files). table_at files one.0.table.number) (reads.files t) ∙ one.3, one.4);
   }
+
+  pub begun : (a b : H) (next : ℕ) (tables : List PlacedTable) (plan : JobPlan) (d : Directory) (merge : Merge K (SourceCursor K g)) (work : OpenJob K g) → (r : IsReady order (whole_of v a) next tables plan d merge)
+      → ReadsNoMemory order.cmp merge → ((number : ℕ) → OneGoesOver merge.children.items number → ListsNumber plan.inputs.items number)
+      → work.job.plan ≡ plan → work.version.value.tables ≡ tables → work.job.outputs ≡ record { closed = []; at_hand = None } → work.next ≡ 0 → work.merged ≡ 0
+      → ((number : ℕ) → Over work.job.cursor number → Over merge number) → ((s t : H) → Keeps order.cmp v merge s t → Keeps order.cmp v work.job.cursor s t)
+      → IsTrue (v.facts (v.store_of b)).faithful → Reads (v.facts (v.store_of a)) (v.facts (v.store_of b))
+      → (Limited order.cmp v work.job.cursor b → Limited order.cmp v merge a) → ((cut : Cut) → Torn order.cmp v work.job.cursor b cut → Torn order.cmp v merge a cut)
+      → IsJobOver order v (deep_of order.cmp work) work b next [] r.entries
+      → IsRunning order (whole_of v b) next d work [] r.entries
+  begun a b next tables plan d merge work r none over plan_is tables_is outputs none_drawn none_merged within same t reads limit torn j =
+      let m = may_begin a b next plan r.inputs merge work (as_ready order (whole_of v a) next tables plan d merge r) none over plan_is outputs none_drawn none_merged within same t reads limit torn j in
+      record {
+        inputs = r.inputs;
+        rest = r.rest;
+        planned = planned_as order d r.inputs r.rest plan work.job.plan tables work.version.value.tables plan_is tables_is r.planned;
+        entries = m.entries;
+        own_sequences = m.own_sequences;
+        merging = m.merging;
+        goes_on = m.goes_on;
+        stands = m.stands;
+        no_memory = m.no_memory;
+        over = m.over;
+        outside = m.outside;
+        unkept = m.unkept;
+        numbered = m.numbered;
+        drawn = m.drawn;
+        counted = m.counted;
+        unused = owns_none work.job.outputs d.layout.tables.items outputs;
+        limits = m.limits;
+        intact = λ cut l. r.intact cut (torn cut l);
+      }
 
   pub refuses_begin : (a : H) (new : Facts) (tables : List PlacedTable) (plan : JobPlan) (merge : Merge K (SourceCursor K g)) (e : DbError)
       → ((next : ℕ) (d : Directory) → CanBegin order (whole_of v a) next tables d → IsReady order (whole_of v a) next tables plan d merge)

@@ -1,5 +1,5 @@
 -- A job that is ended.
-use Rattle.std.proofs.Common.{◌≡◌, ◌≤◌, ◌^◌, ℕ, IfErr, List, Err, Ok, Result, inl, map, refl, subst}
+use Rattle.std.proofs.Common.{◌≡◌, ◌≤◌, ◌^◌, ℕ, IfErr, OnOk, List, Err, Ok, Result, inl, map, refl, subst}
 use Rattle.std.proofs.lemmas.List.{append-nil}
 use Rattle.coding.specs.declared.error.DbError.TheVariants.{Corrupt, Io, NumbersSpent, OutOfMemory, Unsupported}
 use Rattle.compact.specs.Merging.{IsMerging}
@@ -10,7 +10,7 @@ use Rattle.ikey.specs.Orders.{Order}
 use Rattle.ikey.specs.Sources.{SameEntries}
 use Rattle.running_job.specs.declared.open_job.OpenJob.{OpenJob}
 use Rattle.running_job.specs.internal.Ending.{CanEnd, EndLeaves, EndMayLeave, RefusesEnd}
-use Rattle.running_job.specs.Running.{deep_of}
+use Rattle.running_job.specs.Running.{HasMerged, deep_of}
 use Rattle.recover.specs.Directory.{Directory}
 use Rattle.recover.specs.Tables.{tabled}
 use Rattle.db_cursor.specs.Whole.{Whole}
@@ -22,6 +22,18 @@ use Rattle.directory_writes.specs.declared.flush.FlushError.TheVariants.{Before,
 use Rattle.directory_writes.specs.declared.install.Installed.{Installed}
 use Rattle.directory_writes.specs.declared.manifest.CurrentManifest.{CurrentManifest}
 use Rattle.directory_writes.specs.internal.Install.{CanInstall, InstallLeaves, InstallMayLeave, IsServed, RefusesInstall}
+
+-- what is so, is so where it is done
+pub on_ok : {T E : Type 0} (result : Result T E) (P : Type 0) → P → OnOk result P
+on_ok (Ok done) P p = p
+on_ok (Err e) P p = tt
+
+-- where nothing is left, all came
+pub has_merged : {K : Type 0} {g : Ghosts K} (order : Order) (facts : Facts) (next : ℕ) (work : OpenJob K g) → HasMerged order facts next work
+has_merged order facts next work whole contents came is r = (
+  subst (λ (entries : List InternalEntry). SameEntries (map entry_of entries) (tabled contents)) (append-nil came) r.entries,
+  subst (λ (f : Facts). IsMerging order.cmp (deep_of order.cmp work) work.job.last.items work.job.selection work.job.outputs f next came) is r.merging,
+)
 
 module _ {K : Type 0} {g : Ghosts K} (order : Order) (work : OpenJob K g) (old : Facts) (next last_sequence : ℕ) (manifest : CurrentManifest) (tables : List PlacedTable) where
   -- a job that can be ended can be installed

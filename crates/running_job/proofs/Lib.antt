@@ -1,5 +1,6 @@
 pub mod Begun
 pub mod Ended
+pub mod EndedEach
 pub mod Names
 pub mod Read
 pub mod Staying

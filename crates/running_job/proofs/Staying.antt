@@ -11,7 +11,8 @@ use Rattle.ikey.specs.Entries.{Pair}
 use Rattle.ikey.specs.Orders.{Order}
 use Rattle.running_job.specs.declared.open_job.OpenJob.{OpenJob}
 use Rattle.running_job.specs.Running.{deep_of}
-use Rattle.running_job.specs.internal.Staying.{KeepsOutputs, LeavesWhole, RunningStays, RunningStaysBeside}
+use Rattle.running_job.specs.internal.Staying.{KeepsOutputs, LeavesWhole, MayRunStays, RunningStays, RunningStaysBeside}
+use Rattle.running_job.proofs.Stepped.{may_of}
 use Rattle.db_cursor.proofs.KeptMerges.{merge_is_kept}
 use Rattle.store.specs.Files.{Facts}
 use Rattle.table.specs.Building.{last_added}
@@ -74,13 +75,10 @@ mine_later : (w : TablesWritten) (next more number : ℕ) → next ≤ more → 
 mine_later w next more number le (inl at) = inl at
 mine_later w next more number le (inr come) = inr (omega (arith, le, come.0), come.1)
 
-pub stays : {K : Type 0} {g : Ghosts K} (order : Order) (work : OpenJob K g) → RunningStays order work
-stays order work old new next more d e came left r l =
+pub may_stay : {K : Type 0} {g : Ghosts K} (order : Order) (work : OpenJob K g) → MayRunStays order work
+may_stay order work old new next more contents came left r l =
     let m = merge_is_kept order.cmp work.job.cursor old new r.no_memory (record { files = λ number over. l.files number (r.over number over); sound = l.sound }) in
     record {
-      inputs = r.inputs;
-      rest = l.rest;
-      planned = l.planned;
       entries = r.entries;
       own_sequences = r.own_sequences;
       merging = record {
@@ -103,11 +101,37 @@ stays order work old new next more d e came left r l =
       numbered = numbered-later work.job.outputs next more l.drawn r.numbered;
       drawn = omega (arith, r.drawn, l.drawn);
       counted = r.counted;
-      unused = l.unused;
       limits = λ limited.
           let past = r.limits (m.limits limited) in
           (past.0, past.1, past.2, l.files past.0.table.number (past.0, past.1, refl) ∙ past.3, past.4);
-      intact = λ cut torn. r.intact cut (m.torn cut torn);
+      torn = λ cut torn.
+          let one = r.torn cut (m.torn cut torn) in
+          (one.0, one.1, one.2, l.files one.0.table.number (one.0, one.1, refl) ∙ one.3, one.4);
+    }
+
+pub stays : {K : Type 0} {g : Ghosts K} (order : Order) (work : OpenJob K g) → RunningStays order work
+stays order work old new next more d e came left r l =
+    let m = may_stay order work old new next more r.inputs came left (may_of order old next d work came left r) (record { drawn = l.drawn; files = l.files; outputs = l.outputs; sound = l.sound; unkept = l.unkept }) in
+    let kept = merge_is_kept order.cmp work.job.cursor old new r.no_memory (record { files = λ number over. l.files number (r.over number over); sound = l.sound }) in
+    record {
+      inputs = r.inputs;
+      rest = l.rest;
+      planned = l.planned;
+      entries = m.entries;
+      own_sequences = m.own_sequences;
+      merging = m.merging;
+      goes_on = m.goes_on;
+      stands = m.stands;
+      no_memory = m.no_memory;
+      over = m.over;
+      outside = m.outside;
+      unkept = m.unkept;
+      numbered = m.numbered;
+      drawn = m.drawn;
+      counted = m.counted;
+      unused = l.unused;
+      limits = m.limits;
+      intact = λ cut torn. r.intact cut (kept.torn cut torn);
     }
 
 pub stays_beside : {K : Type 0} {g : Ghosts K} (order : Order) (work : OpenJob K g) → RunningStaysBeside order work

@@ -2,6 +2,7 @@
 use Rattle.std.proofs.Common.{arith, ◌≡◌, ◌⊎◌, ◌<◌, ◌≤◌, ◌+◌, ◌^◌, ◌++◌, ℕ, Bool, IsTrue, List, length, map, inl, inr, refl, sym, ap, subst, ◌∙◌}
 use Rattle.std.proofs.lemmas.List.{append_assoc, length-append}
 use Rattle.coding.specs.declared.error.DbError.{DbError}
+use Rattle.coding.specs.declared.error.DbError.TheVariants.{Corrupt}
 use Rattle.compact.specs.Deeper.{is_covered_below}
 use Rattle.compact.specs.Leaving.{LeavesOthers}
 use Rattle.compact.specs.Merging.{HaveOwnSequences, IsJob, IsMerging, KeepsMine}
@@ -16,19 +17,22 @@ use Rattle.ikey.specs.Entries.{InternalEntry, entry_of}
 use Rattle.ikey.specs.Orders.{Order}
 use Rattle.ikey.specs.Sources.{SameEntries}
 use Rattle.running_job.specs.declared.open_job.OpenJob.{OpenJob}
-use Rattle.running_job.specs.Running.{IsRunning, deep_of, goes_over, is_input, is_to_write, shown, CanStep}
+use Rattle.running_job.specs.Running.{IsRunning, MayRun, deep_of, goes_over, is_input, is_to_write, shown, CanStep}
 use Rattle.running_job.specs.internal.Stepping.{StepKeeps, StepStops, StepTouches}
 use Rattle.cursor.specs.Cuts.{Cut}
 use Rattle.running_job.proofs.Read.{Gathers, IsView, Keeps, Leaves, Limited, Lists, Over, View, led, mine_small, read_lists, reads_apart, seen_lists, whole_of, Torn}
 use Rattle.memtables.specs.PlaceLaws.{left_there}
 use Rattle.recover.specs.Directory.{Directory, IsConsistent}
-use Rattle.recover.specs.Tables.{TableContent, tabled}
+use Rattle.recover.specs.Tables.{TableContent, tabled, table_at}
 use Rattle.level_cursor.specs.InRows.{ListsNumber}
 use Rattle.db_cursor.specs.declared.source_cursor.SourceCursor.{SourceCursor}
-use Rattle.db_cursor.specs.Scans.{IsOnePastLimit}
+use Rattle.db_cursor.specs.Scans.{IsOnePastLimit, IsOneTornFile}
+use Rattle.db_cursor.specs.Whole.{Whole}
 use Rattle.db_cursor.proofs.KeptMerges.{moved_read_none}
 use Rattle.db_cursor.proofs.WritesBeside.{beside}
-use Rattle.table_access.specs.Tables.{SoundLasts}
+use Rattle.db_cursor.specs.Inputs.{IsMergeIntact}
+use Rattle.table_access.specs.Tables.{IsSound, SoundLasts}
+use Rattle.table_access.specs.Telling.{IfCorrupt}
 use Rattle.store.specs.Files.{Facts}
 use Rattle.store.specs.Stops.{KeepsBut, stopped_at}
 use Rattle.store.proofs.Stopping.{leaves_so}
@@ -57,12 +61,31 @@ Writing v before a b next more = WritesTables (v.facts (v.store_of a)) (v.facts 
 counted_on : (before merged after : ℕ) (came front : List InternalEntry) → before ≡ shown (length came) → length front ≡ merged → after ≡ shown (before + merged) → after ≡ shown (length (came ++ front))
 counted_on before merged after came front was long is = (let whole = length-append came front in omega (arith, was, long, is, whole))
 
+-- the contents that its inputs have they may have
+pub may_of : {K : Type 0} {g : Ghosts K} (order : Order) (whole : Whole) (next : ℕ) (d : Directory) (work : OpenJob K g) (came left : List InternalEntry) → (r : IsRunning order whole next d work came left) → MayRun order whole next r.inputs work came left
+may_of order whole next d work came left r = record {
+  entries = r.entries;
+  own_sequences = r.own_sequences;
+  merging = r.merging;
+  goes_on = r.goes_on;
+  stands = r.stands;
+  no_memory = r.no_memory;
+  over = r.over;
+  outside = r.outside;
+  unkept = r.unkept;
+  numbered = r.numbered;
+  drawn = r.drawn;
+  counted = r.counted;
+  limits = r.limits;
+  torn = λ cut t. absurd (r.intact cut t);
+}
+
 module _ {K : Type 0} {g : Ghosts K} {H S : Type 0} (order : Order) (v : View H S) (view : IsView v) where
   -- ---- what the job reads is what the definition of a job over any source wants
 
-  pub runs : SoundLasts → (d : Directory) (work : OpenJob K g) (deep : List ℕ → Bool) (h : H) (next : ℕ) (came left : List InternalEntry) → next < 2 ^ 64 → deep ≡ deep_of order.cmp work
-      → IsRunning order (whole_of v h) next d work came left → IsJobOver order v deep work h next came left
-  runs lasts d work deep h next came left fits is r = record {
+  pub may_run : SoundLasts → (contents : List TableContent) (work : OpenJob K g) (deep : List ℕ → Bool) (h : H) (next : ℕ) (came left : List InternalEntry) → next < 2 ^ 64 → deep ≡ deep_of order.cmp work
+      → MayRun order (whole_of v h) next contents work came left → IsJobOver order v deep work h next came left
+  may_run lasts contents work deep h next came left fits is r = record {
     merging = subst (λ (known : List ℕ → Bool). IsMerging order.cmp known work.job.last.items work.job.selection work.job.outputs (v.facts (v.store_of h)) next came) (sym is) r.merging;
     goes_on = r.goes_on;
     left = read_lists order.cmp v view work.job.cursor h _ r.stands;
@@ -70,6 +93,10 @@ module _ {K : Type 0} {g : Ghosts K} {H S : Type 0} (order : Order) (v : View H 
     ungathered = r.unkept;
     outside = λ n over mine. r.outside n (r.over n over) mine;
   }
+
+  pub runs : SoundLasts → (d : Directory) (work : OpenJob K g) (deep : List ℕ → Bool) (h : H) (next : ℕ) (came left : List InternalEntry) → next < 2 ^ 64 → deep ≡ deep_of order.cmp work
+      → IsRunning order (whole_of v h) next d work came left → IsJobOver order v deep work h next came left
+  runs lasts d work deep h next came left fits is r = may_run lasts r.inputs work deep h next came left fits is (may_of order (whole_of v h) next d work came left r)
 
   -- ---- what a step leaves
 
@@ -98,17 +125,24 @@ module _ {K : Type 0} {g : Ghosts K} {H S : Type 0} (order : Order) (v : View H 
       let l = led order.cmp v view (goes_over before) (IsMineUpTo before.job.outputs next more) leaves.turns.0 a b leaves.turns.1 in
       record { writes = writes; memory = l.memory; gathered = l.gathered; within = leaves.within }
 
+  -- what is kept of tables stays right
+  pub sound_on : SoundLasts → (before : OpenJob K g) (cursor : Merge K (SourceCursor K g)) (a b : H) (next more : ℕ) → more < 2 ^ 64 → next < 2 ^ 64 → Writing v before a b next more → Leaving order v before cursor a b next more
+      → IsTrue (v.facts (v.store_of b)).faithful → (contents : List TableContent) (came left : List InternalEntry) → MayRun order (whole_of v a) next contents before came left
+      → IsSound order.cmp (whole_of v a).seen → IsSound order.cmp (whole_of v b).seen
+  sound_on lasts before cursor a b next more fits small writes leaves t contents came left r sound =
+      let l = led order.cmp v view (goes_over before) (IsMineUpTo before.job.outputs next more) leaves.turns.0 a b leaves.turns.1 in
+      l.sound lasts (λ n mine. mine_small before.job.outputs next n small r.numbered (mine-in before.job.outputs next more n fits mine))
+      (λ n over mine. r.outside n (r.over n over) (mine-in before.job.outputs next more n fits mine))
+      (λ n kept mine. r.unkept n kept (mine-in before.job.outputs next more n fits mine)) t sound
+
   pub keeps_on : SoundLasts → JobWritesLaw → (before : OpenJob K g) (cursor : Merge K (SourceCursor K g)) (a b : H) (next more : ℕ) → next ≤ more → more < 2 ^ 64 → next < 2 ^ 64 → Writing v before a b next more → Leaving order v before cursor a b next more
       → IsTrue (v.facts (v.store_of b)).faithful → (d : Directory) (came left : List InternalEntry) → CanStep order (whole_of v a) next d before came left
       → StepKeeps order (whole_of v a) (whole_of v b) next more before d
   keeps_on lasts law before cursor a b next more le fits small writes leaves t d came left can =
       let r = can.running in
-      let l = led order.cmp v view (goes_over before) (IsMineUpTo before.job.outputs next more) leaves.turns.0 a b leaves.turns.1 in
       record {
         others = law order (v.facts (v.store_of a)) (v.facts (v.store_of b)) before.job.outputs next more d t writes le fits can.consistent can.free r.numbered r.unused;
-        sound = l.sound lasts (λ n mine. mine_small before.job.outputs next n small r.numbered (mine-in before.job.outputs next more n fits mine))
-            (λ n over mine. r.outside n (r.over n over) (mine-in before.job.outputs next more n fits mine))
-            (λ n kept mine. r.unkept n kept (mine-in before.job.outputs next more n fits mine)) t can.sound;
+        sound = sound_on lasts before cursor a b next more fits small writes leaves t r.inputs came left (may_of order (whole_of v a) next d before came left r) can.sound;
       }
 
   -- so it does while it is written
@@ -121,33 +155,30 @@ module _ {K : Type 0} {g : Ghosts K} {H S : Type 0} (order : Order) (v : View H 
       (λ files kept.
       (law order old (stopped_at old files) before.job.outputs next more d refl (writes-stopped old files mine (writes.faithful t) kept) le fits can.consistent can.free r.numbered r.unused).consistent) (writes.calls t)
 
-  -- an input that passes a limit did so before
-  limit_kept : SoundLasts → (before : OpenJob K g) (a b : H) (next more : ℕ) (d : Directory) (came left : List InternalEntry) → more < 2 ^ 64 → next < 2 ^ 64 → Writing v before a b next more
-      → IsTrue (v.facts (v.store_of b)).faithful → IsRunning order (whole_of v a) next d before came left → IsOnePastLimit order.cmp before.job.plan.inputs.items (whole_of v a) → IsOnePastLimit order.cmp before.job.plan.inputs.items (whole_of v b)
-  limit_kept lasts before a b next more d came left fits small writes t r l =
-      let files = (beside (whole_of v a).seen (v.facts (v.store_of b)) (IsMineUpTo before.job.outputs next more) (λ n mine. mine_small before.job.outputs next n small r.numbered (mine-in before.job.outputs next more n fits mine)) t writes order.cmp (is_input before) lasts
-      (λ n mine kept. r.unkept n kept (mine-in before.job.outputs next more n fits mine)) (λ n is mine. r.outside n is (mine-in before.job.outputs next more n fits mine))).files in
-      (l.0, l.1, l.2, files l.0.table.number (l.0, l.1, refl) ∙ l.3, l.4)
+  -- the files of its inputs stay
+  input_files : SoundLasts → (before : OpenJob K g) (a b : H) (next more : ℕ) (contents : List TableContent) (came left : List InternalEntry) → more < 2 ^ 64 → next < 2 ^ 64 → Writing v before a b next more
+      → IsTrue (v.facts (v.store_of b)).faithful → MayRun order (whole_of v a) next contents before came left → (number : ℕ) → is_input before number
+      → table_at (whole_of v b).seen.facts.files number ≡ table_at (whole_of v a).seen.facts.files number
+  input_files lasts before a b next more contents came left fits small writes t r =
+      (beside (whole_of v a).seen (v.facts (v.store_of b)) (IsMineUpTo before.job.outputs next more) (λ n mine. mine_small before.job.outputs next n small r.numbered (mine-in before.job.outputs next more n fits mine)) t writes order.cmp (is_input before) lasts
+      (λ n mine kept. r.unkept n kept (mine-in before.job.outputs next more n fits mine)) (λ n is mine. r.outside n is (mine-in before.job.outputs next more n fits mine))).files
 
   -- ---- the job behind a step
 
-  pub goes : SoundLasts → FreeNumberLaw → (before after : OpenJob K g) (a b : H) (next more : ℕ) → next ≤ more → more < 2 ^ 64 → next < 2 ^ 64 → Writing v before a b next more → Leaving order v before after.job.cursor a b next more
+  pub may_go : SoundLasts → (before after : OpenJob K g) (a b : H) (next more : ℕ) → next ≤ more → more < 2 ^ 64 → next < 2 ^ 64 → Writing v before a b next more → Leaving order v before after.job.cursor a b next more
       → after.job.plan ≡ before.job.plan → after.version ≡ before.version → after.next ≤ more → (merged : ℕ) → after.merged ≡ shown (before.merged + merged) → KeepsMine before.job.outputs next after.job.outputs more → NumbersOn before.job.outputs next after.job.outputs more
       → (deep : List ℕ → Bool) → deep ≡ deep_of order.cmp before
-      → IsTrue (v.facts (v.store_of b)).faithful → (d : Directory) (came left front back : List InternalEntry) → CanStep order (whole_of v a) next d before came left → left ≡ front ++ back → length front ≡ merged
+      → IsTrue (v.facts (v.store_of b)).faithful → (contents : List TableContent) (came left front back : List InternalEntry) → MayRun order (whole_of v a) next contents before came left → left ≡ front ++ back → length front ≡ merged
       → IsJobOver order v deep after b more (came ++ front) back
       → (Limited order.cmp v after.job.cursor b → Limited order.cmp v before.job.cursor a) → ((cut : Cut) → Torn order.cmp v after.job.cursor b cut → Torn order.cmp v before.job.cursor a cut)
-      → IsRunning order (whole_of v b) more d after (came ++ front) back
-  goes lasts free before after a b next more le fits small writes leaves plan version drawn merged counted mine_kept numbers deep deep_is t d came left front back can left_is long j limit torn =
-      let r = can.running in
+      → MayRun order (whole_of v b) more contents after (came ++ front) back
+  may_go lasts before after a b next more le fits small writes leaves plan version drawn merged counted mine_kept numbers deep deep_is t contents came left front back r left_is long j limit torn =
       let same_tables : after.version.value.tables ≡ before.version.value.tables = ap (λ v. v.value.tables) version in
       let all : came ++ left ≡ (came ++ front) ++ back = ap (λ (l : List InternalEntry). came ++ l) left_is ∙ sym (append_assoc came front back) in
       let same_deep : deep ≡ deep_of order.cmp after = deep_is ∙ (λ i. is_covered_below order.cmp (sym plan i).output_level (sym same_tables i)) in
+      let files = input_files lasts before a b next more contents came left fits small writes t r in
       record {
-        inputs = r.inputs;
-        rest = r.rest;
-        planned = planned_as order d r.inputs r.rest before.job.plan after.job.plan before.version.value.tables after.version.value.tables plan same_tables r.planned;
-        entries = subst (λ (l : List InternalEntry). SameEntries (map entry_of l) (tabled r.inputs)) all r.entries;
+        entries = subst (λ (l : List InternalEntry). SameEntries (map entry_of l) (tabled contents)) all r.entries;
         own_sequences = subst HaveOwnSequences all r.own_sequences;
         merging = subst (λ (known : List ℕ → Bool). IsMerging order.cmp known after.job.last.items after.job.selection after.job.outputs (v.facts (v.store_of b)) more (came ++ front)) same_deep j.merging;
         goes_on = j.goes_on;
@@ -159,15 +190,58 @@ module _ {K : Type 0} {g : Ghosts K} {H S : Type 0} (order : Order) (v : View H 
         numbered = numbers.keeps r.numbered;
         drawn = drawn;
         counted = counted_on before.merged merged after.merged came front r.counted long counted;
+        limits = λ l.
+            let past = r.limits (limit l) in
+            subst (λ (q : JobPlan). IsOnePastLimit order.cmp q.inputs.items (whole_of v b)) (sym plan) (past.0, past.1, past.2, files past.0.table.number (past.0, past.1, refl) ∙ past.3, past.4);
+        torn = λ cut l.
+            let one = r.torn cut (torn cut l) in
+            subst (λ (q : JobPlan). IsOneTornFile order.cmp q.inputs.items (whole_of v b) cut) (sym plan) (one.0, one.1, one.2, files one.0.table.number (one.0, one.1, refl) ∙ one.3, one.4);
+      }
+
+  pub goes : SoundLasts → FreeNumberLaw → (before after : OpenJob K g) (a b : H) (next more : ℕ) → next ≤ more → more < 2 ^ 64 → next < 2 ^ 64 → Writing v before a b next more → Leaving order v before after.job.cursor a b next more
+      → after.job.plan ≡ before.job.plan → after.version ≡ before.version → after.next ≤ more → (merged : ℕ) → after.merged ≡ shown (before.merged + merged) → KeepsMine before.job.outputs next after.job.outputs more → NumbersOn before.job.outputs next after.job.outputs more
+      → (deep : List ℕ → Bool) → deep ≡ deep_of order.cmp before
+      → IsTrue (v.facts (v.store_of b)).faithful → (d : Directory) (came left front back : List InternalEntry) → CanStep order (whole_of v a) next d before came left → left ≡ front ++ back → length front ≡ merged
+      → IsJobOver order v deep after b more (came ++ front) back
+      → (Limited order.cmp v after.job.cursor b → Limited order.cmp v before.job.cursor a) → ((cut : Cut) → Torn order.cmp v after.job.cursor b cut → Torn order.cmp v before.job.cursor a cut)
+      → IsRunning order (whole_of v b) more d after (came ++ front) back
+  goes lasts free before after a b next more le fits small writes leaves plan version drawn merged counted mine_kept numbers deep deep_is t d came left front back can left_is long j limit torn =
+      let r = can.running in
+      let m = may_go lasts before after a b next more le fits small writes leaves plan version drawn merged counted mine_kept numbers deep deep_is t r.inputs came left front back (may_of order (whole_of v a) next d before came left r) left_is long j limit torn in
+      record {
+        inputs = r.inputs;
+        rest = r.rest;
+        planned = planned_as order d r.inputs r.rest before.job.plan after.job.plan before.version.value.tables after.version.value.tables plan (ap (λ v. v.value.tables) version) r.planned;
+        entries = m.entries;
+        own_sequences = m.own_sequences;
+        merging = m.merging;
+        goes_on = m.goes_on;
+        stands = m.stands;
+        no_memory = m.no_memory;
+        over = m.over;
+        outside = m.outside;
+        unkept = m.unkept;
+        numbered = m.numbered;
+        drawn = m.drawn;
+        counted = m.counted;
         unused = λ n own. elim (numbers.owns n own) [
           | inl was ↦ r.unused n was
           | inr new ↦ free order (whole_of v a).seen.facts.files d next n can.consistent can.free new
         ];
-        limits = λ l. subst (λ (q : JobPlan). IsOnePastLimit order.cmp q.inputs.items (whole_of v b)) (sym plan) (limit_kept lasts before a b next more d came left fits small writes t r (r.limits (limit l)));
+        limits = m.limits;
         intact = λ cut l. r.intact cut (torn cut l);
       }
 
   -- ---- why a step is refused
+
+  pub tears_step : SoundLasts → (before : OpenJob K g) (a : H) (old new : Facts) (long spent : Type 0) (e : DbError) (deep : List ℕ → Bool) (next : ℕ) → next < 2 ^ 64 → deep ≡ deep_of order.cmp before
+      → RefusesEntry e old new
+      (IsTrue new.faithful → (came : List InternalEntry) (left : List InternalEntry) → IsJobOver order v deep before a next came left → HaveOwnSequences (came ++ left) → ((cut : Cut) → Torn order.cmp v before.job.cursor a cut → ⊥) → ⊥)
+      long spent
+      → IfCorrupt e (IsTrue new.faithful → (contents : List TableContent) (came left : List InternalEntry) → MayRun order (whole_of v a) next contents before came left → IsMergeIntact order.cmp before.job.cursor (whole_of v a) → ⊥)
+  tears_step lasts before a old new long spent (Corrupt kind what) deep next fits is h =
+      λ t contents came left r intact. h t came left (may_run lasts contents before deep a next came left fits is r) r.own_sequences intact
+  tears_step lasts before a old new long spent e deep next fits is h = tt
 
   pub refuses_step : SoundLasts → (before : OpenJob K g) (a : H) (old new : Facts) (next more : ℕ) (e : DbError) (deep : List ℕ → Bool) → next < 2 ^ 64 → deep ≡ deep_of order.cmp before
       → RefusesEntry e old new

@@ -2,7 +2,7 @@
 
 ghost use Rattle.ikey.specs.Orders.{order_of};
 ghost use Rattle.running_job.specs.declared.open_job.OpenJob.{OpenJob};
-ghost use Rattle.running_job.specs.internal.Staying.{RunningStays, RunningStaysBeside};
+ghost use Rattle.running_job.specs.internal.Staying.{MayRunStays, RunningStays, RunningStaysBeside};
 
 use ikey::KeyOrder;
 
@@ -14,4 +14,9 @@ pub fn running_stays<K: KeyOrder>()
 /// Law: so it does while the directory has the same tables.
 pub fn running_stays_beside<K: KeyOrder>()
     ensures { (work : OpenJob K K.KeyOrder) → RunningStaysBeside (order_of K.name K.cmp) work }
+{}
+
+/// Law: and so it does over whichever contents its inputs may have.
+pub fn may_run_stays<K: KeyOrder>()
+    ensures { (work : OpenJob K K.KeyOrder) → MayRunStays (order_of K.name K.cmp) work }
 {}

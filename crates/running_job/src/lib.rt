@@ -6,5 +6,5 @@ mod laws;
 mod naming;
 mod open_job;
 
-pub use laws::{running_stays, running_stays_beside};
+pub use laws::{may_run_stays, running_stays, running_stays_beside};
 pub use open_job::OpenJob;

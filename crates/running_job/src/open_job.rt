@@ -6,7 +6,7 @@ ghost use Rattle.compact.specs.Outputs.{AreNumbered};
 ghost use Rattle.ikey.specs.Orders.{order_of};
 ghost use Rattle.running_job.specs.internal.Unique.{IsPlanProper-prop, numbered-prop};
 ghost use Rattle.level_cursor.specs.InRows.{ListsNumber};
-ghost use Rattle.db_cursor.specs.internal.Inputs.{BeginsMerge};
+ghost use Rattle.db_cursor.specs.internal.Inputs.{BeginsMerge, MayBeginMerge};
 ghost use Rattle.db_cursor.specs.Inputs.{ReadsNoMemory};
 ghost use Rattle.db_cursor.specs.Places.{OneGoesOver};
 ghost use Rattle.versions.specs.Levels.{AreInOrder, HasNumber as HasTable};
@@ -54,10 +54,11 @@ impl<K: KeyOrder> OpenJob<K> {
     ghost use Rattle.std.specs.FinMap.{get};
     ghost use Rattle.std.specs.List.Sorted.{IsNonDecreasing};
     ghost use Rattle.ikey.specs.Orders.{order_of};
-    ghost use Rattle.running_job.specs.internal.Beginning.{BeginsJob, RefusesBegin};
-    ghost use Rattle.running_job.specs.internal.Ending.{EndLeaves, EndMayLeave, RefusesEnd};
-    ghost use Rattle.running_job.specs.Running.{goes_over, is_input, shown};
-    ghost use Rattle.running_job.specs.internal.Stepping.{GoesOn, KeepsDirectory, RefusesStep, StepStops, StepTouches};
+    ghost use Rattle.running_job.specs.internal.Beginning.{BeginsJob, MayBeginJob, RefusesBegin};
+    ghost use Rattle.running_job.specs.internal.Ending.{EndLeaves, EndLeavesOver, EndMayLeave, EndMayLeaveOver, EndPutsOwn, RefusesEnd};
+    ghost use Rattle.directory_writes.specs.Differing.{OfEach};
+    ghost use Rattle.running_job.specs.Running.{HasMerged, goes_over, is_input, shown};
+    ghost use Rattle.running_job.specs.internal.Stepping.{GoesOn, KeepsDirectory, KeepsSound, MayGoOn, RefusesStep, StepStops, StepTears, StepTouches};
     ghost use Rattle.level_cursor.specs.InRows.{ListsNumber};
     ghost use Rattle.db_cursor.specs.Places.{LeavesSource};
     ghost use Rattle.db_cursor.specs.Whole.{whole_in};
@@ -96,6 +97,9 @@ impl<K: KeyOrder> OpenJob<K> {
         ensures refused { IfErr result (λ e. RefusesBegin (order_of K.name K.cmp) version.now.value.tables plan
             (whole_in S.facts source.old)
             (whole_in S.facts source.new) e) }
+        ensures may { IfOk result (λ work. MayBeginJob (order_of K.name K.cmp) plan
+            (whole_in S.facts source.old)
+            (whole_in S.facts source.new) work) }
         ensures begins { IfOk result (λ work. BeginsJob (order_of K.name K.cmp) version.now.value.tables
             (whole_in S.facts source.old)
             (whole_in S.facts source.new) work) }
@@ -158,6 +162,14 @@ impl<K: KeyOrder> OpenJob<K> {
             (whole_in S.facts source.old)
             (whole_in S.facts source.new)
             numbers.old.next numbers.new.next self.old e) }
+        ensures torn { IfErr result (StepTears (order_of K.name K.cmp)
+            (whole_in S.facts source.old)
+            (whole_in S.facts source.new)
+            numbers.old.next self.old) }
+        ensures sound { KeepsSound (order_of K.name K.cmp)
+            (whole_in S.facts source.old)
+            (whole_in S.facts source.new)
+            numbers.old.next self.old }
         ensures keeps { KeepsDirectory (order_of K.name K.cmp)
             (whole_in S.facts source.old)
             (whole_in S.facts source.new)
@@ -166,6 +178,10 @@ impl<K: KeyOrder> OpenJob<K> {
             (whole_in S.facts source.old)
             (whole_in S.facts source.new)
             numbers.old.next self.old }
+        ensures may { IfOk result (λ progress. MayGoOn (order_of K.name K.cmp)
+            (whole_in S.facts source.old)
+            (whole_in S.facts source.new)
+            numbers.old.next numbers.new.next budget self.old self.new progress) }
         ensures goes_on { IfOk result (λ progress. GoesOn (order_of K.name K.cmp)
             (whole_in S.facts source.old)
             (whole_in S.facts source.new)
@@ -206,6 +222,8 @@ impl<K: KeyOrder> OpenJob<K> {
         ensures call { InstallTouches (S.facts store.old) (S.facts store.new) self.job.outputs (string_bytes manifest.now.name) }
         ensures fails { FailsAsWrite (S.facts store.old) (S.facts store.new) }
         ensures stood { OnOk result ((S.facts store.new).failures ≡ (S.facts store.old).failures) }
+        // In each directory that the files may come from it has merged exactly the entries of its inputs.
+        ensures merged { OnOk result (HasMerged (order_of K.name K.cmp) (S.facts store.old) numbers.now.next self) }
         ensures version { IfOk result
             (λ installed. HasJobVersion K.cmp self.job.plan self.job.outputs version.now installed.version.value) }
         ensures synced { OnOk result (IsTrue (S.facts store.new).faithful
@@ -219,9 +237,16 @@ impl<K: KeyOrder> OpenJob<K> {
             (S.facts store.new) numbers.now.next last_sequence manifest.now version.now.tables self error) }
         ensures leaves { EndLeaves (order_of K.name K.cmp) (S.facts store.old)
             (S.facts store.new) numbers.now.next last_sequence manifest.now version.now.tables self result }
+        ensures leaves_each { OfEach (λ ideal after. EndLeavesOver (order_of K.name K.cmp) (S.facts store.old) (S.facts store.new) ideal after
+            numbers.now.next last_sequence manifest.now version.now.tables self result) (S.facts store.old).files (S.facts store.new).files }
+        ensures owns_each { OfEach (λ ideal after. EndPutsOwn (order_of K.name K.cmp) (S.facts store.old) (S.facts store.new) ideal after
+            numbers.now.next last_sequence manifest.now version.now.tables self result) (S.facts store.old).files (S.facts store.new).files }
         ensures stops { IsTrue (S.facts store.new).faithful → LeavesOnly (S.facts store.old) (S.facts store.new)
             (EndMayLeave (order_of K.name K.cmp) (S.facts store.old) numbers.now.next last_sequence manifest.now
             version.now.tables self) }
+        ensures stops_each { IsTrue (S.facts store.new).faithful → LeavesOnly (S.facts store.old) (S.facts store.new)
+            (λ files. OfEach (λ ideal after. EndMayLeaveOver (order_of K.name K.cmp) (S.facts store.old) ideal after numbers.now.next
+            last_sequence manifest.now version.now.tables self) (S.facts store.old).files files) }
     {
         if numbers.next < self.next {
             return Err(FlushError::Before(DbError::Corrupt(FileKind::Table, Damage::Number)));
@@ -263,6 +288,7 @@ fn cursor_over<K: KeyOrder>(
     requires { AreInOrder K.cmp plan.now.inputs.items }
     ensures over { IfOk result (λ merge. (number : ℕ) → OneGoesOver merge.children.items number → ListsNumber plan.now.inputs.items number) }
     ensures no_memory { IfOk result (λ merge. ReadsNoMemory K.cmp merge) }
+    ensures may { IfOk result (λ merge. MayBeginMerge (order_of K.name K.cmp) plan.now.inputs.items merge) }
     ensures begins { IfOk result (λ merge. BeginsMerge (order_of K.name K.cmp) plan.now.inputs.items merge) }
 {
     let part = Version::over_inputs(alloc, plan)?;

@@ -1,5 +1,5 @@
 -- What the beginning of a compaction answers.
-use Rattle.std.specs.Prelude.{ℕ, List, [], IsTrue}
+use Rattle.std.specs.Prelude.{◌<◌, ℕ, List, [], IsTrue}
 use Rattle.coding.specs.declared.error.DbError.{DbError}
 use Rattle.compact.specs.Merging.{AreDisjoint}
 use Rattle.compact.specs.Outputs.{IsToCome, RefusesEntry}
@@ -7,12 +7,16 @@ use Rattle.edits.specs.declared.field.PlacedTable.{PlacedTable}
 use Rattle.ikey.specs.Entries.{InternalEntry}
 use Rattle.ikey.specs.Orders.{Order}
 use Rattle.running_job.specs.declared.open_job.OpenJob.{OpenJob}
-use Rattle.running_job.specs.Running.{IsRunning}
+use Rattle.running_job.specs.Running.{IsRunning, MayRun}
 use Rattle.recover.specs.Directory.{Directory, IsConsistent}
 use Rattle.recover.specs.Numbers.{IsFree}
+use Rattle.recover.specs.Tables.{TableContent}
+use Rattle.level_cursor.specs.InRows.{ListsNumber}
 use Rattle.db_cursor.specs.Scans.{IsOnePastLimit}
 use Rattle.db_cursor.specs.Whole.{Whole}
+use Rattle.table_access.specs.Possible.{MayBeTable}
 use Rattle.table_access.specs.Tables.{IsSound, KeepsOf}
+use Rattle.version_laws.specs.Places.{MayHaveVersion}
 use Rattle.directory_writes.specs.Replacing.{placed_in}
 use Rattle.versions.specs.declared.plan.JobPlan.{JobPlan}
 use Rattle.versions.specs.Levels.{ListsSameTables}
@@ -25,6 +29,19 @@ pub record CanBegin (order : Order) (whole : Whole) (next : ℕ) (tables : List 
   pub sound : IsSound order.cmp whole.seen
   pub unkept : AreDisjoint (KeepsOf whole.seen) (IsToCome next)
   pub free : IsFree order whole.seen.facts.files next
+
+-- As far as their blocks tell, the files may be the inputs of the plan, with these contents; what is kept of tables is right, and nothing is
+-- kept of one that is still to come.
+pub record MayBegin (order : Order) (whole : Whole) (next : ℕ) (plan : JobPlan) (contents : List TableContent) : Type 0 where
+  pub sound : IsSound order.cmp whole.seen
+  pub may : MayHaveVersion (MayBeTable order.cmp) order whole.seen.facts.files plan.inputs.items contents
+  pub unkept : AreDisjoint (KeepsOf whole.seen) (IsToCome next)
+  pub below : (number : ℕ) → ListsNumber plan.inputs.items number → number < next
+
+-- Then a job is under way over them to which nothing came.
+abbrev pub MayBeginJob : {K : Type 0} {g : _} → Order → JobPlan → Whole → Whole → OpenJob K g → Type 0
+MayBeginJob order plan old new work = IsTrue new.seen.facts.faithful → (next : ℕ) (contents : List TableContent) → MayBegin order old next plan contents
+    → (left : List InternalEntry) × MayRun order new next contents work [] left
 
 -- So a job is under way to which nothing came.
 abbrev pub BeginsJob : {K : Type 0} {g : _} → Order → List PlacedTable → Whole → Whole → OpenJob K g → Type 0

@@ -7,7 +7,7 @@ use Rattle.compact.specs.Outputs.{IsOwn, TablesWritten, table_name}
 use Rattle.ikey.specs.Entries.{InternalEntry}
 use Rattle.ikey.specs.Orders.{Order}
 use Rattle.running_job.specs.declared.open_job.OpenJob.{OpenJob}
-use Rattle.running_job.specs.Running.{IsRunning, deep_of, is_input, is_to_write}
+use Rattle.running_job.specs.Running.{IsRunning, MayRun, deep_of, is_input, is_to_write}
 use Rattle.recover.specs.Directory.{Directory}
 use Rattle.recover.specs.Tables.{TableContent}
 use Rattle.db_cursor.specs.Whole.{Whole}
@@ -40,6 +40,19 @@ pub record LeavesJob {K : Type 0} {g : _} (order : Order) (work : OpenJob K g) (
 abbrev pub RunningStays : {K : Type 0} {g : _} → Order → OpenJob K g → Type 0
 RunningStays order work = (old new : Whole) (next more : ℕ) (d e : Directory) (came left : List InternalEntry)
     → (r : IsRunning order old next d work came left) → LeavesJob order work r.inputs old new next more e → IsRunning order new more e work came left
+
+-- Over contents that its inputs may have it needs no more than that the files of its tables are as they were, and that nothing is kept of
+-- one that it writes.
+pub record LeavesInputs {K : Type 0} {g : _} (order : Order) (work : OpenJob K g) (old new : Whole) (next more : ℕ) : Type 0 where
+  pub drawn : next ≤ more
+  pub files : (number : ℕ) → is_input work number → table_at new.seen.facts.files number ≡ table_at old.seen.facts.files number
+  pub outputs : KeepsOutputs work.job.outputs old.seen.facts new.seen.facts
+  pub sound : IsSound order.cmp old.seen → IsSound order.cmp new.seen
+  pub unkept : AreDisjoint (KeepsOf new.seen) (is_to_write work more)
+
+abbrev pub MayRunStays : {K : Type 0} {g : _} → Order → OpenJob K g → Type 0
+MayRunStays order work = (old new : Whole) (next more : ℕ) (contents : List TableContent) (came left : List InternalEntry)
+    → MayRun order old next contents work came left → LeavesInputs order work old new next more → MayRun order new more contents work came left
 
 -- So it does while the directory has the same tables: over a write, a seal, a move of an iterator, a look-up.
 pub record LeavesTables {K : Type 0} {g : _} (order : Order) (work : OpenJob K g) (old new : Whole) (next more : ℕ) (d e : Directory) : Type 0 where

@@ -1,7 +1,12 @@
-use Rattle.std.proofs.Common.{arith}
+use Rattle.std.proofs.Common.{Err, arith}
+use Rattle.coding.specs.declared.error.Damage.TheVariants.{Number}
+use Rattle.coding.specs.declared.error.DbError.TheVariants.{Corrupt}
+use Rattle.coding.specs.declared.error.FileKind.TheVariants.{Table}
+use Rattle.directory_writes.specs.declared.flush.FlushError.TheVariants.{Before}
 use Rattle.compact.proofs.Numbered.{numbered-later}
 use Rattle.ikey.specs.Orders.{order_of}
-use Rattle.running_job.proofs.Ended.{end_stopped, end_unstopped, leaves_end, refuses_end}
+use Rattle.running_job.proofs.Ended.{end_stopped, end_unstopped, has_merged, leaves_end, on_ok, refuses_end}
+use Rattle.running_job.proofs.EndedEach.{ends_each, older_each, puts_each, spent_each, stopped_each, unstopped_each}
 use Rattle.running_job.proofs.open_job.OpenJob.install.Goals as goal
 
 pub install_job-requires-clause-numbered : goal.install_job-requires-clause-numbered
@@ -28,3 +33,44 @@ pub returns-clause-stops : goal.returns-clause-stops
 returns-clause-stops g c f =
     end_stopped (order_of g.K.KeyOrder.name g.K.KeyOrder.cmp) c.args.self (g.S.Store.facts c.args.store.now) c.args.numbers.now.next c.args.last_sequence c.args.manifest.now c.args.version.now.tables (omega (arith, c.if-numbers-gt-NUMBER_END.false))
     (g.S.Store.facts c.install_job.new.store) (c.install_job.ensures.stops f)
+
+pub returns-clause-merged : goal.returns-clause-merged
+returns-clause-merged g c = on_ok c.install_job.result _ (has_merged (order_of g.K.KeyOrder.name g.K.KeyOrder.cmp) (g.S.Store.facts c.args.store.now) c.args.numbers.now.next c.args.self)
+
+-- ---- in each directory that differs in tables alone
+
+pub returns-then-numbers-self-clause-leaves_each : goal.returns-then-numbers-self-clause-leaves_each
+returns-then-numbers-self-clause-leaves_each g c = older_each (order_of g.K.KeyOrder.name g.K.KeyOrder.cmp) c.args.self (g.S.Store.facts c.args.store.now) c.args.numbers.now.next c.args.last_sequence c.args.manifest.now c.args.version.now.tables c.if-numbers-self.true (Err (Before (Corrupt Table Number)))
+
+pub returns-then-numbers-gt-NUMBER_END-clause-leaves_each : goal.returns-then-numbers-gt-NUMBER_END-clause-leaves_each
+returns-then-numbers-gt-NUMBER_END-clause-leaves_each g c = spent_each (order_of g.K.KeyOrder.name g.K.KeyOrder.cmp) c.args.self (g.S.Store.facts c.args.store.now) c.args.numbers.now.next c.args.last_sequence c.args.manifest.now c.args.version.now.tables
+
+pub returns-clause-leaves_each : goal.returns-clause-leaves_each
+returns-clause-leaves_each g c =
+    ends_each (order_of g.K.KeyOrder.name g.K.KeyOrder.cmp) c.args.self (g.S.Store.facts c.args.store.now) c.args.numbers.now.next c.args.last_sequence c.args.manifest.now c.args.version.now.tables
+    (numbered-later c.args.self.job.outputs c.args.self.next c.args.numbers.now.next (omega (arith, c.if-numbers-self.false)) (c.args.self.numbered (omega (arith, c.if-numbers-self.false, c.if-numbers-gt-NUMBER_END.false)))) (omega (arith, c.if-numbers-gt-NUMBER_END.false))
+    (g.S.Store.facts c.install_job.new.store) c.install_job.result c.install_job.ensures.leaves_each
+
+pub returns-then-numbers-self-clause-owns_each : goal.returns-then-numbers-self-clause-owns_each
+returns-then-numbers-self-clause-owns_each g c ideal after differs same is = absurd (cc)
+
+pub returns-then-numbers-gt-NUMBER_END-clause-owns_each : goal.returns-then-numbers-gt-NUMBER_END-clause-owns_each
+returns-then-numbers-gt-NUMBER_END-clause-owns_each g c ideal after differs same is = absurd (cc)
+
+pub returns-clause-owns_each : goal.returns-clause-owns_each
+returns-clause-owns_each g c =
+    puts_each (order_of g.K.KeyOrder.name g.K.KeyOrder.cmp) c.args.self (g.S.Store.facts c.args.store.now) c.args.numbers.now.next c.args.last_sequence c.args.manifest.now c.args.version.now.tables
+    (numbered-later c.args.self.job.outputs c.args.self.next c.args.numbers.now.next (omega (arith, c.if-numbers-self.false)) (c.args.self.numbered (omega (arith, c.if-numbers-self.false, c.if-numbers-gt-NUMBER_END.false)))) (omega (arith, c.if-numbers-gt-NUMBER_END.false))
+    (g.S.Store.facts c.install_job.new.store) c.install_job.result c.install_job.ensures.owns_each
+
+pub returns-then-numbers-self-clause-stops_each : goal.returns-then-numbers-self-clause-stops_each
+returns-then-numbers-self-clause-stops_each g c f = unstopped_each (order_of g.K.KeyOrder.name g.K.KeyOrder.cmp) c.args.self (g.S.Store.facts c.args.store.now) c.args.numbers.now.next c.args.last_sequence c.args.manifest.now c.args.version.now.tables
+
+pub returns-then-numbers-gt-NUMBER_END-clause-stops_each : goal.returns-then-numbers-gt-NUMBER_END-clause-stops_each
+returns-then-numbers-gt-NUMBER_END-clause-stops_each g c f = unstopped_each (order_of g.K.KeyOrder.name g.K.KeyOrder.cmp) c.args.self (g.S.Store.facts c.args.store.now) c.args.numbers.now.next c.args.last_sequence c.args.manifest.now c.args.version.now.tables
+
+pub returns-clause-stops_each : goal.returns-clause-stops_each
+returns-clause-stops_each g c f =
+    stopped_each (order_of g.K.KeyOrder.name g.K.KeyOrder.cmp) c.args.self (g.S.Store.facts c.args.store.now) c.args.numbers.now.next c.args.last_sequence c.args.manifest.now c.args.version.now.tables
+    (numbered-later c.args.self.job.outputs c.args.self.next c.args.numbers.now.next (omega (arith, c.if-numbers-self.false)) (c.args.self.numbered (omega (arith, c.if-numbers-self.false, c.if-numbers-gt-NUMBER_END.false)))) (omega (arith, c.if-numbers-gt-NUMBER_END.false))
+    (g.S.Store.facts c.install_job.new.store) (c.install_job.ensures.stops_each f)
