@@ -1,10 +1,16 @@
 -- That there is a first machine.
-use Rattle.std.proofs.Common.{◌≡◌, ℕ, ◌+◌, ◌<◌, ◌≤◌, ◌^◌, max, Bool, false, List, [], ◌∷◌, ◌++◌, length, sum_by, Some, None, inl, inr, refl, sym, ◌∙◌, subst, arith}
+use Rattle.std.proofs.Common.{◌≡◌, ℕ, ◌+◌, ◌<◌, ◌≤◌, ◌^◌, max, Bool, false, List, [], ◌∷◌, ◌++◌, Contains, length, sum_by, Some, None, inl, inr, refl, sym, ◌∙◌, subst, arith}
 use Rattle.std.specs.List.{AllByRecursion}
 use Rattle.std.specs.Ordering.{nat_cmp}
 use Rattle.std.specs.Cmp.Lexicographic.{slice_cmp}
 use Rattle.std.specs.FinMap.{get, empty, get-empty, contains_key}
 use Rattle.store.specs.Files.{Files, Facts}
+use Rattle.db_cursor.proofs.Origins.{same_origin}
+use Rattle.db_cursor.specs.Origins.{HasOrigin}
+use Rattle.directory_writes.proofs.JobTables.{contains_among, content_at}
+use Rattle.directory_writes.proofs.SameChanges.{one_change}
+use Rattle.directory_writes.specs.Replacing.{placed_in}
+use Rattle.edits.specs.declared.field.PlacedTable.{PlacedTable}
 use Rattle.ikey.specs.Orders.{Order}
 use Rattle.ikey.specs.Views.{Contents, IsView}
 use Rattle.ikey.specs.declared.entry.Entry.{Entry}
@@ -14,6 +20,7 @@ use Rattle.edits.specs.declared.field.Field.{Field}
 use Rattle.edits.specs.declared.field.Field.TheVariants.{Comparator, LogNumber, NextFileNumber, LastSequence, CompactPointer, DeletedFile, NewFile, PreviousLogNumber}
 use Rattle.edits.specs.declared.names.FileName.{FileName}
 use Rattle.edits.specs.declared.names.FileName.TheVariants.{Current, Lock, Log, Table, OldTable, Manifest, Temporary}
+use Rattle.recover.proofs.Memberships.{one_of_tables}
 use Rattle.recover.specs.internal.Changes.{DistinctLaw}
 use Rattle.recover.specs.Directory.{Directory, IsConsistent, IsDirectory, IsEmpty, entries_in, used_in}
 use Rattle.recover.specs.internal.Laws.{OneManifestLaw}
@@ -22,6 +29,7 @@ use Rattle.recover.specs.internal.Parts.{highest_in}
 use Rattle.machine.specs.Machine.{Machine, entry_weight}
 use Rattle.recover.specs.Limits.{IsWithinLimits}
 use Rattle.engine.specs.Headline.{IsFirst, FirstLaw}
+use Rattle.engine.specs.Origins.{ComesFrom}
 use Rattle.engine.proofs.DistinctViews.{map_of, view_of}
 
 -- ---- a number that is free
@@ -80,8 +88,8 @@ none_there : (name : List ℕ) → get {R = slice_cmp nat_cmp} (empty {X = List 
 none_there name = get-empty (slice_cmp nat_cmp) name
 
 -- the machine of these entries
-abbrev begun : Facts → List Entry → Contents → ℕ → ℕ → Bool → Machine
-begun facts entries map used numbers over_limit = record {
+abbrev begun : Facts → List Entry → Contents → ℕ → ℕ → Bool → Bool → Machine
+begun facts entries map used numbers over_limit damaged = record {
   base = map;
   batches = [];
   used = used;
@@ -97,15 +105,16 @@ begun facts entries map used numbers over_limit = record {
   failures = facts.failures;
   denials = facts.denials;
   over_limit = over_limit;
+  damaged = damaged;
   first_entries = length entries;
   first_weight = sum_by entry_weight entries;
 }
 
-first : (order : Order) (facts : Facts) (entries : List Entry) (map : Contents) (used numbers : ℕ) (over_limit : Bool)
+first : (order : Order) (facts : Facts) (entries : List Entry) (map : Contents) (used numbers : ℕ) (over_limit damaged : Bool)
     → IsDirectory order facts.files entries used → IsView entries used map → IsFree order facts.files numbers → (over_limit ≡ false → IsWithinLimits order facts.files)
-    → (m : Machine) × IsFirst order facts m × (m.over_limit ≡ over_limit)
-first order facts entries map used numbers over_limit directory view free within = (
-  begun facts entries map used numbers over_limit,
+    → (m : Machine) × IsFirst order facts m × (m.over_limit ≡ over_limit) × (m.damaged ≡ damaged)
+first order facts entries map used numbers over_limit damaged directory view free within = (
+  begun facts entries map used numbers over_limit damaged,
   record {
     holds = record { entries = entries; directory = directory; view = view };
     bounds = record { made = refl; numbers = free; limits = within };
@@ -116,14 +125,28 @@ first order facts entries map used numbers over_limit directory view free within
     size = (refl, refl);
   },
   refl,
+  refl,
 )
 
 pub there_is_one : DistinctLaw → OneManifestLaw → FirstLaw
-there_is_one distinct one order facts entries used over_limit total (inl h) within =
-    first order facts entries empty used (2 ^ 64) over_limit (inl h) (subst (λ (es : List Entry). IsView es used empty) (sym h.1) (record { found = λ e newest. absurd newest.member; missing = λ key unseen. none_there key })) (free_of_empty order facts.files h.0) within
-there_is_one distinct one order facts entries used over_limit total (inr h) within =
+there_is_one distinct one order facts entries used over_limit damaged total (inl h) within =
+    first order facts entries empty used (2 ^ 64) over_limit damaged (inl h) (subst (λ (es : List Entry). IsView es used empty) (sym h.1) (record { found = λ e newest. absurd newest.member; missing = λ key unseen. none_there key })) (free_of_empty order facts.files h.0) within
+there_is_one distinct one order facts entries used over_limit damaged total (inr h) within =
     let free = some_free order facts.files h.0 one h.1 in
     let view = view_of (entries_in h.0) (used_in h.0) (distinct order facts.files h.0 total h.1) in
     let seen = subst (λ (es : List Entry). IsView es (used_in h.0) (map_of (entries_in h.0) (used_in h.0))) (sym h.2) view in
-    first order facts entries (map_of (entries_in h.0) (used_in h.0)) used free.0 over_limit (inr h)
+    first order facts entries (map_of (entries_in h.0) (used_in h.0)) used free.0 over_limit damaged (inr h)
     (subst (λ (n : ℕ). IsView entries n (map_of (entries_in h.0) (used_in h.0))) (sym h.3) seen) free.1 within
+
+-- ---- files and themselves
+
+-- each table may have come from itself
+pub comes_from_itself : (order : Order) (damaged : Bool) (files : Files) → ComesFrom order damaged files files
+comes_from_itself order damaged files = record {
+  differs = (one_change files files).0;
+  origins = λ d good placed is.
+      let content = content_at d.tables placed (contains_among (placed_in d.tables) placed (subst (λ (ps : List PlacedTable). Contains ps placed) (sym good.placed) is)) in
+      let has = one_of_tables order files d.tables content.0 good.tables content.1 in
+      subst (λ (p : PlacedTable). HasOrigin order.cmp files files p) content.2 ((same_origin order.cmp content.0.placed has.bytes).1 files files has.there has.there);
+  undamaged = λ is. refl;
+}

@@ -129,11 +129,12 @@ as_io : (m n : Machine) (most : ℕ) (e : DbError) → m.failures < n.failures �
 as_io m n most error.OutOfMemory rise h = (rise, h.0, ap (λ (x : Machine). record x { broken = true }) h.1)
 as_io m n most error.Io rise h = (rise, h.1, ap (λ (x : Machine). record x { broken = true }) h.2)
 as_io m n most error.NumbersSpent rise h = (rise, h.1.0, ap (λ (x : Machine). record x { broken = true }) h.1.1)
+as_io m n most (error.Corrupt file what) rise h = (rise, h.1.0, ap (λ (x : Machine). record x { broken = true }) h.1.1)
 as_io m n most (error.Unsupported limit) rise h = (rise, h.1.0, ap (λ (x : Machine). record x { broken = true }) h.1.1)
 as_io m n most _ rise h = absurd h
 
 rests_broken : (order : Order) (files : Files) (m : Machine) → IsAtRest order files m → IsAtRest order files (record m { broken = true })
-rests_broken order files m rest = record { meaning = rest.meaning; readable = (let r = rest.readable in record { made = r.made; numbers = r.numbers; limits = r.limits }) }
+rests_broken order files m rest = record { ideal = rest.ideal; origin = rest.origin; meaning = rest.meaning; readable = (let r = rest.readable in record { made = r.made; numbers = r.numbers; limits = r.limits }) }
 
 module _ {K : Type 0} {g : _} (order : Order) (old new : Seen) (ids : Ids) (before : OpenDb K g) where
   breaks_behind : {T : Type 0} (after : OpenDb K g) (most : ℕ) (e : DbError) → old.facts.failures < new.facts.failures → LeadsOpen order old new ids before after (λ m n. IsPiece {T = T} m most (Err e) n)

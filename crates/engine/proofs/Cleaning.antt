@@ -12,7 +12,8 @@ use Rattle.ikey.specs.Orders.{Order}
 use Rattle.memtables.specs.Changes.{IsUsed, KeepsUsed}
 use Rattle.memtables.specs.Memories.{Memories, inserts_of, logged_in, older_at, sealed_inserts}
 use Rattle.memtables.specs.Places.{MemoriesPlace, KeepsMemories}
-use Rattle.recover.specs.Directory.{Directory, IsConsistent}
+use Rattle.recover.specs.Directory.{Directory, IsConsistent, used_in}
+use Rattle.recover.specs.Logs.{logged}
 use Rattle.recover.specs.internal.Laws.{OneDirectoryLaw}
 use Rattle.recover.specs.Tables.{InTables, TableContent}
 use Rattle.recover.proofs.Adding.{table_of}
@@ -21,16 +22,22 @@ use Rattle.db_cursor.specs.internal.Scanning.{ScanIsKept}
 use Rattle.db_cursor.specs.declared.scan.Scan.{Scan}
 use Rattle.table_access.specs.Tables.{Seen, IsSound, KeepsOf, SoundLasts}
 use Rattle.table_access.proofs.Sounding.{same_file, same_table}
-use Rattle.store.specs.Files.{Facts}
+use Rattle.store.specs.Files.{Facts, Files}
 use Rattle.table.specs.Reading.{HasFile}
+use Rattle.db_cursor.proofs.Origins.{origin_stays}
+use Rattle.directory_writes.proofs.JobTables.{contains_among, content_at}
+use Rattle.directory_writes.proofs.SameChanges.{same_change}
+use Rattle.directory_writes.specs.Differing.{DiffersInTables, IsSameChange, OfEach}
+use Rattle.directory_writes.specs.Replacing.{placed_in}
 use Rattle.directory_writes.specs.internal.Calls.{LeavesFile}
 use Rattle.directory_writes.specs.internal.Removal.{AreOfDirectory, KeepsParts, KeepsTable, ListsToClose, MayLose}
 use Rattle.directory_writes.specs.Removal.{HasBoth}
 use Rattle.opening.specs.internal.Directories.{CanAppend}
 use Rattle.engine.specs.OpenDb.{OpenDb, whole_of}
 use Rattle.engine.specs.InUse.{IsJobTable, IsMemoryUsed, IsTableUsed}
-use Rattle.reader.specs.internal.Iterators.{IsWalk}
+use Rattle.engine.specs.Origins.{ComesFrom}
 use Rattle.engine.specs.Reads.{kept_at}
+use Rattle.engine.specs.internal.Live.{IsLiveWalk}
 use Rattle.machine.specs.Machine.{Machine, Walk}
 use Rattle.running_job.specs.internal.Staying.{LeavesWhole}
 use Rattle.engine.proofs.Synced.{lost_kept, lost_table, synced_still}
@@ -38,6 +45,7 @@ use Rattle.engine.specs.internal.Standing.{HasLog, HasTables, IsServing}
 use Rattle.engine.specs.internal.Pieces.{ClosesTables}
 use Rattle.engine.specs.Working.{numbers_of}
 use Rattle.engine.proofs.Compacting.{each_job, goes_beside_read, have_itself, known_itself, version_unowned}
+use Rattle.engine.proofs.OpenOrigins.{comes_behind}
 use Rattle.engine.proofs.InUse.{memory_used, read_used, table_used}
 use Rattle.engine.proofs.Pieces.{limits_stay, made_still, walks_each}
 use Rattle.engine.proofs.Reading.{has_placed, read_by}
@@ -156,8 +164,15 @@ module _ {K : Type 0} {g : _} (order : Order) (kept : (scan : Scan K g) → Scan
       -- ---- what stands
 
       module _ (m : Machine) (serving : IsServing order old db m)
-          (parts : (d : Directory) → IsConsistent order old.facts.files d → AreOfDirectory (numbers_of db.directory) in_use d → KeepsParts order old.facts.files facts.files in_use d) where
-        abbrev a : CanAppend order old.facts.files db.log.number db.log.end serving.contents (logged_in db.memory) db.memory.last
+          (parts : OfEach (λ whole left. (d : Directory) → IsConsistent order whole d → AreOfDirectory (numbers_of db.directory) in_use d → KeepsParts order whole left in_use d) old.facts.files facts.files) where
+        abbrev changed : (left : Files) × IsSameChange old.facts.files facts.files serving.ideal left × DiffersInTables facts.files left
+        changed = same_change old.facts.files facts.files serving.ideal serving.origin.differs
+
+        -- what is left of the directory from which the files may come
+        abbrev left : Files
+        left = changed.0
+
+        abbrev a : CanAppend order serving.ideal db.log.number db.log.end serving.contents (logged_in db.memory) db.memory.last
         a = serving.log.directory
 
         abbrev d : Directory
@@ -172,19 +187,28 @@ module _ {K : Type 0} {g : _} (order : Order) (kept : (scan : Scan K g) → Scan
         numbers : AreOfDirectory (numbers_of db.directory) in_use d
         numbers = record { manifest = serving.log.knows.number; log_number = sym serving.log.knows.first_log; previous_log_number = sym serving.log.knows.previous_log; tables = listed }
 
-        kept_parts : KeepsParts order old.facts.files facts.files in_use d
-        kept_parts = parts d a.consistent numbers
+        kept_parts : KeepsParts order serving.ideal left in_use d
+        kept_parts = parts serving.ideal left serving.origin.differs changed.1 d a.consistent numbers
 
-        keeps_each : (id : ℕ) (scan : Scan K g) (walk : Walk) → kept_at db.iterators id ≡ Some scan → IsWalk order.cmp m.over_limit (whole_of old db) scan walk → KeepsScan order.cmp scan (whole_of old db) (whole_of new after)
+        -- each of its tables is used, and so reads as before in both
+        comes_cleaned : ComesFrom order m.damaged facts.files left
+        comes_cleaned = comes_behind order m.damaged old.facts.files facts.files serving.ideal left d.tables (logged d.logs) (used_in d) serving.origin changed.1 (inr (d, kept_parts.consistent, refl, refl, refl)) (λ e again same placed is.
+            let found = content_at d.tables placed (contains_among (placed_in d.tables) placed is) in
+            let numbered = subst (λ (p : PlacedTable). IsNumbered p.table.number) found.2 (table_of order serving.ideal d.tables found.0 a.consistent.tables found.1) in
+            let used_one = subst (λ (p : PlacedTable). in_use p.table.number) found.2 (listed found.0 found.1) in
+            origin_stays order.cmp old.facts.files facts.files serving.ideal left placed (used_same placed.table.number numbered used_one).1 (kept_parts.tables placed.table.number numbered used_one)
+            (serving.origin.origins d a.consistent placed (subst (λ (ps : List PlacedTable). Contains ps placed) a.consistent.placed is)))
+
+        keeps_each : (id : ℕ) (scan : Scan K g) (walk : Walk) → kept_at db.iterators id ≡ Some scan → IsLiveWalk order.cmp m.over_limit m.damaged (whole_of old db) scan walk → KeepsScan order.cmp scan (whole_of old db) (whole_of new after)
         keeps_each id scan walk there is = record {
           memory = λ cursor reads within. drops cursor db.memory memory used.others (used.kept cursor.generation (inr (memory_used db.tables db.job db.iterators id scan cursor.generation there reads)));
           files = λ number reads.
               let table = is.tables number reads in
-              kept_parts.tables number table.1 (read_used db.tables db.job db.iterators id scan number there table.0);
+              (used_same number table.1 (read_used db.tables db.job db.iterators id scan number there table.0)).1;
           sound = λ h. sound_cleaned serving.contents serving.tables;
         }
 
-        abbrev log_cleaned : HasLog order facts.files serving.contents after
+        abbrev log_cleaned : HasLog order left serving.contents after
         log_cleaned =
             let logs = serving.log.logs in
             let knows = serving.log.knows in
@@ -215,6 +239,8 @@ module _ {K : Type 0} {g : _} (order : Order) (kept : (scan : Scan K g) → Scan
         serving_cleaned = record {
           whole = serving.whole;
           certain = serving.certain;
+          ideal = left;
+          origin = comes_cleaned;
           contents = serving.contents;
           log = log_cleaned;
           tables = record { version = serving.tables.version; in_order = serving.tables.in_order; sound = sound_cleaned serving.contents serving.tables; drawn = drawn_cleaned serving.contents serving.tables };
@@ -228,10 +254,10 @@ module _ {K : Type 0} {g : _} (order : Order) (kept : (scan : Scan K g) → Scan
           iterators = walks_each order kept (whole_of old db) (whole_of new after) db.iterators m keeps_each (omega (arith, last_same)) serving.iterators;
           accounted = rw (logged_same) serving.accounted;
           readable = record {
-            made = made_still order old.facts.files facts.files d d m a.consistent kept_parts.consistent serving.readable.made;
+            made = made_still order serving.ideal left d d m a.consistent kept_parts.consistent serving.readable.made;
             numbers = kept_parts.free m.numbers serving.readable.numbers;
-            limits = λ is. limits_stay order old.facts.files facts.files d one a.consistent kept_parts.consistent
-                (λ content i. kept_parts.tables content.placed.table.number (table_of order old.facts.files d.tables content a.consistent.tables i) (listed content i)) (serving.readable.limits is);
+            limits = λ is. limits_stay order serving.ideal left d one a.consistent kept_parts.consistent
+                (λ content i. kept_parts.tables content.placed.table.number (table_of order serving.ideal d.tables content a.consistent.tables i) (listed content i)) (serving.readable.limits is);
           };
           numbers = serving.numbers;
           synced = synced_still old.facts facts db.log db.directory db.directory db.tables refl refl refl refl (omega arith) serving.synced
@@ -239,9 +265,9 @@ module _ {K : Type 0} {g : _} (order : Order) (kept : (scan : Scan K g) → Scan
               (λ p there known. lost_table old.facts facts p.table.number (loses (name_of (Table p.table.number))) (loses (name_of (OldTable p.table.number)))
               (used_same p.table.number known.0 (table_used db.tables db.job db.iterators p.table.number (p, there, refl))).0);
           job = each_job _ _ db.job (λ work is c.
-              goes_beside_read order (whole_of old db) (whole_of new after) db.directory.numbers.next db.directory.numbers.next db.snapshots db.snapshots db.iterators db.iterators db.tables d d work c
+              goes_beside_read order (whole_of old db) (whole_of new after) db.directory.numbers.next db.directory.numbers.next db.snapshots db.snapshots db.iterators db.iterators db.tables m.damaged serving.ideal left d d work c
               a.consistent serving.log.knows.free db.directory.numbers.in_range.1 (omega arith) (λ number numbered below one. whole_used number numbered (inr (subst (λ (o : Option (OpenJob K g)). IsJobTable o number) (sym is) one)))
-              (λ h. sound_cleaned serving.contents serving.tables) (λ number kept_now. inl (fewer_kept number kept_now)) refl refl
+              (λ h. sound_cleaned serving.contents serving.tables) (λ number kept_now. inl (fewer_kept number kept_now)) changed.1 refl refl
               (omega (arith, last_same)) (known_itself db.snapshots db.memory.last) (have_itself db.iterators db.tables)
-              (λ number. version_unowned work.job.outputs order old.facts.files d serving.contents db.tables number a.consistent a.in_tables serving.tables.version c.running.unused)) serving.job;
+              (λ number. version_unowned work.job.outputs order serving.ideal d serving.contents db.tables number a.consistent a.in_tables serving.tables.version c.running.unused)) serving.job;
         }

@@ -7,7 +7,7 @@ use Rattle.std.specs.List.{AllByRecursion}
 use Rattle.std.specs.List.Sorted.{IsPermutation}
 use Rattle.std.specs.Ordering.{nat_cmp, is_eq}
 use Rattle.compact.specs.Laws.{SeesAsOne}
-use Rattle.compact.specs.Outputs.{AreNumbered, IsOwn, TablesWritten}
+use Rattle.compact.specs.Outputs.{AreNumbered, IsOwn, TablesWritten, table_name}
 use Rattle.edits.proofs.Orders.{unused, unused_from}
 use Rattle.edits.specs.Edit.{IsTableProper}
 use Rattle.edits.specs.Layout.{inserted, is_before, is_used}
@@ -16,13 +16,13 @@ use Rattle.edits.specs.Names.{IsNumbered, name_of}
 use Rattle.edits.specs.declared.field.PlacedTable.{PlacedTable}
 use Rattle.edits.specs.declared.field.TableFile.{TableFile}
 use Rattle.edits.specs.declared.names.FileName.TheVariants.{OldTable, Table}
-use Rattle.ikey.specs.Entries.{entry_of}
+use Rattle.ikey.specs.Entries.{InternalEntry, entry_of}
 use Rattle.ikey.specs.Orders.{Order}
 use Rattle.ikey.specs.Views.{Among}
-use Rattle.running_job.specs.Running.{IsRunning, is_input, is_to_write}
-use Rattle.running_job.specs.internal.Staying.{LeavesTables, LeavesWhole}
+use Rattle.running_job.specs.Running.{IsRunning, deep_of, is_input, is_to_write}
+use Rattle.running_job.specs.internal.Staying.{LeavesInputs, LeavesWhole}
 use Rattle.running_job.specs.declared.open_job.OpenJob.{OpenJob}
-use Rattle.running_job.proofs.Staying.{stays_beside}
+use Rattle.running_job.proofs.Staying.{may_stay, stays}
 use Rattle.recover.proofs.Adding.{table_of}
 use Rattle.recover.proofs.Memberships.{from_chosen}
 use Rattle.recover.specs.Replacing.{AreParted}
@@ -39,10 +39,13 @@ use Rattle.store.specs.Files.{Files}
 use Rattle.directory_writes.proofs.JobTables.{among_contains, among_placed, contains_among, content_at}
 use Rattle.directory_writes.proofs.JobWritten.{hand_below}
 use Rattle.directory_writes.proofs.TableFiles.{below_placed}
-use Rattle.directory_writes.specs.Replacing.{placed_in, OwnsNone}
+use Rattle.directory_writes.specs.Differing.{IsSameChange}
+use Rattle.directory_writes.specs.Replacing.{placed_in, IsPlanned, OwnsNone}
+use Rattle.directory_writes.specs.internal.Each.{HasSameOutputs}
+use Rattle.db_cursor.specs.Inputs.{IsMergeIntact}
 use Rattle.versions.proofs.Pairs.{among_contained}
 use Rattle.versions.specs.Levels.{ListsSameTables}
-use Rattle.engine.specs.internal.Compacting.{IsCompacting}
+use Rattle.engine.specs.internal.Compacting.{IsCompacting, IsRunningOver}
 use Rattle.engine.specs.InUse.{IsJobTable}
 use Rattle.engine.specs.Reads.{kept_at}
 use Rattle.engine.proofs.InUse.{as_used}
@@ -174,10 +177,38 @@ module _ {K : Type 0} {g : _} where
     | inr old ↦ inl (q, scan, old, refl)
   ]
 
+-- ---- without damage
+
+-- a job is under way over the contents that its inputs have
+abbrev pub running_whole : {K : Type 0} {g : _} (order : Order) (damaged : Bool) (whole : Whole) (ideal : Files) (next : ℕ) (d : Directory) (work : OpenJob K g) (came left : List InternalEntry) → damaged ≡ false
+    → IsRunningOver order damaged whole ideal next d work came left → IsRunning order whole next d work came left
+running_whole order damaged whole ideal next d work came left is r =
+    let h = r.may in
+    record {
+      inputs = r.inputs;
+      rest = r.rest;
+      planned = r.planned;
+      entries = h.entries;
+      own_sequences = h.own_sequences;
+      merging = h.merging;
+      goes_on = h.goes_on;
+      stands = h.stands;
+      no_memory = h.no_memory;
+      over = h.over;
+      outside = h.outside;
+      unkept = h.unkept;
+      numbered = h.numbered;
+      drawn = h.drawn;
+      counted = h.counted;
+      unused = r.unused;
+      limits = h.limits;
+      intact = r.intact is;
+    }
+
 -- ---- it goes on beside what has changed
 
-module _ {K : Type 0} {g : _} (order : Order) (old new : Whole) (next more : ℕ) (snapshots kept : BTreeMap ℕ ℕ) (iterators open_ones : BTreeMap ℕ (Scan K g)) (tables : List PlacedTable) (d e : Directory) (work : OpenJob K g)
-    (c : IsCompacting order old next snapshots iterators d work) where
+module _ {K : Type 0} {g : _} (order : Order) (old new : Whole) (next more : ℕ) (snapshots kept : BTreeMap ℕ ℕ) (iterators open_ones : BTreeMap ℕ (Scan K g)) (tables : List PlacedTable) (damaged : Bool) (ideal after : Files) (d e : Directory) (work : OpenJob K g)
+    (c : IsCompacting order damaged old ideal next snapshots iterators d work) where
   seen_on : AreKnown snapshots old.memory.last kept → (id sequence : ℕ) → kept_at kept id ≡ Some sequence → SeesAsOne (map entry_of (c.came ++ c.left)) work.job.selection.snapshots sequence
   seen_on known id sequence is = elim (known id sequence is) [
     | inl before ↦ c.seen before.0 sequence before.1
@@ -190,9 +221,9 @@ module _ {K : Type 0} {g : _} (order : Order) (old new : Whole) (next more : ℕ
     | inr same ↦ none number (subst (λ (ts : List PlacedTable). ListsNumber ts number) same has) own
   ]
 
-  pub goes_on_as : IsRunning order new more e work c.came c.left → old.memory.last ≤ new.memory.last → AreKnown snapshots old.memory.last kept → HaveKnown iterators tables open_ones
+  pub goes_on_as : IsRunningOver order damaged new after more e work c.came c.left → old.memory.last ≤ new.memory.last → AreKnown snapshots old.memory.last kept → HaveKnown iterators tables open_ones
       → ((number : ℕ) → ListsNumber tables number → IsOwn work.job.outputs number → ⊥)
-      → IsCompacting order new more kept open_ones e work
+      → IsCompacting order damaged new after more kept open_ones e work
   goes_on_as running last known have none = record {
     came = c.came;
     left = c.left;
@@ -216,12 +247,12 @@ module _ {K : Type 0} {g : _} (order : Order) (old new : Whole) (next more : ℕ
   by_names : KeepsJobFiles → KeepsJobTables
   by_names files number numbered below one = let both = files number numbered below one in (both.0, same_table old.seen.facts.files new.seen.facts.files number both.0.0 both.1)
 
-  module _ (consistent : IsConsistent order old.seen.facts.files d) (free : IsFree order old.seen.facts.files next) (fits : next < 2 ^ 64) where
+  module _ (consistent : IsConsistent order ideal d) (free : IsFree order ideal next) (fits : next < 2 ^ 64) where
     pub is_input_number : (number : ℕ) → is_input work number → IsNumbered number × (number < next)
-    is_input_number number is = input_number order old.seen.facts.files d next work.job.plan.inputs.items c.running.inputs c.running.rest consistent free c.running.planned.parted c.running.planned.planned number is
+    is_input_number number is = input_number order ideal d next work.job.plan.inputs.items c.running.inputs c.running.rest consistent free c.running.planned.parted c.running.planned.planned number is
 
     pub is_own_number : (number : ℕ) → IsOwn work.job.outputs number → IsNumbered number × (number < next)
-    is_own_number number own = let n = own_number work.job.outputs next number c.running.numbered own in ((n.0, omega (arith, n.1, fits)), n.1)
+    is_own_number number own = let n = own_number work.job.outputs next number c.running.may.numbered own in ((n.0, omega (arith, n.1, fits)), n.1)
 
     -- a table that isn't the job's, and has a number that was drawn, isn't one that the job writes
     pub not_to_write : (number : ℕ) → number < next → (IsOwn work.job.outputs number → ⊥) → is_to_write work next number → ⊥
@@ -232,9 +263,9 @@ module _ {K : Type 0} {g : _} (order : Order) (old new : Whole) (next more : ℕ
     to_write_before le number (inl at) = inl at
     to_write_before le number (inr come) = inr (omega (arith, le, come.0), come.1)
 
-    pub leaves_tables : next ≤ more → KeepsJobTables → (IsSound order.cmp old.seen → IsSound order.cmp new.seen) → ((number : ℕ) → KeepsOf new.seen number → KeepsOf old.seen number ⊎ ((number < next) × (IsOwn work.job.outputs number → ⊥)))
-        → e.tables ≡ d.tables → e.layout.tables.items ≡ d.layout.tables.items → LeavesTables order work old new next more d e
-    leaves_tables le files sound gathered tables_same listed = record {
+    pub leaves_inputs : next ≤ more → KeepsJobTables → (IsSound order.cmp old.seen → IsSound order.cmp new.seen) → ((number : ℕ) → KeepsOf new.seen number → KeepsOf old.seen number ⊎ ((number < next) × (IsOwn work.job.outputs number → ⊥)))
+        → LeavesInputs order work old new next more
+    leaves_inputs le files sound gathered = record {
       drawn = le;
       files = λ number is.
           let n = is_input_number number is in
@@ -242,21 +273,58 @@ module _ {K : Type 0} {g : _} (order : Order) (old new : Whole) (next more : ℕ
       outputs = λ number own. let n = is_own_number number own in (files number n.0 n.1 (inr own)).0;
       sound = sound;
       unkept = λ number is mine. elim (gathered number is) [
-        | inl before ↦ c.running.unkept number before (to_write_before le number mine)
+        | inl before ↦ c.running.may.unkept number before (to_write_before le number mine)
         | inr other ↦ not_to_write number other.0 other.1 (to_write_before le number mine)
       ];
-      tables = tables_same;
-      listed = listed;
     }
+
+    -- what it wrote is the same in both still
+    same_still : KeepsJobTables → IsSameChange old.seen.facts.files new.seen.facts.files ideal after → HasSameOutputs work.job.outputs new.seen.facts.files after
+    same_still files change number own =
+        let n = is_own_number number own in
+        let stayed = (files number n.0 n.1 (inr own)).0.0 in
+        change.stays (table_name number) stayed ∙ c.running.same number own ∙ sym stayed
+
+    -- and no block is torn that wasn't
+    intact_still : LeavesInputs order work old new next more → damaged ≡ false → IsMergeIntact order.cmp work.job.cursor new
+    intact_still leaves is = (stays order work old new next more d d c.came c.left (running_whole order damaged old ideal next d work c.came c.left is c.running) (record {
+      drawn = leaves.drawn;
+      files = leaves.files;
+      outputs = leaves.outputs;
+      sound = leaves.sound;
+      unkept = leaves.unkept;
+      rest = c.running.rest;
+      planned = c.running.planned;
+      unused = c.running.unused;
+    })).intact
+
+    -- it is under way over what there is then
+    pub runs_still : next ≤ more → KeepsJobTables → (IsSound order.cmp old.seen → IsSound order.cmp new.seen) → ((number : ℕ) → KeepsOf new.seen number → KeepsOf old.seen number ⊎ ((number < next) × (IsOwn work.job.outputs number → ⊥)))
+        → IsSameChange old.seen.facts.files new.seen.facts.files ideal after → (rest : List TableContent) → IsPlanned order (deep_of order.cmp work) work.job.plan e.tables c.running.inputs rest → OwnsNone work.job.outputs e.layout.tables.items
+        → IsRunningOver order damaged new after more e work c.came c.left
+    runs_still le files sound gathered change rest planned unused =
+        let leaves = leaves_inputs le files sound gathered in
+        record {
+          inputs = c.running.inputs;
+          rest = rest;
+          planned = planned;
+          unused = unused;
+          may = may_stay order work old new next more c.running.inputs c.came c.left c.running.may leaves;
+          same = same_still files change;
+          intact = intact_still leaves;
+        }
 
     -- so it is where the directory has the same tables
     pub goes_beside_read : next ≤ more → KeepsJobTables → (IsSound order.cmp old.seen → IsSound order.cmp new.seen) → ((number : ℕ) → KeepsOf new.seen number → KeepsOf old.seen number ⊎ ((number < next) × (IsOwn work.job.outputs number → ⊥)))
-        → e.tables ≡ d.tables → e.layout.tables.items ≡ d.layout.tables.items → old.memory.last ≤ new.memory.last → AreKnown snapshots old.memory.last kept → HaveKnown iterators tables open_ones
-        → ((number : ℕ) → ListsNumber tables number → IsOwn work.job.outputs number → ⊥) → IsCompacting order new more kept open_ones e work
-    goes_beside_read le files sound gathered tables_same listed last known have none =
-        goes_on_as (stays_beside order work old new next more d e c.came c.left c.running (leaves_tables le files sound gathered tables_same listed)) last known have none
+        → IsSameChange old.seen.facts.files new.seen.facts.files ideal after → e.tables ≡ d.tables → e.layout.tables.items ≡ d.layout.tables.items → old.memory.last ≤ new.memory.last → AreKnown snapshots old.memory.last kept → HaveKnown iterators tables open_ones
+        → ((number : ℕ) → ListsNumber tables number → IsOwn work.job.outputs number → ⊥) → IsCompacting order damaged new after more kept open_ones e work
+    goes_beside_read le files sound gathered change tables_same listed last known have none =
+        goes_on_as
+        (runs_still le files sound gathered change c.running.rest
+        (subst (λ (cs : List TableContent). IsPlanned order (deep_of order.cmp work) work.job.plan cs c.running.inputs c.running.rest) (sym tables_same) c.running.planned)
+        (subst (λ (ps : List PlacedTable). OwnsNone work.job.outputs ps) (sym listed) c.running.unused)) last known have none
 
     pub goes_beside : next ≤ more → KeepsJobFiles → (IsSound order.cmp old.seen → IsSound order.cmp new.seen) → ((number : ℕ) → KeepsOf new.seen number → KeepsOf old.seen number ⊎ ((number < next) × (IsOwn work.job.outputs number → ⊥)))
-        → e.tables ≡ d.tables → e.layout.tables.items ≡ d.layout.tables.items → old.memory.last ≤ new.memory.last → AreKnown snapshots old.memory.last kept → HaveKnown iterators tables open_ones
-        → ((number : ℕ) → ListsNumber tables number → IsOwn work.job.outputs number → ⊥) → IsCompacting order new more kept open_ones e work
-    goes_beside le files sound gathered tables_same listed last known have none = goes_beside_read le (by_names files) sound gathered tables_same listed last known have none
+        → IsSameChange old.seen.facts.files new.seen.facts.files ideal after → e.tables ≡ d.tables → e.layout.tables.items ≡ d.layout.tables.items → old.memory.last ≤ new.memory.last → AreKnown snapshots old.memory.last kept → HaveKnown iterators tables open_ones
+        → ((number : ℕ) → ListsNumber tables number → IsOwn work.job.outputs number → ⊥) → IsCompacting order damaged new after more kept open_ones e work
+    goes_beside le files sound gathered change tables_same listed last known have none = goes_beside_read le (by_names files) sound gathered change tables_same listed last known have none

@@ -1,5 +1,5 @@
 -- What a compaction that has come to its end leaves of the levels, and the machine's answer to it.
-use Rattle.std.proofs.Common.{◌≡◌, ◌==◌, ◌<◌, ◌≤◌, ℕ, suc, Bool, true, false, nat_lt, if◌then◌else◌, List, [], ◌∷◌, Option, Some, None, MatchOption, Result, Ok, Err, MatchResult, OnOk, Contains, inl, inr, refl, sym, ap, subst, ◌∙◌, arith}
+use Rattle.std.proofs.Common.{◌≡◌, ◌==◌, ◌<◌, ◌≤◌, ℕ, suc, Bool, true, false, nat_lt, List, [], ◌∷◌, Option, Some, None, MatchOption, Result, Ok, Err, MatchResult, OnOk, Contains, inl, inr, refl, sym, ap, subst, ◌∙◌, arith, if◌then◌else◌}
 use Rattle.std.specs.Option.{option_or}
 use Rattle.std.specs.declared.cmp.Ordering.{Ordering}
 use Rattle.std.proofs.lemmas.Bool.{cond_both, eq-eqb, eqb-true, lt-ltb, le-ltb}
@@ -33,8 +33,7 @@ use Rattle.engine.specs.internal.Standing.{StandsClosed}
 use Rattle.machine.specs.declared.command.Answer.TheVariants.{Refused}
 use Rattle.machine.specs.Upkeep.{Compacted, CompactsAll, CompactsLevel, Draws, UpkeepRefused, most_drawn}
 use Rattle.engine.specs.internal.Pieces.{IsPiece, MayRefusePiece}
-use Rattle.engine.proofs.Steps.{broken_cause, broken_of, by_cause, closed_cause, denies_none, no_cause, serving_of, without_cause}
-use Rattle.engine.proofs.WriteSteps.{stays_open}
+use Rattle.engine.proofs.Steps.{broken_cause, broken_of, by_cause, closed_cause, denies_none, no_cause, serving_of, without_cause, stays_open}
 
 -- ---- levels
 

@@ -28,8 +28,7 @@ use Rattle.engine.specs.ExactFiles.{HasExactlyLive, IsLiveAtEase, LeavesExactlyL
 use Rattle.engine.specs.internal.Leading.{LeadsOpen}
 use Rattle.engine.specs.OpenDb.{OpenDb, whole_of}
 use Rattle.engine.specs.InUse.{IsJobTable, IsTableRead, IsTableUsed}
-use Rattle.reader.specs.internal.Iterators.{IsWalk}
-use Rattle.engine.specs.internal.Live.{IsBoth}
+use Rattle.engine.specs.internal.Live.{IsBoth, IsLiveWalk}
 use Rattle.engine.specs.Reads.{kept_at}
 use Rattle.machine.specs.Machine.{Machine}
 use Rattle.engine.specs.OptionValues.{OptionValues}
@@ -37,7 +36,9 @@ use Rattle.engine.specs.internal.Standing.{IsServing}
 use Rattle.machine.specs.Upkeep.{Works}
 use Rattle.engine.specs.Working.{DoesWork, HasLiveOnly, IsLiveIn, work_answer}
 use Rattle.engine.proofs.Compacting.{all_contains}
+use Rattle.engine.proofs.Flags.{works_flag}
 use Rattle.engine.proofs.InUse.{as_listed}
+use Rattle.engine.proofs.Origins.{undamaged_serving}
 use Rattle.engine.proofs.Steps.{serving_of}
 
 some_of : {X : Type 0} (o : Option X) (x : X) → o ≡ Some x → IsSome o
@@ -52,16 +53,35 @@ module _ {K : Type 0} {g : _} (order : Order) (source : Seen) (db : OpenDb K g) 
   abbrev d : Directory
   d = serving.log.directory.directory
 
+  table_of_version : (number : ℕ) → HasNumber number db.tables → (content : TableContent) × HasTable order serving.ideal content × (content.placed.table.number ≡ number)
+  table_of_version number has =
+      let a = serving.log.directory in
+      let listed = as_listed db.tables number has in
+      let here : Contains (placed_in serving.contents) listed.0 = all_contains (Contains (placed_in serving.contents)) db.tables listed.0 serving.tables.version.only listed.1 in
+      let content = content_at d.tables listed.0 (contains_among (placed_in d.tables) listed.0 (subst (λ (contents : List TableContent). Contains (placed_in contents) listed.0) a.in_tables here)) in
+      (content.0, one_of_tables order serving.ideal d.tables content.0 a.consistent.tables content.1, ap (λ (p : PlacedTable). p.table.number) content.2 ∙ listed.2)
+
+  pub table_numbered : (number : ℕ) → HasNumber number db.tables → IsNumbered number
+  table_numbered number has = let found = table_of_version number has in subst IsNumbered found.2 found.1.numbered
+
+-- So without damage, where the directory is the files themselves.
+module _ {K : Type 0} {g : _} (order : Order) (source : Seen) (db : OpenDb K g) (m : Machine) (undamaged : m.damaged ≡ false) (was : IsServing order source db m) where
+  abbrev serving : IsServing order source db m
+  serving = undamaged_serving order source db m undamaged was
+
+  abbrev parts : Directory
+  parts = serving.log.directory.directory
+
   -- the only log that is live
   live_log : db.memory.sealed ≡ None → (n : ℕ) → IsNumbered n → contains_key source.facts.files (name_of (Log n)) ≡ true → (db.directory.first_log ≤ n) ⊎ (n ≡ db.directory.previous_log) → n ≡ db.log.number
   live_log none n numbered there live =
       let knows = serving.log.knows in
       let logs = serving.log.logs in
-      let is_live : IsLive d.layout n = elim live [
+      let is_live : IsLive parts.layout n = elim live [
         | inl le ↦ inl (let is = knows.first_log in omega (arith, le, is))
         | inr is ↦ inr (is ∙ sym knows.previous_log, numbered.0)
       ] in
-      let alone : d.logs ≡ logs.current ∷ [] = logs.logs ∙ ap (λ (front : List LogContent). front ++ logs.current ∷ []) (logs.front none) in
+      let alone : parts.logs ≡ logs.current ∷ [] = logs.logs ∙ ap (λ (front : List LogContent). front ++ logs.current ∷ []) (logs.front none) in
       elim (subst (λ (contents : List LogContent). InLogs contents n) alone (serving.log.directory.consistent.all n numbered is_live there)) [
         | inl is ↦ is ∙ logs.number
         | inr other ↦ absurd other
@@ -81,25 +101,14 @@ module _ {K : Type 0} {g : _} (order : Order) (source : Seen) (db : OpenDb K g) 
   live_at_ease idle none (Manifest n) named there live = live
   live_at_ease idle none (Temporary n) named there live = live
 
-  table_of_version : (number : ℕ) → HasNumber number db.tables → (content : TableContent) × HasTable order source.facts.files content × (content.placed.table.number ≡ number)
-  table_of_version number has =
-      let a = serving.log.directory in
-      let listed = as_listed db.tables number has in
-      let here : Contains (placed_in serving.contents) listed.0 = all_contains (Contains (placed_in serving.contents)) db.tables listed.0 serving.tables.version.only listed.1 in
-      let content = content_at d.tables listed.0 (contains_among (placed_in d.tables) listed.0 (subst (λ (contents : List TableContent). Contains (placed_in contents) listed.0) a.in_tables here)) in
-      (content.0, one_of_tables order source.facts.files d.tables content.0 a.consistent.tables content.1, ap (λ (p : PlacedTable). p.table.number) content.2 ∙ listed.2)
-
-  pub table_numbered : (number : ℕ) → HasNumber number db.tables → IsNumbered number
-  table_numbered number has = let found = table_of_version number has in subst IsNumbered found.2 found.1.numbered
-
   table_there : (number : ℕ) → HasNumber number db.tables → IsSome (table_at source.facts.files number)
   table_there number has =
-      let found = table_of_version number has in
+      let found = table_of_version order source db m serving number has in
       subst (λ (k : ℕ). IsSome (table_at source.facts.files k)) found.2 (some_of (table_at source.facts.files found.0.placed.table.number) found.1.bytes found.1.there)
 
   pinned_there : (id : ℕ) (scan : Scan K g) → kept_at db.iterators id ≡ Some scan → (number : ℕ) → HasNumber number (tables_of scan) → IsSome (table_at source.facts.files number)
   pinned_there id scan there number has =
-      let walk = both_of (IsWalk order.cmp m.over_limit (whole_of source db)) scan (kept_at db.iterators id) (lookup (nat_eq id) m.iterators) there (serving.iterators id) in
+      let walk = both_of (IsLiveWalk order.cmp m.over_limit m.damaged (whole_of source db)) scan (kept_at db.iterators id) (lookup (nat_eq id) m.iterators) there (serving.iterators id) in
       (walk.1.tables number (inl (as_listed (tables_of scan) number has))).2
 
   pub exactly_live : db.job ≡ None → db.memory.sealed ≡ None → HasLiveOnly source.facts.files db → HasExactlyLive source.facts.files db
@@ -110,7 +119,7 @@ module _ {K : Type 0} {g : _} (order : Order) (source : Seen) (db : OpenDb K g) 
       record {
         only = λ file named there. live_at_ease idle none file named there (live file named there);
         current = some_of (get source.facts.files (name_of Current)) _ manifest.current;
-        manifest = subst (λ (k : ℕ). IsSome (get source.facts.files (name_of (Manifest k)))) (sym known) (some_of (get source.facts.files (name_of (Manifest d.manifest))) manifest.bytes manifest.there);
+        manifest = subst (λ (k : ℕ). IsSome (get source.facts.files (name_of (Manifest k)))) (sym known) (some_of (get source.facts.files (name_of (Manifest parts.manifest))) manifest.bytes manifest.there);
         log = some_of (get source.facts.files (name_of (Log db.log.number))) a.ends.bytes a.ends.there;
         tables = table_there;
         pinned = pinned_there;
@@ -123,7 +132,8 @@ pub leaves_exactly : {K : Type 0} {g : _} (order : Order) (old new : Seen) (befo
     → ((ids : Ids) → LeadsOpen order old new ids before after (λ m n. Works m budget (work_answer (Ok done)) n)) → (IsIdle (Ok done) → after.broken ≡ false)
     → (IsIdle (Ok done) → IsTrue new.facts.faithful → new.facts.failures ≡ old.facts.failures → HasLiveOnly new.facts.files after) → DoesWork order.cmp options budget before after (Ok done) → LeavesExactlyLive order old new before after (Ok done)
 leaves_exactly order old new before after options budget progress.Idle step whole tidy does is f same ids m s =
-    let moved = (step ids).moved f m s in
+    let moved = (step ids).moved f m s.stands in
+    let still = works_flag m moved.0 budget (work_answer (Ok progress.Idle)) moved.1 ∙ s.undamaged in
     let ease = does.1.ease in
-    exactly_live order new after moved.0 (serving_of order new ids after moved.0 (whole is) moved.2) ease.idle ease.none (tidy is f same)
+    exactly_live order new after moved.0 still (serving_of order new ids after moved.0 (whole is) moved.2) ease.idle ease.none (tidy is f same)
 leaves_exactly order old new before after options budget progress.Worked step whole tidy does is f same ids m s = absurd (cc)

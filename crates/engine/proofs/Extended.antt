@@ -1,17 +1,32 @@
 -- What a batch behind the last log leaves of what a database knows of its directory.
-use Rattle.std.proofs.Common.{◌≡◌, ℕ, List, [], ◌∷◌, ◌++◌, length, refl, sym, ap, subst, ◌∙◌, arith}
+use Rattle.std.proofs.Common.{◌≡◌, ◌<◌, ℕ, Bool, false, List, [], ◌∷◌, ◌++◌, Contains, length, inl, inr, refl, sym, ap, subst, ◌∙◌, arith}
 use Rattle.std.proofs.lemmas.List.{length-append}
+use Rattle.std.specs.FinMap.{get}
+use Rattle.db_cursor.proofs.Origins.{origin_left, same_origin}
+use Rattle.db_cursor.specs.Origins.{HasOrigin}
+use Rattle.directory_writes.proofs.JobTables.{among_contains, among_placed, contains_among, content_at}
+use Rattle.directory_writes.proofs.SameChanges.{differs_after, one_change}
+use Rattle.directory_writes.specs.Differing.{IsSameChange}
+use Rattle.directory_writes.specs.Replacing.{placed_in}
+use Rattle.edits.specs.Names.{IsNumbered}
+use Rattle.edits.specs.declared.field.PlacedTable.{PlacedTable}
 use Rattle.ikey.specs.Orders.{Order}
 use Rattle.ikey.specs.declared.entry.Entry.{Entry}
 use Rattle.memtables.specs.Changes.{HasMoreEntries}
 use Rattle.memtables.specs.Memories.{Memories, sealed_inserts}
-use Rattle.recover.specs.internal.Changes.{IsExtended, ManifestEndsAt}
-use Rattle.recover.specs.Directory.{Directory}
+use Rattle.recover.specs.internal.Changes.{IsExtended, ManifestEndsAt, with_content}
+use Rattle.recover.proofs.Memberships.{in_with, one_of_tables}
+use Rattle.recover.proofs.OneMeaning.{same_directory, same_manifest}
+use Rattle.recover.specs.Tables.{InTables, TableContent, table_at}
+use Rattle.recover.specs.Directory.{Directory, HasManifest, IsConsistent}
 use Rattle.recover.specs.Logs.{LogContent, batch_entries, logged}
 use Rattle.recover.specs.Numbers.{IsFree}
 use Rattle.store.specs.Files.{Files}
 use Rattle.opening.specs.internal.Knowing.{HasLogs, KnowsDirectory}
 use Rattle.opening.specs.declared.directory.DirectoryState.{DirectoryState}
+use Rattle.engine.specs.Origins.{ComesFrom}
+use Rattle.engine.proofs.Compacting.{listed_number}
+use Rattle.engine.proofs.Origins.{StaysUnder}
 
 -- a list ends in one way
 one_end : {X : Type 0} → (xs ys : List X) (x y : X) → xs ++ x ∷ [] ≡ ys ++ y ∷ [] → (xs ≡ ys) × (x ≡ y)
@@ -54,3 +69,54 @@ knows_extended order old new d e log state more x ends free h = subst (λ (f : D
   ends = ends h.ends;
   free = free h.free;
 })
+
+-- ---- the directory from which the files come
+
+-- what is there stays where nothing is done
+pub no_change : (old new ideal : Files) → new ≡ old → IsSameChange old new ideal ideal
+no_change old new ideal same = record { stays = λ q is. refl; changes = λ q apart. absurd (apart (ap (λ (fs : Files). get fs q) same)) }
+
+-- a table of a directory has a number that was drawn
+pub placed_number : (order : Order) (files : Files) (d : Directory) (next : ℕ) (placed : PlacedTable) → IsConsistent order files d → IsFree order files next → Contains d.layout.tables.items placed
+    → IsNumbered placed.table.number × (placed.table.number < next)
+placed_number order files d next placed good free is =
+    let content = content_at d.tables placed (contains_among (placed_in d.tables) placed (subst (λ (ps : List PlacedTable). Contains ps placed) (sym good.placed) is)) in
+    subst (λ (n : ℕ). IsNumbered n × (n < next)) (ap (λ (p : PlacedTable). p.table.number) content.2) (listed_number order files d next content.0 good free content.1)
+
+module _ (order : Order) (b : Bool) (old new ideal after : Files) (d : Directory) (from : ComesFrom order b old ideal) (change : IsSameChange old new ideal after) (before : IsConsistent order ideal d)
+    (stays : (placed : PlacedTable) → Contains d.layout.tables.items placed → StaysUnder old new placed.table.number) where
+  still_from : (placed : PlacedTable) → Contains d.layout.tables.items placed → HasOrigin order.cmp new after placed
+  still_from placed is = let kept = stays placed is in origin_left order.cmp old new ideal after placed change.stays kept.0 kept.1 (from.origins d before placed is)
+
+  whole_still : b ≡ false → after ≡ new
+  whole_still is =
+      let whole : ideal ≡ old = from.undamaged is in
+      let other : IsSameChange old new old after = subst (λ (fs : Files). IsSameChange old new fs after) whole change in
+      (one_change old new).2 old after new other (one_change old new).1
+
+  -- The files come from what a call leaves that changes no table and not what the MANIFEST says.
+  pub comes_extended : HasManifest order after d.manifest d.edits d.layout → ComesFrom order b new after
+  comes_extended has = record {
+    differs = differs_after old new ideal after from.differs change;
+    origins = λ e good placed is.
+        let said = same_manifest order after d.manifest e.manifest d.edits e.edits d.layout e.layout has good.manifest in
+        still_from placed (subst (λ (ps : List PlacedTable). Contains ps placed) (sym said.2.tables) is);
+    undamaged = whole_still;
+  }
+
+  -- So they do where one more table is there, which is the same in both.
+  pub comes_with : (e : Directory) (content : TableContent) → IsConsistent order after e → e.tables ≡ with_content content d.tables → table_at after content.placed.table.number ≡ table_at new content.placed.table.number → ComesFrom order b new after
+  comes_with e content behind same alike = record {
+    differs = differs_after old new ideal after from.differs change;
+    origins = λ f good placed is.
+        let tables : f.tables ≡ with_content content d.tables = (same_directory order after f e good behind).3 ∙ same in
+        let at = content_at f.tables placed (contains_among (placed_in f.tables) placed (subst (λ (ps : List PlacedTable). Contains ps placed) (sym good.placed) is)) in
+        subst (λ (p : PlacedTable). HasOrigin order.cmp new after p) at.2 (elim (in_with content d.tables at.0 (subst (λ (cs : List TableContent). InTables cs at.0) tables at.1)) [
+          | inl it ↦
+              let has = one_of_tables order after f.tables at.0 good.tables at.1 in
+              let here : table_at after at.0.placed.table.number ≡ table_at new at.0.placed.table.number = subst (λ (c : TableContent). table_at after c.placed.table.number ≡ table_at new c.placed.table.number) (sym it) alike in
+              (same_origin order.cmp at.0.placed has.bytes).1 new after (sym here ∙ has.there) has.there
+          | inr was ↦ still_from at.0.placed (subst (λ (ps : List PlacedTable). Contains ps at.0.placed) before.placed (among_contains (placed_in d.tables) at.0.placed (among_placed d.tables at.0 was)))
+        ]);
+    undamaged = whole_still;
+  }

@@ -25,18 +25,20 @@ use Rattle.machine.specs.Machine.{Machine, entry_count}
 use Rattle.engine.specs.internal.TakingAll.{IsTakingAll}
 use Rattle.engine.specs.Outcomes.{DbOutcome, IsSame, KeepsViews, MayRefuseLevel, MayRefuseWork}
 use Rattle.engine.specs.Stands.{no_ids}
-use Rattle.engine.specs.internal.Standing.{StandsOpen}
+use Rattle.engine.specs.internal.Standing.{StandsOpen, StandsWhole}
 use Rattle.engine.specs.internal.Stopping.{KeepsOpen}
 use Rattle.machine.specs.Upkeep.{Draws}
 use Rattle.engine.specs.Working.{GoesOn, IsFurther}
 use Rattle.engine.specs.internal.Pieces.{IsPiece, MayRefusePiece}
 use Rattle.engine.specs.WrittenTables.{HasMerged, KeepsTableFiles, PutsMerged}
+use Rattle.engine.proofs.Flags.{piece_flag}
 use Rattle.engine.proofs.InUse.{as_used}
-use Rattle.engine.proofs.JobEnds.{inputs_listed, job_counted, merged_on}
+use Rattle.engine.proofs.JobCauses.{inputs_listed, job_counted}
+use Rattle.engine.proofs.JobEnds.{merged_on}
 use Rattle.engine.proofs.Steps.{serving_of}
 use Rattle.engine.proofs.StopSteps.{keeps_none, keeps_then}
 use Rattle.engine.proofs.WorkAnswers.{then_piece}
-use Rattle.engine.proofs.WorkSteps.{piece_done, piece_more, pieces_on}
+use Rattle.engine.proofs.WorkSteps.{piece_done, piece_more, pieces_on, stands_whole}
 
 -- ---- over any store
 
@@ -235,7 +237,7 @@ stands_counted : {K : Type 0} {g : _} (order : Order) (total : IsTotalOrder orde
     → work.merged ≤ entry_count m
 stands_counted {K} {g} order total source ids db m work whole is s =
     let serving = serving_of order source ids db m whole s in
-    let c = subst (λ (o : Option (OpenJob K g)). MatchOption o (Unit {0}) (IsCompacting order (whole_of source db) db.directory.numbers.next db.snapshots db.iterators serving.log.directory.directory)) is serving.job in
+    let c = subst (λ (o : Option (OpenJob K g)). MatchOption o (Unit {0}) (IsCompacting order m.damaged (whole_of source db) serving.ideal db.directory.numbers.next db.snapshots db.iterators serving.log.directory.directory)) is serving.job in
     job_counted order total source db m serving work c
 
 -- its inputs are tables of the version
@@ -243,7 +245,7 @@ stands_listed : {K : Type 0} {g : _} (order : Order) (total : IsTotalOrder order
     → (placed : PlacedTable) → Contains work.job.plan.inputs.items placed → Contains db.tables placed
 stands_listed {K} {g} order total source ids db m work whole is s =
     let serving = serving_of order source ids db m whole s in
-    let c = subst (λ (o : Option (OpenJob K g)). MatchOption o (Unit {0}) (IsCompacting order (whole_of source db) db.directory.numbers.next db.snapshots db.iterators serving.log.directory.directory)) is serving.job in
+    let c = subst (λ (o : Option (OpenJob K g)). MatchOption o (Unit {0}) (IsCompacting order m.damaged (whole_of source db) serving.ideal db.directory.numbers.next db.snapshots db.iterators serving.log.directory.directory)) is serving.job in
     inputs_listed order total source db m serving work c
 
 -- So many steps were taken, and the compaction is under way still.
@@ -311,8 +313,8 @@ module _ {K : Type 0} {g : _} (order : Order) (old mid new : Seen) (before betwe
             tables = on.1 ∙ t.tables;
             files = λ f ids m s number has.
                 let still = (step ids).faithful f in
-                let one = (t.step ids).moved still m s in
-                beside f ids one.0 one.2 number (subst (HasNumber number) (sym t.tables) has) ∙ t.files still ids m s number has;
+                let one = (t.step ids).moved still m s.stands in
+                beside f ids one.0 (stands_whole order mid ids between m one.0 s.undamaged (piece_flag m one.0 steps (Ok (tt {0})) one.1) one.2) number (subst (HasNumber number) (sym t.tables) has) ∙ t.files still ids m s number has;
             serves = serves_then old.facts mid.facts new.facts before between after t.serves serves;
             memory = left_onward before.memory between.memory after.memory t.memory memory;
             all = λ h. all (t.all h);
@@ -332,16 +334,16 @@ module _ {K : Type 0} {g : _} (order : Order) (old mid new : Seen) (before betwe
   -- and what must be kept of the inputs' entries is in them
   pub taken_merged : {P : Machine → Machine → Type 0} (total : IsTotalOrder order.cmp) → before.broken ≡ false → ((ids : Ids) → LeadsOpen order mid new ids between after P) → PutsMerged order mid new between after → PutsMerged order old new before after
   taken_merged total whole next merged =
-      subst (λ (o : Option (OpenJob K g)). MatchOption o ⊥ (λ work. IsTrue new.facts.faithful → (ids : Ids) (m : Machine) → StandsOpen order old ids before m → HasMerged order old.facts.files new.facts.files work before after)) (sym t.was)
+      subst (λ (o : Option (OpenJob K g)). MatchOption o ⊥ (λ work. IsTrue new.facts.faithful → (ids : Ids) (m : Machine) → StandsWhole order old ids before m → HasMerged order old.facts.files new.facts.files work before after)) (sym t.was)
       (λ f ids m s.
       let still = (next ids).faithful f in
-      let one = (t.step ids).moved still m s in
-      let inner = subst (λ (o : Option (OpenJob K g)). MatchOption o ⊥ (λ work. IsTrue new.facts.faithful → (given : Ids) (n : Machine) → StandsOpen order mid given between n → HasMerged order mid.facts.files new.facts.files work between after)) t.now merged in
+      let one = (t.step ids).moved still m s.stands in
+      let inner = subst (λ (o : Option (OpenJob K g)). MatchOption o ⊥ (λ work. IsTrue new.facts.faithful → (given : Ids) (n : Machine) → StandsWhole order mid given between n → HasMerged order mid.facts.files new.facts.files work between after)) t.now merged in
       merged_on order old.facts.files mid.facts.files new.facts.files t.work t.more before between after t.plan t.snapshots t.version t.tables
       (λ placed i.
       t.files still ids m s placed.table.number
-      (as_used before.tables placed.table.number (placed, stands_listed order total old ids before m t.work whole t.was s placed i, refl)))
-      (inner f ids one.0 one.2))
+      (as_used before.tables placed.table.number (placed, stands_listed order total old ids before m t.work whole t.was s.stands placed i, refl)))
+      (inner f ids one.0 (stands_whole order mid ids between m one.0 s.undamaged (piece_flag m one.0 steps (Ok (tt {0})) one.1) one.2)))
 
   pub taken_ended : (ids : Ids) → steps < 2 ^ 64 - 1 → LeadsOpen order mid new ids between after (λ m n. HasCome 1 between m (Ok true) n) → LeadsOpen order old new ids before after (λ m n. EndsJob m (Ok (tt {0})) n)
   taken_ended ids below next = record {

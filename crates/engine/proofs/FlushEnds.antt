@@ -24,10 +24,14 @@ use Rattle.recover.specs.Tables.{tabled}
 use Rattle.db_cursor.specs.internal.Scanning.{ScanIsKept}
 use Rattle.db_cursor.specs.declared.scan.Scan.{Scan}
 use Rattle.table_access.specs.Tables.{Seen, IsSound, SoundLasts}
-use Rattle.store.specs.Files.{Facts}
+use Rattle.store.specs.Files.{Facts, Files}
 use Rattle.store.specs.Stops.{LeavesOnly}
+use Rattle.store.proofs.Stopping.{leaves_so}
+use Rattle.engine.specs.internal.Directory.{MeansAccepted}
 use Rattle.directory_writes.specs.Replacing.{placed_in}
-use Rattle.directory_writes.specs.internal.Flush.{CanFlush, DrawsTable, FlushMayLeave, FlushMeans, FlushTouches, IsCorrupt, IsFlushed, MayBeFlushed, RefusesFlush, RefusesNewTable, SparesManifest}
+use Rattle.directory_writes.proofs.SameChanges.{same_change}
+use Rattle.directory_writes.specs.Differing.{IsSameChange, OfEach, with_files}
+use Rattle.directory_writes.specs.internal.Flush.{CanFlush, DrawsTable, FlushLeaves, FlushMayLeave, FlushMeans, FlushTouches, IsCorrupt, IsFlushed, MayBeFlushed, RefusesFlush, RefusesNewTable, SparesManifest}
 use Rattle.directory_writes.specs.internal.Calls.{LeavesFile}
 use Rattle.compact.specs.Rooms.{room_of}
 use Rattle.directory_writes.specs.internal.Level0.{IsTooLarge}
@@ -53,12 +57,14 @@ use Rattle.engine.specs.internal.Pieces.{IsPiece, IsSameMemory, broken_by, flush
 use Rattle.engine.specs.WrittenTables.{FlushesSealed, PutsSealed}
 use Rattle.engine.proofs.Compacting.{all_contains, each_job, goes_beside, have_itself, known_itself, version_unowned}
 use Rattle.engine.proofs.Flushing.{NamesStay, names_same, names_unchanged, FlushKept, StaysBelow, broken_flush, can_flush, serving_flushed, serving_unflushed, sound_beside, sound_unchanged, table_same, table_unchanged}
+use Rattle.engine.proofs.Extended.{no_change}
+use Rattle.engine.proofs.Origins.{undamaged_serving}
 use Rattle.engine.proofs.Pieces.{free_up, walks_each}
 use Rattle.engine.proofs.Reading.{has_placed}
 use Rattle.engine.proofs.Steps.{serving_of}
-use Rattle.engine.proofs.StopSteps.{keeps_serving, means_flushed}
+use Rattle.engine.proofs.StopSteps.{means_flushed}
 use Rattle.engine.proofs.Weighing.{room_within}
-use Rattle.engine.proofs.WorkSteps.{breaks, drawing, draws, serves_on}
+use Rattle.engine.proofs.WorkSteps.{KeepsFlag, breaks, drawing, draws, serves_on}
 
 pub no_entries : (entries : List Entry) → length entries ≡ 0 → entries ≡ []
 no_entries [] is = refl
@@ -88,8 +94,15 @@ module _ {K : Type 0} {g : _} (order : Order) (kept : (scan : Scan K g) → Scan
   upto = elim draws_number [ inl none ↦ (let is = none.0 in (omega (arith, is), omega (arith, is))) | inr more ↦ (let is = more.0 in (omega (arith, is), omega (arith, is))) ]
 
   module _ (m : Machine) (serving : IsServing order old before m) where
-    pub can : CanFlush order old.facts.files next plan state.directory.manifest entries before.tables serving.log.directory.directory serving.log.logs.sealed serving.log.logs.current
+    pub can : CanFlush order serving.ideal next plan state.directory.manifest entries before.tables serving.log.directory.directory serving.log.logs.sealed serving.log.logs.current
     can = can_flush order kept one lasts law flushes old facts before m serving plan numbers.next log_number previous sequence entries entries_are
+
+    -- the same, done to the directory from which the files come
+    abbrev pub behind : Files
+    behind = (same_change old.facts.files facts.files serving.ideal serving.origin.differs).0
+
+    behind_is : IsSameChange old.facts.files facts.files serving.ideal behind
+    behind_is = (same_change old.facts.files facts.files serving.ideal serving.origin.differs).1
 
     stays_below : IsTrue facts.faithful → StaysBelow order kept one lasts law flushes old facts before m serving plan numbers.next
     stays_below f = elim draws_number [
@@ -153,7 +166,7 @@ module _ {K : Type 0} {g : _} (order : Order) (kept : (scan : Scan K g) → Scan
   Spares e = SparesManifest {T = Flushed K} old.facts facts (string_bytes state.directory.manifest.name) (λ (name : List ℕ). name ≡ name_of (Table next)) (Err e)
 
   abbrev Leaves : FlushError → Type 0
-  Leaves e = IsTrue facts.faithful → (m : Machine) (serving : IsServing order old before m) → FlushMeans {K = K} order old.facts.files facts.files next numbers.next plan state.directory.manifest entries before.tables serving.log.directory.directory serving.log.logs.sealed serving.log.logs.current (Err e)
+  Leaves e = IsTrue facts.faithful → (m : Machine) (serving : IsServing order old before m) → FlushMeans {K = K} order serving.ideal (behind m serving) next numbers.next plan state.directory.manifest entries before.tables serving.log.directory.directory serving.log.logs.sealed serving.log.logs.current (Err e)
 
   -- nothing of the directory was changed
   unflushed : {T : Type 0} (e : DbError) → RefusesNewTable e old.facts facts entries before.tables next numbers.next → Leaves (Before e) → Spares (Before e) → (e ≡ error.Io → ⊥) → LeadsOpen order old new ids before (open_db memory drawn) (λ m n. IsPiece {T = T} m 1 (Err e) n)
@@ -167,7 +180,7 @@ module _ {K : Type 0} {g : _} (order : Order) (kept : (scan : Scan K g) → Scan
 
   -- the device failed
   failed : {T : Type 0} → old.facts.failures < facts.failures
-      → (IsTrue facts.faithful → (m : Machine) (serving : IsServing order old before m) → MayBeFlushed order old.facts.files facts.files next numbers.next entries serving.log.directory.directory serving.log.logs.sealed serving.log.logs.current)
+      → (IsTrue facts.faithful → (m : Machine) (serving : IsServing order old before m) → MayBeFlushed order serving.ideal (behind m serving) next numbers.next entries serving.log.directory.directory serving.log.logs.sealed serving.log.logs.current)
       → LeadsOpen order old new ids before (open_db memory (record drawn { broken = true })) (λ m n. IsPiece {T = T} m 1 (Err error.Io) n)
   failed rise may =
       breaks order old new ids before (open_db memory (record drawn { broken = true })) 1 (Err error.Io) refl whole refl touches.faithful rise touches.denials
@@ -184,19 +197,24 @@ module _ {K : Type 0} {g : _} (order : Order) (kept : (scan : Scan K g) → Scan
   unflushed_by (Before _) refuses leaves spares = absurd refuses
   unflushed_by Edit refuses leaves spares = failed refuses (λ f m serving. leaves f m serving)
 
-  -- however it isn't flushed, where these are the tables of the version
-  pub ends_unflushed : {T : Type 0} (tables : List PlacedTable) → tables ≡ before.tables → (e : FlushError) → RefusesFlush e old.facts facts entries tables next numbers.next
-      → (IsTrue facts.faithful → (d : Directory) (sealed : List LogContent) (current : LogContent) → CanFlush order old.facts.files next plan state.directory.manifest entries tables d sealed current
-      → FlushMeans {K = K} order old.facts.files facts.files next numbers.next plan state.directory.manifest entries tables d sealed current (Err e))
-      → Spares e → LeadsOpen order old new ids before (open_db memory (broken_by drawn (flush_answer e))) (λ m n. IsPiece {T = T} m 1 (Err (flush_answer e)) n)
-  ends_unflushed tables are e refuses leaves spares =
-      unflushed_by e (subst (λ (ts : List PlacedTable). RefusesFlush e old.facts facts entries ts next numbers.next) are refuses)
-      (λ f m serving.
+  -- what a flush says of each directory that differs from the files in tables alone
+  abbrev LeavesEach : List PlacedTable → Result (Flushed K) FlushError → Type 0
+  LeavesEach tables result = OfEach (λ whole after. FlushLeaves order (with_files old.facts whole) (with_files facts after) next numbers.next plan state.directory.manifest entries tables result) old.facts.files facts.files
+
+  pub leaves_behind : (tables : List PlacedTable) (result : Result (Flushed K) FlushError) → tables ≡ before.tables → LeavesEach tables result → IsTrue facts.faithful → (m : Machine) (serving : IsServing order old before m)
+      → FlushMeans {K = K} order serving.ideal (behind m serving) next numbers.next plan state.directory.manifest entries before.tables serving.log.directory.directory serving.log.logs.sealed serving.log.logs.current result
+  leaves_behind tables result are each f m serving =
       let d = serving.log.directory.directory in
       let sealed = serving.log.logs.sealed in
       let current = serving.log.logs.current in
-      subst (λ (ts : List PlacedTable). FlushMeans {K = K} order old.facts.files facts.files next numbers.next plan state.directory.manifest entries ts d sealed current (Err e)) are
-      (leaves f d sealed current (subst (λ (ts : List PlacedTable). CanFlush order old.facts.files next plan state.directory.manifest entries ts d sealed current) (sym are) (can m serving)))) spares
+      let leaves = subst (λ (ts : List PlacedTable). LeavesEach ts result) are each in
+      leaves serving.ideal (behind m serving) serving.origin.differs (behind_is m serving) f d sealed current (can m serving)
+
+  -- however it isn't flushed, where these are the tables of the version
+  pub ends_unflushed : {T : Type 0} (tables : List PlacedTable) → tables ≡ before.tables → (e : FlushError) → RefusesFlush e old.facts facts entries tables next numbers.next → LeavesEach tables (Err e)
+      → Spares e → LeadsOpen order old new ids before (open_db memory (broken_by drawn (flush_answer e))) (λ m n. IsPiece {T = T} m 1 (Err (flush_answer e)) n)
+  ends_unflushed tables are e refuses leaves spares =
+      unflushed_by e (subst (λ (ts : List PlacedTable). RefusesFlush e old.facts facts entries ts next numbers.next) are refuses) (leaves_behind tables (Err e) are leaves) spares
 
   abbrev with_table : ℕ → Rc Placement Global → Vec (String Global) → DbState K g
   with_table end version front = record state { version = version; log = record state.log { front = front }; directory = record state.directory { numbers = numbers; manifest = record state.directory.manifest { end = end }; first_log = state.log.number; previous_log = 0 } }
@@ -204,7 +222,7 @@ module _ {K : Type 0} {g : _} (order : Order) (kept : (scan : Scan K g) → Scan
   -- the table is in the directory
   pub ends_flushed : (end : ℕ) (version : Rc Placement Global) (front : Vec (String Global)) (after : DbState K g) → after ≡ with_table end version front
       → AreInOrder order.cmp version.value.tables
-      → (IsTrue facts.faithful → (m : Machine) (serving : IsServing order old before m) → IsFlushed order old.facts.files facts.files next numbers.next end entries version.value.tables serving.log.directory.directory serving.log.logs.sealed serving.log.logs.current)
+      → (IsTrue facts.faithful → (m : Machine) (serving : IsServing order old before m) → IsFlushed order serving.ideal (behind m serving) next numbers.next end entries version.value.tables serving.log.directory.directory serving.log.logs.sealed serving.log.logs.current)
       → (IsTrue facts.faithful → (m : Machine) → IsServing order old before m → IsSyncedBut facts (record state.log { front = front }) (with_table end version front).directory version.value.tables)
       → LeadsOpen order old new ids before (open_db (record memory { sealed = None }) after) (λ m n. IsPiece m 1 (Ok (tt {0})) n)
   ends_flushed end version front after is in_order has synced =
@@ -218,14 +236,15 @@ module _ {K : Type 0} {g : _} (order : Order) (kept : (scan : Scan K g) → Scan
 
   -- and its file has the entries of the memory table
   pub table_put : (end : ℕ) (version : Rc Placement Global) (front : Vec (String Global)) (after : DbState K g) → after ≡ with_table end version front
-      → (IsTrue facts.faithful → (m : Machine) (serving : IsServing order old before m) → IsFlushed order old.facts.files facts.files next numbers.next end entries version.value.tables serving.log.directory.directory serving.log.logs.sealed serving.log.logs.current)
+      → (IsTrue facts.faithful → (d : Directory) (sealed : List LogContent) (current : LogContent) → CanFlush order old.facts.files next plan state.directory.manifest entries before.tables d sealed current
+      → IsFlushed order old.facts.files facts.files next numbers.next end entries version.value.tables d sealed current)
       → PutsSealed order old new before (open_db (record memory { sealed = None }) after)
   table_put end version front after is has =
       subst (λ (s : DbState K g). PutsSealed order old new before (open_db (record memory { sealed = None }) s)) (sym is)
-      (λ f given m s.
-      let serving = serving_of order old given before m whole s in
-      let done = has f m serving in
+      (λ f given m w.
+      let serving = undamaged_serving order old before m w.undamaged (serving_of order old given before m whole w.stands) in
       let d = serving.log.directory.directory in
+      let done = has f d serving.log.logs.sealed serving.log.logs.current (can m serving) in
       let content = done.has.content in
       let there = new_in_with content d.tables in
       inr (record {
@@ -240,11 +259,11 @@ module _ {K : Type 0} {g : _} (order : Order) (kept : (scan : Scan K g) → Scan
   -- a stop in its middle
   pub flush_keeps : (tables : List PlacedTable) → tables ≡ before.tables
       → (IsTrue facts.faithful → LeavesOnly old.facts facts (FlushMayLeave order old.facts.files next numbers.next plan state.directory.manifest entries tables)) → KeepsOpen order old new before
-  flush_keeps tables are stops =
-      keeps_serving order old new before whole (λ m. FlushMayLeave order old.facts.files next numbers.next plan state.directory.manifest entries before.tables)
-      (λ f m serving. subst (λ (ts : List PlacedTable). LeavesOnly old.facts facts (FlushMayLeave order old.facts.files next numbers.next plan state.directory.manifest entries ts)) are (stops f))
-      (λ m files serving may.
-      means_flushed order old before m serving law files next numbers.next entries (may serving.log.directory.directory serving.log.logs.sealed serving.log.logs.current (can m serving)))
+  flush_keeps tables are stops f given m w =
+      let serving = undamaged_serving order old before m w.undamaged (serving_of order old given before m whole w.stands) in
+      leaves_so old.facts facts (FlushMayLeave order old.facts.files next numbers.next plan state.directory.manifest entries before.tables) (λ files. MeansAccepted order files m)
+      (λ files may. means_flushed order old before m serving law files next numbers.next entries (may serving.log.directory.directory serving.log.logs.sealed serving.log.logs.current (can m serving)))
+      (subst (λ (ts : List PlacedTable). LeavesOnly old.facts facts (FlushMayLeave order old.facts.files next numbers.next plan state.directory.manifest entries ts)) are (stops f))
 
 -- ---- an empty sealed table
 
@@ -264,6 +283,8 @@ module _ {K : Type 0} {g : _} (order : Order) (kept : (scan : Scan K g) → Scan
       record {
         whole = h.whole;
         certain = h.certain;
+        ideal = h.ideal;
+        origin = h.origin;
         contents = h.contents;
         log = record {
           named = h.log.named;
@@ -277,15 +298,15 @@ module _ {K : Type 0} {g : _} (order : Order) (kept : (scan : Scan K g) → Scan
         iterators = walks_each order kept (whole_of source (open_db memory state)) (whole_of source (open_db let_go state)) state.iterators m
             (λ id scan walk there is. record { memory = λ cursor reads within. flushes cursor memory let_go refl; files = λ number reads. refl; sound = λ sound. sound }) (omega arith) h.iterators;
         accounted = rw (logged_same) h.accounted;
-        readable = record { made = h.readable.made; numbers = free_up order source.facts.files m.numbers (m.numbers + 1) (omega arith) h.readable.numbers; limits = h.readable.limits };
+        readable = record { made = h.readable.made; numbers = free_up order h.ideal m.numbers (m.numbers + 1) (omega arith) h.readable.numbers; limits = h.readable.limits };
         numbers = (let below = h.numbers in omega (arith, below));
         synced = h.synced;
         job = each_job _ _ state.job (λ work is c.
             let d = a.directory in
-            goes_beside order (whole_of source (open_db memory state)) (whole_of source (open_db let_go state)) state.directory.numbers.next state.directory.numbers.next state.snapshots state.snapshots state.iterators state.iterators state.version.value.tables d d work c
-            a.consistent knows.free state.directory.numbers.in_range.1 (omega arith) (λ number numbered below one. ((refl, λ file there was. was), refl)) (λ sound. sound) (λ number kept_now. inl kept_now) refl refl
+            goes_beside order (whole_of source (open_db memory state)) (whole_of source (open_db let_go state)) state.directory.numbers.next state.directory.numbers.next state.snapshots state.snapshots state.iterators state.iterators state.version.value.tables m.damaged h.ideal h.ideal d d work c
+            a.consistent knows.free state.directory.numbers.in_range.1 (omega arith) (λ number numbered below one. ((refl, λ file there was. was), refl)) (λ sound. sound) (λ number kept_now. inl kept_now) (no_change source.facts.files source.facts.files h.ideal refl) refl refl
             (omega arith) (known_itself state.snapshots memory.last) (have_itself state.iterators state.version.value.tables)
-            (λ number. version_unowned work.job.outputs order source.facts.files d h.contents state.version.value.tables number a.consistent a.in_tables h.tables.version c.running.unused)) h.job;
+            (λ number. version_unowned work.job.outputs order h.ideal d h.contents state.version.value.tables number a.consistent a.in_tables h.tables.version c.running.unused)) h.job;
       }
 
   pub ends_let_go : LeadsOpen order source source ids (open_db memory state) (open_db let_go state) (λ m n. IsPiece m 1 (Ok (tt {0})) n)
@@ -296,11 +317,11 @@ module _ {K : Type 0} {g : _} (order : Order) (kept : (scan : Scan K g) → Scan
 -- ---- behind a removal
 
 pub flushes_behind : {K : Type 0} {g : _} (order : Order) (old mid new : Seen) (before : OpenDb K g) (memory : Memories) (after : OpenDb K g) (result : Result Progress DbError) {P : Machine → Machine → Type 0}
-    → ((ids : Ids) → LeadsOpen order old mid ids before (record before { memory = memory }) P) → (IsTrue new.facts.faithful → IsTrue mid.facts.faithful) → IsSameMemory before.memory memory → FlushesSealed order mid new (record before { memory = memory }) after result
+    → ((ids : Ids) → LeadsOpen order old mid ids before (record before { memory = memory }) P) → KeepsFlag P → (IsTrue new.facts.faithful → IsTrue mid.facts.faithful) → IsSameMemory before.memory memory → FlushesSealed order mid new (record before { memory = memory }) after result
     → FlushesSealed order old new before after result
-flushes_behind order old mid new before memory after result leads still same flushes done idle some f ids m s =
-    let one = (leads ids).moved (still f) m s in
-    elim (flushes done idle (subst IsSome (sym same.sealed) some) f ids one.0 one.2) [
+flushes_behind order old mid new before memory after result leads flag still same flushes done idle some f ids m s =
+    let one = (leads ids).moved (still f) m s.stands in
+    elim (flushes done idle (subst IsSome (sym same.sealed) some) f ids one.0 (record { stands = one.2; undamaged = flag m one.0 one.1 ∙ s.undamaged })) [
       | inl none ↦ inl (sym same.sealed_are ∙ none)
       | inr h ↦ inr (record {
         content = h.content;

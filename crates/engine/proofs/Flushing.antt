@@ -1,5 +1,5 @@
 -- What a flush leaves of an open database.
-use Rattle.std.proofs.Common.{true, ◌≡◌, ◌≢◌, ℕ, ◌+◌, ◌≤◌, ◌<◌, ◌^◌, List, [], ◌∷◌, ◌++◌, map, Option, Some, None, MatchOption, IsTrue, inl, inr, refl, sym, ap, subst, ◌∙◌, arith, String, string_bytes}
+use Rattle.std.proofs.Common.{true, ◌≡◌, ◌≢◌, ℕ, ◌+◌, ◌≤◌, ◌<◌, ◌^◌, List, [], ◌∷◌, ◌++◌, map, Option, Some, None, MatchOption, Contains, IsTrue, inl, inr, refl, sym, ap, subst, ◌∙◌, arith, String, string_bytes}
 use Rattle.std.specs.declared.alloc.Global.{Global}
 use Rattle.std.specs.Global.{Vec}
 use Rattle.std.proofs.lemmas.List.{append-nil}
@@ -17,11 +17,10 @@ use Rattle.ikey.specs.Sources.{SameEntries, SameViewLaw}
 use Rattle.ikey.specs.declared.entry.Entry.{Entry}
 use Rattle.memtables.specs.Memories.{Memories, logged_in, sealed_inserts}
 use Rattle.memtables.specs.Places.{MemoriesPlace, KeepsMemories}
-use Rattle.running_job.proofs.Staying.{stays as job_stays}
 use Rattle.running_job.specs.Running.{deep_of}
 use Rattle.recover.specs.internal.Changes.{ManifestEndsAt, flushed, with_content}
 use Rattle.recover.specs.Numbers.{IsFree}
-use Rattle.recover.specs.Directory.{Directory, IsConsistent, entries_in, used_in}
+use Rattle.recover.specs.Directory.{Directory, HasManifest, IsConsistent, entries_in, used_in}
 use Rattle.recover.specs.internal.Laws.{OneDirectoryLaw}
 use Rattle.recover.specs.Logs.{LogContent, batch_entries, logged}
 use Rattle.recover.specs.Report.{IsLongTable, AnyHasBytes}
@@ -31,7 +30,7 @@ use Rattle.db_cursor.specs.internal.Scanning.{ScanIsKept}
 use Rattle.db_cursor.specs.declared.scan.Scan.{Scan}
 use Rattle.table_access.specs.Tables.{Seen, IsSound, KeepsOf, SoundLasts}
 use Rattle.table_access.proofs.Sounding.{same_file, same_table}
-use Rattle.store.specs.Files.{Facts}
+use Rattle.store.specs.Files.{Facts, Files}
 use Rattle.directory_writes.specs.internal.Flush.{CanFlush, FlushTouches, HasFlushed, IsFlushed, IsUnflushed, MayBeFlushed, PassesNoLimit}
 use Rattle.directory_writes.specs.declared.flush.FlushPlan.{FlushPlan}
 use Rattle.directory_writes.proofs.PlansKept.{flushed_plan}
@@ -44,12 +43,19 @@ use Rattle.directory_writes.specs.internal.Calls.{LeavesFile}
 use Rattle.engine.proofs.Synced.{whole_left}
 use Rattle.engine.specs.internal.Synced.{IsSyncedBut}
 use Rattle.engine.specs.internal.Standing.{entries_of, HasLog, IsBroken, IsServing}
-use Rattle.reader.specs.internal.Iterators.{IsWalk}
+use Rattle.engine.specs.internal.Live.{IsLiveWalk}
+use Rattle.engine.specs.Origins.{ComesFrom}
+use Rattle.engine.proofs.Extended.{comes_extended, comes_with, placed_number}
+use Rattle.engine.proofs.Origins.{StaysUnder}
+use Rattle.directory_writes.proofs.SameCalls.{free_table}
+use Rattle.directory_writes.proofs.SameChanges.{same_change}
+use Rattle.directory_writes.specs.Differing.{IsSameChange}
+use Rattle.recover.proofs.Memberships.{new_in_with, one_of_tables}
 use Rattle.engine.specs.Reads.{kept_at}
 use Rattle.machine.specs.Machine as machine
 use Rattle.machine.specs.Machine.{Machine, Walk, entry_count, weight}
 use Rattle.engine.specs.internal.Compacting.{IsCompacting}
-use Rattle.engine.proofs.Compacting.{each_job, goes_beside, goes_on_as, have_itself, is_input_number, is_own_number, known_itself, owns_none_with, version_unowned}
+use Rattle.engine.proofs.Compacting.{each_job, goes_beside, goes_on_as, have_itself, runs_still, is_own_number, known_itself, owns_none_with, version_unowned}
 use Rattle.engine.proofs.Pieces.{accounted_same, bounded_same, free_up, made_still, rests_as, same_back, same_by, snapshots_same, walks_each}
 use Rattle.engine.proofs.Reading.{below_next}
 use Rattle.opening.proofs.Reopening.{files_apart, long_back}
@@ -66,7 +72,7 @@ module _ {K : Type 0} {g : _} (order : Order) (kept : (scan : Scan K g) → Scan
   abbrev new : Seen
   new = record old { facts = facts }
 
-  abbrev a : CanAppend order old.facts.files db.log.number db.log.end serving.contents (logged_in db.memory) db.memory.last
+  abbrev a : CanAppend order serving.ideal db.log.number db.log.end serving.contents (logged_in db.memory) db.memory.last
   a = serving.log.directory
 
   abbrev d : Directory
@@ -78,6 +84,13 @@ module _ {K : Type 0} {g : _} (order : Order) (kept : (scan : Scan K g) → Scan
   abbrev current : LogContent
   current = serving.log.logs.current
 
+  -- the same, done to the directory from which the files come
+  abbrev behind : Files
+  behind = (same_change old.facts.files facts.files serving.ideal serving.origin.differs).0
+
+  behind_is : IsSameChange old.facts.files facts.files serving.ideal behind
+  behind_is = (same_change old.facts.files facts.files serving.ideal serving.origin.differs).1
+
   -- the machine behind it
   abbrev pub drawn_by : Machine
   drawn_by = record m { numbers = m.numbers + 1; failures = facts.failures; denials = facts.denials }
@@ -87,7 +100,7 @@ module _ {K : Type 0} {g : _} (order : Order) (kept : (scan : Scan K g) → Scan
 
   -- the sealed table can be flushed
   pub can_flush : plan.log_number ≡ db.log.number → plan.previous_log_number ≡ db.directory.previous_log → plan.last_sequence ≡ db.memory.last → (entries : List Entry) → entries ≡ sealed_inserts db.memory
-      → CanFlush order old.facts.files next plan db.directory.manifest entries db.tables d sealed current
+      → CanFlush order serving.ideal next plan db.directory.manifest entries db.tables d sealed current
   can_flush log previous sequence entries is =
       let knows = serving.log.knows in
       let logs = serving.log.logs in
@@ -171,28 +184,48 @@ module _ {K : Type 0} {g : _} (order : Order) (kept : (scan : Scan K g) → Scan
 
   -- ---- what stands then
 
-  module _ (stays : StaysBelow) (names : NamesStay) (sound_still : IsSound order.cmp old → IsSound order.cmp new) (freed : IsFree order facts.files after) (upto : after ≤ next + 1) where
+  module _ (stays : StaysBelow) (names : NamesStay) (sound_still : IsSound order.cmp old → IsSound order.cmp new) (freed : IsFree order behind after) (upto : after ≤ next + 1) where
     keeps_each : (memory : Memories) → ((cursor : MemoriesPlace) → KeepsMemories order.cmp cursor db.memory memory)
-        → (id : ℕ) (scan : Scan K g) (walk : Walk) → kept_at db.iterators id ≡ Some scan → IsWalk order.cmp m.over_limit (whole_of old db) scan walk
+        → (id : ℕ) (scan : Scan K g) (walk : Walk) → kept_at db.iterators id ≡ Some scan → IsLiveWalk order.cmp m.over_limit m.damaged (whole_of old db) scan walk
         → KeepsScan order.cmp scan (whole_of old db) (record { seen = new; memory = memory })
     keeps_each memory keeps id scan walk there is = record {
       memory = λ cursor reads within. keeps cursor;
       files = λ number reads.
           let table = is.tables number reads in
-          stays number table.1 (below_next order old.facts.files next number serving.log.knows.free table.1 table.2);
+          stays number table.1 (below_next order old.facts.files serving.ideal next number serving.origin.differs serving.log.knows.free table.1 table.2);
       sound = sound_still;
     }
 
-    readable_as : (e : Directory) → IsConsistent order facts.files e → (PassesNoLimit order old.facts.files d → PassesNoLimit order facts.files e) → IsReadable order facts.files drawn_by
+    -- the tables that were there are as they were
+    tables_stay : (placed : PlacedTable) → Contains d.layout.tables.items placed → StaysUnder old.facts.files facts.files placed.table.number
+    tables_stay placed is =
+        let known = placed_number order serving.ideal d next placed a.consistent serving.log.knows.free is in
+        let same = names placed.table.number known.0 known.1 in
+        (same.0.0, same.1)
+
+    -- the files come from the directory with the new table, or without it
+    comes_flushed : (entries : List Entry) → HasFlushed order serving.ideal behind next after entries d sealed current → ComesFrom order m.damaged facts.files behind
+    comes_flushed entries f =
+        let e = flushed d (d.edits ++ f.edit ∷ []) f.next f.content current in
+        let has = one_of_tables order behind (with_content f.content d.tables) f.content f.consistent.tables (new_in_with f.content d.tables) in
+        let number_is : next ≡ f.content.placed.table.number = sym f.number_is in
+        let numbered : IsNumbered next = subst IsNumbered f.number_is has.numbered in
+        comes_with order m.damaged old.facts.files facts.files serving.ideal behind d serving.origin behind_is a.consistent tables_stay e f.content f.consistent refl
+        (subst (λ (n : ℕ). table_at behind n ≡ table_at facts.files n) number_is (free_table order old.facts.files facts.files serving.ideal behind next numbered serving.origin.differs behind_is serving.log.knows.free))
+
+    comes_unflushed : HasManifest order behind d.manifest d.edits d.layout → ComesFrom order m.damaged facts.files behind
+    comes_unflushed has = comes_extended order m.damaged old.facts.files facts.files serving.ideal behind d serving.origin behind_is a.consistent tables_stay has
+
+    readable_as : (e : Directory) → IsConsistent order behind e → (PassesNoLimit order serving.ideal d → PassesNoLimit order behind e) → IsReadable order behind drawn_by
     readable_as e good passes = record {
-      made = made_still order old.facts.files facts.files d e m a.consistent good serving.readable.made;
-      numbers = (let below : next ≤ m.numbers = serving.numbers in free_up order facts.files after (m.numbers + 1) (omega (arith, upto, below)) freed);
+      made = made_still order serving.ideal behind d e m a.consistent good serving.readable.made;
+      numbers = (let below : next ≤ m.numbers = serving.numbers in free_up order behind after (m.numbers + 1) (omega (arith, upto, below)) freed);
       limits = λ is f good_f past.
           let none = passes (λ old_past. serving.readable.limits is d a.consistent old_past) in
-          let same = one order facts.files f e good_f good in
+          let same = one order behind f e good_f good in
           none (elim past [
             | inl numbers ↦ inl (subst (λ (edits : List (List Field)). HasPastLimit (fields_of edits)) same.1 numbers)
-            | inr long ↦ inr (subst (λ (tables : List TableContent). AnyHasBytes (IsLongTable order) facts.files tables) same.3 long)
+            | inr long ↦ inr (subst (λ (tables : List TableContent). AnyHasBytes (IsLongTable order) behind tables) same.3 long)
           ]);
     }
 
@@ -201,10 +234,10 @@ module _ {K : Type 0} {g : _} (order : Order) (kept : (scan : Scan K g) → Scan
 
     -- ---- the table is in the directory
 
-    module _ (end : ℕ) (tables : List PlacedTable) (pointers : List (Option (List ℕ))) (state : DirectoryState) (entries : List Entry) (in_order : AreInOrder order.cmp tables) (has : IsFlushed order old.facts.files facts.files next after end entries tables d sealed current)
+    module _ (end : ℕ) (tables : List PlacedTable) (pointers : List (Option (List ℕ))) (state : DirectoryState) (entries : List Entry) (in_order : AreInOrder order.cmp tables) (has : IsFlushed order serving.ideal behind next after end entries tables d sealed current)
         (number : state.manifest.number ≡ db.directory.manifest.number) (name : state.manifest.name ≡ db.directory.manifest.name) (ends : state.manifest.end ≡ end) (first_log : state.first_log ≡ db.log.number) (previous_log : state.previous_log ≡ 0)
         (next_is : state.numbers.next ≡ after) (le : next ≤ after) (front : Vec (String Global)) (synced : IsSyncedBut facts (record db.log { front = front }) state tables) where
-      abbrev f : HasFlushed order old.facts.files facts.files next after entries d sealed current
+      abbrev f : HasFlushed order serving.ideal behind next after entries d sealed current
       f = has.has
 
       abbrev e : Directory
@@ -223,7 +256,7 @@ module _ {K : Type 0} {g : _} (order : Order) (kept : (scan : Scan K g) → Scan
       same = same_back (entries_of e.tables flushed_db) (entries_of serving.contents db)
           (same_by (entries_of e.tables flushed_db) (entries_in e) (entries_in d) (entries_of serving.contents db) (ap (λ (es : List Entry). tabled e.tables ++ es) in_current) f.same (sym entries_are))
 
-      abbrev log_flushed : HasLog order facts.files e.tables flushed_db
+      abbrev log_flushed : HasLog order behind e.tables flushed_db
       log_flushed =
           let knows = serving.log.knows in
           record {
@@ -243,36 +276,32 @@ module _ {K : Type 0} {g : _} (order : Order) (kept : (scan : Scan K g) → Scan
               previous_log = f.flush.previous_log_number ∙ sym previous_log;
               number = number ∙ knows.number;
               named = ap string_bytes name ∙ knows.named;
-              ends = subst (λ (k : ℕ). ManifestEndsAt order facts.files d.manifest k (d.edits ++ f.edit ∷ []) f.next) (sym ends) has.ends;
-              free = subst (λ (k : ℕ). IsFree order facts.files k) (sym next_is) has.free;
+              ends = subst (λ (k : ℕ). ManifestEndsAt order behind d.manifest k (d.edits ++ f.edit ∷ []) f.next) (sym ends) has.ends;
+              free = subst (λ (k : ℕ). IsFree order behind k) (sym next_is) has.free;
             };
           }
 
       -- the new table is one of those that a compaction doesn't take
-      job_flushed : MatchOption db.job (Unit {0}) (IsCompacting order (whole_of new flushed_db) state.numbers.next db.snapshots db.iterators e)
+      job_flushed : MatchOption db.job (Unit {0}) (IsCompacting order m.damaged (whole_of new flushed_db) behind state.numbers.next db.snapshots db.iterators e)
       job_flushed = each_job _ _ db.job (λ work is c.
           let r = c.running in
           let free = serving.log.knows.free in
           let fits = db.directory.numbers.in_range.1 in
-          let inputs_are = is_input_number order (whole_of old db) (whole_of new flushed_db) next state.numbers.next db.snapshots db.snapshots db.iterators db.iterators db.tables d e work c a.consistent free fits in
-          let own_are = is_own_number order (whole_of old db) (whole_of new flushed_db) next state.numbers.next db.snapshots db.snapshots db.iterators db.iterators db.tables d e work c a.consistent free fits in
-          goes_on_as order (whole_of old db) (whole_of new flushed_db) next state.numbers.next db.snapshots db.snapshots db.iterators db.iterators db.tables d e work c
-          (job_stays order work (whole_of old db) (whole_of new flushed_db) next state.numbers.next d e c.came c.left r (record {
-            drawn = omega (arith, next_is, le);
-            files = λ n input. let known = inputs_are n input in stays n known.0 known.1;
-            outputs = λ n own. let known = own_are n own in whole_left old.facts facts (name_of (Table n)) (names n known.0 known.1).0;
-            sound = sound_still;
-            unkept = λ n kept_now mine. r.unkept n kept_now (elim mine [ inl at ↦ inl at | inr come ↦ inr ((let from = come.0 in omega (arith, from, next_is, le)), come.1) ]);
-            rest = with_content f.content r.rest;
-            planned = flushed_plan order old.facts.files (deep_of order.cmp work) work.job.plan d f.next f.content sealed current r.inputs r.rest a.consistent f.flush r.planned;
-            unused = owns_none_with work.job.outputs f.content.placed d.layout.tables.items f.next.tables.items f.flush.tables (λ own. let known = own_are f.content.placed.table.number own in (let less = known.1 in let number_is = f.number_is in absurd (omega (arith, less, number_is)))) r.unused;
-          })) (omega arith) (known_itself db.snapshots db.memory.last) (have_itself db.iterators db.tables)
-          (λ number. version_unowned work.job.outputs order old.facts.files d serving.contents db.tables number a.consistent a.in_tables serving.tables.version r.unused)) serving.job
+          let own_are = is_own_number order (whole_of old db) (whole_of new flushed_db) next state.numbers.next db.snapshots db.snapshots db.iterators db.iterators db.tables m.damaged serving.ideal behind d e work c a.consistent free fits in
+          goes_on_as order (whole_of old db) (whole_of new flushed_db) next state.numbers.next db.snapshots db.snapshots db.iterators db.iterators db.tables m.damaged serving.ideal behind d e work c
+          (runs_still order (whole_of old db) (whole_of new flushed_db) next state.numbers.next db.snapshots db.snapshots db.iterators db.iterators db.tables m.damaged serving.ideal behind d e work c a.consistent free fits
+          (omega (arith, next_is, le)) (λ n numbered below one. (whole_left old.facts facts (name_of (Table n)) (names n numbered below).0, stays n numbered below)) sound_still (λ n kept_now. inl kept_now) behind_is (with_content f.content r.rest)
+          (flushed_plan order serving.ideal (deep_of order.cmp work) work.job.plan d f.next f.content sealed current r.inputs r.rest a.consistent f.flush r.planned)
+          (owns_none_with work.job.outputs f.content.placed d.layout.tables.items f.next.tables.items f.flush.tables (λ own. let known = own_are f.content.placed.table.number own in (let less = known.1 in let number_is = f.number_is in absurd (omega (arith, less, number_is)))) r.unused))
+          (omega arith) (known_itself db.snapshots db.memory.last) (have_itself db.iterators db.tables)
+          (λ number. version_unowned work.job.outputs order serving.ideal d serving.contents db.tables number a.consistent a.in_tables serving.tables.version r.unused)) serving.job
 
       pub serving_flushed : IsServing order new flushed_db drawn_by
       serving_flushed = record {
         whole = serving.whole;
         certain = serving.certain;
+        ideal = behind;
+        origin = comes_flushed entries f;
         contents = e.tables;
         log = log_flushed;
         tables = record {
@@ -298,13 +327,13 @@ module _ {K : Type 0} {g : _} (order : Order) (kept : (scan : Scan K g) → Scan
 
     -- ---- it isn't, and nothing was lost
 
-    module _ (state : DirectoryState) (entries : List Entry) (has : IsUnflushed order old.facts.files facts.files after plan db.directory.manifest entries db.tables d sealed current)
+    module _ (state : DirectoryState) (entries : List Entry) (has : IsUnflushed order serving.ideal behind after plan db.directory.manifest entries db.tables d sealed current)
         (number : state.manifest.number ≡ db.directory.manifest.number) (name : state.manifest.name ≡ db.directory.manifest.name) (ends : state.manifest.end ≡ db.directory.manifest.end) (first_log : state.first_log ≡ db.directory.first_log)
         (previous_log : state.previous_log ≡ db.directory.previous_log) (next_is : state.numbers.next ≡ after) (le : next ≤ after) (synced : IsSyncedBut facts db.log state db.tables) where
       abbrev pub unflushed_db : OpenDb K g
       unflushed_db = record db { directory = state }
 
-      abbrev log_unflushed : HasLog order facts.files serving.contents unflushed_db
+      abbrev log_unflushed : HasLog order behind serving.contents unflushed_db
       log_unflushed =
           let knows = serving.log.knows in
           record {
@@ -324,21 +353,23 @@ module _ {K : Type 0} {g : _} (order : Order) (kept : (scan : Scan K g) → Scan
               previous_log = knows.previous_log ∙ sym previous_log;
               number = number ∙ knows.number;
               named = ap string_bytes name ∙ knows.named;
-              ends = subst (λ (k : ℕ). ManifestEndsAt order facts.files d.manifest k d.edits d.layout) (sym ends) has.can.ends;
-              free = subst (λ (k : ℕ). IsFree order facts.files k) (sym next_is) has.can.free;
+              ends = subst (λ (k : ℕ). ManifestEndsAt order behind d.manifest k d.edits d.layout) (sym ends) has.can.ends;
+              free = subst (λ (k : ℕ). IsFree order behind k) (sym next_is) has.can.free;
             };
           }
 
-      passes_still : PassesNoLimit order old.facts.files d → PassesNoLimit order facts.files d
+      passes_still : PassesNoLimit order serving.ideal d → PassesNoLimit order behind d
       passes_still none past = none (elim past [
         | inl numbers ↦ inl numbers
-        | inr long ↦ inr (long_back order old.facts.files facts.files d.tables has.kept.beside.tables long)
+        | inr long ↦ inr (long_back order serving.ideal behind d.tables has.kept.beside.tables long)
       ])
 
       pub serving_unflushed : IsServing order new unflushed_db drawn_by
       serving_unflushed = record {
         whole = serving.whole;
         certain = serving.certain;
+        ideal = behind;
+        origin = comes_unflushed has.can.consistent.manifest;
         contents = serving.contents;
         log = log_unflushed;
         tables = record {
@@ -355,34 +386,36 @@ module _ {K : Type 0} {g : _} (order : Order) (kept : (scan : Scan K g) → Scan
         numbers = (let below : next ≤ m.numbers = serving.numbers in omega (arith, next_is, upto, below));
         synced = synced;
         job = each_job _ _ db.job (λ work is c.
-            goes_beside order (whole_of old db) (whole_of new unflushed_db) next state.numbers.next db.snapshots db.snapshots db.iterators db.iterators db.tables d d work c
-            a.consistent serving.log.knows.free db.directory.numbers.in_range.1 (omega (arith, next_is, le)) (λ n numbered below one. let same = names n numbered below in (whole_left old.facts facts (name_of (Table n)) same.0, same.1)) sound_still (λ n kept_now. inl kept_now) refl refl
+            goes_beside order (whole_of old db) (whole_of new unflushed_db) next state.numbers.next db.snapshots db.snapshots db.iterators db.iterators db.tables m.damaged serving.ideal behind d d work c
+            a.consistent serving.log.knows.free db.directory.numbers.in_range.1 (omega (arith, next_is, le)) (λ n numbered below one. let same = names n numbered below in (whole_left old.facts facts (name_of (Table n)) same.0, same.1)) sound_still (λ n kept_now. inl kept_now) behind_is refl refl
             (omega arith) (known_itself db.snapshots db.memory.last) (have_itself db.iterators db.tables)
-            (λ number. version_unowned work.job.outputs order old.facts.files d serving.contents db.tables number a.consistent a.in_tables serving.tables.version c.running.unused)) serving.job;
+            (λ number. version_unowned work.job.outputs order serving.ideal d serving.contents db.tables number a.consistent a.in_tables serving.tables.version c.running.unused)) serving.job;
       }
 
     -- ---- it is or isn't
 
-    pub broken_flush : (entries : List Entry) → MayBeFlushed order old.facts.files facts.files next after entries d sealed current → IsBroken order facts.files (record drawn_by { broken = true })
+    pub broken_flush : (entries : List Entry) → MayBeFlushed order serving.ideal behind next after entries d sealed current → IsBroken order facts.files (record drawn_by { broken = true })
     broken_flush entries may = elim may.either [
-      | inl still ↦ broken_as d still.0 (λ none past. none (elim past [
+      | inl still ↦ broken_as d (comes_unflushed still.0.manifest) still.0 (λ none past. none (elim past [
         | inl numbers ↦ inl numbers
-        | inr long ↦ inr (long_back order old.facts.files facts.files d.tables still.1.beside.tables long)
+        | inr long ↦ inr (long_back order serving.ideal behind d.tables still.1.beside.tables long)
       ])) (same_by (entries_of serving.contents db) (entries_of serving.contents db) (entries_of serving.contents db) (entries_in d) refl (λ e. (λ i. i, λ i. i)) entries_are) refl
       | inr done ↦
           let e = flushed d (d.edits ++ done.edit ∷ []) done.next done.content current in
-          broken_as e done.consistent done.limits
+          broken_as e (comes_flushed entries done) done.consistent done.limits
           (same_by (entries_of serving.contents db) (entries_in d) (entries_in e) (entries_in e) entries_are (same_back (entries_in e) (entries_in d) done.same) refl) done.used
     ]
       where
-        broken_as : (e : Directory) → IsConsistent order facts.files e → (PassesNoLimit order old.facts.files d → PassesNoLimit order facts.files e) → SameEntries (entries_of serving.contents db) (entries_in e) → used_in e ≡ used_in d
+        broken_as : (e : Directory) → ComesFrom order m.damaged facts.files behind → IsConsistent order behind e → (PassesNoLimit order serving.ideal d → PassesNoLimit order behind e) → SameEntries (entries_of serving.contents db) (entries_in e) → used_in e ≡ used_in d
             → IsBroken order facts.files (record drawn_by { broken = true })
-        broken_as e good passes same used =
+        broken_as e origin good passes same used =
             let readable = readable_as e good passes in
             record {
               broken = refl;
               rest = record {
-                meaning = rests_as order law old db m serving facts.files e good same (used ∙ sym a.spent);
+                ideal = behind;
+                origin = origin;
+                meaning = rests_as order law old db m serving behind e good same (used ∙ sym a.spent);
                 readable = record { made = readable.made; numbers = readable.numbers; limits = readable.limits };
               };
             }

@@ -14,7 +14,7 @@ use Rattle.ikey.specs.Sources.{IsAnswer, FrontLaw, BehindLaw, SameViewLaw}
 use Rattle.ikey.specs.Views.{IsUnseen}
 use Rattle.memtables.specs.Memories.{logged_in}
 use Rattle.memtables.specs.PlaceLaws.{left_there}
-use Rattle.version_get.specs.Gets.{HasNoTablesOf, IsOneTooLong, SaysOfAll}
+use Rattle.version_get.specs.Gets.{HasNoTablesOf, IsOneTooLong, SaysOfEach}
 use Rattle.db_cursor.specs.internal.Scanning.{ScanIsKept}
 use Rattle.db_cursor.specs.declared.scan.Scan.{Scan}
 use Rattle.version_laws.specs.Laws.{VersionLaw}
@@ -74,14 +74,14 @@ gathers_of db old new h number kept = elim (h number kept) [ inl before ↦ inl 
 module _ {K : Type 0} {g : _} {numbers : ℕ → Type 0} (order : Order) (kept : (scan : Scan K g) → ScanIsKept order.cmp scan) (version : VersionLaw) (total : IsTotalOrder order.cmp) (exact : IsAntisymmetric order.cmp)
     (old new : Seen) (ids : Ids) (db : OpenDb K g) (key : List ℕ) (snapshot : Option ℕ) (sequence below : ℕ) (whole : db.broken ≡ false) (at : sequence_at db snapshot ≡ Some sequence)
     (clamped : sequence ≤ db.memory.last → below ≡ sequence) (carries : Carries order.cmp numbers old new) (gathers : GathersRead db old new) where
-  pub tables_read : FrontLaw → BehindLaw → SameViewLaw → IsUnseen (logged_in db.memory) sequence key → (answer : Option (Option (List ℕ))) → SaysOfAll order old new db.tables key below answer
+  pub tables_read : FrontLaw → BehindLaw → SameViewLaw → IsUnseen (logged_in db.memory) sequence key → (answer : Option (Option (List ℕ))) → SaysOfEach order old new db.tables key below answer
       → LeadsOpen order old new ids db db (λ m n. Gets m key snapshot (Value (unwrap_or answer None)) n)
   tables_read front behind same unseen answer says = record {
     faithful = carries.reads.faithful;
     moved = λ f m s.
         let serving = serving_of order old ids db m whole s in
         let is : below ≡ sequence = clamped (within_last order old db m snapshot sequence serving at) in
-        let value = tables_value order old ids db m key snapshot s whole sequence at front behind same version total exact unseen new answer f (subst (λ (n : ℕ). SaysOfAll order old new db.tables key n answer) is says) in (
+        let value = tables_value order old ids db m key snapshot s whole sequence at front behind same version total exact unseen new answer f (subst (λ (n : ℕ). SaysOfEach order old new db.tables key n answer) is says) in (
           read_by new.facts m,
           got_value order old ids db m key snapshot s whole sequence at (read_by new.facts m) (unwrap_or answer None)
               (denies_none m (read_by new.facts m) _ (let rise : old.facts.failures ≤ new.facts.failures = carries.reads.failures in omega (arith, s.counts.failures, rise)) (carries.reads.denials ∙ sym s.counts.denials)) refl value,

@@ -1,5 +1,5 @@
 -- Steps of the machine behind the moves of an iterator.
-use Rattle.std.proofs.Common.{◌≡◌, inl, inr, ℕ, ◌<◌, ◌≤◌, Bool, true, false, cond, IsTrue, List, [], Option, Some, None, is_some, MatchOption, MatchResult, Ok, Err, IfErr, Result, refl, sym, ap, subst, ◌∙◌, arith}
+use Rattle.std.proofs.Common.{◌≡◌, ◌⊎◌, inl, inr, ℕ, ◌<◌, ◌≤◌, Bool, true, false, cond, IsTrue, List, [], Option, Some, None, IsSome, is_some, MatchOption, MatchResult, Ok, Err, IfErr, Result, refl, sym, ap, subst, ◌∙◌, arith}
 use Rattle.std.specs.Bool.{nat_eq}
 use Rattle.std.specs.BTreeMap.{BTreeMap}
 use Rattle.std.specs.Cmp.{IsTotalOrder}
@@ -21,7 +21,10 @@ use Rattle.db_cursor.specs.declared.scan.Scan.{Scan}
 use Rattle.version_laws.specs.Laws.{VersionLaw}
 use Rattle.table_access.specs.Tables.{Seen}
 use Rattle.table.specs.Reading.{IsStill}
-use Rattle.store.specs.Files.{Facts}
+use Rattle.store.specs.Files.{Facts, Files}
+use Rattle.cache.specs.Tables.{table_at}
+use Rattle.edits.specs.declared.field.PlacedTable.{PlacedTable}
+use Rattle.level_cursor.specs.InRows.{ListsNumber}
 use Rattle.machine.specs.declared.command.Answer.{Answer}
 use Rattle.machine.specs.declared.command.Answer.TheVariants.{Pair, Refused}
 use Rattle.engine.specs.declared.ids.Ids.{Ids}
@@ -31,11 +34,12 @@ use Rattle.opening.specs.Refusals.{IsMet}
 use Rattle.engine.specs.internal.Leading.{LeadsOpen}
 use Rattle.engine.specs.Follows.{pair_answer}
 use Rattle.engine.specs.OpenDb.{OpenDb, whole_of}
-use Rattle.reader.specs.internal.Iterators.{IsWalk, walked_of}
+use Rattle.reader.specs.internal.Iterators.{IsWalk, MayBeWalk, walked_of}
 use Rattle.engine.specs.Reads.{kept_at}
-use Rattle.engine.specs.internal.Live.{IsBoth, AreLive}
+use Rattle.engine.specs.internal.Live.{IsBoth, AreLive, IsLiveWalk}
 use Rattle.machine.specs.Machine.{Machine, Walk, walk_under}
-use Rattle.reader.specs.Moving.{IsMoved, IsNoWalk, IsReadError, MayRefuseMotion, MovesTo, standing}
+use Rattle.engine.specs.internal.Pieces.{IsHardToRead}
+use Rattle.reader.specs.Moving.{IsMoved, IsNoWalk, IsReadError, MayMoveTo, MayRefuseMotion, standing}
 use Rattle.engine.specs.Outcomes.{DbOutcome, IsSame, Keeps, MayRefuseMove}
 use Rattle.machine.specs.Serving.{◌≈◌, Counted, ReadRefused}
 use Rattle.engine.specs.internal.Standing.{IsServing, StandsOpen}
@@ -43,6 +47,7 @@ use Rattle.machine.specs.Causes.{no_iterator, status_of, Motion, lacks_place, ne
 use Rattle.machine.specs.Walks.{place_after, pair_at, moved, Moves}
 use Rattle.engine.proofs.Compacting.{HaveKnown, have_same, have_updated, known_itself}
 use Rattle.engine.proofs.LiveIds.{same_id, live_again, live_changed, live_replaced, both_then}
+use Rattle.engine.proofs.Origins.{whole_walk}
 use Rattle.engine.proofs.Reading.{read_by, stands_read}
 use Rattle.engine.proofs.Steps.{denies_none, by_cause, without_cause, serving_of}
 use Rattle.engine.proofs.ViewSteps.{Updates, cause_whole, iterator_known, stands_anew, stands_beside}
@@ -55,7 +60,7 @@ pub not_walked : {K : Type 0} {g : _} → (order : Order) (source : Seen) (ids :
 not_walked order source ids db open_ones id motion is gone same = record {
   faithful = λ f. f;
   moved = λ f m s.
-      let walks : AreLive (IsWalk order.cmp m.over_limit (whole_of source db)) open_ones m.iterators = λ q. subst (λ (o : Option (Scan _ _)). IsBoth (IsWalk order.cmp m.over_limit (whole_of source db)) o (lookup (nat_eq q) m.iterators)) (sym (same q)) ((serving_of order source ids db m is s).iterators q) in (
+      let walks : AreLive (IsLiveWalk order.cmp m.over_limit m.damaged (whole_of source db)) open_ones m.iterators = λ q. subst (λ (o : Option (Scan _ _)). IsBoth (IsLiveWalk order.cmp m.over_limit m.damaged (whole_of source db)) o (lookup (nat_eq q) m.iterators)) (sym (same q)) ((serving_of order source ids db m is s).iterators q) in (
         m,
         by_cause (move_cause (status_of m) id motion) m error.NoIterator ⊥
             (cause_whole order source ids db m (option_or (no_iterator (status_of m) id) (lacks_place (is_some (walk_under m id).place) motion)) is s
@@ -72,9 +77,9 @@ walk_at Is (Some x) None iterator is h = absurd h
 walk_at {X} Is (Some x) (Some walk) iterator is h = (let same : x ≡ iterator = cc in subst (λ (i : X). Is i walk) same h)
 
 -- the same place is lacked
-lacks_same : {K : Type 0} {g : _} (order : Order) (limited : Bool) (whole : Whole) (scan : Scan K g) (walk : Walk) (motion : Motion) → IsWalk order.cmp limited whole scan walk → lacks_place (is_some walk.place) motion ≡ lacks_place scan.walk.stands motion
-lacks_same order limited whole scan walk motion h =
-    sym (ap (λ (b : Bool). lacks_place b motion) (stands_is order.cmp (ListsMerged order.cmp) scan.walk.cursor scan.walk.sequence scan.walk.stands scan.walk.position scan.walk.here.key.items scan.walk.here.value.items whole h.scan.walk.0 (walked_of walk) h.scan.walk.2))
+lacks_same : {K : Type 0} {g : _} (order : Order) (limited damaged : Bool) (whole : Whole) (scan : Scan K g) (walk : Walk) (motion : Motion) → IsLiveWalk order.cmp limited damaged whole scan walk → lacks_place (is_some walk.place) motion ≡ lacks_place scan.walk.stands motion
+lacks_same order limited damaged whole scan walk motion h =
+    sym (ap (λ (b : Bool). lacks_place b motion) (stands_is order.cmp (ListsMerged order.cmp) scan.walk.cursor scan.walk.sequence scan.walk.stands scan.walk.position scan.walk.here.key.items scan.walk.here.value.items whole h.may.scan.walk.0 (walked_of walk) h.may.scan.walk.2))
 
 -- ---- limits of reading
 
@@ -84,13 +89,26 @@ module _ {K : Type 0} {g : _} (order : Order) (source : Seen) (db : OpenDb K g) 
   over_limit true is none = is
   over_limit false is none = absurd (none refl)
 
+  no_walk : m.damaged ≡ false → (scan : Scan K g) (walk : Walk) → IsLiveWalk order.cmp m.over_limit m.damaged (whole_of source db) scan walk → IsNoWalk order.cmp (whole_of source db) scan → ⊥
+  no_walk whole scan walk h none = none m.over_limit walk (whole_walk order.cmp m.over_limit m.damaged (whole_of source db) scan walk whole h)
+
+  damage : (b : Bool) → m.damaged ≡ b → (scan : Scan K g) (walk : Walk) → IsLiveWalk order.cmp m.over_limit m.damaged (whole_of source db) scan walk → IsNoWalk order.cmp (whole_of source db) scan → m.damaged ≡ true
+  damage true is scan walk h none = is
+  damage false whole scan walk h none = absurd (no_walk whole scan walk h none)
+
+  hard : (b : Bool) → m.damaged ≡ b → (scan : Scan K g) (walk : Walk) → IsLiveWalk order.cmp m.over_limit m.damaged (whole_of source db) scan walk
+      → IsNoWalk order.cmp (whole_of source db) scan ⊎ IsScanLimited order.cmp scan (whole_of source db) → IsHardToRead m
+  hard true is scan walk h r = inr is
+  hard false whole scan walk h (inl none) = absurd (no_walk whole scan walk h none)
+  hard false whole scan walk h (inr limited) = inl (over_limit m.over_limit refl (λ is. h.limits is whole (h.may.scan.limits limited)))
+
   -- why a move is refused, the machine allows
-  pub read_refused : (new : Facts) (scan : Scan K g) (walk : Walk) (e : DbError) → IsTrue new.faithful → m.failures ≡ source.facts.failures → IsWalk order.cmp m.over_limit (whole_of source db) scan walk
+  pub read_refused : (new : Facts) (scan : Scan K g) (walk : Walk) (e : DbError) → IsTrue new.faithful → m.failures ≡ source.facts.failures → IsLiveWalk order.cmp m.over_limit m.damaged (whole_of source db) scan walk
       → Refuses e source.facts new (IsNoWalk order.cmp (whole_of source db) scan) (IsScanLimited order.cmp scan (whole_of source db)) → ReadRefused m e (read_by new m)
   read_refused new scan walk error.OutOfMemory f counts h r = refl
   read_refused new scan walk error.Io f counts h r = ((let rise : source.facts.failures < new.failures = r in omega (arith, counts, rise)), refl)
-  read_refused new scan walk (error.Corrupt file what) f counts h r = absurd (r f m.over_limit walk h)
-  read_refused new scan walk (error.Unsupported what) f counts h r = (elim (r f) [ inl damaged ↦ absurd (damaged m.over_limit walk h) | inr limited ↦ over_limit m.over_limit refl (λ is. h.limits is (h.scan.limits limited)) ], refl)
+  read_refused new scan walk (error.Corrupt file what) f counts h r = (damage m.damaged refl scan walk h (r f), refl)
+  read_refused new scan walk (error.Unsupported what) f counts h r = (hard m.damaged refl scan walk h (r f), refl)
   read_refused new scan walk _ f counts h r = absurd r
 
 -- ---- a move
@@ -123,14 +141,30 @@ module _ {K : Type 0} {g : _} (order : Order) (kept : (scan : Scan K g) → Scan
   have_now : tables_of now ≡ tables_of was → HaveKnown db.iterators db.tables open_ones
   have_now same = have_updated db.iterators open_ones db.tables id (Some now) (λ one is_now. let it : now ≡ one = cc in inl (id, was, there, ap tables_of (sym it) ∙ same)) updates
 
-  walk_known : (m : Machine) → StandsOpen order source ids db m → IsWalk order.cmp m.over_limit before was (walk_under m id)
-  walk_known m s = walk_at (IsWalk order.cmp m.over_limit before) (kept_at db.iterators id) (lookup (nat_eq id) m.iterators) was there ((serving_of order source ids db m is s).iterators id)
+  walk_known : (m : Machine) → StandsOpen order source ids db m → IsLiveWalk order.cmp m.over_limit m.damaged before was (walk_under m id)
+  walk_known m s = walk_at (IsLiveWalk order.cmp m.over_limit m.damaged before) (kept_at db.iterators id) (lookup (nat_eq id) m.iterators) was there ((serving_of order source ids db m is s).iterators id)
 
   move_at : (m : Machine) (o : Option DbError) → StandsOpen order source ids db m → lacks_place was.walk.stands motion ≡ o → move_cause (status_of m) id motion ≡ o
   move_at m o s known =
       cause_whole order source ids db m (option_or (no_iterator (status_of m) id) (lacks_place (is_some (walk_under m id).place) motion)) is s
       ∙ ap (λ (x : Option DbError). option_or x (lacks_place (is_some (walk_under m id).place) motion)) (iterator_known order source ids db m is s id true (ap is_some there))
-      ∙ lacks_same order m.over_limit before was (walk_under m id) motion (walk_known m s) ∙ known
+      ∙ lacks_same order m.over_limit m.damaged before was (walk_under m id) motion (walk_known m s) ∙ known
+
+  -- a walk of the one that was is such a walk of the one that is, to which it may be moved
+  goes_on : (r : Result (Option (List ℕ × List ℕ)) DbError) → IsMoved order.cmp motion before after was now r → IsTrue new.facts.faithful → lacks_place was.walk.stands motion ≡ None → (limited damaged : Bool) (walk there_walk : Walk)
+      → MayBeWalk order.cmp after now there_walk → (IsWalk order.cmp limited before was walk → IsWalk order.cmp limited after now there_walk)
+      → IsLiveWalk order.cmp limited damaged before was walk → IsLiveWalk order.cmp limited damaged after now there_walk
+  goes_on r h f free limited damaged walk there_walk may whole known = record {
+    may = may;
+    limits = λ within is. (whole (whole_walk order.cmp limited damaged before was walk is known)).limits within;
+    intact = λ is. (whole (whole_walk order.cmp limited damaged before was walk is known)).scan.intact;
+    tables = λ number read.
+        let old_one = known.tables number (h.tables number read) in (
+          subst (λ (ts : List PlacedTable). ListsNumber ts number) (sym h.version) old_one.0,
+          old_one.1,
+          subst (λ (fs : Files). IsSome (table_at fs number)) (sym (h.reads.files f)) old_one.2,
+        );
+  }
 
   stands_on : (result : Result (Option (List ℕ × List ℕ)) DbError) → IsMoved order.cmp motion before after was now result → IsTrue new.facts.faithful → (m : Machine) → StandsOpen order source ids db m → StandsOpen order new ids read_db (read_by new.facts m)
   stands_on result h f m s = stands_read order kept source new ids db memory m h.carries (λ number kept_now. elim (h.carries.gathered number kept_now) [ inl before ↦ inl before | inr reads ↦ inr (inr (id, was, there, reads)) ]) f h.memory s
@@ -145,7 +179,10 @@ module _ {K : Type 0} {g : _} (order : Order) (kept : (scan : Scan K g) → Scan
         let place = place_after order.cmp motion (walk_under m id) in
         let n : Machine = read_by new.facts (moved m id place) in
         let free : lacks_place was.walk.stands motion ≡ None = placed_somewhere (lacks_place was.walk.stands motion) pair was now before after h.placeless in
-        let goes : MovesTo order.cmp motion m.over_limit after now (walk_under m id) (Ok pair) = h.moves f free m.over_limit (walk_under m id) (walk_known m s) in
+        let known = walk_known m s in
+        let goes : MayMoveTo order.cmp motion after now (walk_under m id) (Ok pair) = h.may_move f free (walk_under m id) known.may in
+        let there_walk : Walk = record (walk_under m id) { place = place } in
+        let live = goes_on (Ok pair) h f free m.over_limit m.damaged (walk_under m id) there_walk goes.0 (λ whole. (h.moves f free m.over_limit (walk_under m id) whole).0) known in
         let stands = stands_on (Ok pair) h f m s in
         let counted = counts_on (Ok pair) (Pair pair) place h m s in
         let serving = serving_of order new ids read_db (read_by new.facts m) is stands in (
@@ -153,7 +190,7 @@ module _ {K : Type 0} {g : _} (order : Order) (kept : (scan : Scan K g) → Scan
           without_cause (move_cause (status_of m) id motion) m n (Pair pair) ((pair ≡ pair_at (walk_under m id).pairs place) × (n ≈ moved m id place)) (move_at m None s free)
               (record { failures = counted.failures; denials = counted.denials; undenied = counted.undenied }) (goes.1, refl),
           stands_beside order new ids ids read_db db.snapshots open_ones (read_by new.facts m) m.snapshots n.iterators m.last_snapshot m.last_iterator is stands s.ids.0 s.ids.1 (known_itself db.snapshots memory.last) (have_now h.version) serving.snapshots
-              (live_replaced (IsWalk order.cmp m.over_limit after) id db.iterators open_ones m.iterators now (record (walk_under m id) { place = place }) updates goes.0 serving.iterators),
+              (live_replaced (IsLiveWalk order.cmp m.over_limit m.damaged after) id db.iterators open_ones m.iterators now there_walk updates live serving.iterators),
         );
   }
 
@@ -163,11 +200,11 @@ module _ {K : Type 0} {g : _} (order : Order) (kept : (scan : Scan K g) → Scan
   stays_there e h f free m s =
       let stands = stands_on (Err e) h f m s in
       let serving = serving_of order new ids read_db (read_by new.facts m) is stands in
-      let both : IsBoth (IsWalk order.cmp m.over_limit before) (Some was) (lookup (nat_eq id) m.iterators) =
-      subst (λ (o : Option (Scan K g)). IsBoth (IsWalk order.cmp m.over_limit before) o (lookup (nat_eq id) m.iterators)) there ((serving_of order source ids db m is s).iterators id) in
+      let both : IsBoth (IsLiveWalk order.cmp m.over_limit m.damaged before) (Some was) (lookup (nat_eq id) m.iterators) =
+      subst (λ (o : Option (Scan K g)). IsBoth (IsLiveWalk order.cmp m.over_limit m.damaged before) o (lookup (nat_eq id) m.iterators)) there ((serving_of order source ids db m is s).iterators id) in
       stands_beside order new ids ids read_db db.snapshots open_ones (read_by new.facts m) m.snapshots m.iterators m.last_snapshot m.last_iterator is stands s.ids.0 s.ids.1 (known_itself db.snapshots memory.last) (have_now h.version) serving.snapshots
-      (live_again (IsWalk order.cmp m.over_limit after) id db.iterators open_ones m.iterators now
-      (both_then (IsWalk order.cmp m.over_limit before) (IsWalk order.cmp m.over_limit after) was now (lookup (nat_eq id) m.iterators) (λ walk known. h.moves f free m.over_limit walk known) both) updates serving.iterators)
+      (live_again (IsLiveWalk order.cmp m.over_limit m.damaged after) id db.iterators open_ones m.iterators now
+      (both_then (IsLiveWalk order.cmp m.over_limit m.damaged before) (IsLiveWalk order.cmp m.over_limit m.damaged after) was now (lookup (nat_eq id) m.iterators) (λ walk known. goes_on (Err e) h f free m.over_limit m.damaged walk walk (h.may_move f free walk known.may) (h.moves f free m.over_limit walk) known) both) updates serving.iterators)
 
   -- there was no place to step from, and nothing was done
   same_there : now ≡ was → after ≡ before → (m : Machine) → StandsOpen order source ids db m → StandsOpen order new ids (record db { memory = memory; iterators = open_ones }) m
@@ -175,7 +212,7 @@ module _ {K : Type 0} {g : _} (order : Order) (kept : (scan : Scan K g) → Scan
       let serving = serving_of order source ids db m is s in
       subst (λ (w : Whole). StandsOpen order w.seen ids (record db { memory = w.memory; iterators = open_ones }) m) (sym whole)
       (stands_anew order source ids db db.snapshots open_ones m is (λ q. refl) (have_now (ap tables_of same))
-      (live_changed (IsWalk order.cmp m.over_limit before) id db.iterators open_ones m.iterators was now there (λ walk known. subst (λ (i : Scan K g). IsWalk order.cmp m.over_limit before i walk) (sym same) known) updates serving.iterators) s)
+      (live_changed (IsLiveWalk order.cmp m.over_limit m.damaged before) id db.iterators open_ones m.iterators was now there (λ walk known. subst (λ (i : Scan K g). IsLiveWalk order.cmp m.over_limit m.damaged before i walk) (sym same) known) updates serving.iterators) s)
 
   pub stood : (e : DbError) → IsMoved order.cmp motion before after was now (Err e) → LeadsOpen order source new ids db (record db { memory = memory; iterators = open_ones }) (λ m n. Moves order m id motion (Refused e) n)
   stood e h = record { faithful = h.reads.faithful; moved = λ f m s. at f m s (lacks_place was.walk.stands motion) refl h.placeless }

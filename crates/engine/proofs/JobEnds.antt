@@ -1,8 +1,9 @@
 -- How a call that goes on with a compaction ends.
 use Rattle.std.proofs.Common.{◌≡◌, ◌⊎◌, ◌<◌, ◌≤◌, ◌+◌, ◌^◌, ◌++◌, ℕ, Bool, true, false, List, [], ◌∷◌, map, Contains, Option, Some, None, MatchOption, max, Result, Ok, Err, IsTrue, inl, inr, refl, sym, ap, subst, ◌∙◌, arith, string_bytes}
-use Rattle.std.proofs.lemmas.List.{append-nil, length-append, length-map}
+use Rattle.std.proofs.lemmas.List.{append-nil}
 use Rattle.std.proofs.lemmas.List.Sorted.{Contains-permutation, IsPermutation-sym}
 use Rattle.std.specs.Cmp.{IsTotalOrder}
+use Rattle.std.specs.FinMap.{get}
 use Rattle.std.specs.List.Sorted.{IsPermutation}
 use Rattle.std.specs.Map.{values_of}
 use Rattle.cache.specs.Tables.{table_at}
@@ -10,43 +11,38 @@ use Rattle.coding.specs.declared.error.DbError.{DbError}
 use Rattle.coding.specs.declared.error.DbError.TheVariants as error
 use Rattle.compact.specs.Deeper.{is_covered_below}
 use Rattle.compact.specs.Needed.{AreNeeded}
-use Rattle.compact.specs.Outputs.{IsNumberAtHand, IsOwn, IsTableName, RefusesEntry}
+use Rattle.compact.specs.Outputs.{IsNumberAtHand, IsOwn, IsTableName, RefusesEntry, table_name}
 use Rattle.compact.specs.Rooms.{AreLarge}
 use Rattle.compact.specs.declared.job.Progress.{Progress}
 use Rattle.edits.specs.declared.numbers.FileNumbers.{FileNumbers}
 use Rattle.edits.specs.declared.field.PlacedTable.{PlacedTable}
-use Rattle.ikey.proofs.SearchedSources.{among_front}
 use Rattle.ikey.specs.Entries.{InternalEntry, entry_of}
 use Rattle.ikey.specs.Orders.{Order}
 use Rattle.cursor.specs.Places.{Cmp}
-use Rattle.ikey.specs.Sources.{SameEntries}
-use Rattle.ikey.specs.Views.{Among}
-use Rattle.ikey.specs.declared.entry.Entry.{Entry}
-use Rattle.running_job.specs.internal.Ending.{CanEnd, EndLeaves, EndMayLeave, RefusesEnd}
+use Rattle.running_job.specs.internal.Ending.{CanEnd, EndLeavesOver, EndMayLeave, EndPutsOwn, RefusesEnd}
 use Rattle.running_job.specs.Running.{deep_of, shown}
-use Rattle.running_job.specs.internal.Stepping.{GoesOn, KeepsDirectory, RefusesStep, StepStops, StepTouches}
+use Rattle.running_job.specs.internal.Stepping.{GoesOn, KeepsSound, MayGoOn, RefusesStep, StepStops, StepTouches}
 use Rattle.running_job.specs.declared.open_job.OpenJob.{OpenJob}
-use Rattle.memtables.specs.Memories.{Memories, logged_in}
+use Rattle.memtables.specs.Memories.{Memories}
 use Rattle.memtables.specs.PlaceLaws.{left_logged}
 use Rattle.memtables.specs.Places.{LeavesMemories}
-use Rattle.recover.proofs.Memberships.{among_chosen, from_chosen, from_rest, in_part, one_of_tables}
+use Rattle.recover.proofs.Memberships.{from_chosen, from_rest, in_part, one_of_tables}
 use Rattle.recover.proofs.Adding.{table_of}
 use Rattle.recover.specs.Directory.{Directory, IsConsistent}
 use Rattle.recover.specs.internal.Laws.{OneDirectoryLaw}
-use Rattle.recover.specs.Tables.{HasTable, InTables, IsTableFile, TableContent, tabled}
+use Rattle.recover.specs.Tables.{HasTable, TableContent, tabled}
 use Rattle.db_cursor.specs.internal.Scanning.{ScanIsKept}
-use Rattle.db_cursor.specs.Scans.{IsOnePastLimit}
 use Rattle.db_cursor.specs.Whole.{Whole}
 use Rattle.db_cursor.specs.declared.scan.Scan.{Scan}
 use Rattle.table_access.specs.Tables.{Seen, SoundLasts}
-use Rattle.table_access.specs.Values.{IsTablePastLimit}
 use Rattle.store.specs.Files.{Facts, Files}
 use Rattle.store.specs.Stops.{LeavesOnly}
 use Rattle.store.proofs.Stopping.{leaves_both, leaves_so}
 use Rattle.directory_writes.proofs.JobTables.{contains_among, content_at}
 use Rattle.directory_writes.specs.Replacing.{placed_in}
 use Rattle.directory_writes.specs.internal.Flush.{SparesManifest}
-use Rattle.directory_writes.specs.internal.Install.{InstallMeans, InstallSyncs, InstallTouches, IsTableSynced}
+use Rattle.directory_writes.specs.Differing.{IsSameChange, OfEach}
+use Rattle.directory_writes.specs.internal.Install.{AreOldOrOwn, InstallMeans, InstallSyncs, InstallTouches, IsTableSynced, MayBeInstalled}
 use Rattle.opening.specs.Durable.{IsSynced}
 use Rattle.directory_writes.specs.declared.flush.FlushError.{FlushError}
 use Rattle.directory_writes.specs.declared.flush.FlushError.TheVariants.{Before, Edit}
@@ -60,94 +56,32 @@ use Rattle.engine.specs.internal.Compacting.{IsCompacting}
 use Rattle.engine.specs.internal.Leading.{LeadsOpen}
 use Rattle.engine.specs.OpenDb.{OpenDb, open_db, whole_of}
 use Rattle.engine.specs.internal.Directory.{MeansAccepted}
-use Rattle.engine.specs.internal.Standing.{entries_of, IsBroken, IsServing, StandsOpen}
+use Rattle.engine.specs.internal.Standing.{IsBroken, IsServing, StandsWhole}
 use Rattle.engine.specs.internal.Stopping.{KeepsOpen}
 use Rattle.machine.specs.Machine.{Machine, entry_count, weight}
 use Rattle.engine.specs.internal.TakingAll.{EndsNeeded, TakesAll}
-use Rattle.engine.specs.Needed.{live_sequences}
+use Rattle.engine.specs.Needed.{HasNeeded, live_sequences}
 use Rattle.engine.specs.WrittenTables.{HasMerged, KeepsTableFiles, PutsMerged}
 use Rattle.machine.specs.Upkeep.{UpkeepRefused}
 use Rattle.engine.specs.Outcomes.{DbOutcome, IsSame}
 use Rattle.engine.specs.internal.JobsToEnd.{HasCome}
 use Rattle.engine.specs.internal.Pieces.{IsPiece, MayRefusePiece, broken_by, flush_answer}
 use Rattle.engine.proofs.InUse.{as_listed}
-use Rattle.engine.proofs.Installing.{broken_install, can_end, means_install, serving_installed, serving_uninstalled}
-use Rattle.engine.proofs.JobBounds.{count_within, merged_apart, room_apart_within}
+use Rattle.engine.proofs.Installing.{broken_install, broken_uninstalled, can_end, can_end_whole, end_change, end_whole, ended_as, means_install, serving_installed, serving_uninstalled}
 use Rattle.engine.proofs.NeededEntries.{installed_needed, takes_on}
 use Rattle.engine.proofs.Compacting.{all_contains}
-use Rattle.engine.proofs.Reading.{has_placed, long_table}
-use Rattle.engine.proofs.Stepping.{all_came, can_step, gone_on, kept_parts, listed_apart, serving_stepped, the_job}
+use Rattle.engine.proofs.Reading.{has_placed}
+use Rattle.engine.proofs.Stepping.{all_came, can_step, gone_on, listed_apart, serving_stepped, table_same, the_job}
 use Rattle.engine.proofs.Steps.{serving_of}
 use Rattle.engine.proofs.StopSteps.{means_still}
 use Rattle.engine.proofs.WorkSteps.{breaks, drawing, draws, serves_on}
+use Rattle.engine.proofs.JobCauses.{job_heavy, job_counted, job_limited, not_whole, hard_or}
 
 abbrev SameRefusal : {U : Type 0} → Result U DbError → Result U DbError → Type 0
 SameRefusal a b = a ≡ b
 
 refusal_in : {U : Type 0} {e x : DbError} → SameRefusal {U = U} (Err e) (Err x) → e ≡ x
 refusal_in is = cc
-
--- ---- what a compaction meets
-
--- a table of the directory that passes a limit is one of the first directory's
-pub limited_in : {K : Type 0} {g : _} (order : Order) (old : Seen) (db : OpenDb K g) (m : Machine) (serving : IsServing order old db m) (content : TableContent) → InTables serving.log.directory.directory.tables content
-    → (placed : PlacedTable) → content.placed ≡ placed → (file : List ℕ) → table_at old.facts.files placed.table.number ≡ Some file → IsTablePastLimit order.cmp file → m.over_limit ≡ true
-limited_in order old db m serving content i placed is file there past = at m.over_limit refl
-  where
-    none : m.over_limit ≡ false → ⊥
-    none within =
-        let d = serving.log.directory.directory in
-        let has : HasTable order old.facts.files content = one_of_tables order old.facts.files d.tables content serving.log.directory.consistent.tables i in
-        let here : table_at old.facts.files content.placed.table.number ≡ Some file = ap (λ (p : PlacedTable). table_at old.facts.files p.table.number) is ∙ there in
-        let both : Some has.bytes ≡ Some file = sym has.there ∙ here in
-        let same : has.bytes ≡ file = cc in
-        serving.readable.limits within d serving.log.directory.consistent (inr (content, i, (file, here, long_table order file content.entries (subst (λ (bytes : List ℕ). IsTableFile order bytes content.entries) same has.spelled) past)))
-
-    at : (b : Bool) → m.over_limit ≡ b → m.over_limit ≡ true
-    at true known = known
-    at false known = absurd (none known)
-
-module _ {K : Type 0} {g : _} (order : Order) (total : IsTotalOrder order.cmp) (old : Seen) (db : OpenDb K g) (m : Machine) (serving : IsServing order old db m) (work : OpenJob K g)
-    (c : IsCompacting order (whole_of old db) db.directory.numbers.next db.snapshots db.iterators serving.log.directory.directory work) where
-  abbrev d : Directory
-  d = serving.log.directory.directory
-
-  -- what it compacts was there
-  merged_within : (entry : Entry) → Among (map entry_of (c.came ++ c.left)) entry → Among (entries_of serving.contents db) entry
-  merged_within entry i =
-      let in_inputs = (c.running.entries entry).0 i in
-      let in_tables = among_chosen d.tables c.running.inputs c.running.rest entry c.running.planned.parted in_inputs in
-      among_front (tabled serving.contents) (logged_in db.memory) entry (subst (λ (cs : List TableContent). Among (tabled cs) entry) (sym serving.log.directory.in_tables) in_tables)
-
-  -- what is too large for a block is as heavy
-  pub job_heavy : AreLarge (map entry_of (c.came ++ c.left)) → 2 ^ 29 ≤ weight m
-  job_heavy large =
-      let apart = merged_apart order total (whole_of old db) work c.came c.left c.running.stands c.running.own_sequences in
-      let within = room_apart_within (entry_count m) (weight m) (map entry_of (c.came ++ c.left)) (entries_of serving.contents db) apart merged_within serving.accounted in
-      omega (arith, large, within)
-
-  -- no more came than there are
-  pub job_counted : work.merged ≤ entry_count m
-  job_counted =
-      let apart = merged_apart order total (whole_of old db) work c.came c.left c.running.stands c.running.own_sequences in
-      let within = count_within (entry_count m) (weight m) (map entry_of (c.came ++ c.left)) (entries_of serving.contents db) apart merged_within serving.accounted in
-      let counted = c.running.counted in
-      omega (arith, counted, within, length-map (c.came ++ c.left) entry_of, length-append c.came c.left)
-
-  -- its inputs are tables of the version
-  pub inputs_listed : (placed : PlacedTable) → Contains work.job.plan.inputs.items placed → Contains db.tables placed
-  inputs_listed placed i =
-      let content = content_at c.running.inputs placed (contains_among (placed_in c.running.inputs) placed (Contains-permutation work.job.plan.inputs.items (placed_in c.running.inputs) placed c.running.planned.planned i)) in
-      let there = from_chosen d.tables c.running.inputs c.running.rest content.0 c.running.planned.parted content.1 in
-      let listed = subst (λ (cs : List TableContent). ListsSameTables (placed_in cs) db.tables) serving.log.directory.in_tables serving.tables.version in
-      subst (λ (p : PlacedTable). Contains db.tables p) content.2 (all_contains (Contains db.tables) (placed_in d.tables) content.0.placed listed.all (has_placed d.tables content.0 there))
-
-  -- an input that passes a limit is one of the first directory's
-  pub job_limited : IsOnePastLimit order.cmp work.job.plan.inputs.items (whole_of old db) → m.over_limit ≡ true
-  job_limited past =
-      let placed = past.0 in
-      let content = content_at c.running.inputs placed (contains_among (placed_in c.running.inputs) placed (Contains-permutation work.job.plan.inputs.items (placed_in c.running.inputs) placed c.running.planned.planned past.1)) in
-      limited_in order old db m serving content.0 (from_chosen d.tables c.running.inputs c.running.rest content.0 c.running.planned.parted content.1) placed content.2 past.2 past.3 past.4
 
 -- ---- over any store
 
@@ -283,7 +217,7 @@ module _ {K : Type 0} {g : _} (order : Order) (total : IsTotalOrder order.cmp) (
     (old new : Seen) (ids : Ids) (state : DbState K g) (memory after_memory : Memories) (numbers : FileNumbers) (most : ℕ) (before after : OpenJob K g) (is : state.job ≡ Some before) (whole : state.broken ≡ false)
     (le : state.directory.numbers.next ≤ numbers.next) (upto : numbers.next ≤ state.directory.numbers.next + most)
     (touches : StepTouches (record { seen = old; memory = memory }) (record { seen = new; memory = after_memory }) state.directory.numbers.next numbers.next before after)
-    (keeps : KeepsDirectory order (record { seen = old; memory = memory }) (record { seen = new; memory = after_memory }) state.directory.numbers.next numbers.next before) where
+    (keeps : KeepsSound order (record { seen = old; memory = memory }) (record { seen = new; memory = after_memory }) state.directory.numbers.next before) where
   abbrev db : OpenDb K g
   db = open_db memory state
 
@@ -298,14 +232,20 @@ module _ {K : Type 0} {g : _} (order : Order) (total : IsTotalOrder order.cmp) (
   refused m error.OutOfMemory serving f same h = draws m most new.facts
   refused m error.Io serving f same h = (omega (arith, h, same), (omega arith, omega arith), refl)
   refused m (error.Corrupt file what) serving f same h =
-      let c = the_job order kept one old new db after_memory numbers most before after is le upto touches keeps m serving in
-      absurd (h f serving.log.directory.directory c.came c.left (can_step order kept one old new db after_memory numbers most before after is le upto touches keeps m serving))
+      let c = the_job order kept one old new db after_memory numbers most before after is le upto touches keeps m serving in (
+        not_whole m
+            (λ undamaged.
+            h f serving.log.directory.directory c.came c.left (can_step order kept one old new db after_memory numbers most before after is le upto touches keeps m serving undamaged)),
+        draws m most new.facts,
+      )
   refused m (error.Unsupported what) serving f same h =
       let c = the_job order kept one old new db after_memory numbers most before after is le upto touches keeps m serving in (
-        elim (h f serving.log.directory.directory c.came c.left (can_step order kept one old new db after_memory numbers most before after is le upto touches keeps m serving)) [
-          | inl past ↦ inl (job_limited order total old db m serving before c past)
-          | inr large ↦ inr (job_heavy order total old db m serving before c large)
-        ],
+        hard_or m (2 ^ 29 ≤ weight m)
+            (λ undamaged.
+            elim (h f serving.log.directory.directory c.came c.left (can_step order kept one old new db after_memory numbers most before after is le upto touches keeps m serving undamaged)) [
+              | inl past ↦ inl (job_limited order total old db m serving before c past)
+              | inr large ↦ inr (job_heavy order total old db m serving before c large)
+            ]),
         draws m most new.facts,
       )
   refused m error.NumbersSpent serving f same h = ((let below : next ≤ m.numbers = serving.numbers in omega (arith, h, below, upto)), draws m most new.facts)
@@ -314,16 +254,16 @@ module _ {K : Type 0} {g : _} (order : Order) (total : IsTotalOrder order.cmp) (
   -- the files of the tables stay
   pub steps_beside : IsTrue new.facts.faithful → KeepsTableFiles order old new db
   steps_beside f given m s number has =
-      let serving = serving_of order old given db m whole s in
+      let serving = serving_of order old given db m whole s.stands in
       let d = serving.log.directory.directory in
       let listed = subst (λ (cs : List TableContent). ListsSameTables (placed_in cs) state.version.value.tables) serving.log.directory.in_tables serving.tables.version in
       let one_listed = as_listed state.version.value.tables number has in
       let placed = one_listed.0 in
       let content = content_at d.tables placed (contains_among (placed_in d.tables) placed (all_contains (Contains (placed_in d.tables)) state.version.value.tables placed listed.only one_listed.1)) in
-      let parts = kept_parts order kept one old new db after_memory numbers most before after is le upto touches keeps m serving f in
       let apart = listed_apart order kept one old new db after_memory numbers most before after is le upto touches keeps m serving content.0 content.1 in
       subst (λ (n : ℕ). table_at new.facts.files n ≡ table_at old.facts.files n) (ap (λ (p : PlacedTable). p.table.number) content.2 ∙ one_listed.2)
-      (parts.others.tables content.0.placed.table.number (table_of order old.facts.files d.tables content.0 serving.log.directory.consistent.tables content.1) apart)
+      (table_same order kept one old new db after_memory numbers most before after is le upto touches keeps m serving f content.0.placed.table.number
+      (table_of order serving.ideal d.tables content.0 serving.log.directory.consistent.tables content.1) apart)
 
   -- it was refused, and the job is given up
   pub ends_stopped : {T : Type 0} (e : DbError) → RefusesStep order (record { seen = old; memory = memory }) (record { seen = new; memory = after_memory }) next numbers.next before e
@@ -335,17 +275,18 @@ module _ {K : Type 0} {g : _} (order : Order) (total : IsTotalOrder order.cmp) (
   -- a stop in its middle
   pub step_keeps : StepStops order (record { seen = old; memory = memory }) (record { seen = new; memory = after_memory }) next before → KeepsOpen order old new db
   step_keeps stops f given m s =
-      let serving = serving_of order old given db m whole s in
+      let serving = serving_of order old given db m whole s.stands in
       let c = the_job order kept one old new db after_memory numbers most before after is le upto touches keeps m serving in
       leaves_so old.facts new.facts (λ files. IsConsistent order files serving.log.directory.directory) (λ files. MeansAccepted order files m) (means_still order old db m serving)
-      (stops f serving.log.directory.directory c.came c.left (can_step order kept one old new db after_memory numbers most before after is le upto touches keeps m serving))
+      (stops f serving.log.directory.directory c.came c.left (can_step order kept one old new db after_memory numbers most before after is le upto touches keeps m serving s.undamaged))
 
   module _ (budget : ℕ) (progress : Progress) (goes : GoesOn order (record { seen = old; memory = memory }) (record { seen = new; memory = after_memory }) next numbers.next budget before after progress)
+      (may : MayGoOn order (record { seen = old; memory = memory }) (record { seen = new; memory = after_memory }) next numbers.next budget before after progress) (plan : after.job.plan ≡ before.job.plan) (version : after.version ≡ before.version)
       (snapshots : after.job.selection.snapshots ≡ before.job.selection.snapshots) (owns : (number : ℕ) → IsOwn after.job.outputs number → IsOwn before.job.outputs number ⊎ (next ≤ number)) where
     abbrev pub serving_on : (m : Machine) → IsServing order old db m → IsTrue new.facts.faithful → IsServing order new (open_db after_memory (with_job (Some after))) (drawing m most new.facts)
     serving_on m serving f =
         serving_stepped order kept one old new db after_memory numbers most before after is le upto touches keeps m serving f (Some after)
-        (gone_on order kept one old new db after_memory numbers most before after is le upto touches keeps m serving f budget progress goes snapshots owns)
+        (gone_on order kept one old new db after_memory numbers most before after is le upto touches keeps m serving f budget progress goes may plan version snapshots owns)
 
     -- it goes on
     pub ends_gone_on : {T : Type 0} (done : T) → LeadsOpen order old new ids db (open_db after_memory (with_job (Some after))) (λ m n. IsPiece m most (Ok done) n)
@@ -356,7 +297,7 @@ module _ {K : Type 0} {g : _} (order : Order) (total : IsTotalOrder order.cmp) (
     -- ---- all came, and it is ended
 
     module _ (facts : Facts) (ended : progress.ended ≡ true) (sequence : ℕ) (sequence_is : sequence ≡ after_memory.last) (tables : List PlacedTable) (tables_are : tables ≡ state.version.value.tables) (result : Result (Installed K) FlushError)
-        (install : InstallTouches new.facts facts after.job.outputs (string_bytes state.directory.manifest.name)) (leaves : EndLeaves order new.facts facts numbers.next sequence state.directory.manifest tables after result) where
+        (install : InstallTouches new.facts facts after.job.outputs (string_bytes state.directory.manifest.name)) (leaves : OfEach (λ ideal final. EndLeavesOver order new.facts facts ideal final numbers.next sequence state.directory.manifest tables after result) new.facts.files facts.files) where
       abbrev last_seen : Seen
       last_seen = record new { facts = facts }
 
@@ -367,23 +308,32 @@ module _ {K : Type 0} {g : _} (order : Order) (total : IsTotalOrder order.cmp) (
         abbrev on : IsServing order new mid (drawing m most new.facts)
         on = serving_on m serving (install.faithful f)
 
-        abbrev c : IsCompacting order (whole_of new mid) numbers.next state.snapshots state.iterators on.log.directory.directory after
-        c = gone_on order kept one old new db after_memory numbers most before after is le upto touches keeps m serving (install.faithful f) budget progress goes snapshots owns
+        abbrev c : IsCompacting order m.damaged (whole_of new mid) on.ideal numbers.next state.snapshots state.iterators on.log.directory.directory after
+        c = gone_on order kept one old new db after_memory numbers most before after is le upto touches keeps m serving (install.faithful f) budget progress goes may plan version snapshots owns
 
         abbrev none_left : c.left ≡ []
-        none_left = all_came order kept one old new db after_memory numbers most before after is le upto touches keeps m serving (install.faithful f) budget progress goes snapshots owns ended
+        none_left = all_came order kept one old new db after_memory numbers most before after is le upto touches keeps m serving (install.faithful f) budget progress goes may plan version snapshots owns ended
+
+        -- what the directory is in the end
+        abbrev final : Files
+        final = ended_as order kept one lasts new facts mid (drawing m most new.facts) on after c none_left
+
+        abbrev final_change : IsSameChange new.facts.files facts.files on.ideal final
+        final_change = (end_change order kept one lasts new facts mid (drawing m most new.facts) on after c none_left).1
 
         abbrev Means : Result (Installed K) FlushError → Type 0
         Means r =
-            let can = can_end order kept one lasts new facts mid (drawing m most new.facts) on after c none_left in
-            InstallMeans order (deep_of order.cmp after) after.job new.facts.files facts.files numbers.next state.directory.manifest state.version.value.tables c.came on.log.directory.directory can.running.inputs can.running.rest r
+            InstallMeans order (deep_of order.cmp after) after.job on.ideal final numbers.next state.directory.manifest state.version.value.tables c.came on.log.directory.directory c.running.inputs c.running.rest r
 
         pub means : Means result
         means =
             let can = can_end order kept one lasts new facts mid (drawing m most new.facts) on after c none_left in
-            let said = subst (λ (n : ℕ). EndLeaves order new.facts facts numbers.next n state.directory.manifest state.version.value.tables after result) sequence_is
-            (subst (λ (ts : List PlacedTable). EndLeaves order new.facts facts numbers.next sequence state.directory.manifest ts after result) tables_are leaves) in
-            said f (whole_of new mid) on.log.directory.directory c.came refl can
+            let said = subst (λ (n : ℕ). EndLeavesOver order new.facts facts on.ideal final numbers.next n state.directory.manifest state.version.value.tables after result) sequence_is
+            (subst (λ (ts : List PlacedTable). EndLeavesOver order new.facts facts on.ideal final numbers.next sequence state.directory.manifest ts after result) tables_are (leaves on.ideal final on.origin.differs final_change)) in
+            said f on.log.directory.directory c.came c.running.inputs c.running.rest can
+
+        final_whole : m.damaged ≡ false → final ≡ facts.files
+        final_whole undamaged = end_whole order kept one lasts new facts mid (drawing m most new.facts) on after c none_left undamaged
 
         -- the machine behind both
         pub once : (s : Seen) (a : OpenDb K g) → IsServing order s a (drawing (drawing m most new.facts) 0 facts) → IsServing order s a (drawing m most facts)
@@ -405,15 +355,18 @@ module _ {K : Type 0} {g : _} (order : Order) (total : IsTotalOrder order.cmp) (
       pub end_keeps : StepStops order (record { seen = old; memory = memory }) (record { seen = new; memory = after_memory }) next before
           → (IsTrue facts.faithful → LeavesOnly new.facts facts (EndMayLeave order new.facts numbers.next sequence state.directory.manifest tables after)) → KeepsOpen order old last_seen db
       end_keeps stops ends f given m s =
-          let serving = serving_of order old given db m whole s in
+          let serving = serving_of order old given db m whole s.stands in
           let end = drawing m most new.facts in
-          let can = can_end order kept one lasts new facts mid end (on m serving f) after (c m serving f) (none_left m serving f) in
+          let can = can_end_whole order kept one lasts new facts mid end (on m serving f) after (c m serving f) (none_left m serving f) s.undamaged in
           leaves_both old.facts new.facts facts (λ files. MeansAccepted order files m) (step_keeps stops (install.faithful f) given m s)
           (leaves_so new.facts facts (EndMayLeave order new.facts numbers.next sequence state.directory.manifest tables after) (λ files. MeansAccepted order files m)
           (λ files left.
           let said = subst (λ (n : ℕ). EndMayLeave order new.facts numbers.next n state.directory.manifest state.version.value.tables after files) sequence_is
           (subst (λ (ts : List PlacedTable). EndMayLeave order new.facts numbers.next sequence state.directory.manifest ts after files) tables_are left) in
-          means_install order kept one lasts new facts mid end (on m serving f) after (c m serving f) (none_left m serving f) files (said (whole_of new mid) (on m serving f).log.directory.directory (c m serving f).came refl can)) (ends f))
+          means_install order kept one lasts new facts mid end (on m serving f) after (c m serving f) (none_left m serving f) files
+          (subst
+          (λ (fs : Files). MayBeInstalled order (deep_of order.cmp after) after.job.plan.output_level after.job.selection.snapshots fs files numbers.next (c m serving f).came (on m serving f).log.directory.directory (c m serving f).running.inputs (c m serving f).running.rest)
+          (sym ((on m serving f).origin.undamaged s.undamaged)) (said (whole_of new mid) (on m serving f).log.directory.directory (c m serving f).came refl can))) (ends f))
 
       -- the MANIFEST is synced, and so are the tables that were put in
       abbrev Edited : Type 0
@@ -430,8 +383,8 @@ module _ {K : Type 0} {g : _} (order : Order) (total : IsTotalOrder order.cmp) (
       installed_state installed = record (with_job None) { version = installed.version; directory = record state.directory { numbers = numbers; manifest = record state.directory.manifest { end = installed.manifest_end } } }
 
       pub ends_installed : {T : Type 0} (done : T) (installed : Installed K) → result ≡ Ok installed → AreInOrder order.cmp installed.version.value.tables
-          → Edited → PutsSynced installed → LeadsOpen order old last_seen ids db (open_db after_memory (installed_state installed)) (λ m n. IsPiece m most (Ok done) n)
-      ends_installed done installed said in_order edited puts =
+          → Edited → PutsSynced installed → AreOldOrOwn after.job.outputs tables installed.version.value.tables → LeadsOpen order old last_seen ids db (open_db after_memory (installed_state installed)) (λ m n. IsPiece m most (Ok done) n)
+      ends_installed done installed said in_order edited puts own =
           serves_on order old last_seen ids db (open_db after_memory (installed_state installed)) most (Ok done) whole whole faithful rise undenied
           (λ m f same serving.
           let has = subst (λ (r : Result (Installed K) FlushError). Means m serving f r) said (means m serving f) in (
@@ -440,32 +393,37 @@ module _ {K : Type 0} {g : _} (order : Order) (total : IsTotalOrder order.cmp) (
                 (serving_installed order kept one lasts new facts mid (drawing m most new.facts) (on m serving f) after (c m serving f) (none_left m serving f) f install has.has installed.version.value.tables installed.version.value.compact_pointers (installed_state installed).directory in_order has.ends has.free has.listed
                 refl refl refl refl refl (edited f)
                 (λ placed there apart.
-                subst (λ (ts : List PlacedTable). Contains ts placed ⊎ IsTableSynced facts placed.table.number) tables_are (puts f (deep_of order.cmp after) (c m serving f).came (c m serving f).running.merging placed there apart))),
+                subst (λ (ts : List PlacedTable). Contains ts placed ⊎ IsTableSynced facts placed.table.number) tables_are (puts f (deep_of order.cmp after) (c m serving f).came (c m serving f).running.may.merging placed there apart))
+                (λ placed there. subst (λ (ts : List PlacedTable). Contains ts placed ⊎ IsOwn after.job.outputs placed.table.number) tables_are (own placed there))),
           ))
 
       -- where it has taken all tables, what they have now is needed
-      pub ends_needed : (installed : Installed K) → result ≡ Ok installed → after.job.plan ≡ before.job.plan → after.version ≡ before.version → TakesAll db before → EndsNeeded order old last_seen db (open_db after_memory (installed_state installed))
-      ends_needed installed said plan version all f given m s =
-          let serving = serving_of order old given db m whole s in
+      pub ends_needed : (installed : Installed K) → result ≡ Ok installed → TakesAll db before → EndsNeeded order old last_seen db (open_db after_memory (installed_state installed))
+      ends_needed installed said all f given m s =
+          let serving = serving_of order old given db m whole s.stands in
           let has = subst (λ (r : Result (Installed K) FlushError). Means m serving f r) said (means m serving f) in
           let can = can_end order kept one lasts new facts mid (drawing m most new.facts) (on m serving f) after (c m serving f) (none_left m serving f) in
           let takes = takes_on db db before after plan version snapshots refl refl all in
-          installed_needed order new.facts.files facts.files (on m serving f).log.directory.directory after state.version.value.tables can.running.inputs can.running.rest (c m serving f).came can.served.consistent can.running.planned can.served.listed
+          subst (λ (fs : Files). HasNeeded order fs (live_sequences (open_db after_memory (installed_state installed)))) (final_whole m serving f s.undamaged)
+          (installed_needed order (on m serving f).ideal (final m serving f) (on m serving f).log.directory.directory after state.version.value.tables (c m serving f).running.inputs (c m serving f).running.rest (c m serving f).came can.served.consistent (c m serving f).running.planned can.served.listed
           serving.tables.in_order.levels takes.inputs takes.output takes.version has.has (live_sequences (open_db after_memory (installed_state installed)))
-          (λ sequence i. subst (λ (last : ℕ). Contains (last ∷ values_of state.snapshots.entries) sequence) (sym touches.memory.last) (takes.sequences sequence i))
+          (λ sequence i. subst (λ (last : ℕ). Contains (last ∷ values_of state.snapshots.entries) sequence) (sym touches.memory.last) (takes.sequences sequence i)))
 
       -- what must be kept of its inputs' entries is in its outputs
-      pub ends_merged : (installed : Installed K) → result ≡ Ok installed → after.job.plan ≡ before.job.plan → after.version ≡ before.version → PutsMerged order old last_seen db (open_db after_memory (installed_state installed))
-      ends_merged installed said plan version =
-          subst (λ (o : Option (OpenJob K g)). MatchOption o ⊥ (λ work. IsTrue facts.faithful → (given : Ids) (m : Machine) → StandsOpen order old given db m → HasMerged order old.facts.files facts.files work db (open_db after_memory (installed_state installed)))) (sym is)
+      pub ends_merged : (installed : Installed K) → result ≡ Ok installed → PutsMerged order old last_seen db (open_db after_memory (installed_state installed))
+      ends_merged installed said =
+          subst (λ (o : Option (OpenJob K g)). MatchOption o ⊥ (λ work. IsTrue facts.faithful → (given : Ids) (m : Machine) → StandsWhole order old given db m → HasMerged order old.facts.files facts.files work db (open_db after_memory (installed_state installed)))) (sym is)
           (λ f given m s.
-          let serving = serving_of order old given db m whole s in
+          let serving = serving_of order old given db m whole s.stands in
           let d = serving.log.directory.directory in
+          let ideal_is = serving.origin.undamaged s.undamaged in
+          let final_is = final_whole m serving f s.undamaged in
           let has = subst (λ (r : Result (Installed K) FlushError). Means m serving f r) said (means m serving f) in
           let can = can_end order kept one lasts new facts mid (drawing m most new.facts) (on m serving f) after (c m serving f) (none_left m serving f) in
-          let inputs = can.running.inputs in
-          let rest = can.running.rest in
-          let parted = can.running.planned.parted in
+          let running = (c m serving f).running in
+          let inputs = running.inputs in
+          let rest = running.rest in
+          let parted = running.planned.parted in
           let outputs = has.has.outputs in
           let contents = has.has.contents in
           let tables = installed.version.value.tables in
@@ -473,11 +431,11 @@ module _ {K : Type 0} {g : _} (order : Order) (total : IsTotalOrder order.cmp) (
           record {
             inputs = inputs;
             outputs = outputs;
-            planned = subst (λ (p : JobPlan). IsPermutation p.inputs.items (placed_in inputs)) plan can.running.planned.planned;
-            read = λ input i. one_of_tables order old.facts.files d.tables input serving.log.directory.consistent.tables (from_chosen d.tables inputs rest input parted i);
+            planned = subst (λ (p : JobPlan). IsPermutation p.inputs.items (placed_in inputs)) plan running.planned.planned;
+            read = λ input i. subst (λ (fs : Files). HasTable order fs input) ideal_is (one_of_tables order serving.ideal d.tables input serving.log.directory.consistent.tables (from_chosen d.tables inputs rest input parted i));
             written = λ output i.
                 let there = from_chosen contents outputs rest output has.has.compaction.new_tables i in (
-                  one_of_tables order facts.files contents output has.has.consistent.tables there,
+                  subst (λ (fs : Files). HasTable order fs output) final_is (one_of_tables order (final m serving f) contents output has.has.consistent.tables there),
                   has.has.compaction.levels output i ∙ ap (λ (p : JobPlan). p.output_level) plan,
                   all_contains (Contains tables) (placed_in contents) output.placed has.listed.all (has_placed contents output there),
                 );
@@ -489,16 +447,16 @@ module _ {K : Type 0} {g : _} (order : Order) (total : IsTotalOrder order.cmp) (
                       (all_contains (Contains state.version.value.tables) (placed_in d.tables) content.0.placed can.served.listed.all (has_placed d.tables content.0 (from_rest d.tables inputs rest content.0 parted beside))))
                 ];
             entries = map entry_of came;
-            same = subst (λ (es : List InternalEntry). SameEntries (map entry_of es) (tabled inputs)) (append-nil came) can.running.entries;
+            same = can.merged.entries;
             needed = subst (λ (deep : List ℕ → Bool). AreNeeded (map entry_of came) before.job.selection.snapshots deep (tabled outputs)) (deep_same order.cmp after before plan version)
                 (subst (λ (ss : List ℕ). AreNeeded (map entry_of came) ss (deep_of order.cmp after) (tabled outputs)) snapshots has.has.put.needed);
           })
 
       -- no number more is drawn than entries came
       pub ends_counted : {T : Type 0} (budget_is : most ≤ max budget 1) (merged : after.merged ≡ shown (before.merged + progress.merged)) (few : most ≤ progress.merged) (done : T) (installed : Installed K) → result ≡ Ok installed
-          → AreInOrder order.cmp installed.version.value.tables → Edited → PutsSynced installed → LeadsOpen order old last_seen ids db (open_db after_memory (installed_state installed)) (λ m n. HasCome budget db m (Ok done) n)
-      ends_counted budget_is merged few done installed said in_order edited puts =
-          let step = ends_installed done installed said in_order edited puts in
+          → AreInOrder order.cmp installed.version.value.tables → Edited → PutsSynced installed → AreOldOrOwn after.job.outputs tables installed.version.value.tables → LeadsOpen order old last_seen ids db (open_db after_memory (installed_state installed)) (λ m n. HasCome budget db m (Ok done) n)
+      ends_counted budget_is merged few done installed said in_order edited puts own =
+          let step = ends_installed done installed said in_order edited puts own in
           record {
             faithful = step.faithful;
             moved = λ f m s.
@@ -529,30 +487,45 @@ module _ {K : Type 0} {g : _} (order : Order) (total : IsTotalOrder order.cmp) (
           breaks order old last_seen ids db (open_db after_memory (record (with_job None) { broken = true })) most (Err error.Io) refl whole refl faithful (let a = touches.writes.failures in omega (arith, a, rose)) undenied
           (λ m f serving. once_broken m serving f (may m serving f))
 
+      -- a failure at the edit puts in tables of the job alone
+      abbrev Owns : Type 0
+      Owns = OfEach (λ ideal final. EndPutsOwn order new.facts facts ideal final numbers.next sequence state.directory.manifest tables after result) new.facts.files facts.files
+
+      owns_else : (m : Machine) (serving : IsServing order old db m) (f : IsTrue facts.faithful) → Owns → result ≡ Err Edit → (e : Directory) → IsConsistent order (final m serving f) e → (placed : PlacedTable) → Contains e.layout.tables.items placed
+          → Contains (on m serving f).log.directory.directory.layout.tables.items placed ⊎ (IsOwn after.job.outputs placed.table.number × ((file : List ℕ) × (get facts.files (table_name placed.table.number) ≡ Some file)))
+      owns_else m serving f put said =
+          let can = can_end order kept one lasts new facts mid (drawing m most new.facts) (on m serving f) after (c m serving f) (none_left m serving f) in
+          let own = subst (λ (n : ℕ). EndPutsOwn order new.facts facts (on m serving f).ideal (final m serving f) numbers.next n state.directory.manifest state.version.value.tables after result) sequence_is
+          (subst (λ (ts : List PlacedTable). EndPutsOwn order new.facts facts (on m serving f).ideal (final m serving f) numbers.next sequence state.directory.manifest ts after result) tables_are
+          (put (on m serving f).ideal (final m serving f) (on m serving f).origin.differs (final_change m serving f))) in
+          own said f (on m serving f).log.directory.directory (c m serving f).came (c m serving f).running.inputs (c m serving f).running.rest can
+
       unended : {T : Type 0} (e : FlushError) → result ≡ Err e → RefusesEnd order new.facts facts numbers.next sequence state.directory.manifest tables after e
-          → Spares e → LeadsOpen order old last_seen ids db (open_db after_memory (broken_by (with_job None) (flush_answer e))) (λ m n. IsPiece {T = T} m most (Err (flush_answer e)) n)
-      unended (Before error.OutOfMemory) said h spares = uninstalled error.OutOfMemory said (λ m serving f. draws m most facts) spares
-      unended (Before error.Io) said h spares = failed h (λ m serving f.
+          → Owns → Spares e → LeadsOpen order old last_seen ids db (open_db after_memory (broken_by (with_job None) (flush_answer e))) (λ m n. IsPiece {T = T} m most (Err (flush_answer e)) n)
+      unended (Before error.OutOfMemory) said h put spares = uninstalled error.OutOfMemory said (λ m serving f. draws m most facts) spares
+      unended (Before error.Io) said h put spares = failed h (λ m serving f.
           let has = (subst (λ (r : Result (Installed K) FlushError). Means m serving f r) said (means m serving f)).1 in
-          broken_install order kept one lasts new facts mid (drawing m most new.facts) (on m serving f) after (c m serving f) (none_left m serving f) f install (record { either = inl (has.served.consistent, has.kept); free = has.served.free }))
-      unended (Before (error.Unsupported what)) said h spares = uninstalled (error.Unsupported what) said (λ m serving f. (inr (heavy m serving f (h f)), draws m most facts)) spares
+          broken_uninstalled order kept one lasts new facts mid (drawing m most new.facts) (on m serving f) after (c m serving f) (none_left m serving f) f install has.served.consistent has.kept has.served.free)
+      unended (Before (error.Unsupported what)) said h put spares =
+          uninstalled (error.Unsupported what) said (λ m serving f. (hard_or m (2 ^ 29 ≤ weight m) (λ undamaged. inr (heavy m serving f undamaged (h f))), draws m most facts)) spares
         where
-          heavy : (m : Machine) (serving : IsServing order old db m) (f : IsTrue facts.faithful)
+          heavy : (m : Machine) (serving : IsServing order old db m) (f : IsTrue facts.faithful) → m.damaged ≡ false
               → ((seen_whole : Whole) (e : Directory) (came : List InternalEntry) → seen_whole.seen.facts ≡ new.facts → CanEnd order seen_whole numbers.next sequence state.directory.manifest tables e after came → AreLarge (map entry_of came)) → 2 ^ 29 ≤ weight m
-          heavy m serving f large =
-              let can = can_end order kept one lasts new facts mid (drawing m most new.facts) (on m serving f) after (c m serving f) (none_left m serving f) in
+          heavy m serving f undamaged large =
+              let can = can_end_whole order kept one lasts new facts mid (drawing m most new.facts) (on m serving f) after (c m serving f) (none_left m serving f) undamaged in
               let said_can = subst (λ (n : ℕ). CanEnd order (whole_of new mid) numbers.next n state.directory.manifest tables (on m serving f).log.directory.directory after (c m serving f).came) (sym sequence_is)
               (subst (λ (ts : List PlacedTable). CanEnd order (whole_of new mid) numbers.next after_memory.last state.directory.manifest ts (on m serving f).log.directory.directory after (c m serving f).came) (sym tables_are) can) in
               let few = large (whole_of new mid) (on m serving f).log.directory.directory (c m serving f).came refl said_can in
               let all = sym (ap (λ (es : List InternalEntry). (c m serving f).came ++ es) (none_left m serving f) ∙ append-nil (c m serving f).came) in
               job_heavy order total new mid (drawing m most new.facts) (on m serving f) after (c m serving f) (subst (λ (es : List InternalEntry). AreLarge (map entry_of es)) all few)
-      unended (Before (error.Corrupt file what)) said h spares = uninstalled (error.Corrupt file what) said (λ m serving f.
+      unended (Before (error.Corrupt file what)) said h put spares = uninstalled (error.Corrupt file what) said (λ m serving f.
           absurd ((subst (λ (r : Result (Installed K) FlushError). Means m serving f r) said (means m serving f)).0 tt)) spares
-      unended (Before error.NumbersSpent) said h spares = uninstalled error.NumbersSpent said (λ m serving f. ((let below : next ≤ m.numbers = serving.numbers in omega (arith, h, below, upto)), draws m most facts)) spares
-      unended (Before _) said h spares = absurd h
-      unended Edit said h spares = failed h (λ m serving f.
-          broken_install order kept one lasts new facts mid (drawing m most new.facts) (on m serving f) after (c m serving f) (none_left m serving f) f install (subst (λ (r : Result (Installed K) FlushError). Means m serving f r) said (means m serving f)))
+      unended (Before error.NumbersSpent) said h put spares = uninstalled error.NumbersSpent said (λ m serving f. ((let below : next ≤ m.numbers = serving.numbers in omega (arith, h, below, upto)), draws m most facts)) spares
+      unended (Before _) said h put spares = absurd h
+      unended Edit said h put spares = failed h (λ m serving f.
+          broken_install order kept one lasts new facts mid (drawing m most new.facts) (on m serving f) after (c m serving f) (none_left m serving f) f install (subst (λ (r : Result (Installed K) FlushError). Means m serving f r) said (means m serving f))
+          (owns_else m serving f put said))
 
       pub ends_unended : {T : Type 0} (e : FlushError) → result ≡ Err e → RefusesEnd order new.facts facts numbers.next sequence state.directory.manifest tables after e
-          → Spares e → LeadsOpen order old last_seen ids db (open_db after_memory (broken_by (with_job None) (flush_answer e))) (λ m n. IsPiece {T = T} m most (Err (flush_answer e)) n)
-      ends_unended e said h spares = unended e said h spares
+          → Owns → Spares e → LeadsOpen order old last_seen ids db (open_db after_memory (broken_by (with_job None) (flush_answer e))) (λ m n. IsPiece {T = T} m most (Err (flush_answer e)) n)
+      ends_unended e said h put spares = unended e said h put spares

@@ -1,5 +1,5 @@
--- That the files hold what the last machine accepted.
-use Rattle.std.proofs.Common.{◌≡◌, ◌⊎◌, ℕ, ◌+◌, ◌≤◌, Bool, true, false, if◌then◌else◌, List, [], ◌∷◌, ◌++◌, length, Option, Some, None, MatchOption, inl, inr, refl, sym, ◌∙◌, subst, arith}
+-- That the files hold what the last machine accepted, and that the first one is that of the files.
+use Rattle.std.proofs.Common.{◌≡◌, ◌⊎◌, ℕ, ◌+◌, ◌≤◌, Bool, true, false, List, [], ◌∷◌, ◌++◌, length, Option, Some, None, MatchOption, inl, inr, refl, sym, ◌∙◌, subst, arith, if◌then◌else◌}
 use Rattle.store.specs.Files.{Facts, Files}
 use Rattle.batch.specs.declared.operation.Operation.{Operation}
 use Rattle.coding.specs.declared.error.DbError.{DbError}
@@ -11,9 +11,11 @@ use Rattle.machine.specs.Machine.{Machine, after_batch, after_batches, current}
 use Rattle.machine.specs.Access.{accepted}
 use Rattle.machine.specs.Lifetime.{Closed}
 use Rattle.machine.specs.declared.command.Answer.TheVariants.{Done, Refused}
-use Rattle.engine.specs.internal.Bridges.{EndsLaw}
+use Rattle.engine.specs.internal.Bridges.{EndsLaw, StartsLaw}
 use Rattle.engine.specs.internal.Directory.{MeansCurrent, MeansWith, IsAtRest}
-use Rattle.engine.specs.Headline.{Holds, IsLast}
+use Rattle.directory_writes.specs.Differing.{with_files}
+use Rattle.engine.specs.Headline.{Bounds, Holds, HoldsAccepted, IsFirst, IsLast}
+use Rattle.engine.specs.Origins.{ComesFrom}
 
 pushed : (map : Contents) (batches : List (List Operation)) (batch : List Operation) → after_batches map (batches ++ batch ∷ []) ≡ after_batch (after_batches map batches) batch
 pushed map [] batch = refl
@@ -41,13 +43,21 @@ held order files m None means = holds_current order files m means
 held order files m (Some operations) (inl means) = inl (holds_current order files m means)
 held order files m (Some operations) (inr means) = inr (holds_with order files m operations means)
 
-lasts : (order : Order) (facts : Facts) (m : Machine) → IsAtRest order facts.files m → m.failures ≤ facts.failures → m.denials ≡ facts.denials → IsLast order facts m
-lasts order facts m rest failures denials = record {
-  holds = held order facts.files m m.in_doubt rest.meaning;
-  bounds = record { made = rest.readable.made; numbers = rest.readable.numbers; limits = rest.readable.limits };
-  failures = failures;
-  denials = denials;
-}
+-- some directory from which the files may come is that of the machine
+abbrev Lasts : Order → Facts → Machine → Type 0
+Lasts order facts m = (ideal : Files) × ComesFrom order m.damaged facts.files ideal × IsLast order (with_files facts ideal) m
+
+lasts : (order : Order) (facts : Facts) (m : Machine) → IsAtRest order facts.files m → m.failures ≤ facts.failures → m.denials ≡ facts.denials → Lasts order facts m
+lasts order facts m rest failures denials = (
+  rest.ideal,
+  rest.origin,
+  record {
+    holds = held order rest.ideal m m.in_doubt rest.meaning;
+    bounds = record { made = rest.readable.made; numbers = rest.readable.numbers; limits = rest.readable.limits };
+    failures = failures;
+    denials = denials;
+  },
+)
 
 served : (A : Type 0) (B : DbError → Type 0) (opened : Bool) → (B error.NotOpen → ⊥) → MatchOption (if opened then None else Some error.NotOpen) A B → A
 served A B true refused a = a
@@ -56,15 +66,55 @@ served A B false refused b = absurd (refused b)
 unclosed : (order : Order) (files : Files) (ended last : Machine) → Closed ended Done last → IsAtRest order files last → IsAtRest order files ended
 unclosed order files ended last is rest =
     let moved = subst (λ (m : Machine). IsAtRest order files m) is rest in
-    record { meaning = moved.meaning; readable = record { made = moved.readable.made; numbers = moved.readable.numbers; limits = moved.readable.limits } }
+    record { ideal = moved.ideal; origin = moved.origin; meaning = moved.meaning; readable = record { made = moved.readable.made; numbers = moved.readable.numbers; limits = moved.readable.limits } }
 
 undone : (e : DbError) (P : Type 0) → (Done ≡ Refused e) × P → ⊥
 undone e P h = let is = h.0 in absurd (cc)
 
 pub ends_last : EndsLaw
 ends_last order facts given ended last (inl h) stands =
-    subst (λ (m : Machine). IsLast order facts m) h.1 (lasts order facts last stands.rest (let is = stands.counts.failures in omega arith) stands.counts.denials)
+    subst (λ (m : Machine). Lasts order facts m) h.1 (lasts order facts last stands.rest (let is = stands.counts.failures in omega arith) stands.counts.denials)
 ends_last order facts given ended last (inr h) stands =
     let closes = served _ _ ended.opened (undone error.NotOpen _) h.1 in
     let kept = h.0.undenied (λ is. absurd (cc)) in
     lasts order facts ended (unclosed order facts.files ended last closes stands.rest) (let rises = h.0.failures in let is = stands.counts.failures in omega arith) (sym kept ∙ stands.counts.denials)
+
+-- ---- the first machine
+
+-- of a directory from which the files may come
+pub starts_first : StartsLaw
+starts_first order facts ideal first from is =
+    let means : MeansCurrent order ideal first = record {
+      entries = is.holds.entries;
+      spelled = is.holds.directory;
+      view = is.holds.view;
+      accounted = record { all = is.holds.entries; within = λ e i. i; count = (let size = is.size.0 in omega (arith, size)); weight = (let size = is.size.1 in omega (arith, size)) };
+    } in
+    record {
+      counts = record { failures = is.counts.0; denials = is.counts.1 };
+      ids = is.ids;
+      opened = is.closed.0;
+      broken = is.closed.1;
+      views = (is.closed.2, is.closed.3);
+      rest = record {
+        ideal = ideal;
+        origin = from;
+        meaning = subst (λ (doubt : Option (List Operation)). MatchOption doubt (MeansCurrent order ideal first) (λ operations. MeansCurrent order ideal first ⊎ MeansWith order ideal first operations)) (sym is.accepted.1) means;
+        readable = record { made = is.bounds.made; numbers = is.bounds.numbers; limits = is.bounds.limits };
+      };
+    }
+
+-- ---- undamaged files
+
+-- the directory of the first machine is then the files themselves
+pub first_itself : (order : Order) (facts : Facts) (m : Machine) → IsFirst order facts m → IsFirst order (with_files facts facts.files) m
+first_itself order facts m is = record { holds = is.holds; bounds = is.bounds; accepted = is.accepted; closed = is.closed; ids = is.ids; counts = is.counts; size = is.size }
+
+-- and so it is at the end
+pub last_itself : (order : Order) (facts : Facts) (ideal : Files) (m : Machine) → ideal ≡ facts.files → IsLast order (with_files facts ideal) m → IsLast order facts m
+last_itself order facts ideal m same is = record {
+  holds = subst (λ (fs : Files). HoldsAccepted order fs m) same is.holds;
+  bounds = subst (λ (fs : Files). Bounds order fs m) same is.bounds;
+  failures = is.failures;
+  denials = is.denials;
+}

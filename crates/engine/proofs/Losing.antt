@@ -1,5 +1,5 @@
 -- What a loss of power leaves of an open database.
-use Rattle.std.proofs.Common.{◌≡◌, ◌⊎◌, ◌<◌, ◌≤◌, ◌++◌, ℕ, List, [], Contains, map, Option, Some, None, Result, Ok, Err, OnOk, inl, inr, sym, ap, subst, ◌∙◌, arith, string_bytes}
+use Rattle.std.proofs.Common.{◌≡◌, ◌⊎◌, ◌≤◌, ◌++◌, ℕ, false, List, Contains, map, Option, Some, None, Result, Ok, Err, OnOk, inl, inr, sym, ap, subst, ◌∙◌, arith, string_bytes}
 use Rattle.std.proofs.lemmas.Bool.{cases_lt}
 use Rattle.coding.specs.declared.error.DbError.{DbError}
 use Rattle.directory_writes.specs.Replacing.{placed_in}
@@ -14,10 +14,11 @@ use Rattle.opening.specs.Losses.{IsKept, IsKeptWhole, IsLogRead, IsNoneOf, IsTab
 use Rattle.recover.specs.Directory.{Directory}
 use Rattle.recover.specs.Logs.{IsLive, logged}
 use Rattle.recover.specs.Tables.{TableContent, InTables, table_at, tabled}
-use Rattle.store.specs.Files.{Facts, Files}
+use Rattle.store.specs.Files.{Files}
 use Rattle.table_access.specs.Tables.{Seen}
 use Rattle.engine.proofs.Compacting.{all_contains}
 use Rattle.engine.proofs.FrontSyncing.{same_or_other}
+use Rattle.engine.proofs.Origins.{undamaged_serving}
 use Rattle.engine.proofs.Reading.{has_placed}
 use Rattle.engine.proofs.Steps.{serving_of}
 use Rattle.engine.proofs.WriteSynced.{kept_synced}
@@ -61,9 +62,9 @@ module _ {K : Type 0} {g : _} (order : Order) (law : KeptLaw) (source : Seen) (d
   entries_are : entries_of serving.contents db ≡ tabled d.tables ++ logged d.logs
   entries_are = λ i. tabled (serving.log.directory.in_tables i) ++ serving.log.directory.in_logs i
 
-pub outlasts : {K : Type 0} {g : _} (order : Order) (law : KeptLaw) (source : Seen) (ids : Ids) (db : OpenDb K g) (m : Machine) → HasSyncedLog source.facts db → StandsOpen order source ids db m → Outlasts order source.facts db m
-outlasts order law source ids db m last s lost may found =
-    let serving = serving_of order source ids db m last.whole s in
+pub outlasts : {K : Type 0} {g : _} (order : Order) (law : KeptLaw) (source : Seen) (ids : Ids) (db : OpenDb K g) (m : Machine) → HasSyncedLog source.facts db → m.damaged ≡ false → StandsOpen order source ids db m → Outlasts order source.facts db m
+outlasts order law source ids db m last undamaged s lost may found =
+    let serving = undamaged_serving order source db m undamaged (serving_of order source ids db m last.whole s) in
     let d = serving.log.directory.directory in
     record {
       entries = entries_of serving.contents db;
@@ -76,8 +77,8 @@ outlasts order law source ids db m last s lost may found =
       view = subst (λ (used : ℕ). IsView (entries_of serving.contents db) used (current m)) (sym serving.entries.used) serving.entries.view;
     }
 
-pub synced_outlasts : {K T : Type 0} {g : _} (order : Order) (law : KeptLaw) (source : Seen) (ids : Ids) (db : OpenDb K g) (result : Result T DbError) → OnOk result (HasSyncedLog source.facts db) → OnOk result ((m : Machine) → StandsOpen order source ids db m → Outlasts order source.facts db m)
-synced_outlasts order law source ids db (Ok x) last = λ m s. outlasts order law source ids db m last s
+pub synced_outlasts : {K T : Type 0} {g : _} (order : Order) (law : KeptLaw) (source : Seen) (ids : Ids) (db : OpenDb K g) (result : Result T DbError) → OnOk result (HasSyncedLog source.facts db) → OnOk result ((m : Machine) → m.damaged ≡ false → StandsOpen order source ids db m → Outlasts order source.facts db m)
+synced_outlasts order law source ids db (Ok x) last = λ m undamaged s. outlasts order law source ids db m last undamaged s
 synced_outlasts order law source ids db (Err e) last = tt
 
 -- a session's write that was refused

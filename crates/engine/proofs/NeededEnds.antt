@@ -42,32 +42,37 @@ use Rattle.engine.specs.Needed.{HasNeeded, IsForLive, LeavesNeeded, live_sequenc
 use Rattle.machine.specs.Upkeep.{most_drawn}
 use Rattle.engine.specs.internal.Pieces.{IsPiece}
 use Rattle.engine.specs.WrittenTables.{MergesLevel, MergesPlan, PutsMerged}
+use Rattle.engine.proofs.Origins.{undamaged_serving}
 use Rattle.engine.proofs.Steps.{serving_of}
+use Rattle.engine.proofs.WorkSteps.{KeepsFlag, stands_whole}
 
 -- ---- behind what came first
 
 module _ {K : Type 0} {g : _} (order : Order) (old mid new : Seen) (before between after : OpenDb K g) {P Q : Machine → Machine → Type 0} where
-  pub needed_behind : ((ids : Ids) → LeadsOpen order old mid ids before between P) → ((ids : Ids) → LeadsOpen order mid new ids between after Q) → EndsNeeded order mid new between after → EndsNeeded order old new before after
-  needed_behind first next ends f ids m s = let one = (first ids).moved ((next ids).faithful f) m s in ends f ids one.0 one.2
+  pub needed_behind : ((ids : Ids) → LeadsOpen order old mid ids before between P) → KeepsFlag P → ((ids : Ids) → LeadsOpen order mid new ids between after Q) → EndsNeeded order mid new between after → EndsNeeded order old new before after
+  needed_behind first flag next ends f ids m s =
+      let one = (first ids).moved ((next ids).faithful f) m s.stands in
+      ends f ids one.0 (stands_whole order mid ids between m one.0 s.undamaged (flag m one.0 one.1) one.2)
 
 module _ {K : Type 0} {g : _} (order : Order) (plan : JobPlan) (old mid new : Seen) (before between after : OpenDb K g) {P Q : Machine → Machine → Type 0} where
-  pub merges_plan : ((ids : Ids) → LeadsOpen order old mid ids before between P) → ((ids : Ids) → LeadsOpen order mid new ids between after Q) → between.tables ≡ before.tables → IsSome between.job
+  pub merges_plan : ((ids : Ids) → LeadsOpen order old mid ids before between P) → KeepsFlag P → ((ids : Ids) → LeadsOpen order mid new ids between after Q) → between.tables ≡ before.tables → IsSome between.job
       → MatchOption between.job ⊥ (λ work. (work.merged ≡ 0) × (work.job.plan ≡ plan)) → MatchOption between.job ⊥ (λ work. IsForLive work before) → (IsSome between.job → PutsMerged order mid new between after) → MergesPlan order plan old new before after
-  merges_plan first next tables some begun live merges f =
-      (mid, between, (λ ids m s. let one = (first ids).moved ((next ids).faithful f) m s in (one.0, one.2)), tables, both between.job begun live, merges some)
+  merges_plan first flag next tables some begun live merges f =
+      (mid, between, (λ ids m s. let one = (first ids).moved ((next ids).faithful f) m s.stands in (one.0, stands_whole order mid ids between m one.0 s.undamaged (flag m one.0 one.1) one.2)), tables, both between.job begun live, merges some)
     where
       both : (o : Option (OpenJob K g)) → MatchOption o ⊥ (λ work. (work.merged ≡ 0) × (work.job.plan ≡ plan)) → MatchOption o ⊥ (λ work. IsForLive work before) → MatchOption o ⊥ (λ work. (work.job.plan ≡ plan) × IsForLive work before)
       both None begun live = begun
       both (Some work) begun live = (begun.1, live)
 
-pub merges_none : {K : Type 0} {g : _} (order : Order) (level : ℕ) (old new : Seen) (before after : OpenDb K g) {P : Machine → Machine → Type 0} → ((ids : Ids) → LeadsOpen order old new ids before after P) → (IsSome before.job → PutsMerged order old new before after)
+pub merges_none : {K : Type 0} {g : _} (order : Order) (level : ℕ) (old new : Seen) (before after : OpenDb K g) {P : Machine → Machine → Type 0} → ((ids : Ids) → LeadsOpen order old new ids before after P) → KeepsFlag P → (IsSome before.job → PutsMerged order old new before after)
     → tables_at level after.tables ≡ [] → MergesLevel order level old new before after
-merges_none order level old new before after first merges none f = (new, after, (λ ids m s. let one = (first ids).moved f m s in (one.0, one.2)), merges, inl none)
+merges_none order level old new before after first flag merges none f =
+    (new, after, (λ ids m s. let one = (first ids).moved f m s.stands in (one.0, stands_whole order new ids after m one.0 s.undamaged (flag m one.0 one.1) one.2)), merges, inl none)
 
-pub merges_level : {K : Type 0} {g : _} (order : Order) (level : ℕ) (old mid new : Seen) (before between after : OpenDb K g) (plan : JobPlan) {P Q : Machine → Machine → Type 0} → ((ids : Ids) → LeadsOpen order old mid ids before between P)
+pub merges_level : {K : Type 0} {g : _} (order : Order) (level : ℕ) (old mid new : Seen) (before between after : OpenDb K g) (plan : JobPlan) {P Q : Machine → Machine → Type 0} → ((ids : Ids) → LeadsOpen order old mid ids before between P) → KeepsFlag P
     → ((ids : Ids) → LeadsOpen order mid new ids between after Q) → (IsSome before.job → PutsMerged order old mid before between) → IsLevelPlan order.cmp between.tables level plan → MergesPlan order plan mid new between after → MergesLevel order level old new before after
-merges_level order level old mid new before between after plan first next ended is merges f =
-    (mid, between, (λ ids m s. let one = (first ids).moved ((next ids).faithful f) m s in (one.0, one.2)), ended, inr (plan, is, merges))
+merges_level order level old mid new before between after plan first flag next ended is merges f =
+    (mid, between, (λ ids m s. let one = (first ids).moved ((next ids).faithful f) m s.stands in (one.0, stands_whole order mid ids between m one.0 s.undamaged (flag m one.0 one.1) one.2)), ended, inr (plan, is, merges))
 
 -- ---- without tables
 
@@ -77,7 +82,7 @@ none_placed (c ∷ contents) listed = (let there = listed.all 0 c.placed (omega 
 
 pub needed_none : {K : Type 0} {g : _} (order : Order) (source : Seen) (db : OpenDb K g) → db.broken ≡ false → db.tables ≡ [] → EndsNeeded order source source db db
 needed_none order source db whole none f ids m s =
-    let serving = serving_of order source ids db m whole s in
+    let serving = undamaged_serving order source db m s.undamaged (serving_of order source ids db m whole s.stands) in
     let d = serving.log.directory.directory in
     let empty : d.tables ≡ [] = sym serving.log.directory.in_tables ∙ none_placed serving.contents (subst (λ (ts : List PlacedTable). ListsSameTables (placed_in serving.contents) ts) none serving.tables.version) in
     record {
@@ -115,9 +120,12 @@ none_both Is (Some x) h = absurd h
 no_logs : (memory : Memories) → memory.current.inserts ≡ [] → memory.sealed ≡ None → logged_in memory ≡ []
 no_logs memory current sealed = ap (λ (es : List Entry). sealed_inserts memory ++ es) current ∙ append-nil (sealed_inserts memory) ∙ ap (λ (o : Option ℕ). inserts_of (option_and_then (older_at memory.older) o)) sealed
 
-module _ {K : Type 0} {g : _} (order : Order) (total : IsTotalOrder order.cmp) (new : Seen) (db : OpenDb K g) (n : Machine) (serving : IsServing order new db n) (memory : HasNoMemory db) (h : HasNeeded order new.facts.files (live_sequences db)) where
+module _ {K : Type 0} {g : _} (order : Order) (total : IsTotalOrder order.cmp) (new : Seen) (db : OpenDb K g) (n : Machine) (undamaged : n.damaged ≡ false) (given : IsServing order new db n) (memory : HasNoMemory db) (h : HasNeeded order new.facts.files (live_sequences db)) where
   abbrev left : List Entry
   left = tabled h.directory.tables
+
+  abbrev serving : IsServing order new db n
+  serving = undamaged_serving order new db n undamaged given
 
   same_left : entries_of serving.contents db ≡ left
   same_left =
@@ -150,14 +158,14 @@ module _ {K T : Type 0} {g : _} (order : Order) (total : IsTotalOrder order.cmp)
   pub only_left : (result : Result T DbError) → ((ids : Ids) → LeadsOpen order old new ids before after (λ m n. IsPiece m (most_drawn m) result n)) → OnOk result (IsAllCompacted after) → OnOk result (EndsNeeded order old new before after)
       → OnOk result (LeavesNeeded order old new before after)
   only_left (Ok done) step compacted ends = λ f ids m s.
-      let one = (step ids).moved f m s in
+      let one = (step ids).moved f m s.stands in
       let n = one.0 in
       let same = one.1.what.1 in
-      let was = serving_of order old ids before m whole s in
+      let was = serving_of order old ids before m whole s.stands in
       let h = ends f ids m s in
       let serving = serving_on order new ids after n (ap (λ (k : Machine). k.broken) same ∙ was.whole) one.2 in
       record {
         tables = h;
-        pairs = λ none. subst (λ (contents : Contents). ArePairsOf contents (tabled h.directory.tables)) (ap current same) (pairs_left order total new after n serving compacted.memory h (ap (λ (k : Machine). k.snapshots) same ∙ none));
+        pairs = λ none. subst (λ (contents : Contents). ArePairsOf contents (tabled h.directory.tables)) (ap current same) (pairs_left order total new after n (ap (λ (k : Machine). k.damaged) same ∙ s.undamaged) serving compacted.memory h (ap (λ (k : Machine). k.snapshots) same ∙ none));
       }
   only_left (Err e) step compacted ends = tt

@@ -1,11 +1,13 @@
 -- What is synced behind an open.
-use Rattle.std.proofs.Common.{◌≡◌, ◌<◌, ◌≤◌, ℕ, true, is_some, IsSome, IsTrue, List, [], ◌∷◌, ◌++◌, Contains, Some, Option, refl, sym, ap, subst, ◌∙◌, arith, string_bytes}
+use Rattle.std.proofs.Common.{◌≡◌, ◌<◌, ℕ, true, false, None, is_some, IsSome, List, [], ◌∷◌, ◌++◌, Contains, Some, Option, refl, sym, ap, subst, ◌∙◌}
 use Rattle.std.specs.FinMap.{get}
+use Rattle.std.specs.Option.{option_or}
 use Rattle.directory_writes.proofs.JobTables.{contains_among, content_at}
+use Rattle.directory_writes.specs.Differing.{DiffersInTables}
 use Rattle.directory_writes.specs.Replacing.{placed_in}
 use Rattle.edits.specs.Names.{name_of, IsNumbered}
 use Rattle.edits.specs.declared.field.PlacedTable.{PlacedTable}
-use Rattle.edits.specs.declared.names.FileName.TheVariants.{Current, Log, Manifest}
+use Rattle.edits.specs.declared.names.FileName.TheVariants.{Current, Log, Manifest, OldTable, Table}
 use Rattle.ikey.specs.Orders.{Order}
 use Rattle.ikey.specs.declared.entry.Entry.{Entry}
 use Rattle.opening.specs.Losses.{IsKept}
@@ -25,11 +27,22 @@ last_log : (files : Files) (before : List LogContent) (last : LogContent) → Ha
 last_log files [] last h = h.0
 last_log files (content ∷ before) last h = last_log files before last h.1
 
+-- a table that is there in the one is in the other
+table_too : (files whole : Files) (n : ℕ) → DiffersInTables files whole → IsSome (table_at whole n) → IsSome (table_at files n)
+table_too files whole n differs there = at (get whole (name_of (Table n))) (get files (name_of (Table n))) (get whole (name_of (OldTable n))) (get files (name_of (OldTable n))) (differs.names (name_of (Table n))) (differs.names (name_of (OldTable n))) there
+  where
+    at : (a b c d : Option (List ℕ)) → is_some a ≡ is_some b → is_some c ≡ is_some d → IsSome (option_or a c) → IsSome (option_or b d)
+    at (Some x) (Some y) c d one other there = refl
+    at (Some x) None c d one other there = absurd (let clash : true ≡ false = one in cc)
+    at None (Some y) c d one other there = refl
+    at None None c d one other there = sym other ∙ there
+
 -- a file that holds what is synced of it
 kept_as : (facts : Facts) (name bytes : List ℕ) → get facts.files name ≡ Some bytes → facts.synced name ≡ Some bytes → IsKept facts name
 kept_as facts name bytes is synced other there = synced ∙ sym is ∙ there
 
-module _ {K : Type 0} (order : Order) (old facts : Facts) (begun : Begun K) (tables : List TableContent) (entries : List Entry) (used : ℕ) (w : IsBegun order begun) (has : HasBegun order facts.files begun tables entries used)
+-- The undamaged directory says which files there are; but for those of tables they are its own.
+module _ {K : Type 0} (order : Order) (old facts : Facts) (after : Files) (differs : DiffersInTables facts.files after) (begun : Begun K) (tables : List TableContent) (entries : List Entry) (used : ℕ) (w : IsBegun order begun) (has : HasBegun order after begun tables entries used)
     (durable : HasDurable begun.directory.manifest.number facts) (synced : BeginsSynced old facts begun.log begun.directory) where
   listed : ListsSameTables (placed_in has.log.directory.tables) begun.version.value.tables
   listed = subst (λ (contents : List TableContent). ListsSameTables (placed_in contents) begun.version.value.tables) has.log.in_tables has.version
@@ -39,18 +52,19 @@ module _ {K : Type 0} (order : Order) (old facts : Facts) (begun : Begun K) (tab
   table_there p there =
       let tables_now = has.log.directory.tables in
       let content = content_at tables_now p (contains_among (placed_in tables_now) p (all_contains (Contains (placed_in tables_now)) begun.version.value.tables p listed.only there)) in
-      let held = one_of_tables order facts.files tables_now content.0 has.log.consistent.tables content.1 in
-      subst (λ (q : PlacedTable). IsSome (table_at facts.files q.table.number)) content.2 (subst (λ (o : Option (List ℕ)). IsSome o) (sym held.there) refl)
+      let held = one_of_tables order after tables_now content.0 has.log.consistent.tables content.1 in
+      subst (λ (q : PlacedTable). IsSome (table_at facts.files q.table.number)) content.2
+      (table_too facts.files after content.0.placed.table.number differs (subst (λ (o : Option (List ℕ)). IsSome o) (sym held.there) refl))
 
   named : (p : PlacedTable) → Contains begun.version.value.tables p → IsNumbered p.table.number × (p.table.number < begun.directory.numbers.next)
-  named p there = version_number order facts.files has.log.directory begun.directory.numbers.next has.log.directory.tables begun.version.value.tables p.table.number has.log.consistent has.knows.free refl listed (p, there, refl)
+  named p there = version_number order after has.log.directory begun.directory.numbers.next has.log.directory.tables begun.version.value.tables p.table.number has.log.consistent has.knows.free refl listed (p, there, refl)
 
   names : HaveNames begun.log begun.directory begun.version.value.tables
   names =
-      let last = last_log facts.files has.logs.sealed has.logs.current (subst (HasLogs facts.files) has.logs.logs has.log.consistent.logs) in
+      let last = last_log after has.logs.sealed has.logs.current (subst (HasLogs after) has.logs.logs has.log.consistent.logs) in
       let number = has.logs.number in
       let numbered : IsNumbered begun.log.number = subst IsNumbered number last.numbered in
-      let there : get facts.files (name_of (Log begun.log.number)) ≡ Some last.bytes = subst (λ (n : ℕ). get facts.files (name_of (Log n)) ≡ Some last.bytes) number last.there in
+      let there : get after (name_of (Log begun.log.number)) ≡ Some last.bytes = subst (λ (n : ℕ). get after (name_of (Log n)) ≡ Some last.bytes) number last.there in
       record {
         last = (numbered, has.knows.free.listed (Log begun.log.number) numbered (ap is_some there), w.named);
         front = synced.logs.front;

@@ -38,6 +38,7 @@ drawn_none {T} m n result same piece = at result piece.what
     at (Err error.OutOfMemory) h = h
     at (Err error.Io) h = (h.1, h.2 ∙ ap (λ (b : Bool). record m { numbers = n.numbers; broken = b; failures = n.failures; denials = n.denials }) same)
     at (Err error.NumbersSpent) h = h.1
+    at (Err (error.Corrupt file what)) h = h.1
     at (Err (error.Unsupported limit)) h = h.1
     at (Err _) h = absurd h
 

@@ -40,6 +40,7 @@ refused_only : (m n : Machine) (most : ℕ) (e : DbError) → UpkeepRefused m mo
 refused_only m n most error.OutOfMemory h = (draws_only m n most h).0
 refused_only m n most error.Io h = (h.1.0, h.2)
 refused_only m n most error.NumbersSpent h = (draws_only m n most h.1).0
+refused_only m n most (error.Corrupt file what) h = (draws_only m n most h.1).0
 refused_only m n most (error.Unsupported limit) h = (draws_only m n most h.1).0
 refused_only m n most _ h = absurd h
 

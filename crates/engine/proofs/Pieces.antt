@@ -32,9 +32,8 @@ use Rattle.engine.specs.internal.Directory.{Means, MeansAccepted}
 use Rattle.recover.specs.Limits.{IsWithinLimits}
 use Rattle.engine.specs.OpenDb.{OpenDb}
 use Rattle.engine.specs.internal.Standing.{entries_of, IsServing}
-use Rattle.reader.specs.internal.Iterators.{IsWalk}
 use Rattle.engine.specs.Reads.{kept_at}
-use Rattle.engine.specs.internal.Live.{IsBoth, AreLive, AreSnapshots, AreWalks, IsSnapshot}
+use Rattle.engine.specs.internal.Live.{IsBoth, AreLive, AreSnapshots, AreWalks, IsLiveWalk, IsSnapshot}
 use Rattle.machine.specs.Machine.{Machine, Walk, after_batch, current, entry_count, operation_weight, view_at, weight}
 use Rattle.engine.proofs.Reading.{walk_kept}
 use Rattle.opening.proofs.Reopening.{TablesStay, long_back}
@@ -55,11 +54,11 @@ module _ {X Y : Type 0} (Is Was : X → Y → Type 0) (kept : BTreeMap ℕ X) (l
 module _ {K : Type 0} {g : _} (order : Order) (kept : (scan : Scan K g) → ScanIsKept order.cmp scan) where
   -- each iterator reads what it read
   pub walks_each : (old new : Whole) (iterators : BTreeMap ℕ (Scan K g)) (m : Machine)
-      → ((id : ℕ) (scan : Scan K g) (walk : Walk) → kept_at iterators id ≡ Some scan → IsWalk order.cmp m.over_limit old scan walk → KeepsScan order.cmp scan old new) → old.memory.last ≤ new.memory.last
+      → ((id : ℕ) (scan : Scan K g) (walk : Walk) → kept_at iterators id ≡ Some scan → IsLiveWalk order.cmp m.over_limit m.damaged old scan walk → KeepsScan order.cmp scan old new) → old.memory.last ≤ new.memory.last
       → AreWalks order.cmp old m iterators → AreWalks order.cmp new m iterators
   walks_each old new iterators m keeps last h =
-      live_each (IsWalk order.cmp m.over_limit old) (IsWalk order.cmp m.over_limit new) iterators m.iterators
-      (λ id scan walk there is. walk_kept order kept m.over_limit old new scan walk (keeps id scan walk there is) last is) h
+      live_each (IsLiveWalk order.cmp m.over_limit m.damaged old) (IsLiveWalk order.cmp m.over_limit m.damaged new) iterators m.iterators
+      (λ id scan walk there is. walk_kept order kept m.over_limit m.damaged old new scan walk (keeps id scan walk there is) last is) h
 
 -- ---- what is known of the files
 

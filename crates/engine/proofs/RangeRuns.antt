@@ -121,11 +121,13 @@ dropped_as : (m n : Machine) (id : ℕ) (answer : Answer) → Dropped m id answe
 dropped_as m n id Done h = h
 dropped_as m n id _ h = absurd h
 
-read_on : (between n : Machine) (e : DbError) (m o : Machine) → between.failures ≡ m.failures → between.over_limit ≡ m.over_limit → o.failures ≤ n.failures → (n ≈ between) → ReadRefused m e o → ReadRefused between e n
-read_on between n error.OutOfMemory m o failures limit more becomes h = becomes
-read_on between n error.Io m o failures limit more becomes h = (omega (arith, failures, more, h.0), becomes)
-read_on between n (error.Unsupported what) m o failures limit more becomes h = (limit ∙ h.0, becomes)
-read_on between n _ m o failures limit more becomes h = absurd h
+read_on : (between n : Machine) (e : DbError) (m o : Machine) → between.failures ≡ m.failures → between.over_limit ≡ m.over_limit → between.damaged ≡ m.damaged → o.failures ≤ n.failures → (n ≈ between) → ReadRefused m e o
+    → ReadRefused between e n
+read_on between n error.OutOfMemory m o failures limit flag more becomes h = becomes
+read_on between n error.Io m o failures limit flag more becomes h = (omega (arith, failures, more, h.0), becomes)
+read_on between n (error.Corrupt file what) m o failures limit flag more becomes h = (flag ∙ h.0, becomes)
+read_on between n (error.Unsupported what) m o failures limit flag more becomes h = (elim h.0 [ inl over ↦ inl (limit ∙ over) | inr damage ↦ inr (flag ∙ damage) ], becomes)
+read_on between n _ m o failures limit flag more becomes h = absurd h
 
 serving_read : (m : Machine) (e : DbError) (n : Machine) → Serving m → RefusesFill m e n → ReadRefused m e n
 serving_read m e n is (inl h) = served_as (not_serving (status_of m)) _ _ is h
@@ -179,8 +181,9 @@ module _ (order : Order) (m : Machine) (keys : KeyRange) (snapshot : Option ℕ)
       let becomes = given_up last came.1 ended n answer fills.others same came.4 drops in
       let stood = refused.0 in
       let over_limit : m.over_limit ≡ stood.over_limit = sym (ap (λ (x : Machine). x.over_limit) refused.1.1 ∙ ap (λ (x : Machine). x.over_limit) made.3) in
+      let damaged : m.damaged ≡ stood.damaged = sym (ap (λ (x : Machine). x.damaged) refused.1.1 ∙ ap (λ (x : Machine). x.damaged) made.3) in
       inr (
         record (walked m) { failures = stood.failures; denials = stood.denials },
         refl,
-        read_on (record (walked m) { failures = stood.failures; denials = stood.denials }) n e stood last refl over_limit drops.0.failures becomes (serving_read stood e last (only_serving stood refused.1) refused.2),
+        read_on (record (walked m) { failures = stood.failures; denials = stood.denials }) n e stood last refl over_limit damaged drops.0.failures becomes (serving_read stood e last (only_serving stood refused.1) refused.2),
       )

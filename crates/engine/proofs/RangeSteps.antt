@@ -62,6 +62,7 @@ only_moved id m n place e = (
 read_same : (m n : Machine) (e : DbError) → ReadRefused m e n → (n ≈ m)
 read_same m n error.OutOfMemory h = h
 read_same m n error.Io h = h.1
+read_same m n (error.Corrupt file what) h = h.1
 read_same m n (error.Unsupported limit) h = h.1
 read_same m n _ h = absurd h
 

@@ -4,8 +4,6 @@ use Rattle.std.specs.FinMap.{get, IsAntisymmetric}
 use Rattle.std.specs.Option.{option_or}
 use Rattle.edits.specs.Names.{IsNumbered, name_of}
 use Rattle.edits.specs.declared.names.FileName.TheVariants.{Table, OldTable}
-use Rattle.recover.specs.internal.Changes.{ManifestEndsAt}
-use Rattle.recover.specs.Directory.{EndsAt, IsConsistent}
 use Rattle.recover.specs.Numbers.{IsFree}
 use Rattle.std.specs.Cmp.{IsTotalOrder}
 use Rattle.std.specs.declared.cmp.Ordering.{Ordering}
@@ -17,13 +15,18 @@ use Rattle.edits.specs.declared.field.PlacedTable.{PlacedTable}
 use Rattle.ikey.specs.declared.entry.Entry.{Entry}
 use Rattle.ikey.specs.Orders.{Order}
 use Rattle.ikey.specs.Sources.{joined, SameEntries}
-use Rattle.version_get.specs.Gets.{HasTablesOf, IsTooLong}
+use Rattle.version_get.specs.Gets.{HasTablesOf, IsTooLong, MayHaveTablesOf}
 use Rattle.recover.specs.Report.{IsLongTable}
 use Rattle.recover.specs.Tables.{TableContent, IsTableFile, InTables, HasTable, tabled}
 use Rattle.recover.proofs.Memberships.{one_of_tables}
 use Rattle.db_cursor.specs.internal.SourceLaws.{keeps_any}
 use Rattle.db_cursor.specs.Scans.{IsOnePastLimit, KeepsScan, KeepsUpTo, reads_memory, reads_table, tables_of}
 use Rattle.db_cursor.specs.internal.Scanning.{ScanIsKept}
+use Rattle.db_cursor.specs.Origins.{HaveOrigins}
+use Rattle.db_cursor.proofs.Origins.{origins_held}
+use Rattle.db_cursor.proofs.ScanSteps.{may_kept}
+use Rattle.db_cursor.proofs.Untorn.{intact_scan}
+use Rattle.directory_writes.specs.Differing.{DiffersInTables, IsSameChange}
 use Rattle.level_cursor.specs.InRows.{ListsNumber}
 use Rattle.db_cursor.specs.Whole.{Whole}
 use Rattle.memtables.specs.Memories.{Memories, logged_in}
@@ -38,18 +41,20 @@ use Rattle.store.specs.Files.{Files, Facts}
 use Rattle.table.proofs.FrameParts.{long_frame}
 use Rattle.versions.specs.Levels.{ListsSameTables}
 use Rattle.engine.specs.declared.ids.Ids.{Ids}
-use Rattle.engine.specs.internal.Directory.{IsAtRest, IsReadable}
+use Rattle.engine.specs.internal.Directory.{IsReadable}
 use Rattle.recover.specs.Limits.{IsWithinLimits}
 use Rattle.engine.specs.OpenDb.{OpenDb, whole_of}
-use Rattle.reader.specs.internal.Iterators.{IsWalk, walked_of}
+use Rattle.reader.specs.internal.Iterators.{walked_of}
+use Rattle.engine.specs.Origins.{ComesFrom}
 use Rattle.engine.specs.internal.Compacting.{IsCompacting}
 use Rattle.engine.specs.Reads.{kept_at}
-use Rattle.engine.specs.internal.Live.{AreLive, AreWalks, IsBoth}
+use Rattle.engine.specs.internal.Live.{AreLive, AreWalks, IsBoth, IsLiveWalk}
 use Rattle.machine.specs.Machine.{Machine, Walk}
 use Rattle.engine.proofs.Synced.{StaysSynced, stays_same}
 use Rattle.engine.specs.internal.Standing.{HasLog, HasTables, IsBroken, IsServing, StandsOpen}
 use Rattle.engine.proofs.Compacting.{each_job, goes_beside, have_itself, known_itself, version_number, version_unowned}
 use Rattle.engine.proofs.LiveIds.{live_then}
+use Rattle.engine.proofs.Origins.{comes_same}
 
 -- ---- members
 
@@ -68,16 +73,26 @@ has_placed (x ∷ contents) c (inr i) = let rest = has_placed contents c i in (s
 
 -- ---- the tables of an open database
 
--- The files of its version are tables, and their entries those of the directory's tables.
-pub tables_found : {K : Type 0} {g : _} → (order : Order) (source : Seen) (contents : List TableContent) (db : OpenDb K g) → VersionLaw → IsTotalOrder order.cmp → IsAntisymmetric order.cmp
-    → HasLog order source.facts.files contents db → HasTables order source contents db
-    → (found : List TableContent) × HasTablesOf order source db.tables found × SameEntries (joined (table_sources found)) (tabled contents)
-tables_found order source contents db law total exact log tables =
+-- The undamaged files of its version are tables, and their entries those of the directory's tables.
+pub tables_found : {K : Type 0} {g : _} → (order : Order) (source : Seen) (ideal : Files) (contents : List TableContent) (db : OpenDb K g) → VersionLaw → IsTotalOrder order.cmp → IsAntisymmetric order.cmp
+    → HasLog order ideal contents db → HasTables order source contents db
+    → (found : List TableContent) × HasVersion order ideal db.tables found × SameEntries (joined (table_sources found)) (tabled contents)
+tables_found order source ideal contents db law total exact log tables =
     let a = log.directory in
     let d = a.directory in
     let placed : map (λ (content : TableContent). content.placed) contents ≡ d.layout.tables.items = ap (λ (cs : List TableContent). map (λ (content : TableContent). content.placed) cs) a.in_tables ∙ a.consistent.placed in
-    let v = law order source.facts.files d db.tables total exact a.consistent (subst (λ (ps : List PlacedTable). ListsSameTables ps db.tables) placed tables.version) tables.in_order in
-    (v.0, (tables.sound, v.1), subst (λ (cs : List TableContent). SameEntries (joined (table_sources v.0)) (tabled cs)) (sym a.in_tables) v.2)
+    let v = law order ideal d db.tables total exact a.consistent (subst (λ (ps : List PlacedTable). ListsSameTables ps db.tables) placed tables.version) tables.in_order in
+    (v.0, v.1, subst (λ (cs : List TableContent). SameEntries (joined (table_sources v.0)) (tabled cs)) (sym a.in_tables) v.2)
+
+-- The files themselves may be tables with those entries.
+pub may_found : {K : Type 0} {g : _} → (order : Order) (source : Seen) (ideal : Files) (contents found : List TableContent) (db : OpenDb K g) → IsTotalOrder order.cmp → HasTables order source contents db
+    → HasVersion order ideal db.tables found → HaveOrigins order.cmp source.facts.files ideal db.tables → MayHaveTablesOf order source db.tables found
+may_found order source ideal contents found db total tables version from = (tables.sound, origins_held order source.facts.files ideal db.tables found total version from)
+
+-- Without damage they are.
+pub whole_found : {K : Type 0} {g : _} → (order : Order) (source : Seen) (ideal : Files) (contents found : List TableContent) (db : OpenDb K g) → ideal ≡ source.facts.files → HasTables order source contents db
+    → HasVersion order ideal db.tables found → HasTablesOf order source db.tables found
+whole_found order source ideal contents found db same tables version = (tables.sound, subst (λ (fs : Files). HasVersion order fs db.tables found) same version)
 
 -- a file that is a table, and is past a limit
 pub long_table : (order : Order) (file : List ℕ) (entries : List Entry) → IsTableFile order file entries → IsTablePastLimit order.cmp file → IsLongTable order file
@@ -110,11 +125,11 @@ either_there : (a b : Option (List ℕ)) → IsSome (option_or a b) → (is_some
 either_there None b some = inr (is_there b some)
 either_there (Some file) b some = inl refl
 
--- a table that is there has a number below those that are free
-pub below_next : (order : Order) (files : Files) (n number : ℕ) → IsFree order files n → IsNumbered number → IsSome (table_at files number) → number < n
-below_next order files n number free numbered there = elim (either_there (get files (name_of (Table number))) (get files (name_of (OldTable number))) there) [
-  | inl newer ↦ free.listed (Table number) numbered newer
-  | inr older ↦ free.listed (OldTable number) numbered older
+-- a table that is there has a number below those that are free in the undamaged directory
+pub below_next : (order : Order) (files ideal : Files) (n number : ℕ) → DiffersInTables files ideal → IsFree order ideal n → IsNumbered number → IsSome (table_at files number) → number < n
+below_next order files ideal n number differs free numbered there = elim (either_there (get files (name_of (Table number))) (get files (name_of (OldTable number))) there) [
+  | inl newer ↦ free.listed (Table number) numbered (differs.names (name_of (Table number)) ∙ newer)
+  | inr older ↦ free.listed (OldTable number) numbered (differs.names (name_of (OldTable number)) ∙ older)
 ]
 
 -- what is kept of tables was kept, or is of one that is there
@@ -163,20 +178,23 @@ limits_kept cmp scan old new keeps past = (past.0, past.1, past.2, sym (keeps.fi
 
 module _ {K : Type 0} {g : _} (order : Order) (kept : (scan : Scan K g) → ScanIsKept order.cmp scan) where
   -- an iterator where what it reads is the same
-  pub walk_kept : (limited : Bool) (old new : Whole) (iterator : Scan K g) (walk : Walk) → KeepsScan order.cmp iterator old new → old.memory.last ≤ new.memory.last
-      → IsWalk order.cmp limited old iterator walk → IsWalk order.cmp limited new iterator walk
-  walk_kept limited old new iterator walk keeps last h = record {
-    bound = (let within : iterator.walk.sequence ≤ old.memory.last = h.bound in omega (arith, within, last));
-    scan = kept iterator old new (walked_of walk) keeps h.scan;
-    limits = λ is past. h.limits is (limits_kept order.cmp iterator old new keeps past);
+  pub walk_kept : (limited damaged : Bool) (old new : Whole) (iterator : Scan K g) (walk : Walk) → KeepsScan order.cmp iterator old new → old.memory.last ≤ new.memory.last
+      → IsLiveWalk order.cmp limited damaged old iterator walk → IsLiveWalk order.cmp limited damaged new iterator walk
+  walk_kept limited damaged old new iterator walk keeps last h = record {
+    may = record {
+      bound = (let within : iterator.walk.sequence ≤ old.memory.last = h.may.bound in omega (arith, within, last));
+      scan = may_kept order.cmp iterator old new (walked_of walk) keeps h.may.scan;
+    };
+    limits = λ is whole past. h.limits is whole (limits_kept order.cmp iterator old new keeps past);
+    intact = λ whole cut torn. (kept iterator old new (walked_of walk) keeps (intact_scan order.cmp iterator old (walked_of walk) h.may.scan (h.intact whole))).intact cut torn;
     tables = λ number read. let there = h.tables number read in (there.0, there.1, subst (λ (file : Option (List ℕ)). IsSome file) (sym (keeps.files number read)) there.2);
   }
 
   pub walks_kept : (old new : Whole) (iterators : BTreeMap ℕ (Scan K g)) (m : Machine) → ((sequence : ℕ) → sequence ≤ old.memory.last → KeepsUpTo order.cmp sequence old new) → old.memory.last ≤ new.memory.last
       → AreWalks order.cmp old m iterators → AreWalks order.cmp new m iterators
   walks_kept old new iterators m keeps last h =
-      live_then (IsWalk order.cmp m.over_limit old) (IsWalk order.cmp m.over_limit new) iterators m.iterators
-      (λ iterator walk is. walk_kept m.over_limit old new iterator walk (keeps_any order.cmp (reads_memory iterator) (reads_table iterator) iterator.walk.sequence old new (keeps iterator.walk.sequence is.bound)) last is) h
+      live_then (IsLiveWalk order.cmp m.over_limit m.damaged old) (IsLiveWalk order.cmp m.over_limit m.damaged new) iterators m.iterators
+      (λ iterator walk is. walk_kept m.over_limit m.damaged old new iterator walk (keeps_any order.cmp (reads_memory iterator) (reads_table iterator) iterator.walk.sequence old new (keeps iterator.walk.sequence is.may.bound)) last is) h
 
   -- files and memory are the same, whatever else the calls did
   module _ (old new : Seen) (db : OpenDb K g) (memory : Memories) (m : Machine) (files : new.facts.files ≡ old.facts.files) (sound : IsSound order.cmp old → IsSound order.cmp new)
@@ -190,20 +208,21 @@ module _ {K : Type 0} {g : _} (order : Order) (kept : (scan : Scan K g) → Scan
     abbrev pub after : OpenDb K g
     after = record db { memory = memory }
 
-    pub readable_read : IsReadable order old.facts.files m → IsReadable order new.facts.files (read_by new.facts m)
-    readable_read h = subst (λ (fs : Files). IsReadable order fs (read_by new.facts m)) (sym files) (record { made = h.made; numbers = h.numbers; limits = h.limits })
+    pub readable_read : (ideal : Files) → IsReadable order ideal m → IsReadable order ideal (read_by new.facts m)
+    readable_read ideal h = record { made = h.made; numbers = h.numbers; limits = h.limits }
 
-    abbrev pub log_read : (contents : List TableContent) → HasLog order old.facts.files contents db → HasLog order new.facts.files contents after
-    log_read contents h =
+    pub origin_read : (ideal : Files) → ComesFrom order m.damaged old.facts.files ideal → ComesFrom order m.damaged new.facts.files ideal
+    origin_read ideal h = comes_same order m.damaged old.facts.files new.facts.files ideal files h
+
+    abbrev pub log_read : (ideal : Files) (contents : List TableContent) → HasLog order ideal contents db → HasLog order ideal contents after
+    log_read ideal contents h =
         let a = h.directory in
-        let d = a.directory in
-        let knows = h.knows in
         record {
           named = h.named;
           directory = record {
-            directory = d;
-            consistent = subst (λ (fs : Files). IsConsistent order fs d) (sym files) a.consistent;
-            ends = subst (λ (fs : Files). EndsAt fs d db.log.number db.log.end) (sym files) a.ends;
+            directory = a.directory;
+            consistent = a.consistent;
+            ends = a.ends;
             in_tables = a.in_tables;
             in_logs = inserts ∙ a.in_logs;
             spent = last ∙ a.spent;
@@ -218,53 +237,51 @@ module _ {K : Type 0} {g : _} (order : Order) (kept : (scan : Scan K g) → Scan
             front = λ none. h.logs.front (sym left.sealed ∙ none);
             some = λ none. left.sealed ∙ h.logs.some (sym (left_sealed db.memory memory left) ∙ none);
           };
-          knows = record {
-            first_log = knows.first_log;
-            forward = knows.forward;
-            previous_log = knows.previous_log;
-            number = knows.number;
-            named = knows.named;
-            ends = subst (λ (fs : Files). ManifestEndsAt order fs d.manifest db.directory.manifest.end d.edits d.layout) (sym files) knows.ends;
-            free = subst (λ (fs : Files). IsFree order fs db.directory.numbers.next) (sym files) knows.free;
-          };
+          knows = h.knows;
         }
 
     -- what is kept is of tables that are there, or was kept before
-    pub drawn_read : (contents : List TableContent) → HasLog order old.facts.files contents db → HasTables order old contents db → (number : ℕ) → KeepsOf new number → IsNumbered number × (number < db.directory.numbers.next)
-    drawn_read contents log tables number kept = elim (keeps number kept) [
+    pub drawn_read : (ideal : Files) (contents : List TableContent) → DiffersInTables old.facts.files ideal → HasLog order ideal contents db → HasTables order old contents db → (number : ℕ) → KeepsOf new number → IsNumbered number × (number < db.directory.numbers.next)
+    drawn_read ideal contents differs log tables number kept = elim (keeps number kept) [
       | inl before ↦ tables.drawn number before
-      | inr there ↦ (there.0, below_next order old.facts.files db.directory.numbers.next number log.knows.free there.0 there.1)
+      | inr there ↦ (there.0, below_next order old.facts.files ideal db.directory.numbers.next number differs log.knows.free there.0 there.1)
     ]
 
+    -- nothing is changed in the directory
+    no_change : (ideal : Files) → IsSameChange old.facts.files new.facts.files ideal ideal
+    no_change ideal = record { stays = λ name same. refl; changes = λ name apart. absurd (apart (ap (λ (fs : Files). get fs name) files)) }
+
     -- nothing is kept anew of a table that a compaction writes
-    pub job_read : (h : IsServing order old db m) → MatchOption db.job (Unit {0}) (IsCompacting order (whole_of old db) db.directory.numbers.next db.snapshots db.iterators h.log.directory.directory)
-        → MatchOption db.job (Unit {0}) (IsCompacting order (whole_of new after) db.directory.numbers.next db.snapshots db.iterators h.log.directory.directory)
+    pub job_read : (h : IsServing order old db m) → MatchOption db.job (Unit {0}) (IsCompacting order m.damaged (whole_of old db) h.ideal db.directory.numbers.next db.snapshots db.iterators h.log.directory.directory)
+        → MatchOption db.job (Unit {0}) (IsCompacting order m.damaged (whole_of new after) h.ideal db.directory.numbers.next db.snapshots db.iterators h.log.directory.directory)
     job_read h job = each_job _ _ db.job (λ work is c.
         let a = h.log.directory in
         let d = a.directory in
         let free = h.log.knows.free in
         let fits = db.directory.numbers.in_range.1 in
         let contents : h.contents ≡ d.tables = a.in_tables in
-        let unowned_here = λ (number : ℕ). version_unowned work.job.outputs order old.facts.files d h.contents db.tables number a.consistent contents h.tables.version c.running.unused in
-        goes_beside order (whole_of old db) (whole_of new after) db.directory.numbers.next db.directory.numbers.next db.snapshots db.snapshots db.iterators db.iterators db.tables d d work c a.consistent free fits (omega arith)
+        let unowned_here = λ (number : ℕ). version_unowned work.job.outputs order h.ideal d h.contents db.tables number a.consistent contents h.tables.version c.running.unused in
+        goes_beside order (whole_of old db) (whole_of new after) db.directory.numbers.next db.directory.numbers.next db.snapshots db.snapshots db.iterators db.iterators db.tables m.damaged h.ideal h.ideal d d work c a.consistent free fits (omega arith)
         (λ number numbered below one. ((ap (λ (fs : Files). get fs (name_of (Table number))) files, λ file there was. (stays h.synced).1 number numbered ∙ was), ap (λ (fs : Files). get fs (name_of (OldTable number))) files)) sound
         (λ number kept_now. elim (gathers number kept_now) [
           | inl before ↦ inl before
-          | inr (inl has) ↦ inr ((version_number order old.facts.files d db.directory.numbers.next h.contents db.tables number a.consistent free contents h.tables.version has).1, unowned_here number has)
+          | inr (inl has) ↦ inr ((version_number order h.ideal d db.directory.numbers.next h.contents db.tables number a.consistent free contents h.tables.version has).1, unowned_here number has)
           | inr (inr one) ↦ inr (
-              let walk = live_of (IsWalk order.cmp m.over_limit (whole_of old db)) db.iterators m.iterators one.0 one.1 one.2 h.iterators in
+              let walk = live_of (IsLiveWalk order.cmp m.over_limit m.damaged (whole_of old db)) db.iterators m.iterators one.0 one.1 one.2 h.iterators in
               let there = walk.1.tables number one.3 in
-              (below_next order old.facts.files db.directory.numbers.next number free there.1 there.2, c.unread one.0 one.1 one.2 number there.0)
+              (below_next order old.facts.files h.ideal db.directory.numbers.next number h.origin.differs free there.1 there.2, c.unread one.0 one.1 one.2 number there.0)
               )
-        ]) refl refl (omega (arith, last)) (known_itself db.snapshots db.memory.last) (have_itself db.iterators db.tables) unowned_here) job
+        ]) (no_change h.ideal) refl refl (omega (arith, last)) (known_itself db.snapshots db.memory.last) (have_itself db.iterators db.tables) unowned_here) job
 
     abbrev pub serving_read : IsServing order old db m → IsServing order new after (read_by new.facts m)
     serving_read h = record {
       whole = h.whole;
       certain = h.certain;
+      ideal = h.ideal;
+      origin = origin_read h.ideal h.origin;
       contents = h.contents;
-      log = log_read h.contents h.log;
-      tables = record { version = h.tables.version; in_order = h.tables.in_order; sound = sound h.tables.sound; drawn = drawn_read h.contents h.log h.tables };
+      log = log_read h.ideal h.contents h.log;
+      tables = record { version = h.tables.version; in_order = h.tables.in_order; sound = sound h.tables.sound; drawn = drawn_read h.ideal h.contents h.origin.differs h.log h.tables };
       entries = record {
         used = h.entries.used ∙ sym last;
         fits = (let fits = h.entries.fits in omega (arith, fits, last));
@@ -274,16 +291,17 @@ module _ {K : Type 0} {g : _} (order : Order) (kept : (scan : Scan K g) → Scan
       snapshots = rw (inserts, last) h.snapshots;
       iterators = walks_kept (whole_of old db) (whole_of new after) db.iterators m (λ sequence within. whole_kept order.cmp (whole_of old db) (whole_of new after) sequence left files sound) (omega (arith, last)) h.iterators;
       accounted = rw (inserts) h.accounted;
-      readable = readable_read h.readable;
+      readable = readable_read h.ideal h.readable;
       numbers = h.numbers;
       synced = (stays h.synced).0;
       job = job_read h h.job;
     }
 
     rest_read : (b : Bool) → MatchBool b (IsBroken order old.facts.files m) (IsServing order old db m) → MatchBool b (IsBroken order new.facts.files (read_by new.facts m)) (IsServing order new after (read_by new.facts m))
-    rest_read true h =
-        let there : IsAtRest order new.facts.files m = subst (λ (fs : Files). IsAtRest order fs m) (sym files) h.rest in
-        record { broken = h.broken; rest = record { meaning = there.meaning; readable = readable_read h.rest.readable } }
+    rest_read true h = record {
+      broken = h.broken;
+      rest = record { ideal = h.rest.ideal; origin = origin_read h.rest.ideal h.rest.origin; meaning = h.rest.meaning; readable = readable_read h.rest.ideal h.rest.readable };
+    }
     rest_read false h = serving_read h
 
     pub stands_kept : (ids : Ids) → StandsOpen order old ids db m → StandsOpen order new ids (record db { memory = memory }) (read_by new.facts m)

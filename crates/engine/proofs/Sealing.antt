@@ -12,7 +12,7 @@ use Rattle.memtables.specs.Changes.{IsSealed}
 use Rattle.memtables.specs.Memories.{Memories, inserts_of, logged_in, older_at, sealed_inserts, table_in}
 use Rattle.memtables.specs.Places.{MemoriesPlace, KeepsMemories}
 use Rattle.recover.specs.internal.Changes.{ManifestEndsAt, empty_log, with_log}
-use Rattle.recover.specs.Directory.{Directory, EndsAt, IsConsistent, entries_in, used_in}
+use Rattle.recover.specs.Directory.{Directory, EndsAt, HasManifest, IsConsistent, entries_in, used_in}
 use Rattle.recover.specs.Entries.{greatest}
 use Rattle.recover.specs.Report.{IsLongTable, AnyHasBytes}
 use Rattle.edits.specs.Edit.{HasPastLimit}
@@ -30,7 +30,7 @@ use Rattle.table_access.specs.Tables.{Seen, IsSound, SoundLasts}
 use Rattle.table_access.proofs.Sounding.{same_file, same_table}
 use Rattle.std.specs.declared.cmp.Ordering.{Ordering}
 use Rattle.std.specs.Option.{option_and_then}
-use Rattle.store.specs.Files.{Facts}
+use Rattle.store.specs.Files.{Facts, Files}
 use Rattle.table.specs.Writing.{KeepsOthers}
 use Rattle.directory_writes.specs.internal.LogFile.{HasNewLog}
 use Rattle.opening.specs.declared.directory.DirectoryState.{DirectoryState}
@@ -40,7 +40,11 @@ use Rattle.engine.specs.internal.Directory.{IsReadable}
 use Rattle.engine.specs.OpenDb.{OpenDb, whole_of}
 use Rattle.engine.proofs.Synced.{sealed_synced, synced_same, whole_left}
 use Rattle.engine.specs.internal.Standing.{entries_of, HasLog, IsBroken, IsServing}
-use Rattle.reader.specs.internal.Iterators.{IsWalk}
+use Rattle.engine.specs.internal.Live.{IsLiveWalk}
+use Rattle.engine.specs.Origins.{ComesFrom}
+use Rattle.engine.proofs.Extended.{comes_extended, no_change, placed_number}
+use Rattle.directory_writes.proofs.SameChanges.{same_change}
+use Rattle.directory_writes.specs.Differing.{IsSameChange}
 use Rattle.engine.specs.Reads.{kept_at}
 use Rattle.machine.specs.Machine.{Machine, Walk}
 use Rattle.engine.proofs.Compacting.{each_job, goes_beside, have_itself, known_itself, version_unowned}
@@ -58,6 +62,8 @@ module _ {K : Type 0} {g : _} (order : Order) (source : Seen) (db : OpenDb K g) 
       record {
         whole = h.whole;
         certain = h.certain;
+        ideal = h.ideal;
+        origin = h.origin;
         contents = h.contents;
         log = record {
           named = h.log.named;
@@ -69,8 +75,8 @@ module _ {K : Type 0} {g : _} (order : Order) (source : Seen) (db : OpenDb K g) 
             previous_log = knows.previous_log ∙ sym previous_log;
             number = number ∙ knows.number;
             named = ap string_bytes name ∙ knows.named;
-            ends = subst (λ (k : ℕ). ManifestEndsAt order source.facts.files d.manifest k d.edits d.layout) (sym ends) knows.ends;
-            free = free_up order source.facts.files db.directory.numbers.next state.numbers.next le knows.free;
+            ends = subst (λ (k : ℕ). ManifestEndsAt order h.ideal d.manifest k d.edits d.layout) (sym ends) knows.ends;
+            free = free_up order h.ideal db.directory.numbers.next state.numbers.next le knows.free;
           };
         };
         tables = record {
@@ -83,14 +89,14 @@ module _ {K : Type 0} {g : _} (order : Order) (source : Seen) (db : OpenDb K g) 
         snapshots = h.snapshots;
         iterators = h.iterators;
         accounted = h.accounted;
-        readable = record { made = h.readable.made; numbers = free_up order source.facts.files m.numbers (m.numbers + 1) (omega arith) h.readable.numbers; limits = h.readable.limits };
+        readable = record { made = h.readable.made; numbers = free_up order h.ideal m.numbers (m.numbers + 1) (omega arith) h.readable.numbers; limits = h.readable.limits };
         numbers = (let below = h.numbers in omega (arith, below, upto));
         synced = synced_same source.facts source.facts db.log db.directory state db.tables number name first_log previous_log le h.synced refl refl;
         job = each_job _ _ db.job (λ work is c.
-            goes_beside order (whole_of source db) (whole_of source db) db.directory.numbers.next state.numbers.next db.snapshots db.snapshots db.iterators db.iterators db.tables d d work c
-            h.log.directory.consistent knows.free db.directory.numbers.in_range.1 le (λ number numbered below one. ((refl, λ file there was. was), refl)) (λ sound. sound) (λ number kept_now. inl kept_now) refl refl
+            goes_beside order (whole_of source db) (whole_of source db) db.directory.numbers.next state.numbers.next db.snapshots db.snapshots db.iterators db.iterators db.tables m.damaged h.ideal h.ideal d d work c
+            h.log.directory.consistent knows.free db.directory.numbers.in_range.1 le (λ number numbered below one. ((refl, λ file there was. was), refl)) (λ sound. sound) (λ number kept_now. inl kept_now) (no_change source.facts.files source.facts.files h.ideal refl) refl refl
             (omega arith) (known_itself db.snapshots db.memory.last) (have_itself db.iterators db.tables)
-            (λ number. version_unowned work.job.outputs order source.facts.files d h.contents db.tables number h.log.directory.consistent h.log.directory.in_tables h.tables.version c.running.unused)) h.job;
+            (λ number. version_unowned work.job.outputs order h.ideal d h.contents db.tables number h.log.directory.consistent h.log.directory.in_tables h.tables.version c.running.unused)) h.job;
       }
 
 -- ---- a new log
@@ -114,7 +120,7 @@ module _ {K : Type 0} {g : _} (order : Order) (kept : (scan : Scan K g) → Scan
   abbrev new : Seen
   new = record old { facts = facts }
 
-  abbrev a : CanAppend order old.facts.files db.log.number db.log.end serving.contents (logged_in db.memory) db.memory.last
+  abbrev a : CanAppend order serving.ideal db.log.number db.log.end serving.contents (logged_in db.memory) db.memory.last
   a = serving.log.directory
 
   abbrev d : Directory
@@ -142,30 +148,44 @@ module _ {K : Type 0} {g : _} (order : Order) (kept : (scan : Scan K g) → Scan
       ))
       (λ block file is there. sym (table_still block.file (serving.tables.drawn block.file (inr (block, is, refl))).0) ∙ there) sound
 
+  -- the same, done to the directory from which the files come
+  abbrev behind : Files
+  behind = (same_change old.facts.files facts.files serving.ideal serving.origin.differs).0
+
+  behind_is : IsSameChange old.facts.files facts.files serving.ideal behind
+  behind_is = (same_change old.facts.files facts.files serving.ideal serving.origin.differs).1
+
+  table_behind : (n : ℕ) → IsNumbered n → table_at behind n ≡ table_at serving.ideal n
+  table_behind n numbered = same_table serving.ideal behind n (behind_is.stays (name_of (Table n)) (newer_same n numbered)) (behind_is.stays (name_of (OldTable n)) (older_same n numbered))
+
+  comes_behind : HasManifest order behind d.manifest d.edits d.layout → ComesFrom order m.damaged facts.files behind
+  comes_behind has = comes_extended order m.damaged old.facts.files facts.files serving.ideal behind d serving.origin behind_is a.consistent
+      (λ placed is. let numbered = (placed_number order serving.ideal d next placed a.consistent serving.log.knows.free is).0 in (newer_same placed.table.number numbered, older_same placed.table.number numbered)) has
+
   -- the machine behind it
   abbrev pub logged_by : Machine
   logged_by = record m { numbers = m.numbers + 1; failures = facts.failures; denials = facts.denials }
 
-  readable_as : (e : Directory) → IsConsistent order facts.files e → e.tables ≡ d.tables → e.edits ≡ d.edits → IsFree order facts.files (next + 1) → IsReadable order facts.files logged_by
+  readable_as : (e : Directory) → IsConsistent order behind e → e.tables ≡ d.tables → e.edits ≡ d.edits → IsFree order behind (next + 1) → IsReadable order behind logged_by
   readable_as e good tables edits freed = record {
-    made = made_still order old.facts.files facts.files d e m a.consistent good serving.readable.made;
-    numbers = (let below : next ≤ m.numbers = serving.numbers in free_up order facts.files (next + 1) (m.numbers + 1) (omega (arith, below)) freed);
+    made = made_still order serving.ideal behind d e m a.consistent good serving.readable.made;
+    numbers = (let below : next ≤ m.numbers = serving.numbers in free_up order behind (next + 1) (m.numbers + 1) (omega (arith, below)) freed);
     limits = λ is f good_f past.
-        let same = one order facts.files f e good_f good in
+        let same = one order behind f e good_f good in
         serving.readable.limits is d a.consistent (elim past [
           | inl numbers ↦ inl (subst (λ (es : List (List Field)). HasPastLimit (fields_of es)) (same.1 ∙ edits) numbers)
-          | inr long ↦ inr (long_back order old.facts.files facts.files d.tables (λ content i. table_still content.placed.table.number (table_of order old.facts.files d.tables content a.consistent.tables i))
-              (subst (λ (ts : List TableContent). AnyHasBytes (IsLongTable order) facts.files ts) (same.3 ∙ tables) long))
+          | inr long ↦ inr (long_back order serving.ideal behind d.tables (λ content i. table_behind content.placed.table.number (table_of order serving.ideal d.tables content a.consistent.tables i))
+              (subst (λ (ts : List TableContent). AnyHasBytes (IsLongTable order) behind ts) (same.3 ∙ tables) long))
         ]);
   }
 
-  used_with : HasNewLog order facts.files d next → used_in (with_log d next) ≡ used_in d
+  used_with : HasNewLog order behind d next → used_in (with_log d next) ≡ used_in d
   used_with has = ap (λ (es : List Entry). max d.layout.last_sequence (greatest es)) has.entries
 
   -- ---- it is there
 
   module _ (memory : Memories) (log : CurrentLog) (state : DirectoryState) (unsealed : db.memory.sealed ≡ None) (filled : 0 < length db.memory.current.inserts) (sealed : IsSealed db.memory memory) (inserts : sealed_inserts memory ≡ db.memory.current.inserts)
-      (has : HasNewLog order facts.files d next) (ends : ManifestEndsAt order facts.files d.manifest db.directory.manifest.end d.edits d.layout) (freed : IsFree order facts.files (next + 1))
+      (has : HasNewLog order behind d next) (ends : ManifestEndsAt order behind d.manifest db.directory.manifest.end d.edits d.layout) (freed : IsFree order behind (next + 1))
       (log_number : log.number ≡ next) (log_name : string_bytes log.name ≡ name_of (Log next)) (log_end : log.end ≡ 0)
       (number : state.manifest.number ≡ db.directory.manifest.number) (name : state.manifest.name ≡ db.directory.manifest.name) (end : state.manifest.end ≡ db.directory.manifest.end)
       (first_log : state.first_log ≡ db.directory.first_log) (previous_log : state.previous_log ≡ db.directory.previous_log) (next_is : state.numbers.next ≡ next + 1)
@@ -188,7 +208,7 @@ module _ {K : Type 0} {g : _} (order : Order) (kept : (scan : Scan K g) → Scan
     entries_now : entries_of serving.contents sealed_db ≡ entries_of serving.contents db
     entries_now = ap (λ (es : List Entry). tabled serving.contents ++ es) logged_now
 
-    abbrev log_sealed : HasLog order facts.files serving.contents sealed_db
+    abbrev log_sealed : HasLog order behind serving.contents sealed_db
     log_sealed =
         let knows = serving.log.knows in
         record {
@@ -196,7 +216,7 @@ module _ {K : Type 0} {g : _} (order : Order) (kept : (scan : Scan K g) → Scan
           directory = record {
             directory = with_log d next;
             consistent = has.consistent;
-            ends = subst (λ (k : ℕ). EndsAt facts.files (with_log d next) k log.end) (sym log_number) (subst (λ (k : ℕ). EndsAt facts.files (with_log d next) next k) (sym log_end) has.ends);
+            ends = subst (λ (k : ℕ). EndsAt behind (with_log d next) k log.end) (sym log_number) (subst (λ (k : ℕ). EndsAt behind (with_log d next) next k) (sym log_end) has.ends);
             in_tables = a.in_tables;
             in_logs = in_logs;
             spent = sealed.last ∙ a.spent ∙ sym (used_with has);
@@ -217,14 +237,14 @@ module _ {K : Type 0} {g : _} (order : Order) (kept : (scan : Scan K g) → Scan
             previous_log = knows.previous_log ∙ sym previous_log;
             number = number ∙ knows.number;
             named = ap string_bytes name ∙ knows.named;
-            ends = subst (λ (k : ℕ). ManifestEndsAt order facts.files d.manifest k d.edits d.layout) (sym end) ends;
-            free = subst (λ (k : ℕ). IsFree order facts.files k) (sym next_is) freed;
+            ends = subst (λ (k : ℕ). ManifestEndsAt order behind d.manifest k d.edits d.layout) (sym end) ends;
+            free = subst (λ (k : ℕ). IsFree order behind k) (sym next_is) freed;
           };
         }
 
-    keeps_each : (id : ℕ) (scan : Scan K g) (walk : Walk) → kept_at db.iterators id ≡ Some scan → IsWalk order.cmp m.over_limit (whole_of old db) scan walk → KeepsScan order.cmp scan (whole_of old db) (whole_of new sealed_db)
+    keeps_each : (id : ℕ) (scan : Scan K g) (walk : Walk) → kept_at db.iterators id ≡ Some scan → IsLiveWalk order.cmp m.over_limit m.damaged (whole_of old db) scan walk → KeepsScan order.cmp scan (whole_of old db) (whole_of new sealed_db)
     keeps_each id scan walk there is = record {
-      memory = λ cursor reads within. seals cursor db.memory memory (is.scan.there cursor.generation reads) sealed;
+      memory = λ cursor reads within. seals cursor db.memory memory (is.may.scan.there cursor.generation reads) sealed;
       files = λ n reads. table_still n (is.tables n reads).1;
       sound = sound_still;
     }
@@ -233,6 +253,8 @@ module _ {K : Type 0} {g : _} (order : Order) (kept : (scan : Scan K g) → Scan
     serving_sealed = record {
       whole = serving.whole;
       certain = serving.certain;
+      ideal = behind;
+      origin = comes_behind ends.manifest;
       contents = serving.contents;
       log = log_sealed;
       tables = record {
@@ -255,10 +277,10 @@ module _ {K : Type 0} {g : _} (order : Order) (kept : (scan : Scan K g) → Scan
       synced = synced_same facts facts log (record db.directory { numbers = state.numbers }) state db.tables number name first_log previous_log (omega arith)
           (sealed_synced old.facts facts db.log log db.directory state.numbers db.tables log_number log_name front next_is few (λ q apart. (others q apart, stays q apart)) serving.synced) refl refl;
       job = each_job _ _ db.job (λ work is c.
-          goes_beside order (whole_of old db) (whole_of new sealed_db) next state.numbers.next db.snapshots db.snapshots db.iterators db.iterators db.tables d (with_log d next) work c
-          a.consistent serving.log.knows.free db.directory.numbers.in_range.1 (omega (arith, next_is)) (λ number numbered below one. (whole_left old.facts facts (name_of (Table number)) (newer_same number numbered, stays (name_of (Table number)) (files_apart (Table number) (Log next) numbered numbered_next (λ e. cc))), older_same number numbered)) sound_still (λ number kept_now. inl kept_now) refl refl
+          goes_beside order (whole_of old db) (whole_of new sealed_db) next state.numbers.next db.snapshots db.snapshots db.iterators db.iterators db.tables m.damaged serving.ideal behind d (with_log d next) work c
+          a.consistent serving.log.knows.free db.directory.numbers.in_range.1 (omega (arith, next_is)) (λ number numbered below one. (whole_left old.facts facts (name_of (Table number)) (newer_same number numbered, stays (name_of (Table number)) (files_apart (Table number) (Log next) numbered numbered_next (λ e. cc))), older_same number numbered)) sound_still (λ number kept_now. inl kept_now) behind_is refl refl
           (let last = sealed.last in omega (arith, last)) (known_itself db.snapshots db.memory.last) (have_itself db.iterators db.tables)
-          (λ number. version_unowned work.job.outputs order old.facts.files d serving.contents db.tables number a.consistent a.in_tables serving.tables.version c.running.unused)) serving.job;
+          (λ number. version_unowned work.job.outputs order serving.ideal d serving.contents db.tables number a.consistent a.in_tables serving.tables.version c.running.unused)) serving.job;
     }
 
   -- ---- the store failed, so that it is there or not
@@ -266,18 +288,20 @@ module _ {K : Type 0} {g : _} (order : Order) (kept : (scan : Scan K g) → Scan
   entries_are : entries_of serving.contents db ≡ entries_in d
   entries_are = λ i. tabled (a.in_tables i) ++ a.in_logs i
 
-  broken_as : (e : Directory) → IsConsistent order facts.files e → e.tables ≡ d.tables → e.edits ≡ d.edits → entries_of serving.contents db ≡ entries_in e → used_in e ≡ used_in d → IsFree order facts.files (next + 1) → IsBroken order facts.files (record logged_by { broken = true })
-  broken_as e good tables edits same used freed =
+  broken_as : (e : Directory) → IsConsistent order behind e → HasManifest order behind d.manifest d.edits d.layout → e.tables ≡ d.tables → e.edits ≡ d.edits → entries_of serving.contents db ≡ entries_in e → used_in e ≡ used_in d → IsFree order behind (next + 1) → IsBroken order facts.files (record logged_by { broken = true })
+  broken_as e good has tables edits same used freed =
       let readable = readable_as e good tables edits freed in
       record {
         broken = refl;
         rest = record {
-          meaning = rests_as order law old db m serving facts.files e good (same_by (entries_of serving.contents db) (entries_in e) (entries_in e) (entries_in e) same (λ x. (λ i. i, λ i. i)) refl) (used ∙ sym a.spent);
+          ideal = behind;
+          origin = comes_behind has;
+          meaning = rests_as order law old db m serving behind e good (same_by (entries_of serving.contents db) (entries_in e) (entries_in e) (entries_in e) same (λ x. (λ i. i, λ i. i)) refl) (used ∙ sym a.spent);
           readable = record { made = readable.made; numbers = readable.numbers; limits = readable.limits };
         };
       }
 
-  pub broken_seal : IsConsistent order facts.files d ⊎ HasNewLog order facts.files d next → IsFree order facts.files (next + 1) → IsBroken order facts.files (record logged_by { broken = true })
-  broken_seal (inl good) freed = broken_as d good refl refl entries_are refl freed
+  pub broken_seal : IsConsistent order behind d ⊎ HasNewLog order behind d next → IsFree order behind (next + 1) → IsBroken order facts.files (record logged_by { broken = true })
+  broken_seal (inl good) freed = broken_as d good good.manifest refl refl entries_are refl freed
   broken_seal (inr has) freed =
-      broken_as (with_log d next) has.consistent refl refl (entries_are ∙ ap (λ (es : List Entry). tabled d.tables ++ es) (sym has.entries)) (used_with has) freed
+      broken_as (with_log d next) has.consistent has.consistent.manifest refl refl (entries_are ∙ ap (λ (es : List Entry). tabled d.tables ++ es) (sym has.entries)) (used_with has) freed

@@ -1,6 +1,7 @@
 -- A new iterator over the memory tables and the tables of a directory.
-use Rattle.std.proofs.Common.{ap, ◌∙◌, ◌≡◌, inl, inr, ℕ, zero, suc, Bool, false, Option, Some, IsSome, ◌≤◌, ◌++◌, List, [], ◌∷◌, Contains, map, refl, sym, subst, arith}
+use Rattle.std.proofs.Common.{ap, ◌∙◌, ◌≡◌, inl, inr, ℕ, zero, suc, Bool, false, Option, Some, None, IsSome, ◌≤◌, ◌++◌, List, [], ◌∷◌, Contains, map, refl, sym, subst, arith}
 use Rattle.std.specs.Cmp.{IsTotalOrder}
+use Rattle.std.specs.declared.cmp.Ordering.{Ordering}
 use Rattle.std.specs.FinMap.{IsAntisymmetric}
 use Rattle.ikey.specs.Orders.{Order}
 use Rattle.ikey.specs.Sources.{IsNewerThan, SameEntries, SameViewLaw, joined}
@@ -15,16 +16,21 @@ use Rattle.cache.specs.Tables.{table_at}
 use Rattle.recover.proofs.Memberships.{one_of_tables}
 use Rattle.recover.specs.Tables.{HasTable, InTables, TableContent, tabled}
 use Rattle.level_cursor.specs.InRows.{ListsNumber}
-use Rattle.db_cursor.specs.Scans.{BeginsScan, reads_table, tables_of}
+use Rattle.db_cursor.specs.Scans.{BeginsScan, MayBeginScan, reads_table, tables_of}
+use Rattle.db_cursor.specs.Whole.{Whole}
 use Rattle.db_cursor.specs.declared.scan.Scan.{Scan}
 use Rattle.version_laws.specs.Laws.{VersionLaw}
-use Rattle.version_laws.specs.Places.{table_sources}
+use Rattle.version_laws.specs.Places.{HasVersion, table_sources}
+use Rattle.store.specs.Files.{Files}
 use Rattle.table_access.specs.Tables.{Seen}
 use Rattle.recover.specs.Limits.{IsWithinLimits}
 use Rattle.engine.specs.OpenDb.{OpenDb, whole_of}
 use Rattle.engine.specs.internal.Standing.{entries_of, HasLog, HasTables}
-use Rattle.reader.specs.Moving.{BeginsWalk}
-use Rattle.engine.proofs.Reading.{passes_limit, tables_found}
+use Rattle.engine.specs.Origins.{ComesFrom}
+use Rattle.engine.specs.internal.Live.{IsLiveWalk}
+use Rattle.machine.specs.Views.{AreSortedPairs}
+use Rattle.engine.proofs.Origins.{origins_of}
+use Rattle.engine.proofs.Reading.{may_found, passes_limit, tables_found}
 use Rattle.engine.proofs.Tabled.{appendable_of, logged_newer}
 
 -- what is newer than entries is newer than the same in another order
@@ -47,37 +53,51 @@ content_of (c ∷ contents) p (suc k, less, is) = let rest = content_of contents
 some_of : (o : Option (List ℕ)) (file : List ℕ) → o ≡ Some file → IsSome o
 some_of o file is = subst (λ (x : Option (List ℕ)). IsSome x) (sym is) refl
 
-pub starts_walk : {K : Type 0} {g : _} → (order : Order) (limited : Bool) (source : Seen) (db : OpenDb K g) (scan : Scan K g) (contents : List TableContent) (sequence : ℕ) (view_map : Contents)
-    → SameViewLaw → VersionLaw → IsTotalOrder order.cmp → IsAntisymmetric order.cmp → HasLog order source.facts.files contents db → HasTables order source contents db
-    → scan.walk.sequence ≤ db.memory.last → sequence ≤ db.memory.last → IsView (entries_of contents db) sequence view_map → BeginsScan order db.tables sequence (whole_of source db) scan → tables_of scan ≡ db.tables
+-- A new iterator goes over the pairs of the map, in the order of their keys, as far as its tables tell.
+abbrev pub BeginsLiveWalk : {K : Type 0} {g : _} → (List ℕ → List ℕ → Ordering) → Bool → Bool → Contents → Whole → Scan K g → Type 0
+BeginsLiveWalk cmp limited damaged map whole iterator =
+    (pairs : List (List ℕ × List ℕ)) × AreSortedPairs cmp map pairs × IsLiveWalk cmp limited damaged whole iterator (record { pairs = pairs; place = None })
+
+pub starts_walk : {K : Type 0} {g : _} → (order : Order) (limited damaged : Bool) (source : Seen) (db : OpenDb K g) (scan : Scan K g) (ideal : Files) (contents : List TableContent) (sequence : ℕ) (view_map : Contents)
+    → SameViewLaw → VersionLaw → IsTotalOrder order.cmp → IsAntisymmetric order.cmp → ComesFrom order damaged source.facts.files ideal → HasLog order ideal contents db → HasTables order source contents db
+    → scan.walk.sequence ≤ db.memory.last → sequence ≤ db.memory.last → IsView (entries_of contents db) sequence view_map
+    → BeginsScan order db.tables sequence (whole_of source db) scan → MayBeginScan order db.tables sequence (whole_of source db) scan → tables_of scan ≡ db.tables
     → ((number : ℕ) → reads_table scan number → ListsNumber db.tables number)
-    → (limited ≡ false → IsWithinLimits order source.facts.files) → BeginsWalk order.cmp limited view_map (whole_of source db) scan
-starts_walk order limited source db scan contents sequence view_map same version total exact log tables bound within view begins over reads limits =
+    → (limited ≡ false → IsWithinLimits order ideal) → BeginsLiveWalk order.cmp limited damaged view_map (whole_of source db) scan
+starts_walk order limited damaged source db scan ideal contents sequence view_map same version total exact from log tables bound within view begins may over reads limits =
+    let files = source.facts.files in
     let inserts = (logged_in db.memory) in
-    let found = tables_found order source contents db version total exact log tables in
-    let newer = logged_newer order source.facts.files contents inserts db.memory.last (appendable_of order source.facts.files db.log.number db.log.end contents inserts db.memory.last log.directory) in
+    let found = tables_found order source ideal contents db version total exact log tables in
+    let origins = origins_of order source db damaged ideal contents from log tables in
+    let newer = logged_newer order ideal contents inserts db.memory.last (appendable_of order ideal db.log.number db.log.end contents inserts db.memory.last log.directory) in
+    let newer_found = newer_as inserts (tabled contents) (joined (table_sources found.0)) found.2 newer in
     let sees : IsView (inserts ++ joined (table_sources found.0)) sequence view_map =
     (same (entries_of contents db) (inserts ++ joined (table_sources found.0)) sequence (in_front inserts (tabled contents) (joined (table_sources found.0)) found.2)).0 view_map view in
-    let start = begins found.0 view_map within found.1.0 found.1.1 (newer_as inserts (tabled contents) (joined (table_sources found.0)) found.2 newer) sees in (
+    let start = may found.0 view_map within tables.sound (may_found order source ideal contents found.0 db total tables found.1 origins).1 newer_found sees in (
       start.0,
       start.1,
       record {
-        bound = bound;
-        scan = start.2;
-        limits = λ is past.
+        may = record { bound = bound; scan = start.2 };
+        limits = λ is whole past.
             let placed : PlacedTable = past.0 in
+            let it = from.undamaged whole in
+            let found_whole : HasVersion order files db.tables found.0 = subst (λ (fs : Files). HasVersion order fs db.tables found.0) it found.1 in
             let here : Contains db.tables placed = subst (λ (ps : List PlacedTable). Contains ps placed) over past.1 in
-            let content = content_of found.0 placed (subst (λ (ps : List PlacedTable). Contains ps placed) (sym found.1.1.placed) here) in
+            let content = content_of found.0 placed (subst (λ (ps : List PlacedTable). Contains ps placed) (sym found.1.placed) here) in
             let long : IsTooLong order source content.0.placed = subst (λ (p : PlacedTable). IsTooLong order source p) (sym content.2) (past.2, past.3, past.4) in
-            passes_limit order source contents found.0 db content.0 log tables found.1.1 content.1 long (limits is);
+            passes_limit order source contents found.0 db content.0 (subst (λ (fs : Files). HasLog order fs contents db) it log) tables found_whole content.1 long
+            (subst (λ (fs : Files). IsWithinLimits order fs) it (limits is));
+        intact = λ whole cut torn.
+            (begins found.0 view_map within tables.sound (subst (λ (fs : Files). HasVersion order fs db.tables found.0) (from.undamaged whole) found.1) newer_found sees).2.intact cut torn;
         tables = λ number read.
             let one = reads number read in
-            let content = content_of found.0 one.0 (subst (λ (ps : List PlacedTable). Contains ps one.0) (sym found.1.1.placed) one.1) in
-            let has : HasTable order source.facts.files content.0 = one_of_tables order source.facts.files found.0 content.0 found.1.1.are content.1 in
-            let is : content.0.placed.table.number ≡ number = ap (λ (p : PlacedTable). p.table.number) content.2 ∙ one.2 in (
+            let content = content_of found.0 one.0 (subst (λ (ps : List PlacedTable). Contains ps one.0) (sym found.1.placed) one.1) in
+            let has : HasTable order ideal content.0 = one_of_tables order ideal found.0 content.0 found.1.are content.1 in
+            let is : content.0.placed.table.number ≡ number = ap (λ (p : PlacedTable). p.table.number) content.2 ∙ one.2 in
+            let origin = origins one.0 one.1 in (
               subst (λ (ps : List PlacedTable). ListsNumber ps number) (sym over) one,
               subst IsNumbered is has.numbered,
-              subst (λ (k : ℕ). IsSome (table_at source.facts.files k)) is (some_of (table_at source.facts.files content.0.placed.table.number) has.bytes has.there),
+              subst (λ (k : ℕ). IsSome (table_at files k)) one.2 (some_of (table_at files one.0.table.number) origin.bytes origin.there),
             );
       },
     )

@@ -1,5 +1,5 @@
 -- What a step of a compaction leaves of an open database.
-use Rattle.std.proofs.Common.{◌≡◌, ◌≢◌, ◌⊎◌, ◌<◌, ◌≤◌, ◌+◌, ◌++◌, ℕ, true, List, [], map, Contains, Option, Some, IsTrue, MatchOption, inl, inr, refl, sym, ap, subst, ◌∙◌, arith}
+use Rattle.std.proofs.Common.{◌≡◌, ◌≢◌, ◌⊎◌, ◌<◌, ◌≤◌, ◌+◌, ◌++◌, ℕ, true, false, List, [], map, Contains, Option, Some, IsTrue, MatchOption, inl, inr, refl, sym, ap, subst, ◌∙◌, arith}
 use Rattle.std.proofs.lemmas.List.{append_assoc}
 use Rattle.compact.specs.Laws.{SeesAsOne}
 use Rattle.compact.specs.Merging.{IsStepOf}
@@ -14,12 +14,14 @@ use Rattle.directory_writes.specs.internal.Calls.{LeavesFile}
 use Rattle.ikey.specs.Entries.{InternalEntry, entry_of}
 use Rattle.ikey.specs.Orders.{Order}
 use Rattle.ikey.specs.Views.{AllUpTo}
-use Rattle.running_job.specs.Running.{IsRunning, CanStep}
-use Rattle.running_job.specs.internal.Stepping.{GoesOn, KeepsDirectory, StepKeeps, StepTouches}
+use Rattle.running_job.specs.Running.{CanStep, MayRun}
+use Rattle.running_job.proofs.Stepped.{planned_as}
+use Rattle.running_job.specs.internal.Stepping.{GoesOn, KeepsSound, MayGoOn, StepTouches}
 use Rattle.running_job.specs.declared.open_job.OpenJob.{OpenJob}
 use Rattle.memtables.specs.Memories.{Memories, logged_in}
 use Rattle.memtables.specs.PlaceLaws.{left_kept, left_logged, left_sealed}
-use Rattle.recover.specs.Directory.{Directory}
+use Rattle.recover.specs.Directory.{Directory, IsConsistent}
+use Rattle.recover.specs.Numbers.{IsFree}
 use Rattle.recover.specs.internal.Laws.{OneDirectoryLaw}
 use Rattle.recover.specs.Tables.{InTables, TableContent}
 use Rattle.recover.proofs.Adding.{table_of}
@@ -28,17 +30,29 @@ use Rattle.db_cursor.specs.internal.Scanning.{ScanIsKept}
 use Rattle.db_cursor.specs.Scans.{KeepsScan, reads_table, tables_of}
 use Rattle.db_cursor.specs.Whole.{Whole}
 use Rattle.db_cursor.specs.declared.scan.Scan.{Scan}
-use Rattle.table_access.specs.Tables.{KeepsOf, Seen}
-use Rattle.engine.specs.internal.Compacting.{IsCompacting}
+use Rattle.table_access.specs.Tables.{IsSound, KeepsOf, Seen}
+use Rattle.table_access.proofs.Sounding.{same_table}
+use Rattle.cache.specs.Tables.{table_at}
+use Rattle.store.specs.Files.{Files}
+use Rattle.directory_writes.specs.Differing.{DiffersInTables, IsSameChange}
+use Rattle.directory_writes.specs.Replacing.{placed_in}
+use Rattle.directory_writes.specs.internal.JobWrites.{KeepsOtherTables}
+use Rattle.directory_writes.proofs.JobsEach.{job_writes_each, same_outputs}
+use Rattle.directory_writes.proofs.JobTables.{contains_among, content_at}
+use Rattle.directory_writes.proofs.JobWritten.{free_number}
+use Rattle.directory_writes.proofs.SameChanges.{same_change}
+use Rattle.engine.specs.internal.Compacting.{IsCompacting, IsRunningOver}
+use Rattle.engine.specs.internal.Live.{IsLiveWalk}
+use Rattle.engine.specs.Origins.{ComesFrom}
+use Rattle.engine.proofs.Origins.{StaysUnder, comes_on}
 use Rattle.opening.specs.internal.Directories.{CanAppend}
 use Rattle.engine.specs.OpenDb.{OpenDb, whole_of}
-use Rattle.reader.specs.internal.Iterators.{IsWalk}
 use Rattle.engine.specs.Reads.{kept_at}
 use Rattle.machine.specs.Machine.{Machine, Walk}
 use Rattle.engine.specs.internal.Standing.{HasLog, IsServing}
 use Rattle.engine.specs.internal.Synced.{IsSyncedBut}
 use Rattle.opening.proofs.Reopening.{files_apart}
-use Rattle.engine.proofs.Compacting.{is_input_number, listed_number, own_number, unowned, version_unowned}
+use Rattle.engine.proofs.Compacting.{input_number, listed_number, own_number, running_whole, unowned, version_unowned}
 use Rattle.engine.proofs.Synced.{kept_still, no_table, one_number, synced_still, table_still}
 use Rattle.engine.proofs.Pieces.{free_up, limits_stay, made_still, walks_each}
 use Rattle.engine.proofs.Reading.{below_next, has_placed, live_of}
@@ -52,7 +66,7 @@ module _ {K : Type 0} {g : _} (order : Order) (kept : (scan : Scan K g) → Scan
     (old new : Seen) (db : OpenDb K g) (memory : Memories) (numbers : FileNumbers) (most : ℕ) (before after : OpenJob K g) (is : db.job ≡ Some before)
     (le : db.directory.numbers.next ≤ numbers.next) (upto : numbers.next ≤ db.directory.numbers.next + most)
     (touches : StepTouches (whole_of old db) (record { seen = new; memory = memory }) db.directory.numbers.next numbers.next before after)
-    (keeps : KeepsDirectory order (whole_of old db) (record { seen = new; memory = memory }) db.directory.numbers.next numbers.next before) where
+    (keeps : KeepsSound order (whole_of old db) (record { seen = new; memory = memory }) db.directory.numbers.next before) where
   abbrev pub next : ℕ
   next = db.directory.numbers.next
 
@@ -63,17 +77,32 @@ module _ {K : Type 0} {g : _} (order : Order) (kept : (scan : Scan K g) → Scan
   stepped_db job = record db { memory = memory; directory = record db.directory { numbers = numbers }; job = job }
 
   module _ (m : Machine) (serving : IsServing order old db m) where
-    abbrev pub a : CanAppend order old.facts.files db.log.number db.log.end serving.contents (logged_in db.memory) db.memory.last
+    abbrev pub a : CanAppend order serving.ideal db.log.number db.log.end serving.contents (logged_in db.memory) db.memory.last
     a = serving.log.directory
 
     abbrev pub d : Directory
     d = a.directory
 
-    pub the_job : IsCompacting order (whole_of old db) next db.snapshots db.iterators d before
-    the_job = the_one (IsCompacting order (whole_of old db) next db.snapshots db.iterators d) db.job before is serving.job
+    pub the_job : IsCompacting order m.damaged (whole_of old db) serving.ideal next db.snapshots db.iterators d before
+    the_job = the_one (IsCompacting order m.damaged (whole_of old db) serving.ideal next db.snapshots db.iterators d) db.job before is serving.job
 
-    pub can_step : CanStep order (whole_of old db) next d before the_job.came the_job.left
-    can_step = record { consistent = a.consistent; sound = serving.tables.sound; free = serving.log.knows.free; running = the_job.running }
+    -- without damage the job goes over what the files have
+    pub can_step : m.damaged ≡ false → CanStep order (whole_of old db) next d before the_job.came the_job.left
+    can_step undamaged =
+        let same = serving.origin.undamaged undamaged in
+        record {
+          consistent = subst (λ (fs : Files). IsConsistent order fs d) same a.consistent;
+          sound = serving.tables.sound;
+          free = subst (λ (fs : Files). IsFree order fs next) same serving.log.knows.free;
+          running = running_whole order m.damaged (whole_of old db) serving.ideal next d before the_job.came the_job.left undamaged the_job.running;
+        }
+
+    -- the same change to the directory
+    pub change : (after : Files) × IsSameChange old.facts.files new.facts.files serving.ideal after × DiffersInTables new.facts.files after
+    change = same_change old.facts.files new.facts.files serving.ideal serving.origin.differs
+
+    abbrev pub after_ideal : Files
+    after_ideal = change.0
 
     -- a table that isn't the job's has a number below those that are drawn
     pub not_mine : (number : ℕ) → number < next → (IsOwn before.job.outputs number → ⊥) → IsMineUpTo before.job.outputs next numbers.next number → ⊥
@@ -82,13 +111,24 @@ module _ {K : Type 0} {g : _} (order : Order) (kept : (scan : Scan K g) → Scan
 
     pub listed_apart : (content : TableContent) → InTables d.tables content → IsMineUpTo before.job.outputs next numbers.next content.placed.table.number → ⊥
     listed_apart content i =
-        not_mine content.placed.table.number (listed_number order old.facts.files d next content a.consistent serving.log.knows.free i).1
+        not_mine content.placed.table.number (listed_number order serving.ideal d next content a.consistent serving.log.knows.free i).1
         (λ own. unowned before.job.outputs d.layout.tables.items content.placed.table.number the_job.running.unused
         (content.placed, subst (λ ps. Contains ps content.placed) a.consistent.placed (has_placed d.tables content i), refl) own)
 
+    placed_apart : (placed : PlacedTable) → Contains d.layout.tables.items placed → IsNumbered placed.table.number × (IsMineUpTo before.job.outputs next numbers.next placed.table.number → ⊥)
+    placed_apart placed there =
+        let content = content_at d.tables placed (contains_among (placed_in d.tables) placed (subst (λ (ps : List PlacedTable). Contains ps placed) (sym a.consistent.placed) there)) in
+        subst (λ (p : PlacedTable). IsNumbered p.table.number × (IsMineUpTo before.job.outputs next numbers.next p.table.number → ⊥)) content.2
+        ((listed_number order serving.ideal d next content.0 a.consistent serving.log.knows.free content.1).0, listed_apart content.0 content.1)
+
     module _ (f : IsTrue new.facts.faithful) where
-      pub kept_parts : StepKeeps order (whole_of old db) stepped_whole next numbers.next before d
-      kept_parts = keeps f d the_job.came the_job.left can_step
+      pub others : KeepsOtherTables order serving.ideal after_ideal (IsMineUpTo before.job.outputs next numbers.next) numbers.next d
+      others =
+          job_writes_each order old.facts new.facts before.job.outputs next numbers.next d f touches.writes le numbers.in_range.1 the_job.running.may.numbered the_job.running.unused
+          serving.ideal after_ideal serving.origin.differs change.1 a.consistent serving.log.knows.free
+
+      pub sound_stepped : IsSound order.cmp new
+      sound_stepped = keeps f the_job.running.inputs the_job.came the_job.left the_job.running.may serving.tables.sound
 
       pub inserts : logged_in memory ≡ logged_in db.memory
       inserts = left_logged db.memory memory touches.memory
@@ -96,11 +136,10 @@ module _ {K : Type 0} {g : _} (order : Order) (kept : (scan : Scan K g) → Scan
       pub last : memory.last ≡ db.memory.last
       last = touches.memory.last
 
-      abbrev pub log_stepped : (job : Option (OpenJob K g)) → HasLog order new.facts.files serving.contents (stepped_db job)
+      abbrev pub log_stepped : (job : Option (OpenJob K g)) → HasLog order after_ideal serving.contents (stepped_db job)
       log_stepped job =
           let knows = serving.log.knows in
           let logs = serving.log.logs in
-          let others = kept_parts.others in
           record {
             named = serving.log.named;
             directory = record {
@@ -137,29 +176,21 @@ module _ {K : Type 0} {g : _} (order : Order) (kept : (scan : Scan K g) → Scan
       drawn_stepped number is_kept = elim (touches.gathered number is_kept) [
         | inl was ↦ (let known = serving.tables.drawn number was in (known.0, (let less = known.1 in omega (arith, less, le))))
         | inr over ↦ (
-            let known = is_input_number order (whole_of old db) (whole_of old db) next next db.snapshots db.snapshots db.iterators db.iterators db.tables d d before the_job a.consistent serving.log.knows.free db.directory.numbers.in_range.1 number (the_job.running.over number over) in
+            let running = the_job.running in
+            let known = input_number order serving.ideal d next before.job.plan.inputs.items running.inputs running.rest a.consistent serving.log.knows.free running.planned.parted running.planned.planned number (running.may.over number over) in
             (known.0, (let less = known.1 in omega (arith, less, le)))
             )
       ]
 
       pub read_number : (id : ℕ) (scan : Scan K g) → kept_at db.iterators id ≡ Some scan → (number : ℕ) → reads_table scan number → ListsNumber (tables_of scan) number × IsNumbered number × (number < next)
       read_number id scan there number reads =
-          let walk = live_of (IsWalk order.cmp m.over_limit (whole_of old db)) db.iterators m.iterators id scan there serving.iterators in
+          let walk = live_of (IsLiveWalk order.cmp m.over_limit m.damaged (whole_of old db)) db.iterators m.iterators id scan there serving.iterators in
           let table = walk.1.tables number reads in
-          (table.0, table.1, below_next order old.facts.files next number serving.log.knows.free table.1 table.2)
-
-      pub keeps_each : (id : ℕ) (scan : Scan K g) (walk : Walk) → kept_at db.iterators id ≡ Some scan → IsWalk order.cmp m.over_limit (whole_of old db) scan walk → KeepsScan order.cmp scan (whole_of old db) stepped_whole
-      keeps_each id scan walk there known = record {
-        memory = λ cursor reads within. left_kept order.cmp cursor db.memory memory touches.memory;
-        files = λ number reads.
-            let table = read_number id scan there number reads in
-            kept_parts.others.tables number table.1 (not_mine number table.2 (the_job.unread id scan there number table.0));
-        sound = λ h. kept_parts.sound;
-      }
+          (table.0, table.1, below_next order old.facts.files serving.ideal next number serving.origin.differs serving.log.knows.free table.1 table.2)
 
       -- it writes tables of its own numbers alone
       mine_numbered : (number : ℕ) → IsMineUpTo before.job.outputs next numbers.next number → IsNumbered number
-      mine_numbered number (inl at) = (let known = own_number before.job.outputs next number the_job.running.numbered (inl at) in let fits = db.directory.numbers.in_range.1 in (known.0, (let less = known.1 in omega (arith, less, fits))))
+      mine_numbered number (inl at) = (let known = own_number before.job.outputs next number the_job.running.may.numbered (inl at) in let fits = db.directory.numbers.in_range.1 in (known.0, (let less = known.1 in omega (arith, less, fits))))
       mine_numbered number (inr drawn) =
           let some = serving.log.knows.free.some in
           let fits = numbers.in_range.1 in
@@ -172,8 +203,33 @@ module _ {K : Type 0} {g : _} (order : Order) (kept : (scan : Scan K g) → Scan
           let other : (number : ℕ) → IsMineUpTo before.job.outputs next numbers.next number → name_of file ≢ name_of (Table number) = λ number mine. files_apart file (Table number) is (mine_numbered number mine) (apart number mine) in
           (touches.writes.others f (name_of file) other, touches.writes.synced f (name_of file) other)
 
+      -- the files of a table that isn't the job's stay
+      stays_under : (number : ℕ) → IsNumbered number → (IsMineUpTo before.job.outputs next numbers.next number → ⊥) → StaysUnder old.facts.files new.facts.files number
+      stays_under number numbered apart = (
+        (beside_mine (Table number) numbered (λ k mine e. apart (subst (IsMineUpTo before.job.outputs next numbers.next) (one_number e) mine))).0,
+        (beside_mine (OldTable number) numbered (λ k mine e. cc)).0,
+      )
+
+      pub table_same : (number : ℕ) → IsNumbered number → (IsMineUpTo before.job.outputs next numbers.next number → ⊥) → table_at new.facts.files number ≡ table_at old.facts.files number
+      table_same number numbered apart = let both = stays_under number numbered apart in same_table old.facts.files new.facts.files number both.0 both.1
+
+      pub keeps_each : (id : ℕ) (scan : Scan K g) (walk : Walk) → kept_at db.iterators id ≡ Some scan → IsLiveWalk order.cmp m.over_limit m.damaged (whole_of old db) scan walk → KeepsScan order.cmp scan (whole_of old db) stepped_whole
+      keeps_each id scan walk there known = record {
+        memory = λ cursor reads within. left_kept order.cmp cursor db.memory memory touches.memory;
+        files = λ number reads.
+            let table = read_number id scan there number reads in
+            table_same number table.1 (not_mine number table.2 (the_job.unread id scan there number table.0));
+        sound = λ h. sound_stepped;
+      }
+
+      -- the files come from what the same change makes of the directory
+      pub origin_stepped : ComesFrom order m.damaged new.facts.files after_ideal
+      origin_stepped =
+          comes_on order one m.damaged old.facts.files new.facts.files serving.ideal after_ideal d d serving.origin change.1 a.consistent others.consistent
+          (λ placed there. let apart = placed_apart placed there in inl (there, stays_under placed.table.number apart.0 apart.1))
+
       unowned_here : (p : PlacedTable) → Contains db.tables p → IsOwn before.job.outputs p.table.number → ⊥
-      unowned_here p there = version_unowned before.job.outputs order old.facts.files d serving.contents db.tables p.table.number a.consistent a.in_tables serving.tables.version the_job.running.unused (p, there, refl)
+      unowned_here p there = version_unowned before.job.outputs order serving.ideal d serving.contents db.tables p.table.number a.consistent a.in_tables serving.tables.version the_job.running.unused (p, there, refl)
 
       pub synced_stepped : IsSyncedBut new.facts db.log (record db.directory { numbers = numbers }) db.tables
       synced_stepped =
@@ -184,13 +240,15 @@ module _ {K : Type 0} {g : _} (order : Order) (kept : (scan : Scan K g) → Scan
           (beside_mine (OldTable p.table.number) known.0 (λ number mine e. cc)))
 
       -- whatever becomes of the job
-      abbrev pub serving_stepped : (job : Option (OpenJob K g)) → MatchOption job (Unit {0}) (IsCompacting order stepped_whole numbers.next db.snapshots db.iterators d) → IsServing order new (stepped_db job) (drawing m most new.facts)
+      abbrev pub serving_stepped : (job : Option (OpenJob K g)) → MatchOption job (Unit {0}) (IsCompacting order m.damaged stepped_whole after_ideal numbers.next db.snapshots db.iterators d) → IsServing order new (stepped_db job) (drawing m most new.facts)
       serving_stepped job job_is = record {
         whole = serving.whole;
         certain = serving.certain;
+        ideal = after_ideal;
+        origin = origin_stepped;
         contents = serving.contents;
         log = log_stepped job;
-        tables = record { version = serving.tables.version; in_order = serving.tables.in_order; sound = kept_parts.sound; drawn = drawn_stepped };
+        tables = record { version = serving.tables.version; in_order = serving.tables.in_order; sound = sound_stepped; drawn = drawn_stepped };
         entries = record {
           used = serving.entries.used ∙ sym last;
           fits = (let fits = serving.entries.fits in omega (arith, fits, last));
@@ -201,10 +259,10 @@ module _ {K : Type 0} {g : _} (order : Order) (kept : (scan : Scan K g) → Scan
         iterators = walks_each order kept (whole_of old db) stepped_whole db.iterators m keeps_each (omega (arith, last)) serving.iterators;
         accounted = rw (inserts) serving.accounted;
         readable = record {
-          made = made_still order old.facts.files new.facts.files d d m a.consistent kept_parts.others.consistent serving.readable.made;
-          numbers = (let below : next ≤ m.numbers = serving.numbers in free_up order new.facts.files numbers.next (m.numbers + most) (omega (arith, below, upto)) kept_parts.others.free);
-          limits = λ within. limits_stay order old.facts.files new.facts.files d one a.consistent kept_parts.others.consistent
-              (λ content i. kept_parts.others.tables content.placed.table.number (table_of order old.facts.files d.tables content a.consistent.tables i) (listed_apart content i)) (serving.readable.limits within);
+          made = made_still order serving.ideal after_ideal d d m a.consistent others.consistent serving.readable.made;
+          numbers = (let below : next ≤ m.numbers = serving.numbers in free_up order after_ideal numbers.next (m.numbers + most) (omega (arith, below, upto)) others.free);
+          limits = λ within. limits_stay order serving.ideal after_ideal d one a.consistent others.consistent
+              (λ content i. others.tables content.placed.table.number (table_of order serving.ideal d.tables content a.consistent.tables i) (listed_apart content i)) (serving.readable.limits within);
         };
         numbers = (let below : next ≤ m.numbers = serving.numbers in omega (arith, below, upto));
         synced = synced_stepped;
@@ -213,10 +271,11 @@ module _ {K : Type 0} {g : _} (order : Order) (kept : (scan : Scan K g) → Scan
 
       -- ---- the job goes on
 
-      module _ (budget : ℕ) (progress : Progress) (goes : GoesOn order (whole_of old db) stepped_whole next numbers.next budget before after progress) (snapshots : after.job.selection.snapshots ≡ before.job.selection.snapshots)
+      module _ (budget : ℕ) (progress : Progress) (goes : GoesOn order (whole_of old db) stepped_whole next numbers.next budget before after progress)
+          (may : MayGoOn order (whole_of old db) stepped_whole next numbers.next budget before after progress) (plan : after.job.plan ≡ before.job.plan) (version : after.version ≡ before.version) (snapshots : after.job.selection.snapshots ≡ before.job.selection.snapshots)
           (owns : (number : ℕ) → IsOwn after.job.outputs number → IsOwn before.job.outputs number ⊎ (next ≤ number)) where
-        abbrev gone : (front : List InternalEntry) × (back : List InternalEntry) × (the_job.left ≡ front ++ back) × IsStepOf budget progress front back × IsRunning order stepped_whole numbers.next d after (the_job.came ++ front) back
-        gone = goes f d the_job.came the_job.left can_step
+        abbrev gone : (front : List InternalEntry) × (back : List InternalEntry) × (the_job.left ≡ front ++ back) × IsStepOf budget progress front back × MayRun order stepped_whole numbers.next the_job.running.inputs after (the_job.came ++ front) back
+        gone = may f the_job.running.inputs the_job.came the_job.left the_job.running.may
 
         -- what it compacts is the same
         pub all_same : (the_job.came ++ gone.0) ++ gone.1 ≡ the_job.came ++ the_job.left
@@ -228,13 +287,40 @@ module _ {K : Type 0} {g : _} (order : Order) (kept : (scan : Scan K g) → Scan
           | inr drawn ↦ absurd (let below = (read_number id scan there number (inl has)).2 in omega (arith, drawn, below))
         ]
 
-        abbrev pub gone_on : IsCompacting order stepped_whole numbers.next db.snapshots db.iterators d after
+        -- the tables that it has written since have numbers that were free
+        pub own_since : (number : ℕ) → IsOwn after.job.outputs number → IsOwn before.job.outputs number ⊎ ((next ≤ number) × IsNumbered number)
+        own_since number own = elim (owns number own) [
+          | inl was ↦ inl was
+          | inr drawn ↦ (
+              let known = own_number after.job.outputs numbers.next number gone.4.numbered own in
+              let fits = numbers.in_range.1 in
+              inr (drawn, (known.0, (let less = known.1 in omega (arith, less, fits))))
+              )
+        ]
+
+        abbrev pub running_on : IsRunningOver order m.damaged stepped_whole after_ideal numbers.next d after (the_job.came ++ gone.0) gone.1
+        running_on =
+            let r = the_job.running in
+            record {
+              inputs = r.inputs;
+              rest = r.rest;
+              planned = planned_as order d r.inputs r.rest before.job.plan after.job.plan before.version.value.tables after.version.value.tables plan (ap (λ v. v.value.tables) version) r.planned;
+              unused = λ number own. elim (owns number own) [
+                | inl was ↦ r.unused number was
+                | inr drawn ↦ free_number order serving.ideal d next number a.consistent serving.log.knows.free drawn
+              ];
+              may = gone.4;
+              same = same_outputs order old.facts.files new.facts.files serving.ideal after_ideal before.job.outputs after.job.outputs next serving.origin.differs change.1 serving.log.knows.free r.same own_since;
+              intact = λ undamaged. (goes f d the_job.came the_job.left (can_step undamaged)).4.intact;
+            }
+
+        abbrev pub gone_on : IsCompacting order m.damaged stepped_whole after_ideal numbers.next db.snapshots db.iterators d after
         gone_on =
             let c = the_job in
             record {
               came = c.came ++ gone.0;
               left = gone.1;
-              running = gone.4;
+              running = running_on;
               reach = c.reach;
               begun = record {
                 kept = subst (λ (s : List ℕ). Contains s c.reach) (sym snapshots) c.begun.kept;

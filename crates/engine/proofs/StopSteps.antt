@@ -49,8 +49,10 @@ use Rattle.engine.specs.internal.Standing.{IsBroken, IsServing, StandsClosed, St
 use Rattle.engine.specs.internal.Stopping.{KeepsOpen}
 use Rattle.engine.proofs.InUse.{table_used}
 use Rattle.engine.proofs.Lasting.{held}
-use Rattle.engine.proofs.OpenLock.{answered_open, may_lock_only, rest_beside}
-use Rattle.engine.proofs.OpenMachine.{accepted_again}
+use Rattle.engine.proofs.Flags.{draws_flag, opens_flag}
+use Rattle.engine.proofs.OpenLock.{accepted_beside, answered_open, may_lock_only}
+use Rattle.engine.proofs.OpenMachine.{accepted_again, means_whole}
+use Rattle.engine.proofs.Origins.{undamaged_serving}
 use Rattle.engine.proofs.Pieces.{rests_as, rests_seen, same_back, same_by}
 use Rattle.engine.proofs.Reading.{has_placed}
 use Rattle.engine.proofs.Steps.{serving_of}
@@ -59,7 +61,7 @@ use Rattle.engine.proofs.WriteSteps.{after_batches-push}
 -- ---- what an open database stands for
 
 module _ {K : Type 0} {g : _} (order : Order) (source : Seen) (db : OpenDb K g) (m : Machine) (serving : IsServing order source db m) where
-  abbrev a : CanAppend order source.facts.files db.log.number db.log.end serving.contents (logged_in db.memory) db.memory.last
+  abbrev a : CanAppend order serving.ideal db.log.number db.log.end serving.contents (logged_in db.memory) db.memory.last
   a = serving.log.directory
 
   abbrev d : Directory
@@ -75,7 +77,7 @@ module _ {K : Type 0} {g : _} (order : Order) (source : Seen) (db : OpenDb K g) 
       (subst (λ (es : List Entry). AreAccounted es (entry_count m) (weight m)) entries_are serving.accounted) (sym a.spent)
 
   -- so do those where the sealed memory table is flushed, or not
-  pub means_flushed : SameViewLaw → (files : Files) (next after : ℕ) (entries : List Entry) → MayBeFlushed order source.facts.files files next after entries d serving.log.logs.sealed serving.log.logs.current → MeansAccepted order files m
+  pub means_flushed : SameViewLaw → (files : Files) (next after : ℕ) (entries : List Entry) → MayBeFlushed order serving.ideal files next after entries d serving.log.logs.sealed serving.log.logs.current → MeansAccepted order files m
   means_flushed law files next after entries may = elim may.either [
     | inl still ↦ means_still files still.0
     | inr done ↦
@@ -106,17 +108,19 @@ module _ {K : Type 0} {g : _} (order : Order) (source : Seen) (db : OpenDb K g) 
         table_used db.tables db.job db.iterators content.placed.table.number (content.placed, at, refl);
   }
 
--- broken or not, its files stand for what was accepted
-means_standing : {K : Type 0} {g : _} (order : Order) (source : Seen) (ids : Ids) (db : OpenDb K g) (m : Machine) → StandsOpen order source ids db m → MeansAccepted order source.facts.files m
-means_standing order source ids db m s = at db.broken s.rest
+-- broken or not, its files stand for what was accepted, where they are undamaged
+means_standing : {K : Type 0} {g : _} (order : Order) (source : Seen) (ids : Ids) (db : OpenDb K g) (m : Machine) → m.damaged ≡ false → StandsOpen order source ids db m → MeansAccepted order source.facts.files m
+means_standing order source ids db m undamaged s = at db.broken s.rest
   where
     at : (b : Bool) → MatchBool b (IsBroken order source.facts.files m) (IsServing order source db m) → MeansAccepted order source.facts.files m
-    at true h = h.rest.meaning
-    at false h = means_still order source db m h source.facts.files h.log.directory.consistent
+    at true h = means_whole order source.facts.files m undamaged h.rest
+    at false h =
+        let serving = undamaged_serving order source db m undamaged h in
+        means_still order source db m serving source.facts.files serving.log.directory.consistent
 
-pub means_over : {K : Type 0} {g : _} (order : Order) (source : Seen) (ids : Ids) (o : Option (OpenDb K g)) (m : Machine) → StandsOver order source ids o m → MeansAccepted order source.facts.files m
-means_over order source ids None m s = s.rest.meaning
-means_over order source ids (Some db) m s = means_standing order source ids db m s
+pub means_over : {K : Type 0} {g : _} (order : Order) (source : Seen) (ids : Ids) (o : Option (OpenDb K g)) (m : Machine) → m.damaged ≡ false → StandsOver order source ids o m → MeansAccepted order source.facts.files m
+means_over order source ids None m undamaged s = means_whole order source.facts.files m undamaged s.rest
+means_over order source ids (Some db) m undamaged s = means_standing order source ids db m undamaged s
 
 -- ---- pieces of work
 
@@ -126,27 +130,20 @@ module _ {K : Type 0} {g : _} (order : Order) (old new : Seen) (db : OpenDb K g)
 
   -- where the store was only read
   pub keeps_read : (IsTrue new.facts.faithful → new.facts.calls ≡ old.facts.calls) → (IsTrue new.facts.faithful → new.facts.files ≡ old.facts.files) → KeepsOpen order old new db
-  keeps_read calls files f ids m s = leaves_same old.facts new.facts (Accepted m) (calls f) (files f) (means_standing order old ids db m s)
+  keeps_read calls files f ids m s = leaves_same old.facts new.facts (Accepted m) (calls f) (files f) (means_standing order old ids db m s.undamaged s.stands)
 
   module _ (whole : db.broken ≡ false) where
     pub keeps_cleaned : (IsTrue new.facts.faithful → LeavesOnly old.facts new.facts (StaysConsistent (numbers_of db.directory) (λ number. IsTableUsed db.tables db.job db.iterators number) old.facts.files)) → KeepsOpen order old new db
     keeps_cleaned stops f ids m s =
-        let serving = serving_of order old ids db m whole s in
+        let serving = undamaged_serving order old db m s.undamaged (serving_of order old ids db m whole s.stands) in
         leaves_so old.facts new.facts _ (Accepted m)
         (λ files stays. means_still order old db m serving files (stays order serving.log.directory.directory serving.log.directory.consistent (uses_of order old db m serving))) (stops f)
 
     pub keeps_logged : SameViewLaw → (IsTrue new.facts.faithful → LeavesOnly old.facts new.facts (MayHaveLog order old.facts.files db.directory.numbers.next)) → KeepsOpen order old new db
     keeps_logged law stops f ids m s =
-        let serving = serving_of order old ids db m whole s in
+        let serving = undamaged_serving order old db m s.undamaged (serving_of order old ids db m whole s.stands) in
         leaves_so old.facts new.facts _ (Accepted m)
         (λ files may. means_logged order old db m serving law files db.directory.numbers.next (may serving.log.directory.directory serving.log.directory.consistent serving.log.knows.free)) (stops f)
-
-    -- a call that leaves such files of each state that serves
-    pub keeps_serving : (left : Machine → Files → Type 0) → (IsTrue new.facts.faithful → (m : Machine) → IsServing order old db m → LeavesOnly old.facts new.facts (left m))
-        → ((m : Machine) (files : Files) → IsServing order old db m → left m files → Accepted m files) → KeepsOpen order old new db
-    keeps_serving left stops means f ids m s =
-        let serving = serving_of order old ids db m whole s in
-        leaves_so old.facts new.facts (left m) (Accepted m) (λ files h. means m files serving h) (stops f m serving)
 
 pub keeps_none : {K : Type 0} {g : _} (order : Order) (source : Seen) (db : OpenDb K g) → KeepsOpen order source source db
 keeps_none order source db = keeps_read order source source db (λ f. refl) (λ f. refl)
@@ -159,9 +156,10 @@ draws_back order files m n most drawn means = subst (λ (x : Machine). MeansAcce
 pub keeps_then : {K T : Type 0} {g : _} (order : Order) (old mid new : Seen) (before between : OpenDb K g) (most : Machine → ℕ) (done : T) → ((ids : Ids) → LeadsOpen order old mid ids before between (λ m n. IsPiece m (most m) (Ok done) n))
     → (IsTrue new.facts.faithful → IsTrue mid.facts.faithful) → KeepsOpen order old mid before → KeepsOpen order mid new between → KeepsOpen order old new before
 keeps_then order old mid new before between most done step back first next f ids m s =
-    let one = (step ids).moved (back f) m s in
+    let one = (step ids).moved (back f) m s.stands in
     leaves_both old.facts mid.facts new.facts (λ files. MeansAccepted order files m) (first (back f) ids m s)
-    (leaves_so mid.facts new.facts (λ files. MeansAccepted order files one.0) (λ files. MeansAccepted order files m) (λ files means. draws_back order files m one.0 (most m) one.1.what means) (next f ids one.0 one.2))
+    (leaves_so mid.facts new.facts (λ files. MeansAccepted order files one.0) (λ files. MeansAccepted order files m) (λ files means. draws_back order files m one.0 (most m) one.1.what means)
+    (next f ids one.0 (record { stands = one.2; undamaged = draws_flag m one.0 (most m) one.1.what ∙ s.undamaged })))
 
 -- ---- an open
 
@@ -207,16 +205,18 @@ continued_keeps order old new m means h =
 -- the removal of files behind it
 pub opened_keeps : {K : Type 0} {g : _} (order : Order) (old : Facts) (mid new : Seen) (db : OpenDb K g) (mode : Mode) → (IsTrue new.facts.faithful → IsTrue mid.facts.faithful)
     → ((ids : Ids) → Leads old mid.facts (Rests order old ids) (StandsOpen order mid ids db) (λ m n. Opens m mode Done n)) → (IsTrue mid.facts.faithful → (m : Machine) → MeansAccepted order old.files m → LeavesOnly old mid.facts (λ files. MeansAccepted order files m))
-    → KeepsOpen order mid new db → IsTrue new.facts.faithful → (ids : Ids) (m : Machine) → Rests order old ids m → LeavesOnly old new.facts (λ files. MeansAccepted order files m)
-opened_keeps order old mid new db mode back step first next f ids m r =
+    → KeepsOpen order mid new db → IsTrue new.facts.faithful → (ids : Ids) (m : Machine) → m.damaged ≡ false → Rests order old ids m → LeavesOnly old new.facts (λ files. MeansAccepted order files m)
+opened_keeps order old mid new db mode back step first next f ids m undamaged r =
     let one = (step ids).moved (back f) m r in
-    leaves_both old mid.facts new.facts (λ files. MeansAccepted order files m) (first (back f) m r.rest.meaning)
-    (leaves_so mid.facts new.facts (λ files. MeansAccepted order files one.0) (λ files. MeansAccepted order files m) (λ files means. opened_back order files m one.0 mode r.opened one.1 means) (next f ids one.0 one.2))
+    leaves_both old mid.facts new.facts (λ files. MeansAccepted order files m) (first (back f) m (means_whole order old.files m undamaged r.rest))
+    (leaves_so mid.facts new.facts (λ files. MeansAccepted order files one.0) (λ files. MeansAccepted order files m) (λ files means. opened_back order files m one.0 mode r.opened one.1 means)
+    (next f ids one.0 (record { stands = one.2; undamaged = opens_flag m one.0 mode Done one.1 ∙ undamaged })))
 
 -- the lock's file stands for nothing
-pub lock_keeps : (order : Order) {ids : Ids} (old new : Facts) (m : Machine) → FreeChangeLaw → StandsClosed order old ids m → LeavesOnly old new (MayLock old.files) → LeavesOnly old new (λ files. MeansAccepted order files m)
-lock_keeps order old new m law s h =
-    leaves_so old new (MayLock old.files) (λ files. MeansAccepted order files m) (λ files may. (rest_beside order old.files files law (may_lock_only old.files files may) m s.rest).meaning) h
+pub lock_keeps : (order : Order) {ids : Ids} (old new : Facts) (m : Machine) → FreeChangeLaw → m.damaged ≡ false → StandsClosed order old ids m → LeavesOnly old new (MayLock old.files) → LeavesOnly old new (λ files. MeansAccepted order files m)
+lock_keeps order old new m law undamaged s h =
+    leaves_so old new (MayLock old.files) (λ files. MeansAccepted order files m)
+    (λ files may. accepted_beside order old.files files law (may_lock_only old.files files may) m (means_whole order old.files m undamaged s.rest)) h
 
 -- a call of the store behind it that changes nothing
 pub keeps_behind : (order : Order) (old mid new : Facts) (m : Machine) → new.calls ≡ mid.calls → new.files ≡ mid.files → LeavesOnly old mid (λ files. MeansAccepted order files m) → LeavesOnly old new (λ files. MeansAccepted order files m)
@@ -231,20 +231,20 @@ stops_keeping order m old new h =
 
 -- one that changes nothing
 pub stops_standing : {K : Type 0} {g : _} (order : Order) (source : Seen) (ids : Ids) (o : Option (OpenDb K g)) (new : Facts) → (IsTrue new.faithful → new.calls ≡ source.facts.calls) → (IsTrue new.faithful → new.files ≡ source.facts.files)
-    → IsTrue new.faithful → (m : Machine) → StandsOver order source ids o m → StopsKeeping order m source.facts new
-stops_standing order source ids o new calls files f m s =
-    stops_keeping order m source.facts new (leaves_same source.facts new (λ fs. MeansAccepted order fs m) (calls f) (files f) (means_over order source ids o m s))
+    → IsTrue new.faithful → (m : Machine) → m.damaged ≡ false → StandsOver order source ids o m → StopsKeeping order m source.facts new
+stops_standing order source ids o new calls files f m undamaged s =
+    stops_keeping order m source.facts new (leaves_same source.facts new (λ fs. MeansAccepted order fs m) (calls f) (files f) (means_over order source ids o m undamaged s))
 
 pub stops_closed : {K : Type 0} {g : _} (order : Order) (source : Seen) (ids : Ids) (o : Option (OpenDb K g)) (new : Facts) → CloseTouches o source.facts new
-    → IsTrue new.faithful → (m : Machine) → StandsOver order source ids o m → StopsKeeping order m source.facts new
+    → IsTrue new.faithful → (m : Machine) → m.damaged ≡ false → StandsOver order source ids o m → StopsKeeping order m source.facts new
 stops_closed {K} {g} order source ids None new touches = stops_standing {K = K} {g = g} order source ids None new touches.calls touches.files
 stops_closed {K} {g} order source ids (Some db) new touches = stops_standing {K = K} {g = g} order source ids (Some db) new touches.calls touches.files
 
 -- one that an open database did
 pub stops_lent : {K : Type 0} {g : _} (order : Order) (source new : Seen) (ids : Ids) (o : Option (OpenDb K g)) (db : OpenDb K g) → o ≡ Some db → KeepsOpen order source new db
-    → IsTrue new.facts.faithful → (m : Machine) → StandsOver order source ids o m → StopsKeeping order m source.facts new.facts
-stops_lent order source new ids o db is keeps f m s =
-    stops_keeping order m source.facts new.facts (keeps f ids m (subst (λ (x : Option (OpenDb _ _)). StandsOver order source ids x m) is s))
+    → IsTrue new.facts.faithful → (m : Machine) → m.damaged ≡ false → StandsOver order source ids o m → StopsKeeping order m source.facts new.facts
+stops_lent order source new ids o db is keeps f m undamaged s =
+    stops_keeping order m source.facts new.facts (keeps f ids m (record { stands = subst (λ (x : Option (OpenDb _ _)). StandsOver order source ids x m) is s; undamaged = undamaged }))
 
 -- ---- commands of an open database, one behind the other
 
@@ -263,14 +263,15 @@ holds_back order files m n works holds = at m.in_doubt (subst (λ (x : Machine).
     at (Some (operation ∷ operations)) (inr h) = inr (record { entries = h.entries; directory = h.directory; view = h.view })
 
 pub db_stops_none : {S K : Type 0} {g : _} (order : Order) (facts : S → Facts) (db : Db S K g) → DbStops order facts db db
-db_stops_none order facts db f m s =
+db_stops_none order facts db f m undamaged s =
     stops_keeping order m (facts (db_store_of db)) (facts (db_store_of db))
-    (leaves_same (facts (db_store_of db)) (facts (db_store_of db)) (λ files. MeansAccepted order files m) refl refl (means_standing order (seen_by facts db) (db_ids_of db) (open_by db) m s))
+    (leaves_same (facts (db_store_of db)) (facts (db_store_of db)) (λ files. MeansAccepted order files m) refl refl (means_standing order (seen_by facts db) (db_ids_of db) (open_by db) m undamaged s))
 
 pub db_stops_then : {S K : Type 0} {g : _} (order : Order) (facts : S → Facts) (old mid new : Db S K g) → FollowsDb order facts old mid OnlyDraws
     → (IsTrue (facts (db_store_of new)).faithful → IsTrue (facts (db_store_of mid)).faithful) → DbStops order facts old mid → DbStops order facts mid new → DbStops order facts old new
-db_stops_then order facts old mid new steps back first next f m s =
+db_stops_then order facts old mid new steps back first next f m undamaged s =
     let one = steps.moved (back f) m s in
-    leaves_both (facts (db_store_of old)) (facts (db_store_of mid)) (facts (db_store_of new)) (λ files. HoldsAccepted order files m) (first (back f) m s)
+    let still : one.0.damaged ≡ false = ap (λ (x : Machine). x.damaged) one.1.0.1 ∙ undamaged in
+    leaves_both (facts (db_store_of old)) (facts (db_store_of mid)) (facts (db_store_of new)) (λ files. HoldsAccepted order files m) (first (back f) m undamaged s)
     (leaves_so (facts (db_store_of mid)) (facts (db_store_of new)) (λ files. HoldsAccepted order files one.0) (λ files. HoldsAccepted order files m)
-    (λ files holds. holds_back order files m one.0 one.1.0 holds) (next f one.0 one.2))
+    (λ files holds. holds_back order files m one.0 one.1.0 holds) (next f one.0 still one.2))

@@ -1,5 +1,5 @@
 -- What a stop leaves in the middle of a write, and of a run.
-use Rattle.std.proofs.Common.{Bool, true, false, Option, Some, None, MatchBool, MatchOption, if◌then◌else◌, ◌≡◌, ◌⊎◌, ℕ, List, [], ◌∷◌, IsTrue, Err, inl, inr, refl, sym, ap, ◌∙◌, subst, arith}
+use Rattle.std.proofs.Common.{Bool, true, false, Option, Some, None, MatchBool, MatchOption, ◌≡◌, ◌⊎◌, ℕ, List, [], ◌∷◌, IsTrue, Err, inl, inr, refl, sym, ap, ◌∙◌, subst, arith, if◌then◌else◌}
 use Rattle.std.specs.Option.{option_or}
 use Rattle.store.specs.Files.{Facts, Files, AppendsBeginning}
 use Rattle.store.specs.Stops.{LeavesOnly, stopped_at}
@@ -28,7 +28,9 @@ use Rattle.engine.specs.internal.Standing.{IsBroken, IsServing, StandsOpen}
 use Rattle.engine.specs.Stands.{Stands, StandsOver, ids_of, open_in, seen_in, store_of}
 use Rattle.engine.specs.declared.ids.Ids.{Ids}
 use Rattle.engine.specs.declared.session.Session.{Session}
+use Rattle.engine.proofs.Flags.{step_flag}
 use Rattle.engine.proofs.Lasting.{held, holds_current, holds_with}
+use Rattle.engine.proofs.OpenMachine.{means_whole}
 use Rattle.engine.proofs.Steps.{serving_of}
 use Rattle.engine.proofs.StopSteps.{means_over}
 
@@ -72,40 +74,40 @@ left_serving order m operations files opens whole holds = at m.broken m.opened w
     at false false whole opens = absurd (cc)
     at false true whole opens = holds
 
-holds_doubted : (order : Order) (files : Files) (m : Machine) (operations : List Operation) → IsAtRest order files (doubted m operations) → Holds order files m ⊎ Holds order files (accepted m operations)
-holds_doubted order files m operations rest = elim rest.meaning [
+holds_doubted : (order : Order) (files : Files) (m : Machine) (operations : List Operation) → m.damaged ≡ false → IsAtRest order files (doubted m operations) → Holds order files m ⊎ Holds order files (accepted m operations)
+holds_doubted order files m operations undamaged rest = elim (means_whole order files (doubted m operations) undamaged rest) [
   | inl means ↦ inl (holds_current order files m means)
   | inr means ↦ inr (holds_with order files m operations means)
 ]
 
 -- where no call was made
-left_unwritten : {K : Type 0} {g : _} → (order : Order) (source : Seen) (ids : Ids) (o : Option (OpenDb K g)) (operations : List Operation) (m : Machine) → StandsOver order source ids o m → LeftByWrite order m operations source.facts.files
-left_unwritten {K} {g} order source ids None operations m s =
-    left_else order m operations source.facts.files (inl s.opened) (held order source.facts.files m m.in_doubt s.rest.meaning)
-left_unwritten {K} {g} order source ids (Some db) operations m s = at db.broken s.rest
+left_unwritten : {K : Type 0} {g : _} → (order : Order) (source : Seen) (ids : Ids) (o : Option (OpenDb K g)) (operations : List Operation) (m : Machine) → m.damaged ≡ false → StandsOver order source ids o m → LeftByWrite order m operations source.facts.files
+left_unwritten {K} {g} order source ids None operations m undamaged s =
+    left_else order m operations source.facts.files (inl s.opened) (held order source.facts.files m m.in_doubt (means_whole order source.facts.files m undamaged s.rest))
+left_unwritten {K} {g} order source ids (Some db) operations m undamaged s = at db.broken s.rest
   where
     at : (b : Bool) → MatchBool b (IsBroken order source.facts.files m) (IsServing order source db m) → LeftByWrite order m operations source.facts.files
-    at true rest = left_else order m operations source.facts.files (inr rest.broken) (held order source.facts.files m m.in_doubt rest.rest.meaning)
+    at true rest = left_else order m operations source.facts.files (inr rest.broken) (held order source.facts.files m m.in_doubt (means_whole order source.facts.files m undamaged rest.rest))
     at false serving = left_serving order m operations source.facts.files s.opened serving.whole
         (subst (λ (doubt : Option (List Operation)). MatchOption doubt (Holds order source.facts.files m) (λ batch. Holds order source.facts.files m ⊎ Holds order source.facts.files (accepted m batch)) → Holds order source.facts.files m ⊎ Holds order source.facts.files (accepted m operations))
-        (sym serving.certain) (λ holds. inl holds) (held order source.facts.files m m.in_doubt (means_over order source ids (Some db) m s)))
+        (sym serving.certain) (λ holds. inl holds) (held order source.facts.files m m.in_doubt (means_over order source ids (Some db) m undamaged s)))
 
-pub stops_unwritten : {K : Type 0} {g : _} → (order : Order) (source : Seen) (ids : Ids) (o : Option (OpenDb K g)) (operations : List Operation) (m : Machine) → StandsOver order source ids o m
+pub stops_unwritten : {K : Type 0} {g : _} → (order : Order) (source : Seen) (ids : Ids) (o : Option (OpenDb K g)) (operations : List Operation) (m : Machine) → m.damaged ≡ false → StandsOver order source ids o m
     → LeavesOnly source.facts source.facts (λ files. LeftByWrite order m operations files)
-stops_unwritten order source ids o operations m s =
-    leaves_same source.facts source.facts (λ files. LeftByWrite order m operations files) refl refl (left_unwritten order source ids o operations m s)
+stops_unwritten order source ids o operations m undamaged s =
+    leaves_same source.facts source.facts (λ files. LeftByWrite order m operations files) refl refl (left_unwritten order source ids o operations m undamaged s)
 
 -- one that an open database did, which makes no call where it is broken
-pub stops_written : {K : Type 0} {g : _} → (order : Order) (source : Seen) (ids : Ids) (db : OpenDb K g) (operations : List Operation) (new : Facts) (m : Machine) → StandsOpen order source ids db m
+pub stops_written : {K : Type 0} {g : _} → (order : Order) (source : Seen) (ids : Ids) (db : OpenDb K g) (operations : List Operation) (new : Facts) (m : Machine) → m.damaged ≡ false → StandsOpen order source ids db m
     → (db.broken ≡ true → new ≡ source.facts) → (db.broken ≡ false → LeavesOnly source.facts new (λ files. IsAtRest order files (doubted m operations)))
     → LeavesOnly source.facts new (λ files. LeftByWrite order m operations files)
-stops_written order source ids db operations new m s idle stops = at db.broken refl
+stops_written order source ids db operations new m undamaged s idle stops = at db.broken refl
   where
     at : (b : Bool) → db.broken ≡ b → LeavesOnly source.facts new (λ files. LeftByWrite order m operations files)
-    at true is = subst (λ (f : Facts). LeavesOnly source.facts f (λ files. LeftByWrite order m operations files)) (sym (idle is)) (stops_unwritten order source ids (Some db) operations m s)
+    at true is = subst (λ (f : Facts). LeavesOnly source.facts f (λ files. LeftByWrite order m operations files)) (sym (idle is)) (stops_unwritten order source ids (Some db) operations m undamaged s)
     at false is =
         leaves_so source.facts new (λ files. IsAtRest order files (doubted m operations)) (λ files. LeftByWrite order m operations files)
-        (λ files rest. left_serving order m operations files s.opened (serving_of order source ids db m is s).whole (holds_doubted order files m operations rest)) (stops is)
+        (λ files rest. left_serving order m operations files s.opened (serving_of order source ids db m is s).whole (holds_doubted order files m operations undamaged rest)) (stops is)
 
 -- ---- work behind a write
 
@@ -158,14 +160,14 @@ faithful_before order facts (op ∷ ops) [] old new h f = absurd h
 
 -- each command leaves what it may in the state that those in front of it led to; at last no call was made
 pub stops_each : {S K : Type 0} {g : _} (order : Order) (facts : S → Facts) (ops : List Op) (answers : List Answer) (old new : Session S K g) (last : Facts) → AllApplied order facts ops answers old new
-    → IsTrue (facts (store_of new)).faithful → last.calls ≡ (facts (store_of new)).calls → last.files ≡ (facts (store_of new)).files → (m : Machine) → Stands order facts old m
+    → IsTrue (facts (store_of new)).faithful → last.calls ≡ (facts (store_of new)).calls → last.files ≡ (facts (store_of new)).files → (m : Machine) → m.damaged ≡ false → Stands order facts old m
     → StopsEach order m (facts (store_of old)) last ops answers
-stops_each {S} {K} {g} order facts [] [] old new last same f calls files m s =
+stops_each {S} {K} {g} order facts [] [] old new last same f calls files m undamaged s =
     leaves_same (facts (store_of old)) last (λ files. HoldsAccepted order files m) (calls ∙ ap (λ (x : Session S K g). (facts (store_of x)).calls) same) (files ∙ ap (λ (x : Session S K g). (facts (store_of x)).files) same)
-    (held order (facts (store_of old)).files m m.in_doubt (means_over order (seen_in facts old) (ids_of old) (open_in old) m s))
-stops_each order facts (op ∷ ops) (answer ∷ answers) old new last h f calls files m s =
+    (held order (facts (store_of old)).files m m.in_doubt (means_over order (seen_in facts old) (ids_of old) (open_in old) m undamaged s))
+stops_each order facts (op ∷ ops) (answer ∷ answers) old new last h f calls files m undamaged s =
     let between = faithful_before order facts ops answers h.0 new h.2 f in
     let one = h.1.step.moved between m s in
-    (facts (store_of h.0), h.1.stops between m s, (one.0, one.1, stops_each order facts ops answers h.0 new last h.2 f calls files one.0 one.2))
-stops_each order facts [] (answer ∷ answers) old new last h f calls files m s = absurd h
-stops_each order facts (op ∷ ops) [] old new last h f calls files m s = absurd h
+    (facts (store_of h.0), h.1.stops between m undamaged s, (one.0, one.1, stops_each order facts ops answers h.0 new last h.2 f calls files one.0 (step_flag order m one.0 op answer one.1 ∙ undamaged) one.2))
+stops_each order facts [] (answer ∷ answers) old new last h f calls files m undamaged s = absurd h
+stops_each order facts (op ∷ ops) [] old new last h f calls files m undamaged s = absurd h

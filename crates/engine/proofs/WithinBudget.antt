@@ -40,6 +40,7 @@ use Rattle.engine.proofs.ExactFiles.{table_numbered}
 use Rattle.engine.proofs.NeededEntries.{still_live}
 use Rattle.engine.proofs.Opened.{live_stays}
 use Rattle.engine.proofs.Steps.{serving_of}
+use Rattle.engine.proofs.WorkSteps.{KeepsFlag, stands_whole}
 
 -- all that were left came
 pub few_left : {K : Type 0} {g : _} (order : Order) (old : Seen) (mid : Whole) (db : OpenDb K g) (work more : OpenJob K g) (next budget : ℕ) (progress : Merged) → db.job ≡ Some work → progress.ended ≡ true
@@ -77,7 +78,7 @@ more_left {K} {g} order old mid db work more next budget progress is going goes 
 pub tables_stay : {K : Type 0} {g : _} (order : Order) (old new : Seen) (before between : OpenDb K g) → between.tables ≡ before.tables → between.job ≡ before.job → between.iterators ≡ before.iterators → before.broken ≡ false
     → LosesDead old.facts new.facts between → KeepsTableFiles order old new before
 tables_stay order old new before between tables job iterators whole loses ids m s number has =
-    let numbered = table_numbered order old before m (serving_of order old ids before m whole s) number has in
+    let numbered = table_numbered order old before m (serving_of order old ids before m whole s.stands) number has in
     let live : IsTableUsed between.tables between.job between.iterators number = inl (inl (subst (HasNumber number) (sym tables) has)) in
     let stays = live_stays old.facts new.facts between loses in
     by numbered live (stays (Table number) numbered live).0 (stays (OldTable number) numbered) (contains_key old.facts.files (name_of (Table number))) refl
@@ -113,14 +114,14 @@ module _ {K : Type 0} {g : _} (cmp : Cmp) (options : OptionValues) where
   }
 
 -- with a compaction that was begun
-pub steps_begun : {K : Type 0} {g : _} (order : Order) (options : OptionValues) (old between new : Seen) (before mid after : OpenDb K g) (most : ℕ) (plan : JobPlan) {P : Machine → Machine → Type 0} → ((ids : Ids) → LeadsOpen order old between ids before mid P) → IsTrue between.facts.faithful
+pub steps_begun : {K : Type 0} {g : _} (order : Order) (options : OptionValues) (old between new : Seen) (before mid after : OpenDb K g) (most : ℕ) (plan : JobPlan) {P : Machine → Machine → Type 0} → ((ids : Ids) → LeadsOpen order old between ids before mid P) → KeepsFlag P → IsTrue between.facts.faithful
     → mid.broken ≡ false → mid.tables ≡ before.tables → between.facts.files ≡ old.facts.files → before.job ≡ None → MatchOption mid.job ⊥ (λ work. (work.merged ≡ 0) × (work.job.plan ≡ plan)) → MatchOption mid.job ⊥ (λ work. IsForLive work before)
     → IsPicked order.cmp options.level0_files options.base_bytes (version_of before) plan → HasLeftBy order between mid most after.job → (after.job ≡ None → PutsMerged order between new mid after) → StepsBy order options old new before after most
-steps_begun order options old between new before mid after most plan leads f whole tables files none begun live picked left merged = (
+steps_begun order options old between new before mid after most plan leads flag f whole tables files none begun live picked left merged = (
   between,
   mid,
   record {
-    stands = λ ids m s. let one = (leads ids).moved f m s in (one.0, one.2);
+    stands = λ ids m s. let one = (leads ids).moved f m s.stands in (one.0, stands_whole order between ids mid m one.0 s.undamaged (flag m one.0 one.1) one.2);
     whole = whole;
     tables = tables;
     files = λ ids m s number has. ap (λ (there : Files). table_at there number) files;
@@ -131,19 +132,19 @@ steps_begun order options old between new before mid after most plan leads f who
 )
 
 -- behind a piece that leaves tables and compaction
-pub steps_behind : {K : Type 0} {g : _} (order : Order) (options : OptionValues) (old mid new : Seen) (before between after : OpenDb K g) (most : ℕ) {P : Machine → Machine → Type 0} → ((ids : Ids) → LeadsOpen order old mid ids before between P) → IsTrue mid.facts.faithful
+pub steps_behind : {K : Type 0} {g : _} (order : Order) (options : OptionValues) (old mid new : Seen) (before between after : OpenDb K g) (most : ℕ) {P : Machine → Machine → Type 0} → ((ids : Ids) → LeadsOpen order old mid ids before between P) → KeepsFlag P → IsTrue mid.facts.faithful
     → version_of between ≡ version_of before → live_sequences before ≡ live_sequences between → between.job ≡ before.job → KeepsTableFiles order old mid before → StepsBy order options mid new between after most → StepsBy order options old new before after most
-steps_behind {K} {g} order options old mid new before between after most leads f version sequences same files inner =
+steps_behind {K} {g} order options old mid new before between after most leads flag f version sequences same files inner =
     let tables = ap (λ (v : Placement). v.tables) version in (
       inner.0,
       inner.1,
       record {
-        stands = λ ids m s. let one = (leads ids).moved f m s in inner.2.stands ids one.0 one.2;
+        stands = λ ids m s. let one = (leads ids).moved f m s.stands in inner.2.stands ids one.0 (stands_whole order mid ids between m one.0 s.undamaged (flag m one.0 one.1) one.2);
         whole = inner.2.whole;
         tables = inner.2.tables ∙ tables;
         files = λ ids m s number has.
-            let one = (leads ids).moved f m s in
-            inner.2.files ids one.0 one.2 number (subst (HasNumber number) (sym tables) has) ∙ files ids m s number has;
+            let one = (leads ids).moved f m s.stands in
+            inner.2.files ids one.0 (stands_whole order mid ids between m one.0 s.undamaged (flag m one.0 one.1) one.2) number (subst (HasNumber number) (sym tables) has) ∙ files ids m s number has;
         job = elim inner.2.job [ inl is ↦ inl (is ∙ same) | inr begun ↦ inr (sym same ∙ begun.0, new_behind order.cmp options between before version sequences inner.1.job begun.1) ];
       },
       inner.3,

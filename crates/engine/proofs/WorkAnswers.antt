@@ -1,5 +1,5 @@
 -- What work answers, of what its pieces do.
-use Rattle.std.proofs.Common.{◌≡◌, ◌∷◌, ℕ, ◌+◌, ◌≤◌, ◌<◌, max, Bool, true, false, if◌then◌else◌, Option, Some, None, Result, Ok, Err, IsTrue, IsSome, MatchOption, List, inl, inr, refl, sym, ap, subst, ◌∙◌, arith}
+use Rattle.std.proofs.Common.{◌≡◌, ◌∷◌, ℕ, ◌+◌, ◌≤◌, ◌<◌, max, Bool, true, false, Option, Some, None, Result, Ok, Err, IsTrue, IsSome, MatchOption, List, inl, inr, refl, sym, ap, subst, ◌∙◌, arith, if◌then◌else◌}
 use Rattle.std.proofs.lemmas.Bool.{cases_order}
 use Rattle.std.specs.Map.{values_of}
 use Rattle.coding.specs.declared.error.DbError.{DbError}
@@ -37,9 +37,8 @@ use Rattle.engine.specs.OptionValues.{OptionValues}
 use Rattle.engine.specs.Working.{DoesWork, GoesOn, IsAtEase, IsFurther, work_answer}
 use Rattle.engine.specs.internal.Pieces.{IsPiece, IsSameMemory, MayRefusePiece, refused_as}
 use Rattle.engine.proofs.NeededEntries.{still_live}
-use Rattle.engine.proofs.Steps.{broken_cause, broken_of, by_cause, closed_cause, no_cause, serving_of}
+use Rattle.engine.proofs.Steps.{broken_cause, broken_of, by_cause, closed_cause, no_cause, serving_of, stays_open}
 use Rattle.engine.proofs.WorkSteps.{piece_failed, pieces_on, works_as}
-use Rattle.engine.proofs.WriteSteps.{stays_open}
 
 -- ---- the machine
 

@@ -1,5 +1,5 @@
 -- What an open database is, and the machine, when files were removed or a new log was begun, however that ends.
-use Rattle.std.proofs.Common.{◌≡◌, ◌≢◌, ◌⊎◌, ℕ, ◌+◌, ◌≤◌, ◌<◌, true, false, List, [], ◌∷◌, ◌++◌, map, length, Some, None, Ok, Err, IsTrue, inl, inr, refl, ap, subst, ◌∙◌, arith, String, string_bytes}
+use Rattle.std.proofs.Common.{◌≡◌, ◌≢◌, ◌⊎◌, ℕ, ◌+◌, ◌≤◌, ◌<◌, true, false, List, [], ◌∷◌, ◌++◌, map, length, Some, None, Result, Ok, Err, IsTrue, inl, inr, refl, ap, subst, ◌∙◌, arith, String, string_bytes}
 use Rattle.std.specs.FinMap.{get}
 use Rattle.std.specs.declared.alloc.Global.{Global}
 use Rattle.std.specs.Global.{Vec}
@@ -22,7 +22,10 @@ use Rattle.db_cursor.specs.declared.scan.Scan.{Scan}
 use Rattle.table_access.specs.Tables.{Seen, IsSound, SoundLasts}
 use Rattle.store.specs.Files.{Files, Facts}
 use Rattle.directory_writes.specs.internal.Calls.{LeavesFile, Touches}
+use Rattle.directory_writes.proofs.SameChanges.{same_change}
+use Rattle.directory_writes.specs.Differing.{OfEach, with_files}
 use Rattle.directory_writes.specs.internal.LogFile.{BeginsLog, DrawsLog, RefusesLog}
+use Rattle.directory_writes.specs.Differing.{OfEach}
 use Rattle.directory_writes.specs.internal.Removal.{AreOfDirectory, KeepsParts, KeepsTable, ListsToClose, RefusesList}
 use Rattle.engine.specs.declared.ids.Ids.{Ids}
 use Rattle.engine.specs.declared.state.DbState.{DbState}
@@ -108,17 +111,33 @@ module _ {K : Type 0} {g : _} (order : Order) (kept : (scan : Scan K g) → Scan
   abbrev drawn : DbState K g
   drawn = record state { directory = record state.directory { numbers = numbers } }
 
+  -- what is said of a new log, of each directory that differs from the files in tables alone
+  abbrev BeginsEach : Result (ℕ × String Global) DbError → Type 0
+  BeginsEach result = OfEach (λ whole after. BeginsLog order (with_files old.facts whole) (with_files facts after) next numbers.next result) old.facts.files facts.files
+
+  abbrev BeginsOver : Files → Files → Result (ℕ × String Global) DbError → Type 0
+  BeginsOver ideal behind result = BeginsLog order (with_files old.facts ideal) (with_files facts behind) next numbers.next result
+
+  -- so of the one from which the files come
+  begins_behind : (result : Result (ℕ × String Global) DbError) → BeginsEach result → (m : Machine) (serving : IsServing order old (open_db memory state) m)
+      → BeginsOver serving.ideal (same_change old.facts.files facts.files serving.ideal serving.origin.differs).0 result
+  begins_behind result each m serving =
+      let change = same_change old.facts.files facts.files serving.ideal serving.origin.differs in
+      each serving.ideal change.0 serving.origin.differs change.1
+
   pub ends_sealed : (number : ℕ) (name : String Global) (front : Vec (String Global)) (sealed : Memories) → map string_bytes front.items ≡ map string_bytes state.log.front.items ++ string_bytes state.log.name ∷ [] → memory.sealed ≡ None → 0 < length memory.current.inserts → IsSealed memory sealed → sealed_inserts sealed ≡ memory.current.inserts
-      → DrawsLog old.facts facts next numbers.next (Ok (number, name)) → BeginsLog {T = ℕ × String Global} order old.facts facts next numbers.next (Ok (number, name))
+      → DrawsLog old.facts facts next numbers.next (Ok (number, name)) → BeginsLog {T = ℕ × String Global} order old.facts facts next numbers.next (Ok (number, name)) → BeginsEach (Ok (number, name))
       → LeadsOpen order old (record old { facts = facts }) ids (open_db memory state) (open_db sealed (record drawn { log = record { number = number; name = name; end = 0; front = front } })) (λ m n. IsPiece m 1 (Ok (tt {0})) n)
-  ends_sealed number name front sealed behind unsealed filled is inserts draws_log begins =
+  ends_sealed number name front sealed behind unsealed filled is inserts draws_log begins each =
       serves_on order old (record old { facts = facts }) ids (open_db memory state) (open_db sealed (record drawn { log = record { number = number; name = name; end = 0; front = front } })) 1 (Ok (tt {0})) whole whole touches.faithful touches.failures touches.denials
       (λ m f same serving.
       let knows = serving.log.knows in
+      let over = begins_behind (Ok (number, name)) each m serving in
+      let left = (same_change old.facts.files facts.files serving.ideal serving.origin.differs).0 in
       let d = serving.log.directory.directory in (
         draws m 1 facts,
         serving_sealed order kept one lasts law seals old facts (open_db memory state) m serving f draws_log.3 (begins.others f) (synced f) sealed (record { number = number; name = name; end = 0; front = front }) (record state.directory { numbers = numbers }) unsealed filled is inserts
-            (begins.ok f d serving.log.directory.consistent knows.free) (begins.manifest f d.manifest state.directory.manifest.end d.edits d.layout knows.ends) (subst (λ (n : ℕ). IsFree order facts.files n) draws_log.2 (begins.free f knows.free))
+            (over.ok f d serving.log.directory.consistent knows.free) (over.manifest f d.manifest state.directory.manifest.end d.edits d.layout knows.ends) (subst (λ (n : ℕ). IsFree order left n) draws_log.2 (over.free f knows.free))
             draws_log.0 draws_log.1 refl refl refl refl refl refl draws_log.2 behind,
       ))
 
@@ -129,17 +148,19 @@ module _ {K : Type 0} {g : _} (order : Order) (kept : (scan : Scan K g) → Scan
   log_refused m _ h same below other = absurd h
 
   -- the device failed: the log is there, or not
-  log_failed : {T : Type 0} (back : Memories) → old.facts.failures < facts.failures → DrawsLog old.facts facts next numbers.next (Err error.Io) → BeginsLog {T = ℕ × String Global} order old.facts facts next numbers.next (Err error.Io)
+  log_failed : {T : Type 0} (back : Memories) → old.facts.failures < facts.failures → DrawsLog old.facts facts next numbers.next (Err error.Io) → BeginsLog {T = ℕ × String Global} order old.facts facts next numbers.next (Err error.Io) → BeginsEach (Err error.Io)
       → LeadsOpen order old (record old { facts = facts }) ids (open_db memory state) (open_db back (record drawn { broken = true })) (λ m n. IsPiece {T = T} m 1 (Err error.Io) n)
-  log_failed back rise draws_log begins =
+  log_failed back rise draws_log begins each =
       breaks order old (record old { facts = facts }) ids (open_db memory state) (open_db back (record drawn { broken = true })) 1 (Err error.Io) refl whole refl touches.faithful rise touches.denials
       (λ m f serving.
       let knows = serving.log.knows in
+      let over = begins_behind (Err error.Io) each m serving in
+      let left = (same_change old.facts.files facts.files serving.ideal serving.origin.differs).0 in
       let d = serving.log.directory.directory in
       elim draws_log [
         | inl none ↦ absurd (let same : facts.failures ≡ old.facts.failures = ap (λ (x : Facts). x.failures) none.1 in omega (arith, rise, same))
-        | inr more ↦ broken_seal order kept one lasts law seals old facts (open_db memory state) m serving f more.1 (begins.others f) (synced f) (begins.err f d serving.log.directory.consistent knows.free)
-            (subst (λ (n : ℕ). IsFree order facts.files n) more.0 (begins.free f knows.free))
+        | inr more ↦ broken_seal order kept one lasts law seals old facts (open_db memory state) m serving f more.1 (begins.others f) (synced f) (over.err f d serving.log.directory.consistent knows.free)
+            (subst (λ (n : ℕ). IsFree order left n) more.0 (over.free f knows.free))
       ])
 
   -- the files are as before
@@ -153,12 +174,12 @@ module _ {K : Type 0} {g : _} (order : Order) (kept : (scan : Scan K g) → Scan
       (log_refused m e refused same below other, serving_numbered order kept lasts old facts (open_db memory state) back numbers m (files f).0 (files f).1 left upto.0 upto.1 serving))
 
   -- however it isn't
-  pub ends_unsealed : {T : Type 0} (e : DbError) (back : Memories) → RefusesLog e old.facts facts next numbers.next → DrawsLog old.facts facts next numbers.next (Err e) → BeginsLog {T = ℕ × String Global} order old.facts facts next numbers.next (Err e) → LeavesMemories memory back
+  pub ends_unsealed : {T : Type 0} (e : DbError) (back : Memories) → RefusesLog e old.facts facts next numbers.next → DrawsLog old.facts facts next numbers.next (Err e) → BeginsLog {T = ℕ × String Global} order old.facts facts next numbers.next (Err e) → BeginsEach (Err e) → LeavesMemories memory back
       → LeadsOpen order old (record old { facts = facts }) ids (open_db memory state) (open_db back (broken_by drawn e)) (λ m n. IsPiece {T = T} m 1 (Err e) n)
-  ends_unsealed error.OutOfMemory back refused draws_log begins left = log_unbegun error.OutOfMemory back (λ e. cc) refused refused draws_log left
-  ends_unsealed error.Io back refused draws_log begins left = log_failed back refused draws_log begins
-  ends_unsealed error.NumbersSpent back refused draws_log begins left = log_unbegun error.NumbersSpent back (λ e. cc) (λ f. (ap (λ (x : Facts). x.files) refused.2, ap (λ (x : Facts). x.synced) refused.2)) refused draws_log left
-  ends_unsealed _ back refused draws_log begins left = absurd refused
+  ends_unsealed error.OutOfMemory back refused draws_log begins each left = log_unbegun error.OutOfMemory back (λ e. cc) refused refused draws_log left
+  ends_unsealed error.Io back refused draws_log begins each left = log_failed back refused draws_log begins each
+  ends_unsealed error.NumbersSpent back refused draws_log begins each left = log_unbegun error.NumbersSpent back (λ e. cc) (λ f. (ap (λ (x : Facts). x.files) refused.2, ap (λ (x : Facts). x.synced) refused.2)) refused draws_log left
+  ends_unsealed _ back refused draws_log begins each left = absurd refused
 
 -- ---- files that are gone
 
@@ -166,8 +187,8 @@ module _ {K : Type 0} {g : _} (order : Order) (kept : (scan : Scan K g) → Scan
     (old : Seen) (facts : Facts) (ids : Ids) (db : OpenDb K g) (tables : List KeptTable) (memory : Memories) (gone : List ℕ) where
   pub ends_cleaned : {T : Type 0} (done : T) → db.broken ≡ false → (IsTrue facts.faithful → (name : List ℕ) → LeavesFile old.facts facts name ⊎ (get facts.files name ≡ None)) → Touches old.facts facts → KeepsUsed (IsUsed (λ generation. IsMemoryUsed db.iterators generation) db.memory) db.memory memory
       → (IsTrue facts.faithful → (n : ℕ) → IsNumbered n → KeepsTable old.facts facts (λ number. IsTableUsed db.tables db.job db.iterators number) n) → ListsToClose old.facts facts (λ number. IsTableUsed db.tables db.job db.iterators number) gone → ClosesTables old.tables tables gone
-      → (IsTrue facts.faithful → (d : Directory) → IsConsistent order old.facts.files d → AreOfDirectory (numbers_of db.directory) (λ number. IsTableUsed db.tables db.job db.iterators number) d
-      → KeepsParts order old.facts.files facts.files (λ number. IsTableUsed db.tables db.job db.iterators number) d)
+      → (IsTrue facts.faithful → OfEach (λ whole left. (d : Directory) → IsConsistent order whole d → AreOfDirectory (numbers_of db.directory) (λ number. IsTableUsed db.tables db.job db.iterators number) d
+      → KeepsParts order whole left (λ number. IsTableUsed db.tables db.job db.iterators number) d) old.facts.files facts.files)
       → LeadsOpen order old (record { facts = facts; tables = tables; blocks = old.blocks }) ids db (record db { memory = memory }) (λ m n. IsPiece m 0 (Ok done) n)
   ends_cleaned done whole loses touches used each unused closes parts =
       serves_on order old (record { facts = facts; tables = tables; blocks = old.blocks }) ids db (record db { memory = memory }) 0 (Ok done) whole whole touches.faithful touches.failures touches.denials

@@ -12,11 +12,20 @@ use Rattle.engine.specs.internal.Leading.{LeadsOpen}
 use Rattle.engine.specs.OpenDb.{OpenDb}
 use Rattle.machine.specs.Machine.{Machine, weight}
 use Rattle.machine.specs.Causes.{not_serving, status_of}
-use Rattle.engine.specs.internal.Standing.{HasCounts, IsBroken, IsServing}
+use Rattle.engine.specs.internal.Standing.{HasCounts, IsBroken, IsServing, StandsOpen, StandsWhole}
 use Rattle.machine.specs.Upkeep.{Draws, UpkeepRefused, WorkDone, Works}
 use Rattle.engine.specs.internal.Pieces.{IsPiece}
 use Rattle.engine.specs.Working.{work_answer}
 use Rattle.engine.proofs.Steps.{serving_of, denies_none, without_cause}
+
+-- ---- the flag of damage
+
+-- what so moves keeps it
+abbrev pub KeepsFlag : (Machine → Machine → Type 0) → Type 0
+KeepsFlag moves = (m n : Machine) → moves m n → n.damaged ≡ m.damaged
+
+pub stands_whole : {K : Type 0} {g : _} (order : Order) (source : Seen) (ids : Ids) (db : OpenDb K g) (m n : Machine) → m.damaged ≡ false → n.damaged ≡ m.damaged → StandsOpen order source ids db n → StandsWhole order source ids db n
+stands_whole order source ids db m n is same s = record { stands = s; undamaged = same ∙ is }
 
 -- ---- a piece
 
@@ -101,9 +110,13 @@ refused_on m mid n k most error.Io first rise h = (
   h.2 ∙ ap (λ (x : Machine). record x { numbers = n.numbers; broken = n.broken; failures = n.failures; denials = n.denials }) first.1,
 )
 refused_on m mid n k most error.NumbersSpent first rise h = (h.0, draws_on m mid n k most first h.1)
+refused_on m mid n k most (error.Corrupt file what) first rise h = (sym (ap (λ (x : Machine). x.damaged) first.1) ∙ h.0, draws_on m mid n k most first h.1)
 refused_on m mid n k most (error.Unsupported limit) first rise h = (
   elim h.0 [
-    | inl over ↦ inl (sym (ap (λ (x : Machine). x.over_limit) first.1) ∙ over)
+    | inl hard ↦ inl (elim hard [
+      | inl over ↦ inl (sym (ap (λ (x : Machine). x.over_limit) first.1) ∙ over)
+      | inr damaged ↦ inr (sym (ap (λ (x : Machine). x.damaged) first.1) ∙ damaged)
+    ])
     | inr heavy ↦ inr (let same = same_weight m mid k first in omega (arith, heavy, same))
   ],
   draws_on m mid n k most first h.1,
@@ -126,6 +139,7 @@ refused_more : (m n : Machine) (most more : ℕ) (e : DbError) → most ≤ more
 refused_more m n most more error.OutOfMemory le h = ((h.0.0, (let upto = h.0.1 in omega (arith, upto, le))), h.1)
 refused_more m n most more error.Io le h = (h.0, (h.1.0, (let upto = h.1.1 in omega (arith, upto, le))), h.2)
 refused_more m n most more error.NumbersSpent le h = (h.0, ((h.1.0.0, (let upto = h.1.0.1 in omega (arith, upto, le))), h.1.1))
+refused_more m n most more (error.Corrupt file what) le h = (h.0, ((h.1.0.0, (let upto = h.1.0.1 in omega (arith, upto, le))), h.1.1))
 refused_more m n most more (error.Unsupported limit) le h = (h.0, ((h.1.0.0, (let upto = h.1.0.1 in omega (arith, upto, le))), h.1.1))
 refused_more m n most more _ le h = absurd h
 

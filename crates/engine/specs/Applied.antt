@@ -18,7 +18,7 @@ use Rattle.engine.specs.OpenDb.{OpenDb}
 use Rattle.engine.specs.InUse.{HasUsedMemory}
 use Rattle.machine.specs.Machine.{Machine}
 use Rattle.engine.specs.Needed.{HasOnlyNeeded}
-use Rattle.engine.specs.Stands.{Stands, store_of, open_in, options_of, seen_in}
+use Rattle.engine.specs.Stands.{Stands, StandsWholeIn, store_of, open_in, options_of, seen_in}
 use Rattle.table_access.specs.Tables.{Seen}
 use Rattle.engine.specs.StandsDb.{db_store_of, open_by, seen_by}
 use Rattle.engine.specs.declared.work.Progress.{Progress}
@@ -157,7 +157,7 @@ abbrev pub LeavesBy : {S K : Type 0} {g : _} → Op → Session S K g → Answer
 LeavesBy op new answer = Leaves op (open_in new) answer
 
 abbrev pub NeededBy : {S K : Type 0} {g : _} → Op → Order → (S → Facts) → Session S K g → Session S K g → Answer → Type 0
-NeededBy op order facts old new answer = KeepsOnly op order (facts (store_of new)) (Stands order facts old) (open_in new) answer
+NeededBy op order facts old new answer = KeepsOnly op order (facts (store_of new)) (StandsWholeIn order facts old) (open_in new) answer
 
 abbrev pub OutcomeBy : {S K : Type 0} {g : _} → Op → (S → Facts) → Session S K g → Session S K g → Answer → Type 0
 OutcomeBy {S} {K} {g} op facts old new answer = Outcome (IsAnswerTo op) (stood_of op) (keeps_of {K = K} {g = g} op) (facts (store_of old)) (facts (store_of new)) old.ids new.ids (open_in old) (open_in new) answer

@@ -19,7 +19,7 @@ use Rattle.engine.specs.OpenDb.{OpenDb}
 use Rattle.engine.specs.InUse.{IsTableRead}
 use Rattle.engine.specs.Reads.{kept_at}
 use Rattle.machine.specs.Machine.{Machine}
-use Rattle.engine.specs.internal.Standing.{StandsOpen}
+use Rattle.engine.specs.internal.Standing.{StandsWhole}
 
 -- the file is `CURRENT`, the lock, the MANIFEST, the log that writes go to, or a table of the version or of that of an open iterator: of one
 -- that has a file under both of its names the one that is read
@@ -46,4 +46,4 @@ pub record HasExactlyLive {K : Type 0} {g : _} (files : Files) (db : OpenDb K g)
 -- could be in before.
 abbrev pub LeavesExactlyLive : {K : Type 0} {g : _} → Order → Seen → Seen → OpenDb K g → OpenDb K g → Result Progress DbError → Type 0
 LeavesExactlyLive order old new before after result =
-    result ≡ Ok progress.Idle → IsTrue new.facts.faithful → new.facts.failures ≡ old.facts.failures → (ids : Ids) (m : Machine) → StandsOpen order old ids before m → HasExactlyLive new.facts.files after
+    result ≡ Ok progress.Idle → IsTrue new.facts.faithful → new.facts.failures ≡ old.facts.failures → (ids : Ids) (m : Machine) → StandsWhole order old ids before m → HasExactlyLive new.facts.files after

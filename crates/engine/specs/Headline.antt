@@ -50,13 +50,13 @@ pub record IsLast (order : Order) (facts : Facts) (m : Machine) : Type 0 where
   pub failures : m.failures ≤ facts.failures
   pub denials : m.denials ≡ facts.denials
 
--- While the store is faithful, each machine of the files at first gives these answers to these commands, and the files are then
--- those of the machine that it comes to.
+-- While the store is faithful, each machine of the files at first, which are undamaged, gives these answers to these commands, and the files
+-- are then those of the machine that it comes to.
 abbrev pub Headline : Order → Facts → Facts → List Op → List Answer → Type 0
 Headline order old new ops answers =
-    IsTrue new.faithful → (first : Machine) → IsFirst order old first → (last : Machine) × Run order first ops answers last × IsLast order new last
+    IsTrue new.faithful → (first : Machine) → IsFirst order old first → first.damaged ≡ false → (last : Machine) × Run order first ops answers last × IsLast order new last
 
--- There is a machine of each empty or consistent directory; over no limit, where the directory passes none.
+-- There is a machine of each empty or consistent directory, damaged or not; over no limit, where the directory passes none.
 abbrev pub FirstLaw : Type 0
-FirstLaw = (order : Order) (facts : Facts) (entries : List Entry) (used : ℕ) (over_limit : Bool) → IsTotalOrder order.cmp → IsDirectory order facts.files entries used
-    → (over_limit ≡ false → IsWithinLimits order facts.files) → (first : Machine) × IsFirst order facts first × (first.over_limit ≡ over_limit)
+FirstLaw = (order : Order) (facts : Facts) (entries : List Entry) (used : ℕ) (over_limit damaged : Bool) → IsTotalOrder order.cmp → IsDirectory order facts.files entries used
+    → (over_limit ≡ false → IsWithinLimits order facts.files) → (first : Machine) × IsFirst order facts first × (first.over_limit ≡ over_limit) × (first.damaged ≡ damaged)

@@ -47,7 +47,7 @@ Outlasts order facts db m = (lost : Files) → Lost facts (moment facts) lost �
 -- So it is behind a write that asks for it, where it is accepted: of whatever the database stands for then.
 abbrev pub DbOutlasts : {S K T : Type 0} {g : _} → Type 0 → Order → (S → Facts) → Db S K g → Result T DbError → Type 0
 DbOutlasts asked order facts new result =
-    IsTrue (facts (db_store_of new)).faithful → asked → OnOk result ((m : Machine) → StandsDb order facts new m → Outlasts order (facts (db_store_of new)) (open_by new) m)
+    IsTrue (facts (db_store_of new)).faithful → asked → OnOk result ((m : Machine) → m.damaged ≡ false → StandsDb order facts new m → Outlasts order (facts (db_store_of new)) (open_by new) m)
 
 -- ---- of a session
 
@@ -55,7 +55,7 @@ DbOutlasts asked order facts new result =
 abbrev pub OutlastsOver : {K : Type 0} {g : _} → Type 0 → Order → Seen → Ids → Option (OpenDb K g) → Answer → Type 0
 OutlastsOver asked order source ids None answer = Unit {0}
 OutlastsOver asked order source ids (Some db) answer =
-    IsTrue source.facts.faithful → asked → OnOk (unit_result answer) ((m : Machine) → StandsOver order source ids (Some db) m → Outlasts order source.facts db m)
+    IsTrue source.facts.faithful → asked → OnOk (unit_result answer) ((m : Machine) → m.damaged ≡ false → StandsOver order source ids (Some db) m → Outlasts order source.facts db m)
 
 abbrev pub SessionOutlasts : {S K : Type 0} {g : _} → Type 0 → Order → (S → Facts) → Session S K g → Answer → Type 0
 SessionOutlasts asked order facts new answer = OutlastsOver asked order (seen_in facts new) (ids_of new) (open_in new) answer

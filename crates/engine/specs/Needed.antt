@@ -12,7 +12,7 @@ use Rattle.store.specs.Files.{Files}
 use Rattle.engine.specs.declared.ids.Ids.{Ids}
 use Rattle.engine.specs.OpenDb.{OpenDb}
 use Rattle.machine.specs.Machine.{Machine, current}
-use Rattle.engine.specs.internal.Standing.{StandsOpen}
+use Rattle.engine.specs.internal.Standing.{StandsWhole}
 
 -- the sequences that are read at: the last one used, and those of the live snapshots
 abbrev pub live_sequences : {K : Type 0} {g : _} → OpenDb K g → List ℕ
@@ -42,4 +42,4 @@ pub record HasOnlyNeeded {K : Type 0} {g : _} (order : Order) (files : Files) (d
 
 -- While the store is faithful, that is what a call leaves, for each state of the machine that the database could be in before.
 abbrev pub LeavesNeeded : {K : Type 0} {g : _} → Order → Seen → Seen → OpenDb K g → OpenDb K g → Type 0
-LeavesNeeded order old new before after = IsTrue new.facts.faithful → (ids : Ids) (m : Machine) → StandsOpen order old ids before m → HasOnlyNeeded order new.facts.files after m
+LeavesNeeded order old new before after = IsTrue new.facts.faithful → (ids : Ids) (m : Machine) → StandsWhole order old ids before m → HasOnlyNeeded order new.facts.files after m

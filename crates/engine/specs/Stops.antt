@@ -1,5 +1,5 @@
 -- What a stop of the process leaves in the middle of a command, and of a run.
-use Rattle.std.specs.Prelude.{◌⊎◌, List, [], ◌∷◌, MatchBool, IsTrue}
+use Rattle.std.specs.Prelude.{◌≡◌, ◌⊎◌, false, List, [], ◌∷◌, MatchBool, IsTrue}
 use Rattle.batch.specs.declared.operation.Operation.{Operation}
 use Rattle.store.specs.Files.{Facts, Files}
 use Rattle.store.specs.Stops.{LeavesOnly}
@@ -37,20 +37,20 @@ LeftBy order m _ files = HoldsAccepted order files m
 abbrev pub StopsKeeping : Order → Machine → Facts → Facts → Type 0
 StopsKeeping order m old new = LeavesOnly old new (λ files. HoldsAccepted order files m)
 
--- While the store is faithful, so it is from each state that the session may have been in.
+-- While the store is faithful, so it is from each state without damage that the session may have been in.
 abbrev pub SessionStops : {S K : Type 0} {g : _} → Order → (S → Facts) → Session S K g → Session S K g → Type 0
 SessionStops order facts old new =
-    IsTrue (facts (store_of new)).faithful → (m : Machine) → Stands order facts old m → StopsKeeping order m (facts (store_of old)) (facts (store_of new))
+    IsTrue (facts (store_of new)).faithful → (m : Machine) → m.damaged ≡ false → Stands order facts old m → StopsKeeping order m (facts (store_of old)) (facts (store_of new))
 
 abbrev pub SessionStopsWrite : {S K : Type 0} {g : _} → Order → (S → Facts) → List Operation → Session S K g → Session S K g → Type 0
 SessionStopsWrite order facts operations old new =
-    IsTrue (facts (store_of new)).faithful → (m : Machine) → Stands order facts old m
+    IsTrue (facts (store_of new)).faithful → (m : Machine) → m.damaged ≡ false → Stands order facts old m
     → LeavesOnly (facts (store_of old)) (facts (store_of new)) (λ files. LeftByWrite order m operations files)
 
 -- what is said of a command
 abbrev pub StopsBy : {S K : Type 0} {g : _} → Op → Order → (S → Facts) → Session S K g → Session S K g → Type 0
 StopsBy op order facts old new =
-    IsTrue (facts (store_of new)).faithful → (m : Machine) → Stands order facts old m → LeavesOnly (facts (store_of old)) (facts (store_of new)) (λ files. LeftBy order m op files)
+    IsTrue (facts (store_of new)).faithful → (m : Machine) → m.damaged ≡ false → Stands order facts old m → LeavesOnly (facts (store_of old)) (facts (store_of new)) (λ files. LeftBy order m op files)
 
 -- ---- a run, from files to files
 
@@ -64,22 +64,22 @@ StopsEach order m old new (command ∷ commands) (answer ∷ answers) =
 StopsEach order m old new [] (answer ∷ answers) = ⊥
 StopsEach order m old new (command ∷ commands) [] = ⊥
 
--- While the store is faithful, from each machine of the files at first: a stop at any moment leaves what the commands that were answered by then have
+-- While the store is faithful, from each machine of undamaged files at first: a stop at any moment leaves what the commands that were answered by then have
 -- accepted, and the batch of the one that it meets as a whole or not at all.
 abbrev pub StopsRun : Order → Facts → Facts → List Op → List Answer → Type 0
-StopsRun order old new ops answers = IsTrue new.faithful → (first : Machine) → IsFirst order old first → StopsEach order first old new ops answers
+StopsRun order old new ops answers = IsTrue new.faithful → (first : Machine) → IsFirst order old first → first.damaged ≡ false → StopsEach order first old new ops answers
 
 -- ---- an open database alone
 
 abbrev pub DbStopsWrite : {S K : Type 0} {g : _} → Order → (S → Facts) → List Operation → Db S K g → Db S K g → Type 0
 DbStopsWrite order facts operations old new =
-    IsTrue (facts (db_store_of new)).faithful → (m : Machine) → StandsDb order facts old m
+    IsTrue (facts (db_store_of new)).faithful → (m : Machine) → m.damaged ≡ false → StandsDb order facts old m
     → LeavesOnly (facts (db_store_of old)) (facts (db_store_of new)) (λ files. LeftByWrite order m operations files)
 
 abbrev pub DbStops : {S K : Type 0} {g : _} → Order → (S → Facts) → Db S K g → Db S K g → Type 0
 DbStops order facts old new =
-    IsTrue (facts (db_store_of new)).faithful → (m : Machine) → StandsDb order facts old m → StopsKeeping order m (facts (db_store_of old)) (facts (db_store_of new))
+    IsTrue (facts (db_store_of new)).faithful → (m : Machine) → m.damaged ≡ false → StandsDb order facts old m → StopsKeeping order m (facts (db_store_of old)) (facts (db_store_of new))
 
 -- And its open.
 abbrev pub OpenStops : Order → Facts → Facts → Ids → Type 0
-OpenStops order old new ids = IsTrue new.faithful → (m : Machine) → StandsClosed order old ids m → StopsKeeping order m old new
+OpenStops order old new ids = IsTrue new.faithful → (m : Machine) → m.damaged ≡ false → StandsClosed order old ids m → StopsKeeping order m old new

@@ -16,7 +16,7 @@ use Rattle.engine.specs.OpenDb.{OpenDb, version_of, whole_of}
 use Rattle.machine.specs.Machine.{Machine}
 use Rattle.engine.specs.Needed.{IsForLive}
 use Rattle.engine.specs.OptionValues.{OptionValues}
-use Rattle.engine.specs.internal.Standing.{StandsOpen}
+use Rattle.engine.specs.internal.Standing.{StandsWhole}
 use Rattle.engine.specs.Working.{IsAtEase}
 use Rattle.engine.specs.WrittenTables.{KeepsTableFiles, PutsMerged}
 
@@ -47,7 +47,7 @@ pub record IsNewJob {K : Type 0} {g : _} (cmp : Cmp) (options : OptionValues) (d
 -- A state that the call came through, not broken, with the tables that there were before and what their files held, and with the compaction
 -- that was under way, or with a new one.
 pub record IsBeforeStep {K : Type 0} {g : _} (order : Order) (options : OptionValues) (old between : Seen) (before mid : OpenDb K g) : Type 0 where
-  pub stands : (ids : Ids) (m : Machine) → StandsOpen order old ids before m → (n : Machine) × StandsOpen order between ids mid n
+  pub stands : (ids : Ids) (m : Machine) → StandsWhole order old ids before m → (n : Machine) × StandsWhole order between ids mid n
   pub whole : mid.broken ≡ false
   pub tables : mid.tables ≡ before.tables
   pub files : KeepsTableFiles order old between before

@@ -25,11 +25,11 @@ use Rattle.engine.specs.declared.work.Progress.TheVariants.{Worked}
 use Rattle.engine.specs.OpenDb.{OpenDb}
 use Rattle.engine.specs.Needed.{IsForLive}
 use Rattle.machine.specs.Machine.{Machine}
-use Rattle.engine.specs.internal.Standing.{StandsOpen}
+use Rattle.engine.specs.internal.Standing.{StandsWhole}
 
 -- The files of the tables of the version are as before.
 abbrev pub KeepsTableFiles : {K : Type 0} {g : _} → Order → Seen → Seen → OpenDb K g → Type 0
-KeepsTableFiles order old new before = (ids : Ids) (m : Machine) → StandsOpen order old ids before m → (number : ℕ) → HasNumber number before.tables → table_at new.facts.files number ≡ table_at old.facts.files number
+KeepsTableFiles order old new before = (ids : Ids) (m : Machine) → StandsWhole order old ids before m → (number : ℕ) → HasNumber number before.tables → table_at new.facts.files number ≡ table_at old.facts.files number
 
 -- ---- of a memory table
 
@@ -45,7 +45,7 @@ pub record HasFlushed {K : Type 0} {g : _} (order : Order) (files : Files) (entr
 -- While the store is faithful, so it is of the entries of the sealed memory table, unless there are none.
 abbrev pub PutsSealed : {K : Type 0} {g : _} → Order → Seen → Seen → OpenDb K g → OpenDb K g → Type 0
 PutsSealed order old new before after =
-    IsTrue new.facts.faithful → (ids : Ids) (m : Machine) → StandsOpen order old ids before m → (sealed_inserts before.memory ≡ []) ⊎ HasFlushed order new.facts.files (sealed_inserts before.memory) before after
+    IsTrue new.facts.faithful → (ids : Ids) (m : Machine) → StandsWhole order old ids before m → (sealed_inserts before.memory ≡ []) ⊎ HasFlushed order new.facts.files (sealed_inserts before.memory) before after
 
 -- So it is behind a call of work in front of which a memory table was sealed, and no compaction under way.
 abbrev pub FlushesSealed : {K : Type 0} {g : _} → Order → Seen → Seen → OpenDb K g → OpenDb K g → Result Progress DbError → Type 0
@@ -69,17 +69,17 @@ pub record HasMerged {K : Type 0} {g : _} (order : Order) (old new : Files) (wor
 -- While the store is faithful, that is what the compaction under way has become.
 abbrev pub PutsMerged : {K : Type 0} {g : _} → Order → Seen → Seen → OpenDb K g → OpenDb K g → Type 0
 PutsMerged order old new before after =
-    MatchOption before.job ⊥ (λ work. IsTrue new.facts.faithful → (ids : Ids) (m : Machine) → StandsOpen order old ids before m → HasMerged order old.facts.files new.facts.files work before after)
+    MatchOption before.job ⊥ (λ work. IsTrue new.facts.faithful → (ids : Ids) (m : Machine) → StandsWhole order old ids before m → HasMerged order old.facts.files new.facts.files work before after)
 
 -- While the store is faithful: the call came through a state in which the compaction of this plan had just begun, for the sequences that are
 -- read at, and that is what it has become.
 abbrev pub MergesPlan : {K : Type 0} {g : _} → Order → JobPlan → Seen → Seen → OpenDb K g → OpenDb K g → Type 0
 MergesPlan {K} {g} order plan old new before after =
-    IsTrue new.facts.faithful → (between : Seen) × (mid : OpenDb K g) × ((ids : Ids) (m : Machine) → StandsOpen order old ids before m → (n : Machine) × StandsOpen order between ids mid n)
+    IsTrue new.facts.faithful → (between : Seen) × (mid : OpenDb K g) × ((ids : Ids) (m : Machine) → StandsWhole order old ids before m → (n : Machine) × StandsWhole order between ids mid n)
     × (mid.tables ≡ before.tables) × MatchOption mid.job ⊥ (λ work. (work.job.plan ≡ plan) × IsForLive work before) × PutsMerged order between new mid after
 
 -- So it is of a compaction of a level, unless the level had no table. The one under way, if one was, had come to its end in front of it.
 abbrev pub MergesLevel : {K : Type 0} {g : _} → Order → ℕ → Seen → Seen → OpenDb K g → OpenDb K g → Type 0
 MergesLevel {K} {g} order level old new before after =
-    IsTrue new.facts.faithful → (between : Seen) × (mid : OpenDb K g) × ((ids : Ids) (m : Machine) → StandsOpen order old ids before m → (n : Machine) × StandsOpen order between ids mid n)
+    IsTrue new.facts.faithful → (between : Seen) × (mid : OpenDb K g) × ((ids : Ids) (m : Machine) → StandsWhole order old ids before m → (n : Machine) × StandsWhole order between ids mid n)
     × (IsSome before.job → PutsMerged order old between before mid) × ((tables_at level mid.tables ≡ []) ⊎ ((plan : JobPlan) × IsLevelPlan order.cmp mid.tables level plan × MergesPlan order plan between new mid after))

@@ -1,10 +1,13 @@
 //! A run over a store, from its files to its files.
 
-ghost use Rattle.std.specs.Prelude.{◌≡◌, ◌++◌, List, IsTrue, OnOk, OnErr, IfErr};
+ghost use Rattle.std.specs.Prelude.{◌≡◌, ◌++◌, Bool, List, IsTrue, OnOk, OnErr, IfErr};
 ghost use Rattle.coding.specs.declared.error.DbError.TheVariants.{OutOfMemory};
-ghost use Rattle.ikey.specs.Orders.{order_of};
+ghost use Rattle.ikey.specs.Orders.{Order, order_of};
 ghost use Rattle.machine.specs.declared.command.Answer.{Answer};
-ghost use Rattle.engine.specs.Headline.{Headline, FirstLaw};
+ghost use Rattle.engine.specs.Headline.{FirstLaw, Headline};
+ghost use Rattle.engine.specs.Origins.{ComesFrom};
+ghost use Rattle.engine.specs.OverDamage.{OverDamage};
+ghost use Rattle.store.specs.Files.{Files};
 ghost use Rattle.engine.specs.Stops.{StopsRun};
 ghost use Rattle.engine.specs.Touching.{LeavesStore};
 ghost use Rattle.engine.specs.internal.Bridges.{StartsLaw, EndsLaw};
@@ -18,7 +21,8 @@ use recover::{distinct_law, one_manifest};
 use std::alloc::Global;
 use store::Store;
 
-/// Law: there is a first machine of each directory that is empty or consistent, and so of each that `recover::check` finds good.
+/// Law: there is a first machine of each directory that is empty or consistent, and so of each that `recover::check` finds good; and one that
+/// allows for damage.
 pub fn there_is_a_first()
     ensures { FirstLaw }
 {
@@ -26,6 +30,11 @@ pub fn there_is_a_first()
     distinct_law();
     one_manifest();
 }
+
+/// Law: files come from themselves, as undamaged.
+pub fn files_come_from_themselves()
+    ensures { (order : Order) (damaged : Bool) (files : Files) → ComesFrom order damaged files files }
+{}
 
 // Law: a new session over these files may be in it.
 fn starts()
@@ -48,6 +57,9 @@ pub fn run_over<S: Store, K: KeyOrder>(
 ) -> (Result<(), DbError>, S)
     ensures headline { OnOk result.0 ((answers : List Answer) × (sink.new.items ≡ sink.old.items ++ answers)
         × Headline (order_of K.name K.cmp) (S.facts store) (S.facts result.1) ops.now answers) }
+    // Over damaged tables it is that of each undamaged directory from which they may come.
+    ensures over_damage { OnOk result.0 ((answers : List Answer) × (sink.new.items ≡ sink.old.items ++ answers)
+        × OverDamage (order_of K.name K.cmp) (S.facts store) (S.facts result.1) ops.now answers) }
     // A stop at any moment of it leaves what the commands that were answered by then have accepted.
     ensures stops { OnOk result.0 ((answers : List Answer) × (sink.new.items ≡ sink.old.items ++ answers)
         × StopsRun (order_of K.name K.cmp) (S.facts store) (S.facts result.1) ops.now answers) }

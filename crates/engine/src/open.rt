@@ -7,6 +7,7 @@ ghost use Rattle.store.specs.Files.{MayLock};
 ghost use Rattle.store.specs.Stops.{LeavesOnly};
 ghost use Rattle.machine.specs.Machine.{Machine};
 ghost use Rattle.engine.specs.internal.Directory.{MeansAccepted};
+ghost use Rattle.directory_writes.specs.Differing.{OfEach};
 ghost use Rattle.opening.specs.internal.Calls.{TakesLock};
 ghost use Rattle.machine.specs.Lifetime.{Opens};
 ghost use Rattle.engine.specs.internal.Standing.{StandsClosed};
@@ -59,7 +60,7 @@ pub fn open_store<K: KeyOrder, S: Store>(
     ensures tidy { IfOk result (IsTidy (S.facts source.old.tables.store) (S.facts source.new.tables.store) source.new.memory) }
     // A stop in its middle leaves files that stand for what they did.
     ensures stops { IsTrue (S.facts source.new.tables.store).faithful → (ids : Ids) (m : Machine)
-        → StandsClosed (order_of K.name K.cmp) (S.facts source.old.tables.store) ids m
+        → m.damaged ≡ false → StandsClosed (order_of K.name K.cmp) (S.facts source.old.tables.store) ids m
         → LeavesOnly (S.facts source.old.tables.store) (S.facts source.new.tables.store) (λ files. MeansAccepted (order_of K.name K.cmp) files m) }
 {
     // Laws, for the proof alone.
@@ -109,7 +110,7 @@ fn open_and_clean<K: KeyOrder, S: Store>(
         → Tells (order_of K.name K.cmp) (S.facts source.old.tables.store).files result }
     ensures tidy { IfOk result (IsTidy (S.facts source.old.tables.store) (S.facts source.new.tables.store) source.new.memory) }
     ensures stops { IsTrue (S.facts source.new.tables.store).faithful → (ids : Ids) (m : Machine)
-        → Rests (order_of K.name K.cmp) (S.facts source.old.tables.store) ids m
+        → m.damaged ≡ false → Rests (order_of K.name K.cmp) (S.facts source.old.tables.store) ids m
         → LeavesOnly (S.facts source.old.tables.store) (S.facts source.new.tables.store) (λ files. MeansAccepted (order_of K.name K.cmp) files m) }
 {
     let state = open_locked::<K, S>(alloc, source, options, mode)?;
@@ -152,6 +153,9 @@ fn open_locked<K: KeyOrder, S: Store>(
     ensures unfailed { OnOk result ((S.facts source.new.tables.store).failures ≡ (S.facts source.old.tables.store).failures) }
     ensures continued { IsTrue (S.facts source.new.tables.store).faithful
         → IsContinued (order_of K.name K.cmp) (S.facts source.old.tables.store).files (S.facts source.new.tables.store).files }
+    ensures continued_each { IsTrue (S.facts source.new.tables.store).faithful
+        → OfEach (λ whole after. IsContinued (order_of K.name K.cmp) whole after)
+        (S.facts source.old.tables.store).files (S.facts source.new.tables.store).files }
     ensures durable { LeavesDurable (S.facts source.old.tables.store) (S.facts source.new.tables.store) result }
     ensures current { IfOk result (λ state. IsTrue (S.facts source.new.tables.store).faithful
         → HasDurable state.directory.manifest.number (S.facts source.new.tables.store)) }

@@ -10,6 +10,7 @@ use Rattle.edits.specs.declared.names.FileName.TheVariants.{Current}
 use Rattle.recover.specs.Directory.{IsDirectory}
 use Rattle.recover.specs.Numbers.{IsFree}
 use Rattle.recover.specs.Limits.{IsWithinLimits}
+use Rattle.engine.specs.Origins.{ComesFrom}
 use Rattle.engine.specs.internal.Accounted.{AreAccounted}
 use Rattle.machine.specs.Machine.{Machine, after_batch, current, entry_count, operation_weight, weight}
 use Rattle.ikey.specs.Views.{Contents, IsView}
@@ -41,7 +42,9 @@ pub record IsReadable (order : Order) (files : Files) (m : Machine) : Type 0 whe
   pub numbers : IsFree order files m.numbers
   pub limits : m.over_limit ≡ false → IsWithinLimits order files
 
--- The directory of a database that isn't open.
+-- The directory of a database that isn't open: an undamaged one from which the files may come.
 pub record IsAtRest (order : Order) (files : Files) (m : Machine) : Type 0 where
-  pub meaning : MeansAccepted order files m
-  pub readable : IsReadable order files m
+  pub ideal : Files
+  pub origin : ComesFrom order m.damaged files ideal
+  pub meaning : MeansAccepted order ideal m
+  pub readable : IsReadable order ideal m

@@ -1,5 +1,5 @@
 -- What a piece of work does to the machine.
-use Rattle.std.specs.Prelude.{◌≡◌, ◌≤◌, ℕ, Bool, true, false, if◌then◌else◌, List, Contains, Result, MatchResult}
+use Rattle.std.specs.Prelude.{◌≡◌, ◌⊎◌, ◌≤◌, ℕ, Bool, true, false, if◌then◌else◌, List, Contains, Result, MatchResult}
 use Rattle.cache.specs.Tables.{KeptTable}
 use Rattle.coding.specs.declared.error.DbError.{DbError}
 use Rattle.coding.specs.declared.error.DbError.TheVariants as error
@@ -9,6 +9,10 @@ use Rattle.directory_writes.specs.declared.flush.FlushError.TheVariants.{Before,
 use Rattle.engine.specs.declared.state.DbState.{DbState}
 use Rattle.machine.specs.Machine.{Machine}
 use Rattle.machine.specs.Upkeep.{Draws, UpkeepRefused}
+
+-- What is read as it should be is neither past a limit nor damaged.
+abbrev pub IsHardToRead : Machine → Type 0
+IsHardToRead m = (m.over_limit ≡ true) ⊎ (m.damaged ≡ true)
 
 -- It draws so many numbers at most, and changes nothing else, or is refused.
 pub record IsPiece {T : Type 0} (old : Machine) (most : ℕ) (result : Result T DbError) (new : Machine) : Type 0 where

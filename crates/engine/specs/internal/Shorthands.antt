@@ -4,7 +4,7 @@ use Rattle.store.specs.Files.{Facts}
 use Rattle.ikey.specs.Orders.{Order}
 use Rattle.machine.specs.declared.command.Answer.{Answer}
 use Rattle.engine.specs.OpenDb.{OpenDb}
-use Rattle.engine.specs.Stands.{Stands, store_of, open_in, seen_in}
+use Rattle.engine.specs.Stands.{StandsWholeIn, store_of, open_in, seen_in}
 use Rattle.engine.specs.declared.session.Session.{Session}
 use Rattle.engine.specs.Touching.{LeavesStore}
 use Rattle.engine.specs.Telling.{OpenTells}
@@ -39,4 +39,4 @@ abbrev pub IsCompacted : {S K : Type 0} {g : _} → Session S K g → Answer →
 IsCompacted new answer = CompactsWhole (open_in new) answer
 
 abbrev pub IsOnlyNeeded : {S K : Type 0} {g : _} → Order → (S → Facts) → Session S K g → Session S K g → Answer → Type 0
-IsOnlyNeeded order facts old new answer = LeavesOnly order (facts (store_of new)) (Stands order facts old) (open_in new) answer
+IsOnlyNeeded order facts old new answer = LeavesOnly order (facts (store_of new)) (StandsWholeIn order facts old) (open_in new) answer

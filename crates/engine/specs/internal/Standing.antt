@@ -5,6 +5,7 @@ use Rattle.ikey.specs.Orders.{Order}
 use Rattle.engine.specs.declared.ids.Ids.{Ids}
 use Rattle.machine.specs.Machine.{Machine, current, entry_count, weight}
 use Rattle.engine.specs.OpenDb.{OpenDb, whole_of}
+use Rattle.engine.specs.Origins.{ComesFrom}
 use Rattle.table_access.specs.Tables.{Seen, IsSound, KeepsOf}
 use Rattle.ikey.specs.declared.entry.Entry.{Entry}
 use Rattle.memtables.specs.Memories.{logged_in}
@@ -54,22 +55,25 @@ pub record HasEntries (entries : List Entry) (last : ℕ) (contents : Contents) 
   pub view : IsView entries last contents
   pub bounded : AllUpTo last entries
 
--- An open database that isn't broken.
+-- An open database that isn't broken. Its directory is an undamaged one from which the files may come; what is read of tables is read of
+-- the files.
 pub record IsServing {K : Type 0} {g : _} (order : Order) (source : Seen) (db : OpenDb K g) (m : Machine) : Type 0 where
   pub whole : m.broken ≡ false
   pub certain : m.in_doubt ≡ None
+  pub ideal : Files
+  pub origin : ComesFrom order m.damaged source.facts.files ideal
   -- the contents of its tables
   pub contents : List TableContent
-  pub log : HasLog order source.facts.files contents db
+  pub log : HasLog order ideal contents db
   pub tables : HasTables order source contents db
   pub entries : HasEntries (entries_of contents db) db.memory.last (current m) m.used
   pub snapshots : AreSnapshots (entries_of contents db) db.memory.last m db.snapshots
   pub iterators : AreWalks order.cmp (whole_of source db) m db.iterators
   pub accounted : AreAccounted (entries_of contents db) (entry_count m) (weight m)
-  pub readable : IsReadable order source.facts.files m
+  pub readable : IsReadable order ideal m
   pub numbers : db.directory.numbers.next ≤ m.numbers
   pub synced : IsSyncedBut source.facts db.log db.directory db.tables
-  pub job : MatchOption db.job (Unit {0}) (IsCompacting order (whole_of source db) db.directory.numbers.next db.snapshots db.iterators log.directory.directory)
+  pub job : MatchOption db.job (Unit {0}) (IsCompacting order m.damaged (whole_of source db) ideal db.directory.numbers.next db.snapshots db.iterators log.directory.directory)
 
 -- A broken one: its directory is what counts from now on.
 pub record IsBroken (order : Order) (files : Files) (m : Machine) : Type 0 where
@@ -81,6 +85,11 @@ pub record StandsOpen {K : Type 0} {g : _} (order : Order) (source : Seen) (give
   pub ids : HasIds given m
   pub opened : m.opened ≡ true
   pub rest : MatchBool db.broken (IsBroken order source.facts.files m) (IsServing order source db m)
+
+-- So it may be in a state without damage.
+pub record StandsWhole {K : Type 0} {g : _} (order : Order) (source : Seen) (given : Ids) (db : OpenDb K g) (m : Machine) : Type 0 where
+  pub stands : StandsOpen order source given db m
+  pub undamaged : m.damaged ≡ false
 
 -- no snapshot and no iterator is live
 abbrev pub HasNoViews : Machine → Type 0

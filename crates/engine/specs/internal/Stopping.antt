@@ -11,18 +11,18 @@ use Rattle.engine.specs.declared.ids.Ids.{Ids}
 use Rattle.engine.specs.declared.state.DbState.{DbState}
 use Rattle.engine.specs.OpenDb.{OpenDb, open_db}
 use Rattle.engine.specs.internal.Directory.{MeansAccepted}
-use Rattle.engine.specs.internal.Standing.{StandsOpen}
+use Rattle.engine.specs.internal.Standing.{StandsWhole}
 
 -- From each state that it may have been in, not broken: a stop since leaves files of which this is so.
 abbrev pub StopsLent : {S K : Type 0} {g : _} → Order → (S → Facts) → Sources K S → DbState K g → Sources K S → (Machine → Files → Type 0) → Type 0
 StopsLent order facts old before new left =
-    IsTrue (facts new.tables.store).faithful → (ids : Ids) (m : Machine) → StandsOpen order (seen_of facts old) ids (open_db old.memory before) m → before.broken ≡ false
+    IsTrue (facts new.tables.store).faithful → (ids : Ids) (m : Machine) → StandsWhole order (seen_of facts old) ids (open_db old.memory before) m → before.broken ≡ false
     → LeavesOnly (facts old.tables.store) (facts new.tables.store) (left m)
 
 -- From each that it may have been in: a stop since leaves files that stand for what was accepted.
 abbrev pub KeepsOpen : {K : Type 0} {g : _} → Order → Seen → Seen → OpenDb K g → Type 0
 KeepsOpen order old new before =
-    IsTrue new.facts.faithful → (ids : Ids) (m : Machine) → StandsOpen order old ids before m → LeavesOnly old.facts new.facts (λ files. MeansAccepted order files m)
+    IsTrue new.facts.faithful → (ids : Ids) (m : Machine) → StandsWhole order old ids before m → LeavesOnly old.facts new.facts (λ files. MeansAccepted order files m)
 
 -- so of a database to which a session lends what is read
 abbrev pub KeepsLent : {S K : Type 0} {g : _} → Order → (S → Facts) → Sources K S → DbState K g → Sources K S → Type 0

@@ -6,12 +6,12 @@ use Rattle.table_access.specs.Tables.{Seen}
 use Rattle.engine.specs.declared.ids.Ids.{Ids}
 use Rattle.engine.specs.OpenDb.{OpenDb}
 use Rattle.machine.specs.Machine.{Machine}
-use Rattle.engine.specs.internal.Standing.{StandsOpen}
+use Rattle.engine.specs.internal.Standing.{StandsWhole}
 use Rattle.engine.specs.Needed.{HasNeeded, live_sequences}
 
 -- the same of the tables alone, as the end of a job leaves it
 abbrev pub EndsNeeded : {K : Type 0} {g : _} → Order → Seen → Seen → OpenDb K g → OpenDb K g → Type 0
-EndsNeeded order old new before after = IsTrue new.facts.faithful → (ids : Ids) (m : Machine) → StandsOpen order old ids before m → HasNeeded order new.facts.files (live_sequences after)
+EndsNeeded order old new before after = IsTrue new.facts.faithful → (ids : Ids) (m : Machine) → StandsWhole order old ids before m → HasNeeded order new.facts.files (live_sequences after)
 
 -- The job takes all tables of the version into the last level, and keeps what is seen at no other sequences than are read at.
 pub record TakesAll {K : Type 0} {g : _} (db : OpenDb K g) (work : OpenJob K g) : Type 0 where

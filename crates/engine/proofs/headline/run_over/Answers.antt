@@ -1,4 +1,4 @@
-use Rattle.std.proofs.Common.{◌≡◌, IsTrue, Option, Some, None, Result, Ok, Err, OnOk, subst}
+use Rattle.std.proofs.Common.{◌≡◌, ◌∙◌, Bool, true, false, IsTrue, Option, Some, None, Result, Ok, Err, OnOk, sym, subst}
 use Rattle.coding.specs.declared.error.DbError.{DbError}
 use Rattle.ikey.specs.Orders.{Order, order_of}
 use Rattle.store.specs.Files.{Facts}
@@ -6,6 +6,10 @@ use Rattle.engine.specs.OpenDb.{OpenDb}
 use Rattle.engine.specs.Stands.{open_in, store_of}
 use Rattle.engine.specs.Stops.{StopsEach}
 use Rattle.engine.specs.Touching.{CloseTouches}
+use Rattle.engine.specs.Origins.{ComesFrom}
+use Rattle.engine.proofs.Beginnings.{comes_from_itself}
+use Rattle.engine.proofs.Flags.{run_flag}
+use Rattle.engine.proofs.Lasting.{first_itself, last_itself}
 use Rattle.engine.proofs.Stopping.{stops_each}
 use Rattle.engine.proofs.headline.run_over.Goals as goal
 
@@ -16,18 +20,48 @@ on_ok (Err e) f a = a
 pub returns-clause-headline : goal.returns-clause-headline
 returns-clause-headline g c =
     let order : Order = order_of g.K.KeyOrder.name g.K.KeyOrder.cmp in
+    let old = g.S.Store.facts c.args.store in
+    let new = g.S.Store.facts c.into_store.result in
     on_ok c.run-result.result
     (λ run. (
       run.0,
       run.1,
-      λ faithful first is.
-          let before = c.new-session.ensures.stands first (c.starts.ensures order (g.S.Store.facts c.args.store) first is) in
+      λ faithful first is undamaged.
+          let start = c.starts.ensures order old old.files first (comes_from_itself order first.damaged old.files) (first_itself order old first is) in
+          let before = c.new-session.ensures.stands first start in
           let parted = c.into_store.ensures.step in
           let ended = run.3.moved (parted.faithful faithful) first before in
           let last = parted.moved faithful ended.0 ended.2 in
-          (ended.0, ended.1, c.ends.ensures order (g.S.Store.facts c.into_store.result) _ ended.0 last.0 last.1 last.2),
+          let end = c.ends.ensures order new _ ended.0 last.0 last.1 last.2 in
+          let still : ended.0.damaged ≡ false = run_flag order first ended.0 c.args.ops.now run.0 ended.1 ∙ undamaged in
+          (ended.0, ended.1, last_itself order new end.0 ended.0 (end.1.undamaged still) end.2),
     ))
     c.run-result.ensures.run
+
+-- ---- over damaged tables
+
+pub returns-clause-over_damage : goal.returns-clause-over_damage
+returns-clause-over_damage g c =
+    let order : Order = order_of g.K.KeyOrder.name g.K.KeyOrder.cmp in
+    let old = g.S.Store.facts c.args.store in
+    let new = g.S.Store.facts c.into_store.result in
+    on_ok c.run-result.result
+    (λ run. (
+      run.0,
+      run.1,
+      λ faithful ideal from first is damaged.
+          let start = c.starts.ensures order old ideal first (subst (λ (b : Bool). ComesFrom order b old.files ideal) (sym damaged) from) is in
+          let before = c.new-session.ensures.stands first start in
+          let parted = c.into_store.ensures.step in
+          let ended = run.3.moved (parted.faithful faithful) first before in
+          let last = parted.moved faithful ended.0 ended.2 in
+          let end = c.ends.ensures order new _ ended.0 last.0 last.1 last.2 in
+          let still : ended.0.damaged ≡ true = run_flag order first ended.0 c.args.ops.now run.0 ended.1 ∙ damaged in
+          (ended.0, end.0, ended.1, subst (λ (b : Bool). ComesFrom order b new.files end.0) still end.1, end.2),
+    ))
+    c.run-result.ensures.run
+
+-- ---- what a stop leaves
 
 -- a close calls nothing that changes a file
 closes_calls : {K : Type 0} {g : _} (o : Option (OpenDb K g)) (old new : Facts) → CloseTouches o old new → IsTrue new.faithful → (new.calls ≡ old.calls) × (new.files ≡ old.files)
@@ -42,12 +76,14 @@ returns-clause-stops g c =
     (λ each. (
       each.0,
       each.1,
-      λ faithful first is.
-          let before = c.new-session.ensures.stands first (c.starts.ensures order (facts c.args.store) first is) in
+      λ faithful first is undamaged.
+          let files = (facts c.args.store).files in
+          let start = c.starts.ensures order (facts c.args.store) files first (comes_from_itself order first.damaged files) (first_itself order (facts c.args.store) first is) in
+          let before = c.new-session.ensures.stands first start in
           let ended = c.run-result.new.self in
           let between = c.into_store.ensures.step.faithful faithful in
           let closed = closes_calls (open_in ended) (facts (store_of ended)) (facts c.into_store.result) c.into_store.ensures.touches faithful in
           subst (λ (store : _). StopsEach order first (facts store) (facts c.into_store.result) c.args.ops.now each.0) c.new-session.ensures.kept
-          (stops_each order facts c.args.ops.now each.0 c.new-session.result ended (facts c.into_store.result) each.2 between closed.0 closed.1 first before),
+          (stops_each order facts c.args.ops.now each.0 c.new-session.result ended (facts c.into_store.result) each.2 between closed.0 closed.1 first undamaged before),
     ))
     c.run-result.ensures.each

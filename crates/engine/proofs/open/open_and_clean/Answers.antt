@@ -11,7 +11,8 @@ use Rattle.engine.specs.Follows.{Leads, unit_answer}
 use Rattle.engine.specs.OpenDb.{open_db as db_of}
 use Rattle.db_cursor.specs.Whole.{seen_of}
 use Rattle.engine.specs.internal.Resting.{Rests, StandsResult}
-use Rattle.engine.proofs.OpenMachine.{open_refused}
+use Rattle.directory_writes.specs.Differing.{OfEach}
+use Rattle.engine.proofs.OpenMachine.{means_whole, open_refused}
 use Rattle.engine.proofs.Opened.{durable_cleaned, opened_cleaned, spared_cleaned}
 use Rattle.engine.proofs.StopSteps.{opened_keeps}
 use Rattle.engine.proofs.open.open_and_clean.Goals as goal
@@ -99,7 +100,7 @@ returns-then-lacks_memory-clause-step g c ids =
     let first = o.outcome.failures in
     let next = c.clean.ensures.outcome.failures in
     open_refused order {ids = ids} old new c.args.mode OutOfMemory (λ f. (o.step no_ids).faithful (back f)) (omega (arith, first, next)) (c.clean.ensures.outcome.denials ∙ o.outcome.undenied (λ is. cc))
-    (λ f. subst (λ (fs : Files). IsContinued order old.files fs) (sym (c.in-Err.ensures.unlisted f)) (o.continued (back f))) tt (inr (inl refl))
+    (λ f. subst (λ (fs : Files). OfEach (λ whole left. IsContinued order whole left) old.files fs) (sym (c.in-Err.ensures.unlisted f)) (o.continued_each (back f))) tt (inr (inl refl))
 
 pub returns-then-lacks_memory-clause-durable : goal.returns-then-lacks_memory-clause-durable
 returns-then-lacks_memory-clause-durable g c =
@@ -119,7 +120,8 @@ returns-then-lacks_memory-clause-spared g c =
 -- ---- what a stop leaves
 
 pub returns-in_err-state-clause-stops : goal.returns-in_err-state-clause-stops
-returns-in_err-state-clause-stops g c f ids m r = c.in_err-state.ensures.stops f m r.rest.meaning
+returns-in_err-state-clause-stops g c f ids m undamaged r =
+    c.in_err-state.ensures.stops f m (means_whole (order_of g.K.KeyOrder.name g.K.KeyOrder.cmp) (g.S.Store.facts c.args.source.now.tables.store).files m undamaged r.rest)
 
 pub returns-in-Ok-clause-stops : goal.returns-in-Ok-clause-stops
 returns-in-Ok-clause-stops g c =

@@ -10,8 +10,11 @@ use Rattle.engine.specs.Follows.{Leads, unit_answer}
 use Rattle.engine.specs.internal.Resting.{Rests, StandsResult}
 use Rattle.engine.specs.internal.Standing.{StandsClosed}
 use Rattle.opening.specs.Telling.{IsOpenable}
+use Rattle.directory_writes.specs.Differing.{OfEach}
+use Rattle.opening.specs.internal.Durable.{Spares}
 use Rattle.opening.specs.internal.Opening.{IsContinued}
 use Rattle.opening.proofs.BegunSteps.{continued_itself}
+use Rattle.opening.proofs.FoundEach.{unwritten_each}
 use Rattle.engine.proofs.LiveIds.{none_kept}
 use Rattle.engine.proofs.OpenMachine.{open_refused, open_finished, leads_from, sound_empty, nothing_kept}
 use Rattle.engine.proofs.StopSteps.{continued_keeps}
@@ -28,7 +31,7 @@ returns-in_err-begin-clause-step g c ids =
     subst (λ (r : Result (DbState _ _) DbError). Leads old (g.S.Store.facts c.begin.new.self.store) (Rests order old ids)
     (StandsResult order (seen (g.S.Store.facts c.begin.new.self.store) c.begin.new.self.tables c.begin.new.self.blocks) c.args.source.now.memory ids r) (λ m n. Opens m c.args.mode (unit_answer r) n)) (sym is)
     (subst (λ s. Leads old (g.S.Store.facts s) (Rests order old ids) (StandsClosed order (g.S.Store.facts s) ids) (λ m n. Opens m c.args.mode (Refused OutOfMemory) n)) (sym c.in_err-begin.ensures.store)
-    (open_refused order old old c.args.mode OutOfMemory (λ f. f) (omega arith) refl (λ f. continued_itself order old.files) tt (inl (λ f. refl))))
+    (open_refused order old old c.args.mode OutOfMemory (λ f. f) (omega arith) refl (λ f. unwritten_each order old.files old.files refl) tt (inl (λ f. refl))))
 
 pub returns-in_err-begun-clause-step : goal.returns-in_err-begun-clause-step
 returns-in_err-begun-clause-step g c ids =
@@ -42,7 +45,7 @@ returns-in_err-begun-clause-step g c ids =
     subst (λ (r : Result (DbState _ _) DbError). Leads old new (Rests order old ids)
     (StandsResult order (seen new c.begin.new.self.tables c.begin.new.self.blocks) c.args.source.now.memory ids r) (λ m n. Opens m c.args.mode (unit_answer r) n)) (sym is)
     (leads_from order old mid new (StandsClosed order new ids) (λ m n. Opens m c.args.mode (Refused e) n) (ap (λ s. g.S.Store.facts s) c.in_ok-begin.ensures.store)
-    (open_refused order mid new c.args.mode e b.faithful b.outcome.failures b.denials b.continued b.refused b.unwritten))
+    (open_refused order mid new c.args.mode e b.faithful b.outcome.failures b.denials b.continued_each b.refused b.unwritten))
 
 pub returns-clause-step : goal.returns-clause-step
 returns-clause-step g c ids =
@@ -50,7 +53,7 @@ returns-clause-step g c ids =
     let b = c.in_ok-begun.ensures in
     leads_from order (g.S.Store.facts c.args.source.now.tables.store) (g.S.Store.facts c.begin.new.self.store) (g.S.Store.facts c.begin-2.new.store) _ _ (ap (λ s. g.S.Store.facts s) c.in_ok-begin.ensures.store)
     (open_finished order (g.S.Store.facts c.begin.new.self.store) (seen (g.S.Store.facts c.begin-2.new.store) c.begin.new.self.tables c.begin.new.self.blocks) c.args.mode c.in_ok-begun.begun c.new.result c.new-2.result
-    b.faithful b.outcome.failures b.denials b.whole b.begun b.continued
+    b.faithful b.outcome.failures b.denials b.whole b.begun_each b.continued_each
     (sound_empty order.cmp (g.S.Store.facts c.begin-2.new.store) c.begin.new.self.tables.tables c.begin.new.self.blocks.blocks c.empty_is_sound.ensures c.in_ok-begin.ensures.tables c.in_ok-begin.ensures.blocks)
     (nothing_kept (g.S.Store.facts c.begin-2.new.store) c.begin.new.self.tables.tables c.begin.new.self.blocks.blocks c.in_ok-begin.ensures.tables c.in_ok-begin.ensures.blocks)
     b.current b.synced (none_kept c.new.result c.new.ensures.empty) (none_kept c.new-2.result c.new-2.ensures.empty))
@@ -64,6 +67,12 @@ returns-in_err-begin-clause-continued g c = λ f.
     let order = order_of g.K.KeyOrder.name g.K.KeyOrder.cmp in
     let old = g.S.Store.facts c.args.source.now.tables.store in
     subst (λ s. IsContinued order old.files (g.S.Store.facts s).files) (sym c.in_err-begin.ensures.store) (continued_itself order old.files)
+
+pub returns-in_err-begin-clause-continued_each : goal.returns-in_err-begin-clause-continued_each
+returns-in_err-begin-clause-continued_each g c = λ f.
+    let order = order_of g.K.KeyOrder.name g.K.KeyOrder.cmp in
+    let old = g.S.Store.facts c.args.source.now.tables.store in
+    subst (λ s. OfEach (λ whole after. IsContinued order whole after) old.files (g.S.Store.facts s).files) (sym c.in_err-begin.ensures.store) (unwritten_each order old.files old.files refl)
 
 -- ---- what a stop leaves
 
@@ -88,3 +97,9 @@ returns-clause-stops g c f m means =
     let new = g.S.Store.facts c.begin-2.new.store in
     subst (λ s. MeansAccepted order (g.S.Store.facts s).files m → LeavesOnly (g.S.Store.facts s) new (λ files. MeansAccepted order files m)) c.in_ok-begin.ensures.store
     (λ there. continued_keeps order mid new m there (c.in_ok-begun.ensures.stops f)) means
+
+-- ---- what is spared
+
+pub returns-clause-spared : goal.returns-clause-spared
+returns-clause-spared g c = λ f.
+    subst (λ s. Spares (g.S.Store.facts s) (g.S.Store.facts c.begin-2.new.store)) c.in_ok-begin.ensures.store (c.in_ok-begun.ensures.spared f)

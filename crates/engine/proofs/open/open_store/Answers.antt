@@ -82,21 +82,21 @@ returns-in-Err-clause-touches g c =
 -- ---- what a stop leaves
 
 pub returns-in_err-take_lock-clause-stops : goal.returns-in_err-take_lock-clause-stops
-returns-in_err-take_lock-clause-stops g c f ids m s =
-    lock_keeps (order_of g.K.KeyOrder.name g.K.KeyOrder.cmp) (g.S.Store.facts c.args.source.now.tables.store) (g.S.Store.facts c.take_lock.new.store) m c.free_change_law.ensures s (c.in_err-take_lock.ensures.stops f)
+returns-in_err-take_lock-clause-stops g c f ids m undamaged s =
+    lock_keeps (order_of g.K.KeyOrder.name g.K.KeyOrder.cmp) (g.S.Store.facts c.args.source.now.tables.store) (g.S.Store.facts c.take_lock.new.store) m c.free_change_law.ensures undamaged s (c.in_err-take_lock.ensures.stops f)
 
 pub returns-in-Ok-clause-stops : goal.returns-in-Ok-clause-stops
-returns-in-Ok-clause-stops g c f ids m s =
+returns-in-Ok-clause-stops g c f ids m undamaged s =
     let order = order_of g.K.KeyOrder.name g.K.KeyOrder.cmp in
     let old = g.S.Store.facts c.args.source.now.tables.store in
     let mid = g.S.Store.facts c.take_lock.new.store in
     let new = g.S.Store.facts c.open_and_clean.new.source.tables.store in
     let h = (c.in-Ok.ensures.step ids).faithful f in
-    leaves_both old mid new (λ files. MeansAccepted order files m) (lock_keeps order old mid m c.free_change_law.ensures s (c.in_ok-take_lock.ensures.stops h))
-    (c.in-Ok.ensures.stops f ids m (locked order old mid m c.free_change_law.ensures c.in_ok-take_lock.ensures.lock h s))
+    leaves_both old mid new (λ files. MeansAccepted order files m) (lock_keeps order old mid m c.free_change_law.ensures undamaged s (c.in_ok-take_lock.ensures.stops h))
+    (c.in-Ok.ensures.stops f ids m undamaged (locked order old mid m c.free_change_law.ensures c.in_ok-take_lock.ensures.lock h s))
 
 pub returns-in-Err-clause-stops : goal.returns-in-Err-clause-stops
-returns-in-Err-clause-stops g c f ids m s =
+returns-in-Err-clause-stops g c f ids m undamaged s =
     let order = order_of g.K.KeyOrder.name g.K.KeyOrder.cmp in
     let old = g.S.Store.facts c.args.source.now.tables.store in
     let mid = g.S.Store.facts c.take_lock.new.store in
@@ -104,5 +104,5 @@ returns-in-Err-clause-stops g c f ids m s =
     let k = c.unlock.ensures.counts.faithful f in
     let h = (c.in-Err.ensures.step ids).faithful k in
     keeps_behind order old new (g.S.Store.facts c.unlock.new.self) m (c.unlock.ensures.calls f) (c.unlock.ensures.same f)
-    (leaves_both old mid new (λ files. MeansAccepted order files m) (lock_keeps order old mid m c.free_change_law.ensures s (c.in_ok-take_lock.ensures.stops h))
-    (c.in-Err.ensures.stops k ids m (locked order old mid m c.free_change_law.ensures c.in_ok-take_lock.ensures.lock h s)))
+    (leaves_both old mid new (λ files. MeansAccepted order files m) (lock_keeps order old mid m c.free_change_law.ensures undamaged s (c.in_ok-take_lock.ensures.stops h))
+    (c.in-Err.ensures.stops k ids m undamaged (locked order old mid m c.free_change_law.ensures c.in_ok-take_lock.ensures.lock h s)))

@@ -9,5 +9,5 @@ pub returns-clause-breaks : goal.returns-clause-breaks
 returns-clause-breaks g c whole = c.compact_all.ensures.breaks whole
 
 pub returns-clause-stops : goal.returns-clause-stops
-returns-clause-stops g c f m s =
-    stops_keeping (order_of g.K.KeyOrder.name g.K.KeyOrder.cmp) m (g.S.Store.facts c.args.self.now.source.tables.store) (g.S.Store.facts c.compact_all.new.source.tables.store) (c.compact_all.ensures.stops f c.args.self.now.ids m s)
+returns-clause-stops g c f m undamaged s =
+    stops_keeping (order_of g.K.KeyOrder.name g.K.KeyOrder.cmp) m (g.S.Store.facts c.args.self.now.source.tables.store) (g.S.Store.facts c.compact_all.new.source.tables.store) (c.compact_all.ensures.stops f c.args.self.now.ids m (record { stands = s; undamaged = undamaged }))

@@ -1,10 +1,12 @@
-use Rattle.std.proofs.Common.{◌≡◌, Result, Err, subst, sym, rules}
+use Rattle.std.proofs.Common.{◌≡◌, ◌∙◌, Result, Err, subst, sym, rules}
 use Rattle.coding.specs.declared.error.DbError.{DbError}
 use Rattle.ikey.specs.Orders.{order_of}
 use Rattle.engine.specs.Pace.{WritesAtPace}
 use Rattle.engine.specs.StandsDb.{FollowsDb}
 use Rattle.engine.specs.declared.pace.Pace.{Pace}
+use Rattle.engine.proofs.Flags.{writes_flag}
 use Rattle.engine.proofs.PaceSteps.{draws_none}
+use Rattle.machine.specs.declared.command.Answer.TheVariants.{Done}
 use Rattle.engine.proofs.RangeLeads.{leads_as, leads_then}
 use Rattle.store.proofs.Stopping.{leaves_both, leaves_so}
 use Rattle.engine.specs.Headline.{HoldsAccepted}
@@ -27,7 +29,7 @@ pub returns-clause-step : goal.returns-clause-step
 returns-clause-step g c = leads_then (λ m n o h k. (n, h, k)) c.in_ok-write.ensures.step c.keep_up.ensures.step
 
 pub returns-clause-stops : goal.returns-clause-stops
-returns-clause-stops g c f m s =
+returns-clause-stops g c f m undamaged s =
     let order = order_of g.K.KeyOrder.name g.K.KeyOrder.cmp in
     let facts = g.S.Store.facts in
     let old = c.args.self.now in
@@ -35,6 +37,6 @@ returns-clause-stops g c f m s =
     let new = c.keep_up.new.self in
     let between = c.keep_up.ensures.step.faithful f in
     let one = c.in_ok-write.ensures.step.moved between m s in
-    leaves_both (facts (db_store_of old)) (facts (db_store_of mid)) (facts (db_store_of new)) (λ files. LeftByWrite order m c.args.batch.now files) (c.write.ensures.stops between m s)
+    leaves_both (facts (db_store_of old)) (facts (db_store_of mid)) (facts (db_store_of new)) (λ files. LeftByWrite order m c.args.batch.now files) (c.write.ensures.stops between m undamaged s)
     (leaves_so (facts (db_store_of mid)) (facts (db_store_of new)) (λ files. HoldsAccepted order files one.0) (λ files. LeftByWrite order m c.args.batch.now files)
-    (λ files holds. written_back order (seen_by facts old) (db_ids_of old) (open_by old) m one.0 c.args.batch.now s one.1 files holds) (c.keep_up.ensures.stops f one.0 one.2))
+    (λ files holds. written_back order (seen_by facts old) (db_ids_of old) (open_by old) m one.0 c.args.batch.now s one.1 files holds) (c.keep_up.ensures.stops f one.0 (writes_flag m one.0 c.args.batch.now Done one.1 ∙ undamaged) one.2))

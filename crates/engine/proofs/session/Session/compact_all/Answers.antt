@@ -63,7 +63,7 @@ returns-in-Ok-clause-needed g c f m s =
     let before = open_db memory c.in-Some.state in
     let after = open_db c.compact_all.new.source.memory c.compact_all.new.self in
     let left = subst (λ (r : Result _ DbError). OnOk r (LeavesNeeded order old new before after)) c.in-Ok.is c.compact_all.ensures.needed in
-    left f ids m (subst (λ (state : Option (DbState _ _)). StandsOver order old ids (option_map (open_db memory) state) m) c.in-Some.is s)
+    left f ids m (record { stands = subst (λ (state : Option (DbState _ _)). StandsOver order old ids (option_map (open_db memory) state) m) c.in-Some.is s.0; undamaged = s.1 })
 
 pub returns-in-None-clause-breaks : goal.returns-in-None-clause-breaks
 returns-in-None-clause-breaks g c = breaks_none (g.S.Store.facts c.args.self.now.source.tables.store) (g.S.Store.facts c.args.self.now.source.tables.store) (option_map (open_db c.args.self.now.source.memory) c.args.self.now.state) (option_map (open_db c.args.self.now.source.memory) c.args.self.now.state) _ (ap (option_map (open_db c.args.self.now.source.memory)) c.in-None.is)

@@ -35,7 +35,7 @@ returns-in_err-job-clause-step g c ids =
     let e = c.in_err-job.field-0.0 in
     let said : c.from_residual-in_err-job.result ≡ Err e = search rules in
     subst (λ (r : Result (Unit {0}) DbError). LeadsOpen order old new ids (open_db memory state) (open_db after_memory state) (λ m n. IsPiece m 0 r n)) (sym said)
-    (ends_unbegun order (λ scan. scan_kept order.cmp scan) old new ids state memory after_memory c.args.plan c.requires.whole c.requires.none state.version.value.tables refl c.requires.plan c.in_err-job.ensures.leaves e c.in_err-job.ensures.refused)
+    (ends_unbegun order g.met.K.KeyOrder.total g.met.K.KeyOrder.exact (λ scan. scan_kept order.cmp scan) old new ids state memory after_memory c.args.plan c.requires.whole c.requires.none state.version.value.tables refl c.requires.plan c.in_err-job.ensures.leaves e c.in_err-job.ensures.refused)
 
 pub returns-in_err-job-clause-outcome : goal.returns-in_err-job-clause-outcome
 returns-in_err-job-clause-outcome g c =
@@ -60,7 +60,7 @@ returns-clause-step g c ids =
     let j = c.in_ok-job.ensures in
     let kept : work.job.selection.snapshots ≡ c.in_ok-snapshots.snapshots.items = search rules in
     let last : Contains work.job.selection.snapshots memory.last = subst (λ (s : List ℕ). Contains s memory.last) (sym kept) (subst (λ (n : ℕ). Contains c.in_ok-snapshots.snapshots.items n) c.last.ensures.is c.in_ok-snapshots.ensures.last) in
-    ends_begun order (λ scan. scan_kept order.cmp scan) old new ids state memory after_memory c.args.plan c.requires.whole c.requires.none state.version.value.tables refl c.requires.plan j.leaves (tt {0}) work j.begins j.written last
+    ends_begun order g.met.K.KeyOrder.total g.met.K.KeyOrder.exact (λ scan. scan_kept order.cmp scan) old new ids state memory after_memory c.args.plan c.requires.whole c.requires.none state.version.value.tables refl c.requires.plan j.leaves (tt {0}) work j.begins j.may j.plan (ap (λ (p : Placement). p.tables) j.version) j.written last
     (λ id sequence there. subst (λ (s : List ℕ). Contains s sequence) (sym kept) (c.in_ok-snapshots.ensures.live id sequence there))
 
 pub returns-in_err-job-clause-same : goal.returns-in_err-job-clause-same

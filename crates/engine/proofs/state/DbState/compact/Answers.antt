@@ -16,6 +16,7 @@ use Rattle.engine.proofs.JobEnds.{outcome_behind}
 use Rattle.engine.proofs.WorkAnswers.{begun_further, of_some, picked_for, then_piece}
 use Rattle.engine.proofs.WorkEnds.{ends_full, ends_idle}
 use Rattle.engine.proofs.WorkSteps.{piece_done, piece_failed, piece_within}
+use Rattle.engine.proofs.Flags.{piece_flag}
 use Rattle.engine.proofs.WithinBudget.{steps_begun}
 use Rattle.engine.proofs.Breaking.{breaks_then, handed_on, unbroken}
 use Rattle.engine.proofs.StopSteps.{keeps_none, keeps_read, keeps_then}
@@ -115,7 +116,7 @@ returns-clause-few g c worked f =
     let new = seen_of g.S.Store.facts c.step_job.new.source in
     let after = open_db c.step_job.new.source.memory c.step_job.new.self in
     let still = (a.step no_ids).faithful f in
-    steps_begun order c.args.options.now old mid new before between after (max c.args.budget 1) c.in-Some.plan b.step still b.whole b.same.tables (b.files still) c.requires.none b.none b.live (returns-clause-begins g c worked).picked (a.few f) a.merges
+    steps_begun order c.args.options.now old mid new before between after (max c.args.budget 1) c.in-Some.plan b.step (λ m n h. piece_flag m n _ _ h) still b.whole b.same.tables (b.files still) c.requires.none b.none b.live (returns-clause-begins g c worked).picked (a.few f) a.merges
 
 pub returns-in_err-plan-clause-breaks : goal.returns-in_err-plan-clause-breaks
 returns-in_err-plan-clause-breaks g c = unbroken (g.S.Store.facts c.args.source.now.tables.store) (g.S.Store.facts c.args.source.now.tables.store) c.args.self.now.broken c.requires.whole refl

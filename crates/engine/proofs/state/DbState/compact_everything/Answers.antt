@@ -17,6 +17,7 @@ use Rattle.engine.specs.internal.Pieces.{IsPiece, MayRefusePiece}
 use Rattle.engine.proofs.Emptied.{all_last, beyond_most, memory_left, none_there, on_ok}
 use Rattle.engine.proofs.Finishing.{outcome_all, outcome_done, outcome_then, serves_then, stays_done, stays_full, then_bound, within_bound}
 use Rattle.engine.proofs.WorkAnswers.{of_none, of_some}
+use Rattle.engine.proofs.Flags.{piece_flag}
 use Rattle.engine.proofs.NeededEnds.{needed_behind, needed_none}
 use Rattle.engine.proofs.Breaking.{breaks_as, breaks_then, handed_on, unbroken}
 use Rattle.engine.proofs.StopSteps.{keeps_then}
@@ -179,8 +180,8 @@ returns-in_default-clause-needed g c =
     let tables_are : c.deref.result.now.tables ≡ second.tables = ap (λ (p : Placement). p.tables) c.deref.ensures in
     let none = of_none (c.deref.result.now.tables ≡ []) (IsWholePlan c.deref.result.now.tables) c.in_ok-plan.field-0 c.in_default.is c.in_ok-plan.ensures in
     let written = c.in_ok-write_memory.ensures in
-    needed_behind order old mid later before first second c.in_ok-run_job_to_end.ensures.step written.step
-    (needed_behind order mid later later first second second written.step (λ ids. stays_done order later ids second (λ e. 0) (tt {0})) (needed_none order later second written.serves.whole (sym tables_are ∙ none)))
+    needed_behind order old mid later before first second c.in_ok-run_job_to_end.ensures.step (λ m n h. piece_flag m n _ _ h) written.step
+    (needed_behind order mid later later first second second written.step (λ m n h. piece_flag m n _ _ h) (λ ids. stays_done order later ids second (λ e. 0) (tt {0})) (needed_none order later second written.serves.whole (sym tables_are ∙ none)))
 
 pub returns-clause-needed : goal.returns-clause-needed
 returns-clause-needed g c =
@@ -199,7 +200,7 @@ returns-clause-needed g c =
     let written = c.in_ok-write_memory.ensures.step in
     let behind : (ids : Ids) → LeadsOpen order old later ids before second (λ m n. IsPiece m (entry_count m + 0 + 3) (Ok (tt {0})) n) =
     λ ids. then_bound order old mid later ids before first second (λ k. k + 0) (λ k. 3) (tt {0}) (Ok (tt {0})) (c.in_ok-run_job_to_end.ensures.step ids) (written ids) in
-    on_ok c.run_job.result (λ ends. needed_behind order old later new before second after behind c.run_job.ensures.step (ends (subst (λ (ts : List PlacedTable). IsWholePlan ts plan) tables_are planned))) c.run_job.ensures.needed
+    on_ok c.run_job.result (λ ends. needed_behind order old later new before second after behind (λ m n h. piece_flag m n _ _ h) c.run_job.ensures.step (ends (subst (λ (ts : List PlacedTable). IsWholePlan ts plan) tables_are planned))) c.run_job.ensures.needed
 
 pub returns-in_err-run_job_to_end-clause-breaks : goal.returns-in_err-run_job_to_end-clause-breaks
 returns-in_err-run_job_to_end-clause-breaks g c = breaks_as (g.S.Store.facts c.args.source.now.tables.store) (g.S.Store.facts c.run_job_to_end.new.source.tables.store) c.run_job_to_end.new.self.broken (λ is. handed_on c.in_err-run_job_to_end.field-0.0 c.from_residual.result (search rules) is) c.in_err-run_job_to_end.ensures.breaks

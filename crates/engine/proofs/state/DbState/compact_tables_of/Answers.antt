@@ -15,6 +15,7 @@ use Rattle.machine.specs.Upkeep.{most_drawn}
 use Rattle.engine.specs.internal.Pieces.{IsPiece, MayRefusePiece}
 use Rattle.engine.proofs.Emptied.{beyond_most, both_ok, level_emptied, level_moved, level_unmoved, on_ok}
 use Rattle.engine.proofs.Finishing.{outcome_all, outcome_done, outcome_then, stays_full, then_bound, within_bound}
+use Rattle.engine.proofs.Flags.{piece_flag}
 use Rattle.engine.proofs.NeededEnds.{merges_level, merges_none}
 use Rattle.engine.proofs.WorkAnswers.{of_none, of_some}
 use Rattle.engine.proofs.Breaking.{breaks_as, breaks_then, handed_on, serves_breaks}
@@ -163,7 +164,7 @@ returns-in_default-clause-merges g c =
     let before = open_db c.args.source.now.memory c.args.self.now in
     let between = open_db c.run_job_to_end.new.source.memory c.run_job_to_end.new.self in
     let r = c.in_ok-run_job_to_end.ensures in
-    merges_none order c.args.level old mid before between r.step r.merges (returns-in_default-clause-emptied g c)
+    merges_none order c.args.level old mid before between r.step (λ m n h. piece_flag m n _ _ h) r.merges (returns-in_default-clause-emptied g c)
 
 pub returns-clause-merges : goal.returns-clause-merges
 returns-clause-merges g c =
@@ -180,7 +181,7 @@ returns-clause-merges g c =
     let tables_are : c.deref.result.now.tables ≡ between.tables = ap (λ (p : Placement). p.tables) c.deref.ensures in
     let planned = of_some (tables_at level c.deref.result.now.tables ≡ []) (IsLevelPlan cmp c.deref.result.now.tables level) c.in_ok-plan.field-0 plan c.in-Some.is c.in_ok-plan.ensures in
     let r = c.in_ok-run_job_to_end.ensures in
-    on_ok c.run_job.result (λ merges. merges_level order level old mid new before between after plan r.step c.run_job.ensures.step r.merges (subst (λ (ts : List PlacedTable). IsLevelPlan cmp ts level plan) tables_are planned) merges) c.run_job.ensures.merges
+    on_ok c.run_job.result (λ merges. merges_level order level old mid new before between after plan r.step (λ m n h. piece_flag m n _ _ h) c.run_job.ensures.step r.merges (subst (λ (ts : List PlacedTable). IsLevelPlan cmp ts level plan) tables_are planned) merges) c.run_job.ensures.merges
 
 pub returns-clause-memory : goal.returns-clause-memory
 returns-clause-memory g c = left_onward c.args.source.now.memory c.run_job_to_end.new.source.memory c.run_job.new.source.memory c.in_ok-run_job_to_end.ensures.memory c.run_job.ensures.memory

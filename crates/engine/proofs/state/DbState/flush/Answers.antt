@@ -13,7 +13,8 @@ use Rattle.db_cursor.specs.Whole.{seen_of}
 use Rattle.engine.specs.Stands.{no_ids}
 use Rattle.engine.specs.internal.Pieces.{IsPiece, MayRefusePiece, flush_answer, settled_as}
 use Rattle.engine.specs.WrittenTables.{PutsSealed}
-use Rattle.engine.proofs.FlushEnds.{can, ends_flushed, ends_let_go, ends_unflushed, no_entries, table_put, flush_keeps}
+use Rattle.directory_writes.proofs.SameChanges.{free_each}
+use Rattle.engine.proofs.FlushEnds.{leaves_behind, ends_flushed, ends_let_go, ends_unflushed, no_entries, table_put, flush_keeps}
 use Rattle.std.specs.Bool.{nat_eq}
 use Rattle.engine.proofs.Breaking.{settles_broken, shows, flush_io, rose_all, some_as, IsIo, as_unwritten, breaks_settled, outcome_settles_broken, unbroken, unflushed_outcome}
 use Rattle.engine.specs.Breaking.{BreaksExactly}
@@ -45,17 +46,15 @@ returns-in-Ok-clause-step g c ids =
     subst (λ (mem : Memories). LeadsOpen order source (record source { facts = facts }) ids (open_db memory state) (open_db mem c.take_flushed.new.self) (λ m n. IsPiece m 1 (Ok (tt {0})) n)) (sym c.flushed-in-Ok.ensures)
     (ends_flushed order (λ scan. scan_kept order.cmp scan) c.one_directory.ensures c.sound_lasts.ensures c.same_view.ensures c.changes_are_kept.ensures.flushed source facts ids state memory numbers plan entries
     c.requires.whole ensures.call ensures.drawn refl refl c.last-last_sequence.ensures.is (ap inserts_of c.in-Some.ensures) flushed.manifest_end flushed.version c.take_flushed.new.self.log.front c.take_flushed.new.self c.take_flushed.ensures.state ensures.version.2.in_order
-    (λ f m serving.
-    ensures.leaves f serving.log.directory.directory serving.log.logs.sealed serving.log.logs.current
-    (can order (λ scan. scan_kept order.cmp scan) c.one_directory.ensures c.sound_lasts.ensures c.same_view.ensures c.changes_are_kept.ensures.flushed source facts ids state memory numbers plan entries
-    c.requires.whole ensures.call ensures.drawn refl refl c.last-last_sequence.ensures.is (ap inserts_of c.in-Some.ensures) m serving))
+    (leaves_behind order (λ scan. scan_kept order.cmp scan) c.one_directory.ensures c.sound_lasts.ensures c.same_view.ensures c.changes_are_kept.ensures.flushed source facts ids state memory numbers plan entries
+    c.requires.whole ensures.call ensures.drawn refl refl c.last-last_sequence.ensures.is (ap inserts_of c.in-Some.ensures) state.version.value.tables (Ok flushed) refl ensures.leaves_each)
     (λ f m serving.
     let version = ensures.version in
     let drawn = drawn_some source.facts facts state.directory.numbers.next numbers.next version.1 ensures.drawn in
     flushed_synced source.facts facts state.log (record state.log { front = c.take_flushed.new.self.log.front }) state.directory numbers flushed.manifest_end state.version.value.tables flushed.version.value.tables version.2.table
     refl refl c.take_flushed.ensures.front version.1 drawn.0 drawn.1 version.2.number_is version.2.lists
     (λ q table manifest. (ensures.call.others f q table manifest, ensures.call.synced f q table manifest)) (ensures.syncs.table f) (ensures.syncs.manifest f)
-    (no_old_table order source.facts.files state.directory.numbers.next serving.log.knows.free drawn.0 drawn.1) serving.synced))
+    (no_old_table order source.facts.files state.directory.numbers.next ((free_each order source.facts.files serving.ideal state.directory.numbers.next serving.origin.differs).1 serving.log.knows.free) drawn.0 drawn.1) serving.synced))
 
 pub returns-then-is_empty-clause-puts : goal.returns-then-is_empty-clause-puts
 returns-then-is_empty-clause-puts g c f ids m s =
@@ -76,10 +75,7 @@ returns-in-Ok-clause-puts g c =
     subst (λ (mem : Memories). PutsSealed order source (record source { facts = facts }) (open_db memory state) (open_db mem c.take_flushed.new.self)) (sym c.flushed-in-Ok.ensures)
     (table_put order (λ scan. scan_kept order.cmp scan) c.one_directory.ensures c.sound_lasts.ensures c.same_view.ensures c.changes_are_kept.ensures.flushed source facts no_ids state memory numbers plan entries
     c.requires.whole ensures.call ensures.drawn refl refl c.last-last_sequence.ensures.is (ap inserts_of c.in-Some.ensures) flushed.manifest_end flushed.version c.take_flushed.new.self.log.front c.take_flushed.new.self c.take_flushed.ensures.state
-    (λ f m serving.
-    ensures.leaves f serving.log.directory.directory serving.log.logs.sealed serving.log.logs.current
-    (can order (λ scan. scan_kept order.cmp scan) c.one_directory.ensures c.sound_lasts.ensures c.same_view.ensures c.changes_are_kept.ensures.flushed source facts no_ids state memory numbers plan entries
-    c.requires.whole ensures.call ensures.drawn refl refl c.last-last_sequence.ensures.is (ap inserts_of c.in-Some.ensures) m serving)))
+    ensures.leaves)
 
 pub returns-in-Err-clause-step : goal.returns-in-Err-clause-step
 returns-in-Err-clause-step g c ids =
@@ -105,7 +101,7 @@ returns-in-Err-clause-step g c ids =
     (λ io. shows source.facts facts failed is ensures.fails (flush_io source.facts facts _ _ _ _ e ensures.refused io) b refl)
     (rose_all source.facts facts failed is (some_as source.facts facts ensures.call.failures ensures.fails))
     (ends_unflushed order (λ scan. scan_kept order.cmp scan) c.one_directory.ensures c.sound_lasts.ensures c.same_view.ensures law source facts ids state memory numbers plan entries
-    c.requires.whole ensures.call ensures.drawn refl refl c.last-last_sequence.ensures.is (ap inserts_of c.in-Some.ensures) c.deref.result.now.tables (ap (λ (p : Placement). p.tables) c.deref.ensures) e ensures.refused ensures.leaves ensures.spares)))
+    c.requires.whole ensures.call ensures.drawn refl refl c.last-last_sequence.ensures.is (ap inserts_of c.in-Some.ensures) c.deref.result.now.tables (ap (λ (p : Placement). p.tables) c.deref.ensures) e ensures.refused ensures.leaves_each ensures.spares)))
 
 pub returns-in-Err-clause-outcome : goal.returns-in-Err-clause-outcome
 returns-in-Err-clause-outcome g c =

@@ -8,7 +8,7 @@ use Rattle.ikey.specs.Orders.{order_of}
 use Rattle.ikey.specs.Sources.{IsAnswer}
 use Rattle.cursor.specs.Moves.{Refuses}
 use Rattle.memtables.specs.Memories.{logged_in}
-use Rattle.version_get.specs.Gets.{HasNoTablesOf, IsOneTooLong, SaysOfAll}
+use Rattle.version_get.specs.Gets.{HasNoTablesOf, IsOneTooLong, SaysOfEach}
 use Rattle.db_cursor.proofs.ScanSteps.{scan_kept}
 use Rattle.table_access.specs.Tables.{seen}
 use Rattle.versions.specs.Levels.{HasNumber}
@@ -23,8 +23,7 @@ use Rattle.engine.specs.internal.Gathering.{Gathers}
 use Rattle.engine.specs.Outcomes.{DbOutcome, MayRefuseGet}
 use Rattle.engine.specs.Reads.{sequence_at}
 use Rattle.engine.proofs.Getting.{gathers_of, found_at, missing_at, tables_read, tables_failed, reads_itself, reads_leave, caused_ok, caused_err, outcome_ok, outcome_err, reads_seen, reads_nothing, reads_behind, none_of}
-use Rattle.engine.proofs.Steps.{same_counts, got_broken, got_unseen, got_value, got_refused, memory_value, no_tables_value}
-use Rattle.engine.proofs.WriteSteps.{stays_open}
+use Rattle.engine.proofs.Steps.{same_counts, stays_open, got_broken, got_unseen, got_value, got_refused, memory_value, no_tables_value}
 use Rattle.engine.proofs.state.DbState.get.Goals as goal
 
 pub returns-then-self-clause-step : goal.returns-then-self-clause-step
@@ -161,10 +160,10 @@ returns-in-Some-2-clause-step g c ids =
     let at = found_at (sequence_at db c.args.snapshot) c.in_ok-sequence.sequence c.in_ok-sequence.ensures in
     let unseen : IsAnswer (logged_in db.memory) c.in_ok-sequence.sequence c.args.key.now None =
     subst (λ (o : Option (Option (List ℕ))). IsAnswer (logged_in db.memory) c.in_ok-sequence.sequence c.args.key.now o) c.in_default.is c.in_ok-value.ensures in
-    let says = subst (λ (v : Placement). SaysOfAll order source new v.tables c.args.key.now c.at_most-below.result c.in_ok-value-2.field-0) c.deref-2.ensures c.in_ok-value-2.ensures.found in
+    let says = subst (λ (v : Placement). SaysOfEach order source new v.tables c.args.key.now c.at_most-below.result c.in_ok-value-2.field-0) c.deref-2.ensures c.in_ok-value-2.ensures.may in
     tables_read order (λ scan. scan_kept order.cmp scan) c.version_of_directory.ensures g.met.K.KeyOrder.total g.met.K.KeyOrder.exact source new ids db c.args.key.now c.args.snapshot c.in_ok-sequence.sequence c.at_most-below.result
     c.if-self.false at (λ below. c.at_most-below.ensures.kept (omega (arith, below, c.last.ensures.is))) c.value_in_tables.ensures.carries (gathers_of db source new (subst (λ (v : Placement). Gathers (λ number. HasNumber number v.tables) source new) c.deref-2.ensures c.value_in_tables.ensures.carries.gathered))
-    c.newest_in_front.ensures c.unseen_in_front.ensures c.same_view.ensures unseen (Some c.in-Some-2.value) (subst (λ (o : Option (Option (List ℕ))). SaysOfAll order source new db.tables c.args.key.now c.at_most-below.result o) c.in-Some-2.is says)
+    c.newest_in_front.ensures c.unseen_in_front.ensures c.same_view.ensures unseen (Some c.in-Some-2.value) (subst (λ (o : Option (Option (List ℕ))). SaysOfEach order source new db.tables c.args.key.now c.at_most-below.result o) c.in-Some-2.is says)
 
 pub returns-in-Some-2-clause-outcome : goal.returns-in-Some-2-clause-outcome
 returns-in-Some-2-clause-outcome g c =
@@ -199,10 +198,10 @@ returns-in-None-clause-step g c ids =
     let at = found_at (sequence_at db c.args.snapshot) c.in_ok-sequence.sequence c.in_ok-sequence.ensures in
     let unseen : IsAnswer (logged_in db.memory) c.in_ok-sequence.sequence c.args.key.now None =
     subst (λ (o : Option (Option (List ℕ))). IsAnswer (logged_in db.memory) c.in_ok-sequence.sequence c.args.key.now o) c.in_default.is c.in_ok-value.ensures in
-    let says = subst (λ (v : Placement). SaysOfAll order source new v.tables c.args.key.now c.at_most-below.result c.in_ok-value-2.field-0) c.deref-2.ensures c.in_ok-value-2.ensures.found in
+    let says = subst (λ (v : Placement). SaysOfEach order source new v.tables c.args.key.now c.at_most-below.result c.in_ok-value-2.field-0) c.deref-2.ensures c.in_ok-value-2.ensures.may in
     tables_read order (λ scan. scan_kept order.cmp scan) c.version_of_directory.ensures g.met.K.KeyOrder.total g.met.K.KeyOrder.exact source new ids db c.args.key.now c.args.snapshot c.in_ok-sequence.sequence c.at_most-below.result
     c.if-self.false at (λ below. c.at_most-below.ensures.kept (omega (arith, below, c.last.ensures.is))) c.value_in_tables.ensures.carries (gathers_of db source new (subst (λ (v : Placement). Gathers (λ number. HasNumber number v.tables) source new) c.deref-2.ensures c.value_in_tables.ensures.carries.gathered))
-    c.newest_in_front.ensures c.unseen_in_front.ensures c.same_view.ensures unseen None (subst (λ (o : Option (Option (List ℕ))). SaysOfAll order source new db.tables c.args.key.now c.at_most-below.result o) c.in-None.is says)
+    c.newest_in_front.ensures c.unseen_in_front.ensures c.same_view.ensures unseen None (subst (λ (o : Option (Option (List ℕ))). SaysOfEach order source new db.tables c.args.key.now c.at_most-below.result o) c.in-None.is says)
 
 pub returns-in-None-clause-outcome : goal.returns-in-None-clause-outcome
 returns-in-None-clause-outcome g c =

@@ -10,6 +10,7 @@ use Rattle.db_cursor.specs.Whole.{seen_of}
 use Rattle.engine.specs.internal.Pieces.{MayRefusePiece}
 use Rattle.engine.proofs.Emptied.{done_of, on_ok}
 use Rattle.engine.proofs.Finishing.{outcome_of, outcome_then, serves_begun, then_bound, within_bound}
+use Rattle.engine.proofs.Flags.{piece_flag}
 use Rattle.engine.proofs.NeededEnds.{merges_plan, needed_behind}
 use Rattle.engine.proofs.Breaking.{breaks_then, unbroken}
 use Rattle.engine.proofs.StopSteps.{keeps_read, keeps_then}
@@ -83,7 +84,7 @@ returns-clause-needed g c =
     let new = seen_of g.S.Store.facts c.run_job_to_end.new.source in
     let after = open_db c.run_job_to_end.new.source.memory c.run_job_to_end.new.self in
     let b = c.in_ok-begin_job.ensures in
-    on_ok c.run_job_to_end.result (λ ends whole. needed_behind order old mid new before between after b.step c.run_job_to_end.ensures.step (ends (b.all whole))) c.run_job_to_end.ensures.needed
+    on_ok c.run_job_to_end.result (λ ends whole. needed_behind order old mid new before between after b.step (λ m n h. piece_flag m n _ _ h) c.run_job_to_end.ensures.step (ends (b.all whole))) c.run_job_to_end.ensures.needed
 
 pub returns-clause-merges : goal.returns-clause-merges
 returns-clause-merges g c =
@@ -96,7 +97,7 @@ returns-clause-merges g c =
     let after = open_db c.run_job_to_end.new.source.memory c.run_job_to_end.new.self in
     let b = c.in_ok-begin_job.ensures in
     let r = c.run_job_to_end.ensures in
-    on_ok c.run_job_to_end.result (λ merges. merges_plan order c.args.plan old mid new before between after b.step r.step b.same.tables b.begun b.none b.live merges) r.merges
+    on_ok c.run_job_to_end.result (λ merges. merges_plan order c.args.plan old mid new before between after b.step (λ m n h. piece_flag m n _ _ h) r.step b.same.tables b.begun b.none b.live merges) r.merges
 
 pub returns-in_err-begin_job-clause-breaks : goal.returns-in_err-begin_job-clause-breaks
 returns-in_err-begin_job-clause-breaks g c = unbroken (g.S.Store.facts c.args.source.now.tables.store) (g.S.Store.facts c.begin_job.new.source.tables.store) c.begin_job.new.self.broken c.in_err-begin_job.ensures.whole c.in_err-begin_job.ensures.fails

@@ -2,7 +2,8 @@ use Rattle.std.proofs.Common.{◌≡◌, ◌≤◌, ◌+◌, ◌∷◌, ℕ, Boo
 use Rattle.coding.specs.declared.error.DbError.{DbError}
 use Rattle.ikey.specs.Orders.{order_of}
 use Rattle.running_job.specs.declared.open_job.OpenJob.{OpenJob}
-use Rattle.running_job.specs.internal.Ending.{EndLeaves, EndMayLeave}
+use Rattle.running_job.specs.internal.Ending.{EndLeavesOver, EndMayLeave, EndPutsOwn}
+use Rattle.directory_writes.specs.Differing.{OfEach}
 use Rattle.db_cursor.proofs.ScanSteps.{scan_kept}
 use Rattle.std.specs.Map.{values_of}
 use Rattle.edits.specs.declared.field.PlacedTable.{PlacedTable}
@@ -50,7 +51,7 @@ returns-in-Err-clause-step g c ids =
     (settles order old new ids (open_db c.args.source.now.memory state) c.step-stepped.new.source.memory given (max c.args.budget 1) c.in-Err.error b
     (rose_all old.facts new.facts failed c.write_failures-failed.ensures s.touches.writes.writes)
     (ends_stopped order g.met.K.KeyOrder.total (λ scan. scan_kept order.cmp scan) c.one_directory.ensures c.sound_lasts.ensures old new ids state c.args.source.now.memory c.step-stepped.new.source.memory c.step-stepped.new.numbers (max c.args.budget 1) c.in-Some.running c.step-stepped.new.self is c.requires.whole
-    s.numbers s.drawn s.touches s.keeps c.in-Err.error s.refused)))
+    s.numbers s.drawn s.touches s.sound c.in-Err.error s.refused)))
 
 pub returns-in-Err-clause-outcome : goal.returns-in-Err-clause-outcome
 returns-in-Err-clause-outcome g c =
@@ -77,7 +78,7 @@ returns-then-not-progress-clause-step g c ids =
     let s = c.in-Ok.ensures in
     let is : state.job ≡ Some c.in-Some.running = search rules in
     ends_gone_on order g.met.K.KeyOrder.total (λ scan. scan_kept order.cmp scan) c.one_directory.ensures c.sound_lasts.ensures old new ids state c.args.source.now.memory c.step-stepped.new.source.memory c.step-stepped.new.numbers (max c.args.budget 1) c.in-Some.running c.step-stepped.new.self is c.requires.whole
-    s.numbers s.drawn s.touches s.keeps c.args.budget c.in-Ok.progress s.goes_on s.snapshots s.owns _
+    s.numbers s.drawn s.touches s.sound c.args.budget c.in-Ok.progress s.goes_on s.may s.plan s.version s.snapshots s.owns _
 
 pub returns-then-not-progress-clause-on : goal.returns-then-not-progress-clause-on
 returns-then-not-progress-clause-on g c =
@@ -126,7 +127,7 @@ returns-then-not-progress-clause-beside g c said f =
     let s = c.in-Ok.ensures in
     let is : state.job ≡ Some c.in-Some.running = search rules in
     steps_beside order g.met.K.KeyOrder.total (λ scan. scan_kept order.cmp scan) c.one_directory.ensures c.sound_lasts.ensures old new no_ids state c.args.source.now.memory c.step-stepped.new.source.memory c.step-stepped.new.numbers (max c.args.budget 1) c.in-Some.running c.step-stepped.new.self is c.requires.whole
-    s.numbers s.drawn s.touches s.keeps f
+    s.numbers s.drawn s.touches s.sound f
 
 pub returns-in-Ok-install-clause-step : goal.returns-in-Ok-install-clause-step
 returns-in-Ok-install-clause-step g c ids =
@@ -151,8 +152,8 @@ returns-in-Ok-install-clause-step g c ids =
     let taken : c.take_installed.new.self ≡ after c.take.new.self = c.take_installed.ensures in
     subst (λ (t : DbState g.row.K.Denot g.K.KeyOrder). LeadsOpen order old (record new { facts = facts }) ids (open_db memory state) (open_db after_memory t) (λ m n. IsPiece m most (Ok true) n)) (sym (taken ∙ ap after none))
     (ends_installed order g.met.K.KeyOrder.total (λ scan. scan_kept order.cmp scan) c.one_directory.ensures c.sound_lasts.ensures old new ids state memory after_memory numbers most c.in-Some.running c.step-stepped.new.self is c.requires.whole
-    s.numbers s.drawn s.touches s.keeps c.args.budget c.in-Ok.progress s.goes_on s.snapshots s.owns facts ended c.last-last_sequence.result c.last-last_sequence.ensures.is c.deref.result.now.tables (ap (λ (p : Placement). p.tables) c.deref.ensures) (Ok installed)
-    i.call i.leaves true installed refl i.version.in_order i.synced i.keeps)
+    s.numbers s.drawn s.touches s.sound c.args.budget c.in-Ok.progress s.goes_on s.may s.plan s.version s.snapshots s.owns facts ended c.last-last_sequence.result c.last-last_sequence.ensures.is c.deref.result.now.tables (ap (λ (p : Placement). p.tables) c.deref.ensures) (Ok installed)
+    i.call i.leaves_each true installed refl i.version.in_order i.synced i.keeps i.version.tables)
 
 pub returns-in-Ok-install-clause-on : goal.returns-in-Ok-install-clause-on
 returns-in-Ok-install-clause-on g c =
@@ -221,8 +222,8 @@ returns-in-Ok-install-clause-come g c said ids =
     let taken : c.take_installed.new.self ≡ after c.take.new.self = c.take_installed.ensures in
     subst (λ (t : DbState g.row.K.Denot g.K.KeyOrder). LeadsOpen order old (record new { facts = facts }) ids (open_db memory state) (open_db after_memory t) (λ m n. HasCome c.args.budget (open_db memory state) m (Ok true) n)) (sym (taken ∙ ap after none))
     (ends_counted order g.met.K.KeyOrder.total (λ scan. scan_kept order.cmp scan) c.one_directory.ensures c.sound_lasts.ensures old new ids state memory after_memory numbers most c.in-Some.running c.step-stepped.new.self is c.requires.whole
-    s.numbers upto s.touches s.keeps c.args.budget progress s.goes_on s.snapshots s.owns facts ended c.last-last_sequence.result c.last-last_sequence.ensures.is c.deref.result.now.tables (ap (λ (p : Placement). p.tables) c.deref.ensures) (Ok installed)
-    i.call i.leaves no_more s.merged no_fewer true installed refl i.version.in_order i.synced i.keeps)
+    s.numbers upto s.touches s.sound c.args.budget progress s.goes_on s.may s.plan s.version s.snapshots s.owns facts ended c.last-last_sequence.result c.last-last_sequence.ensures.is c.deref.result.now.tables (ap (λ (p : Placement). p.tables) c.deref.ensures) (Ok installed)
+    i.call i.leaves_each no_more s.merged no_fewer true installed refl i.version.in_order i.synced i.keeps i.version.tables)
 
 pub returns-in-Ok-install-clause-needed : goal.returns-in-Ok-install-clause-needed
 returns-in-Ok-install-clause-needed g c said takes =
@@ -247,8 +248,8 @@ returns-in-Ok-install-clause-needed g c said takes =
     let taken : c.take_installed.new.self ≡ after c.take.new.self = c.take_installed.ensures in
     subst (λ (t : DbState g.row.K.Denot g.K.KeyOrder). EndsNeeded order old (record new { facts = facts }) (open_db memory state) (open_db after_memory t)) (sym (taken ∙ ap after none))
     (ends_needed order g.met.K.KeyOrder.total (λ scan. scan_kept order.cmp scan) c.one_directory.ensures c.sound_lasts.ensures old new no_ids state memory after_memory numbers most c.in-Some.running c.step-stepped.new.self is c.requires.whole
-    s.numbers s.drawn s.touches s.keeps c.args.budget c.in-Ok.progress s.goes_on s.snapshots s.owns facts ended c.last-last_sequence.result c.last-last_sequence.ensures.is c.deref.result.now.tables (ap (λ (p : Placement). p.tables) c.deref.ensures) (Ok installed)
-    i.call i.leaves installed refl s.plan s.version (taking (open_db memory state) c.in-Some.running is takes))
+    s.numbers s.drawn s.touches s.sound c.args.budget c.in-Ok.progress s.goes_on s.may s.plan s.version s.snapshots s.owns facts ended c.last-last_sequence.result c.last-last_sequence.ensures.is c.deref.result.now.tables (ap (λ (p : Placement). p.tables) c.deref.ensures) (Ok installed)
+    i.call i.leaves_each installed refl (taking (open_db memory state) c.in-Some.running is takes))
 
 pub returns-in-Ok-install-clause-few : goal.returns-in-Ok-install-clause-few
 returns-in-Ok-install-clause-few g c f =
@@ -290,8 +291,8 @@ returns-in-Ok-install-clause-merges g c gone =
     let taken : c.take_installed.new.self ≡ after c.take.new.self = c.take_installed.ensures in
     subst (λ (t : DbState g.row.K.Denot g.K.KeyOrder). PutsMerged order old (record new { facts = facts }) (open_db memory state) (open_db after_memory t)) (sym (taken ∙ ap after none))
     (ends_merged order g.met.K.KeyOrder.total (λ scan. scan_kept order.cmp scan) c.one_directory.ensures c.sound_lasts.ensures old new no_ids state memory after_memory numbers most c.in-Some.running c.step-stepped.new.self is c.requires.whole
-    s.numbers s.drawn s.touches s.keeps c.args.budget c.in-Ok.progress s.goes_on s.snapshots s.owns facts ended c.last-last_sequence.result c.last-last_sequence.ensures.is c.deref.result.now.tables (ap (λ (p : Placement). p.tables) c.deref.ensures) (Ok installed)
-    i.call i.leaves installed refl s.plan s.version)
+    s.numbers s.drawn s.touches s.sound c.args.budget c.in-Ok.progress s.goes_on s.may s.plan s.version s.snapshots s.owns facts ended c.last-last_sequence.result c.last-last_sequence.ensures.is c.deref.result.now.tables (ap (λ (p : Placement). p.tables) c.deref.ensures) (Ok installed)
+    i.call i.leaves_each installed refl)
 
 pub returns-in-Err-install-clause-step : goal.returns-in-Err-install-clause-step
 returns-in-Err-install-clause-step g c ids =
@@ -308,7 +309,8 @@ returns-in-Err-install-clause-step g c ids =
     let taken_out : c.in-Some-take.job ≡ c.step-stepped.new.self = search rules in
     let i = rw taken_out at c.in-Err-install.ensures in
     let e = c.in-Err-install.error in
-    let leaves = subst (λ (w : OpenJob g.row.K.Denot g.K.KeyOrder). EndLeaves order new.facts facts numbers.next c.last-last_sequence.result state.directory.manifest c.deref.result.now.tables w (Err e)) taken_out c.in-Err-install.ensures.leaves in
+    let leaves = subst (λ (w : OpenJob g.row.K.Denot g.K.KeyOrder). OfEach (λ ideal final. EndLeavesOver order new.facts facts ideal final numbers.next c.last-last_sequence.result state.directory.manifest c.deref.result.now.tables w (Err e)) new.facts.files facts.files) taken_out c.in-Err-install.ensures.leaves_each in
+    let put = subst (λ (w : OpenJob g.row.K.Denot g.K.KeyOrder). OfEach (λ ideal final. EndPutsOwn order new.facts facts ideal final numbers.next c.last-last_sequence.result state.directory.manifest c.deref.result.now.tables w (Err e)) new.facts.files facts.files) taken_out c.in-Err-install.ensures.owns_each in
     let spares = subst (λ (w : OpenJob g.row.K.Denot g.K.KeyOrder). SparesManifest {T = Installed g.row.K.Denot} new.facts facts (string_bytes state.directory.manifest.name) (IsTableName (IsNumberAtHand w.job.outputs)) (Err e)) taken_out c.in-Err-install.ensures.spares in
     let is : state.job ≡ Some c.in-Some.running = search rules in
     let none : c.take.new.self ≡ None = search rules in
@@ -327,8 +329,8 @@ returns-in-Err-install-clause-step g c ids =
     (λ io. shows new.facts facts failed is_mid i.fails (end_io order new.facts facts _ _ _ _ _ e i.refused io) b refl)
     (rose_all old.facts facts failed is_old (some_behind old.facts new.facts facts still s.stood (some_as new.facts facts i.call.failures i.fails)))
     (ends_unended order g.met.K.KeyOrder.total (λ scan. scan_kept order.cmp scan) c.one_directory.ensures c.sound_lasts.ensures old new ids state memory after_memory numbers most c.in-Some.running c.step-stepped.new.self is c.requires.whole
-    s.numbers s.drawn s.touches s.keeps c.args.budget c.in-Ok.progress s.goes_on s.snapshots s.owns facts ended c.last-last_sequence.result c.last-last_sequence.ensures.is c.deref.result.now.tables (ap (λ (p : Placement). p.tables) c.deref.ensures) (Err e)
-    i.call leaves e refl i.refused spares))))
+    s.numbers s.drawn s.touches s.sound c.args.budget c.in-Ok.progress s.goes_on s.may s.plan s.version s.snapshots s.owns facts ended c.last-last_sequence.result c.last-last_sequence.ensures.is c.deref.result.now.tables (ap (λ (p : Placement). p.tables) c.deref.ensures) (Err e)
+    i.call leaves e refl i.refused put spares))))
 
 pub returns-in-Err-install-clause-outcome : goal.returns-in-Err-install-clause-outcome
 returns-in-Err-install-clause-outcome g c =
@@ -414,7 +416,7 @@ returns-in-Err-clause-stops g c =
     let s = c.in-Err.ensures in
     let is : state.job ≡ Some c.in-Some.running = search rules in
     step_keeps order g.met.K.KeyOrder.total (λ scan. scan_kept order.cmp scan) c.one_directory.ensures c.sound_lasts.ensures old new no_ids state c.args.source.now.memory c.step-stepped.new.source.memory c.step-stepped.new.numbers (max c.args.budget 1) c.in-Some.running c.step-stepped.new.self is c.requires.whole
-    s.numbers s.drawn s.touches s.keeps s.stops
+    s.numbers s.drawn s.touches s.sound s.stops
 
 pub returns-then-not-progress-clause-stops : goal.returns-then-not-progress-clause-stops
 returns-then-not-progress-clause-stops g c =
@@ -425,7 +427,7 @@ returns-then-not-progress-clause-stops g c =
     let s = c.in-Ok.ensures in
     let is : state.job ≡ Some c.in-Some.running = search rules in
     step_keeps order g.met.K.KeyOrder.total (λ scan. scan_kept order.cmp scan) c.one_directory.ensures c.sound_lasts.ensures old new no_ids state c.args.source.now.memory c.step-stepped.new.source.memory c.step-stepped.new.numbers (max c.args.budget 1) c.in-Some.running c.step-stepped.new.self is c.requires.whole
-    s.numbers s.drawn s.touches s.keeps s.stops
+    s.numbers s.drawn s.touches s.sound s.stops
 
 pub returns-in-Ok-install-clause-stops : goal.returns-in-Ok-install-clause-stops
 returns-in-Ok-install-clause-stops g c =
@@ -439,12 +441,12 @@ returns-in-Ok-install-clause-stops g c =
     let taken_out : c.in-Some-take.job ≡ c.step-stepped.new.self = search rules in
     let i = rw taken_out at c.in-Ok-install.ensures in
     let r = (Ok c.in-Ok-install.installed) in
-    let leaves = subst (λ (w : OpenJob g.row.K.Denot g.K.KeyOrder). EndLeaves order new.facts facts numbers.next c.last-last_sequence.result state.directory.manifest c.deref.result.now.tables w r) taken_out c.in-Ok-install.ensures.leaves in
+    let leaves = subst (λ (w : OpenJob g.row.K.Denot g.K.KeyOrder). OfEach (λ ideal final. EndLeavesOver order new.facts facts ideal final numbers.next c.last-last_sequence.result state.directory.manifest c.deref.result.now.tables w r) new.facts.files facts.files) taken_out c.in-Ok-install.ensures.leaves_each in
     let stops = λ (f : IsTrue facts.faithful). subst (λ (w : OpenJob g.row.K.Denot g.K.KeyOrder). LeavesOnly new.facts facts (EndMayLeave order new.facts numbers.next c.last-last_sequence.result state.directory.manifest c.deref.result.now.tables w)) taken_out (c.in-Ok-install.ensures.stops f) in
     let is : state.job ≡ Some c.in-Some.running = search rules in
     let ended : c.in-Ok.progress.ended ≡ true = search rules in
     end_keeps order g.met.K.KeyOrder.total (λ scan. scan_kept order.cmp scan) c.one_directory.ensures c.sound_lasts.ensures old new no_ids state c.args.source.now.memory c.step-stepped.new.source.memory numbers (max c.args.budget 1) c.in-Some.running c.step-stepped.new.self is c.requires.whole
-    s.numbers s.drawn s.touches s.keeps c.args.budget c.in-Ok.progress s.goes_on s.snapshots s.owns facts ended c.last-last_sequence.result c.last-last_sequence.ensures.is c.deref.result.now.tables (ap (λ (p : Placement). p.tables) c.deref.ensures) r
+    s.numbers s.drawn s.touches s.sound c.args.budget c.in-Ok.progress s.goes_on s.may s.plan s.version s.snapshots s.owns facts ended c.last-last_sequence.result c.last-last_sequence.ensures.is c.deref.result.now.tables (ap (λ (p : Placement). p.tables) c.deref.ensures) r
     i.call leaves s.stops stops
 
 pub returns-in-Err-install-clause-stops : goal.returns-in-Err-install-clause-stops
@@ -459,10 +461,10 @@ returns-in-Err-install-clause-stops g c =
     let taken_out : c.in-Some-take.job ≡ c.step-stepped.new.self = search rules in
     let i = rw taken_out at c.in-Err-install.ensures in
     let r = (Err c.in-Err-install.error) in
-    let leaves = subst (λ (w : OpenJob g.row.K.Denot g.K.KeyOrder). EndLeaves order new.facts facts numbers.next c.last-last_sequence.result state.directory.manifest c.deref.result.now.tables w r) taken_out c.in-Err-install.ensures.leaves in
+    let leaves = subst (λ (w : OpenJob g.row.K.Denot g.K.KeyOrder). OfEach (λ ideal final. EndLeavesOver order new.facts facts ideal final numbers.next c.last-last_sequence.result state.directory.manifest c.deref.result.now.tables w r) new.facts.files facts.files) taken_out c.in-Err-install.ensures.leaves_each in
     let stops = λ (f : IsTrue facts.faithful). subst (λ (w : OpenJob g.row.K.Denot g.K.KeyOrder). LeavesOnly new.facts facts (EndMayLeave order new.facts numbers.next c.last-last_sequence.result state.directory.manifest c.deref.result.now.tables w)) taken_out (c.in-Err-install.ensures.stops f) in
     let is : state.job ≡ Some c.in-Some.running = search rules in
     let ended : c.in-Ok.progress.ended ≡ true = search rules in
     end_keeps order g.met.K.KeyOrder.total (λ scan. scan_kept order.cmp scan) c.one_directory.ensures c.sound_lasts.ensures old new no_ids state c.args.source.now.memory c.step-stepped.new.source.memory numbers (max c.args.budget 1) c.in-Some.running c.step-stepped.new.self is c.requires.whole
-    s.numbers s.drawn s.touches s.keeps c.args.budget c.in-Ok.progress s.goes_on s.snapshots s.owns facts ended c.last-last_sequence.result c.last-last_sequence.ensures.is c.deref.result.now.tables (ap (λ (p : Placement). p.tables) c.deref.ensures) r
+    s.numbers s.drawn s.touches s.sound c.args.budget c.in-Ok.progress s.goes_on s.may s.plan s.version s.snapshots s.owns facts ended c.last-last_sequence.result c.last-last_sequence.ensures.is c.deref.result.now.tables (ap (λ (p : Placement). p.tables) c.deref.ensures) r
     i.call leaves s.stops stops

@@ -9,6 +9,7 @@ use Rattle.engine.specs.OpenDb.{open_db}
 use Rattle.db_cursor.specs.Whole.{seen_of}
 use Rattle.engine.specs.internal.Pieces.{IsPiece, MayRefusePiece}
 use Rattle.engine.proofs.Finishing.{job_there, outcome_all, outcome_done, outcome_of, outcome_then, serves_then, taken_all, taken_done, taken_ended, taken_merged, taken_more, taken_none, taken_refused}
+use Rattle.engine.proofs.Flags.{piece_flag}
 use Rattle.engine.proofs.NeededEnds.{needed_behind}
 use Rattle.engine.proofs.Breaking.{breaks_then, handed_on, serves_breaks, unbroken}
 use Rattle.engine.proofs.StopSteps.{keeps_then}
@@ -152,7 +153,7 @@ returns-then-branch-clause-needed g c takes =
     let after = open_db c.step_job.new.source.memory c.step_job.new.self in
     let a = c.in_ok-step_job.ensures in
     let ended : c.in_ok-step_job.field-0 ≡ true = search rules in
-    needed_behind order old mid new before between after c.loop.invariant.step a.step (a.needed (ap (λ (b : Bool). Ok b) ended) (c.loop.invariant.all takes))
+    needed_behind order old mid new before between after c.loop.invariant.step (λ m n h. piece_flag m n _ _ h) a.step (a.needed (ap (λ (b : Bool). Ok b) ended) (c.loop.invariant.all takes))
 
 pub returns-then-branch-clause-merges : goal.returns-then-branch-clause-merges
 returns-then-branch-clause-merges g c =

@@ -13,6 +13,7 @@ use Rattle.machine.specs.Upkeep.{Works}
 use Rattle.engine.specs.internal.Pieces.{refused_as}
 use Rattle.engine.specs.Working.{work_answer}
 use Rattle.engine.proofs.ExactFiles.{leaves_exactly}
+use Rattle.engine.proofs.Flags.{piece_flag}
 use Rattle.engine.proofs.FlushEnds.{flushes_behind}
 use Rattle.engine.proofs.WorkAnswers.{caused_met, does_on, failures_rose, then_piece, then_refused, works, works_broken}
 use Rattle.engine.proofs.WorkSteps.{piece_failed}
@@ -102,7 +103,7 @@ returns-in-Ok-clause-within g c worked which f =
     let new = seen_of g.S.Store.facts c.do_piece.new.source in
     let after = open_db c.do_piece.new.source.memory c.do_piece.new.self in
     let sequences = ap (λ (n : ℕ). n ∷ values_of c.args.self.now.snapshots.entries) (sym cleaned.same.sequence) in
-    steps_behind order c.args.options.now old mid new before between after (max c.args.budget 1) cleaned.step mid_faithful refl sequences refl
+    steps_behind order c.args.options.now old mid new before between after (max c.args.budget 1) cleaned.step (λ m n h. piece_flag m n _ _ h) mid_faithful refl sequences refl
     (tables_stay order old mid before between refl refl refl c.if-self.false (cleaned.removes mid_faithful)) inner
 
 pub returns-in-Ok-clause-dropped : goal.returns-in-Ok-clause-dropped
@@ -125,7 +126,7 @@ returns-in-Ok-clause-flushes g c =
     let after = open_db c.do_piece.new.source.memory c.do_piece.new.self in
     let cleaned = c.in_ok-complete.ensures in
     let piece = c.in-Ok.ensures in
-    flushes_behind order old mid new before c.clean.new.source.memory after (Ok c.in-Ok.progress) cleaned.step (piece.step no_ids).faithful cleaned.memory piece.flushes
+    flushes_behind order old mid new before c.clean.new.source.memory after (Ok c.in-Ok.progress) cleaned.step (λ m n h. piece_flag m n _ _ h) (piece.step no_ids).faithful cleaned.memory piece.flushes
 
 pub returns-then-self-clause-breaks : goal.returns-then-self-clause-breaks
 returns-then-self-clause-breaks g c whole = absurd (let broken = c.if-self.true in cc)
