@@ -108,6 +108,7 @@ got_value m n name value h = served (get_cause (status_of m) None) _ _ (λ e q. 
 read_same : (m n : Machine) (e : DbError) → ReadRefused m e n → (n ≈ m)
 read_same m n error.OutOfMemory h = h
 read_same m n error.Io h = h.1
+read_same m n (error.Corrupt file what) h = h.1
 read_same m n (error.Unsupported limit) h = h.1
 read_same m n _ h = absurd h
 

@@ -14,5 +14,5 @@ returns-clause-prints g c =
     let contents = g.W.Write.contents in
     if_ok c.print_pairs.result _ _
     (λ answer p. prints_map (order_of g.K.KeyOrder.name g.K.KeyOrder.cmp) g.met.K.KeyOrder.total g.S.Store.facts c.args.choice.now c.args.reader.now c.print_pairs.new.reader (contents c.args.writer.now) (contents c.print_pairs.new.writer)
-    c.args.text.now.items c.print_pairs.new.text.items c.in-Ok.walk answer c.print_pairs.ensures.reads c.in-Ok.ensures p)
+    c.args.text.now.items c.print_pairs.new.text.items c.in-Ok.walk answer c.print_pairs.ensures.reads c.in-Ok.ensures.begins p)
     c.print_pairs.ensures.prints
