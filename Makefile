@@ -39,7 +39,7 @@ help:
 	echo 'make program   ldbtool as its users run it: scripts, pipes, wrong folders, examples, installing (a minute once it is built)'
 	echo 'make stops     what a stop of ldbtool may leave of a folder, and what a loss of power may: every state is rebuilt and opened (under a minute)'
 	echo 'make soak      drawn sessions of ldbtool beside a plain model, every second one killed midway, what stops and losses of power may leave of'
-	echo '               others, and damaged directories: ten minutes each, or make soak SECONDS=60'
+	echo '               others, and 20,000 damaged directories: ten minutes each, or make soak SECONDS=60'
 	echo 'make interop   the checks beside LevelDB itself alone'
 	echo 'make bench     the benchmark beside LevelDB, into docs/SPEED.md: make bench N=100000 for fewer entries than a million'
 	echo 'make bugs      the edits of must-fail/ and bugs/, each of which the prover must refuse; bugs/refused.txt says of which crates it did (hours;'
@@ -89,7 +89,7 @@ stops: build/ldbtool
 soak: build/ldbtool
 	tools/soak $(if $(SECONDS),--seconds $(SECONDS))
 	tools/stops --seconds $(or $(SECONDS),600)
-	tools/damage --seconds $(or $(SECONDS),600)
+	tools/damage $(if $(SECONDS),--seconds $(SECONDS),--count 2000)
 
 interop: needs-rt
 	interop/run
