@@ -10,6 +10,7 @@
 use Rattle.std.specs.Prelude.{◌≡◌, ◌⊎◌, ◌≤◌, ℕ, Bool, true, false, List, [], ◌∷◌, ◌++◌, Option, Some, None, length, take, drop, if◌then◌else◌}
 use Rattle.std.specs.Cmp.Lexicographic.{slice_cmp}
 use Rattle.std.specs.FinMap.{get, contains_key}
+use Rattle.std.specs.List.{AllByRecursion}
 use Rattle.std.specs.Option.{option_map_or}
 use Rattle.std.specs.Ordering.{nat_cmp, eq_by_cmp}
 use Rattle.store.specs.Files.{Facts, Files, Disk, disk_of, Call, Change, Creation, Addition, Sync, Move, Removal, LockFile}
@@ -68,3 +69,19 @@ Lost facts t lost = (m : ℕ) × (t ≤ m) × (m ≤ length facts.calls)
 -- What it may leave since a moment it may leave since an earlier one.
 abbrev pub LostSinceLaw : Type 0
 LostSinceLaw = (facts : Facts) (s t : ℕ) (lost : Files) → s ≤ t → Lost facts t lost → Lost facts s lost
+
+-- ---- names that stay
+
+-- one of these calls is a sync
+abbrev pub HasSync : List Call → Type 0
+HasSync [] = ⊥
+HasSync (call ∷ calls) = (is_sync call.change ≡ true) ⊎ HasSync calls
+
+-- Since old each file but those of these names kept its name, and none came or went; what is synced of it is the same, if no sync came since.
+pub record CarriesBut (old new : Facts) (mine : List ℕ → Type 0) : Type 0 where
+  pub more : List Call
+  pub calls : new.calls ≡ old.calls ++ more
+  pub each : AllByRecursion (λ (call : Call). (q : List ℕ) → (mine q → ⊥)
+      → (name_behind call.change q ≡ Some q) × (contains_key call.found.files q ≡ contains_key old.files q)) more
+  pub now : (q : List ℕ) → (mine q → ⊥) → contains_key new.files q ≡ contains_key old.files q
+  pub synced : (q : List ℕ) → (mine q → ⊥) → (new.synced q ≡ old.synced q) ⊎ HasSync more

@@ -1,7 +1,8 @@
 -- What a stop of the process may leave of a directory. It frees the lock.
 use Rattle.std.specs.Prelude.{◌≡◌, ◌⊎◌, ◌+◌, ◌++◌, ℕ, true, List, [], ◌∷◌, length, drop}
 use Rattle.std.specs.FinMap.{get}
-use Rattle.store.specs.Files.{Facts, Files, Call, Change, Creation, Addition, Sync, Move, Removal, LockFile, AppendsBeginning, Does}
+use Rattle.std.specs.List.{AllByRecursion}
+use Rattle.store.specs.Files.{Facts, Files, Disk, disk_of, Call, Change, Creation, Addition, Sync, Move, Removal, LockFile, AppendsBeginning, Does}
 
 -- What a stop in the middle of a call may leave: it was done wholly or not at all, or a beginning of its bytes stands
 -- behind the file.
@@ -41,9 +42,25 @@ stopped_at facts files = record facts { files = files; faithful = true; failures
 abbrev pub KeepsBut : Files → (List ℕ → Type 0) → Files → Type 0
 KeepsBut old mine new = (name : List ℕ) → (mine name → ⊥) → get new name ≡ get old name
 
--- Since old only files of these names were written: at any moment the others are as they were.
-abbrev pub WritesOnly : Facts → Facts → (List ℕ → Type 0) → Type 0
-WritesOnly old new mine = LeavesOnly old new (KeepsBut old.files mine)
+-- what a call makes, adds to, syncs, moves or takes away
+abbrev pub IsNamedIn : Change → List ℕ → Type 0
+IsNamedIn (Creation name) q = q ≡ name
+IsNamedIn (Addition name bytes) q = q ≡ name
+IsNamedIn (Sync name) q = q ≡ name
+IsNamedIn (Move from to) q = (q ≡ from) ⊎ (q ≡ to)
+IsNamedIn (Removal name) q = q ≡ name
+IsNamedIn LockFile q = ⊥
+
+-- Each of these calls names files of these names alone, and finds the others, and what is synced of them, as they are on this disk.
+abbrev pub TouchOnly : List Call → Disk → (List ℕ → Type 0) → Type 0
+TouchOnly calls disk mine = AllByRecursion (λ (call : Call).
+    ((q : List ℕ) → IsNamedIn call.change q → mine q) × ((q : List ℕ) → (mine q → ⊥) → (get call.found.files q ≡ get disk.files q) × (call.found.synced q ≡ disk.synced q))) calls
+
+-- Since old only files of these names were written, and synced: at any moment the others are as they were.
+pub record WritesOnly (old new : Facts) (mine : List ℕ → Type 0) : Type 0 where
+  pub leaves : LeavesOnly old new (KeepsBut old.files mine)
+  pub calls : TouchOnly leaves.more (disk_of old) mine
+  pub synced : (q : List ℕ) → (mine q → ⊥) → new.synced q ≡ old.synced q
 
 -- ---- laws
 
