@@ -12,7 +12,7 @@ use Rattle.filter.specs.Builder.{GivesUpOnly}
 use Rattle.store.specs.Files.{Facts, Files, Synced, Creation, Sync, Appends, AppendsBeginning, with_synced}
 use Rattle.store.specs.Calls.{Counts, FailsAsWrite, Changes, ChangesSynced, Keeps, KeepsSynced, Notes, NotesAppend, NotesSync}
 use Rattle.store.specs.Stops.{WritesOnly}
-use Rattle.store.proofs.Stopping.{leaves_so, noted_left, append_left, sync_stays, others_both, others_same}
+use Rattle.store.proofs.Stopping.{others_appended, others_both, others_noted, others_same, others_synced}
 use Rattle.store.specs.declared.error.StoreError.{StoreError}
 use Rattle.store.specs.declared.error.StoreError.TheVariants as store_error
 use Rattle.table.specs.Reading.{HasFile}
@@ -64,8 +64,8 @@ abbrev OnlyThis : Facts → Facts → List ℕ → Type 0
 OnlyThis old new name = WritesOnly old new (λ (other : List ℕ). other ≡ name)
 
 writes : {T : Type 0} (old new : Facts) (name : List ℕ) (result : Result T StoreError) → Counts old new result → Undenied old new → (IsTrue new.faithful → KeepsOthers old.files new.files name)
-    → (IsTrue new.faithful → SyncsOnly old.synced new.synced name) → (IsTrue new.faithful → OnlyThis old new name) → Writes old new name
-writes old new name result counts undenied others synced calls = record { faithful = counts.faithful; failures = counts.failures; writes = undenied.2; denials = undenied.0; locked = undenied.1; others = others; synced = synced; calls = calls }
+    → (IsTrue new.faithful → SyncsOnly old.synced new.synced name) → ((IsTrue new.faithful → SyncsOnly old.synced new.synced name) → IsTrue new.faithful → OnlyThis old new name) → Writes old new name
+writes old new name result counts undenied others synced calls = record { faithful = counts.faithful; failures = counts.failures; writes = undenied.2; denials = undenied.0; locked = undenied.1; others = others; synced = synced; calls = calls synced }
 
 abbrev Made : List ℕ → Files → Files → Type 0
 Made name old new = new ≡ insert old name []
@@ -93,19 +93,20 @@ longer_others : (old new : Files) (name bytes : List ℕ) → MayBeLonger name b
 longer_others old new name bytes (inl is) = same_others old new name is
 longer_others old new name bytes (inr some) = put_others old new name (some.1.0 ++ take some.0 bytes) some.1.2
 
-create_only : {r : Result (Unit {0}) StoreError} (old new : Facts) (name : List ℕ) → Notes old new r (Creation name) → IsTrue new.faithful → OnlyThis old new name
-create_only old new name notes t = leaves_so old new _ _ (λ files left. made_others old.files files name left) (noted_left old new (Creation name) (notes.noted t))
+create_only : {r : Result (Unit {0}) StoreError} (old new : Facts) (name : List ℕ) → (IsTrue new.faithful → SyncsOnly old.synced new.synced name) → Notes old new r (Creation name) → IsTrue new.faithful → OnlyThis old new name
+create_only old new name synced notes t =
+    others_noted old new (Creation name) (λ (other : List ℕ). other ≡ name) (λ q is. is) (λ files left. made_others old.files files name left) (synced t) (notes.noted t)
 
-append_only : {r : Result (Unit {0}) StoreError} (old new : Facts) (name bytes : List ℕ) → NotesAppend old new r name bytes → IsTrue new.faithful → OnlyThis old new name
-append_only old new name bytes notes t = leaves_so old new _ _ (λ files left. longer_others old.files files name bytes left) (append_left old new name bytes (notes.noted t))
+append_only : {r : Result (Unit {0}) StoreError} (old new : Facts) (name bytes : List ℕ) → (IsTrue new.faithful → SyncsOnly old.synced new.synced name) → NotesAppend old new r name bytes → IsTrue new.faithful → OnlyThis old new name
+append_only old new name bytes synced notes t = others_appended old new name bytes (λ files left. longer_others old.files files name bytes left) (synced t) (notes.noted t)
 
-sync_only : (r : Result (Unit {0}) StoreError) (old new : Facts) (name : List ℕ) → NotesSync old new r (Sync name) → Keeps old new → IsTrue new.faithful → OnlyThis old new name
-sync_only r old new name notes same t = sync_stays old new name _ r (notes.ok t) (notes.err t) (same t) (λ other apart. refl)
+sync_only : (r : Result (Unit {0}) StoreError) (old new : Facts) (name : List ℕ) → (IsTrue new.faithful → SyncsOnly old.synced new.synced name) → NotesSync old new r (Sync name) → Keeps old new → IsTrue new.faithful → OnlyThis old new name
+sync_only r old new name synced notes same t = others_synced old new name r (notes.ok t) (notes.err t) (same t) (synced t)
 
 pub create_writes : (old new : Facts) (name : List ℕ) → Counts old new done → Undenied old new → Changes old new done (Made name) (MayBeMade name)
     → ChangesSynced old new done (Unsynced name) (Made name) → Notes old new done (Creation name) → Writes old new name
 create_writes old new name counts undenied files synced notes =
-    writes old new name done counts undenied (λ t. put_others old.files new.files name [] (files.ok t)) (λ t. synced_one old.synced new.synced name None (synced.ok t)) (create_only old new name notes)
+    writes old new name done counts undenied (λ t. put_others old.files new.files name [] (files.ok t)) (λ t. synced_one old.synced new.synced name None (synced.ok t)) (λ s. create_only old new name s notes)
 
 pub create_makes : (old new : Facts) (name : List ℕ) → Changes old new done (Made name) (MayBeMade name) → IsTrue new.faithful → HasFile new name []
 create_makes old new name files t = ap (λ (f : Files). get f name) (files.ok t) ∙ get_same old.files name []
@@ -113,17 +114,17 @@ create_makes old new name files t = ap (λ (f : Files). get f name) (files.ok t)
 pub create_refused : (old new : Facts) (name : List ℕ) (e : StoreError) → Counts {T = Unit {0}} old new (Err e) → Undenied old new → Changes {T = Unit {0}} old new (Err e) (Made name) (MayBeMade name)
     → ChangesSynced {T = Unit {0}} old new (Err e) (Unsynced name) (Made name) → Notes {T = Unit {0}} old new (Err e) (Creation name) → (e ≡ store_error.Missing → ⊥) → Writes old new name
 create_refused old new name store_error.Memory counts undenied files synced notes there =
-    writes old new name _ counts undenied (λ t. same_others old.files new.files name (files.memory t refl)) (λ t. same_synced old.synced new.synced name (synced.memory t refl)) (create_only old new name notes)
+    writes old new name _ counts undenied (λ t. same_others old.files new.files name (files.memory t refl)) (λ t. same_synced old.synced new.synced name (synced.memory t refl)) (λ s. create_only old new name s notes)
 create_refused old new name store_error.Missing counts undenied files synced notes there = absurd (there refl)
 create_refused old new name store_error.Device counts undenied files synced notes there =
     writes old new name _ counts undenied (λ t. made_others old.files new.files name (files.device t refl)) (λ t. elim (synced.device t refl) [
       | inl same ↦ same_synced old.synced new.synced name same.1
       | inr made ↦ synced_one old.synced new.synced name None made.1
-    ]) (create_only old new name notes)
+    ]) (λ s. create_only old new name s notes)
 
 pub append_writes : (old new : Facts) (name bytes : List ℕ) → Counts old new done → Undenied old new → Changes old new done (Longer name bytes) (MayBeLonger name bytes) → KeepsSynced old new → NotesAppend old new done name bytes → Writes old new name
 append_writes old new name bytes counts undenied files synced notes =
-    writes old new name done counts undenied (λ t. let a = files.ok t in put_others old.files new.files name (a.0 ++ bytes) a.2) (λ t. same_synced old.synced new.synced name (synced t)) (append_only old new name bytes notes)
+    writes old new name done counts undenied (λ t. let a = files.ok t in put_others old.files new.files name (a.0 ++ bytes) a.2) (λ t. same_synced old.synced new.synced name (synced t)) (λ s. append_only old new name bytes s notes)
 
 pub append_appends : (old new : Facts) (name bytes : List ℕ) → Changes old new done (Longer name bytes) (MayBeLonger name bytes) → Appended old new name bytes
 append_appends old new name bytes files t before there =
@@ -134,14 +135,14 @@ append_appends old new name bytes files t before there =
 pub append_refused : (old new : Facts) (name bytes : List ℕ) (e : StoreError) → Counts {T = Unit {0}} old new (Err e) → Undenied old new → Changes {T = Unit {0}} old new (Err e) (Longer name bytes) (MayBeLonger name bytes)
     → KeepsSynced old new → NotesAppend {T = Unit {0}} old new (Err e) name bytes → (e ≡ store_error.Missing → ⊥) → Writes old new name
 append_refused old new name bytes store_error.Memory counts undenied files synced notes there =
-    writes old new name _ counts undenied (λ t. same_others old.files new.files name (files.memory t refl)) (λ t. same_synced old.synced new.synced name (synced t)) (append_only old new name bytes notes)
+    writes old new name _ counts undenied (λ t. same_others old.files new.files name (files.memory t refl)) (λ t. same_synced old.synced new.synced name (synced t)) (λ s. append_only old new name bytes s notes)
 append_refused old new name bytes store_error.Missing counts undenied files synced notes there = absurd (there refl)
 append_refused old new name bytes store_error.Device counts undenied files synced notes there =
-    writes old new name _ counts undenied (λ t. longer_others old.files new.files name bytes (files.device t refl)) (λ t. same_synced old.synced new.synced name (synced t)) (append_only old new name bytes notes)
+    writes old new name _ counts undenied (λ t. longer_others old.files new.files name bytes (files.device t refl)) (λ t. same_synced old.synced new.synced name (synced t)) (λ s. append_only old new name bytes s notes)
 
 pub sync_writes : (old new : Facts) (name : List ℕ) → Counts old new done → Undenied old new → Keeps old new → (IsTrue new.faithful → new.synced ≡ with_synced old.synced name (get old.files name)) → NotesSync old new done (Sync name) → Writes old new name
 sync_writes old new name counts undenied same synced notes =
-    writes old new name done counts undenied (λ t. same_others old.files new.files name (same t)) (λ t. synced_one old.synced new.synced name (get old.files name) (synced t)) (sync_only done old new name notes same)
+    writes old new name done counts undenied (λ t. same_others old.files new.files name (same t)) (λ t. synced_one old.synced new.synced name (get old.files name) (synced t)) (λ s. sync_only done old new name s notes same)
 
 pub sync_keeps : (old new : Facts) (name : List ℕ) → Keeps old new → (IsTrue new.faithful → new.synced ≡ with_synced old.synced name (get old.files name)) → IsTrue new.faithful → new.synced name ≡ get new.files name
 sync_keeps old new name same synced t =
@@ -151,12 +152,12 @@ sync_keeps old new name same synced t =
 
 pub sync_refused : (old new : Facts) (name : List ℕ) (e : StoreError) → Counts {T = Unit {0}} old new (Err e) → Undenied old new → Keeps old new → (IsTrue new.faithful → new.synced ≡ old.synced) → NotesSync {T = Unit {0}} old new (Err e) (Sync name) → Writes old new name
 sync_refused old new name e counts undenied same synced notes =
-    writes old new name _ counts undenied (λ t. same_others old.files new.files name (same t)) (λ t. same_synced old.synced new.synced name (synced t)) (sync_only (Err e) old new name notes same)
+    writes old new name _ counts undenied (λ t. same_others old.files new.files name (same t)) (λ t. same_synced old.synced new.synced name (synced t)) (λ s. sync_only (Err e) old new name s notes same)
 
 -- ---- one call after another
 
 pub writes_none : (old : Facts) (name : List ℕ) → Writes old old name
-writes_none old name = record { faithful = λ t. t; failures = omega arith; writes = omega arith; denials = refl; locked = refl; others = λ t other apart. refl; synced = λ t other apart. refl; calls = λ t. others_same old old _ refl refl }
+writes_none old name = record { faithful = λ t. t; failures = omega arith; writes = omega arith; denials = refl; locked = refl; others = λ t other apart. refl; synced = λ t other apart. refl; calls = λ t. others_same old old _ refl refl refl }
 
 pub writes_then : (a b c : Facts) (name : List ℕ) → Writes a b name → Writes b c name → Writes a c name
 writes_then a b c name h k = record {

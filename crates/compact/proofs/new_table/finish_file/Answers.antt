@@ -4,6 +4,7 @@ use Rattle.store.specs.Files.{Facts}
 use Rattle.table.specs.Writing.{Writes, NeedsLongEnds}
 use Rattle.compact.specs.Outputs.{table_name}
 use Rattle.compact.proofs.Tables.{then-syncs, has-after, refuses-writing, refuses-syncing}
+use Rattle.table.proofs.Storing.{writes_none}
 use Rattle.compact.proofs.new_table.finish_file.Goals as goal
 
 pub returns-clause-written : goal.returns-clause-written
@@ -45,3 +46,6 @@ returns-in_err-size-clause-refused g c =
     let b : Facts = g.S.Store.facts c.finish.new.store in
     let p = err_from_is_err_and c.from_residual-in_err-size.result c.from_residual-in_err-size.ensures.1 in
     rw (p.1, p.2) (refuses-writing c.in_err-size.field-0.0 a b ⊥ (NeedsLongEnds c.args.builder) ⊥ c.in_err-size.ensures.refused)
+
+pub returns-in_err-name-clause-writes : goal.returns-in_err-name-clause-writes
+returns-in_err-name-clause-writes g c = writes_none (g.S.Store.facts c.args.store.now) (table_name c.args.number)

@@ -18,7 +18,7 @@ use Rattle.compact.proofs.Leavings.{leaves-moved, leaves-written}
 use Rattle.compact.proofs.Merges.{kind-kept}
 use Rattle.compact.proofs.Passing.{standing, at_place}
 use Rattle.compact.proofs.Refusing.{never-behind, writes-rise}
-use Rattle.compact.proofs.Writing.{refuses-as, writes-mine, writes-reads}
+use Rattle.compact.proofs.Writing.{refuses-as, writes-mine, writes-reads, writes-nothing}
 use Rattle.compact.proofs.job.Job.merge_one.Goals as goal
 
 pub returns-clause-merged : goal.returns-clause-merged
@@ -213,3 +213,18 @@ pub returns-clause-leaves : goal.returns-clause-leaves
 returns-clause-leaves g c =
     leaves-moved g.S.Store.facts g.H.HasStore.store_of g.H.HasStore.with_store g.C.Cursor.facts g.C.Cursor.keeps g.C.Cursor.limited g.C.Cursor.torn g.C.Cursor.leaves g.C.Cursor.over (IsMineUpTo c.args.self.now.outputs c.args.numbers.now.next c.write_chosen.new.numbers.next)
     c.args.self.now.cursor c.next.new.self c.args.source.now c.store_mut.result.now c.write_chosen.new.store c.next.new.source c.store_mut.ensures.value c.in_ok-write_chosen.ensures.writes c.in_ok-next.ensures.stays
+
+pub returns-then-not-comes_behind-clause-writes : goal.returns-then-not-comes_behind-clause-writes
+returns-then-not-comes_behind-clause-writes g c = writes-nothing (g.S.Store.facts (g.H.HasStore.store_of c.args.source.now)) (IsMineUpTo c.args.self.now.outputs c.args.numbers.now.next c.args.numbers.now.next)
+
+pub returns-in_err-copy_to-clause-writes : goal.returns-in_err-copy_to-clause-writes
+returns-in_err-copy_to-clause-writes g c = writes-nothing (g.S.Store.facts (g.H.HasStore.store_of c.args.source.now)) (IsMineUpTo c.args.self.now.outputs c.args.numbers.now.next c.args.numbers.now.next)
+
+pub returns-in_err-copy_to-2-clause-writes : goal.returns-in_err-copy_to-2-clause-writes
+returns-in_err-copy_to-2-clause-writes g c = writes-nothing (g.S.Store.facts (g.H.HasStore.store_of c.args.source.now)) (IsMineUpTo c.args.self.now.outputs c.args.numbers.now.next c.args.numbers.now.next)
+
+pub returns-in_default-clause-writes : goal.returns-in_default-clause-writes
+returns-in_default-clause-writes g c = writes-nothing (g.S.Store.facts (g.H.HasStore.store_of c.args.source.now)) (IsMineUpTo c.args.self.now.outputs c.args.numbers.now.next c.args.numbers.now.next)
+
+pub returns-in_err-choice-clause-writes : goal.returns-in_err-choice-clause-writes
+returns-in_err-choice-clause-writes g c = writes-nothing (g.S.Store.facts (g.H.HasStore.store_of c.args.source.now)) (IsMineUpTo c.args.self.now.outputs c.args.numbers.now.next c.args.numbers.now.next)

@@ -2,8 +2,9 @@ use Rattle.std.proofs.Common.{subst, ap, sym}
 use Rattle.store.specs.Files.{Facts}
 use Rattle.ikey.specs.Entries.{Pair}
 use Rattle.table.specs.Building.{Builds}
-use Rattle.compact.specs.Outputs.{Filling}
+use Rattle.compact.specs.Outputs.{Filling, table_name}
 use Rattle.compact.proofs.Tables.{filling-more}
+use Rattle.table.proofs.Storing.{writes_none}
 use Rattle.compact.proofs.new_table.NewTable.add.Goals as goal
 
 pub returns-clause-added : goal.returns-clause-added
@@ -17,3 +18,9 @@ returns-clause-added g c = λ pairs t none h.
 
 pub returns-clause-internal : goal.returns-clause-internal
 returns-clause-internal g c = (c.if-not-accepts.ensures.parts, c.if-not-accepts.ensures.parts_are)
+
+pub returns-then-not-accepts-clause-writes : goal.returns-then-not-accepts-clause-writes
+returns-then-not-accepts-clause-writes g c = writes_none (g.S.Store.facts c.args.store.now) (table_name c.args.self.now.number)
+
+pub returns-in_err-copy_to-clause-writes : goal.returns-in_err-copy_to-clause-writes
+returns-in_err-copy_to-clause-writes g c = writes_none (g.S.Store.facts c.args.store.now) (table_name c.args.self.now.number)

@@ -3,8 +3,9 @@ use Rattle.std.proofs.lemmas.Result.{err_from_is_err_and}
 use Rattle.store.specs.Files.{Facts}
 use Rattle.table.specs.Building.{Builds}
 use Rattle.table.specs.Writing.{NeedsLongEnds}
-use Rattle.compact.specs.Outputs.{Filling, RefusesEntry}
+use Rattle.compact.specs.Outputs.{Filling, RefusesEntry, table_name}
 use Rattle.compact.proofs.Tables.{some-pairs, either-end, either-last}
+use Rattle.table.proofs.Storing.{writes_none}
 use Rattle.compact.proofs.new_table.NewTable.close.Goals as goal
 
 pub returns-clause-closed : goal.returns-clause-closed
@@ -32,3 +33,6 @@ returns-in_err-size-clause-refused g c =
     let p = err_from_is_err_and c.from_residual.result c.from_residual.ensures.1 in
     rw (p.1, p.2) (subst (λ (f : Filling). RefusesEntry c.in_err-size.field-0.0 a b ⊥ (NeedsLongEnds f.building) ⊥)
     c.self.view_is c.in_err-size.ensures.refused)
+
+pub returns-then-is_empty-clause-writes : goal.returns-then-is_empty-clause-writes
+returns-then-is_empty-clause-writes g c = writes_none (g.S.Store.facts c.args.store.now) (table_name c.args.self.number)

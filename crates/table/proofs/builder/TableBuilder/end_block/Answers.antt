@@ -13,7 +13,7 @@ use Rattle.table.specs.Stored.{stored}
 use Rattle.table.specs.Writing.{NeedsLongIndex}
 use Rattle.table.proofs.Kept.{place_rises, kept_place, kept_moved, long_index, block_ended}
 use Rattle.table.proofs.Rising.{some_last}
-use Rattle.table.proofs.Storing.{gives_up}
+use Rattle.table.proofs.Storing.{gives_up, writes_none}
 use Rattle.table.proofs.builder.TableBuilder.end_block.Goals as goal
 
 pub push_place-requires : goal.push_place-requires
@@ -106,3 +106,12 @@ returns-clause-ended g c =
     subst (λ (v : Building). IsEnded g.K.KeyOrder.cmp v next old new) c.self.view_is
     (block_ended g.K.KeyOrder.cmp (string_bytes b.name) b.block_bytes b.created b.offset b.filter b.index b.block c.push_place.new.index c.replace-block.new.dest key bytes c.size.result old new
     c.self.invariant.index_interval c.self.invariant.block_interval (c.replace-block.ensures.after ∙ c.reusing-next.ensures) long same last is c.in_ok-push_place.ensures.added appended)
+
+pub returns-in_err-push_place-clause-writes : goal.returns-in_err-push_place-clause-writes
+returns-in_err-push_place-clause-writes g c = writes_none (g.S.Store.facts c.args.store.now) c.args.self.now.name
+
+pub returns-in_err-bytes-clause-writes : goal.returns-in_err-bytes-clause-writes
+returns-in_err-bytes-clause-writes g c = writes_none (g.S.Store.facts c.args.store.now) c.args.self.now.name
+
+pub returns-in_err-put_trailer-clause-writes : goal.returns-in_err-put_trailer-clause-writes
+returns-in_err-put_trailer-clause-writes g c = writes_none (g.S.Store.facts c.args.store.now) c.args.self.now.name
