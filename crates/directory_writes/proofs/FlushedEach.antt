@@ -4,7 +4,7 @@ use Rattle.std.specs.FinMap.{get}
 use Rattle.coding.specs.declared.error.DbError.{DbError}
 use Rattle.coding.specs.declared.error.DbError.TheVariants.{OutOfMemory, Io, Corrupt, Unsupported, NumbersSpent}
 use Rattle.store.specs.Files.{Files, Facts}
-use Rattle.store.specs.Stops.{KeepsBut, LeavesOnly, WritesOnly, stopped_at}
+use Rattle.store.specs.Stops.{KeepsBut, LeavesOnly, stopped_at}
 use Rattle.store.proofs.Stopping.{leaves_both, leaves_same, leaves_so}
 use Rattle.ikey.specs.declared.entry.Entry.{Entry}
 use Rattle.ikey.specs.Orders.{Order}
@@ -119,7 +119,7 @@ module _ (order : Order) (old : Facts) (next after : ℕ) (plan : FlushPlan) (ma
   StoppedEach files = OfEach (λ whole behind. FlushMayLeave order whole next after plan manifest entries tables behind) old.files files
 
   -- while the table is written
-  pub table_stopped_each : UnreadLaw → (new : Facts) → DrawsTable old new next after → WritesOnly old new (λ (q : List ℕ). q ≡ name_of (Table next)) → LeavesOnly old new StoppedEach
+  pub table_stopped_each : UnreadLaw → (new : Facts) → DrawsTable old new next after → LeavesOnly old new (KeepsBut old.files (λ (q : List ℕ). q ≡ name_of (Table next))) → LeavesOnly old new StoppedEach
   table_stopped_each law new (inl none) w =
       leaves_same old new StoppedEach (ap (λ (x : Facts). x.calls) none.1) (ap (λ (x : Facts). x.files) none.1)
       (λ whole behind d c.
@@ -140,7 +140,7 @@ pub flush_stopped_each : {K : Type 0} (order : Order) (old : Facts) (next after 
 flush_stopped_each {K} order old next after plan manifest entries law flush same mid new placement prepared w drawn t number more some few p edit f =
     let faithful = t.faithful f in
     let P = StoppedEach order old next after plan manifest entries placement.tables in
-    leaves_both old mid new P (table_stopped_each order old next after plan manifest entries placement.tables law mid drawn (w.calls faithful))
+    leaves_both old mid new P (table_stopped_each order old next after plan manifest entries placement.tables law mid drawn (w.calls faithful).leaves)
     (leaves_so mid new _ P
     (λ files left whole behind d c.
     maybe_each {K = K} order old next after plan manifest entries law flush same mid (stopped_at mid files) placement prepared w

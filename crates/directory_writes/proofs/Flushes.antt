@@ -4,7 +4,7 @@ use Rattle.std.specs.FinMap.{get}
 use Rattle.coding.specs.declared.error.DbError.{DbError}
 use Rattle.coding.specs.declared.error.DbError.TheVariants.{OutOfMemory, Io}
 use Rattle.store.specs.Files.{Files, Facts}
-use Rattle.store.specs.Stops.{KeepsBut, LeavesOnly, WritesOnly, stopped_at}
+use Rattle.store.specs.Stops.{KeepsBut, LeavesOnly, stopped_at}
 use Rattle.store.proofs.Stopping.{leaves_both, leaves_same, leaves_so}
 use Rattle.ikey.specs.declared.entry.Entry.{Entry}
 use Rattle.ikey.specs.Orders.{Order}
@@ -127,7 +127,7 @@ module _ (order : Order) (old : Facts) (next after : ℕ) (plan : FlushPlan) (ma
   still_same files d sealed current h = record { either = inl (h.can.consistent, h.kept); free = h.can.free }
 
   -- while the table is written
-  pub table_stopped : UnreadLaw → (new : Facts) → DrawsTable old new next after → WritesOnly old new (λ (q : List ℕ). q ≡ name_of (Table next)) → LeavesOnly old new StoppedFlush
+  pub table_stopped : UnreadLaw → (new : Facts) → DrawsTable old new next after → LeavesOnly old new (KeepsBut old.files (λ (q : List ℕ). q ≡ name_of (Table next))) → LeavesOnly old new StoppedFlush
   table_stopped law new (inl none) w =
       leaves_same old new StoppedFlush (ap (λ (x : Facts). x.calls) none.1) (ap (λ (x : Facts). x.files) none.1)
       (λ d sealed current can.
@@ -147,7 +147,7 @@ pub flush_stopped : {K : Type 0} (order : Order) (old : Facts) (next after : ℕ
 flush_stopped {K} order old next after plan manifest entries law flush same mid new placement prepared w drawn t number more some few p edit f =
     let faithful = t.faithful f in
     let P = StoppedFlush order old next after plan manifest entries placement.tables in
-    leaves_both old mid new P (table_stopped order old next after plan manifest entries placement.tables law mid drawn (w.calls faithful))
+    leaves_both old mid new P (table_stopped order old next after plan manifest entries placement.tables law mid drawn (w.calls faithful).leaves)
     (leaves_so mid new _ P
     (λ files left.
     leaves_maybe {K = K} order old next after plan manifest entries law flush same mid (stopped_at mid files) placement prepared w

@@ -241,7 +241,7 @@ module _ {K C : Type 0} (order : Order) (job : Job K C) (next last_sequence : �
       (λ files kept whole behind d c outputs.
       let there = with_files old whole in
       let stopped = writes-stopped there behind (IsNumberAtHand job.outputs) (w.faithful f) (λ q out. c.stays q (kept q out)) in
-      (table_stopped order job next last_sequence fits numbered there (stopped_at there behind) stopped manifest refl tables).now) (w.calls f)
+      (table_stopped order job next last_sequence fits numbered there (stopped_at there behind) stopped manifest refl tables).now) (w.calls f).leaves
 
   -- while the edit is put behind the MANIFEST
   pub install_stopped_each : SameManifestLaw → (new : Facts) (version : Placement) (prepared : PreparedJob K) (p : HasPreparedJob order.cmp job old mid next last_sequence version prepared)

@@ -159,7 +159,7 @@ module _ {K C : Type 0} (order : Order) (job : Job K C) (next last_sequence : �
       (λ files kept deep came d inputs rest can.
       let stopped = writes-stopped old files (IsNumberAtHand job.outputs) (w.faithful f) kept in
       let left = uninstalled order job next last_sequence fits numbered old (stopped_at old files) stopped refl deep manifest tables came d inputs rest can in
-      record { either = inl (left.served.consistent, left.kept); free = left.served.free }) (w.calls f)
+      record { either = inl (left.served.consistent, left.kept); free = left.served.free }) (w.calls f).leaves
 
   -- while the edit is put behind the MANIFEST
   pub install_stopped : SameManifestLaw → (new : Facts) (version : Placement) (prepared : PreparedJob K) (p : HasPreparedJob order.cmp job old mid next last_sequence version prepared)

@@ -1,4 +1,5 @@
 pub mod AfterEdits
+pub mod Carrying
 pub mod Cleaning
 pub mod EditSteps
 pub mod FewLeft

@@ -41,7 +41,7 @@ module _ (old new : Facts) (whole after : Files) (stays : StaysToo old.files new
     locked = w.locked;
     others = λ f q apart. stays q (w.others f q apart);
     synced = w.synced;
-    calls = λ f. record { more = []; calls = refl; during = λ files none. absurd none; now = λ q apart. stays q (w.others f q apart) };
+    calls = λ f. record { leaves = record { more = []; calls = refl; during = λ files none. absurd none; now = λ q apart. stays q (w.others f q apart) }; calls = tt; synced = w.synced f };
   }
 
   pub writes_tables_too : (mine : ℕ → Type 0) → WritesTables old new mine → WritesTables (with_files old whole) (with_files new after) mine
@@ -53,7 +53,11 @@ module _ (old new : Facts) (whole after : Files) (stays : StaysToo old.files new
     locked = w.locked;
     others = λ f q apart. stays q (w.others f q apart);
     synced = w.synced;
-    calls = λ f. record { more = []; calls = refl; during = λ files none. absurd none; now = λ q apart. stays q (w.others f q (λ number is same. apart (number, is, same))) };
+    calls = λ f. record {
+      leaves = record { more = []; calls = refl; during = λ files none. absurd none; now = λ q apart. stays q (w.others f q (λ number is same. apart (number, is, same))) };
+      calls = tt;
+      synced = λ q apart. w.synced f q (λ number is same. apart (number, is, same));
+    };
   }
 
   pub touches_too : Touches old new → Touches (with_files old whole) (with_files new after)

@@ -1,16 +1,19 @@
 -- Calls of the store, and what is synced by them.
-use Rattle.std.proofs.Common.{Bool, true, false, cond, ◌≡◌, ◌≢◌, ◌⊎◌, ℕ, List, [], ◌++◌, length, take, Option, None, Ok, Err, IsTrue, inl, inr, refl, sym, ap, ◌∙◌, arith}
+use Rattle.std.proofs.Common.{Bool, true, false, cond, if◌then◌else◌, ◌≡◌, ◌≢◌, ◌⊎◌, ℕ, List, [], ◌∷◌, ◌++◌, length, take, Option, None, Ok, Err, IsTrue, inl, inr, refl, sym, ap, ◌∙◌, arith}
 use Rattle.std.specs.Cmp.{tied_itself}
 use Rattle.std.specs.Cmp.Lexicographic.{slice_cmp, nat_list_cmp_total}
 use Rattle.std.specs.Ordering.{is_eq, nat_cmp, eq_by_cmp}
 use Rattle.std.specs.FinMap.{get, insert}
 use Rattle.std.proofs.lemmas.List.{take_all}
 use Rattle.coding.specs.declared.error.DbError.{DbError}
-use Rattle.store.specs.Files.{Facts, Files, Synced, Appends, AppendsBeginning, with_synced}
-use Rattle.store.specs.Calls.{Keeps, KeepsSynced, Changes, ChangesSynced}
+use Rattle.store.specs.Files.{Call, Creation, Sync, disk_of, Facts, Files, Synced, Appends, AppendsBeginning, with_synced}
+use Rattle.store.specs.Calls.{Adds, Idles, Keeps, KeepsSynced, Changes, ChangesSynced}
 use Rattle.store.specs.declared.error.StoreError.{StoreError}
 use Rattle.store.specs.declared.error.StoreError.TheVariants as store_error
-use Rattle.recover.proofs.NamedFiles.{same_name}
+use Rattle.store.specs.Losses.{behind_sync, is_sync}
+use Rattle.store.specs.Stops.{WritesOnly}
+use Rattle.store.proofs.Stopping.{others_noted}
+use Rattle.recover.proofs.NamedFiles.{get_other, same_name}
 use Rattle.table.specs.Writing.{SyncsOnly}
 use Rattle.directory_writes.specs.internal.Calls.{Touches, IsRefusalOf, Creates, AppendsSynced}
 
@@ -33,7 +36,7 @@ other_at : (b : Bool) (x y : Option (List ℕ)) → (b ≡ true → ⊥) → con
 other_at true x y h = absurd (h refl)
 other_at false x y h = refl
 
-with_other : (s : Synced) (name q : List ℕ) (content : Option (List ℕ)) → q ≢ name → with_synced s name content q ≡ s q
+pub with_other : (s : Synced) (name q : List ℕ) (content : Option (List ℕ)) → q ≢ name → with_synced s name content q ≡ s q
 with_other s name q content apart =
     other_at (eq_by_cmp (slice_cmp nat_cmp) q name) content (s q) (λ is. apart (same_name q name is))
 
@@ -130,3 +133,28 @@ appended old mid new name bytes back done kept same synced = record {
   unsynced = λ f. tt;
   others = λ f q apart. only_with mid.synced new.synced name (get mid.files name) (synced f) q apart ∙ ap (λ (s : Synced). s q) (kept (back f));
 }
+
+-- ---- a file that was made, and nothing else
+
+made_other : (old new : Files) (name q : List ℕ) → (new ≡ old) ⊎ (new ≡ insert old name []) → q ≢ name → get new q ≡ get old q
+made_other old new name q (inl is) apart = ap (λ (f : Files). get f q) is
+made_other old new name q (inr is) apart = ap (λ (f : Files). get f q) is ∙ get_other old name [] q apart
+
+pub created_only : (old new : Facts) (name : List ℕ) → SyncsOnly old.synced new.synced name → Idles old new ⊎ Adds old new (Creation name) → WritesOnly old new (λ (q : List ℕ). q ≡ name)
+created_only old new name synced noted =
+    others_noted old new (Creation name) (λ (q : List ℕ). q ≡ name) (λ q is. is) (λ files left q apart. made_other old.files files name q left apart) synced noted
+
+-- nothing of it is synced
+pub created_unsynced : (old new : Facts) (name : List ℕ) → new.synced ≡ with_synced old.synced name None → new.synced name ≡ None
+created_unsynced old new name is = ap (λ (s : Synced). s name) is ∙ with_same old.synced name None
+
+-- ---- the calls since the last sync
+
+behind_more : (since calls : List Call) (call : Call) → is_sync call.change ≡ true → behind_sync since (calls ++ call ∷ []) ≡ []
+behind_more since [] call is = ap (λ (b : Bool). if b then [] else since ++ call ∷ []) is
+behind_more since (first ∷ calls) call is = behind_more (if is_sync first.change then [] else since ++ first ∷ []) calls call is
+
+-- behind a sync there are none
+pub behind_added : (old new : Facts) (name : List ℕ) → Adds old new (Sync name) → behind_sync [] new.calls ≡ []
+behind_added old new name adds =
+    ap (λ (calls : List Call). behind_sync [] calls) adds.0 ∙ behind_more [] old.calls (record { found = disk_of old; change = Sync name }) refl

@@ -1,12 +1,13 @@
 //! Calls of the store, with the database's refusals.
 
-ghost use Rattle.std.specs.Prelude.{◌≡◌, ◌⊎◌, [], IfErr, IsTrue};
+ghost use Rattle.std.specs.Prelude.{◌≡◌, ◌⊎◌, ℕ, List, [], None, IfErr, IsTrue, OnOk};
 ghost use Rattle.std.specs.FinMap.{insert};
 ghost use Rattle.coding.specs.declared.error.DbError.TheVariants.{OutOfMemory, Io};
 ghost use Rattle.recover.specs.Reading.{IsCounted};
-ghost use Rattle.store.specs.Calls.{FailsAsWrite};
-ghost use Rattle.store.specs.Files.{AppendsBeginning};
-ghost use Rattle.store.specs.Stops.{LeavesOnly};
+ghost use Rattle.store.specs.Calls.{Adds, FailsAsWrite, Idles};
+ghost use Rattle.store.specs.Files.{AppendsBeginning, Creation};
+ghost use Rattle.store.specs.Losses.{CarriesBut, behind_sync};
+ghost use Rattle.store.specs.Stops.{LeavesOnly, WritesOnly};
 ghost use Rattle.directory_writes.specs.internal.Calls.{Touches, IsRefusalOf, Creates, AppendsSynced};
 
 use coding::DbError;
@@ -32,6 +33,10 @@ pub fn create_file<S: Store>(store: &mut S, name: &str) -> Result<(), DbError>
     ensures creates { Creates (S.facts store.old) (S.facts store.new) name.now result }
     ensures stops { IsTrue (S.facts store.new).faithful → LeavesOnly (S.facts store.old) (S.facts store.new)
         (λ files. (files ≡ (S.facts store.old).files) ⊎ (files ≡ insert (S.facts store.old).files name.now [])) }
+    ensures only { IsTrue (S.facts store.new).faithful → WritesOnly (S.facts store.old) (S.facts store.new) (λ (q : List ℕ). q ≡ name.now) }
+    ensures noted { IsTrue (S.facts store.new).faithful → Idles (S.facts store.old) (S.facts store.new)
+        ⊎ Adds (S.facts store.old) (S.facts store.new) (Creation name.now) }
+    ensures unsynced { IsTrue (S.facts store.new).faithful → OnOk result ((S.facts store.new).synced name.now ≡ None) }
 {
     match store.create(name) {
         Ok(()) => Ok(()),
@@ -48,6 +53,8 @@ pub fn append_synced<S: Store>(store: &mut S, name: &str, bytes: &[u8]) -> Resul
     ensures appends { AppendsSynced (S.facts store.old) (S.facts store.new) name.now bytes.now result }
     ensures stops { IsTrue (S.facts store.new).faithful → LeavesOnly (S.facts store.old) (S.facts store.new)
         (λ files. AppendsBeginning (S.facts store.old).files files name.now bytes.now) }
+    ensures carries { IsTrue (S.facts store.new).faithful → CarriesBut (S.facts store.old) (S.facts store.new) (λ (q : List ℕ). ⊥) }
+    ensures ends { IsTrue (S.facts store.new).faithful → OnOk result (behind_sync [] (S.facts store.new).calls ≡ []) }
 {
     if let Err(error) = store.append(name, bytes) {
         return Err(refusal_of(error));

@@ -1,7 +1,7 @@
 //! A flush: a sealed memory table becomes a table file, in place of the logs in front of the current one (LevelDB's
 //! db/db_impl.cc, DBImpl::CompactMemTable).
 
-ghost use Rattle.std.specs.Prelude.{◌≡◌, ◌<◌, ◌^◌, IfOk, IfErr, IsTrue, OnOk, length, string_bytes};
+ghost use Rattle.std.specs.Prelude.{◌≡◌, ◌<◌, ◌^◌, ℕ, List, [], IfOk, IfErr, IsTrue, OnOk, length, string_bytes};
 ghost use Rattle.edits.specs.Layout.{after_edit};
 ghost use Rattle.edits.specs.Names.{name_of};
 ghost use Rattle.edits.specs.declared.names.FileName.TheVariants.{Table};
@@ -10,6 +10,7 @@ ghost use Rattle.table.specs.Writing.{Writes};
 ghost use Rattle.versions.specs.Applying.{LeadsLayout, LeadsAstray};
 ghost use Rattle.versions.specs.Levels.{AreInOrder, pointers_after};
 ghost use Rattle.store.specs.Calls.{FailsAsWrite};
+ghost use Rattle.store.specs.Losses.{CarriesBut, behind_sync};
 ghost use Rattle.store.specs.Stops.{LeavesOnly};
 ghost use Rattle.directory_writes.specs.Differing.{OfEach, with_files};
 ghost use Rattle.directory_writes.specs.internal.Flush.{DrawsTable, Prepares, RefusesNewTable, RefusesVersion, edit_refusal};
@@ -111,6 +112,9 @@ pub fn flush_memory<K: KeyOrder, S: Store>(
     ensures stops_each { IsTrue (S.facts store.new).faithful → LeavesOnly (S.facts store.old) (S.facts store.new)
         (λ files. OfEach (λ whole after. FlushMayLeave (order_of K.name K.cmp) whole numbers.old.next numbers.new.next plan manifest.now
         memory.now.inserts version.now.tables after) (S.facts store.old).files files) }
+    ensures carries { IsTrue (S.facts store.new).faithful → CarriesBut (S.facts store.old) (S.facts store.new)
+        (λ (q : List ℕ). q ≡ name_of (Table numbers.old.next)) }
+    ensures ends { IsTrue (S.facts store.new).faithful → OnOk result (behind_sync [] (S.facts store.new).calls ≡ []) }
 {
     // Laws, for the proof alone.
     flush_law();

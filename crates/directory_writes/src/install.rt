@@ -1,11 +1,12 @@
 //! The end of a job: its outputs come in the place of its inputs (LevelDB's db/db_impl.cc, InstallCompactionResults).
 
-ghost use Rattle.std.specs.Prelude.{◌≡◌, ◌<◌, ◌^◌, IfOk, IfErr, IsTrue, OnOk, string_bytes};
+ghost use Rattle.std.specs.Prelude.{◌≡◌, ◌<◌, ◌^◌, [], IfOk, IfErr, IsTrue, OnOk, string_bytes};
 ghost use Rattle.std.specs.FinMap.{get};
 ghost use Rattle.ikey.specs.Orders.{order_of};
 ghost use Rattle.compact.specs.JobEdits.{IsPlanProper};
 ghost use Rattle.compact.specs.Outputs.{AreNumbered, IsNumberAtHand, IsTableName, WritesTables};
 ghost use Rattle.store.specs.Calls.{FailsAsWrite};
+ghost use Rattle.store.specs.Losses.{CarriesBut, behind_sync};
 ghost use Rattle.store.specs.Stops.{LeavesOnly};
 ghost use Rattle.directory_writes.specs.Differing.{OfEach, with_files};
 ghost use Rattle.directory_writes.specs.internal.Each.{HasSameOutputs};
@@ -83,6 +84,9 @@ pub fn install_job<K: KeyOrder, C: Drop, S: Store>(
     ensures stops_each { IsTrue (S.facts store.new).faithful → LeavesOnly (S.facts store.old) (S.facts store.new)
         (λ files. OfEach (λ whole after. HasSameOutputs job.outputs (S.facts store.old).files whole → InstallMayLeave (order_of K.name K.cmp) job
         (with_files (S.facts store.old) whole) numbers.now.next last_sequence manifest.now version.now.tables after) (S.facts store.old).files files) }
+    ensures carries { IsTrue (S.facts store.new).faithful → CarriesBut (S.facts store.old) (S.facts store.new)
+        (IsTableName (IsNumberAtHand job.outputs)) }
+    ensures ends { IsTrue (S.facts store.new).faithful → OnOk result (behind_sync [] (S.facts store.new).calls ≡ []) }
 {
     // Laws, for the proof alone.
     same_manifest_law();

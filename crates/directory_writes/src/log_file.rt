@@ -1,12 +1,14 @@
 //! New logs.
 
-ghost use Rattle.std.specs.Prelude.{◌≡◌, IfErr, IsTrue};
+ghost use Rattle.std.specs.Prelude.{◌≡◌, ◌⊎◌, ℕ, List, None, IfErr, IsTrue, OnOk};
 ghost use Rattle.ikey.specs.Orders.{Order};
 ghost use Rattle.edits.specs.Names.{name_of};
 ghost use Rattle.edits.specs.declared.names.FileName.TheVariants.{Log};
 ghost use Rattle.recover.specs.Reading.{IsCounted};
 ghost use Rattle.table.specs.Writing.{SyncsOnly};
-ghost use Rattle.store.specs.Calls.{FailsAsWrite};
+ghost use Rattle.store.specs.Calls.{Adds, FailsAsWrite, Idles};
+ghost use Rattle.store.specs.Files.{Creation};
+ghost use Rattle.store.specs.Losses.{CarriesBut};
 ghost use Rattle.store.specs.Stops.{LeavesOnly};
 ghost use Rattle.directory_writes.specs.Differing.{OfEach, with_files};
 ghost use Rattle.directory_writes.specs.internal.Calls.{Touches};
@@ -41,6 +43,11 @@ pub fn begin_log<S: Store>(
         (MayHaveLog order (S.facts store.old).files numbers.old.next) }
     ensures stops_each { IsTrue (S.facts store.new).faithful → (order : Order) → LeavesOnly (S.facts store.old) (S.facts store.new)
         (λ files. OfEach (λ whole after. MayHaveLog order whole numbers.old.next after) (S.facts store.old).files files) }
+    ensures carries { IsTrue (S.facts store.new).faithful → CarriesBut (S.facts store.old) (S.facts store.new)
+        (λ (q : List ℕ). q ≡ name_of (Log numbers.old.next)) }
+    ensures noted { IsTrue (S.facts store.new).faithful → Idles (S.facts store.old) (S.facts store.new)
+        ⊎ Adds (S.facts store.old) (S.facts store.new) (Creation (name_of (Log numbers.old.next))) }
+    ensures unsynced { IsTrue (S.facts store.new).faithful → OnOk result ((S.facts store.new).synced (name_of (Log numbers.old.next)) ≡ None) }
 {
     // Laws, for the proof alone.
     begin_log_law();

@@ -1,11 +1,12 @@
 //! The MANIFEST, to which each change of the layout adds an edit.
 
-ghost use Rattle.std.specs.Prelude.{◌≡◌, ◌⊎◌, All, Err, IfErr, IsTrue, string_bytes};
+ghost use Rattle.std.specs.Prelude.{◌≡◌, ◌⊎◌, ℕ, List, [], All, Err, IfErr, IsTrue, OnOk, string_bytes};
 ghost use Rattle.coding.specs.declared.error.DbError.TheVariants.{OutOfMemory, Io};
 ghost use Rattle.ikey.specs.Orders.{Order};
 ghost use Rattle.edits.specs.Edit.{IsProper, IsInOrder};
 ghost use Rattle.recover.specs.Reading.{IsCounted};
 ghost use Rattle.store.specs.Calls.{FailsAsWrite};
+ghost use Rattle.store.specs.Losses.{CarriesBut, behind_sync};
 ghost use Rattle.store.specs.Stops.{LeavesOnly, stopped_at};
 ghost use Rattle.directory_writes.specs.internal.Calls.{Touches};
 ghost use Rattle.directory_writes.specs.internal.Manifest.{AppendsEdit, SyncsEdit};
@@ -51,6 +52,8 @@ pub fn append_edit<S: Store>(
     ensures stops { IsTrue (S.facts store.new).faithful → (order : Order) → LeavesOnly (S.facts store.old) (S.facts store.new)
         (λ files. AppendsEdit order (S.facts store.old) (stopped_at (S.facts store.old) files) manifest.now.number
         (string_bytes manifest.now.name) manifest.now.end edit.now (Err Io)) }
+    ensures carries { IsTrue (S.facts store.new).faithful → CarriesBut (S.facts store.old) (S.facts store.new) (λ (q : List ℕ). ⊥) }
+    ensures ends { IsTrue (S.facts store.new).faithful → OnOk result (behind_sync [] (S.facts store.new).calls ≡ []) }
 {
     // Laws, for the proof alone.
     edit_law();

@@ -1,10 +1,12 @@
-use Rattle.std.proofs.Common.{◌≡◌, Err, sym, subst, string_bytes, arith}
+use Rattle.std.proofs.Common.{◌≡◌, ℕ, List, Err, sym, subst, string_bytes, arith}
 use Rattle.ikey.specs.Orders.{order_of}
 use Rattle.edits.specs.Names.{name_of}
 use Rattle.edits.specs.declared.names.FileName.TheVariants.{Table}
 use Rattle.directory_writes.specs.internal.Flush.{FlushLeaves, SparesManifest}
 use Rattle.directory_writes.specs.declared.flush.Flushed.{Flushed}
 use Rattle.directory_writes.specs.declared.flush.FlushError.{FlushError}
+use Rattle.store.proofs.Carrying.{carries_writes}
+use Rattle.directory_writes.proofs.Carrying.{carries_edit}
 use Rattle.directory_writes.proofs.FlushedEach.{FlushEach, flush_stopped_each, maybe_each, none_each, ok_each, table_stopped_each}
 use Rattle.directory_writes.proofs.Flushes.{touches_table, touches_both, syncs_both, flush_stopped, leaves_none, leaves_ok, leaves_maybe, table_stopped}
 use Rattle.directory_writes.proofs.Sparing.{spares_edit}
@@ -63,7 +65,7 @@ returns-in-Err-append_edit-clause-fails g c = omega (arith, c.in-Ok.ensures.writ
 pub returns-in-Err-clause-stops : goal.returns-in-Err-clause-stops
 returns-in-Err-clause-stops g c f =
     table_stopped (order_of g.K.KeyOrder.name g.K.KeyOrder.cmp) (g.S.Store.facts c.args.store.now) c.args.numbers.now.next c.prepare.new.numbers.next c.args.plan c.args.manifest.now c.args.memory.now.inserts c.args.version.now.tables
-    c.unread_law.ensures (g.S.Store.facts c.prepare.new.store) c.in-Err.ensures.drawn (c.in-Err.ensures.writes.calls f)
+    c.unread_law.ensures (g.S.Store.facts c.prepare.new.store) c.in-Err.ensures.drawn (c.in-Err.ensures.writes.calls f).leaves
 
 pub returns-in-Ok-append_edit-clause-stops : goal.returns-in-Ok-append_edit-clause-stops
 returns-in-Ok-append_edit-clause-stops g c f =
@@ -125,7 +127,7 @@ returns-in-Err-append_edit-clause-leaves_each g c =
 pub returns-in-Err-clause-stops_each : goal.returns-in-Err-clause-stops_each
 returns-in-Err-clause-stops_each g c f =
     table_stopped_each (order_of g.K.KeyOrder.name g.K.KeyOrder.cmp) (g.S.Store.facts c.args.store.now) c.args.numbers.now.next c.prepare.new.numbers.next c.args.plan c.args.manifest.now c.args.memory.now.inserts c.args.version.now.tables
-    c.unread_law.ensures (g.S.Store.facts c.prepare.new.store) c.in-Err.ensures.drawn (c.in-Err.ensures.writes.calls f)
+    c.unread_law.ensures (g.S.Store.facts c.prepare.new.store) c.in-Err.ensures.drawn (c.in-Err.ensures.writes.calls f).leaves
 
 pub returns-in-Ok-append_edit-clause-stops_each : goal.returns-in-Ok-append_edit-clause-stops_each
 returns-in-Ok-append_edit-clause-stops_each g c f =
@@ -142,3 +144,22 @@ returns-in-Err-append_edit-clause-stops_each g c f =
     flush_stopped_each order (g.S.Store.facts c.args.store.now) c.args.numbers.now.next c.prepare.new.numbers.next c.args.plan c.args.manifest.now c.args.memory.now.inserts
     c.unread_law.ensures c.flush_law.ensures c.same_manifest_law.ensures (g.S.Store.facts c.prepare.new.store) (g.S.Store.facts c.append_edit.new.store) c.args.version.now c.in-Ok.prepared
     c.in-Ok.ensures.writes c.in-Ok.ensures.drawn c.in-Err-append_edit.ensures.call p.0 p.1 p.2 p.3 p.4 (c.in-Err-append_edit.ensures.stops f order) f
+
+-- ---- which names stay through it
+
+pub returns-in-Err-clause-carries : goal.returns-in-Err-clause-carries
+returns-in-Err-clause-carries g c f =
+    carries_writes (g.S.Store.facts c.args.store.now) (g.S.Store.facts c.prepare.new.store) (λ (q : List ℕ). q ≡ name_of (Table c.args.numbers.now.next)) (c.in-Err.ensures.writes.calls f)
+
+pub returns-in-Ok-append_edit-clause-carries : goal.returns-in-Ok-append_edit-clause-carries
+returns-in-Ok-append_edit-clause-carries g c f =
+    carries_edit (g.S.Store.facts c.args.store.now) (g.S.Store.facts c.prepare.new.store) (g.S.Store.facts c.append_edit.new.store) (λ (q : List ℕ). q ≡ name_of (Table c.args.numbers.now.next))
+    (c.in-Ok.ensures.writes.calls (c.in-Ok-append_edit.ensures.call.faithful f)) (c.in-Ok-append_edit.ensures.carries f)
+
+pub returns-in-Err-append_edit-clause-carries : goal.returns-in-Err-append_edit-clause-carries
+returns-in-Err-append_edit-clause-carries g c f =
+    carries_edit (g.S.Store.facts c.args.store.now) (g.S.Store.facts c.prepare.new.store) (g.S.Store.facts c.append_edit.new.store) (λ (q : List ℕ). q ≡ name_of (Table c.args.numbers.now.next))
+    (c.in-Ok.ensures.writes.calls (c.in-Err-append_edit.ensures.call.faithful f)) (c.in-Err-append_edit.ensures.carries f)
+
+pub returns-in-Ok-append_edit-clause-ends : goal.returns-in-Ok-append_edit-clause-ends
+returns-in-Ok-append_edit-clause-ends g c f = c.in-Ok-append_edit.ensures.ends f

@@ -1,7 +1,13 @@
 use Rattle.std.proofs.Common.{◌≡◌, ◌+◌, ◌<◌, ◌^◌, ◌∙◌, arith}
 use Rattle.std.proofs.lemmas.Result.{err_from_is_err_and}
+use Rattle.edits.specs.Names.{name_of}
+use Rattle.edits.specs.declared.names.FileName.TheVariants.{Table}
+use Rattle.table.proofs.Storing.{writes_none}
 use Rattle.directory_writes.proofs.NewVersions.{version_refused, version_made}
 use Rattle.directory_writes.proofs.flush.prepare.Goals as goal
+
+pub returns-in_err-number-clause-writes : goal.returns-in_err-number-clause-writes
+returns-in_err-number-clause-writes g c = writes_none (g.S.Store.facts c.args.store.now) (name_of (Table c.args.numbers.now.next))
 
 pub returns-in_err-version-clause-refused : goal.returns-in_err-version-clause-refused
 returns-in_err-version-clause-refused g c =

@@ -5,6 +5,8 @@ use Rattle.directory_writes.specs.declared.install.Installed.{Installed}
 use Rattle.directory_writes.specs.internal.Flush.{SparesManifest}
 use Rattle.directory_writes.specs.internal.Install.{InstallLeaves}
 use Rattle.directory_writes.specs.declared.flush.FlushError.{FlushError}
+use Rattle.store.proofs.Carrying.{carries_writes}
+use Rattle.directory_writes.proofs.Carrying.{carries_edit}
 use Rattle.directory_writes.proofs.InstallSynced.{synced_still}
 use Rattle.directory_writes.proofs.InstalledEach.{InstallEach, OwnsEach, install_stopped_each, maybe_each, none_each, ok_each, owns_each, table_stopped_each}
 use Rattle.directory_writes.proofs.Installing.{touches_job, install_stopped, leaves_none, leaves_ok, leaves_maybe, table_stopped}
@@ -154,3 +156,22 @@ returns-in-Err-append_edit-clause-stops_each g c f =
     install_stopped_each order c.args.job c.args.numbers.now.next c.args.last_sequence c.args.numbers.now.in_range.1 c.requires.numbered (g.S.Store.facts c.args.store.now) (g.S.Store.facts c.prepare_job.new.store)
     c.in-Ok.ensures.writes c.args.manifest.now (c.in-Err-append_edit.ensures.call.faithful f) c.same_manifest_law.ensures (g.S.Store.facts c.append_edit.new.store) c.args.version.now c.in-Ok.prepared c.in-Ok.ensures.prepared
     (c.in-Err-append_edit.ensures.stops f order)
+
+-- ---- which names stay through it
+
+pub returns-in-Err-clause-carries : goal.returns-in-Err-clause-carries
+returns-in-Err-clause-carries g c f =
+    carries_writes (g.S.Store.facts c.args.store.now) (g.S.Store.facts c.prepare_job.new.store) (IsTableName (IsNumberAtHand c.args.job.outputs)) (c.in-Err.ensures.writes.calls f)
+
+pub returns-in-Ok-append_edit-clause-carries : goal.returns-in-Ok-append_edit-clause-carries
+returns-in-Ok-append_edit-clause-carries g c f =
+    carries_edit (g.S.Store.facts c.args.store.now) (g.S.Store.facts c.prepare_job.new.store) (g.S.Store.facts c.append_edit.new.store) (IsTableName (IsNumberAtHand c.args.job.outputs))
+    (c.in-Ok.ensures.writes.calls (c.in-Ok-append_edit.ensures.call.faithful f)) (c.in-Ok-append_edit.ensures.carries f)
+
+pub returns-in-Err-append_edit-clause-carries : goal.returns-in-Err-append_edit-clause-carries
+returns-in-Err-append_edit-clause-carries g c f =
+    carries_edit (g.S.Store.facts c.args.store.now) (g.S.Store.facts c.prepare_job.new.store) (g.S.Store.facts c.append_edit.new.store) (IsTableName (IsNumberAtHand c.args.job.outputs))
+    (c.in-Ok.ensures.writes.calls (c.in-Err-append_edit.ensures.call.faithful f)) (c.in-Err-append_edit.ensures.carries f)
+
+pub returns-in-Ok-append_edit-clause-ends : goal.returns-in-Ok-append_edit-clause-ends
+returns-in-Ok-append_edit-clause-ends g c f = c.in-Ok-append_edit.ensures.ends f

@@ -1,9 +1,13 @@
 use Rattle.std.proofs.Common.{[], ◌∷◌, ◌++◌, ◌∙◌, subst}
 use Rattle.ikey.specs.Entries.{Pair}
 use Rattle.memtable.specs.Slots.{entry_seen}
+use Rattle.table.proofs.Storing.{writes_none}
 use Rattle.table.specs.Building.{Builds}
 use Rattle.directory_writes.proofs.Filled.{same_pair}
 use Rattle.directory_writes.proofs.level0.add_entry.Goals as goal
+
+pub returns-in_err-pack_into-clause-writes : goal.returns-in_err-pack_into-clause-writes
+returns-in_err-pack_into-clause-writes g c = writes_none (g.S.Store.facts c.args.store.now) c.args.builder.now.name
 
 pub returns-clause-added : goal.returns-clause-added
 returns-clause-added g c = λ pairs t b.

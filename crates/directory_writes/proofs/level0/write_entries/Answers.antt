@@ -3,13 +3,16 @@ use Rattle.std.proofs.lemmas.Result.{err_from_is_err_and}
 use Rattle.std.specs.FinMap.{get}
 use Rattle.memtable.specs.Order.{ordered}
 use Rattle.store.specs.Files.{Facts, Files}
-use Rattle.table.proofs.Storing.{refuses_later}
+use Rattle.table.proofs.Storing.{refuses_later, writes_none}
 use Rattle.table.specs.Writing.{NeedsLongEnds}
 use Rattle.directory_writes.specs.internal.Level0.{IsTooLarge, pairs_of}
 use Rattle.directory_writes.proofs.Filled.{writes_by, some_pairs}
 use Rattle.compact.proofs.Sizes.{long_ends}
 use Rattle.directory_writes.proofs.Sizes.{whole_room}
 use Rattle.directory_writes.proofs.level0.write_entries.Goals as goal
+
+pub returns-in_err-builder-clause-writes : goal.returns-in_err-builder-clause-writes
+returns-in_err-builder-clause-writes g c = writes_none (g.S.Store.facts c.args.store.now) c.args.name.now
 
 pub returns-in_err-size-clause-writes : goal.returns-in_err-size-clause-writes
 returns-in_err-size-clause-writes g c =

@@ -1,11 +1,22 @@
 use Rattle.std.proofs.Common.{◌≡◌, List, ℕ, Some, sym, subst, ◌∙◌, arith}
 use Rattle.std.specs.FinMap.{get}
-use Rattle.edits.specs.Names.{IsNumbered}
+use Rattle.edits.specs.Names.{name_of, IsNumbered}
+use Rattle.edits.specs.declared.names.FileName.TheVariants.{Table}
 use Rattle.ikey.specs.Orders.{order_of}
 use Rattle.store.specs.Files.{Facts}
+use Rattle.table.proofs.Storing.{writes_none}
 use Rattle.directory_writes.proofs.KeyEnds.{key_range}
 use Rattle.directory_writes.proofs.Made.{is_level0}
 use Rattle.directory_writes.proofs.level0.write_level0.Goals as goal
+
+pub returns-in_err-smallest-clause-writes : goal.returns-in_err-smallest-clause-writes
+returns-in_err-smallest-clause-writes g c = writes_none (g.S.Store.facts c.args.store.now) (name_of (Table c.args.number))
+
+pub returns-in_err-largest-clause-writes : goal.returns-in_err-largest-clause-writes
+returns-in_err-largest-clause-writes g c = writes_none (g.S.Store.facts c.args.store.now) (name_of (Table c.args.number))
+
+pub returns-in_err-name-clause-writes : goal.returns-in_err-name-clause-writes
+returns-in_err-name-clause-writes g c = writes_none (g.S.Store.facts c.args.store.now) (name_of (Table c.args.number))
 
 pub returns-clause-written : goal.returns-clause-written
 returns-clause-written g c = λ t.

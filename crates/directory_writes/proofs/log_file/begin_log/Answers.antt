@@ -1,11 +1,16 @@
-use Rattle.std.proofs.Common.{◌≡◌, ◌+◌, ℕ, List, String, Result, Ok, Err, inl, inr, refl, sym, ap, subst, ◌∙◌, arith, rules}
+use Rattle.std.proofs.Common.{◌≡◌, ◌⊎◌, ◌+◌, ℕ, List, String, Result, Ok, Err, None, inl, inr, refl, sym, ap, subst, ◌∙◌, arith, rules}
 use Rattle.std.specs.declared.alloc.Global.{Global}
 use Rattle.coding.specs.declared.error.DbError.{DbError}
 use Rattle.coding.specs.declared.error.DbError.TheVariants.{OutOfMemory}
 use Rattle.edits.specs.Names.{name_of, IsNumbered}
 use Rattle.edits.specs.declared.names.FileName.TheVariants.{Log}
+use Rattle.store.specs.Calls.{Adds, Idles}
+use Rattle.store.specs.Files.{Creation}
+use Rattle.store.specs.Losses.{CarriesBut}
+use Rattle.store.proofs.Carrying.{carries_writes}
 use Rattle.directory_writes.specs.internal.Calls.{Creates}
 use Rattle.directory_writes.specs.internal.LogFile.{BeginsLog}
+use Rattle.directory_writes.proofs.Carrying.{carries_none}
 use Rattle.directory_writes.proofs.LogsBegun.{BeginsEach, begins_each, begins_none, stopped_each, unstopped_each}
 use Rattle.directory_writes.proofs.NewLogFiles.{begins, maybe_made, log_stopped, log_unstopped}
 use Rattle.directory_writes.proofs.log_file.begin_log.Goals as goal
@@ -147,3 +152,64 @@ returns-clause-stops_each g c f order =
     let named : c.as_str.result.now ≡ name_of (Log next) = c.as_str.ensures.value ∙ c.in_ok-name.ensures ∙ ap (λ (n : ℕ). name_of (Log n)) drawn.0 in
     stopped_each next (omega (arith, drawn.0, drawn.3), omega (arith, drawn.0, drawn.2)) order c.begin_log_law.ensures (g.S.Store.facts c.args.store.now) c.as_str.result.now named
     (g.S.Store.facts c.create_file.new.store) (c.create_file.ensures.stops f)
+
+-- ---- which names stay through it
+
+pub returns-in_err-number-clause-carries : goal.returns-in_err-number-clause-carries
+returns-in_err-number-clause-carries g c f = carries_none (g.S.Store.facts c.args.store.now) (λ (q : List ℕ). q ≡ name_of (Log c.args.numbers.now.next))
+
+pub returns-in_err-name-clause-carries : goal.returns-in_err-name-clause-carries
+returns-in_err-name-clause-carries g c f = carries_none (g.S.Store.facts c.args.store.now) (λ (q : List ℕ). q ≡ name_of (Log c.args.numbers.now.next))
+
+pub returns-in_err-create_file-clause-carries : goal.returns-in_err-create_file-clause-carries
+returns-in_err-create_file-clause-carries g c f =
+    let old = g.S.Store.facts c.args.store.now in
+    let new = g.S.Store.facts c.create_file.new.store in
+    let next = c.args.numbers.now.next in
+    let drawn = c.in_ok-number.ensures in
+    let named : c.as_str.result.now ≡ name_of (Log next) = c.as_str.ensures.value ∙ c.in_ok-name.ensures ∙ ap (λ (n : ℕ). name_of (Log n)) drawn.0 in
+    subst (λ (name : List ℕ). CarriesBut old new (λ (q : List ℕ). q ≡ name)) named (carries_writes old new (λ (q : List ℕ). q ≡ c.as_str.result.now) (c.create_file.ensures.only f))
+
+pub returns-clause-carries : goal.returns-clause-carries
+returns-clause-carries g c f =
+    let old = g.S.Store.facts c.args.store.now in
+    let new = g.S.Store.facts c.create_file.new.store in
+    let next = c.args.numbers.now.next in
+    let drawn = c.in_ok-number.ensures in
+    let named : c.as_str.result.now ≡ name_of (Log next) = c.as_str.ensures.value ∙ c.in_ok-name.ensures ∙ ap (λ (n : ℕ). name_of (Log n)) drawn.0 in
+    subst (λ (name : List ℕ). CarriesBut old new (λ (q : List ℕ). q ≡ name)) named (carries_writes old new (λ (q : List ℕ). q ≡ c.as_str.result.now) (c.create_file.ensures.only f))
+
+-- ---- and that the log is made, with nothing of it synced
+
+pub returns-in_err-number-clause-noted : goal.returns-in_err-number-clause-noted
+returns-in_err-number-clause-noted g c f = inl (refl, refl)
+
+pub returns-in_err-name-clause-noted : goal.returns-in_err-name-clause-noted
+returns-in_err-name-clause-noted g c f = inl (refl, refl)
+
+pub returns-in_err-create_file-clause-noted : goal.returns-in_err-create_file-clause-noted
+returns-in_err-create_file-clause-noted g c f =
+    let old = g.S.Store.facts c.args.store.now in
+    let new = g.S.Store.facts c.create_file.new.store in
+    let next = c.args.numbers.now.next in
+    let drawn = c.in_ok-number.ensures in
+    let named : c.as_str.result.now ≡ name_of (Log next) = c.as_str.ensures.value ∙ c.in_ok-name.ensures ∙ ap (λ (n : ℕ). name_of (Log n)) drawn.0 in
+    subst (λ (name : List ℕ). Idles old new ⊎ Adds old new (Creation name)) named (c.create_file.ensures.noted f)
+
+pub returns-clause-noted : goal.returns-clause-noted
+returns-clause-noted g c f =
+    let old = g.S.Store.facts c.args.store.now in
+    let new = g.S.Store.facts c.create_file.new.store in
+    let next = c.args.numbers.now.next in
+    let drawn = c.in_ok-number.ensures in
+    let named : c.as_str.result.now ≡ name_of (Log next) = c.as_str.ensures.value ∙ c.in_ok-name.ensures ∙ ap (λ (n : ℕ). name_of (Log n)) drawn.0 in
+    subst (λ (name : List ℕ). Idles old new ⊎ Adds old new (Creation name)) named (c.create_file.ensures.noted f)
+
+pub returns-clause-unsynced : goal.returns-clause-unsynced
+returns-clause-unsynced g c f =
+    let old = g.S.Store.facts c.args.store.now in
+    let new = g.S.Store.facts c.create_file.new.store in
+    let next = c.args.numbers.now.next in
+    let drawn = c.in_ok-number.ensures in
+    let named : c.as_str.result.now ≡ name_of (Log next) = c.as_str.ensures.value ∙ c.in_ok-name.ensures ∙ ap (λ (n : ℕ). name_of (Log n)) drawn.0 in
+    subst (λ (name : List ℕ). new.synced name ≡ None) named (c.in_ok-create_file.ensures.unsynced f)

@@ -5,6 +5,7 @@ use Rattle.store.specs.Files.{AppendsBeginning}
 use Rattle.store.specs.Stops.{LeavesOnly}
 use Rattle.directory_writes.specs.internal.Calls.{AppendsSynced}
 use Rattle.directory_writes.specs.internal.Manifest.{AppendsEdit}
+use Rattle.directory_writes.proofs.Carrying.{carries_none}
 use Rattle.directory_writes.proofs.EditSteps.{edit_done, edit_refused, edit_stopped, edit_unstopped}
 use Rattle.directory_writes.proofs.manifest.append_edit.Goals as goal
 
@@ -84,3 +85,21 @@ returns-clause-stops g c f order =
     (subst B (sym c.deref.ensures.value) c.in_ok-payload.ensures) c.in_ok-record.ensures.appends c.one_manifest.ensures
     c.failed_edit_law.ensures c.failed_append.ensures c.in_ok-record.ensures.longest new
     (subst N c.as_str.ensures.value (subst R c.deref-2.ensures.value (c.in_ok-append_synced.ensures.stops f)))
+
+pub returns-in_err-payload-clause-carries : goal.returns-in_err-payload-clause-carries
+returns-in_err-payload-clause-carries g c f = carries_none (g.S.Store.facts c.args.store.now) (λ (q : List ℕ). ⊥)
+
+pub returns-in_err-record-clause-carries : goal.returns-in_err-record-clause-carries
+returns-in_err-record-clause-carries g c f = carries_none (g.S.Store.facts c.args.store.now) (λ (q : List ℕ). ⊥)
+
+pub returns-in_default-clause-carries : goal.returns-in_default-clause-carries
+returns-in_default-clause-carries g c f = carries_none (g.S.Store.facts c.args.store.now) (λ (q : List ℕ). ⊥)
+
+pub returns-in_err-append_synced-clause-carries : goal.returns-in_err-append_synced-clause-carries
+returns-in_err-append_synced-clause-carries g c f = c.in_err-append_synced.ensures.carries f
+
+pub returns-clause-carries : goal.returns-clause-carries
+returns-clause-carries g c f = c.in_ok-append_synced.ensures.carries f
+
+pub returns-clause-ends : goal.returns-clause-ends
+returns-clause-ends g c f = c.in_ok-append_synced.ensures.ends f
