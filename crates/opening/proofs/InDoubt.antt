@@ -73,6 +73,10 @@ module _ (order : Order) (old new : Facts) (found : Found) (u : IsUsable order f
   there_before : (n : ℕ) → IsNumbered n → n ≢ found.number + 1 → contains_key new.files (name_of (Log n)) ≡ true → contains_key old.files (name_of (Log n)) ≡ true
   there_before n num other there = ap is_some (sym (spares_log found.number old new n (numbered_of found u) (next_of found u) spares num other).0) ∙ there
 
+  -- all logs but the new one have numbers below that which the open drew
+  pub logs_found : (last : ℕ) → last ≡ found.number + 1 → (n : ℕ) → IsNumbered n → n ≢ last → contains_key new.files (name_of (Log n)) ≡ true → n < found.number
+  logs_found last is n num apart there = h.number.0.listed (Log n) num (there_before n num (λ same. apart (same ∙ sym is)) there)
+
   in_front : FindsNone old.files found ⊎ FindsDirectory order old.files found → found.entries.items ≢ [] → (n : ℕ) → IsNumbered n → IsLive found.layout n → contains_key old.files (name_of (Log n)) ≡ true → IsNoneOf (name_of (Log n)) front → ⊥
   in_front (inl what) some n num live there none = some what.2
   in_front (inr what) some n num live there none =

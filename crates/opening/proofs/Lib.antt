@@ -12,7 +12,10 @@ pub mod OpenSteps
 pub mod RefusedEach
 pub mod Reopening
 pub mod RewrittenEach
+pub mod Since
+pub mod Staying
 pub mod StoreCalls
 pub mod Syncing
 pub mod Telling
 pub mod VersionTables
+mod Spared

@@ -35,7 +35,7 @@ lost_now facts lost ends h =
 
 -- ---- a file that is synced whole
 
-none_of : (o : Option (List ℕ)) → is_some o ≡ false → o ≡ None
+pub none_of : (o : Option (List ℕ)) → is_some o ≡ false → o ≡ None
 none_of None e = refl
 none_of (Some x) e = absurd (cc)
 
@@ -48,7 +48,7 @@ no_rest [] e = refl
 no_rest (x ∷ rest) e = absurd (omega (arith, e))
 
 -- two that begin with each other are the same
-both_begin : (a b : List ℕ) → BeginsWith a b → BeginsWith b a → a ≡ b
+pub both_begin : (a b : List ℕ) → BeginsWith a b → BeginsWith b a → a ≡ b
 both_begin a b h k =
     let whole : length h.0 ≡ 0 = omega (arith, ap length h.1, ap length k.1, length-append b h.0, length-append a k.0) in
     h.1 ∙ ap (λ (rest : List ℕ). b ++ rest) (no_rest h.0 whole) ∙ append-nil b

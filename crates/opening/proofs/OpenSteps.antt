@@ -24,7 +24,7 @@ use Rattle.opening.specs.internal.Calls.{Writes, SetsCurrent, MakesCurrent}
 use Rattle.opening.specs.internal.Directories.{IsDirectoryOf}
 use Rattle.opening.specs.internal.Opening.{Finds, IsUsable, KeepsLogs, IsNewManifest, HasRewritten, IsContinued, IsReady, Rewrites}
 use Rattle.opening.proofs.Reopening.{OpenLaws, Beside, Behind, files_apart, numbered_of, next_of, beside_manifest, beside_both, behind_current, around_behind, around_log, continued_beside, HasParts, HasNew, new_parts, continued_new, one_new, logs_below}
-use Rattle.opening.proofs.StoreCalls.{Creates, MaySet, OnlyIt, after, done_so, went}
+use Rattle.opening.proofs.StoreCalls.{Creates, MaySet, after, done_so, went}
 
 -- ---- the new log
 
@@ -199,13 +199,13 @@ module _ (order : Order) (laws : OpenLaws) (old : Facts) (found : Found) (u : Is
   -- ---- a stop in the middle
 
   module _ (h : Finds order old.files found) where
-    pub manifest_stops : (mid : Facts) → OnlyIt old mid (name_of (Manifest found.number)) → LeavesOnly old mid (IsContinued order old.files)
+    pub manifest_stops : (mid : Facts) → LeavesOnly old mid (KeepsBut old.files (λ (q : List ℕ). q ≡ name_of (Manifest found.number))) → LeavesOnly old mid (IsContinued order old.files)
     manifest_stops mid k =
         leaves_so old mid (KeepsBut old.files (λ (q : List ℕ). q ≡ name_of (Manifest found.number))) (IsContinued order old.files)
         (λ files others. continued_beside order old.files files found laws.free h (beside_manifest found.number old.files files (numbered_of found u) others)) k
 
     pub current_stops : (mid new : Facts) (current : List ℕ) → Writes old mid (name_of (Manifest found.number)) manifest (Ok tt) → current ≡ name_of (Manifest found.number) ++ 10 ∷ [] → IsTrue mid.faithful
-        → OnlyIt old mid (name_of (Manifest found.number)) → LeavesOnly mid new (MaySet mid.files (name_of (Temporary found.number)) current) → LeavesOnly old new (IsContinued order old.files)
+        → LeavesOnly old mid (KeepsBut old.files (λ (q : List ℕ). q ≡ name_of (Manifest found.number))) → LeavesOnly mid new (MaySet mid.files (name_of (Temporary found.number)) current) → LeavesOnly old new (IsContinued order old.files)
     current_stops mid new current written is m k set =
         leaves_both old mid new (IsContinued order old.files) (manifest_stops mid k)
         (leaves_so mid new (MaySet mid.files (name_of (Temporary found.number)) current) (IsContinued order old.files)

@@ -18,7 +18,7 @@ use Rattle.opening.specs.internal.Calls.{Attempts, Writes, SetsCurrent, MakesCur
 use Rattle.opening.specs.internal.Opening.{Finds, IsContinued, IsNewManifest, IsUsable, Rewrites}
 use Rattle.opening.proofs.OpenSteps.{manifest_failed, current_failed, log_created, manifest_stops, current_stops, log_stops}
 use Rattle.opening.proofs.Reopening.{OpenLaws, numbered_of, next_of}
-use Rattle.opening.proofs.StoreCalls.{Creates, MaySet, OnlyIt}
+use Rattle.opening.proofs.StoreCalls.{Creates, MaySet}
 
 -- ---- single calls
 
@@ -120,7 +120,7 @@ module _ (order : Order) (laws : OpenLaws) (old : Facts) (found : Found) (u : Is
 
   -- ---- a stop in the middle
 
-  pub manifest_stops_each : (mid : Facts) → OnlyIt old mid (name_of (Manifest found.number)) → LeavesOnly old mid (ContinuedEach order found old.files)
+  pub manifest_stops_each : (mid : Facts) → LeavesOnly old mid (KeepsBut old.files (λ (q : List ℕ). q ≡ name_of (Manifest found.number))) → LeavesOnly old mid (ContinuedEach order found old.files)
   manifest_stops_each mid k =
       leaves_so old mid (KeepsBut old.files (λ (q : List ℕ). q ≡ name_of (Manifest found.number))) (ContinuedEach order found old.files)
       (λ files others whole behind d c h.
@@ -128,7 +128,7 @@ module _ (order : Order) (laws : OpenLaws) (old : Facts) (found : Found) (u : Is
       (record { more = []; calls = refl; during = λ fs gone. absurd gone; now = λ q out. c.stays q (others q out) })).now) k
 
   pub current_stops_each : (mid new : Facts) (current : List ℕ) → Writes old mid (name_of (Manifest found.number)) manifest (Ok tt) → current ≡ name_of (Manifest found.number) ++ 10 ∷ [] → IsTrue mid.faithful
-      → OnlyIt old mid (name_of (Manifest found.number)) → LeavesOnly mid new (MaySet mid.files (name_of (Temporary found.number)) current) → LeavesOnly old new (ContinuedEach order found old.files)
+      → LeavesOnly old mid (KeepsBut old.files (λ (q : List ℕ). q ≡ name_of (Manifest found.number))) → LeavesOnly mid new (MaySet mid.files (name_of (Temporary found.number)) current) → LeavesOnly old new (ContinuedEach order found old.files)
   current_stops_each mid new current written is m k set =
       leaves_both old mid new (ContinuedEach order found old.files) (manifest_stops_each mid k)
       (leaves_so mid new (MaySet mid.files (name_of (Temporary found.number)) current) (ContinuedEach order found old.files)

@@ -8,10 +8,11 @@ use Rattle.std.specs.FinMap.{get, insert, remove, get-remove, slice_cmp-IsAntisy
 use Rattle.coding.specs.declared.error.DbError.{DbError}
 use Rattle.coding.specs.declared.error.DbError.TheVariants.{OutOfMemory, Io}
 use Rattle.coding.specs.declared.error.DbError.TheVariants as error
-use Rattle.store.specs.Files.{Facts, Files, Addition, Move, Appends, AppendsBeginning, Renames}
+use Rattle.store.specs.Files.{Facts, Files, Synced, Addition, Move, Sync, Appends, AppendsBeginning, Renames, with_synced}
+use Rattle.directory_writes.proofs.StoreCalls.{with_other}
 use Rattle.store.specs.Calls.{Adds, Counts, Idles, Keeps, Changes}
 use Rattle.store.specs.Stops.{KeepsBut, LeavesOnly, MayLeave, WritesOnly}
-use Rattle.store.proofs.Stopping.{append_left, leaves_both, leaves_so, noted_left, others_both}
+use Rattle.store.proofs.Stopping.{leaves_both, leaves_so, noted_left, others_appended, others_both, others_synced}
 use Rattle.store.specs.declared.error.StoreError.{StoreError}
 use Rattle.store.specs.declared.error.StoreError.TheVariants as store_error
 use Rattle.edits.specs.Names.{name_of}
@@ -295,29 +296,33 @@ current_not_kept old mid new temporary bytes se e m counts undenied same there i
 abbrev pub OnlyIt : Facts → Facts → List ℕ → Type 0
 OnlyIt old new name = WritesOnly old new (λ (q : List ℕ). q ≡ name)
 
-pub created_stops : (old new : Facts) (name : List ℕ) → LeavesOnly old new (λ files. (files ≡ old.files) ⊎ (files ≡ insert old.files name [])) → OnlyIt old new name
-created_stops old new name h =
-    leaves_so old new (λ files. (files ≡ old.files) ⊎ (files ≡ insert old.files name [])) (KeepsBut old.files (λ (q : List ℕ). q ≡ name)) (λ files left. created_others old.files files name left) h
-
-pub appended_stops : (old mid new : Facts) (name bytes : List ℕ) → OnlyIt old mid name → Idles mid new ⊎ ((n : ℕ) × Adds mid new (Addition name (take n bytes))) → OnlyIt old new name
-appended_stops old mid new name bytes h noted =
+pub appended_stops : (old mid new : Facts) (name bytes : List ℕ) → OnlyIt old mid name → Idles mid new ⊎ ((n : ℕ) × Adds mid new (Addition name (take n bytes))) → new.synced ≡ mid.synced → OnlyIt old new name
+appended_stops old mid new name bytes h noted same =
     others_both old mid new (λ (q : List ℕ). q ≡ name) h
-    (leaves_so mid new (λ files. AppendsBeginning mid.files files name bytes) (KeepsBut mid.files (λ (q : List ℕ). q ≡ name)) (λ files left. appended_others mid.files files name bytes left)
-    (append_left mid new name bytes noted))
+    (others_appended mid new name bytes (λ files left. appended_others mid.files files name bytes left) (λ q apart. ap (λ (s : Synced). s q) same) noted)
+
+pub synced_stops : (old mid new : Facts) (name : List ℕ) (r : Result (Unit {0}) StoreError) → OnlyIt old mid name → OnOk r (Adds mid new (Sync name)) → OnErr r (new.calls ≡ mid.calls) → new.files ≡ mid.files
+    → ((q : List ℕ) → (q ≡ name → ⊥) → new.synced q ≡ mid.synced q) → OnlyIt old new name
+synced_stops old mid new name r h noted left same synced = others_both old mid new (λ (q : List ℕ). q ≡ name) h (others_synced mid new name r noted left same synced)
+
+pub sync_others : (old new : Facts) (name : List ℕ) (r : Result (Unit {0}) StoreError) → OnOk r (new.synced ≡ with_synced old.synced name (get old.files name)) → OnErr r (new.synced ≡ old.synced) → (q : List ℕ) → (q ≡ name → ⊥)
+    → new.synced q ≡ old.synced q
+sync_others old new name (Ok x) done same q apart = ap (λ (s : Synced). s q) done ∙ with_other old.synced name q (get old.files name) apart
+sync_others old new name (Err e) done same q apart = ap (λ (s : Synced). s q) same
 
 -- `CURRENT` isn't set, or it is
 abbrev pub MaySet : Files → List ℕ → List ℕ → Files → Type 0
 MaySet old temporary bytes new = KeepsOthers old new temporary ⊎ SetsCurrent old new temporary bytes
 
 pub unset_stops : (old new : Facts) (temporary bytes : List ℕ) → OnlyIt old new temporary → LeavesOnly old new (MaySet old.files temporary bytes)
-unset_stops old new temporary bytes h = leaves_so old new (KeepsBut old.files (λ (q : List ℕ). q ≡ temporary)) (MaySet old.files temporary bytes) (λ files kept. inl kept) h
+unset_stops old new temporary bytes h = leaves_so old new (KeepsBut old.files (λ (q : List ℕ). q ≡ temporary)) (MaySet old.files temporary bytes) (λ files kept. inl kept) h.leaves
 
 pub renamed_stops : (old mid new : Facts) (temporary bytes : List ℕ) → get mid.files temporary ≡ Some bytes → OnlyIt old mid temporary → Idles mid new ⊎ Adds mid new (Move temporary (name_of Current)) → LeavesOnly old new (MaySet old.files temporary bytes)
 renamed_stops old mid new temporary bytes written h noted =
     leaves_both old mid new (MaySet old.files temporary bytes) (unset_stops old mid temporary bytes h)
     (leaves_so mid new (MayLeave (Move temporary (name_of Current)) mid.files) (MaySet old.files temporary bytes)
     (λ files left. elim left [
-      | inl same ↦ inl (both_others old.files mid.files files temporary h.now (same_others mid.files files temporary same))
-      | inr done ↦ inr (renamed_sets old.files mid.files files temporary bytes written h.now done)
+      | inl same ↦ inl (both_others old.files mid.files files temporary h.leaves.now (same_others mid.files files temporary same))
+      | inr done ↦ inr (renamed_sets old.files mid.files files temporary bytes written h.leaves.now done)
     ])
     (noted_left mid new (Move temporary (name_of Current)) noted))

@@ -1,9 +1,9 @@
 -- What a loss of power leaves of a directory, by what of it is synced. (What it may leave of files: `store`'s specs/Losses.)
-use Rattle.std.specs.Prelude.{◌≡◌, ◌≢◌, ◌⊎◌, ◌<◌, ◌≤◌, ℕ, true, Some, None, List, [], ◌∷◌, ◌++◌, map, string_bytes}
+use Rattle.std.specs.Prelude.{◌≡◌, ◌≢◌, ◌⊎◌, ◌<◌, ◌≤◌, ℕ, Bool, true, false, Option, Some, None, List, [], ◌∷◌, ◌++◌, map, string_bytes}
 use Rattle.std.specs.List.{AllByRecursion}
-use Rattle.std.specs.FinMap.{get}
-use Rattle.store.specs.Files.{Facts, Files, Call, disk_of}
-use Rattle.store.specs.Losses.{IsLost, Lost, is_sync}
+use Rattle.std.specs.FinMap.{get, contains_key}
+use Rattle.store.specs.Files.{Facts, Files, Call}
+use Rattle.store.specs.Losses.{BeginsWith, Lost, behind_sync, is_sync, name_behind}
 use Rattle.store.specs.Stops.{moment}
 use Rattle.ikey.specs.Orders.{Order}
 use Rattle.logfile.specs.declared.record.Tail.{Tail}
@@ -68,11 +68,12 @@ KeptLaw = (order : Order) (facts : Facts) (d : Directory) (lost : Files)
 
 -- ---- logs that may be cut
 
--- All that a directory of these parts reads is synced whole but for its logs.
-pub record IsKeptButLogs (facts : Facts) (d : Directory) : Type 0 where
+-- All that a directory of these parts reads is synced whole but for its logs, and for tables that the loss has left.
+pub record IsKeptButLogs (facts : Facts) (whole after : Files) (d : Directory) : Type 0 where
   pub current : IsKept facts (name_of Current)
   pub manifest : IsKept facts (name_of (Manifest d.manifest))
-  pub tables : (content : TableContent) → InTables d.tables content → IsTableKept facts content.placed.table.number
+  pub tables : (content : TableContent) → InTables d.tables content
+      → IsTableKept facts content.placed.table.number ⊎ (table_at after content.placed.table.number ≡ table_at whole content.placed.table.number)
 
 -- A log has lost some of its last batches, or none: none of those that were synced.
 pub record IsCut (facts : Facts) (whole cut : LogContent) : Type 0 where
@@ -82,15 +83,76 @@ pub record IsCut (facts : Facts) (whole cut : LogContent) : Type 0 where
   pub kept : (bytes : List ℕ) (synced : List Batch) (tail : Tail) → facts.synced (name_of (Log whole.number)) ≡ Some bytes → IsBatchLog bytes synced tail
       → (more : List Batch) × (cut.batches ≡ synced ++ more)
 
+-- Each log is cut, or gone, if nothing of it was ever synced.
 abbrev pub AreCut : Facts → List LogContent → List LogContent → Type 0
 AreCut facts [] [] = Unit {0}
-AreCut facts (whole ∷ wholes) (cut ∷ cuts) = IsCut facts whole cut × AreCut facts wholes cuts
-AreCut facts wholes cuts = ⊥
+AreCut facts [] (cut ∷ cuts) = ⊥
+AreCut facts (whole ∷ wholes) cuts =
+    ((cut : LogContent) × (others : List LogContent) × (cuts ≡ cut ∷ others) × IsCut facts whole cut × AreCut facts wholes others)
+    ⊎ ((facts.synced (name_of (Log whole.number)) ≡ None) × AreCut facts wholes cuts)
 
--- A loss of power that leaves the names as they are leaves a consistent directory then, whose logs may be cut.
+-- A directory of these parts reads the file of this name, and it is no log. (Of a table it reads the file with the newer name, where that is there.)
+abbrev pub IsReadIn : Files → Directory → List ℕ → Type 0
+IsReadIn files d name = (name ≡ name_of Current) ⊎ (name ≡ name_of (Manifest d.manifest))
+    ⊎ ((content : TableContent) × InTables d.tables content
+    × ((name ≡ name_of (Table content.placed.table.number)) ⊎ ((name ≡ name_of (OldTable content.placed.table.number)) × (get files (name_of (Table content.placed.table.number)) ≡ None))))
+
+-- it is one of its logs
+abbrev pub IsLogIn : Directory → List ℕ → Type 0
+IsLogIn d name = (n : ℕ) × IsNumbered n × IsLive d.layout n × (name ≡ name_of (Log n))
+
+-- Of what the directory reads, these files are left: the same names, but for logs of which nothing was synced, and of each file a beginning of what it
+-- holds, with what of it was synced at least. Whatever else lies there, and whatever is gone, is none of its.
+pub record IsLeftOf (facts : Facts) (d : Directory) (lost : Files) : Type 0 where
+  pub names : (q : List ℕ) → IsReadIn facts.files d q → contains_key lost q ≡ contains_key facts.files q
+  pub logs : (q : List ℕ) → IsLogIn d q → (contains_key lost q ≡ contains_key facts.files q) ⊎ ((contains_key lost q ≡ false) × (facts.synced q ≡ None))
+  pub beginning : (q bytes : List ℕ) → IsReadIn facts.files d q ⊎ IsLogIn d q → get lost q ≡ Some bytes → (held : List ℕ) × (get facts.files q ≡ Some held) × BeginsWith held bytes
+  pub kept : (q bytes synced : List ℕ) → IsReadIn facts.files d q ⊎ IsLogIn d q → get lost q ≡ Some bytes → facts.synced q ≡ Some synced → BeginsWith bytes synced
+
+-- So a loss of power leaves a consistent directory then, whose logs may be cut.
 abbrev pub CutLaw : Type 0
-CutLaw = (order : Order) (facts : Facts) (d : Directory) (lost : Files) → IsConsistent order facts.files d → IsKeptButLogs facts d → IsLost facts.files [] (disk_of facts) lost
+CutLaw = (order : Order) (facts : Facts) (d : Directory) (lost : Files) → IsConsistent order facts.files d → IsKeptButLogs facts facts.files lost d → IsLeftOf facts d lost
     → (logs : List LogContent) × AreCut facts d.logs logs × IsConsistent order lost (record d { logs = logs })
+
+-- ---- a loss since the last sync
+
+-- These calls leave the file of this name under it.
+abbrev pub IsCarriedBy : List Call → List ℕ → Type 0
+IsCarriedBy calls name = AllByRecursion (λ (call : Call). name_behind call.change name ≡ Some name) calls
+
+-- Since the first of these calls the file of this name has its name, or there was none, just as there is one now or not.
+abbrev pub HasStayed : List Call → Bool → List ℕ → Type 0
+HasStayed [] there name = Unit {0}
+HasStayed (call ∷ calls) there name = (IsCarriedBy (call ∷ calls) name × (contains_key call.found.files name ≡ there)) × HasStayed calls there name
+
+-- Or it was begun since, and nothing of it is synced.
+abbrev pub HasStayedOrBegun : List Call → Bool → Option (List ℕ) → List ℕ → Type 0
+HasStayedOrBegun [] there synced name = Unit {0}
+HasStayedOrBegun (call ∷ calls) there synced name =
+    ((IsCarriedBy (call ∷ calls) name × (contains_key call.found.files name ≡ there)) ⊎ ((contains_key call.found.files name ≡ false) × (synced ≡ None)))
+    × HasStayedOrBegun calls there synced name
+
+-- So it is since the last sync.
+abbrev pub StaysNamed : Facts → List ℕ → Type 0
+StaysNamed facts name = HasStayed (behind_sync [] facts.calls) (contains_key facts.files name) name
+
+abbrev pub StaysOrBegins : Facts → List ℕ → Type 0
+StaysOrBegins facts name = HasStayedOrBegun (behind_sync [] facts.calls) (contains_key facts.files name) (facts.synced name) name
+
+-- The calls since the last sync spare what a directory of these parts reads: no file of it was moved, replaced, made or taken away, but that logs were begun
+-- of which nothing is synced.
+pub record AreSpared (facts : Facts) (d : Directory) : Type 0 where
+  pub reads : (name : List ℕ) → IsReadIn facts.files d name → StaysNamed facts name
+  pub logs : (name : List ℕ) → IsLogIn d name → StaysOrBegins facts name
+
+-- Then every loss of power until the next call leaves of it what `IsLeftOf` says.
+abbrev pub SparedLaw : Type 0
+SparedLaw = (facts : Facts) (d : Directory) (lost : Files) → AreSpared facts d → Lost facts (moment facts) lost → IsLeftOf facts d lost
+
+-- Behind an open the calls since the last sync spare all but the new log, which they may have begun.
+pub record BeginsSpared (facts : Facts) (log : List ℕ) : Type 0 where
+  pub others : (name : List ℕ) → name ≢ log → StaysNamed facts name
+  pub begun : StaysOrBegins facts log
 
 -- ---- in each directory that differs in tables alone
 
@@ -107,7 +169,7 @@ abbrev pub KeptEachLaw : Type 0
 KeptEachLaw = (order : Order) (facts : Facts) (d : Directory) (lost : Files) → EndsInSync facts → Lost facts (moment facts) lost
     → OfEach (λ whole after. IsConsistent order whole d → IsKeptOver facts whole after d → IsConsistent order after d) facts.files lost
 
--- One that leaves the names as they are leaves it with logs that may be cut.
+-- A loss of power that leaves of it what `IsLeftOf` says leaves it with logs that may be cut.
 abbrev pub CutEachLaw : Type 0
-CutEachLaw = (order : Order) (facts : Facts) (d : Directory) (lost : Files) → IsKeptButLogs facts d → IsLost facts.files [] (disk_of facts) lost
-    → OfEach (λ whole after. IsConsistent order whole d → (logs : List LogContent) × AreCut facts d.logs logs × IsConsistent order after (record d { logs = logs })) facts.files lost
+CutEachLaw = (order : Order) (facts : Facts) (d : Directory) (lost : Files) → IsLeftOf facts d lost
+    → OfEach (λ whole after. IsConsistent order whole d → IsKeptButLogs facts whole after d → (logs : List LogContent) × AreCut facts d.logs logs × IsConsistent order after (record d { logs = logs })) facts.files lost

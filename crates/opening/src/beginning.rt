@@ -1,6 +1,6 @@
 //! What an open has in memory before its database is made (LevelDB's db/db_impl.cc, DB::Open).
 
-ghost use Rattle.std.specs.Prelude.{◌≡◌, IsTrue, Err, IfOk, IfErr, OnOk};
+ghost use Rattle.std.specs.Prelude.{◌≡◌, IsTrue, Err, IfOk, IfErr, OnOk, string_bytes};
 ghost use Rattle.coding.specs.declared.error.DbError.TheVariants.{OutOfMemory};
 ghost use Rattle.ikey.specs.Orders.{order_of};
 ghost use Rattle.store.specs.Stops.{LeavesOnly};
@@ -8,6 +8,7 @@ ghost use Rattle.directory_writes.specs.Differing.{OfEach};
 ghost use Rattle.opening.specs.internal.Opening.{IsContinued, RefusesOpen};
 ghost use Rattle.opening.specs.internal.Durable.{HasDurable, Spares};
 ghost use Rattle.opening.specs.Durable.{LeavesDurable};
+ghost use Rattle.opening.specs.Losses.{BeginsSpared};
 ghost use Rattle.opening.specs.Refusals.{IsMet};
 ghost use Rattle.opening.specs.Telling.{Tells};
 ghost use Rattle.opening.specs.internal.Outcome.{OpenOutcome};
@@ -60,6 +61,8 @@ pub fn begin<K: KeyOrder, S: Store>(
     ensures spared { IsTrue (S.facts store.new).faithful → Spares (S.facts store.old) (S.facts store.new) }
     ensures synced { IfOk result (λ begun. IsTrue (S.facts store.new).faithful
         → BeginsSynced (S.facts store.old) (S.facts store.new) begun.log begun.directory) }
+    ensures since { IfOk result (λ begun. IsTrue (S.facts store.new).faithful
+        → BeginsSpared (S.facts store.new) (string_bytes begun.log.name)) }
     ensures whole { IfOk result (IsBegun (order_of K.name K.cmp)) }
     ensures begun { IfOk result (λ begun. IsTrue (S.facts store.new).faithful
         → Begins (order_of K.name K.cmp) mode (S.facts store.old).files (S.facts store.new).files begun) }

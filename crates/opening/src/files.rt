@@ -1,6 +1,7 @@
 //! The store's calls by which an open writes, with the database's refusals.
 
-ghost use Rattle.std.specs.Prelude.{◌≡◌, ◌⊎◌, IsTrue, List, ℕ};
+ghost use Rattle.std.specs.Prelude.{◌≡◌, ◌⊎◌, IsTrue, List, [], OnOk, ℕ};
+ghost use Rattle.store.specs.Losses.{behind_sync};
 ghost use Rattle.store.specs.Stops.{LeavesOnly, WritesOnly};
 ghost use Rattle.opening.specs.internal.Calls.{KeepsOthers, Writes, MakesCurrent, SetsCurrent};
 ghost use Rattle.opening.specs.Durable.{SyncsOnly};
@@ -34,6 +35,7 @@ pub fn make_current<S: Store>(store: &mut S, temporary: &str, bytes: &[u8]) -> R
     ensures stops { IsTrue (S.facts store.new).faithful → LeavesOnly (S.facts store.old) (S.facts store.new)
         (λ files. KeepsOthers (S.facts store.old).files files temporary.now
         ⊎ SetsCurrent (S.facts store.old).files files temporary.now bytes.now) }
+    ensures ends { IsTrue (S.facts store.new).faithful → OnOk result (behind_sync [] (S.facts store.new).calls ≡ []) }
 {
     write_file(store, temporary, bytes)?;
     if let Err(error) = store.rename(temporary, "CURRENT") {

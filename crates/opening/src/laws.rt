@@ -1,7 +1,7 @@
 //! What a loss of power leaves.
 
 ghost use Rattle.opening.specs.internal.OpenedEach.{RefusedEachLaw};
-ghost use Rattle.opening.specs.Losses.{CutEachLaw, CutLaw, KeptEachLaw, KeptLaw};
+ghost use Rattle.opening.specs.Losses.{CutEachLaw, CutLaw, KeptEachLaw, KeptLaw, SparedLaw};
 
 use recover::free_change_law;
 
@@ -12,10 +12,15 @@ pub fn kept_law()
     free_change_law();
 }
 
-/// Law: where all but the logs is synced, a loss of power that leaves the names as they are leaves a consistent directory, whose logs may
-/// have lost batches from their ends, but none that was synced.
+/// Law: where all but the logs is synced, a loss of power that leaves of what the directory reads a beginning of each file leaves a
+/// consistent directory, whose logs may have lost batches from their ends, or be gone, but lose none that was synced.
 pub fn cut_law()
     ensures { CutLaw }
+{}
+
+/// Law: a loss of power leaves that where the calls since the last sync spared what the directory reads.
+pub fn spared_law()
+    ensures { SparedLaw }
 {}
 
 /// Law: the same of each directory that differs in tables alone, where all that it reads is synced.

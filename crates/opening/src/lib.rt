@@ -12,5 +12,5 @@ mod rewriting;
 
 pub use beginning::{Begun, begin};
 pub use directory::{CurrentLog, DirectoryState};
-pub use laws::{cut_each_law, cut_law, kept_each_law, kept_law, refused_each_law};
+pub use laws::{cut_each_law, cut_law, kept_each_law, kept_law, refused_each_law, spared_law};
 pub use looking::{look, look_at, sealed_memory, version_of};

@@ -6,6 +6,7 @@ ghost use Rattle.coding.specs.declared.error.DbError.TheVariants.{OutOfMemory};
 ghost use Rattle.ikey.specs.Orders.{order_of};
 ghost use Rattle.opening.specs.internal.Durable.{HasDurable, SparesBeside};
 ghost use Rattle.opening.specs.Durable.{LeavesDurable};
+ghost use Rattle.opening.specs.Losses.{BeginsSpared};
 ghost use Rattle.store.specs.Stops.{LeavesOnly};
 ghost use Rattle.directory_writes.specs.Differing.{OfEach, with_files};
 ghost use Rattle.opening.specs.internal.Begun.{IsFront, names_of_log};
@@ -190,6 +191,8 @@ pub fn rewrite_directory<K: KeyOrder, S: Store>(
     ensures stops_each { IsTrue (S.facts store.new).faithful → LeavesOnly (S.facts store.old) (S.facts store.new)
         (λ files. OfEach (λ whole after. Finds (order_of K.name K.cmp) whole found.now → IsContinued (order_of K.name K.cmp) whole after)
         (S.facts store.old).files files) }
+    ensures since { IsTrue (S.facts store.new).faithful → Finds (order_of K.name K.cmp) (S.facts store.old).files found.now
+        → OnOk result (BeginsSpared (S.facts store.new) (string_bytes rewrite.now.log_name)) }
 {
     // Laws, for the proof alone.
     free_change_law();

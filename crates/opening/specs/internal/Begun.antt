@@ -68,9 +68,10 @@ pub record IsFront (found : Found) (names : List (List ℕ)) : Type 0 where
   pub none : found.entries.items ≡ [] → names ≡ []
   pub all : found.entries.items ≢ [] → names ≡ names_of_logs found.logs.items
 
--- Which of the logs that the next open reads the device may not have whole, and that an open leaves tables alone: those that are there have numbers
--- below that of its MANIFEST.
+-- Which of the logs that the next open reads the device may not have whole, and that an open leaves tables alone: those that are there, and
+-- all logs but the new one, have numbers below that of its MANIFEST.
 pub record BeginsSynced (old new : Facts) (log : CurrentLog) (state : DirectoryState) : Type 0 where
   pub logs : AreInDoubt new.files log state
   pub tables : SparesTables old new
   pub found : (n : ℕ) → IsNumbered n → IsSome (table_at new.files n) → n < state.manifest.number
+  pub begun : (n : ℕ) → IsNumbered n → n ≢ log.number → contains_key new.files (name_of (Log n)) ≡ true → n < state.manifest.number

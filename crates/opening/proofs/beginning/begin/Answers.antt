@@ -1,5 +1,5 @@
 use Rattle.ikey.specs.Orders.{order_of}
-use Rattle.std.proofs.Common.{◌≡◌, ◌<◌, ℕ, List, length, map, string_bytes, Result, Err, refl, sym, subst, arith, rules}
+use Rattle.std.proofs.Common.{◌≡◌, ◌<◌, ◌+◌, ℕ, List, length, map, string_bytes, Result, Err, refl, sym, subst, arith, rules}
 use Rattle.coding.specs.declared.error.DbError.{DbError}
 use Rattle.ikey.specs.declared.entry.Entry.{Entry}
 use Rattle.opening.specs.Looking.{IsSealedOf}
@@ -12,8 +12,9 @@ use Rattle.opening.specs.internal.Outcome.{OpenOutcome}
 use Rattle.opening.specs.Telling.{Tells}
 use Rattle.opening.proofs.Telling.{found_openable, store_tells}
 use Rattle.opening.proofs.AfterReading.{behind_read, beside_behind, outcome_behind, spared_behind, spared_same}
-use Rattle.opening.proofs.InDoubt.{entries_or_none, in_doubt, tables_found}
+use Rattle.opening.proofs.InDoubt.{entries_or_none, in_doubt, logs_found, tables_found}
 use Rattle.opening.proofs.Reopening.{numbered_of, next_of}
+use Rattle.opening.proofs.Since.{found_behind}
 use Rattle.opening.proofs.Syncing.{spares_of, spares_tables}
 use Rattle.opening.proofs.beginning.begin.Goals as goal
 
@@ -132,6 +133,8 @@ returns-clause-synced g c = λ f.
           (entries_or_none found.entries.items);
       tables = spares_tables found.number old new num next spares;
       found = λ n is there. subst (λ (k : ℕ). n < k) (sym c.known_after.ensures.number) (tables_found order old new found (c.in_ok-found.ensures.found back) (spares_tables found.number old new num next spares) n is there);
+      begun = λ n is apart there. subst (λ (k : ℕ). n < k) (sym c.known_after.ensures.number)
+          (logs_found order old new found usable (c.in_ok-found.ensures.found back) (map string_bytes c.in_ok-rewrite.rewrite.front.items) c.in_ok-rewrite.ensures.front spares (found.number + 1) refl n is apart there);
     }
 
 -- ---- where the writing fails
@@ -236,3 +239,10 @@ returns-clause-begun_each g c =
       named = c.in_ok-rewrite.ensures.planned.manifest_name;
       known = let k = c.known_after.ensures in record { number = k.number; named = k.named; ends = omega (arith, k.ends, c.len-end.ensures, c.in_ok-rewrite.rewrite.manifest.ok.0); next = k.next; logs = k.logs };
     })
+
+-- ---- since the last sync
+
+pub returns-clause-since : goal.returns-clause-since
+returns-clause-since g c = λ f.
+    let back = c.in_ok-rewrite_directory.ensures.files.call.faithful f in
+    c.in_ok-rewrite_directory.ensures.since f (found_behind (order_of g.K.KeyOrder.name g.K.KeyOrder.cmp) (g.S.Store.facts c.args.store.now) (g.S.Store.facts c.find.new.store) c.in_ok-found.found (c.in_ok-found.ensures.store.same back) (c.in_ok-found.ensures.found back))

@@ -1,6 +1,9 @@
 use Rattle.std.proofs.Common.{◌≡◌, Result, Err, sym, subst, rules}
 use Rattle.coding.specs.declared.error.DbError.{DbError}
 use Rattle.store.proofs.Stopping.{sync_left}
+use Rattle.edits.specs.Names.{name_of}
+use Rattle.edits.specs.declared.names.FileName.TheVariants.{Current}
+use Rattle.directory_writes.proofs.StoreCalls.{behind_added}
 use Rattle.opening.specs.internal.Calls.{MakesCurrent}
 use Rattle.opening.specs.internal.Durable.{MakesSynced}
 use Rattle.opening.proofs.Syncing.{current_unwritten, current_unset, current_set, synced_again, not_synced_again}
@@ -86,3 +89,6 @@ returns-clause-stops g c f =
     let m = c.rename.ensures.counts.faithful l in
     sync_left old most (g.S.Store.facts c.sync.new.self) _ _ c.sync.result (c.sync.ensures.calls.ok f) (c.sync.ensures.calls.err f) (c.sync.ensures.same f)
     (renamed_stops old (g.S.Store.facts c.write_file.new.store) most c.args.temporary.now c.args.bytes.now (c.in_ok-write_file.ensures.files.ok m) (c.in_ok-write_file.ensures.stops m) (c.rename.ensures.calls.noted l))
+
+pub returns-clause-ends : goal.returns-clause-ends
+returns-clause-ends g c = λ f. behind_added (g.S.Store.facts c.rename.new.self) (g.S.Store.facts c.sync.new.self) (name_of Current) (c.in_default-sync.ensures.calls.ok f)

@@ -1,10 +1,9 @@
 use Rattle.std.proofs.Common.{◌≡◌, Result, Ok, Err, sym, ◌∙◌, subst, rules}
 use Rattle.coding.specs.declared.error.DbError.{DbError}
-use Rattle.store.proofs.Stopping.{sync_left}
 use Rattle.opening.specs.internal.Calls.{Writes}
 use Rattle.opening.specs.internal.Durable.{WritesSynced}
 use Rattle.opening.proofs.Syncing.{unwritten, unwritten_behind, written}
-use Rattle.opening.proofs.StoreCalls.{appended_stops, created, created_stops, not_created, not_appended, not_synced, file_written}
+use Rattle.opening.proofs.StoreCalls.{appended_stops, created, not_created, not_appended, not_synced, file_written, sync_others, synced_stops}
 use Rattle.opening.proofs.files.write_file.Goals as goal
 
 pub returns-in_err-create_file-clause-files : goal.returns-in_err-create_file-clause-files
@@ -53,13 +52,13 @@ returns-clause-synced g c =
     c.in_default-sync.ensures.counts.faithful c.in_default.ensures.counts.faithful c.in_ok-create_file.ensures.creates.synced c.append.ensures.synced c.in_default-sync.ensures.synced c.sync.ensures.same (returns-clause-files g c).ok
 
 pub returns-in_err-create_file-clause-stops : goal.returns-in_err-create_file-clause-stops
-returns-in_err-create_file-clause-stops g c f = created_stops (g.S.Store.facts c.args.store.now) (g.S.Store.facts c.create_file.new.store) c.args.name.now (c.in_err-create_file.ensures.stops f)
+returns-in_err-create_file-clause-stops g c f = c.in_err-create_file.ensures.only f
 
 pub returns-in-Err-clause-stops : goal.returns-in-Err-clause-stops
 returns-in-Err-clause-stops g c f =
     let old = g.S.Store.facts c.args.store.now in
     let mid = g.S.Store.facts c.create_file.new.store in
-    appended_stops old mid (g.S.Store.facts c.append.new.self) c.args.name.now c.args.bytes.now (created_stops old mid c.args.name.now (c.in_ok-create_file.ensures.stops (c.append.ensures.counts.faithful f))) (c.append.ensures.calls.noted f)
+    appended_stops old mid (g.S.Store.facts c.append.new.self) c.args.name.now c.args.bytes.now (c.in_ok-create_file.ensures.only (c.append.ensures.counts.faithful f)) (c.append.ensures.calls.noted f) (c.append.ensures.synced f)
 
 pub returns-in-Err-sync-clause-stops : goal.returns-in-Err-sync-clause-stops
 returns-in-Err-sync-clause-stops g c f =
@@ -68,8 +67,9 @@ returns-in-Err-sync-clause-stops g c f =
     let most = g.S.Store.facts c.append.new.self in
     let new = g.S.Store.facts c.sync.new.self in
     let m = c.sync.ensures.counts.faithful f in
-    sync_left old most new c.args.name.now _ c.sync.result (c.sync.ensures.calls.ok f) (c.sync.ensures.calls.err f) (c.sync.ensures.same f)
-    (appended_stops old mid most c.args.name.now c.args.bytes.now (created_stops old mid c.args.name.now (c.in_ok-create_file.ensures.stops (c.append.ensures.counts.faithful m))) (c.append.ensures.calls.noted m))
+    synced_stops old most new c.args.name.now c.sync.result
+    (appended_stops old mid most c.args.name.now c.args.bytes.now (c.in_ok-create_file.ensures.only (c.append.ensures.counts.faithful m)) (c.append.ensures.calls.noted m) (c.append.ensures.synced m))
+    (c.sync.ensures.calls.ok f) (c.sync.ensures.calls.err f) (c.sync.ensures.same f) (sync_others most new c.args.name.now c.sync.result (c.sync.ensures.synced f) (c.sync.ensures.unsynced f))
 
 pub returns-clause-stops : goal.returns-clause-stops
 returns-clause-stops g c f =
@@ -78,5 +78,6 @@ returns-clause-stops g c f =
     let most = g.S.Store.facts c.append.new.self in
     let new = g.S.Store.facts c.sync.new.self in
     let m = c.sync.ensures.counts.faithful f in
-    sync_left old most new c.args.name.now _ c.sync.result (c.sync.ensures.calls.ok f) (c.sync.ensures.calls.err f) (c.sync.ensures.same f)
-    (appended_stops old mid most c.args.name.now c.args.bytes.now (created_stops old mid c.args.name.now (c.in_ok-create_file.ensures.stops (c.append.ensures.counts.faithful m))) (c.append.ensures.calls.noted m))
+    synced_stops old most new c.args.name.now c.sync.result
+    (appended_stops old mid most c.args.name.now c.args.bytes.now (c.in_ok-create_file.ensures.only (c.append.ensures.counts.faithful m)) (c.append.ensures.calls.noted m) (c.append.ensures.synced m))
+    (c.sync.ensures.calls.ok f) (c.sync.ensures.calls.err f) (c.sync.ensures.same f) (sync_others most new c.args.name.now c.sync.result (c.sync.ensures.synced f) (c.sync.ensures.unsynced f))

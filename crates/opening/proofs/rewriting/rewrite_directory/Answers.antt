@@ -9,8 +9,10 @@ use Rattle.edits.specs.Names.{name_of}
 use Rattle.edits.specs.declared.names.FileName.TheVariants.{Manifest}
 use Rattle.opening.specs.internal.Opening.{Rewrites}
 use Rattle.opening.specs.Durable.{SyncsOnly, LeavesDurable}
+use Rattle.opening.specs.Losses.{BeginsSpared}
 use Rattle.opening.specs.internal.Durable.{WritesSynced, MakesSynced, HasDurable, SparesBeside}
 use Rattle.opening.proofs.Reopening.{OpenLaws, numbered_of, next_of}
+use Rattle.opening.proofs.Since.{BeginsFile, log_begun}
 use Rattle.opening.proofs.Syncing.{manifest_spared, manifest_unwritten, current_spared, current_interrupted, log_durable_named, log_spared}
 use Rattle.opening.proofs.OpenSteps.{manifest_failed, current_failed, log_created, manifest_stops, current_stops, log_stops}
 use Rattle.opening.proofs.RewrittenEach.{RewritesEach, manifest_failed_each, current_failed_each, log_created_each, manifest_stops_each, current_stops_each, log_stops_each}
@@ -164,7 +166,7 @@ returns-in_err-write_file-clause-stops g c f h =
     let new = g.S.Store.facts c.write_file.new.store in
     let laws : OpenLaws = record { free = c.free_change_law.ensures; reopen = c.reopen_law.ensures; log = c.begin_log_law.ensures; manifest = c.one_manifest.ensures; directory = c.one_directory.ensures; recovered = c.recovered_law.ensures } in
     manifest_stops (order_of g.K.KeyOrder.name g.K.KeyOrder.cmp) laws old c.args.found.now c.requires.usable c.args.rewrite.now.manifest.items c.requires.planned.manifest h new
-    (subst (OnlyIt old new) (c.as_str.ensures.value ∙ c.requires.planned.manifest_name) (c.in_err-write_file.ensures.stops f))
+    (subst (OnlyIt old new) (c.as_str.ensures.value ∙ c.requires.planned.manifest_name) (c.in_err-write_file.ensures.stops f)).leaves
 
 pub returns-in_err-make_current-clause-stops : goal.returns-in_err-make_current-clause-stops
 returns-in_err-make_current-clause-stops g c f h =
@@ -180,7 +182,7 @@ returns-in_err-make_current-clause-stops g c f h =
     let C : List ℕ → Type 0 = λ bytes. LeavesOnly mid new (MaySet mid.files c.as_str-2.result.now bytes) in
     let laws : OpenLaws = record { free = c.free_change_law.ensures; reopen = c.reopen_law.ensures; log = c.begin_log_law.ensures; manifest = c.one_manifest.ensures; directory = c.one_directory.ensures; recovered = c.recovered_law.ensures } in
     current_stops (order_of g.K.KeyOrder.name g.K.KeyOrder.cmp) laws old c.args.found.now c.requires.usable c.args.rewrite.now.manifest.items c.requires.planned.manifest h mid new c.args.rewrite.now.current.items written c.requires.planned.current m
-    (subst (OnlyIt old mid) (c.as_str.ensures.value ∙ c.requires.planned.manifest_name) (c.in_ok-write_file.ensures.stops m))
+    (subst (OnlyIt old mid) (c.as_str.ensures.value ∙ c.requires.planned.manifest_name) (c.in_ok-write_file.ensures.stops m)).leaves
     (subst M (c.as_str-2.ensures.value ∙ c.requires.planned.temporary_name) (subst C c.deref-2.ensures.value (c.in_err-make_current.ensures.stops f)))
 
 pub returns-clause-stops : goal.returns-clause-stops
@@ -204,7 +206,7 @@ returns-clause-stops g c f h =
     let V : List ℕ → Type 0 = λ name. LeavesOnly mid most (MaySet mid.files name c.args.rewrite.now.current.items) in
     let D : List ℕ → Type 0 = λ bytes. LeavesOnly mid most (MaySet mid.files c.as_str-2.result.now bytes) in
     let stopped = current_stops (order_of g.K.KeyOrder.name g.K.KeyOrder.cmp) laws old c.args.found.now c.requires.usable c.args.rewrite.now.manifest.items c.requires.planned.manifest h mid most c.args.rewrite.now.current.items written c.requires.planned.current l
-    (subst (OnlyIt old mid) (c.as_str.ensures.value ∙ c.requires.planned.manifest_name) (c.in_ok-write_file.ensures.stops l))
+    (subst (OnlyIt old mid) (c.as_str.ensures.value ∙ c.requires.planned.manifest_name) (c.in_ok-write_file.ensures.stops l)).leaves
     (subst V (c.as_str-2.ensures.value ∙ c.requires.planned.temporary_name) (subst D c.deref-2.ensures.value (c.in_ok-make_current.ensures.stops m))) in
     log_stops (order_of g.K.KeyOrder.name g.K.KeyOrder.cmp) laws old c.args.found.now c.requires.usable c.args.rewrite.now.manifest.items c.requires.planned.manifest h mid most new c.args.rewrite.now.current.items written c.requires.planned.current l
     (made.ok m) stopped (subst L (c.as_str-3.ensures.value ∙ c.requires.planned.log_name) (c.create_file.ensures.stops f))
@@ -270,7 +272,7 @@ returns-in_err-write_file-clause-stops_each g c f =
     let new = g.S.Store.facts c.write_file.new.store in
     let laws : OpenLaws = record { free = c.free_change_law.ensures; reopen = c.reopen_law.ensures; log = c.begin_log_law.ensures; manifest = c.one_manifest.ensures; directory = c.one_directory.ensures; recovered = c.recovered_law.ensures } in
     manifest_stops_each (order_of g.K.KeyOrder.name g.K.KeyOrder.cmp) laws old c.args.found.now c.requires.usable c.args.rewrite.now.manifest.items c.requires.planned.manifest new
-    (subst (OnlyIt old new) (c.as_str.ensures.value ∙ c.requires.planned.manifest_name) (c.in_err-write_file.ensures.stops f))
+    (subst (OnlyIt old new) (c.as_str.ensures.value ∙ c.requires.planned.manifest_name) (c.in_err-write_file.ensures.stops f)).leaves
 
 pub returns-in_err-make_current-clause-stops_each : goal.returns-in_err-make_current-clause-stops_each
 returns-in_err-make_current-clause-stops_each g c f =
@@ -286,7 +288,7 @@ returns-in_err-make_current-clause-stops_each g c f =
     let C : List ℕ → Type 0 = λ bytes. LeavesOnly mid new (MaySet mid.files c.as_str-2.result.now bytes) in
     let laws : OpenLaws = record { free = c.free_change_law.ensures; reopen = c.reopen_law.ensures; log = c.begin_log_law.ensures; manifest = c.one_manifest.ensures; directory = c.one_directory.ensures; recovered = c.recovered_law.ensures } in
     current_stops_each (order_of g.K.KeyOrder.name g.K.KeyOrder.cmp) laws old c.args.found.now c.requires.usable c.args.rewrite.now.manifest.items c.requires.planned.manifest mid new c.args.rewrite.now.current.items written c.requires.planned.current m
-    (subst (OnlyIt old mid) (c.as_str.ensures.value ∙ c.requires.planned.manifest_name) (c.in_ok-write_file.ensures.stops m))
+    (subst (OnlyIt old mid) (c.as_str.ensures.value ∙ c.requires.planned.manifest_name) (c.in_ok-write_file.ensures.stops m)).leaves
     (subst M (c.as_str-2.ensures.value ∙ c.requires.planned.temporary_name) (subst C c.deref-2.ensures.value (c.in_err-make_current.ensures.stops f)))
 
 pub returns-clause-stops_each : goal.returns-clause-stops_each
@@ -310,7 +312,31 @@ returns-clause-stops_each g c f =
     let V : List ℕ → Type 0 = λ name. LeavesOnly mid most (MaySet mid.files name c.args.rewrite.now.current.items) in
     let D : List ℕ → Type 0 = λ bytes. LeavesOnly mid most (MaySet mid.files c.as_str-2.result.now bytes) in
     let stopped = current_stops_each (order_of g.K.KeyOrder.name g.K.KeyOrder.cmp) laws old c.args.found.now c.requires.usable c.args.rewrite.now.manifest.items c.requires.planned.manifest mid most c.args.rewrite.now.current.items written c.requires.planned.current l
-    (subst (OnlyIt old mid) (c.as_str.ensures.value ∙ c.requires.planned.manifest_name) (c.in_ok-write_file.ensures.stops l))
+    (subst (OnlyIt old mid) (c.as_str.ensures.value ∙ c.requires.planned.manifest_name) (c.in_ok-write_file.ensures.stops l)).leaves
     (subst V (c.as_str-2.ensures.value ∙ c.requires.planned.temporary_name) (subst D c.deref-2.ensures.value (c.in_ok-make_current.ensures.stops m))) in
     log_stops_each (order_of g.K.KeyOrder.name g.K.KeyOrder.cmp) laws old c.args.found.now c.requires.usable c.args.rewrite.now.manifest.items c.requires.planned.manifest mid most new c.args.rewrite.now.current.items written c.requires.planned.current l
     (made.ok m) stopped (subst L (c.as_str-3.ensures.value ∙ c.requires.planned.log_name) (c.create_file.ensures.stops f))
+
+-- ---- since the last sync
+
+pub returns-clause-since : goal.returns-clause-since
+returns-clause-since g c f h =
+    let order = order_of g.K.KeyOrder.name g.K.KeyOrder.cmp in
+    let old = g.S.Store.facts c.args.store.now in
+    let mid = g.S.Store.facts c.write_file.new.store in
+    let most = g.S.Store.facts c.make_current.new.store in
+    let new = g.S.Store.facts c.create_file.new.store in
+    let m = c.create_file.ensures.call.faithful f in
+    let done = Ok c.in_ok-write_file.field-0 in
+    let set = Ok c.in_ok-make_current.field-0 in
+    let N : List ℕ → Type 0 = λ name. Writes old mid name c.args.rewrite.now.manifest.items done in
+    let B : List ℕ → Type 0 = λ bytes. Writes old mid c.as_str.result.now bytes done in
+    let written = subst N (c.as_str.ensures.value ∙ c.requires.planned.manifest_name) (subst B c.deref.ensures.value c.in_ok-write_file.ensures.files) in
+    let M : List ℕ → Type 0 = λ name. MakesCurrent mid most name c.args.rewrite.now.current.items set in
+    let C : List ℕ → Type 0 = λ bytes. MakesCurrent mid most c.as_str-2.result.now bytes set in
+    let made = subst M (c.as_str-2.ensures.value ∙ c.requires.planned.temporary_name) (subst C c.deref-2.ensures.value c.in_ok-make_current.ensures.files) in
+    let L : List ℕ → Type 0 = λ name. BeginsFile most new name c.create_file.result in
+    let begins : BeginsFile most new c.as_str-3.result.now c.create_file.result = record { only = c.create_file.ensures.only; noted = c.create_file.ensures.noted; unsynced = c.create_file.ensures.unsynced } in
+    let begun = subst L (c.as_str-3.ensures.value ∙ c.requires.planned.log_name) begins in
+    subst (λ (name : List ℕ). OnOk c.create_file.result (BeginsSpared new name)) (sym c.requires.planned.log_name)
+    (log_begun order c.args.found.now old mid most new c.args.rewrite.now.manifest.items c.args.rewrite.now.current.items c.create_file.result c.requires.usable h written made (c.in_ok-make_current.ensures.ends m) begun m f)
