@@ -5,6 +5,7 @@ use Rattle.std.specs.Cmp.{IsTotalOrder}
 use Rattle.std.specs.FinMap.{IsAntisymmetric}
 use Rattle.std.specs.List.Sorted.{IsPermutation}
 use Rattle.coding.specs.declared.error.DbError.{DbError}
+use Rattle.coding.specs.declared.error.DbError.TheVariants.{Corrupt}
 use Rattle.compact.specs.JobEdits.{IsPlanProper}
 use Rattle.compact.specs.Merging.{AreDisjoint, HaveOwnSequences, ReadsApart}
 use Rattle.compact.specs.Outputs.{AreNumbered, IsMine, IsOwn, IsToCome, RefusesEntry, TablesWritten}
@@ -39,6 +40,7 @@ use Rattle.db_cursor.proofs.KeptMerges.{moved_read_none}
 use Rattle.version_laws.specs.Laws.{PartLaw}
 use Rattle.version_laws.proofs.Version.{tabled_again}
 use Rattle.table_access.specs.Tables.{SoundLasts}
+use Rattle.table_access.specs.Telling.{IfCorrupt}
 use Rattle.store.specs.Files.{Facts, Files}
 use Rattle.table.specs.Reading.{Reads}
 use Rattle.directory_writes.specs.Replacing.{placed_in, OwnsNone, IsPlanned}
@@ -228,3 +230,11 @@ module _ {K : Type 0} {g : Ghosts K} {H S : Type 0} (order : Order) (v : View H 
         | inr limited ↦ r.limits limited
       ])
       (λ u. u) h
+
+  pub tears_begin : (a : H) (old new : Facts) (long spent : Type 0) (plan : JobPlan) (merge : Merge K (SourceCursor K g)) (e : DbError)
+      → ((next : ℕ) (contents : List TableContent) → MayBegin order (whole_of v a) next plan contents → MayBeReady order (whole_of v a) next plan contents merge)
+      → RefusesEntry e old new (IsTrue new.faithful → TornAt (Lists order.cmp v) (Torn order.cmp v) first_cut merge a) long spent
+      → IfCorrupt e (IsTrue new.faithful → (next : ℕ) (contents : List TableContent) → MayBegin order (whole_of v a) next plan contents → IsPlanProper plan → IsOneTornFile order.cmp plan.inputs.items (whole_of v a) Front)
+  tears_begin a old new long spent plan merge (Corrupt kind what) are h =
+      λ t next contents can proper. let r = are next contents can in r.torn Front (h t (listed r.entries None) (read_lists order.cmp v view merge a _ r.lists))
+  tears_begin a old new long spent plan merge e are h = tt

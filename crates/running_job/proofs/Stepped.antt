@@ -153,7 +153,7 @@ module _ {K : Type 0} {g : Ghosts K} {H S : Type 0} (order : Order) (v : View H 
       let r = can.running in
       leaves_so old (v.facts (v.store_of b)) (KeepsBut old.files (IsTableName mine)) (λ files. IsConsistent order files d)
       (λ files kept.
-      (law order old (stopped_at old files) before.job.outputs next more d refl (writes-stopped old files mine (writes.faithful t) kept) le fits can.consistent can.free r.numbered r.unused).consistent) (writes.calls t)
+      (law order old (stopped_at old files) before.job.outputs next more d refl (writes-stopped old files mine (writes.faithful t) kept) le fits can.consistent can.free r.numbered r.unused).consistent) (writes.calls t).leaves
 
   -- the files of its inputs stay
   input_files : SoundLasts → (before : OpenJob K g) (a b : H) (next more : ℕ) (contents : List TableContent) (came left : List InternalEntry) → more < 2 ^ 64 → next < 2 ^ 64 → Writing v before a b next more

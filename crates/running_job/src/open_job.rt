@@ -54,7 +54,7 @@ impl<K: KeyOrder> OpenJob<K> {
     ghost use Rattle.std.specs.FinMap.{get};
     ghost use Rattle.std.specs.List.Sorted.{IsNonDecreasing};
     ghost use Rattle.ikey.specs.Orders.{order_of};
-    ghost use Rattle.running_job.specs.internal.Beginning.{BeginsJob, MayBeginJob, RefusesBegin};
+    ghost use Rattle.running_job.specs.internal.Beginning.{BeginTears, BeginsJob, MayBeginJob, RefusesBegin};
     ghost use Rattle.running_job.specs.internal.Ending.{EndLeaves, EndLeavesOver, EndMayLeave, EndMayLeaveOver, EndPutsOwn, RefusesEnd};
     ghost use Rattle.directory_writes.specs.Differing.{OfEach};
     ghost use Rattle.running_job.specs.Running.{HasMerged, goes_over, is_input, shown};
@@ -63,6 +63,7 @@ impl<K: KeyOrder> OpenJob<K> {
     ghost use Rattle.db_cursor.specs.Places.{LeavesSource};
     ghost use Rattle.db_cursor.specs.Whole.{whole_in};
     ghost use Rattle.store.specs.Calls.{FailsAsWrite};
+    ghost use Rattle.store.specs.Losses.{CarriesBut, behind_sync};
     ghost use Rattle.store.specs.Stops.{LeavesOnly};
     ghost use Rattle.compact.specs.Outputs.{IsNumberAtHand, IsOwn, IsTableName};
     ghost use Rattle.directory_writes.specs.internal.Flush.{SparesManifest};
@@ -97,6 +98,9 @@ impl<K: KeyOrder> OpenJob<K> {
         ensures refused { IfErr result (λ e. RefusesBegin (order_of K.name K.cmp) version.now.value.tables plan
             (whole_in S.facts source.old)
             (whole_in S.facts source.new) e) }
+        ensures torn { IfErr result (BeginTears (order_of K.name K.cmp) plan
+            (whole_in S.facts source.old)
+            (whole_in S.facts source.new)) }
         ensures may { IfOk result (λ work. MayBeginJob (order_of K.name K.cmp) plan
             (whole_in S.facts source.old)
             (whole_in S.facts source.new) work) }
@@ -247,6 +251,9 @@ impl<K: KeyOrder> OpenJob<K> {
         ensures stops_each { IsTrue (S.facts store.new).faithful → LeavesOnly (S.facts store.old) (S.facts store.new)
             (λ files. OfEach (λ ideal after. EndMayLeaveOver (order_of K.name K.cmp) (S.facts store.old) ideal after numbers.now.next
             last_sequence manifest.now version.now.tables self) (S.facts store.old).files files) }
+        ensures carries { IsTrue (S.facts store.new).faithful → CarriesBut (S.facts store.old) (S.facts store.new)
+            (IsTableName (IsNumberAtHand self.job.outputs)) }
+        ensures ends { IsTrue (S.facts store.new).faithful → OnOk result (behind_sync [] (S.facts store.new).calls ≡ []) }
     {
         if numbers.next < self.next {
             return Err(FlushError::Before(DbError::Corrupt(FileKind::Table, Damage::Number)));

@@ -1,8 +1,10 @@
 -- What the beginning of a compaction answers.
 use Rattle.std.specs.Prelude.{◌<◌, ℕ, List, [], IsTrue}
 use Rattle.coding.specs.declared.error.DbError.{DbError}
+use Rattle.compact.specs.JobEdits.{IsPlanProper}
 use Rattle.compact.specs.Merging.{AreDisjoint}
 use Rattle.compact.specs.Outputs.{IsToCome, RefusesEntry}
+use Rattle.cursor.specs.Cuts.{Front}
 use Rattle.edits.specs.declared.field.PlacedTable.{PlacedTable}
 use Rattle.ikey.specs.Entries.{InternalEntry}
 use Rattle.ikey.specs.Orders.{Order}
@@ -12,10 +14,11 @@ use Rattle.recover.specs.Directory.{Directory, IsConsistent}
 use Rattle.recover.specs.Numbers.{IsFree}
 use Rattle.recover.specs.Tables.{TableContent}
 use Rattle.level_cursor.specs.InRows.{ListsNumber}
-use Rattle.db_cursor.specs.Scans.{IsOnePastLimit}
+use Rattle.db_cursor.specs.Scans.{IsOnePastLimit, IsOneTornFile}
 use Rattle.db_cursor.specs.Whole.{Whole}
 use Rattle.table_access.specs.Possible.{MayBeTable}
 use Rattle.table_access.specs.Tables.{IsSound, KeepsOf}
+use Rattle.table_access.specs.Telling.{IfCorrupt}
 use Rattle.version_laws.specs.Places.{MayHaveVersion}
 use Rattle.directory_writes.specs.Replacing.{placed_in}
 use Rattle.versions.specs.declared.plan.JobPlan.{JobPlan}
@@ -55,3 +58,8 @@ RefusesBegin order tables plan old new e = RefusesEntry e old.seen.facts new.see
     (IsTrue new.seen.facts.faithful → (next : ℕ) (d : Directory) → CanBegin order old next tables d → ⊥)
     (IsTrue new.seen.facts.faithful → (next : ℕ) (d : Directory) → CanBegin order old next tables d → IsOnePastLimit order.cmp plan.inputs.items old)
     ⊥
+
+-- Whichever contents the inputs may have, Corrupt only where no edit could name the plan, or the first block of an input is torn.
+abbrev pub BeginTears : Order → JobPlan → Whole → Whole → DbError → Type 0
+BeginTears order plan old new e = IfCorrupt e (IsTrue new.seen.facts.faithful → (next : ℕ) (contents : List TableContent) → MayBegin order old next plan contents
+    → IsPlanProper plan → IsOneTornFile order.cmp plan.inputs.items old Front)

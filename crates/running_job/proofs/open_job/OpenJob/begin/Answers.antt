@@ -3,7 +3,7 @@ use Rattle.std.proofs.lemmas.Result.{err_from_is_err_and}
 use Rattle.compact.specs.Deeper.{is_covered_below}
 use Rattle.cursor.specs.Merging.{listed}
 use Rattle.ikey.specs.Orders.{order_of}
-use Rattle.running_job.proofs.Begun.{apart_before, begun, may_be_ready, may_begin, nameable, none_over, ready, refuses_begin}
+use Rattle.running_job.proofs.Begun.{apart_before, begun, may_be_ready, may_begin, nameable, none_over, ready, refuses_begin, tears_begin}
 use Rattle.running_job.proofs.Read.{read_lists}
 use Rattle.running_job.proofs.open_job.OpenJob.begin.Goals as goal
 use Rattle.level_cursor.specs.InRows.{ListsNumber}
@@ -65,3 +65,13 @@ returns-clause-may g c = λ t next contents can.
           (apart_before (order_of g.K.KeyOrder.name g.K.KeyOrder.cmp) (record { facts = g.S.Store.facts; store_of = λ s. s.tables.store; with_store = λ s t. record s { tables = record s.tables { store = t } }; tables_of = λ s. s.tables.tables.tables; blocks_of = λ s. s.tables.blocks.blocks; memory_of = λ s. s.memory; with_memory = λ s w. record s { memory = w } }) (record { stored = λ s t. refl; remembered = λ s w. refl }) c.sound_lasts.ensures c.args.plan c.in_ok-cursor.cursor next c.in_ok-cursor.ensures.no_memory c.in_ok-cursor.ensures.over r.below)
           can.unkept (none_over c.args.plan c.in_ok-cursor.cursor next c.in_ok-cursor.ensures.over r.below)),
     )
+
+pub returns-then-not-can_be_named-clause-torn : goal.returns-then-not-can_be_named-clause-torn
+returns-then-not-can_be_named-clause-torn g c = λ t next contents can proper. absurd (c.if-not-can_be_named.ensures proper)
+
+pub returns-in_err-job-clause-torn : goal.returns-in_err-job-clause-torn
+returns-in_err-job-clause-torn g c =
+    let p = err_from_is_err_and c.from_residual-in_err-job.result c.from_residual-in_err-job.ensures.1 in
+    rw (p.1, p.2) (tears_begin (order_of g.K.KeyOrder.name g.K.KeyOrder.cmp) (record { facts = g.S.Store.facts; store_of = λ s. s.tables.store; with_store = λ s t. record s { tables = record s.tables { store = t } }; tables_of = λ s. s.tables.tables.tables; blocks_of = λ s. s.tables.blocks.blocks; memory_of = λ s. s.memory; with_memory = λ s w. record s { memory = w } }) (record { stored = λ s t. refl; remembered = λ s w. refl }) c.args.source.now (g.S.Store.facts c.args.source.now.tables.store) (g.S.Store.facts c.start.new.source.tables.store) _ _ c.args.plan c.in_ok-cursor.cursor c.in_err-job.field-0.0
+    (λ next contents can. may_be_ready (order_of g.K.KeyOrder.name g.K.KeyOrder.cmp) (whole (g.S.Store.facts c.args.source.now.tables.store) c.args.source.now.tables.tables c.args.source.now.tables.blocks c.args.source.now.memory) next c.args.plan contents c.in_ok-cursor.cursor c.in_ok-cursor.ensures.may can)
+    c.in_err-job.ensures.refused)

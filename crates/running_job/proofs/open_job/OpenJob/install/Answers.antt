@@ -1,4 +1,4 @@
-use Rattle.std.proofs.Common.{Err, arith}
+use Rattle.std.proofs.Common.{Err, arith, refl}
 use Rattle.coding.specs.declared.error.Damage.TheVariants.{Number}
 use Rattle.coding.specs.declared.error.DbError.TheVariants.{Corrupt}
 use Rattle.coding.specs.declared.error.FileKind.TheVariants.{Table}
@@ -8,6 +8,7 @@ use Rattle.ikey.specs.Orders.{order_of}
 use Rattle.running_job.proofs.Ended.{end_stopped, end_unstopped, has_merged, leaves_end, on_ok, refuses_end}
 use Rattle.running_job.proofs.EndedEach.{ends_each, older_each, puts_each, spent_each, stopped_each, unstopped_each}
 use Rattle.running_job.proofs.open_job.OpenJob.install.Goals as goal
+use Rattle.store.proofs.Carrying.{carries_same}
 
 pub install_job-requires-clause-numbered : goal.install_job-requires-clause-numbered
 install_job-requires-clause-numbered g c =
@@ -74,3 +75,11 @@ returns-clause-stops_each g c f =
     stopped_each (order_of g.K.KeyOrder.name g.K.KeyOrder.cmp) c.args.self (g.S.Store.facts c.args.store.now) c.args.numbers.now.next c.args.last_sequence c.args.manifest.now c.args.version.now.tables
     (numbered-later c.args.self.job.outputs c.args.self.next c.args.numbers.now.next (omega (arith, c.if-numbers-self.false)) (c.args.self.numbered (omega (arith, c.if-numbers-self.false, c.if-numbers-gt-NUMBER_END.false)))) (omega (arith, c.if-numbers-gt-NUMBER_END.false))
     (g.S.Store.facts c.install_job.new.store) (c.install_job.ensures.stops_each f)
+
+-- ---- which names it leaves alone
+
+pub returns-then-numbers-self-clause-carries : goal.returns-then-numbers-self-clause-carries
+returns-then-numbers-self-clause-carries g c f = carries_same (g.S.Store.facts c.args.store.now) (g.S.Store.facts c.args.store.now) _ refl refl refl
+
+pub returns-then-numbers-gt-NUMBER_END-clause-carries : goal.returns-then-numbers-gt-NUMBER_END-clause-carries
+returns-then-numbers-gt-NUMBER_END-clause-carries g c f = carries_same (g.S.Store.facts c.args.store.now) (g.S.Store.facts c.args.store.now) _ refl refl refl

@@ -4,7 +4,7 @@ use Rattle.compact.specs.Deeper.{is_covered_below}
 use Rattle.compact.proofs.Numbered.{numbered-later}
 use Rattle.ikey.specs.Orders.{order_of}
 use Rattle.store.proofs.Stopping.{leaves_same}
-use Rattle.running_job.proofs.Stepped.{goes, keeps_on, may_go, may_run, refuses_step, runs, sound_on, stopped_on, tears_step, touched}
+use Rattle.running_job.proofs.Stepped.{goes, keeps_on, may_go, may_run, refuses_step, runs, sound_on, stopped_on, tears_step, touched, touched_none}
 use Rattle.running_job.proofs.open_job.OpenJob.step.Goals as goal
 
 pub invariant_of-self-2-clause-numbered : goal.invariant_of-self-2-clause-numbered
@@ -17,6 +17,11 @@ pub returns-clause-touches : goal.returns-clause-touches
 returns-clause-touches g c =
     touched (order_of g.K.KeyOrder.name g.K.KeyOrder.cmp) (record { facts = g.S.Store.facts; store_of = λ s. s.tables.store; with_store = λ s t. record s { tables = record s.tables { store = t } }; tables_of = λ s. s.tables.tables.tables; blocks_of = λ s. s.tables.blocks.blocks; memory_of = λ s. s.memory; with_memory = λ s w. record s { memory = w } }) (record { stored = λ s t. refl; remembered = λ s w. refl })
     c.args.self.now (record { job = c.step.new.self; version = c.args.self.now.version; next = c.step.new.numbers.next; merged = c.saturating_add-self.result; in_range = _; numbered = _; proper = _ }) c.args.source.now c.step.new.source c.args.numbers.now.next c.step.new.numbers.next c.in_ok-progress.ensures.writes c.in_ok-progress.ensures.leaves
+
+pub returns-then-numbers-self-clause-touches : goal.returns-then-numbers-self-clause-touches
+returns-then-numbers-self-clause-touches g c =
+    touched_none (order_of g.K.KeyOrder.name g.K.KeyOrder.cmp) (record { facts = g.S.Store.facts; store_of = λ s. s.tables.store; with_store = λ s t. record s { tables = record s.tables { store = t } }; tables_of = λ s. s.tables.tables.tables; blocks_of = λ s. s.tables.blocks.blocks; memory_of = λ s. s.memory; with_memory = λ s w. record s { memory = w } }) (record { stored = λ s t. refl; remembered = λ s w. refl })
+    c.args.self.now c.args.source.now c.args.numbers.now.next
 
 pub returns-clause-keeps : goal.returns-clause-keeps
 returns-clause-keeps g c =
