@@ -5,7 +5,7 @@ use Rattle.std.specs.declared.cmp.Ordering.{Ordering}
 use Rattle.std.specs.Option.{option_and_then}
 use Rattle.cache.specs.Tables.{KeptTable, IsNameOf, table_at}
 use Rattle.edits.specs.Names.{IsNumbered, name_of}
-use Rattle.edits.specs.declared.names.FileName.TheVariants.{OldTable, Table}
+use Rattle.edits.specs.declared.names.FileName.TheVariants.{Log, OldTable, Table}
 use Rattle.running_job.specs.declared.open_job.OpenJob.{OpenJob}
 use Rattle.edits.specs.declared.field.PlacedTable.{PlacedTable}
 use Rattle.ikey.specs.Orders.{Order}
@@ -15,7 +15,8 @@ use Rattle.memtables.specs.Places.{MemoriesPlace, KeepsMemories}
 use Rattle.recover.specs.Directory.{Directory, IsConsistent, used_in}
 use Rattle.recover.specs.Logs.{logged}
 use Rattle.recover.specs.internal.Laws.{OneDirectoryLaw}
-use Rattle.recover.specs.Tables.{InTables, TableContent}
+use Rattle.recover.specs.Tables.{InTables, TableContent, tabled}
+use Rattle.ikey.specs.declared.entry.Entry.{Entry}
 use Rattle.recover.proofs.Adding.{table_of}
 use Rattle.db_cursor.specs.Scans.{KeepsScan}
 use Rattle.db_cursor.specs.internal.Scanning.{ScanIsKept}
@@ -23,6 +24,7 @@ use Rattle.db_cursor.specs.declared.scan.Scan.{Scan}
 use Rattle.table_access.specs.Tables.{Seen, IsSound, KeepsOf, SoundLasts}
 use Rattle.table_access.proofs.Sounding.{same_file, same_table}
 use Rattle.store.specs.Files.{Facts, Files}
+use Rattle.store.specs.Losses.{CarriesBut}
 use Rattle.table.specs.Reading.{HasFile}
 use Rattle.db_cursor.proofs.Origins.{origin_stays}
 use Rattle.directory_writes.proofs.JobTables.{contains_among, content_at}
@@ -31,7 +33,7 @@ use Rattle.directory_writes.specs.Differing.{DiffersInTables, IsSameChange, OfEa
 use Rattle.directory_writes.specs.Replacing.{placed_in}
 use Rattle.directory_writes.specs.internal.Calls.{LeavesFile}
 use Rattle.directory_writes.specs.internal.Removal.{AreOfDirectory, KeepsParts, KeepsTable, ListsToClose, MayLose}
-use Rattle.directory_writes.specs.Removal.{HasBoth}
+use Rattle.directory_writes.specs.Removal.{HasBoth, IsDead, IsLiveAmong}
 use Rattle.opening.specs.internal.Directories.{CanAppend}
 use Rattle.engine.specs.OpenDb.{OpenDb, whole_of}
 use Rattle.engine.specs.InUse.{IsJobTable, IsMemoryUsed, IsTableUsed}
@@ -40,8 +42,12 @@ use Rattle.engine.specs.Reads.{kept_at}
 use Rattle.engine.specs.internal.Live.{IsLiveWalk}
 use Rattle.machine.specs.Machine.{Machine, Walk}
 use Rattle.running_job.specs.internal.Staying.{LeavesWhole}
+use Rattle.engine.proofs.StayedNames.{first_least, spares_dead, stayed_on}
+use Rattle.engine.proofs.RecentWrites.{recent_kept}
+use Rattle.engine.specs.internal.Recent.{AreRecent}
 use Rattle.engine.proofs.Synced.{lost_kept, lost_table, synced_still}
-use Rattle.engine.specs.internal.Standing.{HasLog, HasTables, IsServing}
+use Rattle.engine.specs.internal.Synced.{HaveNames, HaveStayed}
+use Rattle.engine.specs.internal.Standing.{HasLog, HasTables, IsServing, entries_of}
 use Rattle.engine.specs.internal.Pieces.{ClosesTables}
 use Rattle.engine.specs.Working.{numbers_of}
 use Rattle.engine.proofs.Compacting.{each_job, goes_beside_read, have_itself, known_itself, version_unowned}
@@ -53,6 +59,16 @@ use Rattle.engine.proofs.Reading.{has_placed, read_by}
 -- a cursor over a memory table that isn't dropped
 abbrev pub DropsKept : (List ℕ → List ℕ → Ordering) → Type 0
 DropsKept cmp = (cursor : MemoriesPlace) (old new : Memories) → new ≡ record old { older = new.older } → older_at new.older cursor.generation ≡ older_at old.older cursor.generation → KeepsMemories cmp cursor old new
+
+-- all but files that aren't live went on under their names
+abbrev pub LosesUnused : {K : Type 0} {g : _} → Facts → Facts → OpenDb K g → Type 0
+LosesUnused old facts db = CarriesBut old facts (IsDead (IsLiveAmong old.files (numbers_of db.directory) (λ number. IsTableUsed db.tables db.job db.iterators number)))
+
+pub stayed_unused : {K : Type 0} {g : _} (old facts : Facts) (db : OpenDb K g) → HaveNames db.log db.directory db.tables → LosesUnused old facts db → HaveStayed old db.directory db.tables → HaveStayed facts db.directory db.tables
+stayed_unused old facts db names carries h =
+    let in_use : ℕ → Type 0 = λ number. IsTableUsed db.tables db.job db.iterators number in
+    stayed_on old facts (IsDead (IsLiveAmong old.files (numbers_of db.directory) in_use)) db.directory db.directory db.tables refl refl refl (omega arith) (first_least db.log db.directory db.tables names) carries
+    (spares_dead old.files db.log db.directory db.tables in_use names (λ p there. table_used db.tables db.job db.iterators p.table.number (p, there, refl))) h
 
 module _ {K : Type 0} {g : _} (order : Order) (kept : (scan : Scan K g) → ScanIsKept order.cmp scan) (one : OneDirectoryLaw) (lasts : SoundLasts) (drops : DropsKept order.cmp)
     (old : Seen) (facts : Facts) (tables : List KeptTable) (db : OpenDb K g) (memory : Memories) (gone : List ℕ) where
@@ -164,7 +180,7 @@ module _ {K : Type 0} {g : _} (order : Order) (kept : (scan : Scan K g) → Scan
       -- ---- what stands
 
       module _ (m : Machine) (serving : IsServing order old db m)
-          (parts : OfEach (λ whole left. (d : Directory) → IsConsistent order whole d → AreOfDirectory (numbers_of db.directory) in_use d → KeepsParts order whole left in_use d) old.facts.files facts.files) where
+          (parts : OfEach (λ whole left. (d : Directory) → IsConsistent order whole d → AreOfDirectory (numbers_of db.directory) in_use d → KeepsParts order whole left in_use d) old.facts.files facts.files) (carries : LosesUnused old.facts facts db) where
         abbrev changed : (left : Files) × IsSameChange old.facts.files facts.files serving.ideal left × DiffersInTables facts.files left
         changed = same_change old.facts.files facts.files serving.ideal serving.origin.differs
 
@@ -263,7 +279,10 @@ module _ {K : Type 0} {g : _} (order : Order) (kept : (scan : Scan K g) → Scan
           synced = synced_still old.facts facts db.log db.directory db.directory db.tables refl refl refl refl (omega arith) serving.synced
               (λ file is none. lost_kept old.facts facts (name_of file) (loses (name_of file)))
               (λ p there known. lost_table old.facts facts p.table.number (loses (name_of (Table p.table.number))) (loses (name_of (OldTable p.table.number)))
-              (used_same p.table.number known.0 (table_used db.tables db.job db.iterators p.table.number (p, there, refl))).0);
+              (used_same p.table.number known.0 (table_used db.tables db.job db.iterators p.table.number (p, there, refl))).0)
+              (stayed_unused old.facts facts db serving.synced.names carries serving.synced.stayed);
+          recent = subst (λ (es : List Entry). AreRecent facts db.directory.manifest.number serving.contents (tabled serving.contents ++ es) d.logs m) (sym logged_same)
+              (recent_kept old.facts facts db.directory.manifest.number serving.contents (entries_of serving.contents db) d.logs m (λ n i. lost_kept old.facts facts (name_of (Log n)) (loses (name_of (Log n)))) serving.recent);
           job = each_job _ _ db.job (λ work is c.
               goes_beside_read order (whole_of old db) (whole_of new after) db.directory.numbers.next db.directory.numbers.next db.snapshots db.snapshots db.iterators db.iterators db.tables m.damaged serving.ideal left d d work c
               a.consistent serving.log.knows.free db.directory.numbers.in_range.1 (omega arith) (λ number numbered below one. whole_used number numbered (inr (subst (λ (o : Option (OpenJob K g)). IsJobTable o number) (sym is) one)))

@@ -29,7 +29,7 @@ use Rattle.engine.proofs.Compacting.{listed_number}
 use Rattle.engine.proofs.Origins.{StaysUnder}
 
 -- a list ends in one way
-one_end : {X : Type 0} → (xs ys : List X) (x y : X) → xs ++ x ∷ [] ≡ ys ++ y ∷ [] → (xs ≡ ys) × (x ≡ y)
+pub one_end : {X : Type 0} → (xs ys : List X) (x y : X) → xs ++ x ∷ [] ≡ ys ++ y ∷ [] → (xs ≡ ys) × (x ≡ y)
 one_end [] [] x y e = (refl, cc)
 one_end [] (b ∷ ys) x y e = absurd (let long = ap length e in omega (arith, long, length-append ys (y ∷ [])))
 one_end (a ∷ xs) [] x y e = absurd (let long = ap length e in omega (arith, long, length-append xs (x ∷ [])))

@@ -1,6 +1,7 @@
 -- What an open database is, and the machine, after a flush, however that ends.
 use Rattle.std.proofs.Common.{length, ◌≡◌, ◌≢◌, ℕ, ◌+◌, ◌≤◌, ◌<◌, ◌^◌, true, false, List, [], ◌∷◌, ◌++◌, Contains, None, IsSome, Result, Ok, Err, IsTrue, inl, inr, refl, sym, ap, subst, ◌∙◌, arith, String, string_bytes}
 use Rattle.std.specs.declared.alloc.Global.{Global}
+use Rattle.std.specs.FinMap.{get}
 use Rattle.std.specs.Global.{Vec}
 use Rattle.std.specs.declared.rc.Rc.{Rc}
 use Rattle.coding.specs.declared.error.DbError.{DbError}
@@ -8,7 +9,7 @@ use Rattle.coding.specs.declared.error.DbError.TheVariants as error
 use Rattle.edits.specs.declared.numbers.FileNumbers.{FileNumbers}
 use Rattle.edits.specs.Names.{IsNumbered, name_of}
 use Rattle.edits.specs.declared.field.PlacedTable.{PlacedTable}
-use Rattle.edits.specs.declared.names.FileName.TheVariants.{OldTable, Table}
+use Rattle.edits.specs.declared.names.FileName.TheVariants.{Log, Manifest, OldTable, Table}
 use Rattle.ikey.specs.Orders.{Order}
 use Rattle.ikey.specs.Sources.{SameEntries, SameViewLaw}
 use Rattle.ikey.specs.declared.entry.Entry.{Entry}
@@ -19,12 +20,14 @@ use Rattle.recover.specs.internal.Changes.{with_content}
 use Rattle.recover.specs.Directory.{Directory}
 use Rattle.recover.specs.Entries.{RiseAbove}
 use Rattle.recover.specs.internal.Laws.{OneDirectoryLaw}
-use Rattle.recover.specs.Logs.{LogContent}
+use Rattle.recover.proofs.NewLogs.{log_there}
+use Rattle.recover.specs.Logs.{InLogs, LogContent}
 use Rattle.recover.specs.Tables.{tabled}
 use Rattle.db_cursor.specs.internal.Scanning.{ScanIsKept}
 use Rattle.db_cursor.specs.declared.scan.Scan.{Scan}
 use Rattle.table_access.specs.Tables.{Seen, IsSound, SoundLasts}
 use Rattle.store.specs.Files.{Facts, Files}
+use Rattle.store.specs.Losses.{CarriesBut}
 use Rattle.store.specs.Stops.{LeavesOnly}
 use Rattle.store.proofs.Stopping.{leaves_so}
 use Rattle.engine.specs.internal.Directory.{MeansAccepted}
@@ -47,7 +50,9 @@ use Rattle.engine.specs.internal.Leading.{LeadsOpen}
 use Rattle.engine.specs.OpenDb.{OpenDb, open_db, whole_of}
 use Rattle.opening.proofs.Reopening.{files_apart}
 use Rattle.engine.proofs.FrontSyncing.{same_or_other}
+use Rattle.engine.proofs.StayedNames.{first_least, spares_tables, stayed_on}
 use Rattle.engine.proofs.Synced.{kept_still, no_table, synced_same, synced_still, table_still}
+use Rattle.engine.specs.internal.Recent.{AreRecent}
 use Rattle.engine.specs.internal.Synced.{IsSyncedBut}
 use Rattle.engine.specs.internal.Standing.{entries_of, IsServing}
 use Rattle.engine.specs.internal.Stopping.{KeepsOpen}
@@ -142,11 +147,18 @@ module _ {K : Type 0} {g : _} (order : Order) (kept : (scan : Scan K g) → Scan
     refused error.NumbersSpent f h sound same other = ((let most = h.0 in let below : next ≤ m.numbers = serving.numbers in omega (arith, most, below)), draws m 1 facts)
     refused _ f h sound same other = absurd h
 
+  -- the names of all but the new table go on
+  abbrev IsNew : List ℕ → Type 0
+  IsNew q = q ≡ name_of (Table next)
+
+  abbrev Carried : Type 0
+  Carried = IsTrue facts.faithful → CarriesBut old.facts facts (λ (q : List ℕ). q ≡ name_of (Table next))
+
   -- a refusal before the edit leaves all that is synced, but for a table that has no number of one that is read
-  unflushed_synced : IsTrue facts.faithful → (m : Machine) → IsServing order old before m → ((string_bytes state.directory.manifest.name ≡ name_of (Table next) → ⊥) → LeavesFile old.facts facts (string_bytes state.directory.manifest.name))
+  unflushed_synced : IsTrue facts.faithful → Carried → (m : Machine) → IsServing order old before m → ((string_bytes state.directory.manifest.name ≡ name_of (Table next) → ⊥) → LeavesFile old.facts facts (string_bytes state.directory.manifest.name))
       → IsSyncedBut facts state.log drawn.directory state.version.value.tables
-  unflushed_synced f m serving spares = elim draws_number [
-    | inl none ↦ (let same = none.1 in let h = serving.synced in synced_same old.facts facts state.log state.directory drawn.directory state.version.value.tables refl refl refl refl upto.0 h (ap (λ (x : Facts). x.files) same) (ap (λ (x : Facts). x.synced) same))
+  unflushed_synced f carries m serving spares = elim draws_number [
+    | inl none ↦ (let same = none.1 in let h = serving.synced in synced_same old.facts facts state.log state.directory drawn.directory state.version.value.tables refl refl refl refl upto.0 h (ap (λ (x : Facts). x.calls) same) (ap (λ (x : Facts). x.files) same) (ap (λ (x : Facts). x.synced) same))
     | inr more ↦
         let h = serving.synced in
         let number : IsNumbered next = (more.1, (let few = more.2 in omega (arith, few))) in
@@ -160,6 +172,25 @@ module _ {K : Type 0} {g : _} (order : Order) (kept : (scan : Scan K g) → Scan
         table_still old.facts facts p.table.number
         (left (name_of (Table p.table.number)) (files_apart (Table p.table.number) (Table next) known.0 number (λ e. let same : p.table.number ≡ next = cc in let less = known.1 in omega (arith, same, less))))
         (left (name_of (OldTable p.table.number)) (files_apart (OldTable p.table.number) (Table next) known.0 number (λ e. cc))))
+        (stayed_on old.facts facts IsNew state.directory drawn.directory state.version.value.tables refl refl refl upto.0 (first_least state.log state.directory state.version.value.tables h.names) (carries f)
+        (spares_tables IsNew old.facts.files state.log state.directory state.version.value.tables h.names (λ file is none. files_apart file (Table next) is number (no_table file next none))
+        (λ p there known. (
+          files_apart (Table p.table.number) (Table next) known.0 number (λ e. (let same : p.table.number ≡ next = cc in let less = known.1 in omega (arith, same, less))),
+          files_apart (OldTable p.table.number) (Table next) known.0 number (λ e. cc),
+        ))) h.stayed)
+  ]
+
+  -- and the logs
+  logs_left : IsTrue facts.faithful → (m : Machine) (serving : IsServing order old before m) → (n : ℕ) → InLogs serving.log.directory.directory.logs n → LeavesFile old.facts facts (name_of (Log n))
+  logs_left f m serving n i = elim draws_number [
+    | inl none ↦ (let same = none.1 in (ap (λ (x : Facts). get x.files (name_of (Log n))) same, ap (λ (x : Facts). x.synced (name_of (Log n))) same))
+    | inr more ↦
+        let number : IsNumbered next = (more.1, (let few = more.2 in omega (arith, few))) in
+        let names = serving.synced.names in
+        let numbered = (log_there serving.ideal serving.log.directory.directory.logs n serving.log.directory.consistent.logs i).0 in
+        let apart = files_apart (Log n) (Table next) numbered number (λ e. cc) in
+        let other : name_of (Log n) ≢ string_bytes state.directory.manifest.name = λ is. files_apart (Log n) (Manifest state.directory.manifest.number) numbered names.manifest.0 (λ e. cc) (is ∙ names.manifest.1) in
+        (touches.others f (name_of (Log n)) apart other, touches.synced f (name_of (Log n)) apart other)
   ]
 
   abbrev Spares : FlushError → Type 0
@@ -169,13 +200,13 @@ module _ {K : Type 0} {g : _} (order : Order) (kept : (scan : Scan K g) → Scan
   Leaves e = IsTrue facts.faithful → (m : Machine) (serving : IsServing order old before m) → FlushMeans {K = K} order serving.ideal (behind m serving) next numbers.next plan state.directory.manifest entries before.tables serving.log.directory.directory serving.log.logs.sealed serving.log.logs.current (Err e)
 
   -- nothing of the directory was changed
-  unflushed : {T : Type 0} (e : DbError) → RefusesNewTable e old.facts facts entries before.tables next numbers.next → Leaves (Before e) → Spares (Before e) → (e ≡ error.Io → ⊥) → LeadsOpen order old new ids before (open_db memory drawn) (λ m n. IsPiece {T = T} m 1 (Err e) n)
-  unflushed e refuses leaves spares other =
+  unflushed : {T : Type 0} (e : DbError) → RefusesNewTable e old.facts facts entries before.tables next numbers.next → Leaves (Before e) → Spares (Before e) → Carried → (e ≡ error.Io → ⊥) → LeadsOpen order old new ids before (open_db memory drawn) (λ m n. IsPiece {T = T} m 1 (Err e) n)
+  unflushed e refuses leaves spares carries other =
       serves_on order old new ids before (open_db memory drawn) 1 (Err e) whole whole touches.faithful touches.failures touches.denials
       (λ m f same serving.
       let left = leaves f m serving in (
         refused m serving e f refuses left.0 same other,
-        serving_unflushed order kept one lasts law flushes old facts before m serving plan numbers.next (stays_below m serving f) (names_below m serving f) (sound_still m serving f) left.1.can.free upto.1 drawn.directory entries left.1 refl refl refl refl refl refl upto.0 (unflushed_synced f m serving (spares f)),
+        serving_unflushed order kept one lasts law flushes old facts before m serving plan numbers.next (stays_below m serving f) (names_below m serving f) (sound_still m serving f) left.1.can.free upto.1 drawn.directory entries left.1 refl refl refl refl refl refl upto.0 (unflushed_synced f carries m serving (spares f)) (logs_left f m serving),
       ))
 
   -- the device failed
@@ -188,14 +219,14 @@ module _ {K : Type 0} {g : _} (order : Order) (kept : (scan : Scan K g) → Scan
       let either = may f m serving in
       broken_flush order kept one lasts law flushes old facts before m serving plan numbers.next (stays_below m serving f) (names_below m serving f) (sound_still m serving f) either.free upto.1 entries either)
 
-  unflushed_by : {T : Type 0} (e : FlushError) → RefusesFlush e old.facts facts entries before.tables next numbers.next → Leaves e → Spares e → LeadsOpen order old new ids before (open_db memory (broken_by drawn (flush_answer e))) (λ m n. IsPiece {T = T} m 1 (Err (flush_answer e)) n)
-  unflushed_by (Before error.OutOfMemory) refuses leaves spares = unflushed error.OutOfMemory refuses leaves spares (λ e. cc)
-  unflushed_by (Before error.Io) refuses leaves spares = failed refuses (λ f m serving. let left = (leaves f m serving).1 in record { either = inl (left.can.consistent, left.kept); free = left.can.free })
-  unflushed_by (Before (error.Unsupported what)) refuses leaves spares = unflushed (error.Unsupported what) refuses leaves spares (λ e. cc)
-  unflushed_by (Before (error.Corrupt file what)) refuses leaves spares = unflushed (error.Corrupt file what) refuses leaves spares (λ e. cc)
-  unflushed_by (Before error.NumbersSpent) refuses leaves spares = unflushed error.NumbersSpent refuses leaves spares (λ e. cc)
-  unflushed_by (Before _) refuses leaves spares = absurd refuses
-  unflushed_by Edit refuses leaves spares = failed refuses (λ f m serving. leaves f m serving)
+  unflushed_by : {T : Type 0} (e : FlushError) → RefusesFlush e old.facts facts entries before.tables next numbers.next → Leaves e → Spares e → Carried → LeadsOpen order old new ids before (open_db memory (broken_by drawn (flush_answer e))) (λ m n. IsPiece {T = T} m 1 (Err (flush_answer e)) n)
+  unflushed_by (Before error.OutOfMemory) refuses leaves spares carries = unflushed error.OutOfMemory refuses leaves spares carries (λ e. cc)
+  unflushed_by (Before error.Io) refuses leaves spares carries = failed refuses (λ f m serving. let left = (leaves f m serving).1 in record { either = inl (left.can.consistent, left.kept); free = left.can.free })
+  unflushed_by (Before (error.Unsupported what)) refuses leaves spares carries = unflushed (error.Unsupported what) refuses leaves spares carries (λ e. cc)
+  unflushed_by (Before (error.Corrupt file what)) refuses leaves spares carries = unflushed (error.Corrupt file what) refuses leaves spares carries (λ e. cc)
+  unflushed_by (Before error.NumbersSpent) refuses leaves spares carries = unflushed error.NumbersSpent refuses leaves spares carries (λ e. cc)
+  unflushed_by (Before _) refuses leaves spares carries = absurd refuses
+  unflushed_by Edit refuses leaves spares carries = failed refuses (λ f m serving. leaves f m serving)
 
   -- what a flush says of each directory that differs from the files in tables alone
   abbrev LeavesEach : List PlacedTable → Result (Flushed K) FlushError → Type 0
@@ -212,9 +243,9 @@ module _ {K : Type 0} {g : _} (order : Order) (kept : (scan : Scan K g) → Scan
 
   -- however it isn't flushed, where these are the tables of the version
   pub ends_unflushed : {T : Type 0} (tables : List PlacedTable) → tables ≡ before.tables → (e : FlushError) → RefusesFlush e old.facts facts entries tables next numbers.next → LeavesEach tables (Err e)
-      → Spares e → LeadsOpen order old new ids before (open_db memory (broken_by drawn (flush_answer e))) (λ m n. IsPiece {T = T} m 1 (Err (flush_answer e)) n)
-  ends_unflushed tables are e refuses leaves spares =
-      unflushed_by e (subst (λ (ts : List PlacedTable). RefusesFlush e old.facts facts entries ts next numbers.next) are refuses) (leaves_behind tables (Err e) are leaves) spares
+      → Spares e → Carried → LeadsOpen order old new ids before (open_db memory (broken_by drawn (flush_answer e))) (λ m n. IsPiece {T = T} m 1 (Err (flush_answer e)) n)
+  ends_unflushed tables are e refuses leaves spares carries =
+      unflushed_by e (subst (λ (ts : List PlacedTable). RefusesFlush e old.facts facts entries ts next numbers.next) are refuses) (leaves_behind tables (Err e) are leaves) spares carries
 
   abbrev with_table : ℕ → Rc Placement Global → Vec (String Global) → DbState K g
   with_table end version front = record state { version = version; log = record state.log { front = front }; directory = record state.directory { numbers = numbers; manifest = record state.directory.manifest { end = end }; first_log = state.log.number; previous_log = 0 } }
@@ -301,6 +332,7 @@ module _ {K : Type 0} {g : _} (order : Order) (kept : (scan : Scan K g) → Scan
         readable = record { made = h.readable.made; numbers = free_up order h.ideal m.numbers (m.numbers + 1) (omega arith) h.readable.numbers; limits = h.readable.limits };
         numbers = (let below = h.numbers in omega (arith, below));
         synced = h.synced;
+        recent = subst (λ (es : List Entry). AreRecent source.facts state.directory.manifest.number h.contents (tabled h.contents ++ es) a.directory.logs m) (sym logged_same) h.recent;
         job = each_job _ _ state.job (λ work is c.
             let d = a.directory in
             goes_beside order (whole_of source (open_db memory state)) (whole_of source (open_db let_go state)) state.directory.numbers.next state.directory.numbers.next state.snapshots state.snapshots state.iterators state.iterators state.version.value.tables m.damaged h.ideal h.ideal d d work c

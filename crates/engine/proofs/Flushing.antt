@@ -11,9 +11,10 @@ use Rattle.edits.specs.Layout.{fields_of}
 use Rattle.edits.specs.Names.{name_of, IsNumbered}
 use Rattle.edits.specs.declared.field.Field.{Field}
 use Rattle.edits.specs.declared.field.PlacedTable.{PlacedTable}
-use Rattle.edits.specs.declared.names.FileName.TheVariants.{Manifest, Table, OldTable}
+use Rattle.edits.specs.declared.names.FileName.TheVariants.{Log, Manifest, Table, OldTable}
 use Rattle.ikey.specs.Orders.{Order}
 use Rattle.ikey.specs.Sources.{SameEntries, SameViewLaw}
+use Rattle.ikey.specs.Views.{Among}
 use Rattle.ikey.specs.declared.entry.Entry.{Entry}
 use Rattle.memtables.specs.Memories.{Memories, logged_in, sealed_inserts}
 use Rattle.memtables.specs.Places.{MemoriesPlace, KeepsMemories}
@@ -22,7 +23,7 @@ use Rattle.recover.specs.internal.Changes.{ManifestEndsAt, flushed, with_content
 use Rattle.recover.specs.Numbers.{IsFree}
 use Rattle.recover.specs.Directory.{Directory, HasManifest, IsConsistent, entries_in, used_in}
 use Rattle.recover.specs.internal.Laws.{OneDirectoryLaw}
-use Rattle.recover.specs.Logs.{LogContent, batch_entries, logged}
+use Rattle.recover.specs.Logs.{InLogs, LogContent, batch_entries, logged}
 use Rattle.recover.specs.Report.{IsLongTable, AnyHasBytes}
 use Rattle.recover.specs.Tables.{TableContent, tabled}
 use Rattle.db_cursor.specs.Scans.{KeepsScan}
@@ -41,6 +42,9 @@ use Rattle.engine.specs.internal.Directory.{IsReadable}
 use Rattle.engine.specs.OpenDb.{OpenDb, whole_of}
 use Rattle.directory_writes.specs.internal.Calls.{LeavesFile}
 use Rattle.engine.proofs.Synced.{whole_left}
+use Rattle.engine.proofs.RecentFlushes.{recent_flushed, with_logged}
+use Rattle.engine.proofs.RecentWrites.{recent_same}
+use Rattle.engine.specs.internal.Recent.{AreRecent}
 use Rattle.engine.specs.internal.Synced.{IsSyncedBut}
 use Rattle.engine.specs.internal.Standing.{entries_of, HasLog, IsBroken, IsServing}
 use Rattle.engine.specs.internal.Live.{IsLiveWalk}
@@ -296,6 +300,14 @@ module _ {K : Type 0} {g : _} (order : Order) (kept : (scan : Scan K g) → Scan
           (omega arith) (known_itself db.snapshots db.memory.last) (have_itself db.iterators db.tables)
           (λ number. version_unowned work.job.outputs order serving.ideal d serving.contents db.tables number a.consistent a.in_tables serving.tables.version r.unused)) serving.job
 
+      -- what was accepted last is in the log that goes on
+      recent_now : AreRecent facts state.manifest.number e.tables (entries_of e.tables flushed_db) (current ∷ []) m
+      recent_now =
+          subst (λ (n : ℕ). AreRecent facts n e.tables (entries_of e.tables flushed_db) (current ∷ []) m) (sym number)
+          (recent_flushed old.facts facts db.directory.manifest.number serving.contents e.tables (entries_of serving.contents db) (entries_of e.tables flushed_db) sealed current m
+          (subst (λ (ls : List LogContent). AreRecent old.facts db.directory.manifest.number serving.contents (entries_of serving.contents db) ls m) serving.log.logs.logs serving.recent)
+          (subst (λ (contents : List TableContent). (x : Entry) → Among (tabled e.tables) x → Among (tabled contents ++ logged sealed) x) (sym a.in_tables) (with_logged d.tables f.content sealed f.flush.entries)) same)
+
       pub serving_flushed : IsServing order new flushed_db drawn_by
       serving_flushed = record {
         whole = serving.whole;
@@ -322,6 +334,7 @@ module _ {K : Type 0} {g : _} (order : Order) (kept : (scan : Scan K g) → Scan
         readable = readable_as e f.consistent f.limits;
         numbers = (let below : next ≤ m.numbers = serving.numbers in omega (arith, next_is, upto, below));
         synced = synced;
+        recent = recent_now;
         job = job_flushed;
       }
 
@@ -329,7 +342,8 @@ module _ {K : Type 0} {g : _} (order : Order) (kept : (scan : Scan K g) → Scan
 
     module _ (state : DirectoryState) (entries : List Entry) (has : IsUnflushed order serving.ideal behind after plan db.directory.manifest entries db.tables d sealed current)
         (number : state.manifest.number ≡ db.directory.manifest.number) (name : state.manifest.name ≡ db.directory.manifest.name) (ends : state.manifest.end ≡ db.directory.manifest.end) (first_log : state.first_log ≡ db.directory.first_log)
-        (previous_log : state.previous_log ≡ db.directory.previous_log) (next_is : state.numbers.next ≡ after) (le : next ≤ after) (synced : IsSyncedBut facts db.log state db.tables) where
+        (previous_log : state.previous_log ≡ db.directory.previous_log) (next_is : state.numbers.next ≡ after) (le : next ≤ after) (synced : IsSyncedBut facts db.log state db.tables)
+        (logs_left : (n : ℕ) → InLogs d.logs n → LeavesFile old.facts facts (name_of (Log n))) where
       abbrev pub unflushed_db : OpenDb K g
       unflushed_db = record db { directory = state }
 
@@ -385,6 +399,8 @@ module _ {K : Type 0} {g : _} (order : Order) (kept : (scan : Scan K g) → Scan
         readable = readable_as d has.can.consistent passes_still;
         numbers = (let below : next ≤ m.numbers = serving.numbers in omega (arith, next_is, upto, below));
         synced = synced;
+        recent = subst (λ (n : ℕ). AreRecent facts n serving.contents (entries_of serving.contents db) d.logs m) (sym number)
+            (recent_same old.facts facts db.directory.manifest.number serving.contents (entries_of serving.contents db) d.logs m logs_left serving.recent);
         job = each_job _ _ db.job (λ work is c.
             goes_beside order (whole_of old db) (whole_of new unflushed_db) next state.numbers.next db.snapshots db.snapshots db.iterators db.iterators db.tables m.damaged serving.ideal behind d d work c
             a.consistent serving.log.knows.free db.directory.numbers.in_range.1 (omega (arith, next_is, le)) (λ n numbered below one. let same = names n numbered below in (whole_left old.facts facts (name_of (Table n)) same.0, same.1)) sound_still (λ n kept_now. inl kept_now) behind_is refl refl

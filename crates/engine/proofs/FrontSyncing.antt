@@ -1,23 +1,25 @@
 -- What a write leaves of what is synced, with the logs in front.
-use Rattle.std.proofs.Common.{Bool, true, false, ◌≡◌, ◌≢◌, ◌⊎◌, ◌<◌, ◌≤◌, ◌+◌, ℕ, List, [], ◌∷◌, ◌++◌, Option, Some, None, Result, Ok, Err, IsTrue, OnOk, OnErr, IfErr, is_err, inl, inr, refl, sym, ap, subst, ◌∙◌, arith, append_assoc, take}
+use Rattle.std.proofs.Common.{Bool, true, false, ◌≡◌, ◌≢◌, ◌⊎◌, ◌<◌, ◌≤◌, ℕ, List, [], ◌∷◌, ◌++◌, Some, Result, Ok, Err, IsTrue, OnOk, OnErr, is_err, is_some, inl, inr, refl, sym, ap, subst, ◌∙◌, arith, take}
 use Rattle.std.specs.Cmp.{tied_itself}
 use Rattle.std.specs.Cmp.Lexicographic.{slice_cmp, nat_list_cmp_total}
 use Rattle.std.specs.Ordering.{nat_cmp}
 use Rattle.std.specs.declared.cmp.Ordering.{Ordering}
 use Rattle.std.specs.declared.cmp.Ordering.TheVariants.{Less, Equal, Greater}
-use Rattle.std.specs.FinMap.{get, slice_cmp-IsAntisymmetric, nat_cmp-IsAntisymmetric}
+use Rattle.std.specs.FinMap.{get, contains_key, slice_cmp-IsAntisymmetric, nat_cmp-IsAntisymmetric}
 use Rattle.std.specs.List.{AllByRecursion}
-use Rattle.store.specs.Files.{Facts, Files, Synced, Sync, Appends, AppendsBeginning, disk_of, with_synced}
-use Rattle.store.specs.Calls.{Adds, Changes, Counts, FailsAsWrite, Keeps, NotesSync}
+use Rattle.store.specs.Files.{Facts, Files, Synced, Addition, Disk, Sync, Appends, AppendsBeginning, disk_of, with_synced}
+use Rattle.store.specs.Calls.{Adds, Changes, Counts, FailsAsWrite, Idles, Keeps, NotesSync}
+use Rattle.store.specs.Losses.{CarriesBut}
 use Rattle.store.specs.Stops.{LeavesOnly}
 use Rattle.store.specs.declared.error.StoreError.{StoreError}
 use Rattle.store.specs.declared.error.StoreError.TheVariants as store_error
-use Rattle.recover.proofs.NamedFiles.{get_other}
+use Rattle.recover.proofs.NamedFiles.{get_other, get_same}
 use Rattle.opening.specs.Durable.{IsSynced}
-use Rattle.opening.specs.Losses.{EndsInSync, IsNoneOf}
+use Rattle.opening.specs.Losses.{EndsInSync, IsKept, IsNoneOf}
 use Rattle.opening.specs.internal.Calls.{KeepsOthers}
 use Rattle.opening.proofs.Syncing.{done_of, only_with, with_other, with_same}
 use Rattle.engine.proofs.Appending.{failed_sync}
+use Rattle.store.proofs.Carrying.{carries_appended, carries_both, carries_same, carries_synced}
 use Rattle.store.proofs.Stopping.{leaves_both, leaves_same, leaves_so, sync_left}
 use Rattle.engine.specs.declared.log.LogError.{LogError}
 use Rattle.engine.specs.declared.log.LogError.TheVariants.{Device, Memory}
@@ -45,7 +47,7 @@ none_of_first q (x ∷ xs) ys h = (h.0, none_of_first q xs ys h.1)
 -- ---- some syncs
 
 pub synced_none : (facts : Facts) → SyncsThese [] facts facts
-synced_none facts = record { faithful = λ f. f; failures = omega arith; writes = refl; denials = refl; locked = refl; files = λ f. refl; others = λ f q none. refl }
+synced_none facts = record { faithful = λ f. f; failures = omega arith; writes = refl; denials = refl; locked = refl; files = λ f. refl; others = λ f q none. refl; keeps = λ f q was. was }
 
 -- of each failure a failed write
 pub fails_both : (old mid new : Facts) → FailsAsWrite old mid → FailsAsWrite mid new → FailsAsWrite old new
@@ -53,8 +55,8 @@ fails_both old mid new a b = omega (arith, a, b)
 
 -- one more, where the device keeps it
 synced_more : (names : List (List ℕ)) (name : List ℕ) (old mid new : Facts) → SyncsThese names old mid → (IsTrue new.faithful → IsTrue mid.faithful) → mid.failures ≤ new.failures → FailsAsWrite mid new → new.denials ≡ mid.denials → new.locked ≡ mid.locked
-    → (IsTrue new.faithful → new.files ≡ mid.files) → (IsTrue new.faithful → (q : List ℕ) → q ≢ name → new.synced q ≡ mid.synced q) → SyncsThese (names ++ name ∷ []) old new
-synced_more names name old mid new h back rise writes undenied held same others = record {
+    → (IsTrue new.faithful → new.files ≡ mid.files) → (IsTrue new.faithful → (q : List ℕ) → q ≢ name → new.synced q ≡ mid.synced q) → (IsTrue new.faithful → (q : List ℕ) → IsKept mid q → IsKept new q) → SyncsThese (names ++ name ∷ []) old new
+synced_more names name old mid new h back rise writes undenied held same others keeps = record {
   faithful = λ f. h.faithful (back f);
   failures = (let first = h.failures in omega (arith, first, rise));
   writes = fails_both old mid new h.writes writes;
@@ -62,6 +64,7 @@ synced_more names name old mid new h back rise writes undenied held same others 
   locked = held ∙ h.locked;
   files = λ f. same f ∙ h.files (back f);
   others = λ f q none. (let apart = none_of_more q names name none in others f q apart.1 ∙ h.others (back f) q apart.0);
+  keeps = λ f q was. keeps f q (h.keeps (back f) q was);
 }
 
 -- a file that is synced stays so while another one is
@@ -80,9 +83,41 @@ all_synced mid new name (q ∷ names) synced same h = (still_synced mid new name
 pub this_synced : (mid new : Facts) (name : List ℕ) → new.synced ≡ with_synced mid.synced name (get mid.files name) → new.files ≡ mid.files → IsSynced new name
 this_synced mid new name synced same = ap (λ (s : Synced). s name) synced ∙ with_same mid.synced name (get mid.files name) ∙ ap (λ (fs : Files). get fs name) (sym same)
 
+-- what was synced whole still is
+sync_keeps : (mid new : Facts) (name q : List ℕ) → new.synced ≡ with_synced mid.synced name (get mid.files name) → new.files ≡ mid.files → IsKept mid q → IsKept new q
+sync_keeps mid new name q synced same h bytes there = elim (same_or_other q name) [
+  | inl it ↦ subst (IsSynced new) (sym it) (this_synced mid new name synced same) ∙ there
+  | inr apart ↦ ap (λ (s : Synced). s q) synced ∙ with_other mid.synced name q (get mid.files name) apart ∙ h bytes (ap (λ (fs : Files). get fs q) (sym same) ∙ there)
+]
+
+same_keeps : (mid new : Facts) (q : List ℕ) → new.files ≡ mid.files → new.synced q ≡ mid.synced q → IsKept mid q → IsKept new q
+same_keeps mid new q same synced h bytes there = synced ∙ h bytes (ap (λ (fs : Files). get fs q) (sym same) ∙ there)
+
 all_more : (facts : Facts) (names : List (List ℕ)) (name : List ℕ) → AllByRecursion (IsSynced facts) names → IsSynced facts name → AllByRecursion (IsSynced facts) (names ++ name ∷ [])
 all_more facts [] name h is = (is, tt)
 all_more facts (x ∷ xs) name h is = (h.0, all_more facts xs name h.1 is)
+
+-- ---- no name comes or goes
+
+there_too : (old new : Files) (name bytes : List ℕ) → Appends old new name bytes → (q : List ℕ) → contains_key new q ≡ contains_key old q
+there_too old new name bytes a q = elim (same_or_other q name) [
+  | inl it ↦
+      let now : get new q ≡ Some (a.0 ++ bytes) = ap (get new) it ∙ ap (λ (fs : Files). get fs name) a.2 ∙ get_same old name (a.0 ++ bytes) in
+      let before : get old q ≡ Some a.0 = ap (get old) it ∙ a.1 in
+      ap is_some now ∙ sym (ap is_some before)
+  | inr apart ↦ ap is_some (ap (λ (fs : Files). get fs q) a.2 ∙ get_other old name (a.0 ++ bytes) q apart)
+]
+
+same_names : (old new : Facts) (name bytes : List ℕ) → Idles old new ⊎ ((n : ℕ) × Adds old new (Addition name (take n bytes))) → (q : List ℕ) → contains_key new.files q ≡ contains_key old.files q
+same_names old new name bytes (inl idle) q = ap (λ (disk : Disk). contains_key disk.files q) idle.1
+same_names old new name bytes (inr some) q = there_too old.files new.files name (take some.0 bytes) some.1.1 q
+
+pub append_carries : (old new : Facts) (name bytes : List ℕ) → Idles old new ⊎ ((n : ℕ) × Adds old new (Addition name (take n bytes))) → new.synced ≡ old.synced → CarriesBut old new (λ (q : List ℕ). ⊥)
+append_carries old new name bytes noted synced = carries_appended old new name bytes (λ (q : List ℕ). ⊥) (same_names old new name bytes noted) synced noted
+
+pub sync_carries : (old mid new : Facts) (name : List ℕ) (r : Result (Unit {0}) StoreError) → OnOk r (Adds mid new (Sync name)) → OnErr r (new.calls ≡ mid.calls) → new.files ≡ mid.files → OnErr r (new.synced ≡ mid.synced)
+    → CarriesBut old mid (λ (q : List ℕ). ⊥) → CarriesBut old new (λ (q : List ℕ). ⊥)
+sync_carries old mid new name r noted left same synced h = carries_both old mid new (λ (q : List ℕ). ⊥) h (carries_synced mid new name (λ (q : List ℕ). ⊥) r noted left same synced)
 
 -- ---- one file after the other
 
@@ -90,10 +125,17 @@ pub record SyncsSoFar (names : List (List ℕ)) (old new : Facts) : Type 0 where
   pub these : SyncsThese names old new
   pub kept : IsTrue new.faithful → AllByRecursion (IsSynced new) names
   pub left : IsTrue new.faithful → LeavesOnly old new (λ files. files ≡ old.files)
+  pub carried : IsTrue new.faithful → CarriesBut old new (λ (q : List ℕ). ⊥)
   pub unfailed : new.failures ≡ old.failures
 
 pub so_far_none : (facts : Facts) → SyncsSoFar [] facts facts
-so_far_none facts = record { these = synced_none facts; kept = λ f. tt; left = λ f. leaves_same facts facts (λ files. files ≡ facts.files) refl refl refl; unfailed = refl }
+so_far_none facts = record {
+  these = synced_none facts;
+  kept = λ f. tt;
+  left = λ f. leaves_same facts facts (λ files. files ≡ facts.files) refl refl refl;
+  carried = λ f. carries_same facts facts (λ (q : List ℕ). ⊥) refl refl refl;
+  unfailed = refl;
+}
 
 failed_of : {P : Type 0} (r : Result (Unit {0}) StoreError) → is_err r ≡ true → OnErr r P → P
 failed_of (Ok x) test h = absurd (cc)
@@ -104,11 +146,13 @@ not_failed (Ok x) test bad = absurd (cc)
 not_failed (Err e) test bad = absurd (cc)
 
 pub so_far_more : (names : List (List ℕ)) (name : List ℕ) (old mid new : Facts) (r : Result (Unit {0}) StoreError) → is_err r ≡ false → Counts mid new r → FailsAsWrite mid new → new.denials ≡ mid.denials → new.locked ≡ mid.locked → Keeps mid new
-    → (IsTrue new.faithful → OnOk r (new.synced ≡ with_synced mid.synced name (get mid.files name))) → NotesSync mid new r (Sync name) → SyncsSoFar names old mid → SyncsSoFar (names ++ name ∷ []) old new
-so_far_more names name old mid new r went counts writes undenied held same synced noted h = record {
-  these = synced_more names name old mid new h.these counts.faithful counts.failures writes undenied held same (λ f. only_with mid.synced new.synced name (get mid.files name) (done_of r went (synced f)));
+    → (IsTrue new.faithful → OnOk r (new.synced ≡ with_synced mid.synced name (get mid.files name))) → (IsTrue new.faithful → OnErr r (new.synced ≡ mid.synced)) → NotesSync mid new r (Sync name) → SyncsSoFar names old mid → SyncsSoFar (names ++ name ∷ []) old new
+so_far_more names name old mid new r went counts writes undenied held same synced unsynced noted h = record {
+  these = synced_more names name old mid new h.these counts.faithful counts.failures writes undenied held same (λ f. only_with mid.synced new.synced name (get mid.files name) (done_of r went (synced f)))
+      (λ f q. sync_keeps mid new name q (done_of r went (synced f)) (same f));
   kept = λ f. (let is = done_of r went (synced f) in all_more new names name (all_synced mid new name names is (same f) (h.kept (counts.faithful f))) (this_synced mid new name is (same f)));
   left = λ f. sync_left old mid new name (λ files. files ≡ old.files) r (noted.ok f) (noted.err f) (same f) (h.left (counts.faithful f));
+  carried = λ f. sync_carries old mid new name r (noted.ok f) (noted.err f) (same f) (unsynced f) (h.carried (counts.faithful f));
   unfailed = counts.unfailed (not_failed r went) ∙ h.unfailed;
 }
 
@@ -123,6 +167,7 @@ so_far_failed all names rest name old mid new r is went missing memory counts wr
     locked = held ∙ h.these.locked;
     files = λ f. same f ∙ h.these.files (counts.faithful f);
     others = λ f q none. ap (λ (s : Synced). s q) (failed_of r went (unsynced f)) ∙ h.these.others (counts.faithful f) q (none_of_first q names rest (subst (IsNoneOf q) is none));
+    keeps = λ f q was. same_keeps mid new q (same f) (ap (λ (s : Synced). s q) (failed_of r went (unsynced f))) (h.these.keeps (counts.faithful f) q was);
   };
   kept = λ f. tt;
   done = tt;
@@ -131,6 +176,10 @@ so_far_failed all names rest name old mid new r is went missing memory counts wr
 
 pub so_far_left : (names : List (List ℕ)) (name : List ℕ) (old mid new : Facts) (r : Result (Unit {0}) StoreError) → IsTrue new.faithful → Counts mid new r → Keeps mid new → NotesSync mid new r (Sync name) → SyncsSoFar names old mid → LeavesOnly old new (λ files. files ≡ old.files)
 so_far_left names name old mid new r f counts same noted h = sync_left old mid new name (λ files. files ≡ old.files) r (noted.ok f) (noted.err f) (same f) (h.left (counts.faithful f))
+
+pub so_far_carried : (names : List (List ℕ)) (name : List ℕ) (old mid new : Facts) (r : Result (Unit {0}) StoreError) → IsTrue new.faithful → Counts mid new r → Keeps mid new → (IsTrue new.faithful → OnErr r (new.synced ≡ mid.synced)) → NotesSync mid new r (Sync name)
+    → SyncsSoFar names old mid → CarriesBut old new (λ (q : List ℕ). ⊥)
+so_far_carried names name old mid new r f counts same unsynced noted h = sync_carries old mid new name r (noted.ok f) (noted.err f) (same f) (unsynced f) (h.carried (counts.faithful f))
 
 pub all_so_far : (all names : List (List ℕ)) (old new : Facts) → names ≡ all → SyncsSoFar names old new → SyncsFront all old new (Ok tt)
 all_so_far all names old new is h = record {
@@ -194,6 +243,19 @@ syncs_behind sync old mid new names name bytes result h a s = record {
   refused = λ f. refused_by old mid new names result (s.refused f) (h.these.others (a.faithful f));
   locked = s.locked ∙ h.these.locked;
 }
+
+-- want of memory leaves what was synced whole, or more
+pub memory_keeps : (sync : Bool) (old mid new : Facts) (names : List (List ℕ)) (name bytes : List ℕ) (result : Result (Unit {0}) LogError) → SyncsThese names old mid → AppendsRecord mid new name bytes result
+    → SyncsLog (Unit {0}) (sync ≡ true) sync name [] mid new result → IsTrue new.faithful → result ≡ Err Memory → (q : List ℕ) → IsKept old q → IsKept new q
+memory_keeps sync old mid new names name bytes (Ok x) h a s f is q was = absurd (cc)
+memory_keeps sync old mid new names name bytes (Err e) h a s f is q was = same_keeps mid new q (a.memory f is) (s.refused f q tt) (h.keeps (a.faithful f) q was)
+
+abbrev SameResult : {T : Type 0} → Result T LogError → Result T LogError → Type 0
+SameResult a b = a ≡ b
+
+-- so it is told of what it answers in turn
+pub memory_told : {K : Type 0} (e : LogError) → (SameResult {T = Unit {0}} (Err e) (Err Memory) → K) → SameResult {T = ℕ} (Err e) (Err Memory) → K
+memory_told e h is = h (let same : e ≡ Memory = cc in ap (λ (x : LogError). Err x) same)
 
 -- or, where one of them failed
 pub syncs_unappended : (sync : Bool) (old new : Facts) (names : List (List ℕ)) (name : List ℕ) → SyncsThese names old new → SyncsLog {T = Unit {0}} {E = LogError} (Unit {0}) (sync ≡ true) sync name names old new (Err Device)

@@ -10,12 +10,12 @@ use Rattle.edits.specs.Names.{name_of, IsFileName, IsNumbered}
 use Rattle.edits.specs.declared.field.Field.{Field}
 use Rattle.edits.specs.declared.field.PlacedTable.{PlacedTable}
 use Rattle.edits.specs.declared.names.FileName.{FileName}
-use Rattle.edits.specs.declared.names.FileName.TheVariants.{Manifest, Table, OldTable}
+use Rattle.edits.specs.declared.names.FileName.TheVariants.{Log, Manifest, Table, OldTable}
 use Rattle.ikey.proofs.SearchedSources.{among_split, among_front, among_back}
 use Rattle.ikey.specs.Entries.{InternalEntry, entry_of}
 use Rattle.ikey.specs.Orders.{Order}
 use Rattle.ikey.specs.Sources.{SameEntries}
-use Rattle.ikey.specs.Views.{Among, Contents, IsView}
+use Rattle.ikey.specs.Views.{Among, AllUpTo, Contents, IsView}
 use Rattle.ikey.specs.declared.entry.Entry.{Entry}
 use Rattle.running_job.specs.internal.Ending.{CanEnd, CanEndOver}
 use Rattle.running_job.specs.Running.{MayRun, deep_of}
@@ -23,10 +23,11 @@ use Rattle.running_job.specs.declared.open_job.OpenJob.{OpenJob}
 use Rattle.memtables.specs.Memories.{logged_in}
 use Rattle.memtables.specs.PlaceLaws.{left_kept}
 use Rattle.recover.proofs.Memberships.{among_chosen, among_contents, among_rest}
+use Rattle.recover.proofs.NewLogs.{log_there}
 use Rattle.recover.specs.internal.Changes.{ManifestEndsAt, compacted}
 use Rattle.recover.specs.Directory.{Directory, IsConsistent, entries_in}
 use Rattle.recover.specs.internal.Laws.{OneDirectoryLaw}
-use Rattle.recover.specs.Logs.{logged}
+use Rattle.recover.specs.Logs.{InLogs, logged}
 use Rattle.recover.specs.Numbers.{IsFree}
 use Rattle.recover.specs.Report.{IsLongTable, AnyHasBytes}
 use Rattle.recover.specs.Tables.{TableContent, tabled}
@@ -36,6 +37,7 @@ use Rattle.db_cursor.specs.declared.scan.Scan.{Scan}
 use Rattle.table_access.proofs.Sounding.{same_file, same_table}
 use Rattle.table_access.specs.Tables.{IsSound, KeepsOf, Seen, SoundLasts}
 use Rattle.store.specs.Files.{Facts, Files}
+use Rattle.store.specs.Losses.{CarriesBut, behind_sync}
 use Rattle.directory_writes.proofs.PlansMade.{planned_apart}
 use Rattle.directory_writes.specs.Replacing.{placed_in}
 use Rattle.directory_writes.specs.internal.Flush.{KeepsLogsAndTables, PassesNoLimit}
@@ -61,11 +63,15 @@ use Rattle.machine.specs.Machine as machine
 use Rattle.machine.specs.Machine.{Machine, Walk, entry_count, view_at, weight}
 use Rattle.opening.specs.Durable.{IsSynced}
 use Rattle.opening.specs.Losses.{IsKept, IsTableKept}
+use Rattle.engine.specs.internal.Recent.{AreRecent}
 use Rattle.engine.specs.internal.Synced.{IsSyncedBut}
 use Rattle.engine.proofs.Compacting.{all_contains, listed_number, own_number, running_whole, unowned, version_number, version_unowned}
 use Rattle.engine.proofs.FrontSyncing.{same_or_other}
+use Rattle.engine.proofs.StayedNames.{SparesRead, first_least, spares_tables, stayed_behind, stayed_on, undrawn_still}
 use Rattle.engine.proofs.Synced.{kept_still, no_table, one_number, synced_still, synced_with, table_still, table_synced}
 use Rattle.engine.proofs.WriteSynced.{kept_synced}
+use Rattle.engine.proofs.RecentInstalls.{parts_seen, recent_installed}
+use Rattle.engine.proofs.RecentWrites.{recent_same}
 use Rattle.engine.proofs.Pieces.{free_up, live_each, made_still, rests_seen, walks_each}
 use Rattle.opening.proofs.Reopening.{files_apart, long_back}
 use Rattle.engine.proofs.WorkSteps.{drawing}
@@ -170,6 +176,20 @@ module _ {K : Type 0} {g : _} (order : Order) (kept : (scan : Scan K g) → Scan
         came_of : (entry : Entry) → Among (tabled c.running.inputs) entry → Among (map entry_of (c.came ++ c.left)) entry
         came_of entry i = (c.running.may.entries entry).1 i
 
+    -- so does one at a sequence above all that the tables had
+    seen_above_tables : (p : ℕ) (contents : Contents) → AllUpTo p (tabled d.tables) → IsView (entries_in d) p contents → IsView (entries_in installed_as) p contents
+    seen_above_tables p contents bounded view =
+        parts_seen d.tables c.running.inputs c.running.rest has.outputs has.contents (logged d.logs) c.came work.job.selection.snapshots (deep_of order.cmp work) p c.reach contents
+        has.compaction.old_tables has.compaction.new_tables can_end.merged.entries has.put.needed apart c.begun.kept
+        (subst (λ (es : List InternalEntry). AllUpTo c.reach (map entry_of es)) (ap (λ (es : List InternalEntry). c.came ++ es) ended ∙ append-nil c.came) c.begun.above) bounded view
+
+    -- no table has an entry that none had
+    fewer_tabled : (entry : Entry) → Among (tabled has.contents) entry → Among (tabled serving.contents) entry
+    fewer_tabled entry i = subst (λ (contents : List TableContent). Among (tabled contents) entry) (sym a.in_tables) (elim (among_contents has.contents has.outputs c.running.rest entry has.compaction.new_tables i) [
+      | inl out ↦ among_chosen d.tables c.running.inputs c.running.rest entry has.compaction.old_tables (has.compaction.taken entry out)
+      | inr rest ↦ among_rest d.tables c.running.inputs c.running.rest entry has.compaction.old_tables rest
+    ])
+
     now_seen : SeesAsOne (map entry_of (c.came ++ c.left)) work.job.selection.snapshots db.memory.last
     now_seen = (c.reach, c.begun.kept, c.begun.used, λ entry i le. c.begun.above entry i)
 
@@ -223,6 +243,22 @@ module _ {K : Type 0} {g : _} (order : Order) (kept : (scan : Scan K g) → Scan
         let named : (number : ℕ) → IsNumberAtHand work.job.outputs number → name_of file ≢ name_of (Table number) = λ number at. files_apart file (Table number) is (at_hand number at) (apart number at) in
         (touches.others f (name_of file) named other, touches.synced f (name_of file) named other)
 
+    -- none of the tables that it writes is read
+    abbrev Written : List ℕ → Type 0
+    Written = IsTableName (IsNumberAtHand work.job.outputs)
+
+    spares_written : SparesRead Written old.facts.files db.directory db.tables
+    spares_written =
+        spares_tables Written old.facts.files db.log db.directory db.tables serving.synced.names (λ file is none one. files_apart file (Table one.0) is (at_hand one.0 one.1) (no_table file one.0 none) one.2)
+        (λ p there known. (
+          λ one.
+              files_apart (Table p.table.number) (Table one.0) known.0 (at_hand one.0 one.1)
+              (λ e.
+              version_unowned work.job.outputs order serving.ideal d serving.contents db.tables p.table.number a.consistent a.in_tables serving.tables.version c.running.unused (p, there, refl)
+              (inl (subst (IsNumberAtHand work.job.outputs) (one_number e) one.1))) one.2,
+          λ one. files_apart (OldTable p.table.number) (Table one.0) known.0 (at_hand one.0 one.1) (λ e. cc) one.2,
+        ))
+
     -- the tables that the version had
     old_synced : (p : PlacedTable) → Contains db.tables p → IsTableKept old.facts p.table.number → IsTableKept facts p.table.number
     old_synced p there kept_whole =
@@ -241,6 +277,16 @@ module _ {K : Type 0} {g : _} (order : Order) (kept : (scan : Scan K g) → Scan
       | inl it ↦ subst (IsKept facts) (sym it) (manifest (subst (IsKept old.facts) it kept_whole))
       | inr other ↦ kept_still old.facts facts (name_of file) (leaves_file file is (λ number at. no_table file number none) other) kept_whole
     ]
+
+    -- the logs are as they were
+    logs_left : (n : ℕ) → InLogs d.logs n → LeavesFile old.facts facts (name_of (Log n))
+    logs_left n i =
+        let numbered = (log_there serving.ideal d.logs n a.consistent.logs i).0 in
+        let manifest = serving.synced.names.manifest in
+        leaves_file (Log n) numbered (λ number at e. cc) (λ e. files_apart (Log n) (Manifest db.directory.manifest.number) numbered manifest.0 (λ same. cc) (e ∙ manifest.1))
+
+    recent_left : AreRecent facts db.directory.manifest.number serving.contents (entries_of serving.contents db) d.logs m
+    recent_left = recent_same old.facts facts db.directory.manifest.number serving.contents (entries_of serving.contents db) d.logs m logs_left serving.recent
 
     table_same : (n : ℕ) → IsNumbered n → (IsNumberAtHand work.job.outputs n → ⊥) → table_at facts.files n ≡ table_at old.facts.files n
     table_same n numbered apart = same_table old.facts.files facts.files n (newer_same n numbered apart) (older_same n numbered)
@@ -320,7 +366,8 @@ module _ {K : Type 0} {g : _} (order : Order) (kept : (scan : Scan K g) → Scan
           (listed : ListsSameTables (placed_in has.contents) tables) (number : state.manifest.number ≡ db.directory.manifest.number) (name : state.manifest.name ≡ db.directory.manifest.name) (first_log : state.first_log ≡ db.directory.first_log)
           (previous_log : state.previous_log ≡ db.directory.previous_log) (next_is : state.numbers.next ≡ next) (edited : IsSynced facts (string_bytes db.directory.manifest.name))
           (put : (placed : PlacedTable) → Contains tables placed → name_of (Table placed.table.number) ≢ string_bytes db.directory.manifest.name → Contains db.tables placed ⊎ IsTableSynced facts placed.table.number)
-          (owned : (placed : PlacedTable) → Contains tables placed → Contains db.tables placed ⊎ IsOwn work.job.outputs placed.table.number) where
+          (owned : (placed : PlacedTable) → Contains tables placed → Contains db.tables placed ⊎ IsOwn work.job.outputs placed.table.number)
+          (carries : CarriesBut old.facts facts (IsTableName (IsNumberAtHand work.job.outputs))) (synced_last : behind_sync [] facts.calls ≡ []) where
         abbrev pub installed_db : OpenDb K g
         installed_db = record db { tables = tables; compact_pointers = pointers; directory = state; job = None }
 
@@ -383,6 +430,14 @@ module _ {K : Type 0} {g : _} (order : Order) (kept : (scan : Scan K g) → Scan
         synced_installed =
             synced_with old.facts facts db.log db.directory state db.tables tables number name first_log previous_log (omega (arith, next_is))
             (beside_synced (λ kept_whole. kept_synced facts (string_bytes db.directory.manifest.name) edited)) serving.synced placed_now named_now
+            (stayed_behind facts state tables synced_last
+            (undrawn_still old.facts facts Written db.directory db.tables state.numbers.next carries (λ n num one. files_apart (Log n) (Table one.0) num (at_hand one.0 one.1) (λ e. cc) one.2) (omega (arith, next_is)) serving.synced.stayed))
+
+        recent_now : AreRecent facts state.manifest.number has.contents (entries_of has.contents installed_db) d.logs m
+        recent_now = subst (λ (n : ℕ). AreRecent facts n has.contents (tabled has.contents ++ logged_in db.memory) d.logs m) (sym number)
+            (recent_installed facts db.directory.manifest.number serving.contents has.contents (entries_of serving.contents db) (tabled has.contents ++ logged_in db.memory) d.logs m (fewer_tabled ended_as has)
+            (λ p contents bounded view. subst (λ (es : List Entry). IsView es p contents) (sym (logged_now ended_as has))
+            (seen_above_tables ended_as has p contents (subst (λ (cs : List TableContent). AllUpTo p (tabled cs)) a.in_tables bounded) (subst (λ (es : List Entry). IsView es p contents) entries_are view))) recent_left)
 
         pub serving_installed : IsServing order new installed_db ended_by
         serving_installed = record {
@@ -405,6 +460,7 @@ module _ {K : Type 0} {g : _} (order : Order) (kept : (scan : Scan K g) → Scan
           readable = readable_as e has.consistent has.limits free;
           numbers = (let below : next ≤ m.numbers = serving.numbers in omega (arith, next_is, below));
           synced = synced_installed;
+          recent = recent_now;
           job = tt;
         }
 
@@ -431,7 +487,8 @@ module _ {K : Type 0} {g : _} (order : Order) (kept : (scan : Scan K g) → Scan
     ])
 
     module _ (has : IsUninstalled order serving.ideal ended_as next db.directory.manifest db.tables d)
-        (spares : (IsTableName (IsNumberAtHand work.job.outputs) (string_bytes db.directory.manifest.name) → ⊥) → LeavesFile old.facts facts (string_bytes db.directory.manifest.name)) where
+        (spares : (IsTableName (IsNumberAtHand work.job.outputs) (string_bytes db.directory.manifest.name) → ⊥) → LeavesFile old.facts facts (string_bytes db.directory.manifest.name))
+        (carries : CarriesBut old.facts facts (IsTableName (IsNumberAtHand work.job.outputs))) where
       abbrev pub uninstalled_db : OpenDb K g
       uninstalled_db = record db { job = None }
 
@@ -463,6 +520,7 @@ module _ {K : Type 0} {g : _} (order : Order) (kept : (scan : Scan K g) → Scan
       synced_uninstalled =
           synced_still old.facts facts db.log db.directory db.directory db.tables refl refl refl refl (omega arith) serving.synced
           (beside_synced (kept_still old.facts facts (string_bytes db.directory.manifest.name) manifest_left)) (λ p there known. old_synced p there)
+          (stayed_on old.facts facts Written db.directory db.directory db.tables refl refl refl (omega arith) (first_least db.log db.directory db.tables serving.synced.names) carries spares_written serving.synced.stayed)
 
       pub serving_uninstalled : IsServing order new uninstalled_db ended_by
       serving_uninstalled = record {
@@ -480,6 +538,7 @@ module _ {K : Type 0} {g : _} (order : Order) (kept : (scan : Scan K g) → Scan
         readable = readable_as d has.served.consistent (passes_still has.kept) has.served.free;
         numbers = (let below : next ≤ m.numbers = serving.numbers in omega (arith, below));
         synced = synced_uninstalled;
+        recent = recent_left;
         job = tt;
       }
 

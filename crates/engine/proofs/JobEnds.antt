@@ -36,6 +36,7 @@ use Rattle.db_cursor.specs.Whole.{Whole}
 use Rattle.db_cursor.specs.declared.scan.Scan.{Scan}
 use Rattle.table_access.specs.Tables.{Seen, SoundLasts}
 use Rattle.store.specs.Files.{Facts, Files}
+use Rattle.store.specs.Losses.{CarriesBut, behind_sync}
 use Rattle.store.specs.Stops.{LeavesOnly}
 use Rattle.store.proofs.Stopping.{leaves_both, leaves_so}
 use Rattle.directory_writes.proofs.JobTables.{contains_among, content_at}
@@ -382,9 +383,17 @@ module _ {K : Type 0} {g : _} (order : Order) (total : IsTotalOrder order.cmp) (
       abbrev pub installed_state : Installed K → DbState K g
       installed_state installed = record (with_job None) { version = installed.version; directory = record state.directory { numbers = numbers; manifest = record state.directory.manifest { end = installed.manifest_end } } }
 
+      -- the names of all but the tables that it writes go on
+      abbrev Carried : Type 0
+      Carried = IsTrue facts.faithful → CarriesBut new.facts facts (IsTableName (IsNumberAtHand after.job.outputs))
+
+      -- and behind it no call came since the last sync
+      abbrev Ends : Type 0
+      Ends = IsTrue facts.faithful → behind_sync [] facts.calls ≡ []
+
       pub ends_installed : {T : Type 0} (done : T) (installed : Installed K) → result ≡ Ok installed → AreInOrder order.cmp installed.version.value.tables
-          → Edited → PutsSynced installed → AreOldOrOwn after.job.outputs tables installed.version.value.tables → LeadsOpen order old last_seen ids db (open_db after_memory (installed_state installed)) (λ m n. IsPiece m most (Ok done) n)
-      ends_installed done installed said in_order edited puts own =
+          → Edited → PutsSynced installed → AreOldOrOwn after.job.outputs tables installed.version.value.tables → Carried → Ends → LeadsOpen order old last_seen ids db (open_db after_memory (installed_state installed)) (λ m n. IsPiece m most (Ok done) n)
+      ends_installed done installed said in_order edited puts own carries ends =
           serves_on order old last_seen ids db (open_db after_memory (installed_state installed)) most (Ok done) whole whole faithful rise undenied
           (λ m f same serving.
           let has = subst (λ (r : Result (Installed K) FlushError). Means m serving f r) said (means m serving f) in (
@@ -394,7 +403,7 @@ module _ {K : Type 0} {g : _} (order : Order) (total : IsTotalOrder order.cmp) (
                 refl refl refl refl refl (edited f)
                 (λ placed there apart.
                 subst (λ (ts : List PlacedTable). Contains ts placed ⊎ IsTableSynced facts placed.table.number) tables_are (puts f (deep_of order.cmp after) (c m serving f).came (c m serving f).running.may.merging placed there apart))
-                (λ placed there. subst (λ (ts : List PlacedTable). Contains ts placed ⊎ IsOwn after.job.outputs placed.table.number) tables_are (own placed there))),
+                (λ placed there. subst (λ (ts : List PlacedTable). Contains ts placed ⊎ IsOwn after.job.outputs placed.table.number) tables_are (own placed there)) (carries f) (ends f)),
           ))
 
       -- where it has taken all tables, what they have now is needed
@@ -454,9 +463,9 @@ module _ {K : Type 0} {g : _} (order : Order) (total : IsTotalOrder order.cmp) (
 
       -- no number more is drawn than entries came
       pub ends_counted : {T : Type 0} (budget_is : most ≤ max budget 1) (merged : after.merged ≡ shown (before.merged + progress.merged)) (few : most ≤ progress.merged) (done : T) (installed : Installed K) → result ≡ Ok installed
-          → AreInOrder order.cmp installed.version.value.tables → Edited → PutsSynced installed → AreOldOrOwn after.job.outputs tables installed.version.value.tables → LeadsOpen order old last_seen ids db (open_db after_memory (installed_state installed)) (λ m n. HasCome budget db m (Ok done) n)
-      ends_counted budget_is merged few done installed said in_order edited puts own =
-          let step = ends_installed done installed said in_order edited puts own in
+          → AreInOrder order.cmp installed.version.value.tables → Edited → PutsSynced installed → AreOldOrOwn after.job.outputs tables installed.version.value.tables → Carried → Ends → LeadsOpen order old last_seen ids db (open_db after_memory (installed_state installed)) (λ m n. HasCome budget db m (Ok done) n)
+      ends_counted budget_is merged few done installed said in_order edited puts own carries ends =
+          let step = ends_installed done installed said in_order edited puts own carries ends in
           record {
             faithful = step.faithful;
             moved = λ f m s.
@@ -469,14 +478,14 @@ module _ {K : Type 0} {g : _} (order : Order) (total : IsTotalOrder order.cmp) (
 
       -- they aren't, and nothing was lost
       uninstalled : {T : Type 0} (e : DbError) → result ≡ Err (Before e) → ((m : Machine) → IsServing order old db m → IsTrue facts.faithful → UpkeepRefused m most e (drawing m most facts))
-          → Spares (Before e) → LeadsOpen order old last_seen ids db (open_db after_memory (with_job None)) (λ m n. IsPiece {T = T} m most (Err e) n)
-      uninstalled e said why spares =
+          → Spares (Before e) → Carried → LeadsOpen order old last_seen ids db (open_db after_memory (with_job None)) (λ m n. IsPiece {T = T} m most (Err e) n)
+      uninstalled e said why spares carries =
           serves_on order old last_seen ids db (open_db after_memory (with_job None)) most (Err e) whole whole faithful rise undenied
           (λ m f same serving.
           let has = subst (λ (r : Result (Installed K) FlushError). Means m serving f r) said (means m serving f) in (
             why m serving f,
             once m serving f last_seen (open_db after_memory (with_job None))
-                (serving_uninstalled order kept one lasts new facts mid (drawing m most new.facts) (on m serving f) after (c m serving f) (none_left m serving f) f install has.1 (spares f)),
+                (serving_uninstalled order kept one lasts new facts mid (drawing m most new.facts) (on m serving f) after (c m serving f) (none_left m serving f) f install has.1 (spares f) (carries f)),
           ))
 
       -- the device failed
@@ -501,13 +510,13 @@ module _ {K : Type 0} {g : _} (order : Order) (total : IsTotalOrder order.cmp) (
           own said f (on m serving f).log.directory.directory (c m serving f).came (c m serving f).running.inputs (c m serving f).running.rest can
 
       unended : {T : Type 0} (e : FlushError) → result ≡ Err e → RefusesEnd order new.facts facts numbers.next sequence state.directory.manifest tables after e
-          → Owns → Spares e → LeadsOpen order old last_seen ids db (open_db after_memory (broken_by (with_job None) (flush_answer e))) (λ m n. IsPiece {T = T} m most (Err (flush_answer e)) n)
-      unended (Before error.OutOfMemory) said h put spares = uninstalled error.OutOfMemory said (λ m serving f. draws m most facts) spares
-      unended (Before error.Io) said h put spares = failed h (λ m serving f.
+          → Owns → Spares e → Carried → LeadsOpen order old last_seen ids db (open_db after_memory (broken_by (with_job None) (flush_answer e))) (λ m n. IsPiece {T = T} m most (Err (flush_answer e)) n)
+      unended (Before error.OutOfMemory) said h put spares carries = uninstalled error.OutOfMemory said (λ m serving f. draws m most facts) spares carries
+      unended (Before error.Io) said h put spares carries = failed h (λ m serving f.
           let has = (subst (λ (r : Result (Installed K) FlushError). Means m serving f r) said (means m serving f)).1 in
           broken_uninstalled order kept one lasts new facts mid (drawing m most new.facts) (on m serving f) after (c m serving f) (none_left m serving f) f install has.served.consistent has.kept has.served.free)
-      unended (Before (error.Unsupported what)) said h put spares =
-          uninstalled (error.Unsupported what) said (λ m serving f. (hard_or m (2 ^ 29 ≤ weight m) (λ undamaged. inr (heavy m serving f undamaged (h f))), draws m most facts)) spares
+      unended (Before (error.Unsupported what)) said h put spares carries =
+          uninstalled (error.Unsupported what) said (λ m serving f. (hard_or m (2 ^ 29 ≤ weight m) (λ undamaged. inr (heavy m serving f undamaged (h f))), draws m most facts)) spares carries
         where
           heavy : (m : Machine) (serving : IsServing order old db m) (f : IsTrue facts.faithful) → m.damaged ≡ false
               → ((seen_whole : Whole) (e : Directory) (came : List InternalEntry) → seen_whole.seen.facts ≡ new.facts → CanEnd order seen_whole numbers.next sequence state.directory.manifest tables e after came → AreLarge (map entry_of came)) → 2 ^ 29 ≤ weight m
@@ -518,14 +527,14 @@ module _ {K : Type 0} {g : _} (order : Order) (total : IsTotalOrder order.cmp) (
               let few = large (whole_of new mid) (on m serving f).log.directory.directory (c m serving f).came refl said_can in
               let all = sym (ap (λ (es : List InternalEntry). (c m serving f).came ++ es) (none_left m serving f) ∙ append-nil (c m serving f).came) in
               job_heavy order total new mid (drawing m most new.facts) (on m serving f) after (c m serving f) (subst (λ (es : List InternalEntry). AreLarge (map entry_of es)) all few)
-      unended (Before (error.Corrupt file what)) said h put spares = uninstalled (error.Corrupt file what) said (λ m serving f.
-          absurd ((subst (λ (r : Result (Installed K) FlushError). Means m serving f r) said (means m serving f)).0 tt)) spares
-      unended (Before error.NumbersSpent) said h put spares = uninstalled error.NumbersSpent said (λ m serving f. ((let below : next ≤ m.numbers = serving.numbers in omega (arith, h, below, upto)), draws m most facts)) spares
-      unended (Before _) said h put spares = absurd h
-      unended Edit said h put spares = failed h (λ m serving f.
+      unended (Before (error.Corrupt file what)) said h put spares carries = uninstalled (error.Corrupt file what) said (λ m serving f.
+          absurd ((subst (λ (r : Result (Installed K) FlushError). Means m serving f r) said (means m serving f)).0 tt)) spares carries
+      unended (Before error.NumbersSpent) said h put spares carries = uninstalled error.NumbersSpent said (λ m serving f. ((let below : next ≤ m.numbers = serving.numbers in omega (arith, h, below, upto)), draws m most facts)) spares carries
+      unended (Before _) said h put spares carries = absurd h
+      unended Edit said h put spares carries = failed h (λ m serving f.
           broken_install order kept one lasts new facts mid (drawing m most new.facts) (on m serving f) after (c m serving f) (none_left m serving f) f install (subst (λ (r : Result (Installed K) FlushError). Means m serving f r) said (means m serving f))
           (owns_else m serving f put said))
 
       pub ends_unended : {T : Type 0} (e : FlushError) → result ≡ Err e → RefusesEnd order new.facts facts numbers.next sequence state.directory.manifest tables after e
-          → Owns → Spares e → LeadsOpen order old last_seen ids db (open_db after_memory (broken_by (with_job None) (flush_answer e))) (λ m n. IsPiece {T = T} m most (Err (flush_answer e)) n)
-      ends_unended e said h put spares = unended e said h put spares
+          → Owns → Spares e → Carried → LeadsOpen order old last_seen ids db (open_db after_memory (broken_by (with_job None) (flush_answer e))) (λ m n. IsPiece {T = T} m most (Err (flush_answer e)) n)
+      ends_unended e said h put spares carries = unended e said h put spares carries

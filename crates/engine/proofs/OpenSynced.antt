@@ -1,6 +1,6 @@
 -- What is synced behind an open.
-use Rattle.std.proofs.Common.{◌≡◌, ◌<◌, ℕ, true, false, None, is_some, IsSome, List, [], ◌∷◌, ◌++◌, Contains, Some, Option, refl, sym, ap, subst, ◌∙◌}
-use Rattle.std.specs.FinMap.{get}
+use Rattle.std.proofs.Common.{◌≡◌, ◌<◌, ◌≤◌, ℕ, Bool, true, false, None, is_some, IsSome, List, [], ◌∷◌, ◌++◌, Contains, Some, Option, refl, sym, ap, subst, ◌∙◌, arith, string_bytes}
+use Rattle.std.specs.FinMap.{get, contains_key}
 use Rattle.std.specs.Option.{option_or}
 use Rattle.directory_writes.proofs.JobTables.{contains_among, content_at}
 use Rattle.directory_writes.specs.Differing.{DiffersInTables}
@@ -10,7 +10,7 @@ use Rattle.edits.specs.declared.field.PlacedTable.{PlacedTable}
 use Rattle.edits.specs.declared.names.FileName.TheVariants.{Current, Log, Manifest, OldTable, Table}
 use Rattle.ikey.specs.Orders.{Order}
 use Rattle.ikey.specs.declared.entry.Entry.{Entry}
-use Rattle.opening.specs.Losses.{IsKept}
+use Rattle.opening.specs.Losses.{BeginsSpared, IsKept}
 use Rattle.opening.specs.declared.beginning.Begun.{Begun}
 use Rattle.opening.specs.internal.Begun.{BeginsSynced, HasBegun, IsBegun}
 use Rattle.opening.specs.internal.Durable.{HasDurable}
@@ -41,9 +41,13 @@ table_too files whole n differs there = at (get whole (name_of (Table n))) (get 
 kept_as : (facts : Facts) (name bytes : List ℕ) → get facts.files name ≡ Some bytes → facts.synced name ≡ Some bytes → IsKept facts name
 kept_as facts name bytes is synced other there = synced ∙ sym is ∙ there
 
+absent : (b : Bool) → (b ≡ true → ⊥) → b ≡ false
+absent true h = absurd (h refl)
+absent false h = refl
+
 -- The undamaged directory says which files there are; but for those of tables they are its own.
 module _ {K : Type 0} (order : Order) (old facts : Facts) (after : Files) (differs : DiffersInTables facts.files after) (begun : Begun K) (tables : List TableContent) (entries : List Entry) (used : ℕ) (w : IsBegun order begun) (has : HasBegun order after begun tables entries used)
-    (durable : HasDurable begun.directory.manifest.number facts) (synced : BeginsSynced old facts begun.log begun.directory) where
+    (durable : HasDurable begun.directory.manifest.number facts) (synced : BeginsSynced old facts begun.log begun.directory) (since : BeginsSpared facts (string_bytes begun.log.name)) where
   listed : ListsSameTables (placed_in has.log.directory.tables) begun.version.value.tables
   listed = subst (λ (contents : List TableContent). ListsSameTables (placed_in contents) begun.version.value.tables) has.log.in_tables has.version
 
@@ -73,9 +77,13 @@ module _ {K : Type 0} (order : Order) (old facts : Facts) (after : Files) (diffe
         placed = named;
       }
 
+  -- there is no log with a number that is still to be drawn
+  undrawn : (n : ℕ) → IsNumbered n → begun.directory.numbers.next ≤ n → contains_key facts.files (name_of (Log n)) ≡ false
+  undrawn n num from = absent (contains_key facts.files (name_of (Log n))) (λ there. (let less : n < begun.directory.numbers.next = has.knows.free.listed (Log n) num (differs.names (name_of (Log n)) ∙ there) in omega (arith, less, from)))
+
   pub begun_synced : IsSyncedBut facts begun.log begun.directory begun.version.value.tables
   begun_synced =
       let current = durable.durable.1 in
       opened_synced facts begun.log begun.directory begun.version.value.tables synced.logs names (kept_as facts (name_of Current) _ current.0 current.1)
       (kept_as facts (name_of (Manifest begun.directory.manifest.number)) durable.durable.0 durable.durable.2 durable.durable.3)
-      (λ p there. synced.found p.table.number (named p there).0 (table_there p there))
+      (λ p there. synced.found p.table.number (named p there).0 (table_there p there)) since undrawn

@@ -27,6 +27,7 @@ use Rattle.engine.specs.internal.Compacting.{IsCompacting}
 use Rattle.engine.specs.internal.Directory.{IsReadable}
 use Rattle.engine.specs.internal.Live.{AreSnapshots, AreWalks, IsLiveWalk}
 use Rattle.engine.specs.internal.Standing.{HasEntries, HasLog, HasTables, IsServing, entries_of}
+use Rattle.engine.specs.internal.Recent.{AreRecent}
 use Rattle.engine.specs.internal.Synced.{IsSyncedBut}
 use Rattle.engine.proofs.Compacting.{all_contains}
 
@@ -95,6 +96,7 @@ pub record ServesOver {K : Type 0} {g : _} (order : Order) (source : Seen) (db :
   pub readable : IsReadable order ideal m
   pub numbers : db.directory.numbers.next ≤ m.numbers
   pub synced : IsSyncedBut source.facts db.log db.directory db.tables
+  pub recent : AreRecent source.facts db.directory.manifest.number contents (entries_of contents db) log.directory.directory.logs m
   pub job : MatchOption db.job (Unit {0}) (IsCompacting order m.damaged (whole_of source db) ideal db.directory.numbers.next db.snapshots db.iterators log.directory.directory)
 
 module _ {K : Type 0} {g : _} (order : Order) (source : Seen) (db : OpenDb K g) (m : Machine) where
@@ -113,6 +115,7 @@ module _ {K : Type 0} {g : _} (order : Order) (source : Seen) (db : OpenDb K g) 
     readable = s.readable;
     numbers = s.numbers;
     synced = s.synced;
+    recent = s.recent;
     job = s.job;
   }
 
@@ -138,6 +141,7 @@ module _ {K : Type 0} {g : _} (order : Order) (source : Seen) (db : OpenDb K g) 
         readable = s.readable;
         numbers = s.numbers;
         synced = s.synced;
+        recent = s.recent;
         job = s.job;
       }
 

@@ -1,9 +1,9 @@
 -- What the directory of an open database says of its tables, and what calls that only read leave of an open database.
-use Rattle.std.proofs.Common.{◌≡◌, ◌⊎◌, ◌<◌, inl, inr, ℕ, zero, suc, ◌≤◌, Bool, true, false, is_some, IsTrue, IsSome, Option, None, Some, List, [], ◌∷◌, map, MatchBool, MatchOption, refl, sym, ap, subst, ◌∙◌, arith, Contains}
+use Rattle.std.proofs.Common.{◌≡◌, ◌⊎◌, ◌<◌, ◌++◌, inl, inr, ℕ, zero, suc, ◌≤◌, Bool, true, false, is_some, IsTrue, IsSome, Option, None, Some, List, [], ◌∷◌, map, MatchBool, MatchOption, refl, sym, ap, subst, ◌∙◌, arith, Contains}
 use Rattle.std.specs.FinMap.{get, IsAntisymmetric}
 use Rattle.std.specs.Option.{option_or}
 use Rattle.edits.specs.Names.{IsNumbered, name_of}
-use Rattle.edits.specs.declared.names.FileName.TheVariants.{Table, OldTable}
+use Rattle.edits.specs.declared.names.FileName.TheVariants.{Log, Table, OldTable}
 use Rattle.recover.specs.Numbers.{IsFree}
 use Rattle.std.specs.Cmp.{IsTotalOrder}
 use Rattle.std.specs.declared.cmp.Ordering.{Ordering}
@@ -37,7 +37,8 @@ use Rattle.version_laws.specs.Laws.{VersionLaw}
 use Rattle.version_laws.specs.Places.{table_sources, HasVersion}
 use Rattle.table_access.specs.Tables.{Seen, IsSound, Carries, KeepsOf, Knows}
 use Rattle.table_access.specs.Values.{IsTablePastLimit}
-use Rattle.store.specs.Files.{Files, Facts}
+use Rattle.store.specs.Files.{Files, Facts, Synced}
+use Rattle.opening.specs.Losses.{IsKept}
 use Rattle.table.proofs.FrameParts.{long_frame}
 use Rattle.versions.specs.Levels.{ListsSameTables}
 use Rattle.engine.specs.declared.ids.Ids.{Ids}
@@ -50,7 +51,9 @@ use Rattle.engine.specs.internal.Compacting.{IsCompacting}
 use Rattle.engine.specs.Reads.{kept_at}
 use Rattle.engine.specs.internal.Live.{AreLive, AreWalks, IsBoth, IsLiveWalk}
 use Rattle.machine.specs.Machine.{Machine, Walk}
+use Rattle.engine.proofs.RecentWrites.{recent_kept}
 use Rattle.engine.proofs.Synced.{StaysSynced, stays_same}
+use Rattle.engine.specs.internal.Recent.{AreRecent}
 use Rattle.engine.specs.internal.Standing.{HasLog, HasTables, IsBroken, IsServing, StandsOpen}
 use Rattle.engine.proofs.Compacting.{each_job, goes_beside, have_itself, known_itself, version_number, version_unowned}
 use Rattle.engine.proofs.LiveIds.{live_then}
@@ -163,6 +166,10 @@ live_of {X} {Y} Is kept live id x there h = at (kept_at kept id) (lookup (nat_eq
 abbrev pub read_by : Facts → Machine → Machine
 read_by facts m = record m { failures = facts.failures; denials = facts.denials }
 
+-- what was synced whole is, where the files and what of them is synced are the same
+pub kept_read : (old new : Facts) → new.files ≡ old.files → new.synced ≡ old.synced → (q : List ℕ) → IsKept old q → IsKept new q
+kept_read old new files synced q h bytes there = ap (λ (s : Synced). s q) synced ∙ h bytes (ap (λ (fs : Files). get fs q) (sym files) ∙ there)
+
 -- what a scan reads is the same
 pub whole_kept : (cmp : List ℕ → List ℕ → Ordering) (old new : Whole) (sequence : ℕ) → LeavesMemories old.memory new.memory → new.seen.facts.files ≡ old.seen.facts.files → (IsSound cmp old.seen → IsSound cmp new.seen)
     → KeepsUpTo cmp sequence old new
@@ -198,7 +205,8 @@ module _ {K : Type 0} {g : _} (order : Order) (kept : (scan : Scan K g) → Scan
 
   -- files and memory are the same, whatever else the calls did
   module _ (old new : Seen) (db : OpenDb K g) (memory : Memories) (m : Machine) (files : new.facts.files ≡ old.facts.files) (sound : IsSound order.cmp old → IsSound order.cmp new)
-      (keeps : KeepsThere old new) (gathers : GathersRead db old new) (left : LeavesMemories db.memory memory) (stays : StaysSynced old.facts new.facts db.log db.log db.directory db.tables) where
+      (keeps : KeepsThere old new) (gathers : GathersRead db old new) (left : LeavesMemories db.memory memory) (stays : StaysSynced old.facts new.facts db.log db.log db.directory db.tables)
+      (still : (q : List ℕ) → IsKept old.facts q → IsKept new.facts q) where
     pub inserts : logged_in memory ≡ logged_in db.memory
     inserts = left_logged db.memory memory left
 
@@ -294,6 +302,8 @@ module _ {K : Type 0} {g : _} (order : Order) (kept : (scan : Scan K g) → Scan
       readable = readable_read h.ideal h.readable;
       numbers = h.numbers;
       synced = (stays h.synced).0;
+      recent = subst (λ (es : List Entry). AreRecent new.facts db.directory.manifest.number h.contents (tabled h.contents ++ es) h.log.directory.directory.logs m) (sym inserts)
+          (recent_kept old.facts new.facts db.directory.manifest.number h.contents (tabled h.contents ++ logged_in db.memory) h.log.directory.directory.logs m (λ n i. still (name_of (Log n))) h.recent);
       job = job_read h h.job;
     }
 
@@ -316,4 +326,4 @@ module _ {K : Type 0} {g : _} (order : Order) (kept : (scan : Scan K g) → Scan
   pub stands_read : {numbers : ℕ → Type 0} (old new : Seen) (ids : Ids) (db : OpenDb K g) (memory : Memories) (m : Machine) → Carries order.cmp numbers old new → GathersRead db old new → IsTrue new.facts.faithful
       → LeavesMemories db.memory memory → StandsOpen order old ids db m → StandsOpen order new ids (record db { memory = memory }) (read_by new.facts m)
   stands_read old new ids db memory m carries gathers f left s = stands_kept old new db memory m (carries.reads.files f) (carries.sound f) (carried_there order.cmp old new carries f) gathers left
-      (stays_same old.facts new.facts db.log db.directory db.tables (carries.reads.files f) (carries.reads.synced f)) ids s
+      (stays_same old.facts new.facts db.log db.directory db.tables (carries.reads.calls f) (carries.reads.files f) (carries.reads.synced f)) (kept_read old.facts new.facts (carries.reads.files f) (carries.reads.synced f)) ids s

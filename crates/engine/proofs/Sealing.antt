@@ -19,10 +19,11 @@ use Rattle.edits.specs.Edit.{HasPastLimit}
 use Rattle.edits.specs.Layout.{fields_of}
 use Rattle.edits.specs.declared.field.Field.{Field}
 use Rattle.recover.specs.internal.Laws.{OneDirectoryLaw}
-use Rattle.recover.specs.Logs.{logged}
+use Rattle.recover.specs.Logs.{InLogs, logged}
 use Rattle.recover.specs.Numbers.{IsFree}
 use Rattle.recover.specs.Tables.{TableContent, tabled}
 use Rattle.recover.proofs.Adding.{table_of}
+use Rattle.recover.proofs.NewLogs.{log_there}
 use Rattle.db_cursor.specs.Scans.{KeepsScan}
 use Rattle.db_cursor.specs.internal.Scanning.{ScanIsKept}
 use Rattle.db_cursor.specs.declared.scan.Scan.{Scan}
@@ -30,7 +31,9 @@ use Rattle.table_access.specs.Tables.{Seen, IsSound, SoundLasts}
 use Rattle.table_access.proofs.Sounding.{same_file, same_table}
 use Rattle.std.specs.declared.cmp.Ordering.{Ordering}
 use Rattle.std.specs.Option.{option_and_then}
-use Rattle.store.specs.Files.{Facts, Files}
+use Rattle.store.specs.Calls.{Adds, Idles}
+use Rattle.store.specs.Files.{Creation, Facts, Files}
+use Rattle.store.specs.Losses.{CarriesBut}
 use Rattle.table.specs.Writing.{KeepsOthers}
 use Rattle.directory_writes.specs.internal.LogFile.{HasNewLog}
 use Rattle.opening.specs.declared.directory.DirectoryState.{DirectoryState}
@@ -40,6 +43,8 @@ use Rattle.engine.specs.internal.Directory.{IsReadable}
 use Rattle.engine.specs.OpenDb.{OpenDb, whole_of}
 use Rattle.engine.proofs.Synced.{sealed_synced, synced_same, whole_left}
 use Rattle.engine.specs.internal.Standing.{entries_of, HasLog, IsBroken, IsServing}
+use Rattle.engine.proofs.RecentWrites.{recent_same, recent_sealed}
+use Rattle.engine.specs.internal.Recent.{AreRecent}
 use Rattle.engine.specs.internal.Live.{IsLiveWalk}
 use Rattle.engine.specs.Origins.{ComesFrom}
 use Rattle.engine.proofs.Extended.{comes_extended, no_change, placed_number}
@@ -91,7 +96,8 @@ module _ {K : Type 0} {g : _} (order : Order) (source : Seen) (db : OpenDb K g) 
         accounted = h.accounted;
         readable = record { made = h.readable.made; numbers = free_up order h.ideal m.numbers (m.numbers + 1) (omega arith) h.readable.numbers; limits = h.readable.limits };
         numbers = (let below = h.numbers in omega (arith, below, upto));
-        synced = synced_same source.facts source.facts db.log db.directory state db.tables number name first_log previous_log le h.synced refl refl;
+        recent = subst (λ (n : ℕ). AreRecent source.facts n h.contents (entries_of h.contents db) d.logs m) (sym number) h.recent;
+        synced = synced_same source.facts source.facts db.log db.directory state db.tables number name first_log previous_log le h.synced refl refl refl;
         job = each_job _ _ db.job (λ work is c.
             goes_beside order (whole_of source db) (whole_of source db) db.directory.numbers.next state.numbers.next db.snapshots db.snapshots db.iterators db.iterators db.tables m.damaged h.ideal h.ideal d d work c
             h.log.directory.consistent knows.free db.directory.numbers.in_range.1 le (λ number numbered below one. ((refl, λ file there was. was), refl)) (λ sound. sound) (λ number kept_now. inl kept_now) (no_change source.facts.files source.facts.files h.ideal refl) refl refl
@@ -134,6 +140,13 @@ module _ {K : Type 0} {g : _} (order : Order) (kept : (scan : Scan K g) → Scan
 
   older_same : (n : ℕ) → IsNumbered n → get facts.files (name_of (OldTable n)) ≡ get old.facts.files (name_of (OldTable n))
   older_same n numbered = others (name_of (OldTable n)) (files_apart (OldTable n) (Log next) numbered numbered_next (λ e. cc))
+
+  -- the logs that are there have other numbers
+  logs_before : (n : ℕ) → InLogs d.logs n → name_of (Log n) ≢ name_of (Log next)
+  logs_before n i =
+      let there = log_there serving.ideal d.logs n a.consistent.logs i in
+      let less : n < next = serving.log.knows.free.listed (Log n) there.0 there.1 in
+      files_apart (Log n) (Log next) there.0 numbered_next (λ e. (let same : n ≡ next = cc in omega (arith, same, less)))
 
   table_still : (n : ℕ) → IsNumbered n → table_at facts.files n ≡ table_at old.facts.files n
   table_still n numbered = same_table old.facts.files facts.files n (newer_same n numbered) (older_same n numbered)
@@ -189,7 +202,8 @@ module _ {K : Type 0} {g : _} (order : Order) (kept : (scan : Scan K g) → Scan
       (log_number : log.number ≡ next) (log_name : string_bytes log.name ≡ name_of (Log next)) (log_end : log.end ≡ 0)
       (number : state.manifest.number ≡ db.directory.manifest.number) (name : state.manifest.name ≡ db.directory.manifest.name) (end : state.manifest.end ≡ db.directory.manifest.end)
       (first_log : state.first_log ≡ db.directory.first_log) (previous_log : state.previous_log ≡ db.directory.previous_log) (next_is : state.numbers.next ≡ next + 1)
-      (front : map string_bytes log.front.items ≡ map string_bytes db.log.front.items ++ string_bytes db.log.name ∷ []) where
+      (front : map string_bytes log.front.items ≡ map string_bytes db.log.front.items ++ string_bytes db.log.name ∷ []) (carries : CarriesBut old.facts facts (λ (q : List ℕ). q ≡ name_of (Log db.directory.numbers.next)))
+      (noted : Idles old.facts facts ⊎ Adds old.facts facts (Creation (name_of (Log db.directory.numbers.next)))) (unsynced : facts.synced (name_of (Log db.directory.numbers.next)) ≡ None) where
     abbrev pub sealed_db : OpenDb K g
     sealed_db = record db { memory = memory; log = log; directory = state }
 
@@ -274,8 +288,12 @@ module _ {K : Type 0} {g : _} (order : Order) (kept : (scan : Scan K g) → Scan
       accounted = rw (entries_now) serving.accounted;
       readable = readable_as (with_log d next) has.consistent refl refl freed;
       numbers = (let below : next ≤ m.numbers = serving.numbers in omega (arith, next_is, below));
+      recent = subst (λ (n : ℕ). AreRecent facts n serving.contents (entries_of serving.contents sealed_db) (d.logs ++ empty_log next ∷ []) m) (sym number)
+          (subst (λ (es : List Entry). AreRecent facts db.directory.manifest.number serving.contents es (d.logs ++ empty_log next ∷ []) m) (sym entries_now)
+          (recent_sealed facts db.directory.manifest.number serving.contents (entries_of serving.contents db) d.logs (empty_log next) m refl
+          (recent_same old.facts facts db.directory.manifest.number serving.contents (entries_of serving.contents db) d.logs m (λ n i. let apart = logs_before n i in (others (name_of (Log n)) apart, stays (name_of (Log n)) apart)) serving.recent)));
       synced = synced_same facts facts log (record db.directory { numbers = state.numbers }) state db.tables number name first_log previous_log (omega arith)
-          (sealed_synced old.facts facts db.log log db.directory state.numbers db.tables log_number log_name front next_is few (λ q apart. (others q apart, stays q apart)) serving.synced) refl refl;
+          (sealed_synced old.facts facts db.log log db.directory state.numbers db.tables log_number log_name front next_is few (λ q apart. (others q apart, stays q apart)) carries noted unsynced serving.synced) refl refl refl;
       job = each_job _ _ db.job (λ work is c.
           goes_beside order (whole_of old db) (whole_of new sealed_db) next state.numbers.next db.snapshots db.snapshots db.iterators db.iterators db.tables m.damaged serving.ideal behind d (with_log d next) work c
           a.consistent serving.log.knows.free db.directory.numbers.in_range.1 (omega (arith, next_is)) (λ number numbered below one. (whole_left old.facts facts (name_of (Table number)) (newer_same number numbered, stays (name_of (Table number)) (files_apart (Table number) (Log next) numbered numbered_next (λ e. cc))), older_same number numbered)) sound_still (λ number kept_now. inl kept_now) behind_is refl refl

@@ -3,16 +3,17 @@ use Rattle.std.proofs.Common.{◌≡◌, ◌≢◌, ◌⊎◌, ◌<◌, ◌≤�
 use Rattle.std.proofs.lemmas.List.{append_assoc}
 use Rattle.compact.specs.Laws.{SeesAsOne}
 use Rattle.compact.specs.Merging.{IsStepOf}
-use Rattle.compact.specs.Outputs.{IsMineUpTo, IsOwn}
+use Rattle.compact.specs.Outputs.{IsMineUpTo, IsOwn, IsTableName}
 use Rattle.compact.specs.declared.job.Progress.{Progress}
 use Rattle.edits.specs.declared.numbers.FileNumbers.{FileNumbers}
 use Rattle.edits.specs.Names.{IsFileName, IsNumbered, name_of}
 use Rattle.edits.specs.declared.field.PlacedTable.{PlacedTable}
 use Rattle.edits.specs.declared.names.FileName.{FileName}
-use Rattle.edits.specs.declared.names.FileName.TheVariants.{OldTable, Table}
+use Rattle.edits.specs.declared.names.FileName.TheVariants.{Log, OldTable, Table}
 use Rattle.directory_writes.specs.internal.Calls.{LeavesFile}
 use Rattle.ikey.specs.Entries.{InternalEntry, entry_of}
 use Rattle.ikey.specs.Orders.{Order}
+use Rattle.ikey.specs.declared.entry.Entry.{Entry}
 use Rattle.ikey.specs.Views.{AllUpTo}
 use Rattle.running_job.specs.Running.{CanStep, MayRun}
 use Rattle.running_job.proofs.Stepped.{planned_as}
@@ -21,10 +22,12 @@ use Rattle.running_job.specs.declared.open_job.OpenJob.{OpenJob}
 use Rattle.memtables.specs.Memories.{Memories, logged_in}
 use Rattle.memtables.specs.PlaceLaws.{left_kept, left_logged, left_sealed}
 use Rattle.recover.specs.Directory.{Directory, IsConsistent}
+use Rattle.recover.specs.Logs.{InLogs}
 use Rattle.recover.specs.Numbers.{IsFree}
 use Rattle.recover.specs.internal.Laws.{OneDirectoryLaw}
-use Rattle.recover.specs.Tables.{InTables, TableContent}
+use Rattle.recover.specs.Tables.{InTables, TableContent, tabled}
 use Rattle.recover.proofs.Adding.{table_of}
+use Rattle.recover.proofs.NewLogs.{log_there}
 use Rattle.level_cursor.specs.InRows.{ListsNumber}
 use Rattle.db_cursor.specs.internal.Scanning.{ScanIsKept}
 use Rattle.db_cursor.specs.Scans.{KeepsScan, reads_table, tables_of}
@@ -33,6 +36,7 @@ use Rattle.db_cursor.specs.declared.scan.Scan.{Scan}
 use Rattle.table_access.specs.Tables.{IsSound, KeepsOf, Seen}
 use Rattle.table_access.proofs.Sounding.{same_table}
 use Rattle.cache.specs.Tables.{table_at}
+use Rattle.store.proofs.Carrying.{carries_writes}
 use Rattle.store.specs.Files.{Files}
 use Rattle.directory_writes.specs.Differing.{DiffersInTables, IsSameChange}
 use Rattle.directory_writes.specs.Replacing.{placed_in}
@@ -49,10 +53,13 @@ use Rattle.opening.specs.internal.Directories.{CanAppend}
 use Rattle.engine.specs.OpenDb.{OpenDb, whole_of}
 use Rattle.engine.specs.Reads.{kept_at}
 use Rattle.machine.specs.Machine.{Machine, Walk}
-use Rattle.engine.specs.internal.Standing.{HasLog, IsServing}
+use Rattle.engine.specs.internal.Recent.{AreRecent}
+use Rattle.engine.specs.internal.Standing.{HasLog, IsServing, entries_of}
 use Rattle.engine.specs.internal.Synced.{IsSyncedBut}
 use Rattle.opening.proofs.Reopening.{files_apart}
 use Rattle.engine.proofs.Compacting.{input_number, listed_number, own_number, running_whole, unowned, version_unowned}
+use Rattle.engine.proofs.RecentWrites.{recent_same}
+use Rattle.engine.proofs.StayedNames.{SparesRead, first_least, spares_tables, stayed_on}
 use Rattle.engine.proofs.Synced.{kept_still, no_table, one_number, synced_still, table_still}
 use Rattle.engine.proofs.Pieces.{free_up, limits_stay, made_still, walks_each}
 use Rattle.engine.proofs.Reading.{below_next, has_placed, live_of}
@@ -231,6 +238,20 @@ module _ {K : Type 0} {g : _} (order : Order) (kept : (scan : Scan K g) → Scan
       unowned_here : (p : PlacedTable) → Contains db.tables p → IsOwn before.job.outputs p.table.number → ⊥
       unowned_here p there = version_unowned before.job.outputs order serving.ideal d serving.contents db.tables p.table.number a.consistent a.in_tables serving.tables.version the_job.running.unused (p, there, refl)
 
+      -- none of the tables that it writes is read
+      abbrev Written : List ℕ → Type 0
+      Written = IsTableName (IsMineUpTo before.job.outputs next numbers.next)
+
+      spares_written : SparesRead Written old.facts.files db.directory db.tables
+      spares_written =
+          spares_tables Written old.facts.files db.log db.directory db.tables serving.synced.names (λ file is none one. files_apart file (Table one.0) is (mine_numbered one.0 one.1) (no_table file one.0 none) one.2)
+          (λ p there known. (
+            λ one.
+                files_apart (Table p.table.number) (Table one.0) known.0 (mine_numbered one.0 one.1)
+                (λ e. not_mine p.table.number known.1 (unowned_here p there) (subst (IsMineUpTo before.job.outputs next numbers.next) (one_number e) one.1)) one.2,
+            λ one. files_apart (OldTable p.table.number) (Table one.0) known.0 (mine_numbered one.0 one.1) (λ e. cc) one.2,
+          ))
+
       pub synced_stepped : IsSyncedBut new.facts db.log (record db.directory { numbers = numbers }) db.tables
       synced_stepped =
           synced_still old.facts new.facts db.log db.directory (record db.directory { numbers = numbers }) db.tables refl refl refl refl le serving.synced
@@ -238,6 +259,12 @@ module _ {K : Type 0} {g : _} (order : Order) (kept : (scan : Scan K g) → Scan
           (λ p there known. table_still old.facts new.facts p.table.number
           (beside_mine (Table p.table.number) known.0 (λ number mine e. not_mine p.table.number known.1 (unowned_here p there) (subst (IsMineUpTo before.job.outputs next numbers.next) (one_number e) mine)))
           (beside_mine (OldTable p.table.number) known.0 (λ number mine e. cc)))
+          (stayed_on old.facts new.facts Written db.directory (record db.directory { numbers = numbers }) db.tables refl refl refl le (first_least db.log db.directory db.tables serving.synced.names)
+          (carries_writes old.facts new.facts Written (touches.writes.calls f)) spares_written serving.synced.stayed)
+
+      -- it writes no log
+      pub logs_stepped : (n : ℕ) → InLogs d.logs n → LeavesFile old.facts new.facts (name_of (Log n))
+      logs_stepped n i = (let numbered = (log_there serving.ideal d.logs n a.consistent.logs i).0 in beside_mine (Log n) numbered (λ number mine e. cc))
 
       -- whatever becomes of the job
       abbrev pub serving_stepped : (job : Option (OpenJob K g)) → MatchOption job (Unit {0}) (IsCompacting order m.damaged stepped_whole after_ideal numbers.next db.snapshots db.iterators d) → IsServing order new (stepped_db job) (drawing m most new.facts)
@@ -266,6 +293,8 @@ module _ {K : Type 0} {g : _} (order : Order) (kept : (scan : Scan K g) → Scan
         };
         numbers = (let below : next ≤ m.numbers = serving.numbers in omega (arith, below, upto));
         synced = synced_stepped;
+        recent = subst (λ (es : List Entry). AreRecent new.facts db.directory.manifest.number serving.contents (tabled serving.contents ++ es) d.logs m) (sym inserts)
+            (recent_same old.facts new.facts db.directory.manifest.number serving.contents (entries_of serving.contents db) d.logs m logs_stepped serving.recent);
         job = job_is;
       }
 

@@ -1,7 +1,7 @@
 -- What stays synced over a seal, a flush, a removal of files and an open.
 use Rattle.std.proofs.Common.{◌≡◌, ◌≢◌, ◌⊎◌, ◌<◌, ◌≤◌, ◌+◌, ◌^◌, ◌++◌, ℕ, zero, suc, true, false, is_some, List, [], ◌∷◌, Contains, map, Option, Some, None, inl, inr, refl, sym, ap, subst, ◌∙◌, arith, string_bytes}
 use Rattle.std.proofs.lemmas.Bool.{cases_lt, cond_both}
-use Rattle.std.specs.FinMap.{get}
+use Rattle.std.specs.FinMap.{get, contains_key}
 use Rattle.std.specs.List.{AllByRecursion}
 use Rattle.edits.specs.Layout.{inserted, is_before}
 use Rattle.edits.specs.Names.{name_of, IsFileName, IsNumbered}
@@ -10,12 +10,14 @@ use Rattle.edits.specs.declared.field.TableFile.{TableFile}
 use Rattle.edits.specs.declared.names.FileName.{FileName}
 use Rattle.edits.specs.declared.names.FileName.TheVariants.{Current, Log, Manifest, Table, OldTable}
 use Rattle.edits.specs.declared.numbers.FileNumbers.{FileNumbers}
-use Rattle.opening.specs.Losses.{AreInDoubt, IsKept, IsLogBelow, IsLogRead, IsNoneOf, IsTableKept, logs_in_doubt}
+use Rattle.opening.specs.Losses.{AreInDoubt, BeginsSpared, IsKept, IsLogBelow, IsLogRead, IsNoneOf, IsTableKept}
 use Rattle.opening.specs.Durable.{IsSynced, LeavesFile}
 use Rattle.opening.specs.declared.directory.CurrentLog.{CurrentLog}
 use Rattle.opening.specs.declared.directory.DirectoryState.{DirectoryState}
 use Rattle.opening.proofs.Reopening.{files_apart}
-use Rattle.store.specs.Files.{Facts, Files, Synced}
+use Rattle.store.specs.Calls.{Adds, Idles}
+use Rattle.store.specs.Files.{Creation, Facts, Files, Synced}
+use Rattle.store.specs.Losses.{CarriesBut, behind_sync}
 use Rattle.directory_writes.specs.internal.Flush.{DrawsTable}
 use Rattle.directory_writes.specs.internal.Install.{IsTableSynced}
 use Rattle.directory_writes.specs.internal.Removal.{table_number}
@@ -24,7 +26,8 @@ use Rattle.running_job.specs.internal.Staying.{LeavesWhole}
 use Rattle.recover.specs.Numbers.{IsFree}
 use Rattle.versions.specs.Levels.{ListsSameTables}
 use Rattle.engine.proofs.Compacting.{all_contains}
-use Rattle.engine.specs.internal.Synced.{AreSyncedBut, HaveNames, IsSyncedBut}
+use Rattle.engine.proofs.StayedNames.{stayed_begun, stayed_behind, stayed_opened, stayed_same, undrawn_still}
+use Rattle.engine.specs.internal.Synced.{HaveNames, HaveStayed, IsSyncedBut}
 
 -- ---- names
 
@@ -86,7 +89,8 @@ lost_table old new n newer older same h = (lost_kept old new (name_of (Table n))
 
 module _ (old new : Facts) (log after : CurrentLog) (state : DirectoryState) (numbers : FileNumbers) (tables : List PlacedTable) (number : after.number ≡ state.numbers.next) (name : string_bytes after.name ≡ name_of (Log state.numbers.next))
     (front : map string_bytes after.front.items ≡ map string_bytes log.front.items ++ string_bytes log.name ∷ []) (next : numbers.next ≡ state.numbers.next + 1) (fits : state.numbers.next < 2 ^ 62)
-    (left : (q : List ℕ) → q ≢ name_of (Log state.numbers.next) → LeavesFile old new q) (h : IsSyncedBut old log state tables) where
+    (left : (q : List ℕ) → q ≢ name_of (Log state.numbers.next) → LeavesFile old new q) (carries : CarriesBut old new (λ (q : List ℕ). q ≡ name_of (Log state.numbers.next)))
+    (noted : Idles old new ⊎ Adds old new (Creation (name_of (Log state.numbers.next)))) (unsynced : new.synced (name_of (Log state.numbers.next)) ≡ None) (h : IsSyncedBut old log state tables) where
   new_number : IsNumbered state.numbers.next
   new_number = (state.numbers.in_range.0, omega (arith, fits))
 
@@ -118,6 +122,7 @@ module _ (old new : Facts) (log after : CurrentLog) (state : DirectoryState) (nu
       manifest = h.names.manifest;
       placed = λ placed there. (let known = h.names.placed placed there in (known.0, (let less = known.1 in omega (arith, less, next))));
     };
+    stayed = stayed_begun old new log state numbers tables next fits h.names carries noted unsynced h.stayed;
   }
 
 -- ---- the logs stay
@@ -131,8 +136,8 @@ module _ (old new : Facts) (log : CurrentLog) (state later : DirectoryState) (ta
 
   -- with these tables
   pub synced_with : ((p : PlacedTable) → Contains more p → state.manifest.number ≤ p.table.number → IsTableKept new p.table.number)
-      → ((p : PlacedTable) → Contains more p → IsNumbered p.table.number × (p.table.number < later.numbers.next)) → IsSyncedBut new log later more
-  synced_with placed named = record {
+      → ((p : PlacedTable) → Contains more p → IsNumbered p.table.number × (p.table.number < later.numbers.next)) → HaveStayed new later more → IsSyncedBut new log later more
+  synced_with placed named stayed = record {
     synced = record {
       current = left Current tt refl h.synced.current;
       manifest = subst (λ (n : ℕ). IsKept new (name_of (Manifest n))) (sym number) (left (Manifest state.manifest.number) h.names.manifest.0 refl h.synced.manifest);
@@ -146,31 +151,40 @@ module _ (old new : Facts) (log : CurrentLog) (state later : DirectoryState) (ta
       manifest = (subst IsNumbered (sym number) h.names.manifest.0, ap string_bytes name ∙ h.names.manifest.1 ∙ ap (λ (n : ℕ). name_of (Manifest n)) (sym number));
       placed = named;
     };
+    stayed = stayed;
   }
 
 -- and the tables
 module _ (old new : Facts) (log : CurrentLog) (state later : DirectoryState) (tables : List PlacedTable) (number : later.manifest.number ≡ state.manifest.number) (name : later.manifest.name ≡ state.manifest.name)
     (first_log : later.first_log ≡ state.first_log) (previous_log : later.previous_log ≡ state.previous_log) (le : state.numbers.next ≤ later.numbers.next) (h : IsSyncedBut old log state tables) where
   pub synced_still : ((file : FileName) → IsFileName file → table_number file ≡ None → IsKept old (name_of file) → IsKept new (name_of file))
-      → ((p : PlacedTable) → Contains tables p → IsNumbered p.table.number × (p.table.number < state.numbers.next) → IsTableKept old p.table.number → IsTableKept new p.table.number) → IsSyncedBut new log later tables
-  synced_still left placed =
+      → ((p : PlacedTable) → Contains tables p → IsNumbered p.table.number × (p.table.number < state.numbers.next) → IsTableKept old p.table.number → IsTableKept new p.table.number) → HaveStayed new later tables → IsSyncedBut new log later tables
+  synced_still left placed stayed =
       synced_with old new log state later tables tables number name first_log previous_log le left h
       (λ p there from. placed p there (h.names.placed p there) (h.synced.placed p there from))
-      (λ p there. (let known = h.names.placed p there in (known.0, (let less = known.1 in omega (arith, less, le)))))
+      (λ p there. (let known = h.names.placed p there in (known.0, (let less = known.1 in omega (arith, less, le))))) stayed
 
   -- all files
-  pub synced_same : new.files ≡ old.files → new.synced ≡ old.synced → IsSyncedBut new log later tables
-  synced_same files synced =
+  pub synced_beside : new.files ≡ old.files → new.synced ≡ old.synced → HaveStayed new later tables → IsSyncedBut new log later tables
+  synced_beside files synced stayed =
       let left : (q : List ℕ) → LeavesFile old new q = λ q. (ap (λ (fs : Files). get fs q) files, ap (λ (s : Synced). s q) synced) in
       synced_still (λ file is none. kept_still old new (name_of file) (left (name_of file)))
       (λ p there known. table_still old new p.table.number (left (name_of (Table p.table.number))) (left (name_of (OldTable p.table.number))))
+      stayed
+
+  pub synced_same : new.calls ≡ old.calls → new.files ≡ old.files → new.synced ≡ old.synced → IsSyncedBut new log later tables
+  synced_same calls files synced = synced_beside files synced (stayed_same old new log state later tables number first_log previous_log le h.names calls files synced h.stayed)
 
 -- What a call does to what is synced, where it writes no table and leaves all that is known but the log.
 abbrev pub StaysSynced : Facts → Facts → CurrentLog → CurrentLog → DirectoryState → List PlacedTable → Type 0
 StaysSynced old new log after state tables = IsSyncedBut old log state tables → IsSyncedBut new after state tables × ((n : ℕ) → IsNumbered n → new.synced (name_of (Table n)) ≡ old.synced (name_of (Table n)))
 
-pub stays_same : (old new : Facts) (log : CurrentLog) (state : DirectoryState) (tables : List PlacedTable) → new.files ≡ old.files → new.synced ≡ old.synced → StaysSynced old new log log state tables
-stays_same old new log state tables files synced h = (synced_same old new log state state tables refl refl refl refl (omega arith) h files synced, λ n numbered. ap (λ (s : Synced). s (name_of (Table n))) synced)
+pub stays_same : (old new : Facts) (log : CurrentLog) (state : DirectoryState) (tables : List PlacedTable) → new.calls ≡ old.calls → new.files ≡ old.files → new.synced ≡ old.synced → StaysSynced old new log log state tables
+stays_same old new log state tables calls files synced h = (synced_same old new log state state tables refl refl refl refl (omega arith) h calls files synced, λ n numbered. ap (λ (s : Synced). s (name_of (Table n))) synced)
+
+-- or may have done something that is undone
+pub stays_beside : (old new : Facts) (log : CurrentLog) (state : DirectoryState) (tables : List PlacedTable) → new.files ≡ old.files → new.synced ≡ old.synced → (IsSyncedBut old log state tables → HaveStayed new state tables) → StaysSynced old new log log state tables
+stays_beside old new log state tables files synced stayed h = (synced_beside old new log state state tables refl refl refl refl (omega arith) h files synced (stayed h), λ n numbered. ap (λ (s : Synced). s (name_of (Table n))) synced)
 
 -- what is no table's
 pub no_table : (file : FileName) (n : ℕ) → table_number file ≡ None → file ≢ Table n
@@ -200,7 +214,7 @@ module _ (old new : Facts) (log after : CurrentLog) (state : DirectoryState) (nu
     (table_is : table.number ≡ state.numbers.next) (lists : ListsSameTables (inserted (record { level = 0; table = table }) tables) more)
     (left : (q : List ℕ) → q ≢ name_of (Table state.numbers.next) → q ≢ string_bytes state.manifest.name → LeavesFile old new q)
     (written : name_of (Table state.numbers.next) ≢ string_bytes state.manifest.name → IsSynced new (name_of (Table state.numbers.next))) (edited : IsSynced new (string_bytes state.manifest.name))
-    (free : get old.files (name_of (OldTable state.numbers.next)) ≡ None) (h : IsSyncedBut old log state tables) where
+    (free : get old.files (name_of (OldTable state.numbers.next)) ≡ None) (carries : CarriesBut old new (λ (q : List ℕ). q ≡ name_of (Table state.numbers.next))) (ends : behind_sync [] new.calls ≡ []) (h : IsSyncedBut old log state tables) where
   abbrev flushed : DirectoryState
   flushed = record state { numbers = numbers; manifest = record state.manifest { end = end }; first_log = log.number; previous_log = 0 }
 
@@ -279,12 +293,14 @@ module _ (old new : Facts) (log after : CurrentLog) (state : DirectoryState) (nu
         | inr was ↦ (let known = h.names.placed p was in (known.0, (let less = known.1 in omega (arith, less, next))))
       ];
     };
+    stayed = stayed_behind new flushed more ends (undrawn_still old new (λ (q : List ℕ). q ≡ name_of (Table state.numbers.next)) state tables numbers.next carries (λ n num. files_apart (Log n) (Table state.numbers.next) num drawn (λ e. cc)) (omega (arith, next)) h.stayed);
   }
 
 -- ---- an open
 
 module _ (new : Facts) (log : CurrentLog) (state : DirectoryState) (tables : List PlacedTable) (doubt : AreInDoubt new.files log state) (names : HaveNames log state tables)
-    (current : IsKept new (name_of Current)) (manifest : IsKept new (name_of (Manifest state.manifest.number))) (found : (p : PlacedTable) → Contains tables p → p.table.number < state.manifest.number) where
+    (current : IsKept new (name_of Current)) (manifest : IsKept new (name_of (Manifest state.manifest.number))) (found : (p : PlacedTable) → Contains tables p → p.table.number < state.manifest.number)
+    (since : BeginsSpared new (string_bytes log.name)) (undrawn : (n : ℕ) → IsNumbered n → state.numbers.next ≤ n → contains_key new.files (name_of (Log n)) ≡ false) where
   pub opened_synced : IsSyncedBut new log state tables
   opened_synced = record {
     synced = record {
@@ -294,6 +310,7 @@ module _ (new : Facts) (log : CurrentLog) (state : DirectoryState) (tables : Lis
       placed = λ p there from. absurd (let less = found p there in omega (arith, less, from));
     };
     names = names;
+    stayed = stayed_opened new log state tables since names undrawn;
   }
 
 -- ---- numbers that are drawn

@@ -20,7 +20,9 @@ use Rattle.recover.specs.Numbers.{IsFree}
 use Rattle.db_cursor.specs.internal.Scanning.{ScanIsKept}
 use Rattle.db_cursor.specs.declared.scan.Scan.{Scan}
 use Rattle.table_access.specs.Tables.{Seen, IsSound, SoundLasts}
-use Rattle.store.specs.Files.{Files, Facts}
+use Rattle.store.specs.Calls.{Adds, Idles}
+use Rattle.store.specs.Files.{Creation, Files, Facts}
+use Rattle.store.specs.Losses.{CarriesBut}
 use Rattle.directory_writes.specs.internal.Calls.{LeavesFile, Touches}
 use Rattle.directory_writes.proofs.SameChanges.{same_change}
 use Rattle.directory_writes.specs.Differing.{OfEach, with_files}
@@ -32,14 +34,15 @@ use Rattle.engine.specs.declared.state.DbState.{DbState}
 use Rattle.engine.specs.internal.Leading.{LeadsOpen}
 use Rattle.engine.specs.OpenDb.{OpenDb, open_db}
 use Rattle.machine.specs.Machine.{Machine}
-use Rattle.engine.proofs.Synced.{stays_same}
+use Rattle.engine.proofs.StayedNames.{unmade_calls}
+use Rattle.engine.proofs.Synced.{StaysSynced, stays_beside, stays_same}
 use Rattle.engine.specs.internal.Standing.{IsServing}
 use Rattle.machine.specs.Upkeep.{UpkeepRefused}
 use Rattle.engine.specs.internal.Pieces.{ClosesTables, IsPiece, IsSameMemory, broken_by}
 use Rattle.engine.specs.Working.{numbers_of}
 use Rattle.engine.specs.InUse.{IsMemoryUsed, IsTableUsed}
-use Rattle.engine.proofs.Cleaning.{DropsKept, sealed_same, serving_cleaned}
-use Rattle.engine.proofs.Reading.{read_by, serving_read}
+use Rattle.engine.proofs.Cleaning.{DropsKept, LosesUnused, sealed_same, serving_cleaned, stayed_unused}
+use Rattle.engine.proofs.Reading.{kept_read, read_by, serving_read}
 use Rattle.engine.proofs.Sealing.{SealKept, broken_seal, serving_drawn, serving_sealed}
 use Rattle.engine.proofs.WorkSteps.{breaks, drawing, draws, piece_within, serves_on}
 
@@ -61,15 +64,15 @@ module _ {K : Type 0} {g : _} (order : Order) (kept : (scan : Scan K g) → Scan
   new = record old { facts = facts }
 
   -- where the files are the same, and of the memory tables all that is read
-  pub serving_same : (db : OpenDb K g) (memory : Memories) (m : Machine) → facts.files ≡ old.facts.files → facts.synced ≡ old.facts.synced → LeavesMemories db.memory memory → IsServing order old db m → IsServing order new (record db { memory = memory }) (read_by facts m)
-  serving_same db memory m same synced left h =
-      serving_read order kept old new db memory m same (sound_same order lasts old facts same) (λ number is. inl is) (λ number is. inl is) left (stays_same old.facts facts db.log db.directory db.tables same synced) h
+  pub serving_same : (db : OpenDb K g) (memory : Memories) (m : Machine) → facts.files ≡ old.facts.files → facts.synced ≡ old.facts.synced → StaysSynced old.facts facts db.log db.log db.directory db.tables → LeavesMemories db.memory memory → IsServing order old db m → IsServing order new (record db { memory = memory }) (read_by facts m)
+  serving_same db memory m same synced stays left h =
+      serving_read order kept old new db memory m same (sound_same order lasts old facts same) (λ number is. inl is) (λ number is. inl is) left stays (kept_read old.facts facts same synced) h
 
   -- and perhaps a number was drawn
-  pub serving_numbered : (db : OpenDb K g) (memory : Memories) (numbers : FileNumbers) (m : Machine) → facts.files ≡ old.facts.files → facts.synced ≡ old.facts.synced → LeavesMemories db.memory memory → db.directory.numbers.next ≤ numbers.next → numbers.next ≤ db.directory.numbers.next + 1
+  pub serving_numbered : (db : OpenDb K g) (memory : Memories) (numbers : FileNumbers) (m : Machine) → facts.files ≡ old.facts.files → facts.synced ≡ old.facts.synced → StaysSynced old.facts facts db.log db.log db.directory db.tables → LeavesMemories db.memory memory → db.directory.numbers.next ≤ numbers.next → numbers.next ≤ db.directory.numbers.next + 1
       → IsServing order old db m → IsServing order new (record db { memory = memory; directory = record db.directory { numbers = numbers } }) (drawing m 1 facts)
-  serving_numbered db memory numbers m same synced left le upto h =
-      serving_drawn order new (record db { memory = memory }) (read_by facts m) (record db.directory { numbers = numbers }) (serving_same db memory m same synced left h) refl refl refl refl refl le upto
+  serving_numbered db memory numbers m same synced stays left le upto h =
+      serving_drawn order new (record db { memory = memory }) (read_by facts m) (record db.directory { numbers = numbers }) (serving_same db memory m same synced stays left h) refl refl refl refl refl le upto
 
 -- ---- files that aren't listed
 
@@ -80,10 +83,14 @@ list_refused m old facts _ h same = absurd h
 
 module _ {K : Type 0} {g : _} (order : Order) (kept : (scan : Scan K g) → ScanIsKept order.cmp scan) (lasts : SoundLasts) (old : Seen) (facts : Facts) (ids : Ids) (db : OpenDb K g) where
   pub ends_unlisted : {T : Type 0} (e : DbError) → db.broken ≡ false → Touches old.facts facts → RefusesList e old.facts facts → (IsTrue facts.faithful → (facts.files ≡ old.facts.files) × (facts.synced ≡ old.facts.synced))
-      → LeadsOpen order old (record old { facts = facts }) ids db db (λ m n. IsPiece {T = T} m 0 (Err e) n)
-  ends_unlisted e whole touches refused files =
+      → (IsTrue facts.faithful → LosesUnused old.facts facts db) → LeadsOpen order old (record old { facts = facts }) ids db db (λ m n. IsPiece {T = T} m 0 (Err e) n)
+  ends_unlisted e whole touches refused files carries =
       serves_on order old (record old { facts = facts }) ids db db 0 (Err e) whole whole touches.faithful touches.failures touches.denials
-      (λ m f same serving. (list_refused m old.facts facts e refused same, undrawn order (record old { facts = facts }) db m facts (serving_same order kept lasts old facts db db.memory m (files f).0 (files f).1 (leaves_same db.memory) serving)))
+      (λ m f same serving. (
+        list_refused m old.facts facts e refused same,
+        undrawn order (record old { facts = facts }) db m facts (serving_same order kept lasts old facts db db.memory m (files f).0 (files f).1
+            (stays_beside old.facts facts db.log db.directory db.tables (files f).0 (files f).1 (λ h. stayed_unused old.facts facts db h.names (carries f) h.stayed)) (leaves_same db.memory) serving),
+      ))
 
 -- nothing was done
 module _ {K : Type 0} {g : _} (order : Order) (kept : (scan : Scan K g) → ScanIsKept order.cmp scan) (lasts : SoundLasts) (source : Seen) (ids : Ids) (db : OpenDb K g) where
@@ -91,20 +98,22 @@ module _ {K : Type 0} {g : _} (order : Order) (kept : (scan : Scan K g) → Scan
   ends_idle most done whole =
       piece_within order source source ids db db 0 most (Ok done) (omega arith)
       (serves_on order source source ids db db 0 (Ok done) whole whole (λ f. f) (omega arith) refl
-      (λ m f same serving. (draws m 0 source.facts, undrawn order source db m source.facts (serving_same order kept lasts source source.facts db db.memory m refl refl (leaves_same db.memory) serving))))
+      (λ m f same serving. (draws m 0 source.facts, undrawn order source db m source.facts (serving_same order kept lasts source source.facts db db.memory m refl refl (stays_same source.facts source.facts db.log db.directory db.tables refl refl refl) (leaves_same db.memory) serving))))
 
   -- there was no memory for it
   pub ends_full : {T : Type 0} (most : ℕ) → db.broken ≡ false → LeadsOpen order source source ids db db (λ m n. IsPiece {T = T} m most (Err error.OutOfMemory) n)
   ends_full most whole =
       piece_within order source source ids db db 0 most (Err error.OutOfMemory) (omega arith)
       (serves_on order source source ids db db 0 (Err error.OutOfMemory) whole whole (λ f. f) (omega arith) refl
-      (λ m f same serving. (draws m 0 source.facts, undrawn order source db m source.facts (serving_same order kept lasts source source.facts db db.memory m refl refl (leaves_same db.memory) serving))))
+      (λ m f same serving. (draws m 0 source.facts, undrawn order source db m source.facts (serving_same order kept lasts source source.facts db db.memory m refl refl (stays_same source.facts source.facts db.log db.directory db.tables refl refl refl) (leaves_same db.memory) serving))))
 
 -- ---- a new log
 
 module _ {K : Type 0} {g : _} (order : Order) (kept : (scan : Scan K g) → ScanIsKept order.cmp scan) (one : OneDirectoryLaw) (lasts : SoundLasts) (law : SameViewLaw) (seals : SealKept order.cmp)
     (old : Seen) (facts : Facts) (ids : Ids) (state : DbState K g) (memory : Memories) (numbers : FileNumbers) (whole : state.broken ≡ false) (touches : Touches old.facts facts)
-    (synced : IsTrue facts.faithful → (q : List ℕ) → q ≢ name_of (Log state.directory.numbers.next) → facts.synced q ≡ old.facts.synced q) where
+    (synced : IsTrue facts.faithful → (q : List ℕ) → q ≢ name_of (Log state.directory.numbers.next) → facts.synced q ≡ old.facts.synced q)
+    (carries : IsTrue facts.faithful → CarriesBut old.facts facts (λ (q : List ℕ). q ≡ name_of (Log state.directory.numbers.next)))
+    (noted : IsTrue facts.faithful → Idles old.facts facts ⊎ Adds old.facts facts (Creation (name_of (Log state.directory.numbers.next)))) where
   abbrev next : ℕ
   next = state.directory.numbers.next
 
@@ -127,8 +136,8 @@ module _ {K : Type 0} {g : _} (order : Order) (kept : (scan : Scan K g) → Scan
 
   pub ends_sealed : (number : ℕ) (name : String Global) (front : Vec (String Global)) (sealed : Memories) → map string_bytes front.items ≡ map string_bytes state.log.front.items ++ string_bytes state.log.name ∷ [] → memory.sealed ≡ None → 0 < length memory.current.inserts → IsSealed memory sealed → sealed_inserts sealed ≡ memory.current.inserts
       → DrawsLog old.facts facts next numbers.next (Ok (number, name)) → BeginsLog {T = ℕ × String Global} order old.facts facts next numbers.next (Ok (number, name)) → BeginsEach (Ok (number, name))
-      → LeadsOpen order old (record old { facts = facts }) ids (open_db memory state) (open_db sealed (record drawn { log = record { number = number; name = name; end = 0; front = front } })) (λ m n. IsPiece m 1 (Ok (tt {0})) n)
-  ends_sealed number name front sealed behind unsealed filled is inserts draws_log begins each =
+      → (IsTrue facts.faithful → facts.synced (name_of (Log next)) ≡ None) → LeadsOpen order old (record old { facts = facts }) ids (open_db memory state) (open_db sealed (record drawn { log = record { number = number; name = name; end = 0; front = front } })) (λ m n. IsPiece m 1 (Ok (tt {0})) n)
+  ends_sealed number name front sealed behind unsealed filled is inserts draws_log begins each unsynced =
       serves_on order old (record old { facts = facts }) ids (open_db memory state) (open_db sealed (record drawn { log = record { number = number; name = name; end = 0; front = front } })) 1 (Ok (tt {0})) whole whole touches.faithful touches.failures touches.denials
       (λ m f same serving.
       let knows = serving.log.knows in
@@ -138,7 +147,7 @@ module _ {K : Type 0} {g : _} (order : Order) (kept : (scan : Scan K g) → Scan
         draws m 1 facts,
         serving_sealed order kept one lasts law seals old facts (open_db memory state) m serving f draws_log.3 (begins.others f) (synced f) sealed (record { number = number; name = name; end = 0; front = front }) (record state.directory { numbers = numbers }) unsealed filled is inserts
             (over.ok f d serving.log.directory.consistent knows.free) (over.manifest f d.manifest state.directory.manifest.end d.edits d.layout knows.ends) (subst (λ (n : ℕ). IsFree order left n) draws_log.2 (over.free f knows.free))
-            draws_log.0 draws_log.1 refl refl refl refl refl refl draws_log.2 behind,
+            draws_log.0 draws_log.1 refl refl refl refl refl refl draws_log.2 behind (carries f) (noted f) (unsynced f),
       ))
 
   log_refused : (m : Machine) (e : DbError) → RefusesLog e old.facts facts next numbers.next → m.failures ≡ old.facts.failures → next ≤ m.numbers → (e ≡ error.Io → ⊥) → UpkeepRefused m 1 e (drawing m 1 facts)
@@ -163,6 +172,13 @@ module _ {K : Type 0} {g : _} (order : Order) (kept : (scan : Scan K g) → Scan
             (subst (λ (n : ℕ). IsFree order left n) more.0 (over.free f knows.free))
       ])
 
+  -- then nothing was done
+  log_calls : (e : DbError) (m : Machine) → IsServing order old (open_db memory state) m → IsTrue facts.faithful → facts.files ≡ old.facts.files → DrawsLog old.facts facts next numbers.next (Err e) → facts.calls ≡ old.facts.calls
+  log_calls e m serving f same draws_log = elim draws_log [
+    | inl none ↦ ap (λ (x : Facts). x.calls) none.1
+    | inr more ↦ unmade_calls old.facts facts (name_of (Log next)) (noted f) same (serving.synced.stayed.undrawn next (state.directory.numbers.in_range.0, (let few = more.1 in omega (arith, few))) (omega arith)).1
+  ]
+
   -- the files are as before
   log_unbegun : {T : Type 0} (e : DbError) (back : Memories) → (e ≡ error.Io → ⊥) → (IsTrue facts.faithful → (facts.files ≡ old.facts.files) × (facts.synced ≡ old.facts.synced)) → RefusesLog e old.facts facts next numbers.next → DrawsLog old.facts facts next numbers.next (Err e) → LeavesMemories memory back
       → LeadsOpen order old (record old { facts = facts }) ids (open_db memory state) (open_db back drawn) (λ m n. IsPiece {T = T} m 1 (Err e) n)
@@ -170,8 +186,11 @@ module _ {K : Type 0} {g : _} (order : Order) (kept : (scan : Scan K g) → Scan
       serves_on order old (record old { facts = facts }) ids (open_db memory state) (open_db back drawn) 1 (Err e) whole whole touches.faithful touches.failures touches.denials
       (λ m f same serving.
       let below : next ≤ m.numbers = serving.numbers in
-      let upto : (next ≤ numbers.next) × (numbers.next ≤ next + 1) = elim draws_log [ inl none ↦ (let is = none.0 in (omega (arith, is), omega (arith, is))) | inr more ↦ (let is = more.0 in (omega (arith, is), omega (arith, is))) ] in
-      (log_refused m e refused same below other, serving_numbered order kept lasts old facts (open_db memory state) back numbers m (files f).0 (files f).1 left upto.0 upto.1 serving))
+      let upto : (next ≤ numbers.next) × (numbers.next ≤ next + 1) = elim draws_log [ inl none ↦ (let is = none.0 in (omega (arith, is), omega (arith, is))) | inr more ↦ (let is = more.0 in (omega (arith, is), omega (arith, is))) ] in (
+        log_refused m e refused same below other,
+        serving_numbered order kept lasts old facts (open_db memory state) back numbers m (files f).0 (files f).1
+            (stays_same old.facts facts state.log state.directory state.version.value.tables (log_calls e m serving f (files f).0 draws_log) (files f).0 (files f).1) left upto.0 upto.1 serving,
+      ))
 
   -- however it isn't
   pub ends_unsealed : {T : Type 0} (e : DbError) (back : Memories) → RefusesLog e old.facts facts next numbers.next → DrawsLog old.facts facts next numbers.next (Err e) → BeginsLog {T = ℕ × String Global} order old.facts facts next numbers.next (Err e) → BeginsEach (Err e) → LeavesMemories memory back
@@ -189,10 +208,10 @@ module _ {K : Type 0} {g : _} (order : Order) (kept : (scan : Scan K g) → Scan
       → (IsTrue facts.faithful → (n : ℕ) → IsNumbered n → KeepsTable old.facts facts (λ number. IsTableUsed db.tables db.job db.iterators number) n) → ListsToClose old.facts facts (λ number. IsTableUsed db.tables db.job db.iterators number) gone → ClosesTables old.tables tables gone
       → (IsTrue facts.faithful → OfEach (λ whole left. (d : Directory) → IsConsistent order whole d → AreOfDirectory (numbers_of db.directory) (λ number. IsTableUsed db.tables db.job db.iterators number) d
       → KeepsParts order whole left (λ number. IsTableUsed db.tables db.job db.iterators number) d) old.facts.files facts.files)
-      → LeadsOpen order old (record { facts = facts; tables = tables; blocks = old.blocks }) ids db (record db { memory = memory }) (λ m n. IsPiece m 0 (Ok done) n)
-  ends_cleaned done whole loses touches used each unused closes parts =
+      → (IsTrue facts.faithful → LosesUnused old.facts facts db) → LeadsOpen order old (record { facts = facts; tables = tables; blocks = old.blocks }) ids db (record db { memory = memory }) (λ m n. IsPiece m 0 (Ok done) n)
+  ends_cleaned done whole loses touches used each unused closes parts carries =
       serves_on order old (record { facts = facts; tables = tables; blocks = old.blocks }) ids db (record db { memory = memory }) 0 (Ok done) whole whole touches.faithful touches.failures touches.denials
-      (λ m f same serving. (draws m 0 facts, undrawn order (record { facts = facts; tables = tables; blocks = old.blocks }) (record db { memory = memory }) m facts (serving_cleaned order kept one lasts drops old facts tables db memory gone used f (each f) unused closes (loses f) m serving (parts f))))
+      (λ m f same serving. (draws m 0 facts, undrawn order (record { facts = facts; tables = tables; blocks = old.blocks }) (record db { memory = memory }) m facts (serving_cleaned order kept one lasts drops old facts tables db memory gone used f (each f) unused closes (loses f) m serving (parts f) (carries f))))
 
   pub memory_cleaned : KeepsUsed (IsUsed (λ generation. IsMemoryUsed db.iterators generation) db.memory) db.memory memory → IsSameMemory db.memory memory
   memory_cleaned used = record {

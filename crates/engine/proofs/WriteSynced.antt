@@ -1,6 +1,5 @@
 -- What stays synced over a write.
-use Rattle.std.proofs.Common.{◌≡◌, ◌≢◌, ◌⊎◌, ◌<◌, ◌≤◌, ℕ, Bool, true, false, if◌then◌else◌, List, [], ◌∷◌, Contains, map, Result, Ok, IsTrue, OnOk, inl, inr, refl, sym, ap, subst, ◌∙◌, arith, length, string_bytes}
-use Rattle.std.specs.FinMap.{get}
+use Rattle.std.proofs.Common.{◌≡◌, ◌≢◌, ◌<◌, ◌≤◌, ℕ, Bool, List, [], ◌∷◌, Contains, map, Result, Ok, IsTrue, inl, inr, refl, sym, ap, subst, ◌∙◌, arith, length, string_bytes}
 use Rattle.std.specs.List.{AllByRecursion}
 use Rattle.batch.specs.declared.operation.Operation.{Operation}
 use Rattle.edits.specs.Names.{name_of, IsNumbered}
@@ -13,7 +12,9 @@ use Rattle.opening.specs.declared.directory.DirectoryState.{DirectoryState}
 use Rattle.opening.specs.internal.Calls.{KeepsOthers}
 use Rattle.recover.proofs.Adding.{current_apart, logs_apart, manifest_apart, old_table_apart, table_apart}
 use Rattle.store.specs.Files.{Facts}
+use Rattle.store.specs.Losses.{CarriesBut}
 use Rattle.engine.proofs.FrontSyncing.{same_or_other}
+use Rattle.engine.proofs.StayedNames.{stayed_all}
 use Rattle.engine.proofs.Synced.{kept_still, table_still}
 use Rattle.engine.specs.Touching.{SyncsLog}
 use Rattle.engine.specs.internal.Synced.{AreSyncedBut, HaveNames, IsSyncedBut}
@@ -50,7 +51,8 @@ no_operations (one ∷ operations) is = absurd (omega (arith, is))
 
 module _ (old new : Facts) (log : CurrentLog) (state : DirectoryState) (tables : List PlacedTable)
     (beside : KeepsOthers old.files new.files (string_bytes log.name))
-    (others : (q : List ℕ) → q ≢ string_bytes log.name → IsNoneOf q (map string_bytes log.front.items) → new.synced q ≡ old.synced q) (h : IsSyncedBut old log state tables) where
+    (others : (q : List ℕ) → q ≢ string_bytes log.name → IsNoneOf q (map string_bytes log.front.items) → new.synced q ≡ old.synced q)
+    (carries : CarriesBut old new (λ (q : List ℕ). ⊥)) (h : IsSyncedBut old log state tables) where
   pub beside_all : (q : List ℕ) → IsNoneOf q (logs_in_doubt log) → LeavesFile old new q
   beside_all q none = (beside q none.0, others q none.0 none.1)
 
@@ -94,6 +96,7 @@ module _ (old new : Facts) (log : CurrentLog) (state : DirectoryState) (tables :
   still_synced after number name front = record {
     synced = subst (λ (logs : List (List ℕ)). AreSyncedBut logs new state tables) (λ i. sym name i ∷ sym front i) (synced_as (logs_in_doubt log) (λ n num read none. still (name_of (Log n)) none (h.synced.others n num read none)));
     names = names_after after number name (subst (AllByRecursion (IsLogBelow log.number)) (sym front) h.names.front);
+    stayed = stayed_all old new log state tables h.names carries h.stayed;
   }
 
   -- none is in doubt but the one that was written to, since those in front of it were synced
@@ -104,6 +107,7 @@ module _ (old new : Facts) (log : CurrentLog) (state : DirectoryState) (tables :
         synced = subst (λ (logs : List (List ℕ)). AreSyncedBut logs new state tables) in_doubt (synced_as (string_bytes log.name ∷ []) (λ n num read none.
             kept_each new (name_of (Log n)) (map string_bytes log.front.items) front (λ none_of. still (name_of (Log n)) (none.0, none_of) (h.synced.others n num read (none.0, none_of)))));
         names = names_after after number name (subst (AllByRecursion (IsLogBelow log.number)) (sym (ap (map string_bytes) empty)) tt);
+        stayed = stayed_all old new log state tables h.names carries h.stayed;
       }
 
   -- The log has another name than those in front of it.
@@ -123,7 +127,7 @@ KeepsTables old new = (n : ℕ) → IsNumbered n → new.synced (name_of (Table 
 
 -- by what a write says of it
 module _ {T E : Type 0} (some asked : Type 0) (sync : Bool) (old new : Facts) (log after : CurrentLog) (state : DirectoryState) (tables : List PlacedTable) (f : IsTrue new.faithful)
-    (beside : KeepsOthers old.files new.files (string_bytes log.name)) (h : IsSyncedBut old log state tables) where
+    (beside : KeepsOthers old.files new.files (string_bytes log.name)) (carries : CarriesBut old new (λ (q : List ℕ). ⊥)) (h : IsSyncedBut old log state tables) where
   abbrev Says : Result T E → Type 0
   Says result = SyncsLog some asked sync (string_bytes log.name) (map string_bytes log.front.items) old new result
 
@@ -133,8 +137,8 @@ module _ {T E : Type 0} (some asked : Type 0) (sync : Bool) (old new : Facts) (l
       s.others f (name_of (Table n)) none.0 none.1
 
   pub written_stays : (result : Result T E) → Says result → after.number ≡ log.number → string_bytes after.name ≡ string_bytes log.name → map string_bytes after.front.items ≡ map string_bytes log.front.items → IsSyncedBut new after state tables × KeepsTables old new
-  written_stays result s number name front = (still_synced old new log state tables beside (s.others f) h after number name front, tables_same result s)
+  written_stays result s number name front = (still_synced old new log state tables beside (s.others f) carries h after number name front, tables_same result s)
 
   pub appended_stays : some → after.front.items ≡ [] → after.number ≡ log.number → string_bytes after.name ≡ string_bytes log.name → (x : T) → Says (Ok x) → IsSyncedBut new after state tables × KeepsTables old new
   appended_stays puts front number name x s =
-      (synced_but_last old new log state tables beside (s.others f) h after number name front (s.front_kept f puts (apart_from_front old new log state tables beside (s.others f) h)), tables_same (Ok x) s)
+      (synced_but_last old new log state tables beside (s.others f) carries h after number name front (s.front_kept f puts (apart_from_front old new log state tables beside (s.others f) carries h)), tables_same (Ok x) s)

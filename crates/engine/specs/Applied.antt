@@ -18,7 +18,7 @@ use Rattle.engine.specs.OpenDb.{OpenDb}
 use Rattle.engine.specs.InUse.{HasUsedMemory}
 use Rattle.machine.specs.Machine.{Machine}
 use Rattle.engine.specs.Needed.{HasOnlyNeeded}
-use Rattle.engine.specs.Stands.{Stands, StandsWholeIn, store_of, open_in, options_of, seen_in}
+use Rattle.engine.specs.Stands.{StandsWholeIn, store_of, open_in, options_of, seen_in}
 use Rattle.table_access.specs.Tables.{Seen}
 use Rattle.engine.specs.StandsDb.{db_store_of, open_by, seen_by}
 use Rattle.engine.specs.declared.work.Progress.{Progress}

@@ -1,14 +1,18 @@
 -- What a loss of power leaves of an open database.
-use Rattle.std.specs.Prelude.{◌≡◌, ◌<◌, ℕ, false, IsTrue, [], string_bytes, Option, Some, None, Result, OnOk}
+use Rattle.std.specs.Prelude.{◌≡◌, ◌<◌, ◌≤◌, ℕ, length, take, false, IsTrue, Contains, List, [], map, string_bytes, Option, Some, None, Result, OnOk}
+use Rattle.std.specs.FinMap.{get}
 use Rattle.coding.specs.declared.error.DbError.{DbError}
-use Rattle.edits.specs.Names.{IsNumbered}
+use Rattle.edits.specs.Names.{IsNumbered, name_of}
+use Rattle.edits.specs.declared.names.FileName.TheVariants.{Log}
 use Rattle.ikey.specs.Orders.{Order}
 use Rattle.machine.specs.Machine.{Machine}
 use Rattle.machine.specs.declared.command.Answer.{Answer}
 use Rattle.machine.specs.declared.command.Op.{Op}
 use Rattle.machine.specs.declared.command.Op.TheVariants.{Write}
 use Rattle.opening.specs.Durable.{IsSynced}
-use Rattle.opening.specs.Losses.{EndsInSync}
+use Rattle.opening.specs.Losses.{AreCut, EndsInSync}
+use Rattle.recover.specs.Directory.{Directory, IsConsistent}
+use Rattle.recover.specs.Logs.{LogContent}
 use Rattle.recover.specs.Tables.{table_at}
 use Rattle.store.specs.Files.{Facts, Files}
 use Rattle.store.specs.Losses.{Lost}
@@ -64,3 +68,44 @@ SessionOutlasts asked order facts new answer = OutlastsOver asked order (seen_in
 abbrev pub OutlastsBy : {S K : Type 0} {g : _} → Op → Order → (S → Facts) → Session S K g → Answer → Type 0
 OutlastsBy (Write operations sync) order facts new answer = SessionOutlasts (AsksSync operations.items sync) order facts new answer
 OutlastsBy _ order facts new answer = Unit {0}
+
+-- ---- between any two calls
+
+-- Of the directory that the files are, all is left but batches at the ends of logs, none of which was synced.
+pub record LeavesCut (order : Order) (facts : Facts) (lost : Files) : Type 0 where
+  pub directory : Directory
+  pub whole : IsConsistent order facts.files directory
+  pub logs : List LogContent
+  pub cut : AreCut facts directory.logs logs
+  pub left : IsConsistent order lost (record directory { logs = logs })
+
+-- The logs that the open found are left as they are, until the first write behind it has had the device keep them. (What the device had before is known to who
+-- wrote them.)
+abbrev pub LeavesFoundLogs : {K : Type 0} {g : _} → Files → Files → OpenDb K g → Type 0
+LeavesFoundLogs files lost db = (n : ℕ) → IsNumbered n → n < db.directory.manifest.number → Contains (map string_bytes db.log.front.items) (name_of (Log n))
+    → get lost (name_of (Log n)) ≡ get files (name_of (Log n))
+
+-- The files hold the first of the batches that the machine accepted, and no others: none is gone in front of one that is there. (A MANIFEST may have recorded
+-- that later sequences were used.)
+pub record HoldsFirst (order : Order) (files : Files) (m : Machine) : Type 0 where
+  pub count : ℕ
+  pub within : count ≤ length m.batches
+  pub used : ℕ
+  pub holds : Holds order files (record m { batches = take count m.batches; used = used })
+
+-- Every loss of power until the next call leaves so much of an open database that isn't broken, whatever the last call was and answered, if it leaves what the open
+-- found.
+abbrev pub LosesEnds : {K : Type 0} {g : _} → Order → Facts → OpenDb K g → Machine → Type 0
+LosesEnds order facts db m = db.broken ≡ false → (lost : Files) → Lost facts (moment facts) lost → LeavesFound facts.files lost db
+    → LeavesCut order facts lost × (LeavesFoundLogs facts.files lost db → HoldsFirst order lost m)
+
+abbrev pub DbLosesEnds : {S K : Type 0} {g : _} → Order → (S → Facts) → Db S K g → Type 0
+DbLosesEnds order facts db = (m : Machine) → m.damaged ≡ false → StandsDb order facts db m → LosesEnds order (facts (db_store_of db)) (open_by db) m
+
+-- So it is of one that is open in a session.
+abbrev pub LosesEndsOver : {K : Type 0} {g : _} → Order → Seen → Ids → Option (OpenDb K g) → Type 0
+LosesEndsOver order source ids None = Unit {0}
+LosesEndsOver order source ids (Some db) = (m : Machine) → m.damaged ≡ false → StandsOver order source ids (Some db) m → LosesEnds order source.facts db m
+
+abbrev pub SessionLosesEnds : {S K : Type 0} {g : _} → Order → (S → Facts) → Session S K g → Type 0
+SessionLosesEnds order facts session = LosesEndsOver order (seen_in facts session) (ids_of session) (open_in session)

@@ -11,6 +11,7 @@ pub mod Live
 pub mod Logs
 pub mod Outcomes
 pub mod Pieces
+pub mod Recent
 pub mod Resting
 pub mod Shorthands
 pub mod Standing

@@ -1,5 +1,5 @@
 -- What putting a batch behind the log does to the directory.
-use Rattle.std.specs.Prelude.{◌≡◌, ◌⊎◌, ℕ, Bool, true, ◌+◌, ◌<◌, ◌≤◌, List, ◌++◌, length, IsTrue, Result, Err, IfOk, IfErr, OnOk}
+use Rattle.std.specs.Prelude.{◌≡◌, ◌⊎◌, ℕ, ◌+◌, ◌<◌, ◌≤◌, List, ◌++◌, ◌∷◌, [], length, IsTrue, Result, Err, IfOk, IfErr, OnOk}
 use Rattle.std.specs.List.{AllByRecursion}
 use Rattle.std.specs.FinMap.{get}
 use Rattle.batch.specs.declared.operation.Operation.{Operation}
@@ -12,6 +12,7 @@ use Rattle.edits.specs.declared.names.FileName.TheVariants.{Log, Table, OldTable
 use Rattle.ikey.specs.Orders.{Order}
 use Rattle.ikey.specs.declared.entry.Entry.{Entry}
 use Rattle.recover.specs.internal.Changes.{IsExtended, ManifestEndsAt}
+use Rattle.recover.specs.Directory.{Directory, IsConsistent}
 use Rattle.recover.specs.Entries.{entries_of}
 use Rattle.recover.specs.Numbers.{IsFree}
 use Rattle.recover.specs.Tables.{TableContent}
@@ -19,7 +20,7 @@ use Rattle.engine.specs.declared.log.LogError.{LogError}
 use Rattle.engine.specs.declared.log.LogError.TheVariants.{Memory, Device}
 use Rattle.machine.specs.Machine.{Machine}
 use Rattle.opening.specs.Durable.{IsSynced}
-use Rattle.opening.specs.Losses.{IsNoneOf}
+use Rattle.opening.specs.Losses.{IsKept, IsNoneOf}
 use Rattle.engine.specs.internal.Directory.{IsReadable}
 use Rattle.opening.specs.internal.Directories.{IsDirectoryOf, CanAppend}
 
@@ -42,6 +43,8 @@ pub record SyncsThese (names : List (List ℕ)) (old new : Facts) : Type 0 where
   pub locked : new.locked ≡ old.locked
   pub files : IsTrue new.faithful → new.files ≡ old.files
   pub others : IsTrue new.faithful → (q : List ℕ) → IsNoneOf q names → new.synced q ≡ old.synced q
+  -- what was synced whole still is
+  pub keeps : IsTrue new.faithful → (q : List ℕ) → IsKept old q → IsKept new q
 
 -- Each of them is; or, where the device fails, some are.
 pub record SyncsFront (names : List (List ℕ)) (old new : Facts) (result : Result (Unit {0}) LogError) : Type 0 where
@@ -66,6 +69,9 @@ pub record Logs (order : Order) (old new : Facts) (log : ℕ) (name : List ℕ) 
       → (m : Machine) → IsReadable order old.files m → IsReadable order new.files m
   pub ok : IsTrue new.faithful → IfOk result (λ after. (tables : List TableContent) (entries : List Entry) → name ≡ name_of (Log log) → (a : CanAppend order old.files log end tables entries used)
       → (b : CanAppend order new.files log after tables (entries ++ entries_of (used + 1) operations) (used + length operations)) × IsExtended a.directory b.directory (entries_of (used + 1) operations))
+  -- the log has the operations as one batch more, whichever directory reads it so
+  pub batch : IsTrue new.faithful → OnOk result ((tables : List TableContent) (entries : List Entry) → name ≡ name_of (Log log) → (a : CanAppend order old.files log end tables entries used)
+      → (e : Directory) → IsConsistent order new.files e → (x : IsExtended a.directory e (entries_of (used + 1) operations)) → x.next.batches ≡ x.last.batches ++ (used + 1, operations) ∷ [])
   pub device : IsTrue new.faithful → result ≡ Err Device → (tables : List TableContent) (entries : List Entry) → name ≡ name_of (Log log) → CanAppend order old.files log end tables entries used
       → IsDirectoryOf order new.files tables entries used ⊎ IsDirectoryOf order new.files tables (entries ++ entries_of (used + 1) operations) (used + length operations)
   pub counted : result ≡ Err Device → old.failures < new.failures

@@ -20,6 +20,7 @@ use Rattle.opening.specs.internal.Knowing.{HasLogs, KnowsDirectory}
 use Rattle.opening.specs.internal.Directories.{CanAppend}
 use Rattle.engine.specs.internal.Directory.{IsAtRest, IsReadable}
 use Rattle.engine.specs.internal.Live.{AreSnapshots, AreWalks}
+use Rattle.engine.specs.internal.Recent.{AreRecent}
 use Rattle.engine.specs.internal.Synced.{IsSyncedBut}
 
 -- all its entries, where its tables have these contents
@@ -73,6 +74,7 @@ pub record IsServing {K : Type 0} {g : _} (order : Order) (source : Seen) (db : 
   pub readable : IsReadable order ideal m
   pub numbers : db.directory.numbers.next ≤ m.numbers
   pub synced : IsSyncedBut source.facts db.log db.directory db.tables
+  pub recent : AreRecent source.facts db.directory.manifest.number contents (entries_of contents db) log.directory.directory.logs m
   pub job : MatchOption db.job (Unit {0}) (IsCompacting order m.damaged (whole_of source db) ideal db.directory.numbers.next db.snapshots db.iterators log.directory.directory)
 
 -- A broken one: its directory is what counts from now on.

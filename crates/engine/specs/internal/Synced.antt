@@ -1,10 +1,11 @@
 -- What of its files an open database has had the device keep.
-use Rattle.std.specs.Prelude.{◌≡◌, ◌<◌, ◌≤◌, ℕ, List, Contains, map, string_bytes}
+use Rattle.std.specs.Prelude.{◌≡◌, ◌<◌, ◌≤◌, ℕ, false, None, List, Contains, map, string_bytes}
+use Rattle.std.specs.FinMap.{get, contains_key}
 use Rattle.std.specs.List.{AllByRecursion}
 use Rattle.edits.specs.Names.{name_of, IsNumbered}
 use Rattle.edits.specs.declared.field.PlacedTable.{PlacedTable}
-use Rattle.edits.specs.declared.names.FileName.TheVariants.{Current, Log, Manifest}
-use Rattle.opening.specs.Losses.{IsKept, IsLogBelow, IsLogRead, IsNoneOf, IsTableKept, logs_in_doubt}
+use Rattle.edits.specs.declared.names.FileName.TheVariants.{Current, Log, Manifest, OldTable, Table}
+use Rattle.opening.specs.Losses.{IsKept, IsLogBelow, IsLogRead, IsNoneOf, IsTableKept, StaysNamed, StaysOrBegins, logs_in_doubt}
 use Rattle.opening.specs.declared.directory.CurrentLog.{CurrentLog}
 use Rattle.opening.specs.declared.directory.DirectoryState.{DirectoryState}
 use Rattle.store.specs.Files.{Facts}
@@ -25,7 +26,18 @@ pub record HaveNames (log : CurrentLog) (state : DirectoryState) (tables : List 
   pub manifest : IsNumbered state.manifest.number × (string_bytes state.manifest.name ≡ name_of (Manifest state.manifest.number))
   pub placed : (placed : PlacedTable) → Contains tables placed → IsNumbered placed.table.number × (placed.table.number < state.numbers.next)
 
+-- Since the last sync no file that the next open reads was moved, replaced, made or taken away, but for logs that were begun, of which nothing is synced; and
+-- there was no log with a number that is still to be drawn.
+pub record HaveStayed (facts : Facts) (state : DirectoryState) (tables : List PlacedTable) : Type 0 where
+  pub current : StaysNamed facts (name_of Current)
+  pub manifest : StaysNamed facts (name_of (Manifest state.manifest.number))
+  pub logs : (n : ℕ) → IsNumbered n → IsLogRead state n → StaysOrBegins facts (name_of (Log n))
+  pub placed : (placed : PlacedTable) → Contains tables placed → StaysNamed facts (name_of (Table placed.table.number))
+      × (get facts.files (name_of (Table placed.table.number)) ≡ None → StaysNamed facts (name_of (OldTable placed.table.number)))
+  pub undrawn : (n : ℕ) → IsNumbered n → state.numbers.next ≤ n → StaysNamed facts (name_of (Log n)) × (contains_key facts.files (name_of (Log n)) ≡ false)
+
 -- All is synced but for the logs that a write with sync has the device keep.
 pub record IsSyncedBut (facts : Facts) (log : CurrentLog) (state : DirectoryState) (tables : List PlacedTable) : Type 0 where
   pub synced : AreSyncedBut (logs_in_doubt log) facts state tables
   pub names : HaveNames log state tables
+  pub stayed : HaveStayed facts state tables

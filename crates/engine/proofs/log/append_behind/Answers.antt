@@ -1,7 +1,8 @@
-use Rattle.std.proofs.Common.{◌≡◌, ◌∙◌, ap, map, string_bytes}
+use Rattle.std.proofs.Common.{◌∙◌, ℕ, List, ap, map, string_bytes}
 use Rattle.std.specs.FinMap.{get}
+use Rattle.store.proofs.Carrying.{carries_both}
 use Rattle.store.specs.Files.{Files}
-use Rattle.engine.proofs.FrontSyncing.{beside_front, fails_both, left_behind, stood_behind, syncs_behind}
+use Rattle.engine.proofs.FrontSyncing.{beside_front, fails_both, left_behind, memory_keeps, stood_behind, syncs_behind}
 use Rattle.engine.proofs.log.append_behind.Goals as goal
 
 pub returns-in-Ok-clause-syncs : goal.returns-in-Ok-clause-syncs
@@ -17,6 +18,19 @@ returns-in-Ok-clause-stops g c = λ f.
     let a = c.append_record.ensures.appends in
     left_behind (g.S.Store.facts c.args.store.now) (g.S.Store.facts c.sync_front.new.store) (g.S.Store.facts c.append_record.new.store) c.args.name.now c.args.bytes.now
     (c.in-Ok.ensures.syncs.these.files (a.faithful f)) (c.in-Ok.ensures.stops (a.faithful f)) (c.append_record.ensures.stops f)
+
+pub returns-in-Ok-clause-keeps : goal.returns-in-Ok-clause-keeps
+returns-in-Ok-clause-keeps g c =
+    memory_keeps c.args.sync (g.S.Store.facts c.args.store.now) (g.S.Store.facts c.sync_front.new.store) (g.S.Store.facts c.append_record.new.store) (map string_bytes c.args.front.now) c.args.name.now c.args.bytes.now c.append_record.result
+    c.in-Ok.ensures.syncs.these c.append_record.ensures.appends c.append_record.ensures.syncs
+
+pub returns-in-Err-clause-keeps : goal.returns-in-Err-clause-keeps
+returns-in-Err-clause-keeps g c = λ f memory q was. c.in-Err.ensures.syncs.these.keeps f q was
+
+pub returns-in-Ok-clause-carries : goal.returns-in-Ok-clause-carries
+returns-in-Ok-clause-carries g c = λ f.
+    carries_both (g.S.Store.facts c.args.store.now) (g.S.Store.facts c.sync_front.new.store) (g.S.Store.facts c.append_record.new.store) (λ (q : List ℕ). ⊥)
+    (c.in-Ok.ensures.carries (c.append_record.ensures.appends.faithful f)) (c.append_record.ensures.carries f)
 
 pub returns-in-Ok-clause-stood : goal.returns-in-Ok-clause-stood
 returns-in-Ok-clause-stood g c =
@@ -35,3 +49,6 @@ returns-in-Err-clause-beside g c = λ f q apart. ap (λ (fs : Files). get fs q) 
 
 pub returns-in-Err-clause-fails : goal.returns-in-Err-clause-fails
 returns-in-Err-clause-fails g c = c.in-Err.ensures.syncs.these.writes
+
+pub returns-in-Err-clause-carries : goal.returns-in-Err-clause-carries
+returns-in-Err-clause-carries g c = c.in-Err.ensures.carries

@@ -56,7 +56,7 @@ returns-clause-step g c ids =
     b.faithful b.outcome.failures b.denials b.whole b.begun_each b.continued_each
     (sound_empty order.cmp (g.S.Store.facts c.begin-2.new.store) c.begin.new.self.tables.tables c.begin.new.self.blocks.blocks c.empty_is_sound.ensures c.in_ok-begin.ensures.tables c.in_ok-begin.ensures.blocks)
     (nothing_kept (g.S.Store.facts c.begin-2.new.store) c.begin.new.self.tables.tables c.begin.new.self.blocks.blocks c.in_ok-begin.ensures.tables c.in_ok-begin.ensures.blocks)
-    b.current b.synced (none_kept c.new.result c.new.ensures.empty) (none_kept c.new-2.result c.new-2.ensures.empty))
+    b.current b.synced b.since (none_kept c.new.result c.new.ensures.empty) (none_kept c.new-2.result c.new-2.ensures.empty))
 
 pub returns-clause-tells : goal.returns-clause-tells
 returns-clause-tells g c = λ f.

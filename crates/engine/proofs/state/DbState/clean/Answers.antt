@@ -21,7 +21,7 @@ returns-in_err-removal-clause-step g c ids =
     let is : c.from_residual.result ≡ Err e = search rules in
     let ensures = c.in_err-removal.ensures in
     subst (λ (r : Result _ DbError). LeadsOpen order source (record source { facts = facts }) ids db db (λ m n. IsPiece m 0 r n)) (sym is)
-    (ends_unlisted order (λ scan. scan_kept order.cmp scan) c.sound_lasts.ensures source facts ids db e c.requires.whole ensures.call ensures.refused ensures.removes.err)
+    (ends_unlisted order (λ scan. scan_kept order.cmp scan) c.sound_lasts.ensures source facts ids db e c.requires.whole ensures.call ensures.refused ensures.removes.err ensures.carries)
 
 pub returns-clause-step : goal.returns-clause-step
 returns-clause-step g c ids =
@@ -31,7 +31,7 @@ returns-clause-step g c ids =
     let removal = c.in_ok-removal.removal in
     let listed : c.deref.result.now ≡ removal.tables.items = c.deref.ensures.value in
     ends_cleaned order (λ scan. scan_kept order.cmp scan) c.one_directory.ensures c.sound_lasts.ensures c.changes_are_kept.ensures.dropped source (g.S.Store.facts c.remove_files.new.store) ids (open_db c.args.source.now.memory c.args.self.now) c.close_tables.new.tables.tables
-    c.drop_unused.new.self removal.tables.items removal.complete c.requires.whole (λ f name. elim (ensures.removes.files f name) [ inl left ↦ inl left | inr gone ↦ inr gone.1 ]) ensures.call c.drop_unused.ensures ensures.tables ensures.close (subst (λ (numbers : List ℕ). ClosesTables source.tables c.close_tables.new.tables.tables numbers) listed c.close_tables.ensures) (λ f whole left differs change d good numbers. ensures.meaning_each whole left differs change f order d good numbers)
+    c.drop_unused.new.self removal.tables.items removal.complete c.requires.whole (λ f name. elim (ensures.removes.files f name) [ inl left ↦ inl left | inr gone ↦ inr gone.1 ]) ensures.call c.drop_unused.ensures ensures.tables ensures.close (subst (λ (numbers : List ℕ). ClosesTables source.tables c.close_tables.new.tables.tables numbers) listed c.close_tables.ensures) (λ f whole left differs change d good numbers. ensures.meaning_each whole left differs change f order d good numbers) ensures.carries
 
 pub returns-clause-memory : goal.returns-clause-memory
 returns-clause-memory g c =

@@ -54,7 +54,7 @@ returns-in-Ok-clause-step g c ids =
     flushed_synced source.facts facts state.log (record state.log { front = c.take_flushed.new.self.log.front }) state.directory numbers flushed.manifest_end state.version.value.tables flushed.version.value.tables version.2.table
     refl refl c.take_flushed.ensures.front version.1 drawn.0 drawn.1 version.2.number_is version.2.lists
     (λ q table manifest. (ensures.call.others f q table manifest, ensures.call.synced f q table manifest)) (ensures.syncs.table f) (ensures.syncs.manifest f)
-    (no_old_table order source.facts.files state.directory.numbers.next ((free_each order source.facts.files serving.ideal state.directory.numbers.next serving.origin.differs).1 serving.log.knows.free) drawn.0 drawn.1) serving.synced))
+    (no_old_table order source.facts.files state.directory.numbers.next ((free_each order source.facts.files serving.ideal state.directory.numbers.next serving.origin.differs).1 serving.log.knows.free) drawn.0 drawn.1) (ensures.carries f) (ensures.ends f) serving.synced))
 
 pub returns-then-is_empty-clause-puts : goal.returns-then-is_empty-clause-puts
 returns-then-is_empty-clause-puts g c f ids m s =
@@ -101,7 +101,7 @@ returns-in-Err-clause-step g c ids =
     (λ io. shows source.facts facts failed is ensures.fails (flush_io source.facts facts _ _ _ _ e ensures.refused io) b refl)
     (rose_all source.facts facts failed is (some_as source.facts facts ensures.call.failures ensures.fails))
     (ends_unflushed order (λ scan. scan_kept order.cmp scan) c.one_directory.ensures c.sound_lasts.ensures c.same_view.ensures law source facts ids state memory numbers plan entries
-    c.requires.whole ensures.call ensures.drawn refl refl c.last-last_sequence.ensures.is (ap inserts_of c.in-Some.ensures) c.deref.result.now.tables (ap (λ (p : Placement). p.tables) c.deref.ensures) e ensures.refused ensures.leaves_each ensures.spares)))
+    c.requires.whole ensures.call ensures.drawn refl refl c.last-last_sequence.ensures.is (ap inserts_of c.in-Some.ensures) c.deref.result.now.tables (ap (λ (p : Placement). p.tables) c.deref.ensures) e ensures.refused ensures.leaves_each ensures.spares ensures.carries)))
 
 pub returns-in-Err-clause-outcome : goal.returns-in-Err-clause-outcome
 returns-in-Err-clause-outcome g c =

@@ -30,7 +30,7 @@ returns-in-Ok-clause-step g c ids =
     let source = seen_of g.S.Store.facts c.args.source.now in
     let ensures = c.in-Ok.ensures in
     ends_sealed order (λ scan. scan_kept order.cmp scan) c.one_directory.ensures c.sound_lasts.ensures c.same_view.ensures c.changes_are_kept.ensures.sealed source (g.S.Store.facts c.begin_log.new.store) ids c.args.self.now c.args.source.now.memory c.begin_log.new.numbers
-    c.requires.whole ensures.call ensures.synced c.in-Ok.number c.in-Ok.name c.in_ok-front.front c.seal.new.self c.in_ok-front.ensures c.requires.unsealed c.requires.filled c.in_ok-seal.ensures.ok c.in_ok-seal.ensures.inserts ensures.drawn (ensures.begins order) (ensures.begins_each order)
+    c.requires.whole ensures.call ensures.synced ensures.carries ensures.noted c.in-Ok.number c.in-Ok.name c.in_ok-front.front c.seal.new.self c.in_ok-front.ensures c.requires.unsealed c.requires.filled c.in_ok-seal.ensures.ok c.in_ok-seal.ensures.inserts ensures.drawn (ensures.begins order) (ensures.begins_each order) ensures.unsynced
 
 pub returns-in-Err-clause-step : goal.returns-in-Err-clause-step
 returns-in-Err-clause-step g c ids =
@@ -44,7 +44,7 @@ returns-in-Err-clause-step g c ids =
     subst (after c.refuse.new.self) (sym c.refuse.ensures.answer)
     (subst (λ (s : DbState _ _). after s e) (sym c.refuse.ensures.broken)
     (ends_unsealed order (λ scan. scan_kept order.cmp scan) c.one_directory.ensures c.sound_lasts.ensures c.same_view.ensures c.changes_are_kept.ensures.sealed source facts ids c.args.self.now c.args.source.now.memory c.begin_log.new.numbers
-    c.requires.whole ensures.call ensures.synced e c.unseal.new.self ensures.refused ensures.drawn (ensures.begins order) (ensures.begins_each order) left))
+    c.requires.whole ensures.call ensures.synced ensures.carries ensures.noted e c.unseal.new.self ensures.refused ensures.drawn (ensures.begins order) (ensures.begins_each order) left))
 
 pub returns-in_err-front-clause-step : goal.returns-in_err-front-clause-step
 returns-in_err-front-clause-step g c ids =

@@ -31,6 +31,7 @@ use Rattle.engine.proofs.WithinBudget.{few_left, more_left, not_some}
 use Rattle.std.specs.Bool.{nat_eq}
 use Rattle.engine.proofs.Breaking.{settles, rose_all, outcome_settles, unwritten, as_unwritten, settles_broken, shows, end_io, some_behind, some_as, outcome_settles_broken, breaks_settled, unbroken, IsIo}
 use Rattle.engine.specs.Breaking.{BreaksExactly}
+use Rattle.store.specs.Losses.{CarriesBut}
 use Rattle.store.specs.Stops.{LeavesOnly}
 use Rattle.engine.proofs.state.DbState.step_job.Goals as goal
 
@@ -153,7 +154,7 @@ returns-in-Ok-install-clause-step g c ids =
     subst (λ (t : DbState g.row.K.Denot g.K.KeyOrder). LeadsOpen order old (record new { facts = facts }) ids (open_db memory state) (open_db after_memory t) (λ m n. IsPiece m most (Ok true) n)) (sym (taken ∙ ap after none))
     (ends_installed order g.met.K.KeyOrder.total (λ scan. scan_kept order.cmp scan) c.one_directory.ensures c.sound_lasts.ensures old new ids state memory after_memory numbers most c.in-Some.running c.step-stepped.new.self is c.requires.whole
     s.numbers s.drawn s.touches s.sound c.args.budget c.in-Ok.progress s.goes_on s.may s.plan s.version s.snapshots s.owns facts ended c.last-last_sequence.result c.last-last_sequence.ensures.is c.deref.result.now.tables (ap (λ (p : Placement). p.tables) c.deref.ensures) (Ok installed)
-    i.call i.leaves_each true installed refl i.version.in_order i.synced i.keeps i.version.tables)
+    i.call i.leaves_each true installed refl i.version.in_order i.synced i.keeps i.version.tables i.carries i.ends)
 
 pub returns-in-Ok-install-clause-on : goal.returns-in-Ok-install-clause-on
 returns-in-Ok-install-clause-on g c =
@@ -223,7 +224,7 @@ returns-in-Ok-install-clause-come g c said ids =
     subst (λ (t : DbState g.row.K.Denot g.K.KeyOrder). LeadsOpen order old (record new { facts = facts }) ids (open_db memory state) (open_db after_memory t) (λ m n. HasCome c.args.budget (open_db memory state) m (Ok true) n)) (sym (taken ∙ ap after none))
     (ends_counted order g.met.K.KeyOrder.total (λ scan. scan_kept order.cmp scan) c.one_directory.ensures c.sound_lasts.ensures old new ids state memory after_memory numbers most c.in-Some.running c.step-stepped.new.self is c.requires.whole
     s.numbers upto s.touches s.sound c.args.budget progress s.goes_on s.may s.plan s.version s.snapshots s.owns facts ended c.last-last_sequence.result c.last-last_sequence.ensures.is c.deref.result.now.tables (ap (λ (p : Placement). p.tables) c.deref.ensures) (Ok installed)
-    i.call i.leaves_each no_more s.merged no_fewer true installed refl i.version.in_order i.synced i.keeps i.version.tables)
+    i.call i.leaves_each no_more s.merged no_fewer true installed refl i.version.in_order i.synced i.keeps i.version.tables i.carries i.ends)
 
 pub returns-in-Ok-install-clause-needed : goal.returns-in-Ok-install-clause-needed
 returns-in-Ok-install-clause-needed g c said takes =
@@ -312,6 +313,7 @@ returns-in-Err-install-clause-step g c ids =
     let leaves = subst (λ (w : OpenJob g.row.K.Denot g.K.KeyOrder). OfEach (λ ideal final. EndLeavesOver order new.facts facts ideal final numbers.next c.last-last_sequence.result state.directory.manifest c.deref.result.now.tables w (Err e)) new.facts.files facts.files) taken_out c.in-Err-install.ensures.leaves_each in
     let put = subst (λ (w : OpenJob g.row.K.Denot g.K.KeyOrder). OfEach (λ ideal final. EndPutsOwn order new.facts facts ideal final numbers.next c.last-last_sequence.result state.directory.manifest c.deref.result.now.tables w (Err e)) new.facts.files facts.files) taken_out c.in-Err-install.ensures.owns_each in
     let spares = subst (λ (w : OpenJob g.row.K.Denot g.K.KeyOrder). SparesManifest {T = Installed g.row.K.Denot} new.facts facts (string_bytes state.directory.manifest.name) (IsTableName (IsNumberAtHand w.job.outputs)) (Err e)) taken_out c.in-Err-install.ensures.spares in
+    let carries = subst (λ (w : OpenJob g.row.K.Denot g.K.KeyOrder). IsTrue facts.faithful → CarriesBut new.facts facts (IsTableName (IsNumberAtHand w.job.outputs))) taken_out c.in-Err-install.ensures.carries in
     let is : state.job ≡ Some c.in-Some.running = search rules in
     let none : c.take.new.self ≡ None = search rules in
     let ended : c.in-Ok.progress.ended ≡ true = search rules in
@@ -330,7 +332,7 @@ returns-in-Err-install-clause-step g c ids =
     (rose_all old.facts facts failed is_old (some_behind old.facts new.facts facts still s.stood (some_as new.facts facts i.call.failures i.fails)))
     (ends_unended order g.met.K.KeyOrder.total (λ scan. scan_kept order.cmp scan) c.one_directory.ensures c.sound_lasts.ensures old new ids state memory after_memory numbers most c.in-Some.running c.step-stepped.new.self is c.requires.whole
     s.numbers s.drawn s.touches s.sound c.args.budget c.in-Ok.progress s.goes_on s.may s.plan s.version s.snapshots s.owns facts ended c.last-last_sequence.result c.last-last_sequence.ensures.is c.deref.result.now.tables (ap (λ (p : Placement). p.tables) c.deref.ensures) (Err e)
-    i.call leaves e refl i.refused put spares))))
+    i.call leaves e refl i.refused put spares carries))))
 
 pub returns-in-Err-install-clause-outcome : goal.returns-in-Err-install-clause-outcome
 returns-in-Err-install-clause-outcome g c =

@@ -1,0 +1,57 @@
+-- Which of the accepted batches the logs have that this open began, and what the map was behind each of them: what a loss of power may take.
+use Rattle.std.specs.Prelude.{◌≡◌, ◌≤◌, ◌<◌, ◌+◌, ℕ, List, [], ◌∷◌, ◌++◌, length, take, drop, sum_by}
+use Rattle.std.specs.List.{AllByRecursion}
+use Rattle.batch.specs.declared.operation.Operation.{Operation}
+use Rattle.edits.specs.Names.{name_of}
+use Rattle.edits.specs.declared.names.FileName.TheVariants.{Log}
+use Rattle.ikey.specs.declared.entry.Entry.{Entry}
+use Rattle.ikey.specs.Views.{AllUpTo, Contents, IsView}
+use Rattle.machine.specs.Machine.{Machine, after_batches}
+use Rattle.opening.specs.Losses.{IsKept}
+use Rattle.recover.specs.Logs.{Batch, LogContent, logged}
+use Rattle.recover.specs.Tables.{TableContent, tabled}
+use Rattle.store.specs.Files.{Facts}
+
+-- Behind so many operations, these batches of logs are those.
+abbrev pub AreLogged : ℕ → List Batch → List (List Operation) → Type 0
+AreLogged used [] [] = Unit {0}
+AreLogged used (batch ∷ batches) (operations ∷ others) = (batch.0 ≡ used + 1) × (batch.1 ≡ operations) × AreLogged (used + length operations) batches others
+AreLogged used _ _ = ⊥
+
+-- the batches of these logs
+abbrev pub batches_in : List LogContent → List Batch
+batches_in [] = []
+batches_in (log ∷ logs) = log.batches ++ batches_in logs
+
+-- all but the first of these logs are empty
+abbrev pub AreEmptyBehind : List LogContent → Type 0
+AreEmptyBehind [] = Unit {0}
+AreEmptyBehind (log ∷ logs) = AllByRecursion (λ (other : LogContent). other.batches ≡ []) logs
+
+-- The logs are those that the open found, whose numbers are below that of its MANIFEST; then those begun since that are synced whole; then those that the
+-- device may not have whole, of which all but the first are empty: that which writes go to is always one of them.
+pub record AreParts (facts : Facts) (least : ℕ) (logs : List LogContent) : Type 0 where
+  pub found : List LogContent
+  pub kept : List LogContent
+  pub doubted : List LogContent
+  pub all : logs ≡ found ++ kept ++ doubted
+  pub before : AllByRecursion (λ (log : LogContent). log.number < least) found
+  pub synced : AllByRecursion (λ (log : LogContent). IsKept facts (name_of (Log log.number))) kept
+  pub empty : AreEmptyBehind doubted
+  pub some : 0 < length doubted
+
+-- What was accepted last is in the logs that were begun; and behind each of these batches, and in front of the first, the entries show what the map was.
+pub record AreRecentOf (facts : Facts) (least : ℕ) (tables : List TableContent) (entries : List Entry) (logs : List LogContent) (base : Contents) (batches : List (List Operation)) (used : ℕ) : Type 0 where
+  pub parts : AreParts facts least logs
+  -- the first of them, and how many operations were accepted in front of it
+  pub from : ℕ
+  pub within : from ≤ length batches
+  pub start : ℕ
+  pub spent : start + sum_by length (drop from batches) ≡ used
+  pub recent : AreLogged start (batches_in (parts.kept ++ parts.doubted)) (drop from batches)
+  pub below : AllUpTo start (tabled tables ++ logged parts.found)
+  pub past : (k : ℕ) → k ≤ length (drop from batches) → IsView entries (start + sum_by length (take k (drop from batches))) (after_batches base (take (from + k) batches))
+
+-- of a machine: what else it has makes no difference
+abbrev pub AreRecent : Facts → ℕ → List TableContent → List Entry → List LogContent → Machine → Type 0
+AreRecent facts least tables entries logs m = AreRecentOf facts least tables entries logs m.base m.batches m.used
