@@ -1,11 +1,13 @@
 -- Which names some calls leave alone, one call behind the other.
-use Rattle.std.proofs.Common.{◌≡◌, ◌⊎◌, inl, inr, ℕ, Bool, true, false, List, [], ◌∷◌, ◌++◌, take, Some, None, is_some, if◌then◌else◌, Result, Ok, Err, OnOk, OnErr, refl, sym, ap, ◌∙◌, append_assoc, append-nil}
-use Rattle.std.specs.FinMap.{contains_key}
+use Rattle.std.proofs.Common.{◌≡◌, ◌⊎◌, inl, inr, ℕ, Bool, true, false, List, [], ◌∷◌, ◌++◌, take, Option, Some, None, cond, is_some, if◌then◌else◌, Result, Ok, Err, OnOk, OnErr, refl, sym, ap, ◌∙◌, append_assoc, append-nil}
+use Rattle.std.specs.Cmp.Lexicographic.{slice_cmp, nat_list_cmp_total}
+use Rattle.std.specs.FinMap.{get, contains_key, get-insert}
+use Rattle.std.specs.Ordering.{nat_cmp, eq_by_cmp}
 use Rattle.std.specs.List.{AllByRecursion}
 use Rattle.store.specs.Calls.{Adds, Idles}
-use Rattle.store.specs.Files.{Facts, Files, Synced, Call, Change, Creation, Addition, Sync, Move, Removal, LockFile, Disk, disk_of}
+use Rattle.store.specs.Files.{Facts, Files, Synced, Appends, Call, Change, Creation, Addition, Sync, Move, Removal, LockFile, Disk, disk_of}
 use Rattle.store.specs.declared.error.StoreError.{StoreError}
-use Rattle.store.specs.Losses.{CarriesBut, HasSync, is_sync, name_behind, same_name}
+use Rattle.store.specs.Losses.{CarriesBut, HasSync, PutsSynced, is_sync, name_behind, same_name}
 use Rattle.store.specs.Stops.{IsNamedIn, TouchOnly, WritesOnly}
 use Rattle.store.proofs.MemFiles as mem
 
@@ -130,6 +132,23 @@ pub carries_appended : (old new : Facts) (name bytes : List ℕ) (mine : List �
 carries_appended old new name bytes mine now synced (inl idle) = carries_noted old new (Addition name bytes) mine (λ q apart. refl) (λ q apart. now q) (λ q apart. inl (ap (λ (s : Synced). s q) synced)) (inl idle)
 carries_appended old new name bytes mine now synced (inr some) = carries_noted old new (Addition name (take some.0 bytes)) mine (λ q apart. refl) (λ q apart. now q) (λ q apart. inl (ap (λ (s : Synced). s q) synced)) (inr some.1)
 
+-- it leaves all names
+named_still : (b : Bool) (before after : List ℕ) (was : Option (List ℕ)) → (b ≡ true → was ≡ Some before) → is_some (cond b (Some after) was) ≡ is_some was
+named_still true before after was h = sym (ap is_some (h refl))
+named_still false before after was h = refl
+
+appended_names : (old new : Files) (name bytes q : List ℕ) → Appends old new name bytes → contains_key new q ≡ contains_key old q
+appended_names old new name bytes q a =
+    ap (λ (files : Files). contains_key files q) a.2 ∙ ap is_some (get-insert nat_list_cmp_total old name (a.0 ++ bytes) q)
+    ∙ named_still (eq_by_cmp (slice_cmp nat_cmp) q name) a.0 (a.0 ++ bytes) (get old q) (λ is. ap (λ (n : List ℕ). get old n) (mem.same_name q name is) ∙ a.1)
+
+noted_names : (old new : Facts) (name bytes q : List ℕ) → Idles old new ⊎ ((n : ℕ) × Adds old new (Addition name (take n bytes))) → contains_key new.files q ≡ contains_key old.files q
+noted_names old new name bytes q (inl idle) = ap (λ (disk : Disk). contains_key disk.files q) idle.1
+noted_names old new name bytes q (inr some) = appended_names old.files new.files name (take some.0 bytes) q some.1.1
+
+pub carries_begun : (old new : Facts) (name bytes : List ℕ) (mine : List ℕ → Type 0) → new.synced ≡ old.synced → Idles old new ⊎ ((n : ℕ) × Adds old new (Addition name (take n bytes))) → CarriesBut old new mine
+carries_begun old new name bytes mine kept noted = carries_appended old new name bytes mine (λ q. noted_names old new name bytes q noted) kept noted
+
 -- a sync, accepted or refused
 pub carries_synced : (old new : Facts) (name : List ℕ) (mine : List ℕ → Type 0) (r : Result (Unit {0}) StoreError) → OnOk r (Adds old new (Sync name)) → OnErr r (new.calls ≡ old.calls) → new.files ≡ old.files → OnErr r (new.synced ≡ old.synced) → CarriesBut old new mine
 carries_synced old new name mine (Ok x) noted left same synced = record {
@@ -140,3 +159,13 @@ carries_synced old new name mine (Ok x) noted left same synced = record {
   synced = λ q apart. inr (inl refl);
 }
 carries_synced old new name mine (Err e) noted left same synced = carries_same old new mine left same synced
+
+-- an append, and its sync
+pub carries_puts : (old new : Facts) (name bytes : List ℕ) (mine : List ℕ → Type 0) → PutsSynced old new name bytes → CarriesBut old new mine
+carries_puts old new name bytes mine puts =
+    let mid = puts.mid in
+    let first = carries_begun old mid name bytes mine puts.kept puts.noted in
+    elim puts.done [
+      | inl idle ↦ carries_both old mid new mine first (carries_same mid new mine idle.0 (idle_files mid new idle) (idle_synced mid new idle))
+      | inr done ↦ carries_both old mid new mine first (carries_synced mid new name mine (Ok tt) done.0 tt done.0.1 tt)
+    ]

@@ -13,7 +13,9 @@ use Rattle.std.specs.FinMap.{get, contains_key}
 use Rattle.std.specs.List.{AllByRecursion}
 use Rattle.std.specs.Option.{option_map_or}
 use Rattle.std.specs.Ordering.{nat_cmp, eq_by_cmp}
-use Rattle.store.specs.Files.{Facts, Files, Disk, disk_of, Call, Change, Creation, Addition, Sync, Move, Removal, LockFile}
+use Rattle.store.specs.Calls.{Adds, Idles}
+use Rattle.store.specs.Files.{Facts, Files, Disk, disk_of, with_synced, Call, Change, Creation, Addition, Sync, Move, Removal, LockFile}
+use Rattle.store.specs.Stops.{moment}
 
 abbrev pub same_name : List ℕ → List ℕ → Bool
 same_name a b = eq_by_cmp (slice_cmp nat_cmp) a b
@@ -85,3 +87,41 @@ pub record CarriesBut (old new : Facts) (mine : List ℕ → Type 0) : Type 0 wh
       → (name_behind call.change q ≡ Some q) × (contains_key call.found.files q ≡ contains_key old.files q)) more
   pub now : (q : List ℕ) → (mine q → ⊥) → contains_key new.files q ≡ contains_key old.files q
   pub synced : (q : List ℕ) → (mine q → ⊥) → (new.synced q ≡ old.synced q) ⊎ HasSync more
+
+-- ---- names since the last sync
+
+-- These calls leave the file of this name under it.
+abbrev pub IsCarriedBy : List Call → List ℕ → Type 0
+IsCarriedBy calls name = AllByRecursion (λ (call : Call). name_behind call.change name ≡ Some name) calls
+
+-- Since the first of these calls the file of this name has its name, or there was none, just as there is one now or not.
+abbrev pub HasStayed : List Call → Bool → List ℕ → Type 0
+HasStayed [] there name = Unit {0}
+HasStayed (call ∷ calls) there name = (IsCarriedBy (call ∷ calls) name × (contains_key call.found.files name ≡ there)) × HasStayed calls there name
+
+-- Or it was begun since, and nothing of it is synced.
+abbrev pub HasStayedOrBegun : List Call → Bool → Option (List ℕ) → List ℕ → Type 0
+HasStayedOrBegun [] there synced name = Unit {0}
+HasStayedOrBegun (call ∷ calls) there synced name =
+    ((IsCarriedBy (call ∷ calls) name × (contains_key call.found.files name ≡ there)) ⊎ ((contains_key call.found.files name ≡ false) × (synced ≡ None)))
+    × HasStayedOrBegun calls there synced name
+
+-- So it is since the last sync.
+abbrev pub StaysNamed : Facts → List ℕ → Type 0
+StaysNamed facts name = HasStayed (behind_sync [] facts.calls) (contains_key facts.files name) name
+
+abbrev pub StaysOrBegins : Facts → List ℕ → Type 0
+StaysOrBegins facts name = HasStayedOrBegun (behind_sync [] facts.calls) (contains_key facts.files name) (facts.synced name) name
+
+-- ---- at any moment since
+
+-- A loss of power at any moment since old leaves files that have P. It composes where the calls go on.
+abbrev pub LosesOnly : Facts → Facts → (Files → Type 0) → Type 0
+LosesOnly old new P = (lost : Files) → Lost new (moment old) lost → P lost
+
+-- Bytes were put behind the file, as many as came, and then it was synced, or that was refused.
+pub record PutsSynced (old new : Facts) (name bytes : List ℕ) : Type 0 where
+  pub mid : Facts
+  pub noted : Idles old mid ⊎ ((n : ℕ) × Adds old mid (Addition name (take n bytes)))
+  pub kept : mid.synced ≡ old.synced
+  pub done : Idles mid new ⊎ (Adds mid new (Sync name) × (new.synced ≡ with_synced mid.synced name (get mid.files name)))
