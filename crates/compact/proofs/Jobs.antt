@@ -114,7 +114,7 @@ module _ {C H S : Type 0} (cmp : Cmp) (deep : List ℕ → Bool) (facts : S → 
   job-step last over cursor moved c e w u source held store after next more came entry rest choice is writes le fits keeps_mine moves stays t over_is order chosen wrote h =
       let mine : (n : ℕ) → IsMine u more n → IsMine w next n = λ n is_mine. mine-before w u next more n le fits keeps_mine is_mine in
       let r = writes-move cursor moved source held store after (IsMine w next) is writes stays in
-      let merged = merge-step cmp deep (facts held) (facts store) (facts (store_of after)) last over c e w u next more came entry choice over_is (r.files t) (r.synced t) order chosen (wrote (r.faithful t)) h.goes_on
+      let merged = merge-step cmp deep (facts held) (facts store) (facts (store_of after)) last over c e w u next more came entry choice over_is (r.files t) (r.synced t) (r.calls t) order chosen (wrote (r.faithful t)) h.goes_on
       (subst (λ (s : S). IsMerging cmp deep last c w (facts s) next came) (sym is) h.merging) in
       record {
         merging = merged.0;

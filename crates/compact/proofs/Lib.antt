@@ -1,4 +1,5 @@
 pub mod Choices
+pub mod Closing
 pub mod Editing
 pub mod Ends
 pub mod Keeping

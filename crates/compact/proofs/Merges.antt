@@ -14,7 +14,7 @@ use Rattle.ikey.specs.Sources.{ComesBefore, AreSorted}
 use Rattle.ikey.specs.Below.{same_key}
 use Rattle.ikey.specs.declared.internal_key.Kind.{Kind}
 use Rattle.ikey.specs.declared.internal_key.Kind.TheVariants.{Delete, Put}
-use Rattle.std.specs.FinMap.{get}
+use Rattle.std.specs.FinMap.{get, contains_key}
 use Rattle.std.specs.Bool.{MatchBool}
 use Rattle.edits.specs.declared.field.TableFile.{TableFile}
 use Rattle.table.specs.Building.{Building, Builds, last_added}
@@ -24,6 +24,7 @@ use Rattle.ikey.specs.Views.{Among}
 use Rattle.compact.specs.Choosing.{Choosing, Chooses, Precedes, ComesBehind, delete_of, written_for}
 use Rattle.ikey.specs.Entries.{InternalEntry, Pair, IsPair, entry_of, kind_of, value_of}
 use Rattle.store.specs.Files.{Facts}
+use Rattle.store.proofs.Staying.{stays_same}
 use Rattle.table.specs.Table.{ArePairs}
 use Rattle.compact.specs.Outputs.{table_name, Filling, AreClosed, IsAtHand, TablesWritten, HasWritten, IsWriting, IsOpen, IsMine, IsMineUpTo, WritesTables}
 use Rattle.compact.specs.Merging.{IsWellKept, KeepsMine, kept_delete, IsUpTo, IsMerging}
@@ -106,13 +107,23 @@ kind-kept Put value = refl
 
 -- ---- the same files
 
-closed-same : (cmp : List ℕ → List ℕ → Ordering) (a b : Facts) → b.files ≡ a.files → b.synced ≡ a.synced → (cs : List TableFile) (ts : List (List Pair)) → AreClosed cmp a cs ts → AreClosed cmp b cs ts
-closed-same cmp a b same still [] [] h = tt
-closed-same cmp a b same still [] (pairs ∷ ts) h = absurd h
-closed-same cmp a b same still (table ∷ cs) [] h = absurd h
-closed-same cmp a b same still (table ∷ cs) (pairs ∷ ts) h = (
-  record { file = h.0.file; has = ap (λ files. get files (table_name table.number)) same ∙ h.0.has; synced = ap (λ synced. synced (table_name table.number)) still ∙ h.0.synced; table_of = h.0.table_of; size = h.0.size; smallest = h.0.smallest; largest = h.0.largest },
-  closed-same cmp a b same still cs ts h.1,
+closed-same : (cmp : List ℕ → List ℕ → Ordering) (a b : Facts) → b.files ≡ a.files → b.synced ≡ a.synced → b.calls ≡ a.calls → (cs : List TableFile) (ts : List (List Pair)) → AreClosed cmp a cs ts → AreClosed cmp b cs ts
+closed-same cmp a b same still calls [] [] h = tt
+closed-same cmp a b same still calls [] (pairs ∷ ts) h = absurd h
+closed-same cmp a b same still calls (table ∷ cs) [] h = absurd h
+closed-same cmp a b same still calls (table ∷ cs) (pairs ∷ ts) h = (
+  (let name = table_name table.number in
+      record {
+        file = h.0.file;
+        has = ap (λ files. get files name) same ∙ h.0.has;
+        synced = ap (λ synced. synced name) still ∙ h.0.synced;
+        stays = stays_same a b name calls (ap (λ files. contains_key files name) same) h.0.stays;
+        table_of = h.0.table_of;
+        size = h.0.size;
+        smallest = h.0.smallest;
+        largest = h.0.largest;
+      }),
+  closed-same cmp a b same still calls cs ts h.1,
 )
 
 builds-same : (cmp : List ℕ → List ℕ → Ordering) (a b : Facts) → b.files ≡ a.files → (t : Building) (pairs : List Pair) → Builds cmp t a pairs → Builds cmp t b pairs
@@ -123,11 +134,11 @@ at-hand-same : (cmp : List ℕ → List ℕ → Ordering) (a b : Facts) → b.fi
 at-hand-same cmp a b same None pairs h = h
 at-hand-same cmp a b same (Some t) pairs h = (record { builds = builds-same cmp a b same t.building pairs h.0.builds; smallest = h.0.smallest; largest = h.0.largest }, h.1)
 
-pub written-same : (cmp : List ℕ → List ℕ → Ordering) (w : TablesWritten) (a b : Facts) (next : ℕ) (pairs : List Pair) → b.files ≡ a.files → b.synced ≡ a.synced → HasWritten cmp w a next pairs → HasWritten cmp w b next pairs
-written-same cmp w a b next pairs same still h = record {
+pub written-same : (cmp : List ℕ → List ℕ → Ordering) (w : TablesWritten) (a b : Facts) (next : ℕ) (pairs : List Pair) → b.files ≡ a.files → b.synced ≡ a.synced → b.calls ≡ a.calls → HasWritten cmp w a next pairs → HasWritten cmp w b next pairs
+written-same cmp w a b next pairs same still calls h = record {
   tables = h.tables;
   rest = h.rest;
-  closed_are = closed-same cmp a b same still w.closed h.tables h.closed_are;
+  closed_are = closed-same cmp a b same still calls w.closed h.tables h.closed_are;
   rest_is = at-hand-same cmp a b same w.at_hand h.rest h.rest_is;
   all = h.all;
   ends = h.ends;
@@ -156,13 +167,13 @@ sorted-push order (y ∷ xs) x h behind = (
 )
 
 pub merge-step : (cmp : List ℕ → List ℕ → Ordering) (deep : List ℕ → Bool) (a b d : Facts) (last over : List ℕ) (c e : Choosing) (w u : TablesWritten) (next more : ℕ) (came : List InternalEntry) (entry : InternalEntry) (choice : Choice)
-    → IsKey over entry.key → d.files ≡ b.files → d.synced ≡ b.synced
+    → IsKey over entry.key → d.files ≡ b.files → d.synced ≡ b.synced → d.calls ≡ b.calls
     → ((last_key : Key) (x : Entry) → IsKey last last_key → IsUpTo cmp x last_key → Precedes cmp x (entry_of entry))
     → ((xs ys : List Entry) → ComesBehind cmp xs (entry_of entry) → Chooses cmp deep c xs ys → Chooses cmp deep e (xs ++ entry_of entry ∷ []) (ys ++ written_for choice e.released (entry_of entry)))
     → ((pairs : List Pair) (kept : List InternalEntry) → ArePairs pairs kept → IsWriting cmp w a next pairs
     → (new : List Pair) × (added : List InternalEntry) × IsWriting cmp u b more new × ArePairs new (kept ++ added) × (map entry_of added ≡ written_for choice e.released (entry_of entry)) × AllByRecursion IsWellKept added)
     → IsOpen w → IsMerging cmp deep last c w a next came → IsMerging cmp deep over e u d more (came ++ entry ∷ []) × IsOpen u
-merge-step cmp deep a b d last over c e w u next more came entry choice over_is files still order chosen wrote further h =
+merge-step cmp deep a b d last over c e w u next more came entry choice over_is files still calls order chosen wrote further h =
     let behind : ComesBehind cmp (map entry_of came) (entry_of entry) = λ x m. let last_bound = h.bound x m in order last_bound.0 x last_bound.1 last_bound.2 in
     let new = wrote h.written h.kept h.written_are (record { written = h.has_written; goes_on = further }) in
     let all : map entry_of came ++ entry_of entry ∷ [] ≡ map entry_of (came ++ entry ∷ []) = sym (map-append entry_of came (entry ∷ [])) in
@@ -173,7 +184,7 @@ merge-step cmp deep a b d last over c e w u next more came entry choice over_is 
         kept = h.kept ++ new.1;
         written_are = new.3;
         well_kept = well-append h.kept new.1 h.well_kept new.5;
-        has_written = written-same cmp u b d more new.0 files still new.2.written;
+        has_written = written-same cmp u b d more new.0 files still calls new.2.written;
         chooses = subst (λ (xs : List Entry). Chooses cmp deep e xs (map entry_of (h.kept ++ new.1))) all
             (subst (Chooses cmp deep e (map entry_of came ++ entry_of entry ∷ [])) out (chosen (map entry_of came) (map entry_of h.kept) behind h.chooses));
         last_is = inr (entry, among-last came entry, over_is);

@@ -57,8 +57,9 @@ impl<K: KeyOrder, C: Drop> Job<K, C> {
     ghost use Rattle.compact.specs.Merging.{IsBetween, IsLimited, IsMerging, IsStepOf, IsFinished, ReadsIntact};
     ghost use Rattle.compact.specs.Merging.{KeepsMine, ReadsApart, AreDisjoint, HaveOwnSequences};
     ghost use Rattle.compact.specs.JobEdits.{IsEditOfPlan, IsPlanProper, IsOwnIn};
-    ghost use Rattle.compact.specs.Outputs.{AreNumbered, IsMineUpTo, IsNumberAtHand, IsOwn};
-    ghost use Rattle.store.specs.Calls.{FailsAsWrite};
+    ghost use Rattle.compact.specs.Outputs.{AreNumbered, IsMineUpTo, IsNumberAtHand, IsOutputKept, IsOwn};
+    ghost use Rattle.store.specs.Calls.{FailsAsWrite, Idles};
+    ghost use Rattle.store.specs.Losses.{behind_sync};
     ghost use Rattle.compact.specs.Outputs.{IsToCome, NumbersOn, WritesTables, RefusesEntry};
     ghost use Rattle.compact.specs.Leaving.{LeavesOthers};
     ghost use Rattle.compact.specs.Rooms.{AreLarge};
@@ -195,6 +196,12 @@ impl<K: KeyOrder, C: Drop> Job<K, C> {
         ensures finished { IfOk result (λ edit. (deep : List ℕ → Bool) (came : List InternalEntry) → IsTrue (S.facts store.new).faithful
             → IsMerging K.cmp deep self.last.items self.selection self.outputs (S.facts store.old) numbers.now.next came
             → IsFinished K.cmp deep self.plan self.last.items self.selection (S.facts store.new) numbers.now.next last_sequence came edit) }
+        // All tables of the job are kept then.
+        ensures kept { IfOk result (λ edit. (deep : List ℕ → Bool) (came : List InternalEntry) → IsTrue (S.facts store.new).faithful
+            → IsMerging K.cmp deep self.last.items self.selection self.outputs (S.facts store.old) numbers.now.next came
+            → (number : ℕ) → IsOwn self.outputs number → IsOutputKept (S.facts store.new) number) }
+        ensures ends { IsTrue (S.facts store.new).faithful → OnOk result ((behind_sync [] (S.facts store.new).calls ≡ [])
+            ⊎ Idles (S.facts store.old) (S.facts store.new)) }
         ensures proper { IfOk result (λ edit. last_sequence < 2 ^ 56 → IsPlanProper self.plan
             → AreNumbered self.outputs numbers.now.next → All IsProper edit) }
         ensures order { IfOk result (λ edit. IsPlanProper self.plan → AreNumbered self.outputs numbers.now.next → IsInOrder edit) }

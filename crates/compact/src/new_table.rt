@@ -1,7 +1,8 @@
 //! A table that a compaction writes.
 
-ghost use Rattle.std.specs.Prelude.{◌≡◌, ◌<◌, ◌^◌, ℕ, List, length, IsTrue, IfOk, IfErr, OnOk};
+ghost use Rattle.std.specs.Prelude.{◌≡◌, ◌<◌, ◌^◌, [], ℕ, List, length, IsTrue, IfOk, IfErr, OnOk};
 ghost use Rattle.store.specs.Files.{Facts};
+ghost use Rattle.store.specs.Losses.{behind_sync};
 ghost use Rattle.std.specs.Option.{IsSome};
 ghost use Rattle.ikey.specs.Entries.{Pair};
 ghost use Rattle.table.specs.Building.{Builds, last_added};
@@ -44,11 +45,13 @@ impl<K: KeyOrder> Model for NewTable<K> {
 }
 
 impl<K: KeyOrder> NewTable<K> {
-    ghost use Rattle.std.specs.Prelude.{◌≡◌, ◌≢◌, ◌<◌, ◌≤◌, ◌∷◌, ◌++◌, [], ℕ, List, IsTrue, IfSome, IfOk, IfErr, OnOk, MatchBool};
+    ghost use Rattle.std.specs.Prelude.{◌≡◌, ◌≢◌, ◌<◌, ◌≤◌, ◌∷◌, ◌++◌, [], ℕ, List, IsTrue, IfSome, IfOk, IfErr, OnOk, MatchBool, MatchOption};
     ghost use Rattle.edits.specs.Edit.{IsInternal};
     ghost use Rattle.ikey.specs.Keys.{Key, IsKey};
     ghost use Rattle.ikey.specs.Entries.{Pair};
+    ghost use Rattle.store.specs.Calls.{Idles};
     ghost use Rattle.store.specs.Files.{Facts};
+    ghost use Rattle.store.specs.Losses.{behind_sync};
     ghost use Rattle.table.specs.Building.{MayFollow, Builds, data_size};
     ghost use Rattle.table.specs.Writing.{Writes, NeedsLongBlock, NeedsLongEnds};
     ghost use Rattle.compact.specs.Outputs.{table_name, IsFilling, IsSaidOf, IsSynced, ClosesTable, RefusesEntry};
@@ -134,6 +137,8 @@ impl<K: KeyOrder> NewTable<K> {
             → ClosesTable K.cmp (S.facts store.new) self.number pairs closed) }
         ensures said { IfOk result (λ closed. IfSome closed (IsSaidOf self)) }
         ensures synced { IfOk result (λ closed. IfSome closed (λ table. IsSynced (S.facts store.new) table.number)) }
+        ensures ends { IfOk result (λ closed. IsTrue (S.facts store.new).faithful
+            → MatchOption closed (Idles (S.facts store.old) (S.facts store.new)) (λ table. behind_sync [] (S.facts store.new).calls ≡ [])) }
         ensures stood { OnOk result ((S.facts store.new).failures ≡ (S.facts store.old).failures) }
         ensures refused { IfErr result (λ e. RefusesEntry e (S.facts store.old) (S.facts store.new)
             ⊥ (NeedsLongEnds self.building) ⊥) }
@@ -172,6 +177,7 @@ fn finish_file<K: KeyOrder, S: Store>(
         → Builds K.cmp builder (S.facts store.old) pairs
         → (file : List ℕ) × HasFile (S.facts store.new) (table_name number) file × (size ≡ length file) × IsTableOf K.cmp file pairs) }
     ensures synced { OnOk result (IsSynced (S.facts store.new) number) }
+    ensures ends { IsTrue (S.facts store.new).faithful → OnOk result (behind_sync [] (S.facts store.new).calls ≡ []) }
     ensures stood { OnOk result ((S.facts store.new).failures ≡ (S.facts store.old).failures) }
     ensures refused { IfErr result (λ e. RefusesEntry e (S.facts store.old) (S.facts store.new)
         ⊥ (NeedsLongEnds builder) ⊥) }

@@ -1,5 +1,5 @@
 -- What the calls that write a table do to the files of a store.
-use Rattle.std.proofs.Common.{Bool, true, false, cond, ◌≡◌, ◌≢◌, ◌⊎◌, ℕ, List, [], ◌++◌, take, Option, Some, None, Result, Ok, Err, IsTrue, inl, inr, refl, sym, ap, ◌∙◌, arith}
+use Rattle.std.proofs.Common.{Bool, true, false, cond, ◌≡◌, ◌≢◌, ◌⊎◌, ℕ, List, [], ◌∷◌, ◌++◌, take, Option, Some, None, Result, Ok, Err, IsTrue, inl, inr, refl, sym, ap, ◌∙◌, arith}
 use Rattle.std.specs.Cmp.{tied_itself}
 use Rattle.std.specs.Cmp.Lexicographic.{slice_cmp, nat_list_cmp_total}
 use Rattle.std.specs.Ordering.{is_eq, nat_cmp, eq_by_cmp}
@@ -9,9 +9,11 @@ use Rattle.std.specs.FinMap.{get, insert, get-insert, slice_cmp-IsAntisymmetric,
 use Rattle.coding.specs.declared.error.DbError.{DbError}
 use Rattle.coding.specs.declared.error.DbError.TheVariants.{OutOfMemory, Io, Unsupported}
 use Rattle.filter.specs.Builder.{GivesUpOnly}
-use Rattle.store.specs.Files.{Facts, Files, Synced, Creation, Sync, Appends, AppendsBeginning, with_synced}
-use Rattle.store.specs.Calls.{Counts, FailsAsWrite, Changes, ChangesSynced, Keeps, KeepsSynced, Notes, NotesAppend, NotesSync}
+use Rattle.store.specs.Files.{Facts, Files, Synced, Creation, Sync, Appends, AppendsBeginning, disk_of, with_synced}
+use Rattle.store.specs.Calls.{Adds, Counts, FailsAsWrite, Changes, ChangesSynced, Keeps, KeepsSynced, Notes, NotesAppend, NotesSync}
+use Rattle.store.specs.Losses.{behind_sync}
 use Rattle.store.specs.Stops.{WritesOnly}
+use Rattle.store.proofs.Staying.{behind_more}
 use Rattle.store.proofs.Stopping.{others_appended, others_both, others_noted, others_same, others_synced}
 use Rattle.store.specs.declared.error.StoreError.{StoreError}
 use Rattle.store.specs.declared.error.StoreError.TheVariants as store_error
@@ -149,6 +151,10 @@ sync_keeps old new name same synced t =
     ap (λ (s : Synced). s name) (synced t)
     ∙ ap (λ (b : Bool). cond b (get old.files name) (old.synced name)) (ap is_eq (tied_itself nat_list_cmp_total name))
     ∙ ap (λ (f : Files). get f name) (sym (same t))
+
+-- behind it no call waits for one
+pub sync_ends : (old new : Facts) (name : List ℕ) → Adds old new (Sync name) → behind_sync [] new.calls ≡ []
+sync_ends old new name adds = ap (behind_sync []) adds.0 ∙ behind_more [] old.calls (record { found = disk_of old; change = Sync name } ∷ [])
 
 pub sync_refused : (old new : Facts) (name : List ℕ) (e : StoreError) → Counts {T = Unit {0}} old new (Err e) → Undenied old new → Keeps old new → (IsTrue new.faithful → new.synced ≡ old.synced) → NotesSync {T = Unit {0}} old new (Err e) (Sync name) → Writes old new name
 sync_refused old new name e counts undenied same synced notes =

@@ -3,6 +3,7 @@
 ghost use Rattle.std.specs.Prelude.{◌≡◌, ◌<◌, [], List, IsTrue, IfErr, OnOk};
 ghost use Rattle.std.specs.FinMap.{get};
 ghost use Rattle.coding.specs.declared.error.DbError.TheVariants.{Io};
+ghost use Rattle.store.specs.Losses.{behind_sync};
 ghost use Rattle.table.specs.Reading.{HasFile};
 ghost use Rattle.table.specs.Steps.{Appended};
 ghost use Rattle.table.specs.Writing.{Writes, WriteRefuses};
@@ -42,6 +43,7 @@ pub fn sync<S: Store>(store: &mut S, name: &str) -> Result<(), DbError>
     ensures writes { Writes (S.facts store.old) (S.facts store.new) name.now }
     ensures files { IsTrue (S.facts store.new).faithful → (S.facts store.new).files ≡ (S.facts store.old).files }
     ensures synced { OnOk result (IsTrue (S.facts store.new).faithful → (S.facts store.new).synced name.now ≡ get (S.facts store.new).files name.now) }
+    ensures ends { IsTrue (S.facts store.new).faithful → OnOk result (behind_sync [] (S.facts store.new).calls ≡ []) }
     ensures stood { OnOk result ((S.facts store.new).failures ≡ (S.facts store.old).failures) }
     ensures refused { IfErr result (λ e. (e ≡ Io) × ((S.facts store.old).failures < (S.facts store.new).failures)) }
 {

@@ -1,4 +1,4 @@
-use Rattle.table.proofs.Storing.{sync_writes, sync_keeps, sync_refused}
+use Rattle.table.proofs.Storing.{sync_ends, sync_writes, sync_keeps, sync_refused}
 use Rattle.table.proofs.writing.sync.Goals as goal
 
 pub returns-in-Ok-clause-writes : goal.returns-in-Ok-clause-writes
@@ -14,3 +14,6 @@ pub returns-in-Err-Device-clause-writes : goal.returns-in-Err-Device-clause-writ
 returns-in-Err-Device-clause-writes g c =
     let h = c.in-Err-Device.ensures in
     sync_refused (g.S.Store.facts c.args.store.now) (g.S.Store.facts c.sync.new.self) c.args.name.now c.in-Err-Device.field-0 h.counts (h.undenied, h.lock, h.writes) h.same h.unsynced h.calls
+
+pub returns-in-Ok-clause-ends : goal.returns-in-Ok-clause-ends
+returns-in-Ok-clause-ends g c t = sync_ends (g.S.Store.facts c.args.store.now) (g.S.Store.facts c.sync.new.self) c.args.name.now (c.in-Ok.ensures.calls.ok t)

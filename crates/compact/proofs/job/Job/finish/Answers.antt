@@ -10,6 +10,7 @@ use Rattle.compact.specs.Outputs.{HasWritten, TablesWritten, TableNumbersRise}
 use Rattle.compact.specs.Rooms.{AreLarge, AreTooMany}
 use Rattle.compact.proofs.Loads.{large-merged}
 use Rattle.compact.proofs.Writing.{refuses-as}
+use Rattle.compact.proofs.Closing.{kept_closed}
 use Rattle.compact.proofs.Editing.{in_order, proper, own}
 use Rattle.compact.specs.Merging.{IsMerging}
 use Rattle.compact.proofs.Merges.{merging-closed}
@@ -28,6 +29,14 @@ returns-clause-finished g c = λ deep came t h.
           (merging-closed cmp deep c.args.self.last.items c.args.self.selection c.args.self.outputs c.close.new.self a b c.args.numbers.now.next came
           (λ pairs written. c.in_ok-close.ensures.closed c.args.numbers.now.next pairs c.args.numbers.now.in_range.1 t written) h),
     )
+
+pub returns-clause-kept : goal.returns-clause-kept
+returns-clause-kept g c = λ deep came t h number own.
+    let b : Facts = g.S.Store.facts c.close.new.store in
+    let cmp = g.K.KeyOrder.cmp in
+    let next : ℕ = c.args.numbers.now.next in
+    kept_closed cmp c.close.new.self b next h.written c.in_ok-close.ensures.none
+    (c.in_ok-close.ensures.closed next h.written c.args.numbers.now.in_range.1 t h.has_written) number (c.in_ok-close.ensures.owns next h.written t h.has_written number own)
 
 pub returns-clause-of_plan : goal.returns-clause-of_plan
 returns-clause-of_plan g c = record { tables = c.into_closed.result.items; next = c.args.numbers.now.next; last = c.args.last_sequence; is = c.in_ok-edit.ensures }

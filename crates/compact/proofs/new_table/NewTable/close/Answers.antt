@@ -1,6 +1,7 @@
 use Rattle.std.proofs.Common.{List, ℕ, Some, ◌≡◌, [], sym, subst, ap, ◌∙◌}
 use Rattle.std.proofs.lemmas.Result.{err_from_is_err_and}
 use Rattle.store.specs.Files.{Facts}
+use Rattle.store.proofs.Staying.{stays_behind}
 use Rattle.table.specs.Building.{Builds}
 use Rattle.table.specs.Writing.{NeedsLongEnds}
 use Rattle.compact.specs.Outputs.{Filling, RefusesEntry, table_name}
@@ -19,6 +20,7 @@ returns-clause-closed g c = λ pairs t h.
         file = w.0;
         has = w.1;
         synced = c.in_ok-size.ensures.synced t ∙ w.1;
+        stays = stays_behind (g.S.Store.facts c.finish_file.new.store) (table_name c.self.inside.number) (c.in_ok-size.ensures.ends t);
         table_of = w.3;
         size = w.2;
         smallest = either-end pairs (Some c.args.self.smallest) some h.smallest ∙ ap (λ (f : Filling). Some f.smallest) (sym c.self.view_is);
