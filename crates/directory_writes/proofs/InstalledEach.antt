@@ -7,6 +7,7 @@ use Rattle.std.specs.declared.cmp.Ordering.{Ordering}
 use Rattle.coding.specs.declared.error.DbError.{DbError}
 use Rattle.coding.specs.declared.error.DbError.TheVariants.{OutOfMemory, Io, Corrupt, Unsupported, NumbersSpent}
 use Rattle.store.specs.Files.{Files, Facts, Synced}
+use Rattle.store.specs.Losses.{StaysNamed}
 use Rattle.store.specs.Stops.{KeepsBut, LeavesOnly, stopped_at}
 use Rattle.store.proofs.Stopping.{leaves_both, leaves_so}
 use Rattle.ikey.specs.Entries.{InternalEntry, Pair}
@@ -26,7 +27,7 @@ use Rattle.compact.specs.Outputs.{AreClosed, AreNumbered, Filling, IsAtHand, IsN
 use Rattle.compact.specs.declared.job.Job.{Job}
 use Rattle.directory_writes.specs.Differing.{OfEach, with_files}
 use Rattle.directory_writes.specs.internal.Calls.{Touches}
-use Rattle.directory_writes.specs.internal.Each.{HasSameOutputs}
+use Rattle.directory_writes.specs.internal.Each.{HasSameOutputs, HaveStayed}
 use Rattle.directory_writes.specs.internal.Flush.{edit_refusal}
 use Rattle.directory_writes.specs.internal.Install.{HasPreparedJob, InstallLeaves, InstallMayLeave, InstallPutsOwn, IsJobEdit, RefusesEdit}
 use Rattle.directory_writes.specs.internal.Manifest.{AppendsEdit}
@@ -49,23 +50,30 @@ pub each_closed : (P : ℕ → Type 0) (cs : List TableFile) → ((number : ℕ)
 each_closed P [] k = tt
 each_closed P (table ∷ cs) k = (k table.number (0, table, omega arith, refl, refl), each_closed P cs (λ number at. k number (suc at.0, at.1, omega (arith, at.2), at.3, at.4)))
 
+-- a store with no call noted
+abbrev pub none_called : (facts : Facts) (whole : Files) (cs : List TableFile) → AllByRecursion (λ (table : TableFile). StaysNamed (with_files facts whole) (table_name table.number)) cs
+none_called facts whole [] = tt
+none_called facts whole (table ∷ cs) = (tt, none_called facts whole cs)
+
 -- two stores that keep the same synced
 module _ (cmp : List ℕ → List ℕ → Ordering) (a b : Facts) (synced : b.synced ≡ a.synced) where
-  closed_too : (cs : List TableFile) (ts : List (List Pair)) → AllByRecursion (λ (table : TableFile). Agrees a.files b.files table.number) cs → AreClosed cmp a cs ts → AreClosed cmp b cs ts
-  closed_too [] [] k h = tt
-  closed_too [] (pairs ∷ ts) k h = absurd h
-  closed_too (table ∷ cs) [] k h = absurd h
-  closed_too (table ∷ cs) (pairs ∷ ts) k h = (
+  closed_too : (cs : List TableFile) (ts : List (List Pair)) → AllByRecursion (λ (table : TableFile). Agrees a.files b.files table.number) cs → AllByRecursion (λ (table : TableFile). StaysNamed b (table_name table.number)) cs
+      → AreClosed cmp a cs ts → AreClosed cmp b cs ts
+  closed_too [] [] k stays h = tt
+  closed_too [] (pairs ∷ ts) k stays h = absurd h
+  closed_too (table ∷ cs) [] k stays h = absurd h
+  closed_too (table ∷ cs) (pairs ∷ ts) k stays h = (
     record {
       file = h.0.file;
       has = k.0 ∙ h.0.has;
       synced = ap (λ (s : Synced). s (table_name table.number)) synced ∙ h.0.synced;
+      stays = stays.0;
       table_of = h.0.table_of;
       size = h.0.size;
       smallest = h.0.smallest;
       largest = h.0.largest;
     },
-    closed_too cs ts k.1 h.1,
+    closed_too cs ts k.1 stays.1 h.1,
   )
 
   -- the table at hand has the name of its number
@@ -87,9 +95,9 @@ module _ (cmp : List ℕ → List ℕ → Ordering) (a b : Facts) (synced : b.sy
       )
 
   pub merging_too : (deep : List ℕ → Bool) (last : List ℕ) (c : Choosing) (w : TablesWritten) (next : ℕ) (came : List InternalEntry) → MatchOption w.at_hand (Unit {0}) (IsNext w.closed next)
-      → AllByRecursion (λ (table : TableFile). Agrees a.files b.files table.number) w.closed → ((number : ℕ) → IsNumberAtHand w number → Agrees a.files b.files number)
+      → AllByRecursion (λ (table : TableFile). Agrees a.files b.files table.number) w.closed → HaveStayed w b → ((number : ℕ) → IsNumberAtHand w number → Agrees a.files b.files number)
       → IsMerging cmp deep last c w a next came → IsMerging cmp deep last c w b next came
-  merging_too deep last c w next came n closed hand m =
+  merging_too deep last c w next came n closed stays hand m =
       let h = m.has_written in
       record {
         written = m.written;
@@ -99,7 +107,7 @@ module _ (cmp : List ℕ → List ℕ → Ordering) (a b : Facts) (synced : b.sy
         has_written = record {
           tables = h.tables;
           rest = h.rest;
-          closed_are = closed_too w.closed h.tables closed h.closed_are;
+          closed_are = closed_too w.closed h.tables closed stays h.closed_are;
           rest_is = at_hand_too w.at_hand w.closed next h.rest n hand h.rest_is;
           all = h.all;
           ends = h.ends;
@@ -129,11 +137,11 @@ agree_own P Q (table ∷ tables) so h = (so table h.0, agree_own P Q tables so h
 -- ---- an edit that is ready
 
 module _ {K C : Type 0} (cmp : List ℕ → List ℕ → Ordering) (job : Job K C) (next last_sequence : ℕ) (numbered : AreNumbered job.outputs next) (old mid : Facts) (whole then : Files)
-    (before : HasSameOutputs job.outputs old.files whole) (behind : HasSameOutputs job.outputs mid.files then) where
+    (before : HasSameOutputs job.outputs old.files whole) (stayed : HaveStayed job.outputs old) (behind : HasSameOutputs job.outputs mid.files then) where
   merging_back : (deep : List ℕ → Bool) (came : List InternalEntry) → IsMerging cmp deep job.last.items job.selection job.outputs (with_files old whole) next came → IsMerging cmp deep job.last.items job.selection job.outputs old next came
   merging_back deep came m =
       merging_too cmp (with_files old whole) old refl deep job.last.items job.selection job.outputs next came numbered.at_hand
-      (each_closed (Agrees whole old.files) job.outputs.closed (λ number at. sym (before number (inr at)))) (λ number at. sym (before number (inl at))) m
+      (each_closed (Agrees whole old.files) job.outputs.closed (λ number at. sym (before number (inr at)))) stayed (λ number at. sym (before number (inl at))) m
 
   finished_too : (deep : List ℕ → Bool) (came : List InternalEntry) (edit : List Field) → AllByRecursion (IsOwnIn job.outputs) edit → IsFinished cmp deep job.plan job.last.items job.selection mid next last_sequence came edit
       → IsFinished cmp deep job.plan job.last.items job.selection (with_files mid then) next last_sequence came edit
@@ -143,7 +151,7 @@ module _ {K C : Type 0} (cmp : List ℕ → List ℕ → Ordering) (job : Job K 
       let placed = behind_these (IsOwnIn job.outputs) (map gone is.sorted) (map (placed_at level) tables)
       (behind_these (IsOwnIn job.outputs) front (map gone is.sorted ++ map (placed_at level) tables) (subst (AllByRecursion (IsOwnIn job.outputs)) is.fields_are own)) in
       let agree = agree_own (λ (table : TableFile). IsOwn job.outputs table.number) (λ (table : TableFile). Agrees mid.files then table.number) tables (λ table is. behind table.number is) (own_placed job.outputs level tables placed) in
-      (tables, is, merging_too cmp mid (with_files mid then) refl deep job.last.items job.selection (record { closed = tables; at_hand = None }) next came tt agree (λ number at. absurd at) merging)
+      (tables, is, merging_too cmp mid (with_files mid then) refl deep job.last.items job.selection (record { closed = tables; at_hand = None }) next came tt agree (none_called mid then tables) (λ number at. absurd at) merging)
 
   job_edit_too : (edit : List Field) → IsJobEdit cmp job old mid next last_sequence edit → IsJobEdit cmp job (with_files old whole) (with_files mid then) next last_sequence edit
   job_edit_too edit e = record {
@@ -183,48 +191,48 @@ module _ {K C : Type 0} (cmp : List ℕ → List ℕ → Ordering) (job : Job K 
 
 module _ {K C : Type 0} (order : Order) (job : Job K C) (next last_sequence : ℕ) (fits : next < 2 ^ 64) (numbered : AreNumbered job.outputs next) (old mid : Facts) (w : WritesTables old mid (IsNumberAtHand job.outputs)) (manifest : CurrentManifest) where
   abbrev pub InstallEach : Facts → List PlacedTable → Result (Installed K) FlushError → Type 0
-  InstallEach new tables r = OfEach (λ whole behind. HasSameOutputs job.outputs old.files whole → InstallLeaves order job (with_files old whole) (with_files new behind) next last_sequence manifest tables r) old.files new.files
+  InstallEach new tables r = OfEach (λ whole behind. HasSameOutputs job.outputs old.files whole → HaveStayed job.outputs old → InstallLeaves order job (with_files old whole) (with_files new behind) next last_sequence manifest tables r) old.files new.files
 
   abbrev pub OwnsEach : Facts → List PlacedTable → Result (Installed K) FlushError → Type 0
-  OwnsEach new tables r = OfEach (λ whole behind. HasSameOutputs job.outputs old.files whole → InstallPutsOwn order job (with_files old whole) (with_files new behind) next last_sequence manifest tables r) old.files new.files
+  OwnsEach new tables r = OfEach (λ whole behind. HasSameOutputs job.outputs old.files whole → HaveStayed job.outputs old → InstallPutsOwn order job (with_files old whole) (with_files new behind) next last_sequence manifest tables r) old.files new.files
 
   -- no edit is ready
   pub none_each : IsTotalOrder order.cmp → (tables : List PlacedTable) (e : DbError) → RefusesEdit e order.cmp job old mid next last_sequence tables → InstallEach mid tables (Err (Before e))
-  none_each total tables e why whole behind d c outputs =
+  none_each total tables e why whole behind d c outputs stayed =
       leaves_none order job next last_sequence fits numbered (with_files old whole) (with_files mid behind) (writes_tables_too old mid whole behind c.stays (IsNumberAtHand job.outputs) w) manifest total tables e
-      (refuses_too order.cmp job next last_sequence numbered old mid whole behind outputs (λ number own. also old.files mid.files whole behind d c (table_name number) (outputs number own)) e tables why)
+      (refuses_too order.cmp job next last_sequence numbered old mid whole behind outputs stayed (λ number own. also old.files mid.files whole behind d c (table_name number) (outputs number own)) e tables why)
 
   module _ (new : Facts) (t : Touches mid new) (version : Placement) (prepared : PreparedJob K) (p : HasPreparedJob order.cmp job old mid next last_sequence version prepared) where
     pub ok_each : (end : ℕ) → AppendsEdit order mid new manifest.number (string_bytes manifest.name) manifest.end prepared.edit (Ok end)
         → InstallEach new version.tables (Ok (record { version = prepared.version; manifest_end = end }))
-    ok_each end r whole behind d c outputs =
+    ok_each end r whole behind d c outputs stayed =
         let s = same_change old.files mid.files whole d in
         let stays = stays_since old.files mid.files new.files whole s.0 behind s.1 c in
         leaves_ok order job next last_sequence fits numbered (with_files old whole) (with_files mid s.0) (writes_tables_too old mid whole s.0 s.1.stays (IsNumberAtHand job.outputs) w) manifest
         (with_files new behind) (touches_too mid new s.0 behind stays t) version prepared
-        (prepared_too order.cmp job next last_sequence numbered old mid whole s.0 outputs (λ number own. also old.files mid.files whole s.0 d s.1 (table_name number) (outputs number own)) version prepared p) end
+        (prepared_too order.cmp job next last_sequence numbered old mid whole s.0 outputs stayed (λ number own. also old.files mid.files whole s.0 d s.1 (table_name number) (outputs number own)) version prepared p) end
         (edit_too order mid new s.0 behind s.2 (differs_after old.files new.files whole behind d c) stays manifest.number (string_bytes manifest.name) manifest.end prepared.edit (Ok end) r)
 
     pub maybe_each : SameManifestLaw → (e : DbError) → (e ≡ OutOfMemory) ⊎ (e ≡ Io) → AppendsEdit order mid new manifest.number (string_bytes manifest.name) manifest.end prepared.edit (Err e)
         → InstallEach new version.tables (Err (edit_refusal e))
-    maybe_each same e which r whole behind d c outputs =
+    maybe_each same e which r whole behind d c outputs stayed =
         let s = same_change old.files mid.files whole d in
         let stays = stays_since old.files mid.files new.files whole s.0 behind s.1 c in
         leaves_maybe order job next last_sequence fits numbered (with_files old whole) (with_files mid s.0) (writes_tables_too old mid whole s.0 s.1.stays (IsNumberAtHand job.outputs) w) manifest
         (with_files new behind) (touches_too mid new s.0 behind stays t) version prepared
-        (prepared_too order.cmp job next last_sequence numbered old mid whole s.0 outputs (λ number own. also old.files mid.files whole s.0 d s.1 (table_name number) (outputs number own)) version prepared p)
+        (prepared_too order.cmp job next last_sequence numbered old mid whole s.0 outputs stayed (λ number own. also old.files mid.files whole s.0 d s.1 (table_name number) (outputs number own)) version prepared p)
         same e which
         (edit_too order mid new s.0 behind s.2 (differs_after old.files new.files whole behind d c) stays manifest.number (string_bytes manifest.name) manifest.end prepared.edit (Err e) r)
 
     -- whose tables it puts in
     pub owns_each : SameManifestLaw → (e : DbError) → (e ≡ OutOfMemory) ⊎ (e ≡ Io) → AppendsEdit order mid new manifest.number (string_bytes manifest.name) manifest.end prepared.edit (Err e)
         → OwnsEach new version.tables (Err (edit_refusal e))
-    owns_each same e which r whole behind d c outputs =
+    owns_each same e which r whole behind d c outputs stayed =
         let s = same_change old.files mid.files whole d in
         let stays = stays_since old.files mid.files new.files whole s.0 behind s.1 c in
         owns_maybe order job next last_sequence fits numbered (with_files old whole) (with_files mid s.0) (writes_tables_too old mid whole s.0 s.1.stays (IsNumberAtHand job.outputs) w) manifest
         (with_files new behind) (touches_too mid new s.0 behind stays t) version prepared
-        (prepared_too order.cmp job next last_sequence numbered old mid whole s.0 outputs (λ number own. also old.files mid.files whole s.0 d s.1 (table_name number) (outputs number own)) version prepared p)
+        (prepared_too order.cmp job next last_sequence numbered old mid whole s.0 outputs stayed (λ number own. also old.files mid.files whole s.0 d s.1 (table_name number) (outputs number own)) version prepared p)
         same e which
         (edit_too order mid new s.0 behind s.2 (differs_after old.files new.files whole behind d c) stays manifest.number (string_bytes manifest.name) manifest.end prepared.edit (Err e) r)
 
@@ -232,13 +240,13 @@ module _ {K C : Type 0} (order : Order) (job : Job K C) (next last_sequence : �
 
 module _ {K C : Type 0} (order : Order) (job : Job K C) (next last_sequence : ℕ) (fits : next < 2 ^ 64) (numbered : AreNumbered job.outputs next) (old mid : Facts) (w : WritesTables old mid (IsNumberAtHand job.outputs)) (manifest : CurrentManifest) (f : IsTrue mid.faithful) where
   abbrev pub StoppedEach : List PlacedTable → Files → Type 0
-  StoppedEach tables files = OfEach (λ whole behind. HasSameOutputs job.outputs old.files whole → InstallMayLeave order job (with_files old whole) next last_sequence manifest tables behind) old.files files
+  StoppedEach tables files = OfEach (λ whole behind. HasSameOutputs job.outputs old.files whole → HaveStayed job.outputs old → InstallMayLeave order job (with_files old whole) next last_sequence manifest tables behind) old.files files
 
   -- while the last table is ended
   pub table_stopped_each : (tables : List PlacedTable) → LeavesOnly old mid (StoppedEach tables)
   table_stopped_each tables =
       leaves_so old mid (KeepsBut old.files (IsTableName (IsNumberAtHand job.outputs))) (StoppedEach tables)
-      (λ files kept whole behind d c outputs.
+      (λ files kept whole behind d c outputs stayed.
       let there = with_files old whole in
       let stopped = writes-stopped there behind (IsNumberAtHand job.outputs) (w.faithful f) (λ q out. c.stays q (kept q out)) in
       (table_stopped order job next last_sequence fits numbered there (stopped_at there behind) stopped manifest refl tables).now) (w.calls f).leaves
@@ -251,6 +259,6 @@ module _ {K C : Type 0} (order : Order) (job : Job K C) (next last_sequence : �
       let P = StoppedEach version.tables in
       leaves_both old mid new P (table_stopped_each version.tables)
       (leaves_so mid new _ P
-      (λ files left whole behind d c outputs deep came dir inputs rest can.
+      (λ files left whole behind d c outputs stayed deep came dir inputs rest can.
       maybe_each order job next last_sequence fits numbered old mid w manifest (stopped_at mid files) (record { faithful = λ g. f; failures = omega arith; denials = refl; locked = refl }) version prepared p
-      same Io (inr refl) left whole behind d c outputs refl deep came dir inputs rest can) edit)
+      same Io (inr refl) left whole behind d c outputs stayed refl deep came dir inputs rest can) edit)

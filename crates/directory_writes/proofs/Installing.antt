@@ -30,13 +30,13 @@ use Rattle.compact.specs.declared.job.Job.{Job}
 use Rattle.directory_writes.specs.internal.Calls.{Touches}
 use Rattle.directory_writes.specs.Replacing.{placed_in}
 use Rattle.directory_writes.specs.internal.Flush.{IsCorrupt, RefusesVersion, edit_refusal}
-use Rattle.directory_writes.specs.internal.Install.{AreOldOrOwn, CanInstall, HasPreparedJob, InstallLeaves, InstallMayLeave, InstallMeans, InstallPutsOwn, InstallTouches, IsJobEdit, RefusesEdit}
+use Rattle.directory_writes.specs.internal.Install.{AreOldOrOwn, CanInstall, HasPreparedJob, InstallLeaves, InstallMayLeave, InstallMayPutOwn, InstallMeans, InstallPutsOwn, InstallTouches, IsJobEdit, RefusesEdit}
 use Rattle.directory_writes.specs.internal.Manifest.{AppendsEdit}
 use Rattle.directory_writes.specs.declared.flush.FlushError.TheVariants.{Before}
 use Rattle.directory_writes.specs.declared.install.PreparedJob.{PreparedJob}
 use Rattle.directory_writes.specs.declared.manifest.CurrentManifest.{CurrentManifest}
 use Rattle.directory_writes.proofs.AfterEdits.{PutsIn, all_edit}
-use Rattle.directory_writes.proofs.Installs.{IsFit, after, compaction, installed_ok, kept_tables, maybe_installed, maybe_own, outputs_put, served_mid, uninstalled, uninstalled_still}
+use Rattle.directory_writes.proofs.Installs.{IsFit, after, compaction, installed_ok, kept_tables, maybe_installed, maybe_own, outputs_put, same_tables, served_mid, uninstalled, uninstalled_still}
 use Rattle.directory_writes.proofs.Rooms.{are_apart, lie_apart}
 
 -- ---- which files change
@@ -161,6 +161,15 @@ module _ {K C : Type 0} (order : Order) (job : Job K C) (next last_sequence : �
       let left = uninstalled order job next last_sequence fits numbered old (stopped_at old files) stopped refl deep manifest tables came d inputs rest can in
       record { either = inl (left.served.consistent, left.kept); free = left.served.free }) (w.calls f).leaves
 
+  -- whose tables the directory has then: its own
+  pub table_stopped_own : (tables : List PlacedTable) → LeavesOnly old mid (InstallMayPutOwn order job old next last_sequence manifest tables)
+  table_stopped_own tables =
+      leaves_so old mid (KeepsBut old.files (IsTableName (IsNumberAtHand job.outputs))) (InstallMayPutOwn order job old next last_sequence manifest tables)
+      (λ files kept deep came d inputs rest can x good placed there.
+      let stopped = writes-stopped old files (IsNumberAtHand job.outputs) (w.faithful f) kept in
+      let left = uninstalled order job next last_sequence fits numbered old (stopped_at old files) stopped refl deep manifest tables came d inputs rest can in
+      inl (subst (λ (ps : List PlacedTable). Contains ps placed) (same_tables order files x d good left.served.consistent) there)) (w.calls f).leaves
+
   -- while the edit is put behind the MANIFEST
   pub install_stopped : SameManifestLaw → (new : Facts) (version : Placement) (prepared : PreparedJob K) (p : HasPreparedJob order.cmp job old mid next last_sequence version prepared)
       → LeavesOnly mid new (λ files. AppendsEdit order mid (stopped_at mid files) manifest.number (string_bytes manifest.name) manifest.end prepared.edit (Err Io))
@@ -172,3 +181,14 @@ module _ {K C : Type 0} (order : Order) (job : Job K C) (next last_sequence : �
       (λ files left deep came d inputs rest can.
       leaves_maybe order job next last_sequence fits numbered old mid w manifest (stopped_at mid files) (record { faithful = λ g. f; failures = omega arith; denials = refl; locked = refl }) version prepared p
       same Io (inr refl) left refl deep came d inputs rest can) edit)
+
+  pub install_stopped_own : SameManifestLaw → (new : Facts) (version : Placement) (prepared : PreparedJob K) (p : HasPreparedJob order.cmp job old mid next last_sequence version prepared)
+      → LeavesOnly mid new (λ files. AppendsEdit order mid (stopped_at mid files) manifest.number (string_bytes manifest.name) manifest.end prepared.edit (Err Io))
+      → LeavesOnly old new (InstallMayPutOwn order job old next last_sequence manifest version.tables)
+  install_stopped_own same new version prepared p edit =
+      let P = InstallMayPutOwn order job old next last_sequence manifest version.tables in
+      leaves_both old mid new P (table_stopped_own version.tables)
+      (leaves_so mid new _ P
+      (λ files left deep came d inputs rest can.
+      owns_maybe order job next last_sequence fits numbered old mid w manifest (stopped_at mid files) (record { faithful = λ g. f; failures = omega arith; denials = refl; locked = refl }) version prepared p
+      same Io (inr refl) left refl refl deep came d inputs rest can) edit)

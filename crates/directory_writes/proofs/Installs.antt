@@ -34,7 +34,7 @@ use Rattle.recover.proofs.Flushing.{kept_by}
 use Rattle.recover.proofs.OneMeaning.{same_directory}
 use Rattle.recover.proofs.Memberships.{from_chosen, from_rest, in_part}
 use Rattle.compact.specs.JobEdits.{IsEditOf, gone, placed_at}
-use Rattle.compact.specs.Outputs.{AreNumbered, IsDrawnNumber, IsNumberAtHand, IsOwn, WritesTables, table_name}
+use Rattle.compact.specs.Outputs.{AreNumbered, IsDrawnNumber, IsNumberAtHand, WritesTables, table_name}
 use Rattle.compact.specs.declared.job.Job.{Job}
 use Rattle.directory_writes.specs.Replacing.{placed_in}
 use Rattle.directory_writes.specs.internal.Compactions.{IsJobDone, IsJobPut}
@@ -120,6 +120,10 @@ among_fit : (n : ℕ) (tables : List PlacedTable) (p : PlacedTable) → AllByRec
 among_fit n [] p h a = absurd a
 among_fit n (t ∷ tables) p h (inl e) = (let lt = h.0.1 in omega (arith, lt, ap (λ (q : PlacedTable). q.table.number) e))
 among_fit n (t ∷ tables) p h (inr a) = among_fit n tables p h.1 a
+
+-- files are one directory at most
+pub same_tables : (order : Order) (files : Files) (x y : Directory) → IsConsistent order files x → IsConsistent order files y → x.layout.tables.items ≡ y.layout.tables.items
+same_tables order files x y a b = sym a.placed ∙ ap placed_in (same_directory order files x y a b).3 ∙ b.placed
 
 -- ---- the layout behind it
 
@@ -356,9 +360,6 @@ module _ {K C : Type 0} (order : Order) (job : Job K C) (next last_sequence : �
     old_placed placed there =
         subst (λ (ps : List PlacedTable). Contains ps placed) can.served.consistent.placed (All-contains (Contains (placed_in d.tables)) tables placed can.served.listed.only there)
 
-    same_layout : (new : Files) (x y : Directory) → IsConsistent order new x → IsConsistent order new y → x.layout.tables.items ≡ y.layout.tables.items
-    same_layout new x y a b = sym a.placed ∙ ap placed_in (same_directory order new x y a b).3 ∙ b.placed
-
     -- a table of a directory that is left has no MANIFEST's name, so that its file is as it was
     file_behind : (new : Facts) → KeepsOthers mid.files new.files (string_bytes manifest.name) → (x : Directory) → IsConsistent order new.files x → (placed : PlacedTable) → Contains x.layout.tables.items placed
         → get new.files (table_name placed.table.number) ≡ get mid.files (table_name placed.table.number)
@@ -375,10 +376,10 @@ module _ {K C : Type 0} (order : Order) (job : Job K C) (next last_sequence : �
     maybe_own same new g r left leads own synced x good placed there = elim (r.device g refl d.edits d.layout after can_add) [
       | inl has ↦
           let kept = has_kept new.files (r.others g) same (subst (λ (k : ℕ). HasManifest order new.files k d.edits d.layout) can.served.number has) in
-          inl (subst (λ (ps : List PlacedTable). Contains ps placed) (same_layout new.files x d good kept.0) there)
+          inl (subst (λ (ps : List PlacedTable). Contains ps placed) (same_tables order new.files x d good kept.0) there)
       | inr has ↦
           let is = has_installed new.files (r.others g) (subst (λ (k : ℕ). HasManifest order new.files k (d.edits ++ edit ∷ []) after) can.served.number has) in
-          let here : Contains (placed_in contents) placed = subst (λ (ps : List PlacedTable). Contains ps placed) (same_layout new.files x (result new.files (r.others g)) good is.consistent) there in
+          let here : Contains (placed_in contents) placed = subst (λ (ps : List PlacedTable). Contains ps placed) (same_tables order new.files x (result new.files (r.others g)) good is.consistent) there in
           let in_left = All-contains (Contains left) (placed_in contents) placed (listed_behind left leads).all here in
           elim (own placed in_left) [
             | inl old ↦ inl (old_placed placed old)

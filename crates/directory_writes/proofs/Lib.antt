@@ -30,6 +30,7 @@ pub mod PlanParts
 pub mod PlansClosed
 pub mod PlansKept
 pub mod PlansMade
+pub mod Putting
 pub mod Ranks
 pub mod RemovedEach
 pub mod Replacing
@@ -41,3 +42,4 @@ pub mod Sparing
 pub mod StoreCalls
 pub mod TableEdits
 pub mod TableFiles
+pub mod Taking

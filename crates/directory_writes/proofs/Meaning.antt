@@ -25,7 +25,7 @@ use Rattle.recover.proofs.Keeping.{keep_manifest, live_of}
 use Rattle.recover.proofs.NewLogs.{log_there}
 use Rattle.directory_writes.specs.internal.Calls.{LeavesFile}
 use Rattle.directory_writes.specs.Removal.{IsLiveAmong, IsDead}
-use Rattle.directory_writes.specs.internal.Removal.{LosesOnly, RemovesDead, AreOfDirectory, KeepsParts, StaysConsistent}
+use Rattle.directory_writes.specs.internal.Removal.{LosesDeadOnly, RemovesDead, AreOfDirectory, KeepsParts, StaysConsistent}
 use Rattle.directory_writes.specs.declared.removal.Removal.{Removal}
 use Rattle.directory_writes.proofs.Cleaning.{read_newer}
 use Rattle.directory_writes.proofs.Losing.{loses_as}
@@ -135,11 +135,11 @@ module _ (numbers : LiveNumbers) (in_use : ℕ → Type 0) (old mid : Facts) (ca
   pub meaning_unstopped : LeavesOnly old mid (StaysConsistent numbers in_use old.files)
   meaning_unstopped = leaves_same old mid (StaysConsistent numbers in_use old.files) calls same (λ order d h are. h)
 
-  pub meaning_stopped : FreeChangeLaw → (live : FileName → Type 0) → ((file : FileName) → IsFileName file → IsLiveAmong old.files numbers in_use file → live file) → (new : Facts) → LeavesOnly mid new (LosesOnly mid.files live)
+  pub meaning_stopped : FreeChangeLaw → (live : FileName → Type 0) → ((file : FileName) → IsFileName file → IsLiveAmong old.files numbers in_use file → live file) → (new : Facts) → LeavesOnly mid new (LosesDeadOnly mid.files live)
       → LeavesOnly old new (StaysConsistent numbers in_use old.files)
   meaning_stopped law live back new h =
       leaves_both old mid new (StaysConsistent numbers in_use old.files) meaning_unstopped
-      (leaves_so mid new (LosesOnly mid.files live) (StaysConsistent numbers in_use old.files)
+      (leaves_so mid new (LosesDeadOnly mid.files live) (StaysConsistent numbers in_use old.files)
       (λ files left order d h are.
       (keeps_parts order numbers in_use old.files files
-      (loses_as live (IsLiveAmong old.files numbers in_use) back old.files files (subst (λ (fs : Files). LosesOnly fs live files) same left)) d h are law).consistent) h)
+      (loses_as live (IsLiveAmong old.files numbers in_use) back old.files files (subst (λ (fs : Files). LosesDeadOnly fs live files) same left)) d h are law).consistent) h)

@@ -14,7 +14,7 @@ use Rattle.recover.specs.Directory.{Directory, IsConsistent}
 use Rattle.recover.specs.internal.Laws.{FreeChangeLaw}
 use Rattle.directory_writes.specs.Differing.{DiffersInTables, IsSameChange, OfEach}
 use Rattle.directory_writes.specs.Removal.{HasBoth, IsLiveAmong}
-use Rattle.directory_writes.specs.internal.Removal.{AreOfDirectory, KeepsParts, LosesOnly, RemovesDead, StaysConsistent}
+use Rattle.directory_writes.specs.internal.Removal.{AreOfDirectory, KeepsParts, LosesDeadOnly, RemovesDead, StaysConsistent}
 use Rattle.directory_writes.specs.declared.removal.Removal.{Removal}
 use Rattle.directory_writes.proofs.Losing.{loses_as}
 use Rattle.directory_writes.proofs.Meaning.{keeps_parts}
@@ -38,7 +38,7 @@ module _ (numbers : LiveNumbers) (in_use : ℕ → Type 0) where
   live_too files whole d (Manifest n) alive = alive
   live_too files whole d (Temporary n) alive = alive
 
-  loses_too : (old new whole behind : Files) → DiffersInTables old whole → IsSameChange old new whole behind → LosesOnly old (IsLiveAmong old numbers in_use) new → LosesOnly whole (IsLiveAmong whole numbers in_use) behind
+  loses_too : (old new whole behind : Files) → DiffersInTables old whole → IsSameChange old new whole behind → LosesDeadOnly old (IsLiveAmong old numbers in_use) new → LosesDeadOnly whole (IsLiveAmong whole numbers in_use) behind
   loses_too old new whole behind d c loses q = elim (loses q) [
     | inl same ↦ inl (c.stays q same)
     | inr dead ↦ inr (
@@ -47,7 +47,7 @@ module _ (numbers : LiveNumbers) (in_use : ℕ → Type 0) where
     )
   ]
 
-  pub keeps_each : FreeChangeLaw → (old new : Files) → LosesOnly old (IsLiveAmong old numbers in_use) new
+  pub keeps_each : FreeChangeLaw → (old new : Files) → LosesDeadOnly old (IsLiveAmong old numbers in_use) new
       → OfEach (λ whole behind. (order : Order) (d : Directory) → IsConsistent order whole d → AreOfDirectory numbers in_use d → KeepsParts order whole behind in_use d) old new
   keeps_each law old new loses whole behind d c order dir h are = keeps_parts order numbers in_use whole behind (loses_too old new whole behind d c loses) dir h are law
 
@@ -72,10 +72,10 @@ module _ (numbers : LiveNumbers) (in_use : ℕ → Type 0) where
     unremoved_each = leaves_same old mid (StaysEach old.files) calls same
         (λ whole behind d c order dir h are. let P : Files → Type 0 = λ fs. IsConsistent order fs dir in subst P (sym (unchanged_too old.files old.files whole behind c refl)) h)
 
-    pub removed_each : FreeChangeLaw → (live : FileName → Type 0) → ((file : FileName) → IsFileName file → IsLiveAmong old.files numbers in_use file → live file) → (new : Facts) → LeavesOnly mid new (LosesOnly mid.files live)
+    pub removed_each : FreeChangeLaw → (live : FileName → Type 0) → ((file : FileName) → IsFileName file → IsLiveAmong old.files numbers in_use file → live file) → (new : Facts) → LeavesOnly mid new (LosesDeadOnly mid.files live)
         → LeavesOnly old new (StaysEach old.files)
     removed_each law live back new h =
         leaves_both old mid new (StaysEach old.files) unremoved_each
-        (leaves_so mid new (LosesOnly mid.files live) (StaysEach old.files)
+        (leaves_so mid new (LosesDeadOnly mid.files live) (StaysEach old.files)
         (λ files left whole behind d c order dir h are.
-        (keeps_each law old.files files (loses_as live (IsLiveAmong old.files numbers in_use) back old.files files (subst (λ (fs : Files). LosesOnly fs live files) same left)) whole behind d c order dir h are).consistent) h)
+        (keeps_each law old.files files (loses_as live (IsLiveAmong old.files numbers in_use) back old.files files (subst (λ (fs : Files). LosesDeadOnly fs live files) same left)) whole behind d c order dir h are).consistent) h)

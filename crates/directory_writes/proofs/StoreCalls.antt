@@ -1,5 +1,5 @@
 -- Calls of the store, and what is synced by them.
-use Rattle.std.proofs.Common.{Bool, true, false, cond, if◌then◌else◌, ◌≡◌, ◌≢◌, ◌⊎◌, ℕ, List, [], ◌∷◌, ◌++◌, length, take, Option, None, Ok, Err, IsTrue, inl, inr, refl, sym, ap, ◌∙◌, arith}
+use Rattle.std.proofs.Common.{Bool, true, false, cond, ◌≡◌, ◌≢◌, ◌⊎◌, ℕ, List, [], ◌∷◌, ◌++◌, length, take, Option, None, Ok, Err, IsTrue, inl, inr, refl, sym, ap, ◌∙◌, arith}
 use Rattle.std.specs.Cmp.{tied_itself}
 use Rattle.std.specs.Cmp.Lexicographic.{slice_cmp, nat_list_cmp_total}
 use Rattle.std.specs.Ordering.{is_eq, nat_cmp, eq_by_cmp}
@@ -10,8 +10,9 @@ use Rattle.store.specs.Files.{Call, Creation, Sync, disk_of, Facts, Files, Synce
 use Rattle.store.specs.Calls.{Adds, Idles, Keeps, KeepsSynced, Changes, ChangesSynced}
 use Rattle.store.specs.declared.error.StoreError.{StoreError}
 use Rattle.store.specs.declared.error.StoreError.TheVariants as store_error
-use Rattle.store.specs.Losses.{behind_sync, is_sync}
+use Rattle.store.specs.Losses.{behind_sync}
 use Rattle.store.specs.Stops.{WritesOnly}
+use Rattle.store.proofs.Staying.{behind_more}
 use Rattle.store.proofs.Stopping.{others_noted}
 use Rattle.recover.proofs.NamedFiles.{get_other, same_name}
 use Rattle.table.specs.Writing.{SyncsOnly}
@@ -150,11 +151,7 @@ created_unsynced old new name is = ap (λ (s : Synced). s name) is ∙ with_same
 
 -- ---- the calls since the last sync
 
-behind_more : (since calls : List Call) (call : Call) → is_sync call.change ≡ true → behind_sync since (calls ++ call ∷ []) ≡ []
-behind_more since [] call is = ap (λ (b : Bool). if b then [] else since ++ call ∷ []) is
-behind_more since (first ∷ calls) call is = behind_more (if is_sync first.change then [] else since ++ first ∷ []) calls call is
-
 -- behind a sync there are none
 pub behind_added : (old new : Facts) (name : List ℕ) → Adds old new (Sync name) → behind_sync [] new.calls ≡ []
 behind_added old new name adds =
-    ap (λ (calls : List Call). behind_sync [] calls) adds.0 ∙ behind_more [] old.calls (record { found = disk_of old; change = Sync name }) refl
+    ap (λ (calls : List Call). behind_sync [] calls) adds.0 ∙ behind_more [] old.calls (record { found = disk_of old; change = Sync name } ∷ [])

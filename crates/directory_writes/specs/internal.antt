@@ -11,4 +11,5 @@ pub mod Level0
 pub mod LogFile
 pub mod Manifest
 pub mod Planned
+pub mod Putting
 pub mod Removal

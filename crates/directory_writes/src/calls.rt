@@ -6,7 +6,7 @@ ghost use Rattle.coding.specs.declared.error.DbError.TheVariants.{OutOfMemory, I
 ghost use Rattle.recover.specs.Reading.{IsCounted};
 ghost use Rattle.store.specs.Calls.{Adds, FailsAsWrite, Idles};
 ghost use Rattle.store.specs.Files.{AppendsBeginning, Creation};
-ghost use Rattle.store.specs.Losses.{CarriesBut, behind_sync};
+ghost use Rattle.store.specs.Losses.{CarriesBut, PutsSynced, behind_sync};
 ghost use Rattle.store.specs.Stops.{LeavesOnly, WritesOnly};
 ghost use Rattle.directory_writes.specs.internal.Calls.{Touches, IsRefusalOf, Creates, AppendsSynced};
 
@@ -54,6 +54,7 @@ pub fn append_synced<S: Store>(store: &mut S, name: &str, bytes: &[u8]) -> Resul
     ensures stops { IsTrue (S.facts store.new).faithful → LeavesOnly (S.facts store.old) (S.facts store.new)
         (λ files. AppendsBeginning (S.facts store.old).files files name.now bytes.now) }
     ensures carries { IsTrue (S.facts store.new).faithful → CarriesBut (S.facts store.old) (S.facts store.new) (λ (q : List ℕ). ⊥) }
+    ensures puts { IsTrue (S.facts store.new).faithful → PutsSynced (S.facts store.old) (S.facts store.new) name.now bytes.now }
     ensures ends { IsTrue (S.facts store.new).faithful → OnOk result (behind_sync [] (S.facts store.new).calls ≡ []) }
 {
     if let Err(error) = store.append(name, bytes) {

@@ -14,8 +14,9 @@ ghost use Rattle.store.specs.Losses.{CarriesBut, behind_sync};
 ghost use Rattle.store.specs.Stops.{LeavesOnly};
 ghost use Rattle.directory_writes.specs.Differing.{OfEach, with_files};
 ghost use Rattle.directory_writes.specs.internal.Flush.{DrawsTable, Prepares, RefusesNewTable, RefusesVersion, edit_refusal};
-ghost use Rattle.directory_writes.specs.internal.Flush.{FlushTouches, RefusesFlush, SparesManifest, SyncsFlush, AnswersVersion, FlushLeaves, FlushMayLeave};
+ghost use Rattle.directory_writes.specs.internal.Flush.{FlushTouches, RefusesFlush, SparesManifest, SyncsFlush, AnswersVersion, FlushLeaves, FlushMayLeave, IsTableKeptNow};
 ghost use Rattle.directory_writes.specs.internal.Level0.{HaveSequences};
+ghost use Rattle.directory_writes.specs.internal.Putting.{WritesThenPuts};
 
 use crate::flush_edits::flush_edit;
 use crate::level0::write_level0;
@@ -114,6 +115,8 @@ pub fn flush_memory<K: KeyOrder, S: Store>(
         memory.now.inserts version.now.tables after) (S.facts store.old).files files) }
     ensures carries { IsTrue (S.facts store.new).faithful → CarriesBut (S.facts store.old) (S.facts store.new)
         (λ (q : List ℕ). q ≡ name_of (Table numbers.old.next)) }
+    ensures puts { IsTrue (S.facts store.new).faithful → WritesThenPuts (S.facts store.old) (S.facts store.new)
+        (λ (q : List ℕ). q ≡ name_of (Table numbers.old.next)) (string_bytes manifest.now.name) (IsTableKeptNow numbers.old.next) }
     ensures ends { IsTrue (S.facts store.new).faithful → OnOk result (behind_sync [] (S.facts store.new).calls ≡ []) }
 {
     // Laws, for the proof alone.
@@ -147,6 +150,7 @@ fn prepare<K: KeyOrder, S: Store>(
     requires sequences { HaveSequences memory.now.inserts }
     requires sequence { plan.last_sequence < 2 ^ 56 }
     ensures writes { Writes (S.facts store.old) (S.facts store.new) (name_of (Table numbers.old.next)) }
+    ensures ends { IsTrue (S.facts store.new).faithful → OnOk result (behind_sync [] (S.facts store.new).calls ≡ []) }
     ensures stood { OnOk result ((S.facts store.new).failures ≡ (S.facts store.old).failures) }
     ensures refused { IfErr result (λ error. RefusesNewTable error (S.facts store.old)
         (S.facts store.new) memory.now.inserts version.now.tables numbers.old.next numbers.new.next) }

@@ -1,17 +1,18 @@
 //! The end of a job: its outputs come in the place of its inputs (LevelDB's db/db_impl.cc, InstallCompactionResults).
 
-ghost use Rattle.std.specs.Prelude.{◌≡◌, ◌<◌, ◌^◌, [], IfOk, IfErr, IsTrue, OnOk, string_bytes};
+ghost use Rattle.std.specs.Prelude.{◌≡◌, ◌⊎◌, ◌<◌, ◌^◌, [], IfOk, IfErr, IsTrue, OnOk, string_bytes};
 ghost use Rattle.std.specs.FinMap.{get};
 ghost use Rattle.ikey.specs.Orders.{order_of};
 ghost use Rattle.compact.specs.JobEdits.{IsPlanProper};
 ghost use Rattle.compact.specs.Outputs.{AreNumbered, IsNumberAtHand, IsTableName, WritesTables};
-ghost use Rattle.store.specs.Calls.{FailsAsWrite};
+ghost use Rattle.store.specs.Calls.{FailsAsWrite, Idles};
 ghost use Rattle.store.specs.Losses.{CarriesBut, behind_sync};
 ghost use Rattle.store.specs.Stops.{LeavesOnly};
 ghost use Rattle.directory_writes.specs.Differing.{OfEach, with_files};
-ghost use Rattle.directory_writes.specs.internal.Each.{HasSameOutputs};
+ghost use Rattle.directory_writes.specs.internal.Each.{HasSameOutputs, HaveStayed};
 ghost use Rattle.directory_writes.specs.internal.Flush.{SparesManifest};
-ghost use Rattle.directory_writes.specs.internal.Install.{HasJobVersion, HasPreparedJob, InstallLeaves, InstallMayLeave, InstallPutsOwn, InstallSyncs, InstallTouches, RefusesEdit, RefusesInstall};
+ghost use Rattle.directory_writes.specs.internal.Install.{AreOutputsKept, HasJobVersion, HasPreparedJob, InstallLeaves, InstallMayLeave, InstallMayPutOwn, InstallPutsOwn, InstallSyncs, InstallTouches, RefusesEdit, RefusesInstall};
+ghost use Rattle.directory_writes.specs.internal.Putting.{WritesThenPuts};
 
 use crate::flush::{FlushError, edit_refusal, version_after};
 use crate::manifest::{CurrentManifest, append_edit};
@@ -73,19 +74,25 @@ pub fn install_job<K: KeyOrder, C: Drop, S: Store>(
         (IsTableName (IsNumberAtHand job.outputs)) result }
     ensures leaves { InstallLeaves (order_of K.name K.cmp) job (S.facts store.old)
         (S.facts store.new) numbers.now.next last_sequence manifest.now version.now.tables result }
-    ensures leaves_each { OfEach (λ whole after. HasSameOutputs job.outputs (S.facts store.old).files whole → InstallLeaves (order_of K.name K.cmp) job
-        (with_files (S.facts store.old) whole) (with_files (S.facts store.new) after) numbers.now.next last_sequence manifest.now version.now.tables result)
+    ensures leaves_each { OfEach (λ whole after. HasSameOutputs job.outputs (S.facts store.old).files whole → HaveStayed job.outputs (S.facts store.old)
+        → InstallLeaves (order_of K.name K.cmp) job (with_files (S.facts store.old) whole) (with_files (S.facts store.new) after) numbers.now.next last_sequence manifest.now version.now.tables result)
         (S.facts store.old).files (S.facts store.new).files }
-    ensures owns_each { OfEach (λ whole after. HasSameOutputs job.outputs (S.facts store.old).files whole
+    ensures owns_each { OfEach (λ whole after. HasSameOutputs job.outputs (S.facts store.old).files whole → HaveStayed job.outputs (S.facts store.old)
         → InstallPutsOwn (order_of K.name K.cmp) job (with_files (S.facts store.old) whole) (with_files (S.facts store.new) after)
         numbers.now.next last_sequence manifest.now version.now.tables result) (S.facts store.old).files (S.facts store.new).files }
     ensures stops { IsTrue (S.facts store.new).faithful → LeavesOnly (S.facts store.old) (S.facts store.new)
         (InstallMayLeave (order_of K.name K.cmp) job (S.facts store.old) numbers.now.next last_sequence manifest.now version.now.tables) }
+    ensures stops_own { IsTrue (S.facts store.new).faithful → LeavesOnly (S.facts store.old) (S.facts store.new)
+        (InstallMayPutOwn (order_of K.name K.cmp) job (S.facts store.old) numbers.now.next last_sequence manifest.now version.now.tables) }
     ensures stops_each { IsTrue (S.facts store.new).faithful → LeavesOnly (S.facts store.old) (S.facts store.new)
-        (λ files. OfEach (λ whole after. HasSameOutputs job.outputs (S.facts store.old).files whole → InstallMayLeave (order_of K.name K.cmp) job
-        (with_files (S.facts store.old) whole) numbers.now.next last_sequence manifest.now version.now.tables after) (S.facts store.old).files files) }
+        (λ files. OfEach (λ whole after. HasSameOutputs job.outputs (S.facts store.old).files whole → HaveStayed job.outputs (S.facts store.old)
+        → InstallMayLeave (order_of K.name K.cmp) job (with_files (S.facts store.old) whole) numbers.now.next last_sequence
+        manifest.now version.now.tables after) (S.facts store.old).files files) }
     ensures carries { IsTrue (S.facts store.new).faithful → CarriesBut (S.facts store.old) (S.facts store.new)
         (IsTableName (IsNumberAtHand job.outputs)) }
+    ensures puts { IsTrue (S.facts store.new).faithful → WritesThenPuts (S.facts store.old) (S.facts store.new)
+        (IsTableName (IsNumberAtHand job.outputs)) (string_bytes manifest.now.name)
+        (AreOutputsKept K.cmp job (S.facts store.old) numbers.now.next) }
     ensures ends { IsTrue (S.facts store.new).faithful → OnOk result (behind_sync [] (S.facts store.new).calls ≡ []) }
 {
     // Laws, for the proof alone.
@@ -122,6 +129,10 @@ fn prepare_job<K: KeyOrder, C: Drop, S: Store>(
         (S.facts store.new) numbers.now.next last_sequence version.now.tables) }
     ensures prepared { IfOk result (λ prepared. HasPreparedJob K.cmp job (S.facts store.old)
         (S.facts store.new) numbers.now.next last_sequence version.now prepared) }
+    ensures kept { IsTrue (S.facts store.new).faithful → OnOk result (AreOutputsKept K.cmp job (S.facts store.old) numbers.now.next
+        (S.facts store.new)) }
+    ensures ends { IsTrue (S.facts store.new).faithful → OnOk result ((behind_sync [] (S.facts store.new).calls ≡ [])
+        ⊎ Idles (S.facts store.old) (S.facts store.new)) }
 {
     let edit = job.finish(alloc, store, numbers, last_sequence)?;
     let version = version_after(alloc, version, &edit)?;

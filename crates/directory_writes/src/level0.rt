@@ -1,6 +1,6 @@
 //! A memory table as a table file of level 0 (LevelDB's db/builder.cc, BuildTable).
 
-ghost use Rattle.std.specs.Prelude.{◌≡◌, ◌<◌, ◌≤◌, ◌^◌, ◌++◌, ◌∷◌, [], ℕ, List, Some, None, IsTrue, IsSome, IfOk, IfErr, OnOk, length};
+ghost use Rattle.std.specs.Prelude.{◌≡◌, ◌<◌, ◌^◌, ◌++◌, ◌∷◌, [], ℕ, List, Some, None, IsTrue, IsSome, IfOk, IfErr, OnOk, length};
 ghost use Rattle.std.specs.FinMap.{get};
 ghost use Rattle.compact.specs.Rooms.{AreLarge};
 ghost use Rattle.edits.specs.Edit.{IsInternal, IsTableProper};
@@ -17,6 +17,7 @@ ghost use Rattle.edits.specs.declared.names.FileName.TheVariants.{Table};
 ghost use Rattle.edits.specs.Names.{name_of};
 ghost use Rattle.recover.specs.Tables.{internal_key};
 ghost use Rattle.versions.specs.Levels.{IsRange};
+ghost use Rattle.store.specs.Losses.{behind_sync};
 ghost use Rattle.table.specs.Building.{Builds, MayFollow, last_added};
 ghost use Rattle.table.specs.Reading.{HasFile};
 ghost use Rattle.table.specs.Writing.{Writes, WriteRefuses, IsTableOf, NeedsLongBlock};
@@ -53,6 +54,7 @@ pub fn write_level0<K: KeyOrder, S: Store>(
     ensures range { IfOk result (λ table. IsRange K.cmp (record { level = 0; table = table })) }
     ensures synced { OnOk result (IsTrue (S.facts store.new).faithful
         → (S.facts store.new).synced (name_of (Table number)) ≡ get (S.facts store.new).files (name_of (Table number))) }
+    ensures ends { IsTrue (S.facts store.new).faithful → OnOk result (behind_sync [] (S.facts store.new).calls ≡ []) }
     ensures stood { OnOk result ((S.facts store.new).failures ≡ (S.facts store.old).failures) }
     ensures refused { IfErr result (λ e. WriteRefuses e (S.facts store.old) (S.facts store.new)
         (IsTooLarge (S.facts store.new) memory.now.inserts)) }
@@ -111,6 +113,7 @@ fn write_entries<K: KeyOrder, S: Store>(
         × (size ≡ length file) × IsTableOf K.cmp file (pairs_of (ordered K.cmp memory.now.inserts))) }
     ensures synced { OnOk result (IsTrue (S.facts store.new).faithful
         → (S.facts store.new).synced name.now ≡ get (S.facts store.new).files name.now) }
+    ensures ends { IsTrue (S.facts store.new).faithful → OnOk result (behind_sync [] (S.facts store.new).calls ≡ []) }
     ensures stood { OnOk result ((S.facts store.new).failures ≡ (S.facts store.old).failures) }
     ensures refused { IfErr result (λ e. WriteRefuses e (S.facts store.old) (S.facts store.new)
         (IsTooLarge (S.facts store.new) memory.now.inserts)) }

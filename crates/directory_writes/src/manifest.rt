@@ -6,7 +6,7 @@ ghost use Rattle.ikey.specs.Orders.{Order};
 ghost use Rattle.edits.specs.Edit.{IsProper, IsInOrder};
 ghost use Rattle.recover.specs.Reading.{IsCounted};
 ghost use Rattle.store.specs.Calls.{FailsAsWrite};
-ghost use Rattle.store.specs.Losses.{CarriesBut, behind_sync};
+ghost use Rattle.store.specs.Losses.{CarriesBut, PutsSynced, behind_sync};
 ghost use Rattle.store.specs.Stops.{LeavesOnly, stopped_at};
 ghost use Rattle.directory_writes.specs.internal.Calls.{Touches};
 ghost use Rattle.directory_writes.specs.internal.Manifest.{AppendsEdit, SyncsEdit};
@@ -53,6 +53,8 @@ pub fn append_edit<S: Store>(
         (λ files. AppendsEdit order (S.facts store.old) (stopped_at (S.facts store.old) files) manifest.now.number
         (string_bytes manifest.now.name) manifest.now.end edit.now (Err Io)) }
     ensures carries { IsTrue (S.facts store.new).faithful → CarriesBut (S.facts store.old) (S.facts store.new) (λ (q : List ℕ). ⊥) }
+    ensures puts { IsTrue (S.facts store.new).faithful → (bytes : List ℕ) × PutsSynced (S.facts store.old) (S.facts store.new)
+        (string_bytes manifest.now.name) bytes }
     ensures ends { IsTrue (S.facts store.new).faithful → OnOk result (behind_sync [] (S.facts store.new).calls ≡ []) }
 {
     // Laws, for the proof alone.

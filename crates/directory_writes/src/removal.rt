@@ -10,14 +10,13 @@ ghost use Rattle.edits.specs.declared.names.FileName.{FileName as FileNameValue}
 ghost use Rattle.recover.specs.Directory.{Directory, IsConsistent};
 ghost use Rattle.recover.specs.Reading.{ReadsDirectory, IsCounted};
 ghost use Rattle.store.specs.Calls.{FailsNoWrite};
-ghost use Rattle.store.specs.Losses.{CarriesBut};
-ghost use Rattle.store.specs.Stops.{LeavesOnly};
+ghost use Rattle.store.specs.Stops.{LeavesOnly, WritesOnly};
 ghost use Rattle.directory_writes.specs.Differing.{OfEach};
 ghost use Rattle.directory_writes.specs.internal.Calls.{Touches};
 ghost use Rattle.directory_writes.specs.internal.Removal as removal;
 ghost use Rattle.directory_writes.specs.internal.Removal.{AreBoth, AreOfDirectory, AreOlder, AreToClose, HasOlderToo, HasTwo, IsLeft};
 ghost use Rattle.directory_writes.specs.Removal.{HasBoth, IsDead, IsLiveAmong, IsLiveFile};
-ghost use Rattle.directory_writes.specs.internal.Removal.{KeepsParts, KeepsTable, LeavesFew, ListsToClose, LosesOnly, RefusesList, RemovesNamed, RemovesDead, StaysConsistent};
+ghost use Rattle.directory_writes.specs.internal.Removal.{KeepsParts, KeepsTable, LeavesFew, ListsToClose, LosesDeadOnly, RefusesList, RemovesNamed, RemovesDead, StaysConsistent};
 
 use coding::DbError;
 use edits::{FileName, parse_name};
@@ -80,7 +79,7 @@ pub fn remove_files<S: Store, L: LiveTables>(
         (StaysConsistent numbers.now (L.has live.now) (S.facts store.old).files) }
     ensures stops_each { IsTrue (S.facts store.new).faithful → LeavesOnly (S.facts store.old) (S.facts store.new)
         (λ files. OfEach (λ whole after. StaysConsistent numbers.now (L.has live.now) whole after) (S.facts store.old).files files) }
-    ensures carries { IsTrue (S.facts store.new).faithful → CarriesBut (S.facts store.old) (S.facts store.new)
+    ensures only { IsTrue (S.facts store.new).faithful → WritesOnly (S.facts store.old) (S.facts store.new)
         (IsDead (IsLiveAmong (S.facts store.old).files numbers.now (L.has live.now))) }
 {
     // Laws, for the proof alone.
@@ -283,8 +282,8 @@ fn remove_listed<S: Store, L: LiveTables>(
         → Lists (S.facts store.old).files (map string_bytes names.now) → IsTrue (S.facts store.new).faithful → (n : ℕ) → IsNumbered n
         → KeepsTable (S.facts store.old) (S.facts store.new) (L.has live.now) n }
     ensures stops { IsTrue (S.facts store.new).faithful → LeavesOnly (S.facts store.old) (S.facts store.new)
-        (LosesOnly (S.facts store.old).files (IsLiveFile numbers.now (L.has live.now) (λ n. Contains both.now n))) }
-    ensures carries { IsTrue (S.facts store.new).faithful → CarriesBut (S.facts store.old) (S.facts store.new)
+        (LosesDeadOnly (S.facts store.old).files (IsLiveFile numbers.now (L.has live.now) (λ n. Contains both.now n))) }
+    ensures only { IsTrue (S.facts store.new).faithful → WritesOnly (S.facts store.old) (S.facts store.new)
         (IsDead (IsLiveFile numbers.now (L.has live.now) (λ n. Contains both.now n))) }
 {
     if !remove_turn(store, names, numbers, live, both, false) {
@@ -309,8 +308,8 @@ fn remove_turn<S: Store, L: LiveTables>(
     ensures few { LeavesFew (S.facts store.old) (S.facts store.new)
         (IsLeft (IsLiveFile numbers.now (L.has live.now) (λ n. Contains both.now n)) (λ n. Contains both.now n) last) (λ _. ⊥) (λ name. Contains (map string_bytes names.now) name) }
     ensures stops { IsTrue (S.facts store.new).faithful → LeavesOnly (S.facts store.old) (S.facts store.new)
-        (LosesOnly (S.facts store.old).files (IsLiveFile numbers.now (L.has live.now) (λ n. Contains both.now n))) }
-    ensures carries { IsTrue (S.facts store.new).faithful → CarriesBut (S.facts store.old) (S.facts store.new)
+        (LosesDeadOnly (S.facts store.old).files (IsLiveFile numbers.now (L.has live.now) (λ n. Contains both.now n))) }
+    ensures only { IsTrue (S.facts store.new).faithful → WritesOnly (S.facts store.old) (S.facts store.new)
         (IsDead (IsLiveFile numbers.now (L.has live.now) (λ n. Contains both.now n))) }
 {
     let mut gone = true;
@@ -337,8 +336,8 @@ fn remove_dead<S: Store, L: LiveTables>(
     ensures few { LeavesFew (S.facts store.old) (S.facts store.new)
         (IsLeft (IsLiveFile numbers.now (L.has live.now) (λ n. Contains both.now n)) (λ n. Contains both.now n) last) (λ _. ⊥) (λ other. Contains (name.now ∷ []) other) }
     ensures stops { IsTrue (S.facts store.new).faithful → LeavesOnly (S.facts store.old) (S.facts store.new)
-        (LosesOnly (S.facts store.old).files (IsLiveFile numbers.now (L.has live.now) (λ n. Contains both.now n))) }
-    ensures carries { IsTrue (S.facts store.new).faithful → CarriesBut (S.facts store.old) (S.facts store.new)
+        (LosesDeadOnly (S.facts store.old).files (IsLiveFile numbers.now (L.has live.now) (λ n. Contains both.now n))) }
+    ensures only { IsTrue (S.facts store.new).faithful → WritesOnly (S.facts store.old) (S.facts store.new)
         (IsDead (IsLiveFile numbers.now (L.has live.now) (λ n. Contains both.now n))) }
 {
     let Some(file) = parse_name(name.as_bytes()) else {

@@ -1,10 +1,13 @@
 -- What the calls that change a directory make of each that differs from it in tables alone.
 use Rattle.std.specs.Prelude.{◌≡◌, ◌≤◌, ◌⊎◌, ℕ, List, IsTrue, Result}
 use Rattle.std.specs.FinMap.{get}
+use Rattle.std.specs.List.{AllByRecursion}
 use Rattle.coding.specs.declared.error.DbError.{DbError}
 use Rattle.ikey.specs.Orders.{Order}
 use Rattle.edits.specs.declared.field.Field.{Field}
+use Rattle.edits.specs.declared.field.TableFile.{TableFile}
 use Rattle.store.specs.Files.{Files, Facts, Appends, AppendsBeginning}
+use Rattle.store.specs.Losses.{StaysNamed}
 use Rattle.table.specs.Writing.{Writes}
 use Rattle.compact.specs.Outputs.{TablesWritten, IsMineUpTo, IsOwn, WritesTables, table_name}
 use Rattle.edits.specs.Names.{name_of, IsFileName}
@@ -67,3 +70,7 @@ FreeEachLaw = (order : Order) (files whole : Files) (next : ℕ) → DiffersInTa
 -- the tables that a job has written, ended or at hand, have the same files in both
 abbrev pub HasSameOutputs : TablesWritten → Files → Files → Type 0
 HasSameOutputs w files whole = (number : ℕ) → IsOwn w number → get whole (table_name number) ≡ get files (table_name number)
+
+-- since the last sync those that were ended have stayed under their names
+abbrev pub HaveStayed : TablesWritten → Facts → Type 0
+HaveStayed w facts = AllByRecursion (λ (table : TableFile). StaysNamed facts (table_name table.number)) w.closed

@@ -8,6 +8,7 @@ use Rattle.ikey.specs.declared.entry.Entry.{Entry}
 use Rattle.ikey.specs.Orders.{Order}
 use Rattle.ikey.specs.Sources.{SameEntries}
 use Rattle.store.specs.Files.{Files, Facts}
+use Rattle.store.specs.Losses.{behind_sync}
 use Rattle.edits.specs.Edit.{IsProper, IsInOrder, HasPastLimit}
 use Rattle.edits.specs.Layout.{fields_of, inserted, after_edit}
 use Rattle.edits.specs.Names.{name_of}
@@ -98,6 +99,10 @@ AnswersVersion cmp old next after result = IfOk result (λ flushed. (flushed.num
 pub record SyncsFlush {T E : Type 0} (new : Facts) (name manifest_name : List ℕ) (result : Result T E) : Type 0 where
   pub table : OnOk result (IsTrue new.faithful → name ≢ manifest_name → new.synced name ≡ get new.files name)
   pub manifest : OnOk result (IsTrue new.faithful → new.synced manifest_name ≡ get new.files manifest_name)
+
+-- The table is there, synced whole, and since that sync nothing was done.
+abbrev pub IsTableKeptNow : ℕ → Facts → Type 0
+IsTableKeptNow number facts = (behind_sync [] facts.calls ≡ []) × (facts.synced (name_of (Table number)) ≡ get facts.files (name_of (Table number)))
 
 -- ---- a table that is ready
 

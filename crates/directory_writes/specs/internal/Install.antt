@@ -10,6 +10,7 @@ use Rattle.ikey.specs.Entries.{InternalEntry, entry_of}
 use Rattle.ikey.specs.Orders.{Order}
 use Rattle.ikey.specs.Sources.{SameEntries}
 use Rattle.store.specs.Files.{Files, Facts}
+use Rattle.store.specs.Losses.{StaysNamed}
 use Rattle.edits.specs.Edit.{IsProper, IsInOrder}
 use Rattle.edits.specs.Layout.{after_edit}
 use Rattle.edits.specs.Names.{name_of}
@@ -87,6 +88,11 @@ AreOldOrOwn w old new = (placed : PlacedTable) → Contains new placed → Conta
 -- the file of this table is there, and is synced whole
 abbrev pub IsTableSynced : Facts → ℕ → Type 0
 IsTableSynced facts number = (file : List ℕ) × (get facts.files (table_name number) ≡ Some file) × (facts.synced (table_name number) ≡ Some file)
+
+-- The tables that the job has written are there then, synced whole and under their names.
+abbrev pub AreOutputsKept : {K C : Type 0} → (List ℕ → List ℕ → Ordering) → Job K C → Facts → ℕ → Facts → Type 0
+AreOutputsKept cmp job old next facts = (deep : List ℕ → Bool) (came : List InternalEntry) → IsMerging cmp deep job.last.items job.selection job.outputs old next came
+    → (number : ℕ) → IsOwn job.outputs number → IsTableSynced facts number × StaysNamed facts (table_name number)
 
 -- each of these tables is an old one, or is synced
 abbrev pub AreOldOrSynced : Facts → List PlacedTable → List PlacedTable → Type 0
@@ -200,6 +206,11 @@ abbrev pub InstallPutsOwn : {K C : Type 0} → Order → Job K C → Facts → F
 InstallPutsOwn order job old new next last_sequence manifest tables result =
     result ≡ Err Edit → IsTrue new.faithful → (deep : List ℕ → Bool) (came : List InternalEntry) (d : Directory) (inputs rest : List TableContent)
     → CanInstall order deep job old next last_sequence manifest tables came d inputs rest → PutsOwn order job.outputs new.files d
+
+-- A stop in its middle leaves what a failure of the device at the edit does.
+abbrev pub InstallMayPutOwn : {K C : Type 0} → Order → Job K C → Facts → ℕ → ℕ → CurrentManifest → List PlacedTable → Files → Type 0
+InstallMayPutOwn order job old next last_sequence manifest tables new = (deep : List ℕ → Bool) (came : List InternalEntry) (d : Directory) (inputs rest : List TableContent)
+    → CanInstall order deep job old next last_sequence manifest tables came d inputs rest → PutsOwn order job.outputs new d
 
 -- What the end of a job leaves of a directory, while the store is faithful.
 abbrev pub InstallLeaves : {K C : Type 0} → Order → Job K C → Facts → Facts → ℕ → ℕ → CurrentManifest → List PlacedTable → Result (Installed K) FlushError → Type 0

@@ -21,8 +21,8 @@ use Rattle.directory_writes.specs.declared.removal.Removal.{Removal}
 use Rattle.directory_writes.specs.Removal.{HasBoth, IsDead}
 
 -- each file is as before, or isn't live and is gone
-abbrev pub LosesOnly : Files → (FileName → Type 0) → Files → Type 0
-LosesOnly old live new = (name : List ℕ) → (get new name ≡ get old name) ⊎ (IsDead live name × (get new name ≡ None))
+abbrev pub LosesDeadOnly : Files → (FileName → Type 0) → Files → Type 0
+LosesDeadOnly old live new = (name : List ℕ) → (get new name ≡ get old name) ⊎ (IsDead live name × (get new name ≡ None))
 
 -- A file is as before, or isn't live and is gone. Where the removal is complete, none of these names is that of a file that is
 -- there and isn't live; and it is complete exactly where the store didn't fail.

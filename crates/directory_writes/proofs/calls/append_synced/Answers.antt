@@ -1,6 +1,7 @@
 use Rattle.std.proofs.Common.{Err, ℕ, List, arith}
-use Rattle.directory_writes.proofs.Carrying.{carries_begun, carries_put}
 use Rattle.directory_writes.proofs.StoreCalls.{not_appended, not_synced, appended, behind_added}
+use Rattle.store.proofs.Carrying.{carries_puts}
+use Rattle.store.proofs.LosingOn.{puts_begun, puts_by}
 use Rattle.store.proofs.Stopping.{append_left, sync_left}
 use Rattle.directory_writes.proofs.calls.append_synced.Goals as goal
 
@@ -45,27 +46,32 @@ returns-clause-stops g c f =
     sync_left old mid new c.args.name.now _ c.sync.result (c.sync.ensures.calls.ok f) (c.sync.ensures.calls.err f) (c.sync.ensures.same f)
     (append_left old mid c.args.name.now c.args.bytes.now (c.append.ensures.calls.noted (c.sync.ensures.counts.faithful f)))
 
+pub returns-in-Err-clause-puts : goal.returns-in-Err-clause-puts
+returns-in-Err-clause-puts g c f = puts_begun (g.S.Store.facts c.args.store.now) (g.S.Store.facts c.append.new.self) c.args.name.now c.args.bytes.now (c.append.ensures.synced f) (c.append.ensures.calls.noted f)
+
+pub returns-in-Err-sync-clause-puts : goal.returns-in-Err-sync-clause-puts
+returns-in-Err-sync-clause-puts g c f =
+    let early = c.sync.ensures.counts.faithful f in
+    puts_by (g.S.Store.facts c.args.store.now) (g.S.Store.facts c.append.new.self) (g.S.Store.facts c.sync.new.self) c.args.name.now c.args.bytes.now c.sync.result (c.append.ensures.synced early) (c.append.ensures.calls.noted early)
+    (c.sync.ensures.calls.ok f) (c.sync.ensures.calls.err f) (c.sync.ensures.same f) (c.sync.ensures.synced f) (c.sync.ensures.unsynced f)
+
+pub returns-clause-puts : goal.returns-clause-puts
+returns-clause-puts g c f =
+    let early = c.sync.ensures.counts.faithful f in
+    puts_by (g.S.Store.facts c.args.store.now) (g.S.Store.facts c.append.new.self) (g.S.Store.facts c.sync.new.self) c.args.name.now c.args.bytes.now c.sync.result (c.append.ensures.synced early) (c.append.ensures.calls.noted early)
+    (c.sync.ensures.calls.ok f) (c.sync.ensures.calls.err f) (c.sync.ensures.same f) (c.sync.ensures.synced f) (c.sync.ensures.unsynced f)
+
 pub returns-in-Err-clause-carries : goal.returns-in-Err-clause-carries
 returns-in-Err-clause-carries g c f =
-    carries_begun (g.S.Store.facts c.args.store.now) (g.S.Store.facts c.append.new.self) c.args.name.now c.args.bytes.now (λ (q : List ℕ). ⊥) (c.append.ensures.synced f) (c.append.ensures.calls.noted f)
+    carries_puts (g.S.Store.facts c.args.store.now) (g.S.Store.facts c.append.new.self) c.args.name.now c.args.bytes.now (λ (q : List ℕ). ⊥) (returns-in-Err-clause-puts g c f)
 
 pub returns-in-Err-sync-clause-carries : goal.returns-in-Err-sync-clause-carries
 returns-in-Err-sync-clause-carries g c f =
-    let old = g.S.Store.facts c.args.store.now in
-    let mid = g.S.Store.facts c.append.new.self in
-    let new = g.S.Store.facts c.sync.new.self in
-    let early = c.sync.ensures.counts.faithful f in
-    carries_put old mid new c.args.name.now c.args.bytes.now (λ (q : List ℕ). ⊥) c.sync.result (c.append.ensures.synced early) (c.append.ensures.calls.noted early)
-    (c.sync.ensures.calls.ok f) (c.sync.ensures.calls.err f) (c.sync.ensures.same f) (c.sync.ensures.unsynced f)
+    carries_puts (g.S.Store.facts c.args.store.now) (g.S.Store.facts c.sync.new.self) c.args.name.now c.args.bytes.now (λ (q : List ℕ). ⊥) (returns-in-Err-sync-clause-puts g c f)
 
 pub returns-clause-carries : goal.returns-clause-carries
 returns-clause-carries g c f =
-    let old = g.S.Store.facts c.args.store.now in
-    let mid = g.S.Store.facts c.append.new.self in
-    let new = g.S.Store.facts c.sync.new.self in
-    let early = c.sync.ensures.counts.faithful f in
-    carries_put old mid new c.args.name.now c.args.bytes.now (λ (q : List ℕ). ⊥) c.sync.result (c.append.ensures.synced early) (c.append.ensures.calls.noted early)
-    (c.sync.ensures.calls.ok f) (c.sync.ensures.calls.err f) (c.sync.ensures.same f) (c.sync.ensures.unsynced f)
+    carries_puts (g.S.Store.facts c.args.store.now) (g.S.Store.facts c.sync.new.self) c.args.name.now c.args.bytes.now (λ (q : List ℕ). ⊥) (returns-clause-puts g c f)
 
 pub returns-clause-ends : goal.returns-clause-ends
 returns-clause-ends g c f = behind_added (g.S.Store.facts c.append.new.self) (g.S.Store.facts c.sync.new.self) c.args.name.now (c.in_default-sync.ensures.calls.ok f)

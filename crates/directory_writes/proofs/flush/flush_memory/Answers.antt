@@ -1,14 +1,16 @@
-use Rattle.std.proofs.Common.{◌≡◌, ℕ, List, Err, sym, subst, string_bytes, arith}
+use Rattle.std.proofs.Common.{◌≡◌, inl, ℕ, List, Err, sym, subst, string_bytes, arith}
+use Rattle.std.specs.FinMap.{get}
 use Rattle.ikey.specs.Orders.{order_of}
 use Rattle.edits.specs.Names.{name_of}
 use Rattle.edits.specs.declared.names.FileName.TheVariants.{Table}
-use Rattle.directory_writes.specs.internal.Flush.{FlushLeaves, SparesManifest}
+use Rattle.directory_writes.specs.internal.Flush.{FlushLeaves, IsTableKeptNow, SparesManifest}
 use Rattle.directory_writes.specs.declared.flush.Flushed.{Flushed}
 use Rattle.directory_writes.specs.declared.flush.FlushError.{FlushError}
 use Rattle.store.proofs.Carrying.{carries_writes}
 use Rattle.directory_writes.proofs.Carrying.{carries_edit}
 use Rattle.directory_writes.proofs.FlushedEach.{FlushEach, flush_stopped_each, maybe_each, none_each, ok_each, table_stopped_each}
 use Rattle.directory_writes.proofs.Flushes.{touches_table, touches_both, syncs_both, flush_stopped, leaves_none, leaves_ok, leaves_maybe, table_stopped}
+use Rattle.directory_writes.proofs.Putting.{puts_edit, puts_none}
 use Rattle.directory_writes.proofs.Sparing.{spares_edit}
 use Rattle.directory_writes.proofs.flush.flush_memory.Goals as goal
 
@@ -160,6 +162,33 @@ pub returns-in-Err-append_edit-clause-carries : goal.returns-in-Err-append_edit-
 returns-in-Err-append_edit-clause-carries g c f =
     carries_edit (g.S.Store.facts c.args.store.now) (g.S.Store.facts c.prepare.new.store) (g.S.Store.facts c.append_edit.new.store) (λ (q : List ℕ). q ≡ name_of (Table c.args.numbers.now.next))
     (c.in-Ok.ensures.writes.calls (c.in-Err-append_edit.ensures.call.faithful f)) (c.in-Err-append_edit.ensures.carries f)
+
+-- ---- call by call
+
+pub returns-in-Err-clause-puts : goal.returns-in-Err-clause-puts
+returns-in-Err-clause-puts g c f =
+    puts_none (g.S.Store.facts c.args.store.now) (g.S.Store.facts c.prepare.new.store) (λ (q : List ℕ). q ≡ name_of (Table c.args.numbers.now.next)) (string_bytes c.args.manifest.now.name) (IsTableKeptNow c.args.numbers.now.next)
+    (c.in-Err.ensures.writes.calls f)
+
+pub returns-in-Ok-append_edit-clause-puts : goal.returns-in-Ok-append_edit-clause-puts
+returns-in-Ok-append_edit-clause-puts g c f =
+    let mid = g.S.Store.facts c.prepare.new.store in
+    let next = c.args.numbers.now.next in
+    let early = c.in-Ok-append_edit.ensures.call.faithful f in
+    let p = c.in-Ok.ensures.prepares in
+    let S : ℕ → Type 0 = λ number. mid.synced (name_of (Table number)) ≡ get mid.files (name_of (Table number)) in
+    puts_edit (g.S.Store.facts c.args.store.now) mid (g.S.Store.facts c.append_edit.new.store) (λ (q : List ℕ). q ≡ name_of (Table next)) (string_bytes c.args.manifest.now.name) (IsTableKeptNow next)
+    (c.in-Ok.ensures.writes.calls early) (inl (c.in-Ok.ensures.ends early)) (c.in-Ok.ensures.ends early, subst S p.0 (p.4.synced early)) (c.in-Ok-append_edit.ensures.puts f)
+
+pub returns-in-Err-append_edit-clause-puts : goal.returns-in-Err-append_edit-clause-puts
+returns-in-Err-append_edit-clause-puts g c f =
+    let mid = g.S.Store.facts c.prepare.new.store in
+    let next = c.args.numbers.now.next in
+    let early = c.in-Err-append_edit.ensures.call.faithful f in
+    let p = c.in-Ok.ensures.prepares in
+    let S : ℕ → Type 0 = λ number. mid.synced (name_of (Table number)) ≡ get mid.files (name_of (Table number)) in
+    puts_edit (g.S.Store.facts c.args.store.now) mid (g.S.Store.facts c.append_edit.new.store) (λ (q : List ℕ). q ≡ name_of (Table next)) (string_bytes c.args.manifest.now.name) (IsTableKeptNow next)
+    (c.in-Ok.ensures.writes.calls early) (inl (c.in-Ok.ensures.ends early)) (c.in-Ok.ensures.ends early, subst S p.0 (p.4.synced early)) (c.in-Err-append_edit.ensures.puts f)
 
 pub returns-in-Ok-append_edit-clause-ends : goal.returns-in-Ok-append_edit-clause-ends
 returns-in-Ok-append_edit-clause-ends g c f = c.in-Ok-append_edit.ensures.ends f

@@ -43,3 +43,6 @@ returns-clause-prepares g c =
         synced = c.in_ok-table.ensures.synced;
       },
     )
+
+pub returns-clause-ends : goal.returns-clause-ends
+returns-clause-ends g c f = c.in_ok-table.ensures.ends f

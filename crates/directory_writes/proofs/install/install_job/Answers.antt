@@ -3,13 +3,14 @@ use Rattle.ikey.specs.Orders.{order_of}
 use Rattle.compact.specs.Outputs.{IsNumberAtHand, IsTableName}
 use Rattle.directory_writes.specs.declared.install.Installed.{Installed}
 use Rattle.directory_writes.specs.internal.Flush.{SparesManifest}
-use Rattle.directory_writes.specs.internal.Install.{InstallLeaves}
+use Rattle.directory_writes.specs.internal.Install.{AreOutputsKept, InstallLeaves}
 use Rattle.directory_writes.specs.declared.flush.FlushError.{FlushError}
 use Rattle.store.proofs.Carrying.{carries_writes}
 use Rattle.directory_writes.proofs.Carrying.{carries_edit}
 use Rattle.directory_writes.proofs.InstallSynced.{synced_still}
 use Rattle.directory_writes.proofs.InstalledEach.{InstallEach, OwnsEach, install_stopped_each, maybe_each, none_each, ok_each, owns_each, table_stopped_each}
-use Rattle.directory_writes.proofs.Installing.{touches_job, install_stopped, leaves_none, leaves_ok, leaves_maybe, table_stopped}
+use Rattle.directory_writes.proofs.Installing.{touches_job, install_stopped, install_stopped_own, leaves_none, leaves_ok, leaves_maybe, table_stopped, table_stopped_own}
+use Rattle.directory_writes.proofs.Putting.{puts_edit, puts_none}
 use Rattle.directory_writes.proofs.Sparing.{spares_edit}
 use Rattle.directory_writes.proofs.install.install_job.Goals as goal
 
@@ -77,6 +78,25 @@ returns-in-Err-append_edit-clause-stops g c f =
     c.in-Ok.ensures.writes c.args.manifest.now (c.in-Err-append_edit.ensures.call.faithful f) c.same_manifest_law.ensures (g.S.Store.facts c.append_edit.new.store) c.args.version.now c.in-Ok.prepared c.in-Ok.ensures.prepared
     (c.in-Err-append_edit.ensures.stops f order)
 
+pub returns-in-Err-clause-stops_own : goal.returns-in-Err-clause-stops_own
+returns-in-Err-clause-stops_own g c f =
+    table_stopped_own (order_of g.K.KeyOrder.name g.K.KeyOrder.cmp) c.args.job c.args.numbers.now.next c.args.last_sequence c.args.numbers.now.in_range.1 c.requires.numbered (g.S.Store.facts c.args.store.now) (g.S.Store.facts c.prepare_job.new.store)
+    c.in-Err.ensures.writes c.args.manifest.now f c.args.version.now.tables
+
+pub returns-in-Ok-append_edit-clause-stops_own : goal.returns-in-Ok-append_edit-clause-stops_own
+returns-in-Ok-append_edit-clause-stops_own g c f =
+    let order = order_of g.K.KeyOrder.name g.K.KeyOrder.cmp in
+    install_stopped_own order c.args.job c.args.numbers.now.next c.args.last_sequence c.args.numbers.now.in_range.1 c.requires.numbered (g.S.Store.facts c.args.store.now) (g.S.Store.facts c.prepare_job.new.store)
+    c.in-Ok.ensures.writes c.args.manifest.now (c.in-Ok-append_edit.ensures.call.faithful f) c.same_manifest_law.ensures (g.S.Store.facts c.append_edit.new.store) c.args.version.now c.in-Ok.prepared c.in-Ok.ensures.prepared
+    (c.in-Ok-append_edit.ensures.stops f order)
+
+pub returns-in-Err-append_edit-clause-stops_own : goal.returns-in-Err-append_edit-clause-stops_own
+returns-in-Err-append_edit-clause-stops_own g c f =
+    let order = order_of g.K.KeyOrder.name g.K.KeyOrder.cmp in
+    install_stopped_own order c.args.job c.args.numbers.now.next c.args.last_sequence c.args.numbers.now.in_range.1 c.requires.numbered (g.S.Store.facts c.args.store.now) (g.S.Store.facts c.prepare_job.new.store)
+    c.in-Ok.ensures.writes c.args.manifest.now (c.in-Err-append_edit.ensures.call.faithful f) c.same_manifest_law.ensures (g.S.Store.facts c.append_edit.new.store) c.args.version.now c.in-Ok.prepared c.in-Ok.ensures.prepared
+    (c.in-Err-append_edit.ensures.stops f order)
+
 pub returns-in-Err-clause-spares : goal.returns-in-Err-clause-spares
 returns-in-Err-clause-spares g c f apart =
     let name = string_bytes c.args.manifest.now.name in
@@ -122,10 +142,10 @@ returns-in-Err-append_edit-clause-leaves_each g c =
     c.same_manifest_law.ensures c.in-Err-append_edit.error c.in-Err-append_edit.ensures.refused (c.in-Err-append_edit.ensures.appends order))
 
 pub returns-in-Err-clause-owns_each : goal.returns-in-Err-clause-owns_each
-returns-in-Err-clause-owns_each g c whole behind d same outputs is = absurd (cc)
+returns-in-Err-clause-owns_each g c whole behind d same outputs stayed is = absurd (cc)
 
 pub returns-in-Ok-append_edit-clause-owns_each : goal.returns-in-Ok-append_edit-clause-owns_each
-returns-in-Ok-append_edit-clause-owns_each g c whole behind d same outputs is = absurd (cc)
+returns-in-Ok-append_edit-clause-owns_each g c whole behind d same outputs stayed is = absurd (cc)
 
 pub returns-in-Err-append_edit-clause-owns_each : goal.returns-in-Err-append_edit-clause-owns_each
 returns-in-Err-append_edit-clause-owns_each g c =
@@ -172,6 +192,28 @@ pub returns-in-Err-append_edit-clause-carries : goal.returns-in-Err-append_edit-
 returns-in-Err-append_edit-clause-carries g c f =
     carries_edit (g.S.Store.facts c.args.store.now) (g.S.Store.facts c.prepare_job.new.store) (g.S.Store.facts c.append_edit.new.store) (IsTableName (IsNumberAtHand c.args.job.outputs))
     (c.in-Ok.ensures.writes.calls (c.in-Err-append_edit.ensures.call.faithful f)) (c.in-Err-append_edit.ensures.carries f)
+
+-- ---- call by call
+
+pub returns-in-Err-clause-puts : goal.returns-in-Err-clause-puts
+returns-in-Err-clause-puts g c f =
+    let old = g.S.Store.facts c.args.store.now in
+    puts_none old (g.S.Store.facts c.prepare_job.new.store) (IsTableName (IsNumberAtHand c.args.job.outputs)) (string_bytes c.args.manifest.now.name) (AreOutputsKept g.K.KeyOrder.cmp c.args.job old c.args.numbers.now.next)
+    (c.in-Err.ensures.writes.calls f)
+
+pub returns-in-Ok-append_edit-clause-puts : goal.returns-in-Ok-append_edit-clause-puts
+returns-in-Ok-append_edit-clause-puts g c f =
+    let old = g.S.Store.facts c.args.store.now in
+    let early = c.in-Ok-append_edit.ensures.call.faithful f in
+    puts_edit old (g.S.Store.facts c.prepare_job.new.store) (g.S.Store.facts c.append_edit.new.store) (IsTableName (IsNumberAtHand c.args.job.outputs)) (string_bytes c.args.manifest.now.name)
+    (AreOutputsKept g.K.KeyOrder.cmp c.args.job old c.args.numbers.now.next) (c.in-Ok.ensures.writes.calls early) (c.in-Ok.ensures.ends early) (c.in-Ok.ensures.kept early) (c.in-Ok-append_edit.ensures.puts f)
+
+pub returns-in-Err-append_edit-clause-puts : goal.returns-in-Err-append_edit-clause-puts
+returns-in-Err-append_edit-clause-puts g c f =
+    let old = g.S.Store.facts c.args.store.now in
+    let early = c.in-Err-append_edit.ensures.call.faithful f in
+    puts_edit old (g.S.Store.facts c.prepare_job.new.store) (g.S.Store.facts c.append_edit.new.store) (IsTableName (IsNumberAtHand c.args.job.outputs)) (string_bytes c.args.manifest.now.name)
+    (AreOutputsKept g.K.KeyOrder.cmp c.args.job old c.args.numbers.now.next) (c.in-Ok.ensures.writes.calls early) (c.in-Ok.ensures.ends early) (c.in-Ok.ensures.kept early) (c.in-Err-append_edit.ensures.puts f)
 
 pub returns-in-Ok-append_edit-clause-ends : goal.returns-in-Ok-append_edit-clause-ends
 returns-in-Ok-append_edit-clause-ends g c f = c.in-Ok-append_edit.ensures.ends f

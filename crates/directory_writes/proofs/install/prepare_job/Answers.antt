@@ -48,3 +48,11 @@ returns-in_err-version-clause-refused g c =
       of_plan = made.of_plan;
       finished = made.finished;
     }) c.in_err-version.ensures.refused)
+
+pub returns-clause-kept : goal.returns-clause-kept
+returns-clause-kept g c f deep came merging number own =
+    let kept = c.in_ok-edit.ensures.kept deep came f merging number own in
+    ((kept.0, kept.1, kept.2), kept.3)
+
+pub returns-clause-ends : goal.returns-clause-ends
+returns-clause-ends g c f = c.in_ok-edit.ensures.ends f

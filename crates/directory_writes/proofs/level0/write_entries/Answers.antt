@@ -60,3 +60,6 @@ returns-clause-written g c = λ t.
     let w = c.in_ok-size.ensures.written (pairs_of (ordered cmp c.args.memory.now.inserts)) before built in
     let named = c.in_ok-add_entries.ensures.name ∙ c.in_ok-builder.ensures.name in
     (w.0, ap (λ (f : Files). get f name) (c.in_ok-sync.ensures.files t) ∙ subst (λ (n : List ℕ). get d.files n ≡ Some w.0) named w.1, w.2, w.3)
+
+pub returns-clause-ends : goal.returns-clause-ends
+returns-clause-ends g c f = c.in_ok-sync.ensures.ends f

@@ -33,3 +33,6 @@ pub returns-clause-range : goal.returns-clause-range
 returns-clause-range g c =
     key_range g.K.KeyOrder.cmp c.args.memory.now.inserts c.requires.sequences c.rises.ensures c.in-Some.first c.in-Some-last.last (sym c.in-Some.is ∙ c.first.ensures.first) (sym c.in-Some-last.is ∙ c.last.ensures.last)
     c.in_ok-smallest.smallest c.in_ok-largest.largest c.in_ok-smallest.ensures.key c.in_ok-largest.ensures.key
+
+pub returns-clause-ends : goal.returns-clause-ends
+returns-clause-ends g c f = c.in_ok-size.ensures.ends f

@@ -1,8 +1,10 @@
-use Rattle.std.proofs.Common.{◌≡◌, ◌+◌, ℕ, List, length, Result, Ok, Err, refl, sym, subst, string_bytes, arith, rules}
+use Rattle.std.proofs.Common.{◌≡◌, ◌+◌, ℕ, List, [], length, Result, Ok, Err, inl, refl, sym, subst, string_bytes, arith, rules}
 use Rattle.coding.specs.declared.error.DbError.{DbError}
 use Rattle.edits.specs.Edit.{IsEdit}
 use Rattle.store.specs.Files.{AppendsBeginning}
+use Rattle.store.specs.Losses.{PutsSynced}
 use Rattle.store.specs.Stops.{LeavesOnly}
+use Rattle.store.proofs.LosingOn.{puts_begun}
 use Rattle.directory_writes.specs.internal.Calls.{AppendsSynced}
 use Rattle.directory_writes.specs.internal.Manifest.{AppendsEdit}
 use Rattle.directory_writes.proofs.Carrying.{carries_none}
@@ -100,6 +102,25 @@ returns-in_err-append_synced-clause-carries g c f = c.in_err-append_synced.ensur
 
 pub returns-clause-carries : goal.returns-clause-carries
 returns-clause-carries g c f = c.in_ok-append_synced.ensures.carries f
+
+pub returns-in_err-payload-clause-puts : goal.returns-in_err-payload-clause-puts
+returns-in_err-payload-clause-puts g c f = ([], puts_begun (g.S.Store.facts c.args.store.now) (g.S.Store.facts c.args.store.now) (string_bytes c.args.manifest.now.name) [] refl (inl (refl, refl)))
+
+pub returns-in_err-record-clause-puts : goal.returns-in_err-record-clause-puts
+returns-in_err-record-clause-puts g c f = ([], puts_begun (g.S.Store.facts c.args.store.now) (g.S.Store.facts c.args.store.now) (string_bytes c.args.manifest.now.name) [] refl (inl (refl, refl)))
+
+pub returns-in_default-clause-puts : goal.returns-in_default-clause-puts
+returns-in_default-clause-puts g c f = ([], puts_begun (g.S.Store.facts c.args.store.now) (g.S.Store.facts c.args.store.now) (string_bytes c.args.manifest.now.name) [] refl (inl (refl, refl)))
+
+pub returns-in_err-append_synced-clause-puts : goal.returns-in_err-append_synced-clause-puts
+returns-in_err-append_synced-clause-puts g c f =
+    let N : List ℕ → Type 0 = λ name. PutsSynced (g.S.Store.facts c.args.store.now) (g.S.Store.facts c.append_synced.new.store) name c.deref-2.result.now in
+    (c.deref-2.result.now, subst N c.as_str.ensures.value (c.in_err-append_synced.ensures.puts f))
+
+pub returns-clause-puts : goal.returns-clause-puts
+returns-clause-puts g c f =
+    let N : List ℕ → Type 0 = λ name. PutsSynced (g.S.Store.facts c.args.store.now) (g.S.Store.facts c.append_synced.new.store) name c.deref-2.result.now in
+    (c.deref-2.result.now, subst N c.as_str.ensures.value (c.in_ok-append_synced.ensures.puts f))
 
 pub returns-clause-ends : goal.returns-clause-ends
 returns-clause-ends g c f = c.in_ok-append_synced.ensures.ends f

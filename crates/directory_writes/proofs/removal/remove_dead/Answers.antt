@@ -1,12 +1,13 @@
-use Rattle.std.proofs.Common.{ℕ, inl, inr, sym, ◌∙◌}
+use Rattle.std.proofs.Common.{ℕ, inl, inr, refl, sym, ◌∙◌}
 use Rattle.std.specs.Prelude.{Contains}
+use Rattle.store.proofs.Stopping.{others_same}
 use Rattle.edits.specs.declared.names.FileName.{FileName}
 use Rattle.directory_writes.specs.internal.Removal.{IsLeft}
 use Rattle.directory_writes.specs.Removal.{IsDead, IsLiveFile}
-use Rattle.directory_writes.proofs.Carrying.{carries_asked, carries_none}
 use Rattle.directory_writes.proofs.Cleaning.{asked, live_stays, other_turn, this_turn}
 use Rattle.directory_writes.proofs.Losing.{loses_asked, loses_none}
 use Rattle.directory_writes.proofs.FewLeft.{few_asked, few_live, few_other}
+use Rattle.directory_writes.proofs.Taking.{removed_only}
 use Rattle.directory_writes.proofs.removal.remove_dead.Goals as goal
 
 pub returns-then-is_live-clause-removes : goal.returns-then-is_live-clause-removes
@@ -81,18 +82,18 @@ returns-clause-stops g c f =
     loses_asked (IsLiveFile c.args.numbers.now (g.L.LiveTables.has c.args.live.now) (λ n. Contains c.args.both.now n)) (g.S.Store.facts c.args.store.now) (g.S.Store.facts c.remove.new.self) c.args.name.now
     (c.in-Some.file, c.in-Some.ensures.found.0, sym c.as_bytes.ensures.value ∙ c.in-Some.ensures.found.1, c.if-is_live.ensures) (c.remove.ensures.calls.noted f)
 
-pub returns-then-is_live-clause-carries : goal.returns-then-is_live-clause-carries
-returns-then-is_live-clause-carries g c f = carries_none (g.S.Store.facts c.args.store.now) (IsDead (IsLiveFile c.args.numbers.now (g.L.LiveTables.has c.args.live.now) (λ n. Contains c.args.both.now n)))
+pub returns-then-is_live-clause-only : goal.returns-then-is_live-clause-only
+returns-then-is_live-clause-only g c f = others_same (g.S.Store.facts c.args.store.now) (g.S.Store.facts c.args.store.now) (IsDead (IsLiveFile c.args.numbers.now (g.L.LiveTables.has c.args.live.now) (λ n. Contains c.args.both.now n))) refl refl refl
 
-pub returns-then-has_two-last-clause-carries : goal.returns-then-has_two-last-clause-carries
-returns-then-has_two-last-clause-carries g c f = carries_none (g.S.Store.facts c.args.store.now) (IsDead (IsLiveFile c.args.numbers.now (g.L.LiveTables.has c.args.live.now) (λ n. Contains c.args.both.now n)))
+pub returns-then-has_two-last-clause-only : goal.returns-then-has_two-last-clause-only
+returns-then-has_two-last-clause-only g c f = others_same (g.S.Store.facts c.args.store.now) (g.S.Store.facts c.args.store.now) (IsDead (IsLiveFile c.args.numbers.now (g.L.LiveTables.has c.args.live.now) (λ n. Contains c.args.both.now n))) refl refl refl
 
-pub returns-in_default-clause-carries : goal.returns-in_default-clause-carries
-returns-in_default-clause-carries g c f = carries_none (g.S.Store.facts c.args.store.now) (IsDead (IsLiveFile c.args.numbers.now (g.L.LiveTables.has c.args.live.now) (λ n. Contains c.args.both.now n)))
+pub returns-in_default-clause-only : goal.returns-in_default-clause-only
+returns-in_default-clause-only g c f = others_same (g.S.Store.facts c.args.store.now) (g.S.Store.facts c.args.store.now) (IsDead (IsLiveFile c.args.numbers.now (g.L.LiveTables.has c.args.live.now) (λ n. Contains c.args.both.now n))) refl refl refl
 
-pub returns-clause-carries : goal.returns-clause-carries
-returns-clause-carries g c f =
+pub returns-clause-only : goal.returns-clause-only
+returns-clause-only g c f =
     let live : FileName → Type 0 = IsLiveFile c.args.numbers.now (g.L.LiveTables.has c.args.live.now) (λ n. Contains c.args.both.now n) in
     let has : ℕ → Type 0 = λ n. Contains c.args.both.now n in
-    carries_asked live (IsLeft live has c.args.last) (λ file alive. inl alive) (g.S.Store.facts c.args.store.now) (g.S.Store.facts c.remove.new.self) c.args.name.now
+    removed_only live (IsLeft live has c.args.last) (λ file alive. inl alive) (g.S.Store.facts c.args.store.now) (g.S.Store.facts c.remove.new.self) c.args.name.now
     (c.in-Some.file, c.in-Some.ensures.found.0, sym c.as_bytes.ensures.value ∙ c.in-Some.ensures.found.1, c.if-is_live.ensures) ((returns-clause-removes g c).files f) (c.remove.ensures.calls.noted f)

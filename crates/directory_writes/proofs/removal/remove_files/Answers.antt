@@ -4,14 +4,12 @@ use Rattle.std.specs.Prelude.{Contains}
 use Rattle.std.specs.declared.alloc.Global.{Global}
 use Rattle.coding.specs.declared.error.DbError.TheVariants.{OutOfMemory}
 use Rattle.store.specs.Files.{Files, Lists}
-use Rattle.store.specs.Losses.{CarriesBut}
-use Rattle.store.specs.Stops.{LeavesOnly}
-use Rattle.store.proofs.Carrying.{carries_same}
+use Rattle.store.specs.Stops.{LeavesOnly, WritesOnly}
+use Rattle.store.proofs.Stopping.{others_behind, others_more, others_same}
 use Rattle.edits.specs.Names.{IsNumbered}
 use Rattle.edits.specs.declared.names.FileName.{FileName}
-use Rattle.directory_writes.specs.internal.Removal.{AreBoth, AreOlder, AreToClose, HasOlderToo, HasTwo, KeepsTable, LeavesFew, LosesOnly, RemovesNamed}
+use Rattle.directory_writes.specs.internal.Removal.{AreBoth, AreOlder, AreToClose, HasOlderToo, HasTwo, KeepsTable, LeavesFew, LosesDeadOnly, RemovesNamed}
 use Rattle.directory_writes.specs.Removal.{IsDead, IsLiveAmong, IsLiveFile}
-use Rattle.directory_writes.proofs.Carrying.{carries_as}
 use Rattle.directory_writes.proofs.Cleaning.{Knows, all_live, knows_both, lists_to_close, removes_all, removes_as, removes_refused, same_live, table_from, table_kept}
 use Rattle.directory_writes.proofs.FewLeft.{Among, few_all, few_as}
 use Rattle.directory_writes.proofs.Meaning.{keeps_meaning, meaning_stopped, meaning_unstopped}
@@ -176,7 +174,7 @@ returns-clause-stops g c f =
     let mid = g.S.Store.facts c.list_names.new.store in
     let new = g.S.Store.facts c.remove_listed-complete.new.store in
     let early = c.remove_listed-complete.ensures.call.faithful f in
-    let B : List ℕ → Type 0 = λ bs. LeavesOnly mid new (LosesOnly mid.files (live bs)) in
+    let B : List ℕ → Type 0 = λ bs. LeavesOnly mid new (LosesDeadOnly mid.files (live bs)) in
     meaning_stopped c.args.numbers.now in_use old mid (c.in_ok-names.ensures.store.calls early) (c.in_ok-names.ensures.store.same early) c.free_change_law.ensures (live both)
     (λ file is. (same_live c.args.numbers.now in_use old.files both (knows g c early) file is).1) new (subst B c.deref-7.ensures.value (c.remove_listed-complete.ensures.stops f))
 
@@ -243,34 +241,34 @@ returns-clause-stops_each g c f =
     let mid = g.S.Store.facts c.list_names.new.store in
     let new = g.S.Store.facts c.remove_listed-complete.new.store in
     let early = c.remove_listed-complete.ensures.call.faithful f in
-    let B : List ℕ → Type 0 = λ bs. LeavesOnly mid new (LosesOnly mid.files (live bs)) in
+    let B : List ℕ → Type 0 = λ bs. LeavesOnly mid new (LosesDeadOnly mid.files (live bs)) in
     removed_each c.args.numbers.now in_use old mid (c.in_ok-names.ensures.store.calls early) (c.in_ok-names.ensures.store.same early) c.free_change_law.ensures (live both)
     (λ file is. (same_live c.args.numbers.now in_use old.files both (knows g c early) file is).1) new (subst B c.deref-7.ensures.value (c.remove_listed-complete.ensures.stops f))
 
--- ---- which names stay through it
+-- ---- which files it takes away
 
-pub returns-in_err-names-clause-carries : goal.returns-in_err-names-clause-carries
-returns-in_err-names-clause-carries g c f =
-    carries_same (g.S.Store.facts c.args.store.now) (g.S.Store.facts c.list_names.new.store) (IsDead (IsLiveAmong (g.S.Store.facts c.args.store.now).files c.args.numbers.now (g.L.LiveTables.has c.args.live.now)))
+pub returns-in_err-names-clause-only : goal.returns-in_err-names-clause-only
+returns-in_err-names-clause-only g c f =
+    others_same (g.S.Store.facts c.args.store.now) (g.S.Store.facts c.list_names.new.store) (IsDead (IsLiveAmong (g.S.Store.facts c.args.store.now).files c.args.numbers.now (g.L.LiveTables.has c.args.live.now)))
     (c.in_err-names.ensures.store.calls f) (c.in_err-names.ensures.store.same f) (c.in_err-names.ensures.store.synced f)
 
-pub returns-in_err-older-clause-carries : goal.returns-in_err-older-clause-carries
-returns-in_err-older-clause-carries g c f =
-    carries_same (g.S.Store.facts c.args.store.now) (g.S.Store.facts c.list_names.new.store) (IsDead (IsLiveAmong (g.S.Store.facts c.args.store.now).files c.args.numbers.now (g.L.LiveTables.has c.args.live.now)))
+pub returns-in_err-older-clause-only : goal.returns-in_err-older-clause-only
+returns-in_err-older-clause-only g c f =
+    others_same (g.S.Store.facts c.args.store.now) (g.S.Store.facts c.list_names.new.store) (IsDead (IsLiveAmong (g.S.Store.facts c.args.store.now).files c.args.numbers.now (g.L.LiveTables.has c.args.live.now)))
     (c.in_ok-names.ensures.store.calls f) (c.in_ok-names.ensures.store.same f) (c.in_ok-names.ensures.store.synced f)
 
-pub returns-in_err-tables-clause-carries : goal.returns-in_err-tables-clause-carries
-returns-in_err-tables-clause-carries g c f =
-    carries_same (g.S.Store.facts c.args.store.now) (g.S.Store.facts c.list_names.new.store) (IsDead (IsLiveAmong (g.S.Store.facts c.args.store.now).files c.args.numbers.now (g.L.LiveTables.has c.args.live.now)))
+pub returns-in_err-tables-clause-only : goal.returns-in_err-tables-clause-only
+returns-in_err-tables-clause-only g c f =
+    others_same (g.S.Store.facts c.args.store.now) (g.S.Store.facts c.list_names.new.store) (IsDead (IsLiveAmong (g.S.Store.facts c.args.store.now).files c.args.numbers.now (g.L.LiveTables.has c.args.live.now)))
     (c.in_ok-names.ensures.store.calls f) (c.in_ok-names.ensures.store.same f) (c.in_ok-names.ensures.store.synced f)
 
-pub returns-in_err-both-clause-carries : goal.returns-in_err-both-clause-carries
-returns-in_err-both-clause-carries g c f =
-    carries_same (g.S.Store.facts c.args.store.now) (g.S.Store.facts c.list_names.new.store) (IsDead (IsLiveAmong (g.S.Store.facts c.args.store.now).files c.args.numbers.now (g.L.LiveTables.has c.args.live.now)))
+pub returns-in_err-both-clause-only : goal.returns-in_err-both-clause-only
+returns-in_err-both-clause-only g c f =
+    others_same (g.S.Store.facts c.args.store.now) (g.S.Store.facts c.list_names.new.store) (IsDead (IsLiveAmong (g.S.Store.facts c.args.store.now).files c.args.numbers.now (g.L.LiveTables.has c.args.live.now)))
     (c.in_ok-names.ensures.store.calls f) (c.in_ok-names.ensures.store.same f) (c.in_ok-names.ensures.store.synced f)
 
-pub returns-clause-carries : goal.returns-clause-carries
-returns-clause-carries g c f =
+pub returns-clause-only : goal.returns-clause-only
+returns-clause-only g c f =
     let in_use : ℕ → Type 0 = g.L.LiveTables.has c.args.live.now in
     let both = c.in_ok-both.both.items in
     let live : List ℕ → FileName → Type 0 = λ bs. IsLiveFile c.args.numbers.now in_use (λ n. Contains bs n) in
@@ -278,7 +276,9 @@ returns-clause-carries g c f =
     let mid = g.S.Store.facts c.list_names.new.store in
     let new = g.S.Store.facts c.remove_listed-complete.new.store in
     let early = c.remove_listed-complete.ensures.call.faithful f in
-    let B : List ℕ → Type 0 = λ bs. CarriesBut mid new (IsDead (live bs)) in
-    carries_as (live both) (IsLiveAmong old.files c.args.numbers.now in_use) old mid new
-    (λ q dead. (dead.0, dead.1, dead.2, λ alive. dead.3 ((same_live c.args.numbers.now in_use old.files both (knows g c early) dead.0 dead.1).1 alive)))
-    (c.in_ok-names.ensures.store.calls early) (c.in_ok-names.ensures.store.same early) (c.in_ok-names.ensures.store.synced early) (subst B c.deref-7.ensures.value (c.remove_listed-complete.ensures.carries f))
+    let B : List ℕ → Type 0 = λ bs. WritesOnly mid new (IsDead (live bs)) in
+    let dead = IsDead (IsLiveAmong old.files c.args.numbers.now in_use) in
+    others_behind old mid new dead (c.in_ok-names.ensures.store.calls early) (c.in_ok-names.ensures.store.same early) (c.in_ok-names.ensures.store.synced early)
+    (others_more mid new (IsDead (live both)) dead
+    (λ q is. (is.0, is.1, is.2, λ alive. is.3 ((same_live c.args.numbers.now in_use old.files both (knows g c early) is.0 is.1).1 alive)))
+    (subst B c.deref-7.ensures.value (c.remove_listed-complete.ensures.only f)))

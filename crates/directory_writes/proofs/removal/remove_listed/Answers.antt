@@ -2,7 +2,7 @@ use Rattle.std.proofs.Common.{map, string_bytes}
 use Rattle.std.specs.Prelude.{Contains}
 use Rattle.edits.specs.declared.names.FileName.{FileName}
 use Rattle.directory_writes.specs.Removal.{IsDead, IsLiveFile}
-use Rattle.store.proofs.Carrying.{carries_both}
+use Rattle.store.proofs.Stopping.{others_both}
 use Rattle.directory_writes.proofs.Cleaning.{both_turns, first_turn, table_both, table_first}
 use Rattle.directory_writes.proofs.Losing.{loses_both}
 use Rattle.directory_writes.proofs.FewLeft.{few_both, few_first}
@@ -54,11 +54,11 @@ returns-clause-stops g c f =
     loses_both (IsLiveFile c.args.numbers.now (g.L.LiveTables.has c.args.live.now) (λ n. Contains c.args.both.now n)) (g.S.Store.facts c.args.store.now) (g.S.Store.facts c.remove_turn.new.store) (g.S.Store.facts c.remove_turn-2.new.store)
     (c.remove_turn.ensures.stops (c.remove_turn-2.ensures.call.faithful f)) (c.remove_turn-2.ensures.stops f)
 
-pub returns-then-not-remove_turn-clause-carries : goal.returns-then-not-remove_turn-clause-carries
-returns-then-not-remove_turn-clause-carries g c = c.remove_turn.ensures.carries
+pub returns-then-not-remove_turn-clause-only : goal.returns-then-not-remove_turn-clause-only
+returns-then-not-remove_turn-clause-only g c = c.remove_turn.ensures.only
 
-pub returns-clause-carries : goal.returns-clause-carries
-returns-clause-carries g c f =
-    carries_both (g.S.Store.facts c.args.store.now) (g.S.Store.facts c.remove_turn.new.store) (g.S.Store.facts c.remove_turn-2.new.store)
+pub returns-clause-only : goal.returns-clause-only
+returns-clause-only g c f =
+    others_both (g.S.Store.facts c.args.store.now) (g.S.Store.facts c.remove_turn.new.store) (g.S.Store.facts c.remove_turn-2.new.store)
     (IsDead (IsLiveFile c.args.numbers.now (g.L.LiveTables.has c.args.live.now) (λ n. Contains c.args.both.now n)))
-    (c.remove_turn.ensures.carries (c.remove_turn-2.ensures.call.faithful f)) (c.remove_turn-2.ensures.carries f)
+    (c.remove_turn.ensures.only (c.remove_turn-2.ensures.call.faithful f)) (c.remove_turn-2.ensures.only f)

@@ -5,8 +5,7 @@ use Rattle.std.proofs.lemmas.List.{take_all}
 use Rattle.edits.specs.declared.names.FileName.{FileName}
 use Rattle.directory_writes.specs.internal.Removal.{IsLeft, LeavesFew, RemovesNamed}
 use Rattle.directory_writes.specs.Removal.{IsDead, IsLiveFile}
-use Rattle.store.proofs.Carrying.{carries_both}
-use Rattle.directory_writes.proofs.Carrying.{carries_none}
+use Rattle.store.proofs.Stopping.{others_both, others_same}
 use Rattle.directory_writes.proofs.StoreCalls.{touches_none, touches_both}
 use Rattle.directory_writes.proofs.Cleaning.{removes_none, removes_more, names_more}
 use Rattle.directory_writes.proofs.Losing.{loses_both, loses_none}
@@ -16,7 +15,7 @@ use Rattle.directory_writes.proofs.removal.remove_turn.Goals as goal
 pub loop-name-init : goal.loop-name-init
 loop-name-init g c =
     let left : FileName → Type 0 = IsLeft (IsLiveFile c.args.numbers.now (g.L.LiveTables.has c.args.live.now) (λ n. Contains c.args.both.now n)) (λ n. Contains c.args.both.now n) c.args.last in
-    record { call = touches_none (g.S.Store.facts c.args.store.now); fails = refl; removes = removes_none (g.S.Store.facts c.args.store.now) left; few = few_none (g.S.Store.facts c.args.store.now) left; stops = λ f. loses_none (IsLiveFile c.args.numbers.now (g.L.LiveTables.has c.args.live.now) (λ n. Contains c.args.both.now n)) (g.S.Store.facts c.args.store.now); carries = λ f. carries_none (g.S.Store.facts c.args.store.now) (IsDead (IsLiveFile c.args.numbers.now (g.L.LiveTables.has c.args.live.now) (λ n. Contains c.args.both.now n))) }
+    record { call = touches_none (g.S.Store.facts c.args.store.now); fails = refl; removes = removes_none (g.S.Store.facts c.args.store.now) left; few = few_none (g.S.Store.facts c.args.store.now) left; stops = λ f. loses_none (IsLiveFile c.args.numbers.now (g.L.LiveTables.has c.args.live.now) (λ n. Contains c.args.both.now n)) (g.S.Store.facts c.args.store.now); only = λ f. others_same (g.S.Store.facts c.args.store.now) (g.S.Store.facts c.args.store.now) (IsDead (IsLiveFile c.args.numbers.now (g.L.LiveTables.has c.args.live.now) (λ n. Contains c.args.both.now n))) refl refl refl }
 
 pub loop-name-preserved : goal.loop-name-preserved
 loop-name-preserved g c =
@@ -38,8 +37,8 @@ loop-name-preserved g c =
           c.loop-name.invariant.few c.remove_dead-removed.ensures.few c.remove_dead-removed.ensures.removes);
       stops = λ f. loses_both (IsLiveFile c.args.numbers.now (g.L.LiveTables.has c.args.live.now) (λ n. Contains c.args.both.now n)) old mid new
           (c.loop-name.invariant.stops (c.remove_dead-removed.ensures.call.faithful f)) (c.remove_dead-removed.ensures.stops f);
-      carries = λ f. carries_both old mid new (IsDead (IsLiveFile c.args.numbers.now (g.L.LiveTables.has c.args.live.now) (λ n. Contains c.args.both.now n)))
-          (c.loop-name.invariant.carries (c.remove_dead-removed.ensures.call.faithful f)) (c.remove_dead-removed.ensures.carries f);
+      only = λ f. others_both old mid new (IsDead (IsLiveFile c.args.numbers.now (g.L.LiveTables.has c.args.live.now) (λ n. Contains c.args.both.now n)))
+          (c.loop-name.invariant.only (c.remove_dead-removed.ensures.call.faithful f)) (c.remove_dead-removed.ensures.only f);
     }
 
 pub returns-clause-call : goal.returns-clause-call
@@ -63,5 +62,5 @@ returns-clause-fails g c = c.loop-name.invariant.fails
 pub returns-clause-stops : goal.returns-clause-stops
 returns-clause-stops g c = c.loop-name.invariant.stops
 
-pub returns-clause-carries : goal.returns-clause-carries
-returns-clause-carries g c = c.loop-name.invariant.carries
+pub returns-clause-only : goal.returns-clause-only
+returns-clause-only g c = c.loop-name.invariant.only
