@@ -7,15 +7,21 @@ pub mod Fronts
 pub mod InDoubt
 pub mod Losing
 pub mod LosingEach
+pub mod LosingEdits
+pub mod LosingLogs
+pub mod LosingNames
+pub mod LosingOpens
+pub mod LosingWrites
 pub mod NewManifests
 pub mod OpenSteps
 pub mod RefusedEach
+pub mod RenewSteps
 pub mod Reopening
 pub mod RewrittenEach
 pub mod Since
-pub mod Staying
+pub mod Spared
 pub mod StoreCalls
 pub mod Syncing
 pub mod Telling
+pub mod Uncut
 pub mod VersionTables
-mod Spared

@@ -199,20 +199,29 @@ module _ (order : Order) (laws : OpenLaws) (old : Facts) (found : Found) (u : Is
   -- ---- a stop in the middle
 
   module _ (h : Finds order old.files found) where
+    -- of the files alone
+    pub manifest_left : (files : Files) → KeepsBut old.files (λ (q : List ℕ). q ≡ name_of (Manifest found.number)) files → IsContinued order old.files files
+    manifest_left files others = continued_beside order old.files files found laws.free h (beside_manifest found.number old.files files (numbered_of found u) others)
+
+    pub current_left : (mid : Facts) (current : List ℕ) → Writes old mid (name_of (Manifest found.number)) manifest (Ok tt) → current ≡ name_of (Manifest found.number) ++ 10 ∷ [] → IsTrue mid.faithful
+        → (files : Files) → MaySet mid.files (name_of (Temporary found.number)) current files → IsContinued order old.files files
+    current_left mid current written is m files (inl others) =
+        continued_beside order old.files files found laws.free h (beside_both found.number old.files mid.files files (numbered_of found u) (beside_written mid (Ok tt) written m) others)
+    current_left mid current written is m files (inr done) =
+        current_continued (stopped_at mid files) (has_new mid (stopped_at mid files) current written is m done) (behind_set mid (stopped_at mid files) current (Ok tt) written m done) h
+
+    pub log_left : (mid : Facts) (current : List ℕ) → Writes old mid (name_of (Manifest found.number)) manifest (Ok tt) → current ≡ name_of (Manifest found.number) ++ 10 ∷ [] → IsTrue mid.faithful
+        → (files : Files) → SetsCurrent mid.files files (name_of (Temporary found.number)) current → IsContinued order old.files (insert files (name_of (Log (found.number + 1))) [])
+    log_left mid current written is m files set = (logged_continued mid (stopped_at mid files) current written is m set h).0
+
     pub manifest_stops : (mid : Facts) → LeavesOnly old mid (KeepsBut old.files (λ (q : List ℕ). q ≡ name_of (Manifest found.number))) → LeavesOnly old mid (IsContinued order old.files)
-    manifest_stops mid k =
-        leaves_so old mid (KeepsBut old.files (λ (q : List ℕ). q ≡ name_of (Manifest found.number))) (IsContinued order old.files)
-        (λ files others. continued_beside order old.files files found laws.free h (beside_manifest found.number old.files files (numbered_of found u) others)) k
+    manifest_stops mid k = leaves_so old mid (KeepsBut old.files (λ (q : List ℕ). q ≡ name_of (Manifest found.number))) (IsContinued order old.files) manifest_left k
 
     pub current_stops : (mid new : Facts) (current : List ℕ) → Writes old mid (name_of (Manifest found.number)) manifest (Ok tt) → current ≡ name_of (Manifest found.number) ++ 10 ∷ [] → IsTrue mid.faithful
         → LeavesOnly old mid (KeepsBut old.files (λ (q : List ℕ). q ≡ name_of (Manifest found.number))) → LeavesOnly mid new (MaySet mid.files (name_of (Temporary found.number)) current) → LeavesOnly old new (IsContinued order old.files)
     current_stops mid new current written is m k set =
         leaves_both old mid new (IsContinued order old.files) (manifest_stops mid k)
-        (leaves_so mid new (MaySet mid.files (name_of (Temporary found.number)) current) (IsContinued order old.files)
-        (λ files left. elim left [
-          | inl others ↦ continued_beside order old.files files found laws.free h (beside_both found.number old.files mid.files files (numbered_of found u) (beside_written mid (Ok tt) written m) others)
-          | inr done ↦ current_continued (stopped_at mid files) (has_new mid (stopped_at mid files) current written is m done) (behind_set mid (stopped_at mid files) current (Ok tt) written m done) h
-        ]) set)
+        (leaves_so mid new (MaySet mid.files (name_of (Temporary found.number)) current) (IsContinued order old.files) (current_left mid current written is m) set)
 
     pub log_stops : (mid most new : Facts) (current : List ℕ) → Writes old mid (name_of (Manifest found.number)) manifest (Ok tt) → current ≡ name_of (Manifest found.number) ++ 10 ∷ [] → IsTrue mid.faithful
         → SetsCurrent mid.files most.files (name_of (Temporary found.number)) current → LeavesOnly old most (IsContinued order old.files)

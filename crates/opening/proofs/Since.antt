@@ -6,6 +6,7 @@ use Rattle.store.specs.Calls.{Adds, Idles}
 use Rattle.store.specs.Files.{Creation, Facts, Files}
 use Rattle.store.specs.Losses.{behind_sync}
 use Rattle.store.proofs.Carrying.{carries_writes}
+use Rattle.store.proofs.Staying.{begun_by, stays_behind, stays_on}
 use Rattle.ikey.specs.Orders.{Order}
 use Rattle.edits.specs.Names.{name_of, IsNumbered}
 use Rattle.edits.specs.declared.names.FileName.TheVariants.{Current, Log, Manifest, Temporary}
@@ -15,8 +16,7 @@ use Rattle.opening.specs.declared.finding.Found.{Found}
 use Rattle.opening.specs.internal.Calls.{MakesCurrent, Writes}
 use Rattle.opening.specs.internal.Opening.{Finds, IsUsable}
 use Rattle.opening.proofs.Reopening.{files_apart, next_of, numbered_of}
-use Rattle.opening.proofs.Staying.{begun_by, stays_behind, stays_on}
-use Rattle.opening.proofs.StoreCalls.{OnlyIt}
+use Rattle.opening.specs.internal.Renewing.{OnlyIt}
 
 -- ---- no log of the new number was there
 
@@ -24,12 +24,12 @@ none_from : (b : Bool) → (b ≡ true → ⊥) → b ≡ false
 none_from true h = absurd (h refl)
 none_from false h = refl
 
-no_log : (order : Order) (files : Files) (n : ℕ) → IsNumbered (n + 1) → IsFree order files n → contains_key files (name_of (Log (n + 1))) ≡ false
+pub no_log : (order : Order) (files : Files) (n : ℕ) → IsNumbered (n + 1) → IsFree order files n → contains_key files (name_of (Log (n + 1))) ≡ false
 no_log order files n next free =
     none_from (contains_key files (name_of (Log (n + 1)))) (λ there. let below : n + 1 < n = free.listed (Log (n + 1)) next there in absurd (omega (arith, below)))
 
 -- nor is it before the log is made
-still_no_log : (order : Order) (old mid most : Facts) (n : ℕ) (manifest current : List ℕ) → IsNumbered n → IsNumbered (n + 1) → IsFree order old.files n → Writes old mid (name_of (Manifest n)) manifest (Ok tt)
+pub still_no_log : (order : Order) (old mid most : Facts) (n : ℕ) (manifest current : List ℕ) → IsNumbered n → IsNumbered (n + 1) → IsFree order old.files n → Writes old mid (name_of (Manifest n)) manifest (Ok tt)
     → MakesCurrent mid most (name_of (Temporary n)) current (Ok tt) → IsTrue most.faithful → contains_key most.files (name_of (Log (n + 1))) ≡ false
 still_no_log order old mid most n manifest current num next free wrote made f =
     let first = wrote.others (made.call.faithful f) (name_of (Log (n + 1))) (files_apart (Log (n + 1)) (Manifest n) next num (λ e. cc)) in

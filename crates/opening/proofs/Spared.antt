@@ -1,12 +1,12 @@
 -- What a loss of power leaves of a directory that the calls since the last sync spared.
-use Rattle.std.proofs.Common.{◌≡◌, ◌≤◌, ◌⊎◌, inl, inr, ℕ, true, false, List, [], ◌∷◌, length, take, drop, Option, Some, None, is_some, refl, sym, ap, subst, ◌∙◌}
-use Rattle.std.proofs.lemmas.List.{drop_all, take_all}
+use Rattle.std.proofs.Common.{◌≡◌, ◌⊎◌, inl, inr, ℕ, true, false, List, [], ◌∷◌, Option, Some, None, is_some, refl, sym, ap, ◌∙◌}
 use Rattle.std.specs.FinMap.{get, contains_key}
 use Rattle.std.specs.Option.{option_map_or}
 use Rattle.store.specs.Files.{Facts, Files, Disk, Call, disk_of}
-use Rattle.store.specs.Losses.{IsLost, IsLostSince, BeginsWith, behind_sync, disk_before, held_last}
+use Rattle.store.specs.Losses.{BeginsWith, HasStayed, HasStayedOrBegun, IsCarriedBy, IsLost, IsLostSince, behind_sync, held_last}
+use Rattle.store.proofs.LosingOn.{lost_here}
 use Rattle.recover.specs.Directory.{Directory}
-use Rattle.opening.specs.Losses.{HasStayed, HasStayedOrBegun, IsCarriedBy, IsLeftOf, IsLogIn, IsReadIn, SparedLaw}
+use Rattle.opening.specs.Losses.{IsLeftOf, IsLogIn, IsReadIn, SparedLaw}
 
 -- what goes on under its name holds now what it held last
 held_carried : (calls : List Call) (now : Disk) (q : List ℕ) → IsCarriedBy calls q → held_last calls now q ≡ (get now.files q, now.synced q)
@@ -16,9 +16,9 @@ held_carried (call ∷ calls) now q h =
     step ∙ held_carried calls now q h.1
 
 -- what a loss leaves of such a file
-record IsBegun (facts : Facts) (lost : Files) (q : List ℕ) : Type 0 where
-  beginning : (bytes : List ℕ) → get lost q ≡ Some bytes → (held : List ℕ) × (get facts.files q ≡ Some held) × BeginsWith held bytes
-  kept : (bytes synced : List ℕ) → get lost q ≡ Some bytes → facts.synced q ≡ Some synced → BeginsWith bytes synced
+pub record IsBegun (facts : Facts) (lost : Files) (q : List ℕ) : Type 0 where
+  pub beginning : (bytes : List ℕ) → get lost q ≡ Some bytes → (held : List ℕ) × (get facts.files q ≡ Some held) × BeginsWith held bytes
+  pub kept : (bytes synced : List ℕ) → get lost q ≡ Some bytes → facts.synced q ≡ Some synced → BeginsWith bytes synced
 
 carried : (facts : Facts) (at : Files) (calls : List Call) (lost : Files) (q : List ℕ) → IsCarriedBy calls q → IsLost at calls (disk_of facts) lost → IsBegun facts lost q
 carried facts at calls lost q c h =
@@ -35,9 +35,9 @@ missing facts lost q none = record {
 }
 
 -- one name, of a file that is read, and of a log
-record ReadsLeft (facts : Facts) (lost : Files) (q : List ℕ) : Type 0 where
-  name : contains_key lost q ≡ contains_key facts.files q
-  begun : IsBegun facts lost q
+pub record ReadsLeft (facts : Facts) (lost : Files) (q : List ℕ) : Type 0 where
+  pub name : contains_key lost q ≡ contains_key facts.files q
+  pub begun : IsBegun facts lost q
 
 record LogLeft (facts : Facts) (lost : Files) (q : List ℕ) : Type 0 where
   name : (contains_key lost q ≡ contains_key facts.files q) ⊎ ((contains_key lost q ≡ false) × (facts.synced q ≡ None))
@@ -51,11 +51,11 @@ left_by facts d lost reads logs = record {
   kept = λ q bytes synced mine there is. elim mine [ inl read ↦ (reads q read).begun.kept bytes synced there is | inr log ↦ (logs q log).begun.kept bytes synced there is ];
 }
 
-now_left : (facts : Facts) (lost : Files) (q : List ℕ) → IsLost facts.files [] (disk_of facts) lost → ReadsLeft facts lost q
+pub now_left : (facts : Facts) (lost : Files) (q : List ℕ) → IsLost facts.files [] (disk_of facts) lost → ReadsLeft facts lost q
 now_left facts lost q h = record { name = h.names q; begun = carried facts facts.files [] lost q tt h }
 
 -- one of the moments since
-reads_left : (facts : Facts) (lost : Files) (q : List ℕ) (calls : List Call) → HasStayed calls (contains_key facts.files q) q → IsLostSince calls (disk_of facts) lost → ReadsLeft facts lost q
+pub reads_left : (facts : Facts) (lost : Files) (q : List ℕ) (calls : List Call) → HasStayed calls (contains_key facts.files q) q → IsLostSince calls (disk_of facts) lost → ReadsLeft facts lost q
 reads_left facts lost q [] s h = now_left facts lost q h
 reads_left facts lost q (call ∷ calls) s (inr later) = reads_left facts lost q calls s.1 later
 reads_left facts lost q (call ∷ calls) s (inl h) = record { name = h.names q ∙ s.0.1; begun = carried facts call.found.files (call ∷ calls) lost q s.0.0 h }
@@ -70,11 +70,6 @@ log_left facts lost q (call ∷ calls) s (inl h) = elim s.0 [
 
 pub left_by_loss : SparedLaw
 left_by_loss facts d lost s h =
-    let least : length facts.calls ≤ h.0 = h.1 in
-    let front : take h.0 facts.calls ≡ facts.calls = take_all h.0 facts.calls least in
-    let rest : drop h.0 facts.calls ≡ [] = drop_all h.0 facts.calls least in
-    let A : List Call → Type 0 = λ calls. IsLostSince (behind_sync [] calls) (disk_before (drop h.0 facts.calls) (disk_of facts)) lost in
-    let B : List Call → Type 0 = λ calls. IsLostSince (behind_sync [] facts.calls) (disk_before calls (disk_of facts)) lost in
     let since = behind_sync [] facts.calls in
-    let one : IsLostSince since (disk_of facts) lost = subst B rest (subst A front h.3) in
+    let one = lost_here facts lost h in
     left_by facts d lost (λ q read. reads_left facts lost q since (s.reads q read) one) (λ q log. log_left facts lost q since (s.logs q log) one)

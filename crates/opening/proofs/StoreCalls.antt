@@ -11,7 +11,7 @@ use Rattle.coding.specs.declared.error.DbError.TheVariants as error
 use Rattle.store.specs.Files.{Facts, Files, Synced, Addition, Move, Sync, Appends, AppendsBeginning, Renames, with_synced}
 use Rattle.directory_writes.proofs.StoreCalls.{with_other}
 use Rattle.store.specs.Calls.{Adds, Counts, Idles, Keeps, Changes}
-use Rattle.store.specs.Stops.{KeepsBut, LeavesOnly, MayLeave, WritesOnly}
+use Rattle.store.specs.Stops.{KeepsBut, LeavesOnly, MayLeave}
 use Rattle.store.proofs.Stopping.{leaves_both, leaves_so, noted_left, others_appended, others_both, others_synced}
 use Rattle.store.specs.declared.error.StoreError.{StoreError}
 use Rattle.store.specs.declared.error.StoreError.TheVariants as store_error
@@ -21,6 +21,7 @@ use Rattle.recover.proofs.NamedFiles.{get_other, get_same}
 use Rattle.directory_writes.specs.internal.Calls.{Creates as CreatesFile, IsRefusalOf, Touches}
 use Rattle.recover.specs.Reading.{IsCounted}
 use Rattle.opening.specs.internal.Calls.{Attempts, KeepsOthers, Writes, SetsCurrent, MakesCurrent}
+use Rattle.opening.specs.internal.Renewing.{OnlyIt}
 
 abbrev pub done_so : Result (Unit {0}) DbError
 done_so = Ok tt
@@ -291,10 +292,6 @@ current_not_kept old mid new temporary bytes se e m counts undenied same there i
     }
 
 -- ---- a stop in the middle
-
--- the file of this name alone was written
-abbrev pub OnlyIt : Facts → Facts → List ℕ → Type 0
-OnlyIt old new name = WritesOnly old new (λ (q : List ℕ). q ≡ name)
 
 pub appended_stops : (old mid new : Facts) (name bytes : List ℕ) → OnlyIt old mid name → Idles mid new ⊎ ((n : ℕ) × Adds mid new (Addition name (take n bytes))) → new.synced ≡ mid.synced → OnlyIt old new name
 appended_stops old mid new name bytes h noted same =

@@ -1,9 +1,9 @@
 -- What a loss of power leaves of a directory, by what of it is synced. (What it may leave of files: `store`'s specs/Losses.)
-use Rattle.std.specs.Prelude.{◌≡◌, ◌≢◌, ◌⊎◌, ◌<◌, ◌≤◌, ℕ, Bool, true, false, Option, Some, None, List, [], ◌∷◌, ◌++◌, map, string_bytes}
+use Rattle.std.specs.Prelude.{◌≡◌, ◌≢◌, ◌⊎◌, ◌<◌, ◌≤◌, ℕ, true, false, Some, None, List, [], ◌∷◌, ◌++◌, map, string_bytes}
 use Rattle.std.specs.List.{AllByRecursion}
 use Rattle.std.specs.FinMap.{get, contains_key}
-use Rattle.store.specs.Files.{Facts, Files, Call}
-use Rattle.store.specs.Losses.{BeginsWith, Lost, behind_sync, is_sync, name_behind}
+use Rattle.store.specs.Files.{Facts, Files, Call, lock_name}
+use Rattle.store.specs.Losses.{BeginsWith, Lost, StaysNamed, StaysOrBegins, is_sync}
 use Rattle.store.specs.Stops.{moment}
 use Rattle.ikey.specs.Orders.{Order}
 use Rattle.logfile.specs.declared.record.Tail.{Tail}
@@ -48,6 +48,14 @@ pub record AreInDoubt (files : Files) (log : CurrentLog) (state : DirectoryState
 -- The file of this name is synced whole, if it is there.
 abbrev pub IsKept : Facts → List ℕ → Type 0
 IsKept facts name = (bytes : List ℕ) → get facts.files name ≡ Some bytes → facts.synced name ≡ Some bytes
+
+-- What is there of this name the loss has left whole, or taken away.
+abbrev pub IsWholeOrGone : Files → Files → List ℕ → Type 0
+IsWholeOrGone files lost name = (bytes : List ℕ) → get files name ≡ Some bytes → (get lost name ≡ None) ⊎ (get lost name ≡ Some bytes)
+
+-- So it is, if the file isn't known to be synced.
+abbrev pub IsLeftWhole : Facts → Files → List ℕ → Type 0
+IsLeftWhole facts lost name = IsKept facts name ⊎ IsWholeOrGone facts.files lost name
 
 -- So is the file that is read as the table of this number: that of its newer name, or else that of its older one.
 abbrev pub IsTableKept : Facts → ℕ → Type 0
@@ -116,29 +124,6 @@ CutLaw = (order : Order) (facts : Facts) (d : Directory) (lost : Files) → IsCo
 
 -- ---- a loss since the last sync
 
--- These calls leave the file of this name under it.
-abbrev pub IsCarriedBy : List Call → List ℕ → Type 0
-IsCarriedBy calls name = AllByRecursion (λ (call : Call). name_behind call.change name ≡ Some name) calls
-
--- Since the first of these calls the file of this name has its name, or there was none, just as there is one now or not.
-abbrev pub HasStayed : List Call → Bool → List ℕ → Type 0
-HasStayed [] there name = Unit {0}
-HasStayed (call ∷ calls) there name = (IsCarriedBy (call ∷ calls) name × (contains_key call.found.files name ≡ there)) × HasStayed calls there name
-
--- Or it was begun since, and nothing of it is synced.
-abbrev pub HasStayedOrBegun : List Call → Bool → Option (List ℕ) → List ℕ → Type 0
-HasStayedOrBegun [] there synced name = Unit {0}
-HasStayedOrBegun (call ∷ calls) there synced name =
-    ((IsCarriedBy (call ∷ calls) name × (contains_key call.found.files name ≡ there)) ⊎ ((contains_key call.found.files name ≡ false) × (synced ≡ None)))
-    × HasStayedOrBegun calls there synced name
-
--- So it is since the last sync.
-abbrev pub StaysNamed : Facts → List ℕ → Type 0
-StaysNamed facts name = HasStayed (behind_sync [] facts.calls) (contains_key facts.files name) name
-
-abbrev pub StaysOrBegins : Facts → List ℕ → Type 0
-StaysOrBegins facts name = HasStayedOrBegun (behind_sync [] facts.calls) (contains_key facts.files name) (facts.synced name) name
-
 -- The calls since the last sync spare what a directory of these parts reads: no file of it was moved, replaced, made or taken away, but that logs were begun
 -- of which nothing is synced.
 pub record AreSpared (facts : Facts) (d : Directory) : Type 0 where
@@ -153,6 +138,24 @@ SparedLaw = (facts : Facts) (d : Directory) (lost : Files) → AreSpared facts d
 pub record BeginsSpared (facts : Facts) (log : List ℕ) : Type 0 where
   pub others : (name : List ℕ) → name ≢ log → StaysNamed facts name
   pub begun : StaysOrBegins facts log
+
+-- ---- in the middle of an open
+
+-- Of what was there of this name the loss has left no mere beginning.
+abbrev pub IsUncut : Files → Files → List ℕ → Type 0
+IsUncut files lost name = (bytes held : List ℕ) → get files name ≡ Some bytes → get lost name ≡ Some held → BeginsWith bytes held → held ≡ bytes
+
+-- Each file that was there is synced whole, or the loss has left no mere beginning of it.
+abbrev pub LeavesUncut : Facts → Files → Type 0
+LeavesUncut facts lost = (name : List ℕ) → IsKept facts name ⊎ IsUncut facts.files lost name
+
+-- The device has the names as they are, but for that of the lock's file, which each open makes where it was missing.
+abbrev pub HaveNamesStayed : Facts → Type 0
+HaveNamesStayed facts = (name : List ℕ) → name ≢ lock_name → StaysNamed facts name
+
+-- But for the lock's file, they are files of which that is so.
+abbrev pub IsButLock : (Files → Type 0) → Files → Type 0
+IsButLock P files = (beside : Files) × ((name : List ℕ) → name ≢ lock_name → get files name ≡ get beside name) × P beside
 
 -- ---- in each directory that differs in tables alone
 

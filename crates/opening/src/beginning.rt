@@ -3,16 +3,18 @@
 ghost use Rattle.std.specs.Prelude.{◌≡◌, IsTrue, Err, IfOk, IfErr, OnOk, string_bytes};
 ghost use Rattle.coding.specs.declared.error.DbError.TheVariants.{OutOfMemory};
 ghost use Rattle.ikey.specs.Orders.{order_of};
+ghost use Rattle.store.specs.Losses.{LosesOnly};
 ghost use Rattle.store.specs.Stops.{LeavesOnly};
 ghost use Rattle.directory_writes.specs.Differing.{OfEach};
 ghost use Rattle.opening.specs.internal.Opening.{IsContinued, RefusesOpen};
 ghost use Rattle.opening.specs.internal.Durable.{HasDurable, Spares};
 ghost use Rattle.opening.specs.Durable.{LeavesDurable};
-ghost use Rattle.opening.specs.Losses.{BeginsSpared};
+ghost use Rattle.opening.specs.Losses.{BeginsSpared, HaveNamesStayed, IsButLock, LeavesUncut};
 ghost use Rattle.opening.specs.Refusals.{IsMet};
 ghost use Rattle.opening.specs.Telling.{Tells};
 ghost use Rattle.opening.specs.internal.Outcome.{OpenOutcome};
 ghost use Rattle.opening.specs.internal.Begun.{IsBegun, Begins, BeginsSynced, IsUnwritten};
+ghost use Rattle.opening.specs.internal.Renewing.{RenewsBy, RenewsWhole};
 
 use crate::directory::{CurrentLog, DirectoryState};
 use crate::finding::find;
@@ -77,6 +79,14 @@ pub fn begin<K: KeyOrder, S: Store>(
         (IsContinued (order_of K.name K.cmp) (S.facts store.old).files) }
     ensures stops_each { IsTrue (S.facts store.new).faithful → LeavesOnly (S.facts store.old) (S.facts store.new)
         (λ files. OfEach (λ whole after. IsContinued (order_of K.name K.cmp) whole after) (S.facts store.old).files files) }
+    // So does a loss of power, where the device has the names that were there, and it cuts no file short that was.
+    ensures loses { IsTrue (S.facts store.new).faithful → HaveNamesStayed (S.facts store.old)
+        → LosesOnly (S.facts store.old) (S.facts store.new)
+        (λ lost. LeavesUncut (S.facts store.old) lost → IsButLock (IsContinued (order_of K.name K.cmp) (S.facts store.old).files) lost) }
+    // Call by call.
+    ensures renews { IsTrue (S.facts store.new).faithful → RenewsBy (order_of K.name K.cmp) (S.facts store.old) (S.facts store.new) }
+    ensures renewed { IfOk result (λ begun. IsTrue (S.facts store.new).faithful
+        → RenewsWhole (order_of K.name K.cmp) (S.facts store.old) (S.facts store.new) begun.log begun.directory) }
     ensures refused { IfErr result (λ error. RefusesOpen (order_of K.name K.cmp) mode error (S.facts store.old) (S.facts store.new)) }
     ensures unwritten { IfErr result (λ error. IsUnwritten error (S.facts store.old) (S.facts store.new)) }
     ensures tells { IsTrue (S.facts store.new).faithful → Tells (order_of K.name K.cmp) (S.facts store.old).files result }

@@ -6,11 +6,13 @@ ghost use Rattle.coding.specs.declared.error.DbError.TheVariants.{OutOfMemory};
 ghost use Rattle.ikey.specs.Orders.{order_of};
 ghost use Rattle.opening.specs.internal.Durable.{HasDurable, SparesBeside};
 ghost use Rattle.opening.specs.Durable.{LeavesDurable};
-ghost use Rattle.opening.specs.Losses.{BeginsSpared};
+ghost use Rattle.opening.specs.Losses.{BeginsSpared, HaveNamesStayed, IsButLock, LeavesUncut};
+ghost use Rattle.store.specs.Losses.{LosesOnly};
 ghost use Rattle.store.specs.Stops.{LeavesOnly};
 ghost use Rattle.directory_writes.specs.Differing.{OfEach, with_files};
 ghost use Rattle.opening.specs.internal.Begun.{IsFront, names_of_log};
 ghost use Rattle.opening.specs.internal.Opening.{Finds, IsContinued, IsUsable, KeepsLogs, IsKnownAfter, IsNewManifest, IsRewrite, Rewrites};
+ghost use Rattle.opening.specs.internal.Renewing.{Renews, RenewsAll};
 
 use crate::directory::DirectoryState;
 use crate::files::{make_current, write_file};
@@ -193,6 +195,16 @@ pub fn rewrite_directory<K: KeyOrder, S: Store>(
         (S.facts store.old).files files) }
     ensures since { IsTrue (S.facts store.new).faithful → Finds (order_of K.name K.cmp) (S.facts store.old).files found.now
         → OnOk result (BeginsSpared (S.facts store.new) (string_bytes rewrite.now.log_name)) }
+    // So is what a loss of power leaves in its middle, where it cuts no file short that was there.
+    ensures loses { IsTrue (S.facts store.new).faithful → Finds (order_of K.name K.cmp) (S.facts store.old).files found.now
+        → HaveNamesStayed (S.facts store.old) → LosesOnly (S.facts store.old) (S.facts store.new)
+        (λ lost. LeavesUncut (S.facts store.old) lost → IsButLock (IsContinued (order_of K.name K.cmp) (S.facts store.old).files) lost) }
+    // Call by call.
+    ensures renews { IsTrue (S.facts store.new).faithful → Renews (S.facts store.old) (S.facts store.new) (string_bytes rewrite.now.manifest_name)
+        rewrite.now.manifest.items (string_bytes rewrite.now.temporary_name) rewrite.now.current.items (string_bytes rewrite.now.log_name) }
+    ensures renewed { IsTrue (S.facts store.new).faithful → Finds (order_of K.name K.cmp) (S.facts store.old).files found.now
+        → OnOk result (RenewsAll (S.facts store.old) (S.facts store.new) (string_bytes rewrite.now.manifest_name) rewrite.now.manifest.items
+        (string_bytes rewrite.now.temporary_name) rewrite.now.current.items (string_bytes rewrite.now.log_name)) }
 {
     // Laws, for the proof alone.
     free_change_law();

@@ -16,7 +16,7 @@ use Rattle.recover.specs.Tables.{TableContent, table_at}
 use Rattle.versions.specs.Levels.{ListsSameTables, AreInOrder}
 use Rattle.machine.specs.declared.command.Mode.{Mode}
 use Rattle.opening.specs.Losses.{AreInDoubt}
-use Rattle.opening.specs.internal.Durable.{SparesTables}
+use Rattle.opening.specs.internal.Durable.{SparesBeside, SparesTables}
 use Rattle.opening.specs.declared.beginning.Begun.{Begun}
 use Rattle.opening.specs.declared.directory.CurrentLog.{CurrentLog}
 use Rattle.opening.specs.declared.directory.DirectoryState.{DirectoryState}
@@ -69,9 +69,11 @@ pub record IsFront (found : Found) (names : List (List ℕ)) : Type 0 where
   pub all : found.entries.items ≢ [] → names ≡ names_of_logs found.logs.items
 
 -- Which of the logs that the next open reads the device may not have whole, and that an open leaves tables alone: those that are there, and
--- all logs but the new one, have numbers below that of its MANIFEST.
+-- all logs but the new one, have numbers below that of its MANIFEST; the new one is above it.
 pub record BeginsSynced (old new : Facts) (log : CurrentLog) (state : DirectoryState) : Type 0 where
   pub logs : AreInDoubt new.files log state
   pub tables : SparesTables old new
+  pub beside : SparesBeside state.manifest.number old new
   pub found : (n : ℕ) → IsNumbered n → IsSome (table_at new.files n) → n < state.manifest.number
   pub begun : (n : ℕ) → IsNumbered n → n ≢ log.number → contains_key new.files (name_of (Log n)) ≡ true → n < state.manifest.number
+  pub since : state.manifest.number < log.number

@@ -1,9 +1,9 @@
 use Rattle.ikey.specs.Orders.{order_of}
-use Rattle.std.proofs.Common.{◌≡◌, ◌<◌, ◌+◌, ℕ, List, length, map, string_bytes, Result, Err, refl, sym, subst, arith, rules}
+use Rattle.std.proofs.Common.{◌≡◌, ◌<◌, ◌+◌, ℕ, List, length, map, string_bytes, Result, Err, inl, inr, refl, sym, subst, arith, rules}
 use Rattle.coding.specs.declared.error.DbError.{DbError}
 use Rattle.ikey.specs.declared.entry.Entry.{Entry}
 use Rattle.opening.specs.Looking.{IsSealedOf}
-use Rattle.opening.specs.internal.Durable.{HasDurable}
+use Rattle.opening.specs.internal.Durable.{HasDurable, SparesBeside}
 use Rattle.opening.specs.Durable.{LeavesDurable}
 use Rattle.opening.specs.declared.beginning.Begun.{Begun}
 use Rattle.opening.proofs.BegunSteps.{behind_stops, continued_same, continued_behind, begins, unwritten_stops}
@@ -13,6 +13,8 @@ use Rattle.opening.specs.Telling.{Tells}
 use Rattle.opening.proofs.Telling.{found_openable, store_tells}
 use Rattle.opening.proofs.AfterReading.{behind_read, beside_behind, outcome_behind, spared_behind, spared_same}
 use Rattle.opening.proofs.InDoubt.{entries_or_none, in_doubt, logs_found, tables_found}
+use Rattle.opening.proofs.LosingOpens.{behind_loses, unwritten_loses}
+use Rattle.opening.proofs.RenewSteps.{all_behind, renews_behind}
 use Rattle.opening.proofs.Reopening.{numbered_of, next_of}
 use Rattle.opening.proofs.Since.{found_behind}
 use Rattle.opening.proofs.Syncing.{spares_of, spares_tables}
@@ -132,9 +134,11 @@ returns-clause-synced g c = λ f.
       logs = in_doubt order old new found usable (c.in_ok-found.ensures.found back) (map string_bytes c.in_ok-rewrite.rewrite.front.items) c.in_ok-rewrite.ensures.front spares _ _ refl c.in_ok-rewrite.ensures.planned.log_name refl c.known_after.ensures.logs
           (entries_or_none found.entries.items);
       tables = spares_tables found.number old new num next spares;
+      beside = subst (λ (k : ℕ). SparesBeside k old new) (sym c.known_after.ensures.number) spares;
       found = λ n is there. subst (λ (k : ℕ). n < k) (sym c.known_after.ensures.number) (tables_found order old new found (c.in_ok-found.ensures.found back) (spares_tables found.number old new num next spares) n is there);
       begun = λ n is apart there. subst (λ (k : ℕ). n < k) (sym c.known_after.ensures.number)
           (logs_found order old new found usable (c.in_ok-found.ensures.found back) (map string_bytes c.in_ok-rewrite.rewrite.front.items) c.in_ok-rewrite.ensures.front spares (found.number + 1) refl n is apart there);
+      since = subst (λ (k : ℕ). k < found.number + 1) (sym c.known_after.ensures.number) (omega arith);
     }
 
 -- ---- where the writing fails
@@ -178,6 +182,48 @@ returns-clause-stops g c f =
     let m = c.in_ok-rewrite_directory.ensures.files.call.faithful f in
     behind_stops (order_of g.K.KeyOrder.name g.K.KeyOrder.cmp) (g.S.Store.facts c.args.store.now) (g.S.Store.facts c.find.new.store) (g.S.Store.facts c.rewrite_directory.new.store) c.in_ok-found.found
     (c.in_ok-found.ensures.store.calls m) (c.in_ok-found.ensures.store.same m) (c.in_ok-found.ensures.found m) (c.in_ok-rewrite_directory.ensures.stops f)
+
+-- ---- what a loss of power leaves
+
+pub returns-in_err-found-clause-loses : goal.returns-in_err-found-clause-loses
+returns-in_err-found-clause-loses g c f stays =
+    unwritten_loses (order_of g.K.KeyOrder.name g.K.KeyOrder.cmp) (g.S.Store.facts c.args.store.now) (g.S.Store.facts c.find.new.store) (c.in_err-found.ensures.store.calls f) (c.in_err-found.ensures.store.same f) (c.in_err-found.ensures.store.synced f) stays
+
+pub returns-in_err-version-clause-loses : goal.returns-in_err-version-clause-loses
+returns-in_err-version-clause-loses g c f stays =
+    unwritten_loses (order_of g.K.KeyOrder.name g.K.KeyOrder.cmp) (g.S.Store.facts c.args.store.now) (g.S.Store.facts c.find.new.store) (c.in_ok-found.ensures.store.calls f) (c.in_ok-found.ensures.store.same f) (c.in_ok-found.ensures.store.synced f) stays
+
+pub returns-in_err-rewrite-clause-loses : goal.returns-in_err-rewrite-clause-loses
+returns-in_err-rewrite-clause-loses g c f stays =
+    unwritten_loses (order_of g.K.KeyOrder.name g.K.KeyOrder.cmp) (g.S.Store.facts c.args.store.now) (g.S.Store.facts c.find.new.store) (c.in_ok-found.ensures.store.calls f) (c.in_ok-found.ensures.store.same f) (c.in_ok-found.ensures.store.synced f) stays
+
+pub returns-in_err-memory-clause-loses : goal.returns-in_err-memory-clause-loses
+returns-in_err-memory-clause-loses g c f stays =
+    unwritten_loses (order_of g.K.KeyOrder.name g.K.KeyOrder.cmp) (g.S.Store.facts c.args.store.now) (g.S.Store.facts c.find.new.store) (c.in_ok-found.ensures.store.calls f) (c.in_ok-found.ensures.store.same f) (c.in_ok-found.ensures.store.synced f) stays
+
+pub returns-in_err-rewrite_directory-clause-loses : goal.returns-in_err-rewrite_directory-clause-loses
+returns-in_err-rewrite_directory-clause-loses g c f stays =
+    let order = order_of g.K.KeyOrder.name g.K.KeyOrder.cmp in
+    let old = g.S.Store.facts c.args.store.now in
+    let mid = g.S.Store.facts c.find.new.store in
+    let wrote = c.in_err-rewrite_directory.ensures in
+    let m = wrote.files.call.faithful f in
+    let reads = c.in_ok-found.ensures.store in
+    let finds = c.in_ok-found.ensures.found m in
+    let stopped = wrote.stops f (found_behind order old mid c.in_ok-found.found (reads.same m) finds) in
+    behind_loses order old mid (g.S.Store.facts c.rewrite_directory.new.store) stopped.more c.in_ok-found.found (reads.calls m) (reads.same m) (reads.synced m) finds stays stopped.calls (wrote.loses f)
+
+pub returns-clause-loses : goal.returns-clause-loses
+returns-clause-loses g c f stays =
+    let order = order_of g.K.KeyOrder.name g.K.KeyOrder.cmp in
+    let old = g.S.Store.facts c.args.store.now in
+    let mid = g.S.Store.facts c.find.new.store in
+    let wrote = c.in_ok-rewrite_directory.ensures in
+    let m = wrote.files.call.faithful f in
+    let reads = c.in_ok-found.ensures.store in
+    let finds = c.in_ok-found.ensures.found m in
+    let stopped = wrote.stops f (found_behind order old mid c.in_ok-found.found (reads.same m) finds) in
+    behind_loses order old mid (g.S.Store.facts c.rewrite_directory.new.store) stopped.more c.in_ok-found.found (reads.calls m) (reads.same m) (reads.synced m) finds stays stopped.calls (wrote.loses f)
 
 -- ---- in each directory that differs in tables alone
 
@@ -246,3 +292,84 @@ pub returns-clause-since : goal.returns-clause-since
 returns-clause-since g c = λ f.
     let back = c.in_ok-rewrite_directory.ensures.files.call.faithful f in
     c.in_ok-rewrite_directory.ensures.since f (found_behind (order_of g.K.KeyOrder.name g.K.KeyOrder.cmp) (g.S.Store.facts c.args.store.now) (g.S.Store.facts c.find.new.store) c.in_ok-found.found (c.in_ok-found.ensures.store.same back) (c.in_ok-found.ensures.found back))
+
+-- ---- call by call
+
+pub returns-in_err-found-clause-renews : goal.returns-in_err-found-clause-renews
+returns-in_err-found-clause-renews g c f =
+    let reads = c.in_err-found.ensures.store in
+    inl (reads.calls f, λ i. record { files = reads.same f i; synced = reads.synced f i })
+
+pub returns-in_err-version-clause-renews : goal.returns-in_err-version-clause-renews
+returns-in_err-version-clause-renews g c f =
+    let reads = c.in_ok-found.ensures.store in
+    inl (reads.calls f, λ i. record { files = reads.same f i; synced = reads.synced f i })
+
+pub returns-in_err-rewrite-clause-renews : goal.returns-in_err-rewrite-clause-renews
+returns-in_err-rewrite-clause-renews g c f =
+    let reads = c.in_ok-found.ensures.store in
+    inl (reads.calls f, λ i. record { files = reads.same f i; synced = reads.synced f i })
+
+pub returns-in_err-memory-clause-renews : goal.returns-in_err-memory-clause-renews
+returns-in_err-memory-clause-renews g c f =
+    let reads = c.in_ok-found.ensures.store in
+    inl (reads.calls f, λ i. record { files = reads.same f i; synced = reads.synced f i })
+
+pub returns-in_err-rewrite_directory-clause-renews : goal.returns-in_err-rewrite_directory-clause-renews
+returns-in_err-rewrite_directory-clause-renews g c f =
+    let old = g.S.Store.facts c.args.store.now in
+    let mid = g.S.Store.facts c.find.new.store in
+    let wrote = c.in_err-rewrite_directory.ensures in
+    let m = wrote.files.call.faithful f in
+    let reads = c.in_ok-found.ensures.store in
+    let rewrite = c.in_ok-rewrite.rewrite in
+    inr (record {
+      found = c.in_ok-found.found;
+      rewrite = rewrite;
+      usable = c.in_ok-found.ensures.usable;
+      finds = c.in_ok-found.ensures.found m;
+      planned = c.in_ok-rewrite.ensures.planned;
+      renews = renews_behind old mid (g.S.Store.facts c.rewrite_directory.new.store) (string_bytes rewrite.manifest_name) rewrite.manifest.items (string_bytes rewrite.temporary_name) rewrite.current.items (string_bytes rewrite.log_name)
+          (reads.calls m, λ i. record { files = reads.same m i; synced = reads.synced m i }) (wrote.renews f);
+    })
+
+pub returns-clause-renews : goal.returns-clause-renews
+returns-clause-renews g c f =
+    let old = g.S.Store.facts c.args.store.now in
+    let mid = g.S.Store.facts c.find.new.store in
+    let wrote = c.in_ok-rewrite_directory.ensures in
+    let m = wrote.files.call.faithful f in
+    let reads = c.in_ok-found.ensures.store in
+    let rewrite = c.in_ok-rewrite.rewrite in
+    inr (record {
+      found = c.in_ok-found.found;
+      rewrite = rewrite;
+      usable = c.in_ok-found.ensures.usable;
+      finds = c.in_ok-found.ensures.found m;
+      planned = c.in_ok-rewrite.ensures.planned;
+      renews = renews_behind old mid (g.S.Store.facts c.rewrite_directory.new.store) (string_bytes rewrite.manifest_name) rewrite.manifest.items (string_bytes rewrite.temporary_name) rewrite.current.items (string_bytes rewrite.log_name)
+          (reads.calls m, λ i. record { files = reads.same m i; synced = reads.synced m i }) (wrote.renews f);
+    })
+
+pub returns-clause-renewed : goal.returns-clause-renewed
+returns-clause-renewed g c f =
+    let order = order_of g.K.KeyOrder.name g.K.KeyOrder.cmp in
+    let old = g.S.Store.facts c.args.store.now in
+    let mid = g.S.Store.facts c.find.new.store in
+    let wrote = c.in_ok-rewrite_directory.ensures in
+    let m = wrote.files.call.faithful f in
+    let reads = c.in_ok-found.ensures.store in
+    let found = c.in_ok-found.found in
+    let rewrite = c.in_ok-rewrite.rewrite in
+    let finds = c.in_ok-found.ensures.found m in
+    record {
+      found = found;
+      rewrite = rewrite;
+      usable = c.in_ok-found.ensures.usable;
+      finds = finds;
+      planned = c.in_ok-rewrite.ensures.planned;
+      renews = all_behind old mid (g.S.Store.facts c.rewrite_directory.new.store) (string_bytes rewrite.manifest_name) rewrite.manifest.items (string_bytes rewrite.temporary_name) rewrite.current.items (string_bytes rewrite.log_name)
+          (reads.calls m, λ i. record { files = reads.same m i; synced = reads.synced m i }) (wrote.renewed f (found_behind order old mid found (reads.same m) finds));
+      log_number = refl;
+      manifest_number = c.known_after.ensures.number;
+    }

@@ -6,8 +6,11 @@ use Rattle.edits.specs.declared.names.FileName.TheVariants.{Current}
 use Rattle.directory_writes.proofs.StoreCalls.{behind_added}
 use Rattle.opening.specs.internal.Calls.{MakesCurrent}
 use Rattle.opening.specs.internal.Durable.{MakesSynced}
+use Rattle.opening.specs.internal.Renewing.{IsWritten}
+use Rattle.opening.proofs.RenewSteps.{renamed_by, sets_moved, sets_synced, sets_unwritten}
 use Rattle.opening.proofs.Syncing.{current_unwritten, current_unset, current_set, synced_again, not_synced_again}
 use Rattle.opening.proofs.StoreCalls.{current_not_written, not_renamed, current_made, current_kept, current_not_kept, renamed_stops, unset_stops}
+use Rattle.opening.proofs.Uncut.{kept_loses, moved, moved_or_not, renamed_loses, unset_loses}
 use Rattle.opening.proofs.files.make_current.Goals as goal
 
 pub returns-in_err-write_file-clause-files : goal.returns-in_err-write_file-clause-files
@@ -92,3 +95,105 @@ returns-clause-stops g c f =
 
 pub returns-clause-ends : goal.returns-clause-ends
 returns-clause-ends g c = λ f. behind_added (g.S.Store.facts c.rename.new.self) (g.S.Store.facts c.sync.new.self) (name_of Current) (c.in_default-sync.ensures.calls.ok f)
+
+-- ---- what a loss of power leaves
+
+pub returns-in_err-write_file-clause-loses : goal.returns-in_err-write_file-clause-loses
+returns-in_err-write_file-clause-loses g c f apart stays = unset_loses (g.S.Store.facts c.args.store.now) c.args.temporary.now c.args.bytes.now (g.S.Store.facts c.write_file.new.store) (c.in_err-write_file.ensures.stops f) stays
+
+pub returns-in-Err-clause-loses : goal.returns-in-Err-clause-loses
+returns-in-Err-clause-loses g c f apart stays =
+    let old = g.S.Store.facts c.args.store.now in
+    let mid = g.S.Store.facts c.write_file.new.store in
+    let new = g.S.Store.facts c.rename.new.self in
+    let m = c.rename.ensures.counts.faithful f in
+    let wrote = c.in_ok-write_file.ensures in
+    let written : IsWritten old mid c.args.temporary.now c.args.bytes.now = record { only = wrote.stops m; there = wrote.files.ok m; kept = wrote.synced.ok m; ends = wrote.ends m } in
+    renamed_loses old c.args.temporary.now c.args.bytes.now mid new written
+    (moved_or_not mid new c.args.temporary.now c.args.bytes.now c.in-Err.error apart written.there c.in-Err.ensures.files c.in-Err.ensures.synced c.in-Err.ensures.calls (λ e. c.in-Err.ensures.missing (λ i. Err (e i))) f)
+    stays
+
+pub returns-in-Err-sync-clause-loses : goal.returns-in-Err-sync-clause-loses
+returns-in-Err-sync-clause-loses g c f apart stays =
+    let old = g.S.Store.facts c.args.store.now in
+    let mid = g.S.Store.facts c.write_file.new.store in
+    let third = g.S.Store.facts c.rename.new.self in
+    let l = c.sync.ensures.counts.faithful f in
+    let m = c.rename.ensures.counts.faithful l in
+    let wrote = c.in_ok-write_file.ensures in
+    let written : IsWritten old mid c.args.temporary.now c.args.bytes.now = record { only = wrote.stops m; there = wrote.files.ok m; kept = wrote.synced.ok m; ends = wrote.ends m } in
+    kept_loses old c.args.temporary.now c.args.bytes.now mid third (g.S.Store.facts c.sync.new.self) c.sync.result written
+    (moved mid third c.args.temporary.now (c.rename.ensures.calls.noted l) (c.in_default.ensures.synced.ok l)) (c.in_default.ensures.files.ok l) (c.in_default.ensures.synced.ok l) stays
+    (c.sync.ensures.calls.ok f) (c.sync.ensures.calls.err f) (c.sync.ensures.same f) (c.sync.ensures.synced f) (c.sync.ensures.unsynced f)
+
+pub returns-clause-loses : goal.returns-clause-loses
+returns-clause-loses g c f apart stays =
+    let old = g.S.Store.facts c.args.store.now in
+    let mid = g.S.Store.facts c.write_file.new.store in
+    let third = g.S.Store.facts c.rename.new.self in
+    let l = c.sync.ensures.counts.faithful f in
+    let m = c.rename.ensures.counts.faithful l in
+    let wrote = c.in_ok-write_file.ensures in
+    let written : IsWritten old mid c.args.temporary.now c.args.bytes.now = record { only = wrote.stops m; there = wrote.files.ok m; kept = wrote.synced.ok m; ends = wrote.ends m } in
+    kept_loses old c.args.temporary.now c.args.bytes.now mid third (g.S.Store.facts c.sync.new.self) c.sync.result written
+    (moved mid third c.args.temporary.now (c.rename.ensures.calls.noted l) (c.in_default.ensures.synced.ok l)) (c.in_default.ensures.files.ok l) (c.in_default.ensures.synced.ok l) stays
+    (c.sync.ensures.calls.ok f) (c.sync.ensures.calls.err f) (c.sync.ensures.same f) (c.sync.ensures.synced f) (c.sync.ensures.unsynced f)
+
+-- ---- call by call
+
+pub returns-in_err-write_file-clause-sets : goal.returns-in_err-write_file-clause-sets
+returns-in_err-write_file-clause-sets g c f apart =
+    let new = g.S.Store.facts c.write_file.new.store in
+    sets_unwritten (g.S.Store.facts c.args.store.now) new c.args.temporary.now c.args.bytes.now (λ last. last ≡ new) (c.in_err-write_file.ensures.stops f)
+
+pub returns-in-Err-clause-sets : goal.returns-in-Err-clause-sets
+returns-in-Err-clause-sets g c f apart =
+    let old = g.S.Store.facts c.args.store.now in
+    let mid = g.S.Store.facts c.write_file.new.store in
+    let new = g.S.Store.facts c.rename.new.self in
+    let m = c.rename.ensures.counts.faithful f in
+    let wrote = c.in_ok-write_file.ensures in
+    let written : IsWritten old mid c.args.temporary.now c.args.bytes.now = record { only = wrote.stops m; there = wrote.files.ok m; kept = wrote.synced.ok m; ends = wrote.ends m } in
+    sets_moved old mid new c.args.temporary.now c.args.bytes.now (λ last. last ≡ new) written
+    (moved_or_not mid new c.args.temporary.now c.args.bytes.now c.in-Err.error apart written.there c.in-Err.ensures.files c.in-Err.ensures.synced c.in-Err.ensures.calls (λ e. c.in-Err.ensures.missing (λ i. Err (e i))) f)
+
+pub returns-in-Err-sync-clause-sets : goal.returns-in-Err-sync-clause-sets
+returns-in-Err-sync-clause-sets g c f apart =
+    let old = g.S.Store.facts c.args.store.now in
+    let mid = g.S.Store.facts c.write_file.new.store in
+    let third = g.S.Store.facts c.rename.new.self in
+    let new = g.S.Store.facts c.sync.new.self in
+    let l = c.sync.ensures.counts.faithful f in
+    let m = c.rename.ensures.counts.faithful l in
+    let wrote = c.in_ok-write_file.ensures in
+    let written : IsWritten old mid c.args.temporary.now c.args.bytes.now = record { only = wrote.stops m; there = wrote.files.ok m; kept = wrote.synced.ok m; ends = wrote.ends m } in
+    let done = renamed_by mid third c.args.temporary.now c.args.bytes.now apart written.there (moved mid third c.args.temporary.now (c.rename.ensures.calls.noted l) (c.in_default.ensures.synced.ok l)) (c.in_default.ensures.files.ok l) in
+    sets_synced old mid third new c.args.temporary.now c.args.bytes.now c.sync.result written done
+    (c.sync.ensures.calls.ok f) (c.sync.ensures.calls.err f) (c.sync.ensures.same f) (c.sync.ensures.synced f) (c.sync.ensures.unsynced f)
+
+pub returns-clause-sets : goal.returns-clause-sets
+returns-clause-sets g c f apart =
+    let old = g.S.Store.facts c.args.store.now in
+    let mid = g.S.Store.facts c.write_file.new.store in
+    let third = g.S.Store.facts c.rename.new.self in
+    let new = g.S.Store.facts c.sync.new.self in
+    let l = c.sync.ensures.counts.faithful f in
+    let m = c.rename.ensures.counts.faithful l in
+    let wrote = c.in_ok-write_file.ensures in
+    let written : IsWritten old mid c.args.temporary.now c.args.bytes.now = record { only = wrote.stops m; there = wrote.files.ok m; kept = wrote.synced.ok m; ends = wrote.ends m } in
+    let done = renamed_by mid third c.args.temporary.now c.args.bytes.now apart written.there (moved mid third c.args.temporary.now (c.rename.ensures.calls.noted l) (c.in_default.ensures.synced.ok l)) (c.in_default.ensures.files.ok l) in
+    sets_synced old mid third new c.args.temporary.now c.args.bytes.now c.sync.result written done
+    (c.sync.ensures.calls.ok f) (c.sync.ensures.calls.err f) (c.sync.ensures.same f) (c.sync.ensures.synced f) (c.sync.ensures.unsynced f)
+
+pub returns-clause-whole : goal.returns-clause-whole
+returns-clause-whole g c f apart =
+    let old = g.S.Store.facts c.args.store.now in
+    let mid = g.S.Store.facts c.write_file.new.store in
+    let third = g.S.Store.facts c.rename.new.self in
+    let new = g.S.Store.facts c.sync.new.self in
+    let l = c.sync.ensures.counts.faithful f in
+    let m = c.rename.ensures.counts.faithful l in
+    let wrote = c.in_ok-write_file.ensures in
+    let written : IsWritten old mid c.args.temporary.now c.args.bytes.now = record { only = wrote.stops m; there = wrote.files.ok m; kept = wrote.synced.ok m; ends = wrote.ends m } in
+    let done = renamed_by mid third c.args.temporary.now c.args.bytes.now apart written.there (moved mid third c.args.temporary.now (c.rename.ensures.calls.noted l) (c.in_default.ensures.synced.ok l)) (c.in_default.ensures.files.ok l) in
+    (mid, third, written, done, (c.in_default-sync.ensures.calls.ok f, c.in_default-sync.ensures.synced f))

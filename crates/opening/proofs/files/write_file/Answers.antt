@@ -1,5 +1,6 @@
 use Rattle.std.proofs.Common.{◌≡◌, Result, Ok, Err, sym, ◌∙◌, subst, rules}
 use Rattle.coding.specs.declared.error.DbError.{DbError}
+use Rattle.directory_writes.proofs.StoreCalls.{behind_added}
 use Rattle.opening.specs.internal.Calls.{Writes}
 use Rattle.opening.specs.internal.Durable.{WritesSynced}
 use Rattle.opening.proofs.Syncing.{unwritten, unwritten_behind, written}
@@ -81,3 +82,6 @@ returns-clause-stops g c f =
     synced_stops old most new c.args.name.now c.sync.result
     (appended_stops old mid most c.args.name.now c.args.bytes.now (c.in_ok-create_file.ensures.only (c.append.ensures.counts.faithful m)) (c.append.ensures.calls.noted m) (c.append.ensures.synced m))
     (c.sync.ensures.calls.ok f) (c.sync.ensures.calls.err f) (c.sync.ensures.same f) (sync_others most new c.args.name.now c.sync.result (c.sync.ensures.synced f) (c.sync.ensures.unsynced f))
+
+pub returns-clause-ends : goal.returns-clause-ends
+returns-clause-ends g c = λ f. behind_added (g.S.Store.facts c.append.new.self) (g.S.Store.facts c.sync.new.self) c.args.name.now (c.in_default-sync.ensures.calls.ok f)
