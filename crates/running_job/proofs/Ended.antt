@@ -1,6 +1,7 @@
 -- A job that is ended.
 use Rattle.std.proofs.Common.{◌≡◌, ◌≤◌, ◌^◌, ℕ, IfErr, OnOk, List, Err, Ok, Result, inl, map, refl, subst}
 use Rattle.std.proofs.lemmas.List.{append-nil}
+use Rattle.std.specs.List.{Contains}
 use Rattle.coding.specs.declared.error.DbError.TheVariants.{Corrupt, Io, NumbersSpent, OutOfMemory, Unsupported}
 use Rattle.compact.specs.Merging.{IsMerging}
 use Rattle.edits.specs.declared.field.PlacedTable.{PlacedTable}
@@ -9,19 +10,21 @@ use Rattle.ikey.specs.Entries.{InternalEntry, entry_of}
 use Rattle.ikey.specs.Orders.{Order}
 use Rattle.ikey.specs.Sources.{SameEntries}
 use Rattle.running_job.specs.declared.open_job.OpenJob.{OpenJob}
-use Rattle.running_job.specs.internal.Ending.{CanEnd, EndLeaves, EndMayLeave, RefusesEnd}
+use Rattle.running_job.specs.internal.Ending.{CanEnd, EndLeaves, EndMayLeave, EndMayPutOwn, RefusesEnd}
 use Rattle.running_job.specs.Running.{HasMerged, deep_of}
 use Rattle.recover.specs.Directory.{Directory}
 use Rattle.recover.specs.Tables.{tabled}
 use Rattle.db_cursor.specs.Whole.{Whole}
 use Rattle.store.specs.Files.{Facts}
 use Rattle.store.specs.Stops.{LeavesOnly}
-use Rattle.store.proofs.Stopping.{leaves_same, leaves_so}
+use Rattle.store.proofs.Stopping.{leaves_same, leaves_so, others_same}
 use Rattle.directory_writes.specs.declared.flush.FlushError.{FlushError}
 use Rattle.directory_writes.specs.declared.flush.FlushError.TheVariants.{Before, Edit}
 use Rattle.directory_writes.specs.declared.install.Installed.{Installed}
 use Rattle.directory_writes.specs.declared.manifest.CurrentManifest.{CurrentManifest}
-use Rattle.directory_writes.specs.internal.Install.{CanInstall, InstallLeaves, InstallMayLeave, IsServed, RefusesInstall}
+use Rattle.directory_writes.specs.internal.Install.{CanInstall, InstallLeaves, InstallMayLeave, InstallMayPutOwn, IsServed, RefusesInstall}
+use Rattle.directory_writes.specs.internal.Putting.{WritesThenPuts}
+use Rattle.directory_writes.proofs.Installs.{same_tables}
 
 -- what is so, is so where it is done
 pub on_ok : {T E : Type 0} (result : Result T E) (P : Type 0) → P → OnOk result P
@@ -87,3 +90,20 @@ module _ {K : Type 0} {g : Ghosts K} (order : Order) (work : OpenJob K g) (old :
   end_stopped few new h =
       leaves_so old new (InstallMayLeave order work.job old next last_sequence manifest tables) (EndMayLeave order old next last_sequence manifest tables work)
       (λ files left whole d came is can. left (deep_of order.cmp work) came d can.running.inputs can.running.rest (installable few whole d came is can)) h
+
+  -- nothing is put in
+  pub end_unstopped_own : LeavesOnly old old (EndMayPutOwn order old next last_sequence manifest tables work)
+  end_unstopped_own =
+      leaves_same old old (EndMayPutOwn order old next last_sequence manifest tables work) refl refl
+      (λ whole d came is can e good placed there.
+      let served = subst (λ (facts : Facts). IsServed order facts.files next manifest tables d) is can.served in
+      inl (subst (λ (ps : List PlacedTable). Contains ps placed) (same_tables order old.files e d good served.consistent) there))
+
+  pub end_stopped_own : next ≤ 2 ^ 62 → (new : Facts) → LeavesOnly old new (InstallMayPutOwn order work.job old next last_sequence manifest tables) → LeavesOnly old new (EndMayPutOwn order old next last_sequence manifest tables work)
+  end_stopped_own few new h =
+      leaves_so old new (InstallMayPutOwn order work.job old next last_sequence manifest tables) (EndMayPutOwn order old next last_sequence manifest tables work)
+      (λ files left whole d came is can. left (deep_of order.cmp work) came d can.running.inputs can.running.rest (installable few whole d came is can)) h
+
+-- nothing is written, and no edit put in
+pub puts_none : (old : Facts) (mine : List ℕ → Type 0) (name : List ℕ) (is_kept : Facts → Type 0) → WritesThenPuts old old mine name is_kept
+puts_none old mine name is_kept = record { mid = old; writes = others_same old old mine refl refl refl; puts = inl (refl, refl) }

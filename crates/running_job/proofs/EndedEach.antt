@@ -15,14 +15,14 @@ use Rattle.recover.specs.Tables.{TableContent}
 use Rattle.store.specs.Files.{Facts, Files}
 use Rattle.store.specs.Stops.{LeavesOnly}
 use Rattle.store.proofs.Stopping.{leaves_same, leaves_so}
-use Rattle.directory_writes.proofs.JobsEach.{merging_each}
+use Rattle.directory_writes.proofs.JobsEach.{merging_each, merging_stayed}
 use Rattle.directory_writes.proofs.SameChanges.{also, unchanged_too}
 use Rattle.directory_writes.specs.Differing.{OfEach, with_files}
 use Rattle.directory_writes.specs.declared.flush.FlushError.{FlushError}
 use Rattle.directory_writes.specs.declared.flush.FlushError.TheVariants.{Before}
 use Rattle.directory_writes.specs.declared.install.Installed.{Installed}
 use Rattle.directory_writes.specs.declared.manifest.CurrentManifest.{CurrentManifest}
-use Rattle.directory_writes.specs.internal.Each.{HasSameOutputs}
+use Rattle.directory_writes.specs.internal.Each.{HasSameOutputs, HaveStayed}
 use Rattle.directory_writes.specs.internal.Flush.{KeepsLogsAndTables}
 use Rattle.directory_writes.specs.internal.Install.{CanInstall, InstallLeaves, InstallMayLeave, InstallPutsOwn, IsServed}
 
@@ -49,20 +49,24 @@ module _ {K : Type 0} {g : Ghosts K} (order : Order) (work : OpenJob K g) (old :
         used = can.used;
       }
 
+  -- those that were ended have stayed under their names
+  stayed : (ideal : Files) (d : Directory) (came : List InternalEntry) (inputs rest : List TableContent) → CanEndOver order old ideal next last_sequence manifest tables d work came inputs rest → HaveStayed work.job.outputs old
+  stayed ideal d came inputs rest can = merging_stayed order.cmp (deep_of order.cmp work) work.job.last.items work.job.selection work.job.outputs old next came can.merged.merging
+
   abbrev pub EndsEach : Facts → Result (Installed K) FlushError → Type 0
   EndsEach new result = OfEach (λ ideal after. EndLeavesOver order old new ideal after next last_sequence manifest tables work result) old.files new.files
 
   pub ends_each : AreNumbered work.job.outputs next → next ≤ 2 ^ 62 → (new : Facts) (result : Result (Installed K) FlushError)
-      → OfEach (λ ideal after. HasSameOutputs work.job.outputs old.files ideal → InstallLeaves order work.job (with_files old ideal) (with_files new after) next last_sequence manifest tables result) old.files new.files → EndsEach new result
+      → OfEach (λ ideal after. HasSameOutputs work.job.outputs old.files ideal → HaveStayed work.job.outputs old → InstallLeaves order work.job (with_files old ideal) (with_files new after) next last_sequence manifest tables result) old.files new.files → EndsEach new result
   ends_each numbered few new result each ideal after differs c t d came inputs rest can =
-      each ideal after differs c can.outputs t (deep_of order.cmp work) came d inputs rest (installable_over numbered few ideal d came inputs rest can)
+      each ideal after differs c can.outputs (stayed ideal d came inputs rest can) t (deep_of order.cmp work) came d inputs rest (installable_over numbered few ideal d came inputs rest can)
 
   -- whose tables it puts in where the device failed at the edit
   pub puts_each : AreNumbered work.job.outputs next → next ≤ 2 ^ 62 → (new : Facts) (result : Result (Installed K) FlushError)
-      → OfEach (λ ideal after. HasSameOutputs work.job.outputs old.files ideal → InstallPutsOwn order work.job (with_files old ideal) (with_files new after) next last_sequence manifest tables result) old.files new.files
+      → OfEach (λ ideal after. HasSameOutputs work.job.outputs old.files ideal → HaveStayed work.job.outputs old → InstallPutsOwn order work.job (with_files old ideal) (with_files new after) next last_sequence manifest tables result) old.files new.files
       → OfEach (λ ideal after. EndPutsOwn order old new ideal after next last_sequence manifest tables work result) old.files new.files
   puts_each numbered few new result each ideal after differs c is t d came inputs rest can e good placed there =
-      elim (each ideal after differs c can.outputs is t (deep_of order.cmp work) came d inputs rest (installable_over numbered few ideal d came inputs rest can) e good placed there) [
+      elim (each ideal after differs c can.outputs (stayed ideal d came inputs rest can) is t (deep_of order.cmp work) came d inputs rest (installable_over numbered few ideal d came inputs rest can) e good placed there) [
         | inl old_one ↦ inl old_one
         | inr own ↦ inr (own.0, (own.1.0, sym (also old.files new.files ideal after differs c (table_name placed.table.number) (can.outputs placed.table.number own.0)) ∙ own.1.1))
       ]
@@ -97,8 +101,8 @@ module _ {K : Type 0} {g : Ghosts K} (order : Order) (work : OpenJob K g) (old :
       })
 
   pub stopped_each : AreNumbered work.job.outputs next → next ≤ 2 ^ 62 → (new : Facts)
-      → LeavesOnly old new (λ files. OfEach (λ ideal after. HasSameOutputs work.job.outputs old.files ideal → InstallMayLeave order work.job (with_files old ideal) next last_sequence manifest tables after) old.files files) → LeavesOnly old new StopsEach
+      → LeavesOnly old new (λ files. OfEach (λ ideal after. HasSameOutputs work.job.outputs old.files ideal → HaveStayed work.job.outputs old → InstallMayLeave order work.job (with_files old ideal) next last_sequence manifest tables after) old.files files) → LeavesOnly old new StopsEach
   stopped_each numbered few new h =
-      leaves_so old new (λ files. OfEach (λ ideal after. HasSameOutputs work.job.outputs old.files ideal → InstallMayLeave order work.job (with_files old ideal) next last_sequence manifest tables after) old.files files) StopsEach
+      leaves_so old new (λ files. OfEach (λ ideal after. HasSameOutputs work.job.outputs old.files ideal → HaveStayed work.job.outputs old → InstallMayLeave order work.job (with_files old ideal) next last_sequence manifest tables after) old.files files) StopsEach
       (λ files left ideal after differs c d came inputs rest can.
-      left ideal after differs c can.outputs (deep_of order.cmp work) came d inputs rest (installable_over numbered few ideal d came inputs rest can)) h
+      left ideal after differs c can.outputs (stayed ideal d came inputs rest can) (deep_of order.cmp work) came d inputs rest (installable_over numbered few ideal d came inputs rest can)) h

@@ -26,7 +26,16 @@ closed_on cmp a b [] (pairs ∷ ts) k h = absurd h
 closed_on cmp a b (table ∷ cs) [] k h = absurd h
 closed_on cmp a b (table ∷ cs) (pairs ∷ ts) k h = (
   (let same = k table.number (0, table, omega arith, refl, refl) in
-      record { file = h.0.file; has = same.0 ∙ h.0.has; synced = same.1 h.0.file h.0.has h.0.synced; table_of = h.0.table_of; size = h.0.size; smallest = h.0.smallest; largest = h.0.largest }),
+      record {
+        file = h.0.file;
+        has = same.0 ∙ h.0.has;
+        synced = same.1 h.0.file h.0.has h.0.synced;
+        stays = same.2 h.0.stays;
+        table_of = h.0.table_of;
+        size = h.0.size;
+        smallest = h.0.smallest;
+        largest = h.0.largest;
+      }),
   closed_on cmp a b cs ts (λ number at. k number (suc at.0, at.1, omega (arith, at.2), at.3, at.4)) h.1,
 )
 

@@ -55,7 +55,7 @@ impl<K: KeyOrder> OpenJob<K> {
     ghost use Rattle.std.specs.List.Sorted.{IsNonDecreasing};
     ghost use Rattle.ikey.specs.Orders.{order_of};
     ghost use Rattle.running_job.specs.internal.Beginning.{BeginTears, BeginsJob, MayBeginJob, RefusesBegin};
-    ghost use Rattle.running_job.specs.internal.Ending.{EndLeaves, EndLeavesOver, EndMayLeave, EndMayLeaveOver, EndPutsOwn, RefusesEnd};
+    ghost use Rattle.running_job.specs.internal.Ending.{EndLeaves, EndLeavesOver, EndMayLeave, EndMayLeaveOver, EndMayPutOwn, EndPutsOwn, RefusesEnd};
     ghost use Rattle.directory_writes.specs.Differing.{OfEach};
     ghost use Rattle.running_job.specs.Running.{HasMerged, goes_over, is_input, shown};
     ghost use Rattle.running_job.specs.internal.Stepping.{GoesOn, KeepsDirectory, KeepsSound, MayGoOn, RefusesStep, StepStops, StepTears, StepTouches};
@@ -67,7 +67,8 @@ impl<K: KeyOrder> OpenJob<K> {
     ghost use Rattle.store.specs.Stops.{LeavesOnly};
     ghost use Rattle.compact.specs.Outputs.{IsNumberAtHand, IsOwn, IsTableName};
     ghost use Rattle.directory_writes.specs.internal.Flush.{SparesManifest};
-    ghost use Rattle.directory_writes.specs.internal.Install.{HasJobVersion, InstallSyncs, InstallTouches};
+    ghost use Rattle.directory_writes.specs.internal.Install.{AreOutputsKept, HasJobVersion, InstallSyncs, InstallTouches};
+    ghost use Rattle.directory_writes.specs.internal.Putting.{WritesThenPuts};
     ghost use Rattle.versions.specs.Levels.{HasNumber as HasTable};
     ghost use Rattle.versions.specs.Plans.{IsPlanOf};
 
@@ -251,8 +252,14 @@ impl<K: KeyOrder> OpenJob<K> {
         ensures stops_each { IsTrue (S.facts store.new).faithful → LeavesOnly (S.facts store.old) (S.facts store.new)
             (λ files. OfEach (λ ideal after. EndMayLeaveOver (order_of K.name K.cmp) (S.facts store.old) ideal after numbers.now.next
             last_sequence manifest.now version.now.tables self) (S.facts store.old).files files) }
+        ensures stops_own { IsTrue (S.facts store.new).faithful → LeavesOnly (S.facts store.old) (S.facts store.new)
+            (EndMayPutOwn (order_of K.name K.cmp) (S.facts store.old) numbers.now.next last_sequence manifest.now
+            version.now.tables self) }
         ensures carries { IsTrue (S.facts store.new).faithful → CarriesBut (S.facts store.old) (S.facts store.new)
             (IsTableName (IsNumberAtHand self.job.outputs)) }
+        ensures puts { IsTrue (S.facts store.new).faithful → WritesThenPuts (S.facts store.old) (S.facts store.new)
+            (IsTableName (IsNumberAtHand self.job.outputs)) (string_bytes manifest.now.name)
+            (AreOutputsKept K.cmp self.job (S.facts store.old) numbers.now.next) }
         ensures ends { IsTrue (S.facts store.new).faithful → OnOk result (behind_sync [] (S.facts store.new).calls ≡ []) }
     {
         if numbers.next < self.next {

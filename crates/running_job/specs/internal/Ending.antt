@@ -20,7 +20,7 @@ use Rattle.directory_writes.specs.declared.install.Installed.{Installed}
 use Rattle.directory_writes.specs.declared.manifest.CurrentManifest.{CurrentManifest}
 use Rattle.directory_writes.specs.Replacing.{IsPlanned, OwnsNone}
 use Rattle.directory_writes.specs.internal.Each.{HasSameOutputs}
-use Rattle.directory_writes.specs.internal.Install.{InstallMeans, IsServed, MayBeInstalled}
+use Rattle.directory_writes.specs.internal.Install.{InstallMeans, IsServed, MayBeInstalled, PutsOwn}
 
 -- The directory is served by these parts, and all entries of the inputs came to the job that is under way over it.
 pub record CanEnd {K : Type 0} {g : _} (order : Order) (whole : Whole) (next last_sequence : ℕ) (manifest : CurrentManifest) (tables : List PlacedTable) (d : Directory) (work : OpenJob K g) (came : List InternalEntry) : Type 0 where
@@ -39,6 +39,11 @@ abbrev pub EndMayLeave : {K : Type 0} {g : _} → Order → Facts → ℕ → �
 EndMayLeave order old next last_sequence manifest tables work new =
     (whole : Whole) (d : Directory) (came : List InternalEntry) → whole.seen.facts ≡ old → (can : CanEnd order whole next last_sequence manifest tables d work came)
     → MayBeInstalled order (deep_of order.cmp work) work.job.plan.output_level work.job.selection.snapshots old.files new next came d can.running.inputs can.running.rest
+
+-- And each table of what a stop leaves was there before, or is one that the job wrote.
+abbrev pub EndMayPutOwn : {K : Type 0} {g : _} → Order → Facts → ℕ → ℕ → CurrentManifest → List PlacedTable → OpenJob K g → Files → Type 0
+EndMayPutOwn order old next last_sequence manifest tables work new =
+    (whole : Whole) (d : Directory) (came : List InternalEntry) → whole.seen.facts ≡ old → CanEnd order whole next last_sequence manifest tables d work came → PutsOwn order work.job.outputs new d
 
 -- Why it isn't ended: out of memory, while no call of the store failed; since the store failed; never as Corrupt over such a
 -- directory; as Unsupported only where the inputs' entries are large; or where numbers are above 2^62.

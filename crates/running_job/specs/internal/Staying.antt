@@ -13,12 +13,14 @@ use Rattle.recover.specs.Tables.{TableContent}
 use Rattle.db_cursor.specs.Whole.{Whole}
 use Rattle.table_access.specs.Tables.{IsSound, KeepsOf}
 use Rattle.store.specs.Files.{Facts}
+use Rattle.store.specs.Losses.{StaysNamed}
 use Rattle.directory_writes.specs.Replacing.{OwnsNone, IsPlanned}
 
--- the file of this name is as it was, and if it was synced whole it is so still
+-- the file of this name is as it was, and if it was synced whole, or has stayed under its name since the last sync, it is and has so still
 abbrev pub LeavesWhole : Facts → Facts → List ℕ → Type 0
 LeavesWhole old new name =
     (get new.files name ≡ get old.files name) × ((file : List ℕ) → get old.files name ≡ Some file → old.synced name ≡ Some file → new.synced name ≡ Some file)
+    × (StaysNamed old name → StaysNamed new name)
 
 -- so are the files of the tables that the job has written, ended or at hand
 abbrev pub KeepsOutputs : TablesWritten → Facts → Facts → Type 0

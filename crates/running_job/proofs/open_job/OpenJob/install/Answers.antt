@@ -5,7 +5,7 @@ use Rattle.coding.specs.declared.error.FileKind.TheVariants.{Table}
 use Rattle.directory_writes.specs.declared.flush.FlushError.TheVariants.{Before}
 use Rattle.compact.proofs.Numbered.{numbered-later}
 use Rattle.ikey.specs.Orders.{order_of}
-use Rattle.running_job.proofs.Ended.{end_stopped, end_unstopped, has_merged, leaves_end, on_ok, refuses_end}
+use Rattle.running_job.proofs.Ended.{end_stopped, end_stopped_own, end_unstopped, end_unstopped_own, has_merged, leaves_end, on_ok, puts_none, refuses_end}
 use Rattle.running_job.proofs.EndedEach.{ends_each, older_each, puts_each, spent_each, stopped_each, unstopped_each}
 use Rattle.running_job.proofs.open_job.OpenJob.install.Goals as goal
 use Rattle.store.proofs.Carrying.{carries_same}
@@ -83,3 +83,22 @@ returns-then-numbers-self-clause-carries g c f = carries_same (g.S.Store.facts c
 
 pub returns-then-numbers-gt-NUMBER_END-clause-carries : goal.returns-then-numbers-gt-NUMBER_END-clause-carries
 returns-then-numbers-gt-NUMBER_END-clause-carries g c f = carries_same (g.S.Store.facts c.args.store.now) (g.S.Store.facts c.args.store.now) _ refl refl refl
+
+pub returns-then-numbers-self-clause-puts : goal.returns-then-numbers-self-clause-puts
+returns-then-numbers-self-clause-puts g c f = puts_none (g.S.Store.facts c.args.store.now) _ _ _
+
+pub returns-then-numbers-gt-NUMBER_END-clause-puts : goal.returns-then-numbers-gt-NUMBER_END-clause-puts
+returns-then-numbers-gt-NUMBER_END-clause-puts g c f = puts_none (g.S.Store.facts c.args.store.now) _ _ _
+
+-- ---- whose tables it puts in
+
+pub returns-then-numbers-self-clause-stops_own : goal.returns-then-numbers-self-clause-stops_own
+returns-then-numbers-self-clause-stops_own g c f = end_unstopped_own (order_of g.K.KeyOrder.name g.K.KeyOrder.cmp) c.args.self (g.S.Store.facts c.args.store.now) c.args.numbers.now.next c.args.last_sequence c.args.manifest.now c.args.version.now.tables
+
+pub returns-then-numbers-gt-NUMBER_END-clause-stops_own : goal.returns-then-numbers-gt-NUMBER_END-clause-stops_own
+returns-then-numbers-gt-NUMBER_END-clause-stops_own g c f = end_unstopped_own (order_of g.K.KeyOrder.name g.K.KeyOrder.cmp) c.args.self (g.S.Store.facts c.args.store.now) c.args.numbers.now.next c.args.last_sequence c.args.manifest.now c.args.version.now.tables
+
+pub returns-clause-stops_own : goal.returns-clause-stops_own
+returns-clause-stops_own g c f =
+    end_stopped_own (order_of g.K.KeyOrder.name g.K.KeyOrder.cmp) c.args.self (g.S.Store.facts c.args.store.now) c.args.numbers.now.next c.args.last_sequence c.args.manifest.now c.args.version.now.tables (omega (arith, c.if-numbers-gt-NUMBER_END.false))
+    (g.S.Store.facts c.install_job.new.store) (c.install_job.ensures.stops_own f)
