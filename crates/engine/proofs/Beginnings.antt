@@ -92,6 +92,7 @@ abbrev begun : Facts → List Entry → Contents → ℕ → ℕ → Bool → Bo
 begun facts entries map used numbers over_limit damaged = record {
   base = map;
   batches = [];
+  synced = 0;
   used = used;
   made = contains_key facts.files (name_of Current);
   opened = false;
@@ -118,7 +119,7 @@ first order facts entries map used numbers over_limit damaged directory view fre
   record {
     holds = record { entries = entries; directory = directory; view = view };
     bounds = record { made = refl; numbers = free; limits = within };
-    accepted = (refl, refl);
+    accepted = (refl, refl, refl);
     closed = (refl, refl, refl, refl);
     ids = (refl, refl);
     counts = (refl, refl);

@@ -150,6 +150,7 @@ module _ {K : Type 0} {g : _} (order : Order) (old new : Seen) (ids : Ids) (befo
           record {
             counts = record { failures = one.2.counts.failures; denials = one.2.counts.denials };
             ids = one.2.ids;
+            reached = one.2.reached;
             opened = one.2.opened;
             rest = record { broken = refl; rest = rests_broken order new.facts.files one.0 (at_rest order after.broken new after one.0 one.2.rest) };
           },

@@ -1,10 +1,11 @@
 -- What the removal of files leaves of an open database.
-use Rattle.std.proofs.Common.{◌≡◌, ◌⊎◌, ℕ, ◌<◌, List, ◌++◌, Option, Some, None, IsTrue, IsSome, Contains, inl, inr, refl, sym, ap, subst, ◌∙◌, arith}
+use Rattle.std.proofs.Common.{◌≡◌, ◌⊎◌, ℕ, ◌<◌, true, false, is_some, List, ◌++◌, Option, Some, None, IsTrue, IsSome, Contains, inl, inr, refl, sym, ap, subst, ◌∙◌, arith}
 use Rattle.std.specs.FinMap.{get}
 use Rattle.std.specs.declared.cmp.Ordering.{Ordering}
 use Rattle.std.specs.Option.{option_and_then}
 use Rattle.cache.specs.Tables.{KeptTable, IsNameOf, table_at}
 use Rattle.edits.specs.Names.{IsNumbered, name_of}
+use Rattle.edits.specs.declared.names.FileName.{FileName}
 use Rattle.edits.specs.declared.names.FileName.TheVariants.{Log, OldTable, Table}
 use Rattle.running_job.specs.declared.open_job.OpenJob.{OpenJob}
 use Rattle.edits.specs.declared.field.PlacedTable.{PlacedTable}
@@ -13,18 +14,20 @@ use Rattle.memtables.specs.Changes.{IsUsed, KeepsUsed}
 use Rattle.memtables.specs.Memories.{Memories, inserts_of, logged_in, older_at, sealed_inserts}
 use Rattle.memtables.specs.Places.{MemoriesPlace, KeepsMemories}
 use Rattle.recover.specs.Directory.{Directory, IsConsistent, used_in}
-use Rattle.recover.specs.Logs.{logged}
+use Rattle.recover.proofs.NewLogs.{log_there}
+use Rattle.recover.specs.Logs.{InLogs, logged}
 use Rattle.recover.specs.internal.Laws.{OneDirectoryLaw}
 use Rattle.recover.specs.Tables.{InTables, TableContent, tabled}
 use Rattle.ikey.specs.declared.entry.Entry.{Entry}
 use Rattle.recover.proofs.Adding.{table_of}
+use Rattle.recover.proofs.NewLogs.{log_there}
 use Rattle.db_cursor.specs.Scans.{KeepsScan}
 use Rattle.db_cursor.specs.internal.Scanning.{ScanIsKept}
 use Rattle.db_cursor.specs.declared.scan.Scan.{Scan}
 use Rattle.table_access.specs.Tables.{Seen, IsSound, KeepsOf, SoundLasts}
 use Rattle.table_access.proofs.Sounding.{same_file, same_table}
 use Rattle.store.specs.Files.{Facts, Files}
-use Rattle.store.specs.Losses.{CarriesBut}
+use Rattle.store.specs.Losses.{CarriesBut, StaysNamed}
 use Rattle.table.specs.Reading.{HasFile}
 use Rattle.db_cursor.proofs.Origins.{origin_stays}
 use Rattle.directory_writes.proofs.JobTables.{contains_among, content_at}
@@ -42,10 +45,10 @@ use Rattle.engine.specs.Reads.{kept_at}
 use Rattle.engine.specs.internal.Live.{IsLiveWalk}
 use Rattle.machine.specs.Machine.{Machine, Walk}
 use Rattle.running_job.specs.internal.Staying.{LeavesWhole}
-use Rattle.engine.proofs.StayedNames.{first_least, spares_dead, stayed_on}
-use Rattle.engine.proofs.RecentWrites.{recent_kept}
+use Rattle.engine.proofs.StayedNames.{first_least, not_dead, spares_dead, stayed_on}
+use Rattle.engine.proofs.RecentWrites.{recent_same}
 use Rattle.engine.specs.internal.Recent.{AreRecent}
-use Rattle.engine.proofs.Synced.{lost_kept, lost_table, synced_still}
+use Rattle.engine.proofs.Synced.{KeepsNames, lost_kept, lost_table, names_carried, synced_still}
 use Rattle.engine.specs.internal.Synced.{HaveNames, HaveStayed}
 use Rattle.engine.specs.internal.Standing.{HasLog, HasTables, IsServing, entries_of}
 use Rattle.engine.specs.internal.Pieces.{ClosesTables}
@@ -69,6 +72,13 @@ stayed_unused old facts db names carries h =
     let in_use : ℕ → Type 0 = λ number. IsTableUsed db.tables db.job db.iterators number in
     stayed_on old facts (IsDead (IsLiveAmong old.files (numbers_of db.directory) in_use)) db.directory db.directory db.tables refl refl refl (omega arith) (first_least db.log db.directory db.tables names) carries
     (spares_dead old.files db.log db.directory db.tables in_use names (λ p there. table_used db.tables db.job db.iterators p.table.number (p, there, refl))) h
+
+-- among them the tables of a compaction
+pub names_unused : {K : Type 0} {g : _} (old facts : Facts) (db : OpenDb K g) → LosesUnused old facts db → KeepsNames old facts (IsJobTable db.job)
+names_unused old facts db carries =
+    let in_use : ℕ → Type 0 = λ number. IsTableUsed db.tables db.job db.iterators number in
+    let live : FileName → Type 0 = IsLiveAmong old.files (numbers_of db.directory) in_use in
+    names_carried old facts (IsDead live) (IsJobTable db.job) (λ n numbered one. not_dead live (Table n) numbered (inr one)) carries
 
 module _ {K : Type 0} {g : _} (order : Order) (kept : (scan : Scan K g) → ScanIsKept order.cmp scan) (one : OneDirectoryLaw) (lasts : SoundLasts) (drops : DropsKept order.cmp)
     (old : Seen) (facts : Facts) (tables : List KeptTable) (db : OpenDb K g) (memory : Memories) (gone : List ℕ) where
@@ -160,8 +170,8 @@ module _ {K : Type 0} {g : _} (order : Order) (kept : (scan : Scan K g) → Scan
       ]
 
       -- and what of that is synced
-      whole_used : (n : ℕ) → IsNumbered n → in_use n → LeavesWhole old.facts facts (name_of (Table n)) × (table_at facts.files n ≡ table_at old.facts.files n)
-      whole_used n numbered used_one =
+      whole_used : (n : ℕ) → IsNumbered n → in_use n → (StaysNamed old.facts (name_of (Table n)) → StaysNamed facts (name_of (Table n))) → LeavesWhole old.facts facts (name_of (Table n)) × (table_at facts.files n ≡ table_at old.facts.files n)
+      whole_used n numbered used_one named =
           let same = used_same n numbered used_one in (
             (
               same.0,
@@ -169,6 +179,7 @@ module _ {K : Type 0} {g : _} (order : Order) (kept : (scan : Scan K g) → Scan
                 | inl left ↦ left.1 ∙ was
                 | inr none ↦ absurd (let bad : None ≡ Some file = sym none ∙ same.0 ∙ there in cc)
               ],
+              named,
             ),
             same.1,
           )
@@ -251,6 +262,13 @@ module _ {K : Type 0} {g : _} (order : Order) (kept : (scan : Scan K g) → Scan
               };
             }
 
+        -- its logs aren't gone
+        logs_left : (n : ℕ) → InLogs d.logs n → LeavesFile old.facts facts (name_of (Log n))
+        logs_left n i = elim (loses (name_of (Log n))) [
+          | inl same ↦ same
+          | inr none ↦ absurd (let bad : true ≡ false = sym (log_there left d.logs n kept_parts.consistent.logs i).1 ∙ changed.2.names (name_of (Log n)) ∙ ap is_some none in cc)
+        ]
+
         pub serving_cleaned : IsServing order new after (read_by facts m)
         serving_cleaned = record {
           whole = serving.whole;
@@ -282,11 +300,13 @@ module _ {K : Type 0} {g : _} (order : Order) (kept : (scan : Scan K g) → Scan
               (used_same p.table.number known.0 (table_used db.tables db.job db.iterators p.table.number (p, there, refl))).0)
               (stayed_unused old.facts facts db serving.synced.names carries serving.synced.stayed);
           recent = subst (λ (es : List Entry). AreRecent facts db.directory.manifest.number serving.contents (tabled serving.contents ++ es) d.logs m) (sym logged_same)
-              (recent_kept old.facts facts db.directory.manifest.number serving.contents (entries_of serving.contents db) d.logs m (λ n i. lost_kept old.facts facts (name_of (Log n)) (loses (name_of (Log n)))) serving.recent);
+              (recent_same old.facts facts db.directory.manifest.number serving.contents (entries_of serving.contents db) d.logs m logs_left serving.recent);
           job = each_job _ _ db.job (λ work is c.
               goes_beside_read order (whole_of old db) (whole_of new after) db.directory.numbers.next db.directory.numbers.next db.snapshots db.snapshots db.iterators db.iterators db.tables m.damaged serving.ideal left d d work c
-              a.consistent serving.log.knows.free db.directory.numbers.in_range.1 (omega arith) (λ number numbered below one. whole_used number numbered (inr (subst (λ (o : Option (OpenJob K g)). IsJobTable o number) (sym is) one)))
-              (λ h. sound_cleaned serving.contents serving.tables) (λ number kept_now. inl (fewer_kept number kept_now)) changed.1 refl refl
+              a.consistent serving.log.knows.free db.directory.numbers.in_range.1 (omega arith) (λ number numbered below one.
+              let of_job = subst (λ (o : Option (OpenJob K g)). IsJobTable o number) (sym is) one in
+              whole_used number numbered (inr of_job) (names_unused old.facts facts db carries number numbered of_job))
+              (λ h. sound_cleaned serving.contents serving.tables) (λ number kept_now. inl (fewer_kept number kept_now)) changed.1 refl refl refl
               (omega (arith, last_same)) (known_itself db.snapshots db.memory.last) (have_itself db.iterators db.tables)
               (λ number. version_unowned work.job.outputs order serving.ideal d serving.contents db.tables number a.consistent a.in_tables serving.tables.version c.running.unused)) serving.job;
         }

@@ -1,5 +1,5 @@
 -- What calls beside a compaction that is under way leave of it.
-use Rattle.std.proofs.Common.{◌≡◌, ◌≢◌, ◌⊎◌, ◌<◌, ◌≤◌, ◌^◌, ℕ, zero, suc, Bool, true, false, cond, List, [], ◌∷◌, ◌++◌, map, All, Any, Contains, Option, Some, None, MatchOption, inl, inr, refl, sym, ap, subst, ◌∙◌, arith}
+use Rattle.std.proofs.Common.{◌≡◌, ◌≢◌, ◌⊎◌, ◌<◌, ◌≤◌, ◌^◌, ℕ, zero, suc, Bool, true, false, cond, is_some, List, [], ◌∷◌, ◌++◌, map, All, Any, Contains, Option, Some, None, MatchOption, inl, inr, refl, sym, ap, subst, ◌∙◌, arith}
 use Rattle.std.proofs.lemmas.List.Sorted.{Contains-permutation}
 use Rattle.std.specs.BTreeMap.{BTreeMap}
 use Rattle.std.specs.FinMap.{get}
@@ -15,7 +15,7 @@ use Rattle.cache.specs.Tables.{table_at}
 use Rattle.edits.specs.Names.{IsNumbered, name_of}
 use Rattle.edits.specs.declared.field.PlacedTable.{PlacedTable}
 use Rattle.edits.specs.declared.field.TableFile.{TableFile}
-use Rattle.edits.specs.declared.names.FileName.TheVariants.{OldTable, Table}
+use Rattle.edits.specs.declared.names.FileName.TheVariants.{Manifest, OldTable, Table}
 use Rattle.ikey.specs.Entries.{InternalEntry, entry_of}
 use Rattle.ikey.specs.Orders.{Order}
 use Rattle.ikey.specs.Views.{Among}
@@ -76,6 +76,10 @@ listed_number order files d next content consistent free i =
       table_of order files d.tables content consistent.tables i,
       below_placed order files d next consistent free content.placed (among_contained content.placed (placed_in d.tables) there.0 there.1 there.2),
     )
+
+-- so has its MANIFEST
+pub manifest_below : (order : Order) (files : Files) (d : Directory) (next : ℕ) → IsConsistent order files d → IsFree order files next → d.manifest < next
+manifest_below order files d next consistent free = free.listed (Manifest d.manifest) consistent.manifest.numbered (ap is_some consistent.manifest.there)
 
 -- so has an input
 pub input_number : (order : Order) (files : Files) (d : Directory) (next : ℕ) (tables : List PlacedTable) (inputs rest : List TableContent) → IsConsistent order files d → IsFree order files next → AreParted d.tables inputs rest → IsPermutation tables (placed_in inputs)
@@ -222,9 +226,9 @@ module _ {K : Type 0} {g : _} (order : Order) (old new : Whole) (next more : ℕ
   ]
 
   pub goes_on_as : IsRunningOver order damaged new after more e work c.came c.left → old.memory.last ≤ new.memory.last → AreKnown snapshots old.memory.last kept → HaveKnown iterators tables open_ones
-      → ((number : ℕ) → ListsNumber tables number → IsOwn work.job.outputs number → ⊥)
+      → ((number : ℕ) → ListsNumber tables number → IsOwn work.job.outputs number → ⊥) → e.manifest ≡ d.manifest
       → IsCompacting order damaged new after more kept open_ones e work
-  goes_on_as running last known have none = record {
+  goes_on_as running last known have none manifest = record {
     came = c.came;
     left = c.left;
     running = running;
@@ -232,6 +236,7 @@ module _ {K : Type 0} {g : _} (order : Order) (old new : Whole) (next more : ℕ
     begun = record { kept = c.begun.kept; used = (let used = c.begun.used in omega (arith, used, last)); above = c.begun.above };
     seen = seen_on known;
     unread = unread_on have none;
+    since = λ number own. subst (λ (k : ℕ). k ≤ number) (sym manifest) (c.since number own);
   }
 
   -- the files of its tables are as they were, under both of their names
@@ -316,15 +321,15 @@ module _ {K : Type 0} {g : _} (order : Order) (old new : Whole) (next more : ℕ
 
     -- so it is where the directory has the same tables
     pub goes_beside_read : next ≤ more → KeepsJobTables → (IsSound order.cmp old.seen → IsSound order.cmp new.seen) → ((number : ℕ) → KeepsOf new.seen number → KeepsOf old.seen number ⊎ ((number < next) × (IsOwn work.job.outputs number → ⊥)))
-        → IsSameChange old.seen.facts.files new.seen.facts.files ideal after → e.tables ≡ d.tables → e.layout.tables.items ≡ d.layout.tables.items → old.memory.last ≤ new.memory.last → AreKnown snapshots old.memory.last kept → HaveKnown iterators tables open_ones
+        → IsSameChange old.seen.facts.files new.seen.facts.files ideal after → e.tables ≡ d.tables → e.layout.tables.items ≡ d.layout.tables.items → e.manifest ≡ d.manifest → old.memory.last ≤ new.memory.last → AreKnown snapshots old.memory.last kept → HaveKnown iterators tables open_ones
         → ((number : ℕ) → ListsNumber tables number → IsOwn work.job.outputs number → ⊥) → IsCompacting order damaged new after more kept open_ones e work
-    goes_beside_read le files sound gathered change tables_same listed last known have none =
+    goes_beside_read le files sound gathered change tables_same listed manifest last known have none =
         goes_on_as
         (runs_still le files sound gathered change c.running.rest
         (subst (λ (cs : List TableContent). IsPlanned order (deep_of order.cmp work) work.job.plan cs c.running.inputs c.running.rest) (sym tables_same) c.running.planned)
-        (subst (λ (ps : List PlacedTable). OwnsNone work.job.outputs ps) (sym listed) c.running.unused)) last known have none
+        (subst (λ (ps : List PlacedTable). OwnsNone work.job.outputs ps) (sym listed) c.running.unused)) last known have none manifest
 
     pub goes_beside : next ≤ more → KeepsJobFiles → (IsSound order.cmp old.seen → IsSound order.cmp new.seen) → ((number : ℕ) → KeepsOf new.seen number → KeepsOf old.seen number ⊎ ((number < next) × (IsOwn work.job.outputs number → ⊥)))
-        → IsSameChange old.seen.facts.files new.seen.facts.files ideal after → e.tables ≡ d.tables → e.layout.tables.items ≡ d.layout.tables.items → old.memory.last ≤ new.memory.last → AreKnown snapshots old.memory.last kept → HaveKnown iterators tables open_ones
+        → IsSameChange old.seen.facts.files new.seen.facts.files ideal after → e.tables ≡ d.tables → e.layout.tables.items ≡ d.layout.tables.items → e.manifest ≡ d.manifest → old.memory.last ≤ new.memory.last → AreKnown snapshots old.memory.last kept → HaveKnown iterators tables open_ones
         → ((number : ℕ) → ListsNumber tables number → IsOwn work.job.outputs number → ⊥) → IsCompacting order damaged new after more kept open_ones e work
-    goes_beside le files sound gathered change tables_same listed last known have none = goes_beside_read le (by_names files) sound gathered change tables_same listed last known have none
+    goes_beside le files sound gathered change tables_same listed manifest last known have none = goes_beside_read le (by_names files) sound gathered change tables_same listed manifest last known have none

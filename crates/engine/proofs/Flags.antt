@@ -1,5 +1,5 @@
 -- No step changes whether a table of the first directory may be damaged.
-use Rattle.std.proofs.Common.{◌≡◌, ◌⊎◌, ℕ, ◌+◌, true, false, List, [], ◌∷◌, ◌++◌, length, Option, Some, None, MatchOption, Result, Ok, Err, inl, inr, refl, ap, ◌∙◌}
+use Rattle.std.proofs.Common.{◌≡◌, ◌⊎◌, ℕ, ◌+◌, Bool, true, false, List, [], ◌∷◌, ◌++◌, length, Option, Some, None, MatchOption, Result, Ok, Err, inl, inr, refl, ap, ◌∙◌}
 use Rattle.batch.specs.declared.operation.Operation.{Operation}
 use Rattle.coding.specs.declared.error.DbError.{DbError}
 use Rattle.coding.specs.declared.error.DbError.TheVariants as error
@@ -72,22 +72,22 @@ closed_flag m n _ h = absurd h
 
 -- ---- reading and writing
 
-accepted_flag : (m : Machine) (operations : List Operation) → (accepted m operations).damaged ≡ m.damaged
-accepted_flag m [] = refl
-accepted_flag m (operation ∷ operations) = refl
+accepted_flag : (m : Machine) (operations : List Operation) (sync : Bool) → (accepted m operations sync).damaged ≡ m.damaged
+accepted_flag m [] sync = refl
+accepted_flag m (operation ∷ operations) sync = refl
 
 write_refused_flag : (m n : Machine) (operations : List Operation) (e : DbError) → WriteRefused m operations e n → n.damaged ≡ m.damaged
 write_refused_flag m n operations error.OutOfMemory h = same_flag m n h.1
 write_refused_flag m n operations error.Io h = same_flag (record m { broken = true; in_doubt = Some operations }) n h.2
 write_refused_flag m n operations _ h = absurd h
 
-write_flag : (m n : Machine) (operations : List Operation) (a : Answer) → Written m operations a n → n.damaged ≡ m.damaged
-write_flag m n operations answer.Done h = same_flag (accepted m operations) n h ∙ accepted_flag m operations
-write_flag m n operations (answer.Refused e) h = write_refused_flag m n operations e h
-write_flag m n operations _ h = absurd h
+write_flag : (m n : Machine) (operations : List Operation) (sync : Bool) (a : Answer) → Written m operations sync a n → n.damaged ≡ m.damaged
+write_flag m n operations sync answer.Done h = same_flag (accepted m operations sync) n h ∙ accepted_flag m operations sync
+write_flag m n operations sync (answer.Refused e) h = write_refused_flag m n operations e h
+write_flag m n operations sync _ h = absurd h
 
-pub writes_flag : (m n : Machine) (operations : List Operation) (a : Answer) → Writes m operations a n → n.damaged ≡ m.damaged
-writes_flag m n operations a h = serves_flag _ m n a _ (write_flag m n operations a) h
+pub writes_flag : (m n : Machine) (operations : List Operation) (sync : Bool) (a : Answer) → Writes m operations sync a n → n.damaged ≡ m.damaged
+writes_flag m n operations sync a h = serves_flag _ m n a _ (write_flag m n operations sync a) h
 
 read_refused_flag : (m n : Machine) (e : DbError) → ReadRefused m e n → n.damaged ≡ m.damaged
 read_refused_flag m n error.OutOfMemory h = same_flag m n h
@@ -161,7 +161,7 @@ compacted_flag m n _ h = absurd h
 
 pub step_flag : (order : Order) (m n : Machine) (op : Op) (a : Answer) → Step order m op a n → n.damaged ≡ m.damaged
 step_flag order m n (Open mode) a h = opens_flag m n mode a h
-step_flag order m n (Write operations sync) a h = writes_flag m n operations.items a h
+step_flag order m n (Write operations sync) a h = writes_flag m n operations.items sync a h
 step_flag order m n (Get key snapshot) a h = serves_flag _ m n a _ (get_flag m n key snapshot a) h
 step_flag order m n Snapshot a h = serves_flag _ m n a _ (taken_flag m n a) h
 step_flag order m n (Release id) a h = serves_flag _ m n a _ (released_flag m n id a) h

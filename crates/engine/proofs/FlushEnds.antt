@@ -34,7 +34,8 @@ use Rattle.engine.specs.internal.Directory.{MeansAccepted}
 use Rattle.directory_writes.specs.Replacing.{placed_in}
 use Rattle.directory_writes.proofs.SameChanges.{same_change}
 use Rattle.directory_writes.specs.Differing.{IsSameChange, OfEach, with_files}
-use Rattle.directory_writes.specs.internal.Flush.{CanFlush, DrawsTable, FlushLeaves, FlushMayLeave, FlushMeans, FlushTouches, IsCorrupt, IsFlushed, MayBeFlushed, RefusesFlush, RefusesNewTable, SparesManifest}
+use Rattle.directory_writes.specs.internal.Putting.{WritesThenPuts}
+use Rattle.directory_writes.specs.internal.Flush.{CanFlush, DrawsTable, FlushLeaves, FlushMayLeave, FlushMeans, FlushTouches, IsCorrupt, IsFlushed, IsTableKeptNow, MayBeFlushed, RefusesFlush, RefusesNewTable, SparesManifest}
 use Rattle.directory_writes.specs.internal.Calls.{LeavesFile}
 use Rattle.compact.specs.Rooms.{room_of}
 use Rattle.directory_writes.specs.internal.Level0.{IsTooLarge}
@@ -54,15 +55,17 @@ use Rattle.engine.proofs.StayedNames.{first_least, spares_tables, stayed_on}
 use Rattle.engine.proofs.Synced.{kept_still, no_table, synced_same, synced_still, table_still}
 use Rattle.engine.specs.internal.Recent.{AreRecent}
 use Rattle.engine.specs.internal.Synced.{IsSyncedBut}
-use Rattle.engine.specs.internal.Standing.{entries_of, IsServing}
+use Rattle.engine.specs.internal.Standing.{entries_of, IsServing, StandsWhole}
 use Rattle.engine.specs.internal.Stopping.{KeepsOpen}
 use Rattle.machine.specs.Machine.{Machine, entry_count, weight}
 use Rattle.machine.specs.Upkeep.{UpkeepRefused}
 use Rattle.engine.specs.internal.Pieces.{IsPiece, IsSameMemory, broken_by, flush_answer}
 use Rattle.engine.specs.WrittenTables.{FlushesSealed, PutsSealed}
 use Rattle.engine.proofs.Compacting.{all_contains, each_job, goes_beside, have_itself, known_itself, version_unowned}
-use Rattle.engine.proofs.Flushing.{NamesStay, names_same, names_unchanged, FlushKept, StaysBelow, broken_flush, can_flush, serving_flushed, serving_unflushed, sound_beside, sound_unchanged, table_same, table_unchanged}
+use Rattle.engine.proofs.Flushing.{NamedBelow, NamesStay, named_below, named_unchanged, names_same, names_unchanged, FlushKept, StaysBelow, broken_flush, can_flush, serving_flushed, serving_unflushed, sound_beside, sound_unchanged, table_same, table_unchanged}
 use Rattle.engine.proofs.Extended.{no_change}
+use Rattle.engine.proofs.LosingFlushes.{flush_first, found_touched}
+use Rattle.engine.proofs.LosingPieces.{first_same, found_same}
 use Rattle.engine.proofs.Origins.{undamaged_serving}
 use Rattle.engine.proofs.Pieces.{free_up, walks_each}
 use Rattle.engine.proofs.Reading.{has_placed}
@@ -119,6 +122,12 @@ module _ {K : Type 0} {g : _} (order : Order) (kept : (scan : Scan K g) → Scan
     names_below f = elim draws_number [
       | inl none ↦ names_unchanged order kept one lasts law flushes old facts before m serving plan numbers.next none.1
       | inr more ↦ names_same order kept one lasts law flushes old facts before m serving plan numbers.next f more.1 more.2 touches
+    ]
+
+    named_still : IsTrue facts.faithful → CarriesBut old.facts facts (λ (q : List ℕ). q ≡ name_of (Table next)) → NamedBelow order kept one lasts law flushes old facts before m serving plan numbers.next
+    named_still f carries = elim draws_number [
+      | inl none ↦ named_unchanged order kept one lasts law flushes old facts before m serving plan numbers.next none.1
+      | inr more ↦ named_below order kept one lasts law flushes old facts before m serving plan numbers.next more.1 more.2 carries
     ]
 
     sound_still : IsTrue facts.faithful → IsSound order.cmp old → IsSound order.cmp new
@@ -206,7 +215,7 @@ module _ {K : Type 0} {g : _} (order : Order) (kept : (scan : Scan K g) → Scan
       (λ m f same serving.
       let left = leaves f m serving in (
         refused m serving e f refuses left.0 same other,
-        serving_unflushed order kept one lasts law flushes old facts before m serving plan numbers.next (stays_below m serving f) (names_below m serving f) (sound_still m serving f) left.1.can.free upto.1 drawn.directory entries left.1 refl refl refl refl refl refl upto.0 (unflushed_synced f carries m serving (spares f)) (logs_left f m serving),
+        serving_unflushed order kept one lasts law flushes old facts before m serving plan numbers.next (stays_below m serving f) (names_below m serving f) (sound_still m serving f) left.1.can.free upto.1 drawn.directory entries left.1 refl refl refl refl refl refl upto.0 (unflushed_synced f carries m serving (spares f)) (logs_left f m serving) (named_still m serving f (carries f)),
       ))
 
   -- the device failed
@@ -254,15 +263,15 @@ module _ {K : Type 0} {g : _} (order : Order) (kept : (scan : Scan K g) → Scan
   pub ends_flushed : (end : ℕ) (version : Rc Placement Global) (front : Vec (String Global)) (after : DbState K g) → after ≡ with_table end version front
       → AreInOrder order.cmp version.value.tables
       → (IsTrue facts.faithful → (m : Machine) (serving : IsServing order old before m) → IsFlushed order serving.ideal (behind m serving) next numbers.next end entries version.value.tables serving.log.directory.directory serving.log.logs.sealed serving.log.logs.current)
-      → (IsTrue facts.faithful → (m : Machine) → IsServing order old before m → IsSyncedBut facts (record state.log { front = front }) (with_table end version front).directory version.value.tables)
+      → (IsTrue facts.faithful → (m : Machine) → IsServing order old before m → IsSyncedBut facts (record state.log { front = front }) (with_table end version front).directory version.value.tables) → Carried
       → LeadsOpen order old new ids before (open_db (record memory { sealed = None }) after) (λ m n. IsPiece m 1 (Ok (tt {0})) n)
-  ends_flushed end version front after is in_order has synced =
+  ends_flushed end version front after is in_order has synced carries =
       subst (λ (s : DbState K g). LeadsOpen order old new ids before (open_db (record memory { sealed = None }) s) (λ m n. IsPiece m 1 (Ok (tt {0})) n)) (sym is)
       (serves_on order old new ids before (open_db (record memory { sealed = None }) (with_table end version front)) 1 (Ok (tt {0})) whole whole touches.faithful touches.failures touches.denials
       (λ m f same serving.
       let done = has f m serving in (
         draws m 1 facts,
-        serving_flushed order kept one lasts law flushes old facts before m serving plan numbers.next (stays_below m serving f) (names_below m serving f) (sound_still m serving f) done.free upto.1 end version.value.tables version.value.compact_pointers (with_table end version front).directory entries in_order done refl refl refl refl refl refl upto.0 front (synced f m serving),
+        serving_flushed order kept one lasts law flushes old facts before m serving plan numbers.next (stays_below m serving f) (names_below m serving f) (sound_still m serving f) done.free upto.1 end version.value.tables version.value.compact_pointers (with_table end version front).directory entries in_order done refl refl refl refl refl refl upto.0 front (synced f m serving) (logs_left f m serving) (named_still m serving f (carries f)),
       )))
 
   -- and its file has the entries of the memory table
@@ -287,14 +296,44 @@ module _ {K : Type 0} {g : _} (order : Order) (kept : (scan : Scan K g) → Scan
         entries_are = subst (λ (es : List Entry). SameEntries content.entries es) entries_are done.has.table_entries;
       }))
 
-  -- a stop in its middle
-  pub flush_keeps : (tables : List PlacedTable) → tables ≡ before.tables
-      → (IsTrue facts.faithful → LeavesOnly old.facts facts (FlushMayLeave order old.facts.files next numbers.next plan state.directory.manifest entries tables)) → KeepsOpen order old new before
-  flush_keeps tables are stops f given m w =
-      let serving = undamaged_serving order old before m w.undamaged (serving_of order old given before m whole w.stands) in
-      leaves_so old.facts facts (FlushMayLeave order old.facts.files next numbers.next plan state.directory.manifest entries before.tables) (λ files. MeansAccepted order files m)
-      (λ files may. means_flushed order old before m serving law files next numbers.next entries (may serving.log.directory.directory serving.log.logs.sealed serving.log.logs.current (can m serving)))
-      (subst (λ (ts : List PlacedTable). LeavesOnly old.facts facts (FlushMayLeave order old.facts.files next numbers.next plan state.directory.manifest entries ts)) are (stops f))
+  -- ---- what is left in its middle
+
+  abbrev StopsAt : List PlacedTable → Type 0
+  StopsAt tables = LeavesOnly old.facts facts (FlushMayLeave order old.facts.files next numbers.next plan state.directory.manifest entries tables)
+
+  abbrev serving_at : (given : Ids) (m : Machine) → StandsWhole order old given before m → IsServing order old before m
+  serving_at given m w = undamaged_serving order old before m w.undamaged (serving_of order old given before m whole w.stands)
+
+  flush_leaves : (tables : List PlacedTable) → tables ≡ before.tables → StopsAt tables → (m : Machine) (serving : IsServing order old before m) → serving.ideal ≡ old.facts.files
+      → LeavesOnly old.facts facts (λ files. MayBeFlushed order serving.ideal files next numbers.next entries serving.log.directory.directory serving.log.logs.sealed serving.log.logs.current)
+  flush_leaves tables are stops m serving same =
+      let d = serving.log.directory.directory in
+      let sealed = serving.log.logs.sealed in
+      let current = serving.log.logs.current in
+      leaves_so old.facts facts (FlushMayLeave order old.facts.files next numbers.next plan state.directory.manifest entries before.tables) (λ files. MayBeFlushed order serving.ideal files next numbers.next entries d sealed current)
+      (λ files may.
+      let can_now = subst (λ (fs : Files). CanFlush order fs next plan state.directory.manifest entries before.tables d sealed current) same (can m serving) in
+      subst (λ (fs : Files). MayBeFlushed order fs files next numbers.next entries d sealed current) (sym same) (may d sealed current can_now))
+      (subst StopsAt are stops)
+
+  pub flush_keeps : (tables : List PlacedTable) → tables ≡ before.tables → (IsTrue facts.faithful → StopsAt tables)
+      → (IsTrue facts.faithful → WritesThenPuts old.facts facts (λ (q : List ℕ). q ≡ name_of (Table next)) (string_bytes state.directory.manifest.name) (IsTableKeptNow next)) → KeepsOpen order old new before
+  flush_keeps tables are stops puts = record {
+    stops = λ f given m w.
+        let serving = serving_at given m w in
+        leaves_so old.facts facts (λ files. MayBeFlushed order serving.ideal files next numbers.next entries serving.log.directory.directory serving.log.logs.sealed serving.log.logs.current) (λ files. MeansAccepted order files m)
+        (λ files may. means_flushed order old before m serving law files next numbers.next entries may) (flush_leaves tables are (stops f) m serving refl);
+    loses = λ f given m w unbroken.
+        let serving = serving_at given m w in
+        elim draws_number [
+          | inl none ↦ first_same order old given before m facts w unbroken (ap (λ (x : Facts). x.calls) none.1) (ap (λ (x : Facts). x.files) none.1) (ap (λ (x : Facts). x.synced) none.1)
+          | inr more ↦ flush_first order old facts before m serving refl next numbers.next refl more.2 entries (string_bytes state.directory.manifest.name) refl (puts f) (flush_leaves tables are (stops f) m serving refl)
+        ];
+    found = λ f given m w unbroken. elim draws_number [
+      | inl none ↦ found_same old.facts facts before (ap (λ (x : Facts). x.files) none.1) (ap (λ (x : Facts). x.synced) none.1)
+      | inr more ↦ found_touched order old facts before m (serving_at given m w) refl next numbers.next refl more.2 entries f touches
+    ];
+  }
 
 -- ---- an empty sealed table
 
@@ -336,7 +375,7 @@ module _ {K : Type 0} {g : _} (order : Order) (kept : (scan : Scan K g) → Scan
         job = each_job _ _ state.job (λ work is c.
             let d = a.directory in
             goes_beside order (whole_of source (open_db memory state)) (whole_of source (open_db let_go state)) state.directory.numbers.next state.directory.numbers.next state.snapshots state.snapshots state.iterators state.iterators state.version.value.tables m.damaged h.ideal h.ideal d d work c
-            a.consistent knows.free state.directory.numbers.in_range.1 (omega arith) (λ number numbered below one. ((refl, λ file there was. was), refl)) (λ sound. sound) (λ number kept_now. inl kept_now) (no_change source.facts.files source.facts.files h.ideal refl) refl refl
+            a.consistent knows.free state.directory.numbers.in_range.1 (omega arith) (λ number numbered below one. ((refl, λ file there was. was, λ stays. stays), refl)) (λ sound. sound) (λ number kept_now. inl kept_now) (no_change source.facts.files source.facts.files h.ideal refl) refl refl refl
             (omega arith) (known_itself state.snapshots memory.last) (have_itself state.iterators state.version.value.tables)
             (λ number. version_unowned work.job.outputs order h.ideal d h.contents state.version.value.tables number a.consistent a.in_tables h.tables.version c.running.unused)) h.job;
       }

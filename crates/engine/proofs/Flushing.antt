@@ -32,6 +32,8 @@ use Rattle.db_cursor.specs.declared.scan.Scan.{Scan}
 use Rattle.table_access.specs.Tables.{Seen, IsSound, KeepsOf, SoundLasts}
 use Rattle.table_access.proofs.Sounding.{same_file, same_table}
 use Rattle.store.specs.Files.{Facts, Files}
+use Rattle.store.specs.Losses.{CarriesBut, StaysNamed}
+use Rattle.store.proofs.Staying.{stays_on}
 use Rattle.directory_writes.specs.internal.Flush.{CanFlush, FlushTouches, HasFlushed, IsFlushed, IsUnflushed, MayBeFlushed, PassesNoLimit}
 use Rattle.directory_writes.specs.declared.flush.FlushPlan.{FlushPlan}
 use Rattle.directory_writes.proofs.PlansKept.{flushed_plan}
@@ -43,6 +45,7 @@ use Rattle.engine.specs.OpenDb.{OpenDb, whole_of}
 use Rattle.directory_writes.specs.internal.Calls.{LeavesFile}
 use Rattle.engine.proofs.Synced.{whole_left}
 use Rattle.engine.proofs.RecentFlushes.{recent_flushed, with_logged}
+use Rattle.engine.proofs.RecentLosses.{in_second}
 use Rattle.engine.proofs.RecentWrites.{recent_same}
 use Rattle.engine.specs.internal.Recent.{AreRecent}
 use Rattle.engine.specs.internal.Synced.{IsSyncedBut}
@@ -133,6 +136,10 @@ module _ {K : Type 0} {g : _} (order : Order) (kept : (scan : Scan K g) → Scan
   abbrev pub NamesStay : Type 0
   NamesStay = (n : ℕ) → IsNumbered n → n < next → LeavesFile old.facts facts (name_of (Table n)) × (get facts.files (name_of (OldTable n)) ≡ get old.facts.files (name_of (OldTable n)))
 
+  -- and keep the newer one, if it has stayed since the last sync
+  abbrev pub NamedBelow : Type 0
+  NamedBelow = (n : ℕ) → IsNumbered n → n < next → StaysNamed old.facts (name_of (Table n)) → StaysNamed facts (name_of (Table n))
+
   module _ (t : IsTrue facts.faithful) (drawn : 0 < next) (few : next < 2 ^ 62) (touches : FlushTouches old.facts facts (name_of (Table next)) (string_bytes db.directory.manifest.name)) where
     numbered_next : IsNumbered next
     numbered_next = (drawn, omega (arith, few))
@@ -176,7 +183,15 @@ module _ {K : Type 0} {g : _} (order : Order) (kept : (scan : Scan K g) → Scan
         ))
         (λ block file is there. let known = serving.tables.drawn block.file (inr (block, is, refl)) in sym (table_same block.file known.0 known.1) ∙ there) sound
 
+  pub named_below : (0 < next) → (next < 2 ^ 62) → CarriesBut old.facts facts (λ (q : List ℕ). q ≡ name_of (Table next)) → NamedBelow
+  named_below drawn few carries n numbered less =
+      stays_on old.facts facts (λ (q : List ℕ). q ≡ name_of (Table next)) (name_of (Table n))
+      (files_apart (Table n) (Table next) numbered (drawn, omega (arith, few)) (λ e. let is : n ≡ next = cc in absurd (omega (arith, less, is)))) carries
+
   -- where nothing was done, too
+  pub named_unchanged : facts ≡ old.facts → NamedBelow
+  named_unchanged same n numbered less h = subst (λ (f : Facts). StaysNamed f (name_of (Table n))) (sym same) h
+
   pub names_unchanged : facts ≡ old.facts → NamesStay
   names_unchanged same n numbered less = ((ap (λ (f : Facts). get f.files (name_of (Table n))) same, ap (λ (f : Facts). f.synced (name_of (Table n))) same), ap (λ (f : Facts). get f.files (name_of (OldTable n))) same)
 
@@ -240,7 +255,8 @@ module _ {K : Type 0} {g : _} (order : Order) (kept : (scan : Scan K g) → Scan
 
     module _ (end : ℕ) (tables : List PlacedTable) (pointers : List (Option (List ℕ))) (state : DirectoryState) (entries : List Entry) (in_order : AreInOrder order.cmp tables) (has : IsFlushed order serving.ideal behind next after end entries tables d sealed current)
         (number : state.manifest.number ≡ db.directory.manifest.number) (name : state.manifest.name ≡ db.directory.manifest.name) (ends : state.manifest.end ≡ end) (first_log : state.first_log ≡ db.log.number) (previous_log : state.previous_log ≡ 0)
-        (next_is : state.numbers.next ≡ after) (le : next ≤ after) (front : Vec (String Global)) (synced : IsSyncedBut facts (record db.log { front = front }) state tables) where
+        (next_is : state.numbers.next ≡ after) (le : next ≤ after) (front : Vec (String Global)) (synced : IsSyncedBut facts (record db.log { front = front }) state tables)
+        (logs_left : (n : ℕ) → InLogs d.logs n → LeavesFile old.facts facts (name_of (Log n))) (named : NamedBelow) where
       abbrev f : HasFlushed order serving.ideal behind next after entries d sealed current
       f = has.has
 
@@ -294,11 +310,11 @@ module _ {K : Type 0} {g : _} (order : Order) (kept : (scan : Scan K g) → Scan
           let own_are = is_own_number order (whole_of old db) (whole_of new flushed_db) next state.numbers.next db.snapshots db.snapshots db.iterators db.iterators db.tables m.damaged serving.ideal behind d e work c a.consistent free fits in
           goes_on_as order (whole_of old db) (whole_of new flushed_db) next state.numbers.next db.snapshots db.snapshots db.iterators db.iterators db.tables m.damaged serving.ideal behind d e work c
           (runs_still order (whole_of old db) (whole_of new flushed_db) next state.numbers.next db.snapshots db.snapshots db.iterators db.iterators db.tables m.damaged serving.ideal behind d e work c a.consistent free fits
-          (omega (arith, next_is, le)) (λ n numbered below one. (whole_left old.facts facts (name_of (Table n)) (names n numbered below).0, stays n numbered below)) sound_still (λ n kept_now. inl kept_now) behind_is (with_content f.content r.rest)
+          (omega (arith, next_is, le)) (λ n numbered below one. (whole_left old.facts facts (name_of (Table n)) (names n numbered below).0 (named n numbered below), stays n numbered below)) sound_still (λ n kept_now. inl kept_now) behind_is (with_content f.content r.rest)
           (flushed_plan order serving.ideal (deep_of order.cmp work) work.job.plan d f.next f.content sealed current r.inputs r.rest a.consistent f.flush r.planned)
           (owns_none_with work.job.outputs f.content.placed d.layout.tables.items f.next.tables.items f.flush.tables (λ own. let known = own_are f.content.placed.table.number own in (let less = known.1 in let number_is = f.number_is in absurd (omega (arith, less, number_is)))) r.unused))
           (omega arith) (known_itself db.snapshots db.memory.last) (have_itself db.iterators db.tables)
-          (λ number. version_unowned work.job.outputs order serving.ideal d serving.contents db.tables number a.consistent a.in_tables serving.tables.version r.unused)) serving.job
+          (λ number. version_unowned work.job.outputs order serving.ideal d serving.contents db.tables number a.consistent a.in_tables serving.tables.version r.unused) refl) serving.job
 
       -- what was accepted last is in the log that goes on
       recent_now : AreRecent facts state.manifest.number e.tables (entries_of e.tables flushed_db) (current ∷ []) m
@@ -306,7 +322,8 @@ module _ {K : Type 0} {g : _} (order : Order) (kept : (scan : Scan K g) → Scan
           subst (λ (n : ℕ). AreRecent facts n e.tables (entries_of e.tables flushed_db) (current ∷ []) m) (sym number)
           (recent_flushed old.facts facts db.directory.manifest.number serving.contents e.tables (entries_of serving.contents db) (entries_of e.tables flushed_db) sealed current m
           (subst (λ (ls : List LogContent). AreRecent old.facts db.directory.manifest.number serving.contents (entries_of serving.contents db) ls m) serving.log.logs.logs serving.recent)
-          (subst (λ (contents : List TableContent). (x : Entry) → Among (tabled e.tables) x → Among (tabled contents ++ logged sealed) x) (sym a.in_tables) (with_logged d.tables f.content sealed f.flush.entries)) same)
+          (subst (λ (contents : List TableContent). (x : Entry) → Among (tabled e.tables) x → Among (tabled contents ++ logged sealed) x) (sym a.in_tables) (with_logged d.tables f.content sealed f.flush.entries)) same
+          (logs_left current.number (subst (λ (ls : List LogContent). InLogs ls current.number) (sym serving.log.logs.logs) (in_second current.number sealed (current ∷ []) (inl refl)))).1)
 
       pub serving_flushed : IsServing order new flushed_db drawn_by
       serving_flushed = record {
@@ -343,7 +360,7 @@ module _ {K : Type 0} {g : _} (order : Order) (kept : (scan : Scan K g) → Scan
     module _ (state : DirectoryState) (entries : List Entry) (has : IsUnflushed order serving.ideal behind after plan db.directory.manifest entries db.tables d sealed current)
         (number : state.manifest.number ≡ db.directory.manifest.number) (name : state.manifest.name ≡ db.directory.manifest.name) (ends : state.manifest.end ≡ db.directory.manifest.end) (first_log : state.first_log ≡ db.directory.first_log)
         (previous_log : state.previous_log ≡ db.directory.previous_log) (next_is : state.numbers.next ≡ after) (le : next ≤ after) (synced : IsSyncedBut facts db.log state db.tables)
-        (logs_left : (n : ℕ) → InLogs d.logs n → LeavesFile old.facts facts (name_of (Log n))) where
+        (logs_left : (n : ℕ) → InLogs d.logs n → LeavesFile old.facts facts (name_of (Log n))) (named : NamedBelow) where
       abbrev pub unflushed_db : OpenDb K g
       unflushed_db = record db { directory = state }
 
@@ -403,7 +420,7 @@ module _ {K : Type 0} {g : _} (order : Order) (kept : (scan : Scan K g) → Scan
             (recent_same old.facts facts db.directory.manifest.number serving.contents (entries_of serving.contents db) d.logs m logs_left serving.recent);
         job = each_job _ _ db.job (λ work is c.
             goes_beside order (whole_of old db) (whole_of new unflushed_db) next state.numbers.next db.snapshots db.snapshots db.iterators db.iterators db.tables m.damaged serving.ideal behind d d work c
-            a.consistent serving.log.knows.free db.directory.numbers.in_range.1 (omega (arith, next_is, le)) (λ n numbered below one. let same = names n numbered below in (whole_left old.facts facts (name_of (Table n)) same.0, same.1)) sound_still (λ n kept_now. inl kept_now) behind_is refl refl
+            a.consistent serving.log.knows.free db.directory.numbers.in_range.1 (omega (arith, next_is, le)) (λ n numbered below one. let same = names n numbered below in (whole_left old.facts facts (name_of (Table n)) same.0 (named n numbered below), same.1)) sound_still (λ n kept_now. inl kept_now) behind_is refl refl refl
             (omega arith) (known_itself db.snapshots db.memory.last) (have_itself db.iterators db.tables)
             (λ number. version_unowned work.job.outputs order serving.ideal d serving.contents db.tables number a.consistent a.in_tables serving.tables.version c.running.unused)) serving.job;
       }

@@ -9,13 +9,13 @@ use Rattle.std.specs.FinMap.{get, contains_key, slice_cmp-IsAntisymmetric, nat_c
 use Rattle.std.specs.List.{AllByRecursion}
 use Rattle.store.specs.Files.{Facts, Files, Synced, Addition, Disk, Sync, Appends, AppendsBeginning, disk_of, with_synced}
 use Rattle.store.specs.Calls.{Adds, Changes, Counts, FailsAsWrite, Idles, Keeps, NotesSync}
-use Rattle.store.specs.Losses.{CarriesBut}
+use Rattle.store.specs.Losses.{CarriesBut, PutsSynced}
 use Rattle.store.specs.Stops.{LeavesOnly}
 use Rattle.store.specs.declared.error.StoreError.{StoreError}
 use Rattle.store.specs.declared.error.StoreError.TheVariants as store_error
 use Rattle.recover.proofs.NamedFiles.{get_other, get_same}
 use Rattle.opening.specs.Durable.{IsSynced}
-use Rattle.opening.specs.Losses.{EndsInSync, IsKept, IsNoneOf}
+use Rattle.opening.specs.Losses.{EndsInSync, IsNoneOf}
 use Rattle.opening.specs.internal.Calls.{KeepsOthers}
 use Rattle.opening.proofs.Syncing.{done_of, only_with, with_other, with_same}
 use Rattle.engine.proofs.Appending.{failed_sync}
@@ -23,7 +23,7 @@ use Rattle.store.proofs.Carrying.{carries_appended, carries_both, carries_same, 
 use Rattle.store.proofs.Stopping.{leaves_both, leaves_same, leaves_so, sync_left}
 use Rattle.engine.specs.declared.log.LogError.{LogError}
 use Rattle.engine.specs.declared.log.LogError.TheVariants.{Device, Memory}
-use Rattle.engine.specs.internal.Logs.{AppendsRecord, SyncsFront, SyncsThese}
+use Rattle.engine.specs.internal.Logs.{AppendsRecord, LeavesOrSyncs, SyncsEach, SyncsFront, SyncsThenPuts, SyncsThese}
 use Rattle.engine.specs.Touching.{SyncsLog}
 
 -- ---- two names
@@ -47,7 +47,7 @@ none_of_first q (x ∷ xs) ys h = (h.0, none_of_first q xs ys h.1)
 -- ---- some syncs
 
 pub synced_none : (facts : Facts) → SyncsThese [] facts facts
-synced_none facts = record { faithful = λ f. f; failures = omega arith; writes = refl; denials = refl; locked = refl; files = λ f. refl; others = λ f q none. refl; keeps = λ f q was. was }
+synced_none facts = record { faithful = λ f. f; failures = omega arith; writes = refl; denials = refl; locked = refl; files = λ f. refl; others = λ f q none. refl; keeps = λ f q. inl refl }
 
 -- of each failure a failed write
 pub fails_both : (old mid new : Facts) → FailsAsWrite old mid → FailsAsWrite mid new → FailsAsWrite old new
@@ -55,7 +55,7 @@ fails_both old mid new a b = omega (arith, a, b)
 
 -- one more, where the device keeps it
 synced_more : (names : List (List ℕ)) (name : List ℕ) (old mid new : Facts) → SyncsThese names old mid → (IsTrue new.faithful → IsTrue mid.faithful) → mid.failures ≤ new.failures → FailsAsWrite mid new → new.denials ≡ mid.denials → new.locked ≡ mid.locked
-    → (IsTrue new.faithful → new.files ≡ mid.files) → (IsTrue new.faithful → (q : List ℕ) → q ≢ name → new.synced q ≡ mid.synced q) → (IsTrue new.faithful → (q : List ℕ) → IsKept mid q → IsKept new q) → SyncsThese (names ++ name ∷ []) old new
+    → (IsTrue new.faithful → new.files ≡ mid.files) → (IsTrue new.faithful → (q : List ℕ) → q ≢ name → new.synced q ≡ mid.synced q) → (IsTrue new.faithful → (q : List ℕ) → LeavesOrSyncs old mid q → LeavesOrSyncs old new q) → SyncsThese (names ++ name ∷ []) old new
 synced_more names name old mid new h back rise writes undenied held same others keeps = record {
   faithful = λ f. h.faithful (back f);
   failures = (let first = h.failures in omega (arith, first, rise));
@@ -64,7 +64,7 @@ synced_more names name old mid new h back rise writes undenied held same others 
   locked = held ∙ h.locked;
   files = λ f. same f ∙ h.files (back f);
   others = λ f q none. (let apart = none_of_more q names name none in others f q apart.1 ∙ h.others (back f) q apart.0);
-  keeps = λ f q was. keeps f q (h.keeps (back f) q was);
+  keeps = λ f q. keeps f q (h.keeps (back f) q);
 }
 
 -- a file that is synced stays so while another one is
@@ -83,15 +83,17 @@ all_synced mid new name (q ∷ names) synced same h = (still_synced mid new name
 pub this_synced : (mid new : Facts) (name : List ℕ) → new.synced ≡ with_synced mid.synced name (get mid.files name) → new.files ≡ mid.files → IsSynced new name
 this_synced mid new name synced same = ap (λ (s : Synced). s name) synced ∙ with_same mid.synced name (get mid.files name) ∙ ap (λ (fs : Files). get fs name) (sym same)
 
--- what was synced whole still is
-sync_keeps : (mid new : Facts) (name q : List ℕ) → new.synced ≡ with_synced mid.synced name (get mid.files name) → new.files ≡ mid.files → IsKept mid q → IsKept new q
-sync_keeps mid new name q synced same h bytes there = elim (same_or_other q name) [
-  | inl it ↦ subst (IsSynced new) (sym it) (this_synced mid new name synced same) ∙ there
-  | inr apart ↦ ap (λ (s : Synced). s q) synced ∙ with_other mid.synced name q (get mid.files name) apart ∙ h bytes (ap (λ (fs : Files). get fs q) (sym same) ∙ there)
+-- of each the same is synced, or all of it
+pub sync_keeps : (old mid new : Facts) (name q : List ℕ) → new.synced ≡ with_synced mid.synced name (get mid.files name) → new.files ≡ mid.files → LeavesOrSyncs old mid q → LeavesOrSyncs old new q
+sync_keeps old mid new name q synced same (inl left) = elim (same_or_other q name) [
+  | inl it ↦ inr (subst (IsSynced new) (sym it) (this_synced mid new name synced same))
+  | inr apart ↦ inl (ap (λ (s : Synced). s q) synced ∙ with_other mid.synced name q (get mid.files name) apart ∙ left)
 ]
+sync_keeps old mid new name q synced same (inr whole) = inr (still_synced mid new name q synced same whole)
 
-same_keeps : (mid new : Facts) (q : List ℕ) → new.files ≡ mid.files → new.synced q ≡ mid.synced q → IsKept mid q → IsKept new q
-same_keeps mid new q same synced h bytes there = synced ∙ h bytes (ap (λ (fs : Files). get fs q) (sym same) ∙ there)
+same_keeps : (old mid new : Facts) (q : List ℕ) → new.files ≡ mid.files → new.synced q ≡ mid.synced q → LeavesOrSyncs old mid q → LeavesOrSyncs old new q
+same_keeps old mid new q same synced (inl left) = inl (synced ∙ left)
+same_keeps old mid new q same synced (inr whole) = inr (synced ∙ whole ∙ ap (λ (fs : Files). get fs q) (sym same))
 
 all_more : (facts : Facts) (names : List (List ℕ)) (name : List ℕ) → AllByRecursion (IsSynced facts) names → IsSynced facts name → AllByRecursion (IsSynced facts) (names ++ name ∷ [])
 all_more facts [] name h is = (is, tt)
@@ -121,9 +123,25 @@ sync_carries old mid new name r noted left same synced h = carries_both old mid 
 
 -- ---- one file after the other
 
+-- one more behind them
+each_more : (names : List (List ℕ)) (name : List ℕ) (old mid new : Facts) → Adds mid new (Sync name) → new.synced ≡ with_synced mid.synced name (get mid.files name) → SyncsEach names old mid → SyncsEach (names ++ name ∷ []) old new
+each_more [] name old mid new adds synced idle = (
+  new,
+  (adds.0 ∙ (λ i. idle.0 i ++ record { found = idle.1 i; change = Sync name } ∷ []), adds.1 ∙ ap (λ (disk : Disk). disk.files) idle.1),
+  synced ∙ ap (λ (disk : Disk). with_synced disk.synced name (get disk.files name)) idle.1,
+  (refl, refl),
+)
+each_more (first ∷ names) name old mid new adds synced h = (h.0, h.1, h.2, each_more names name h.0 mid new adds synced h.3)
+
+-- calls behind them that changed nothing
+each_idle : (names : List (List ℕ)) (old mid new : Facts) → Idles mid new → SyncsEach names old mid → SyncsEach names old new
+each_idle [] old mid new idle h = (idle.0 ∙ h.0, idle.1 ∙ h.1)
+each_idle (first ∷ names) old mid new idle h = (h.0, h.1, h.2, each_idle names h.0 mid new idle h.3)
+
 pub record SyncsSoFar (names : List (List ℕ)) (old new : Facts) : Type 0 where
   pub these : SyncsThese names old new
   pub kept : IsTrue new.faithful → AllByRecursion (IsSynced new) names
+  pub each : IsTrue new.faithful → SyncsEach names old new
   pub left : IsTrue new.faithful → LeavesOnly old new (λ files. files ≡ old.files)
   pub carried : IsTrue new.faithful → CarriesBut old new (λ (q : List ℕ). ⊥)
   pub unfailed : new.failures ≡ old.failures
@@ -132,6 +150,7 @@ pub so_far_none : (facts : Facts) → SyncsSoFar [] facts facts
 so_far_none facts = record {
   these = synced_none facts;
   kept = λ f. tt;
+  each = λ f. (refl, refl);
   left = λ f. leaves_same facts facts (λ files. files ≡ facts.files) refl refl refl;
   carried = λ f. carries_same facts facts (λ (q : List ℕ). ⊥) refl refl refl;
   unfailed = refl;
@@ -149,8 +168,9 @@ pub so_far_more : (names : List (List ℕ)) (name : List ℕ) (old mid new : Fac
     → (IsTrue new.faithful → OnOk r (new.synced ≡ with_synced mid.synced name (get mid.files name))) → (IsTrue new.faithful → OnErr r (new.synced ≡ mid.synced)) → NotesSync mid new r (Sync name) → SyncsSoFar names old mid → SyncsSoFar (names ++ name ∷ []) old new
 so_far_more names name old mid new r went counts writes undenied held same synced unsynced noted h = record {
   these = synced_more names name old mid new h.these counts.faithful counts.failures writes undenied held same (λ f. only_with mid.synced new.synced name (get mid.files name) (done_of r went (synced f)))
-      (λ f q. sync_keeps mid new name q (done_of r went (synced f)) (same f));
+      (λ f q. sync_keeps old mid new name q (done_of r went (synced f)) (same f));
   kept = λ f. (let is = done_of r went (synced f) in all_more new names name (all_synced mid new name names is (same f) (h.kept (counts.faithful f))) (this_synced mid new name is (same f)));
+  each = λ f. each_more names name old mid new (done_of r went (noted.ok f)) (done_of r went (synced f)) (h.each (counts.faithful f));
   left = λ f. sync_left old mid new name (λ files. files ≡ old.files) r (noted.ok f) (noted.err f) (same f) (h.left (counts.faithful f));
   carried = λ f. sync_carries old mid new name r (noted.ok f) (noted.err f) (same f) (unsynced f) (h.carried (counts.faithful f));
   unfailed = counts.unfailed (not_failed r went) ∙ h.unfailed;
@@ -167,7 +187,7 @@ so_far_failed all names rest name old mid new r is went missing memory counts wr
     locked = held ∙ h.these.locked;
     files = λ f. same f ∙ h.these.files (counts.faithful f);
     others = λ f q none. ap (λ (s : Synced). s q) (failed_of r went (unsynced f)) ∙ h.these.others (counts.faithful f) q (none_of_first q names rest (subst (IsNoneOf q) is none));
-    keeps = λ f q was. same_keeps mid new q (same f) (ap (λ (s : Synced). s q) (failed_of r went (unsynced f))) (h.these.keeps (counts.faithful f) q was);
+    keeps = λ f q. same_keeps old mid new q (same f) (ap (λ (s : Synced). s q) (failed_of r went (unsynced f))) (h.these.keeps (counts.faithful f) q);
   };
   kept = λ f. tt;
   done = tt;
@@ -180,6 +200,12 @@ so_far_left names name old mid new r f counts same noted h = sync_left old mid n
 pub so_far_carried : (names : List (List ℕ)) (name : List ℕ) (old mid new : Facts) (r : Result (Unit {0}) StoreError) → IsTrue new.faithful → Counts mid new r → Keeps mid new → (IsTrue new.faithful → OnErr r (new.synced ≡ mid.synced)) → NotesSync mid new r (Sync name)
     → SyncsSoFar names old mid → CarriesBut old new (λ (q : List ℕ). ⊥)
 so_far_carried names name old mid new r f counts same unsynced noted h = sync_carries old mid new name r (noted.ok f) (noted.err f) (same f) (unsynced f) (h.carried (counts.faithful f))
+
+-- those that were synced before one of them failed
+pub so_far_each : (names : List (List ℕ)) (name : List ℕ) (old mid new : Facts) (r : Result (Unit {0}) StoreError) → IsTrue new.faithful → is_err r ≡ true → Counts mid new r → Keeps mid new → (IsTrue new.faithful → OnErr r (new.synced ≡ mid.synced)) → NotesSync mid new r (Sync name)
+    → SyncsSoFar names old mid → SyncsEach names old new
+so_far_each names name old mid new r f went counts same unsynced noted h =
+    each_idle names old mid new (failed_of r went (noted.err f), λ i. record { files = same f i; synced = failed_of r went (unsynced f) i }) (h.each (counts.faithful f))
 
 pub all_so_far : (all names : List (List ℕ)) (old new : Facts) → names ≡ all → SyncsSoFar names old new → SyncsFront all old new (Ok tt)
 all_so_far all names old new is h = record {
@@ -244,11 +270,11 @@ syncs_behind sync old mid new names name bytes result h a s = record {
   locked = s.locked ∙ h.these.locked;
 }
 
--- want of memory leaves what was synced whole, or more
+-- want of memory leaves what was synced of each, or all of it is synced
 pub memory_keeps : (sync : Bool) (old mid new : Facts) (names : List (List ℕ)) (name bytes : List ℕ) (result : Result (Unit {0}) LogError) → SyncsThese names old mid → AppendsRecord mid new name bytes result
-    → SyncsLog (Unit {0}) (sync ≡ true) sync name [] mid new result → IsTrue new.faithful → result ≡ Err Memory → (q : List ℕ) → IsKept old q → IsKept new q
-memory_keeps sync old mid new names name bytes (Ok x) h a s f is q was = absurd (cc)
-memory_keeps sync old mid new names name bytes (Err e) h a s f is q was = same_keeps mid new q (a.memory f is) (s.refused f q tt) (h.keeps (a.faithful f) q was)
+    → SyncsLog (Unit {0}) (sync ≡ true) sync name [] mid new result → IsTrue new.faithful → result ≡ Err Memory → (q : List ℕ) → LeavesOrSyncs old new q
+memory_keeps sync old mid new names name bytes (Ok x) h a s f is q = absurd (cc)
+memory_keeps sync old mid new names name bytes (Err e) h a s f is q = same_keeps old mid new q (a.memory f is) (s.refused f q tt) (h.keeps (a.faithful f) q)
 
 abbrev SameResult : {T : Type 0} → Result T LogError → Result T LogError → Type 0
 SameResult a b = a ≡ b
@@ -293,6 +319,17 @@ stood_behind old mid new (Err e) first second = tt
 -- the call that was accepted last
 pub ends_so : (mid new : Facts) (name : List ℕ) (r : Result (Unit {0}) StoreError) → is_err r ≡ false → OnOk r (Adds mid new (Sync name)) → EndsInSync new
 ends_so mid new name r went noted = (let adds = done_of r went noted in (mid.calls, record { found = disk_of mid; change = Sync name }, adds.0, refl))
+
+-- the calls in turn
+pub puts_behind : (names : List (List ℕ)) (old mid new : Facts) (name bytes : List ℕ) → SyncsEach names old mid → PutsSynced mid new name bytes → SyncsThenPuts names old new (λ (mid : Facts). PutsSynced mid new name bytes)
+puts_behind names old mid new name bytes each puts = record { done = names; mid = mid; synced = each; ends = inr (refl, puts) }
+
+pub unput_behind : (names done : List (List ℕ)) (old new : Facts) (puts : Facts → Type 0) → SyncsEach done old new → SyncsThenPuts names old new puts
+unput_behind names done old new puts each = record { done = done; mid = new; synced = each; ends = inl (refl, refl) }
+
+-- what is put there says more
+pub puts_so : (names : List (List ℕ)) (old new : Facts) (puts says : Facts → Type 0) → ((mid : Facts) → puts mid → says mid) → SyncsThenPuts names old new puts → SyncsThenPuts names old new says
+puts_so names old new puts says so h = record { done = h.done; mid = h.mid; synced = h.synced; ends = elim h.ends [ inl idle ↦ inl idle | inr put ↦ inr (put.0, so h.mid put.1) ] }
 
 -- what a stop leaves
 pub left_behind : (old mid new : Facts) (name bytes : List ℕ) → mid.files ≡ old.files → LeavesOnly old mid (λ files. files ≡ old.files) → LeavesOnly mid new (λ files. AppendsBeginning mid.files files name bytes)

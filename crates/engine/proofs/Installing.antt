@@ -177,14 +177,14 @@ module _ {K : Type 0} {g : _} (order : Order) (kept : (scan : Scan K g) → Scan
         came_of entry i = (c.running.may.entries entry).1 i
 
     -- so does one at a sequence above all that the tables had
-    seen_above_tables : (p : ℕ) (contents : Contents) → AllUpTo p (tabled d.tables) → IsView (entries_in d) p contents → IsView (entries_in installed_as) p contents
+    pub seen_above_tables : (p : ℕ) (contents : Contents) → AllUpTo p (tabled d.tables) → IsView (entries_in d) p contents → IsView (entries_in installed_as) p contents
     seen_above_tables p contents bounded view =
         parts_seen d.tables c.running.inputs c.running.rest has.outputs has.contents (logged d.logs) c.came work.job.selection.snapshots (deep_of order.cmp work) p c.reach contents
         has.compaction.old_tables has.compaction.new_tables can_end.merged.entries has.put.needed apart c.begun.kept
         (subst (λ (es : List InternalEntry). AllUpTo c.reach (map entry_of es)) (ap (λ (es : List InternalEntry). c.came ++ es) ended ∙ append-nil c.came) c.begun.above) bounded view
 
     -- no table has an entry that none had
-    fewer_tabled : (entry : Entry) → Among (tabled has.contents) entry → Among (tabled serving.contents) entry
+    pub fewer_tabled : (entry : Entry) → Among (tabled has.contents) entry → Among (tabled serving.contents) entry
     fewer_tabled entry i = subst (λ (contents : List TableContent). Among (tabled contents) entry) (sym a.in_tables) (elim (among_contents has.contents has.outputs c.running.rest entry has.compaction.new_tables i) [
       | inl out ↦ among_chosen d.tables c.running.inputs c.running.rest entry has.compaction.old_tables (has.compaction.taken entry out)
       | inr rest ↦ among_rest d.tables c.running.inputs c.running.rest entry has.compaction.old_tables rest
@@ -221,7 +221,7 @@ module _ {K : Type 0} {g : _} (order : Order) (kept : (scan : Scan K g) → Scan
   -- ---- the files
 
   module _ (f : IsTrue facts.faithful) (touches : InstallTouches old.facts facts work.job.outputs (string_bytes db.directory.manifest.name)) where
-    at_hand : (number : ℕ) → IsNumberAtHand work.job.outputs number → IsNumbered number
+    pub at_hand : (number : ℕ) → IsNumberAtHand work.job.outputs number → IsNumbered number
     at_hand number at = let n = own_number work.job.outputs next number c.running.may.numbered (inl at) in (n.0, (let below = n.1 in let fits = db.directory.numbers.in_range.1 in omega (arith, below, fits)))
 
     other_file : (name : List ℕ) → ((number : ℕ) → IsNumberAtHand work.job.outputs number → name ≢ name_of (Table number)) → name ≢ name_of (Manifest d.manifest) → get facts.files name ≡ get old.facts.files name
@@ -238,16 +238,16 @@ module _ {K : Type 0} {g : _} (order : Order) (kept : (scan : Scan K g) → Scan
         (files_apart (OldTable n) (Manifest d.manifest) numbered a.consistent.manifest.numbered (λ e. cc))
 
     -- a file with none of these names, and what of it is synced
-    leaves_file : (file : FileName) → IsFileName file → ((number : ℕ) → IsNumberAtHand work.job.outputs number → file ≢ Table number) → name_of file ≢ string_bytes db.directory.manifest.name → LeavesFile old.facts facts (name_of file)
+    pub leaves_file : (file : FileName) → IsFileName file → ((number : ℕ) → IsNumberAtHand work.job.outputs number → file ≢ Table number) → name_of file ≢ string_bytes db.directory.manifest.name → LeavesFile old.facts facts (name_of file)
     leaves_file file is apart other =
         let named : (number : ℕ) → IsNumberAtHand work.job.outputs number → name_of file ≢ name_of (Table number) = λ number at. files_apart file (Table number) is (at_hand number at) (apart number at) in
         (touches.others f (name_of file) named other, touches.synced f (name_of file) named other)
 
     -- none of the tables that it writes is read
-    abbrev Written : List ℕ → Type 0
+    abbrev pub Written : List ℕ → Type 0
     Written = IsTableName (IsNumberAtHand work.job.outputs)
 
-    spares_written : SparesRead Written old.facts.files db.directory db.tables
+    pub spares_written : SparesRead Written old.facts.files db.directory db.tables
     spares_written =
         spares_tables Written old.facts.files db.log db.directory db.tables serving.synced.names (λ file is none one. files_apart file (Table one.0) is (at_hand one.0 one.1) (no_table file one.0 none) one.2)
         (λ p there known. (

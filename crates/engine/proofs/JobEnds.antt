@@ -19,7 +19,7 @@ use Rattle.edits.specs.declared.field.PlacedTable.{PlacedTable}
 use Rattle.ikey.specs.Entries.{InternalEntry, entry_of}
 use Rattle.ikey.specs.Orders.{Order}
 use Rattle.cursor.specs.Places.{Cmp}
-use Rattle.running_job.specs.internal.Ending.{CanEnd, EndLeavesOver, EndMayLeave, EndPutsOwn, RefusesEnd}
+use Rattle.running_job.specs.internal.Ending.{CanEnd, EndLeavesOver, EndMayLeave, EndMayPutOwn, EndPutsOwn, RefusesEnd}
 use Rattle.running_job.specs.Running.{deep_of, shown}
 use Rattle.running_job.specs.internal.Stepping.{GoesOn, KeepsSound, MayGoOn, RefusesStep, StepStops, StepTouches}
 use Rattle.running_job.specs.declared.open_job.OpenJob.{OpenJob}
@@ -43,7 +43,8 @@ use Rattle.directory_writes.proofs.JobTables.{contains_among, content_at}
 use Rattle.directory_writes.specs.Replacing.{placed_in}
 use Rattle.directory_writes.specs.internal.Flush.{SparesManifest}
 use Rattle.directory_writes.specs.Differing.{IsSameChange, OfEach}
-use Rattle.directory_writes.specs.internal.Install.{AreOldOrOwn, InstallMeans, InstallSyncs, InstallTouches, IsTableSynced, MayBeInstalled}
+use Rattle.directory_writes.specs.internal.Putting.{WritesThenPuts}
+use Rattle.directory_writes.specs.internal.Install.{AreOldOrOwn, AreOutputsKept, InstallMeans, InstallSyncs, InstallTouches, IsTableSynced, MayBeInstalled}
 use Rattle.opening.specs.Durable.{IsSynced}
 use Rattle.directory_writes.specs.declared.flush.FlushError.{FlushError}
 use Rattle.directory_writes.specs.declared.flush.FlushError.TheVariants.{Before, Edit}
@@ -72,6 +73,10 @@ use Rattle.engine.proofs.Installing.{broken_install, broken_uninstalled, can_end
 use Rattle.engine.proofs.NeededEntries.{installed_needed, takes_on}
 use Rattle.engine.proofs.Compacting.{all_contains}
 use Rattle.engine.proofs.Reading.{has_placed}
+use Rattle.engine.proofs.LosingCalls.{leaves_two}
+use Rattle.engine.proofs.LosingFirst.{first_as, first_then, found_then}
+use Rattle.engine.proofs.LosingInstalls.{MayLeave, install_first, install_found}
+use Rattle.engine.proofs.LosingSteps.{step_first, step_found}
 use Rattle.engine.proofs.Stepping.{all_came, can_step, gone_on, listed_apart, serving_stepped, table_same, the_job}
 use Rattle.engine.proofs.Steps.{serving_of}
 use Rattle.engine.proofs.StopSteps.{means_still}
@@ -273,13 +278,19 @@ module _ {K : Type 0} {g : _} (order : Order) (total : IsTotalOrder order.cmp) (
       serves_on order old new ids db (open_db after_memory (with_job None)) most (Err e) whole whole touches.writes.faithful touches.writes.failures touches.writes.denials
       (λ m f same serving. (refused m e serving f same h, serving_stepped order kept one old new db after_memory numbers most before after is le upto touches keeps m serving f None tt))
 
-  -- a stop in its middle
+  -- what is left in its middle
   pub step_keeps : StepStops order (record { seen = old; memory = memory }) (record { seen = new; memory = after_memory }) next before → KeepsOpen order old new db
-  step_keeps stops f given m s =
-      let serving = serving_of order old given db m whole s.stands in
-      let c = the_job order kept one old new db after_memory numbers most before after is le upto touches keeps m serving in
-      leaves_so old.facts new.facts (λ files. IsConsistent order files serving.log.directory.directory) (λ files. MeansAccepted order files m) (means_still order old db m serving)
-      (stops f serving.log.directory.directory c.came c.left (can_step order kept one old new db after_memory numbers most before after is le upto touches keeps m serving s.undamaged))
+  step_keeps stops = record {
+    stops = λ f given m s.
+        let serving = serving_of order old given db m whole s.stands in
+        let c = the_job order kept one old new db after_memory numbers most before after is le upto touches keeps m serving in
+        leaves_so old.facts new.facts (λ files. IsConsistent order files serving.log.directory.directory) (λ files. MeansAccepted order files m) (means_still order old db m serving)
+        (stops f serving.log.directory.directory c.came c.left (can_step order kept one old new db after_memory numbers most before after is le upto touches keeps m serving s.undamaged));
+    loses = λ f given m s unbroken.
+        let serving = serving_of order old given db m whole s.stands in
+        step_first order kept one old new db after_memory numbers most before after is le upto touches keeps m serving f (serving.origin.undamaged s.undamaged);
+    found = λ f given m s unbroken. step_found order kept one old new db after_memory numbers most before after is le upto touches keeps m (serving_of order old given db m whole s.stands) f;
+  }
 
   module _ (budget : ℕ) (progress : Progress) (goes : GoesOn order (record { seen = old; memory = memory }) (record { seen = new; memory = after_memory }) next numbers.next budget before after progress)
       (may : MayGoOn order (record { seen = old; memory = memory }) (record { seen = new; memory = after_memory }) next numbers.next budget before after progress) (plan : after.job.plan ≡ before.job.plan) (version : after.version ≡ before.version)
@@ -352,22 +363,58 @@ module _ {K : Type 0} {g : _} (order : Order) (total : IsTotalOrder order.cmp) (
       faithful : IsTrue facts.faithful → IsTrue old.facts.faithful
       faithful f = touches.writes.faithful (install.faithful f)
 
-      -- a stop in the middle of both
+      -- ---- what is left in the middle of both
+
+      module _ (m : Machine) (serving : IsServing order old db m) (f : IsTrue facts.faithful) (undamaged : m.damaged ≡ false) where
+        abbrev can_now : CanEnd order (whole_of new mid) numbers.next after_memory.last state.directory.manifest state.version.value.tables (on m serving f).log.directory.directory after (c m serving f).came
+        can_now = can_end_whole order kept one lasts new facts mid (drawing m most new.facts) (on m serving f) after (c m serving f) (none_left m serving f) undamaged
+
+        abbrev MayBe : Files → Type 0
+        MayBe = MayLeave order kept one lasts new facts mid (drawing m most new.facts) (on m serving f) after (c m serving f) (none_left m serving f)
+
+        end_may : (files : Files) → EndMayLeave order new.facts numbers.next sequence state.directory.manifest tables after files → EndMayPutOwn order new.facts numbers.next sequence state.directory.manifest tables after files → MayBe files
+        end_may files left own =
+            let said = subst (λ (n : ℕ). EndMayLeave order new.facts numbers.next n state.directory.manifest state.version.value.tables after files) sequence_is
+            (subst (λ (ts : List PlacedTable). EndMayLeave order new.facts numbers.next sequence state.directory.manifest ts after files) tables_are left) in
+            let owned = subst (λ (n : ℕ). EndMayPutOwn order new.facts numbers.next n state.directory.manifest state.version.value.tables after files) sequence_is
+            (subst (λ (ts : List PlacedTable). EndMayPutOwn order new.facts numbers.next sequence state.directory.manifest ts after files) tables_are own) in
+            let d = (on m serving f).log.directory.directory in (
+              subst
+                  (λ (fs : Files). MayBeInstalled order (deep_of order.cmp after) after.job.plan.output_level after.job.selection.snapshots fs files numbers.next (c m serving f).came d (c m serving f).running.inputs (c m serving f).running.rest)
+                  (sym ((on m serving f).origin.undamaged undamaged)) (said (whole_of new mid) d (c m serving f).came refl can_now),
+              owned (whole_of new mid) d (c m serving f).came refl can_now,
+            )
+
+      abbrev MayStop : Files → Type 0
+      MayStop = EndMayLeave order new.facts numbers.next sequence state.directory.manifest tables after
+
+      abbrev MayStopWith : Files → Type 0
+      MayStopWith = EndMayPutOwn order new.facts numbers.next sequence state.directory.manifest tables after
+
+      end_leaves : (m : Machine) (serving : IsServing order old db m) (f : IsTrue facts.faithful) (undamaged : m.damaged ≡ false) → LeavesOnly new.facts facts MayStop → LeavesOnly new.facts facts MayStopWith → LeavesOnly new.facts facts (MayBe m serving f undamaged)
+      end_leaves m serving f undamaged ends owns =
+          leaves_so new.facts facts (λ files. MayStop files × MayStopWith files) (MayBe m serving f undamaged) (λ files both. end_may m serving f undamaged files both.0 both.1) (leaves_two new.facts facts MayStop MayStopWith ends owns)
+
       pub end_keeps : StepStops order (record { seen = old; memory = memory }) (record { seen = new; memory = after_memory }) next before
-          → (IsTrue facts.faithful → LeavesOnly new.facts facts (EndMayLeave order new.facts numbers.next sequence state.directory.manifest tables after)) → KeepsOpen order old last_seen db
-      end_keeps stops ends f given m s =
-          let serving = serving_of order old given db m whole s.stands in
-          let end = drawing m most new.facts in
-          let can = can_end_whole order kept one lasts new facts mid end (on m serving f) after (c m serving f) (none_left m serving f) s.undamaged in
-          leaves_both old.facts new.facts facts (λ files. MeansAccepted order files m) (step_keeps stops (install.faithful f) given m s)
-          (leaves_so new.facts facts (EndMayLeave order new.facts numbers.next sequence state.directory.manifest tables after) (λ files. MeansAccepted order files m)
-          (λ files left.
-          let said = subst (λ (n : ℕ). EndMayLeave order new.facts numbers.next n state.directory.manifest state.version.value.tables after files) sequence_is
-          (subst (λ (ts : List PlacedTable). EndMayLeave order new.facts numbers.next sequence state.directory.manifest ts after files) tables_are left) in
-          means_install order kept one lasts new facts mid end (on m serving f) after (c m serving f) (none_left m serving f) files
-          (subst
-          (λ (fs : Files). MayBeInstalled order (deep_of order.cmp after) after.job.plan.output_level after.job.selection.snapshots fs files numbers.next (c m serving f).came (on m serving f).log.directory.directory (c m serving f).running.inputs (c m serving f).running.rest)
-          (sym ((on m serving f).origin.undamaged s.undamaged)) (said (whole_of new mid) (on m serving f).log.directory.directory (c m serving f).came refl can))) (ends f))
+          → (IsTrue facts.faithful → LeavesOnly new.facts facts MayStop) → (IsTrue facts.faithful → LeavesOnly new.facts facts MayStopWith)
+          → (IsTrue facts.faithful → WritesThenPuts new.facts facts (IsTableName (IsNumberAtHand after.job.outputs)) (string_bytes state.directory.manifest.name) (AreOutputsKept order.cmp after.job new.facts numbers.next)) → KeepsOpen order old last_seen db
+      end_keeps stops ends owns puts = record {
+        stops = λ f given m s.
+            let serving = serving_of order old given db m whole s.stands in
+            leaves_both old.facts new.facts facts (λ files. MeansAccepted order files m) ((step_keeps stops).stops (install.faithful f) given m s)
+            (leaves_so new.facts facts (MayBe m serving f s.undamaged) (λ files. MeansAccepted order files m)
+            (λ files may. means_install order kept one lasts new facts mid (drawing m most new.facts) (on m serving f) after (c m serving f) (none_left m serving f) files may.0) (end_leaves m serving f s.undamaged (ends f) (owns f)));
+        loses = λ f given m s unbroken.
+            let serving = serving_of order old given db m whole s.stands in
+            let behind = install_first order kept one lasts new facts mid (drawing m most new.facts) (on m serving f) after (c m serving f) (none_left m serving f) f install ((on m serving f).origin.undamaged s.undamaged)
+            (puts f) (end_leaves m serving f s.undamaged (ends f) (owns f)) in
+            first_then order old.facts new.facts facts (ends f).more db m (ends f).calls ((step_keeps stops).found (install.faithful f) given m s unbroken) ((step_keeps stops).loses (install.faithful f) given m s unbroken)
+            (λ lost since spares. first_as order lost m (drawing m most new.facts) refl refl (omega arith) (behind lost since spares));
+        found = λ f given m s unbroken.
+            let serving = serving_of order old given db m whole s.stands in
+            let behind = install_found order kept one lasts new facts mid (drawing m most new.facts) (on m serving f) after (c m serving f) (none_left m serving f) f install in
+            found_then old.facts new.facts facts db ((step_keeps stops).found (install.faithful f) given m s unbroken) (record { current = behind.current; each = behind.each });
+      }
 
       -- the MANIFEST is synced, and so are the tables that were put in
       abbrev Edited : Type 0

@@ -48,13 +48,14 @@ use Rattle.engine.specs.OpenDb.{OpenDb, open_db, whole_of}
 use Rattle.engine.specs.Reads.{kept_at}
 use Rattle.machine.specs.Machine.{Machine, weight}
 use Rattle.engine.proofs.Synced.{stays_same}
+use Rattle.engine.specs.InUse.{IsJobTable}
 use Rattle.engine.specs.internal.Standing.{IsServing}
 use Rattle.machine.specs.Upkeep.{UpkeepRefused}
 use Rattle.engine.specs.internal.Pieces.{IsPiece, IsHardToRead}
 use Rattle.engine.proofs.Compacting.{all_contains, input_number}
 use Rattle.engine.proofs.Origins.{origins_in}
 use Rattle.engine.proofs.JobCauses.{hard_or, limited_in, not_whole}
-use Rattle.engine.proofs.Reading.{GathersRead, KeepsThere, carried_there, kept_read, read_by, serving_read}
+use Rattle.engine.proofs.Reading.{GathersRead, KeepsThere, carried_there, read_by, serving_read, synced_read}
 use Rattle.engine.proofs.WorkEnds.{undrawn}
 use Rattle.engine.proofs.WorkSteps.{drawing, draws, serves_on}
 
@@ -164,8 +165,8 @@ module _ {K : Type 0} {g : _} (order : Order) (total : IsTotalOrder order.cmp) (
     gathers number is_kept = elim (leaves.carries.gathered number is_kept) [ inl was ↦ inl was | inr has ↦ inr (inl (of_version number has)) ]
 
     abbrev read_on : IsServing order new (record db { memory = after_memory }) (read_by new.facts m)
-    read_on = serving_read order kept old new db after_memory m (leaves.carries.reads.files f) (leaves.carries.sound f) there gathers leaves.memory (stays_same old.facts new.facts db.log db.directory db.tables (leaves.carries.reads.calls f) (leaves.carries.reads.files f) (leaves.carries.reads.synced f))
-        (kept_read old.facts new.facts (leaves.carries.reads.files f) (leaves.carries.reads.synced f)) serving
+    read_on = serving_read order kept old new db after_memory m (leaves.carries.reads.files f) (leaves.carries.sound f) there gathers leaves.memory (stays_same old.facts new.facts db.log db.directory db.tables (IsJobTable db.job) (leaves.carries.reads.calls f) (leaves.carries.reads.files f) (leaves.carries.reads.synced f))
+        (synced_read old.facts new.facts (leaves.carries.reads.synced f)) serving
 
     -- none was drawn
     pub on : IsServing order new (record db { memory = after_memory }) (drawing m 0 new.facts)
@@ -246,6 +247,7 @@ module _ {K : Type 0} {g : _} (order : Order) (total : IsTotalOrder order.cmp) (
             begun = record { kept = kept_last; used = omega (arith, same_last); above = above };
             seen = λ id sequence there. (sequence, kept_each id sequence there, omega arith, λ entry i le. le);
             unread = λ id scan there number has own. owns_none number own;
+            since = λ number own. absurd (owns_none number own);
           }
 
       pub serving_begun : IsServing order new (record (open_db after_memory state) { job = Some work }) (drawing m 0 new.facts)

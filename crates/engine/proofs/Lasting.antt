@@ -24,7 +24,7 @@ pushed map (first ∷ batches) batch = pushed (after_batch map first) batches ba
 pub holds_current : (order : Order) (files : Files) (m : Machine) → MeansCurrent order files m → Holds order files m
 holds_current order files m means = record { entries = means.entries; directory = means.spelled; view = means.view }
 
-pub holds_with : (order : Order) (files : Files) (m : Machine) (operations : List Operation) → MeansWith order files m operations → Holds order files (accepted m operations)
+pub holds_with : (order : Order) (files : Files) (m : Machine) (operations : List Operation) → MeansWith order files m operations → Holds order files (accepted m operations false)
 holds_with order files m [] means = record {
   entries = means.entries;
   directory = subst (λ (n : ℕ). IsDirectory order files means.entries n) (let same : m.used + 0 ≡ m.used = omega arith in same) means.spelled;
@@ -38,7 +38,7 @@ holds_with order files m (operation ∷ operations) means = record {
 
 pub held : (order : Order) (files : Files) (m : Machine) (doubt : Option (List Operation))
     → MatchOption doubt (MeansCurrent order files m) (λ operations. MeansCurrent order files m ⊎ MeansWith order files m operations)
-    → MatchOption doubt (Holds order files m) (λ batch. Holds order files m ⊎ Holds order files (accepted m batch))
+    → MatchOption doubt (Holds order files m) (λ batch. Holds order files m ⊎ Holds order files (accepted m batch false))
 held order files m None means = holds_current order files m means
 held order files m (Some operations) (inl means) = inl (holds_current order files m means)
 held order files m (Some operations) (inr means) = inr (holds_with order files m operations means)
@@ -93,6 +93,7 @@ starts_first order facts ideal first from is =
     record {
       counts = record { failures = is.counts.0; denials = is.counts.1 };
       ids = is.ids;
+      reached = omega (arith, is.accepted.2);
       opened = is.closed.0;
       broken = is.closed.1;
       views = (is.closed.2, is.closed.3);

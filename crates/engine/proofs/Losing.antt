@@ -12,13 +12,14 @@ use Rattle.ikey.specs.declared.entry.Entry.{Entry}
 use Rattle.ikey.specs.Views.{IsView}
 use Rattle.machine.specs.Machine.{Machine, current}
 use Rattle.machine.specs.declared.command.Answer.TheVariants.{Refused}
-use Rattle.opening.specs.Losses.{AreSpared, CutLaw, IsKept, IsKeptButLogs, IsKeptWhole, IsLogRead, IsNoneOf, IsReadIn, IsTableKept, KeptLaw, SparedLaw, StaysNamed, StaysOrBegins}
+use Rattle.opening.specs.Losses.{AreSpared, CutLaw, IsKept, IsKeptButLogs, IsKeptWhole, IsLogRead, IsNoneOf, IsReadIn, IsTableKept, KeptLaw, SparedLaw}
 use Rattle.recover.specs.Directory.{Directory, used_in}
 use Rattle.recover.proofs.Adding.{logs_apart}
 use Rattle.recover.proofs.Keeping.{live_of}
 use Rattle.recover.specs.Logs.{InLogs, IsLive, LogContent, logged}
 use Rattle.recover.specs.Tables.{TableContent, InTables, table_at, tabled}
 use Rattle.store.specs.Files.{Files}
+use Rattle.store.specs.Losses.{StaysNamed, StaysOrBegins}
 use Rattle.table_access.specs.Tables.{Seen}
 use Rattle.engine.proofs.Compacting.{all_contains}
 use Rattle.engine.proofs.FrontSyncing.{same_or_other}
@@ -47,21 +48,21 @@ one_or_none q (name ∷ names) = elim (same_or_other q name) [
 ]
 
 -- so many batches behind the first of some, of which there are no more
-counted_within : (m : Machine) (from count : ℕ) → from ≤ length m.batches → count ≤ length (drop from m.batches) → from + count ≤ length m.batches
+pub counted_within : (m : Machine) (from count : ℕ) → from ≤ length m.batches → count ≤ length (drop from m.batches) → from + count ≤ length m.batches
 counted_within m from count within le =
     let left = length-drop from m.batches in
     omega (arith, within, le, left)
 
 module _ {K : Type 0} {g : _} (order : Order) (source : Seen) (db : OpenDb K g) (m : Machine) (serving : IsServing order source db m) where
-  abbrev d : Directory
+  abbrev pub d : Directory
   d = serving.log.directory.directory
 
-  read_live : (n : ℕ) → IsLive d.layout n → IsLogRead db.directory n
+  pub read_live : (n : ℕ) → IsLive d.layout n → IsLogRead db.directory n
   read_live n (inl least) = inl (subst (λ (k : ℕ). k ≤ n) serving.log.knows.first_log least)
   read_live n (inr is) = inr (is.0 ∙ serving.log.knows.previous_log, is.1)
 
   -- a table of the directory is one of the version
-  listed : (content : TableContent) → InTables d.tables content → Contains db.tables content.placed
+  pub listed : (content : TableContent) → InTables d.tables content → Contains db.tables content.placed
   listed content among =
       let here : InTables serving.contents content = subst (λ (contents : List TableContent). InTables contents content) (sym serving.log.directory.in_tables) among in
       all_contains (Contains db.tables) (placed_in serving.contents) content.placed serving.tables.version.all (has_placed serving.contents content here)
@@ -77,7 +78,7 @@ module _ {K : Type 0} {g : _} (order : Order) (source : Seen) (db : OpenDb K g) 
   stays_read name (inr (inr (content, among, inl is))) = subst (StaysNamed source.facts) (sym is) (serving.synced.stayed.placed content.placed (listed content among)).0
   stays_read name (inr (inr (content, among, inr older))) = subst (StaysNamed source.facts) (sym older.0) ((serving.synced.stayed.placed content.placed (listed content among)).1 older.1)
 
-  spared : AreSpared source.facts d
+  pub spared : AreSpared source.facts d
   spared = record {
     reads = stays_read;
     logs = λ name log. subst (StaysOrBegins source.facts) (sym log.3) (serving.synced.stayed.logs log.0 log.1 (read_live log.0 log.2));
@@ -158,8 +159,8 @@ loses_ends order spared_law cut_law source ids db m undamaged s unbroken lost ma
       λ same.
           let logs_left = found_or_kept order source db m serving lost found same in
           let logged_are : entries_of serving.contents db ≡ tabled serving.contents ++ logged d.logs = ap (λ (es : List Entry). tabled serving.contents ++ es) serving.log.directory.in_logs in
-          let first = recent_cut order source.facts lost db.directory.manifest.number serving.contents (entries_of serving.contents db) d cut.0 m serving.recent serving.log.directory.consistent cut.1 cut.2 logs_left logged_are serving.log.directory.in_tables in
-          record { count = serving.recent.from + first.0; within = counted_within m serving.recent.from first.0 serving.recent.within first.1; used = used_in (record d { logs = cut.0 }); holds = first.2 },
+          let first = recent_cut order source.facts lost db.directory.manifest.number serving.contents (entries_of serving.contents db) d cut.0 m serving.recent source.facts.files serving.log.directory.consistent serving.log.directory.consistent.logs cut.1 cut.2 logs_left logged_are serving.log.directory.in_tables in
+          record { count = serving.recent.from + first.0; within = counted_within m serving.recent.from first.0 serving.recent.within first.1; enough = first.2; used = used_in (record d { logs = cut.0 }); holds = first.3 },
     )
 
 pub any_loses_ends : {K : Type 0} {g : _} (order : Order) → SparedLaw → CutLaw → (source : Seen) (ids : Ids) (db : Option (OpenDb K g)) → LosesEndsOver order source ids db

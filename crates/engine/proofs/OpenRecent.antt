@@ -61,7 +61,7 @@ empty_at files d number position front last has ends none logs number_is =
 -- ---- an open
 
 module _ (order : Order) (facts : Facts) (after : Files) (log position least : ℕ) (tables : List TableContent) (memory : Memories) (m : Machine) (a : CanAppend order after log position tables (logged_in memory) memory.last) (logs : knowing.HasLogs a.directory log memory) (start : position ≡ 0)
-    (used : m.used ≡ memory.last) (bounded : AllUpTo memory.last (tabled tables ++ logged_in memory)) (view : IsView (tabled tables ++ logged_in memory) m.used (current m))
+    (used : m.used ≡ memory.last) (bounded : AllUpTo memory.last (tabled tables ++ logged_in memory)) (view : IsView (tabled tables ++ logged_in memory) m.used (current m)) (reached : m.synced ≤ length m.batches)
     (before : (n : ℕ) → IsNumbered n → n ≢ log → contains_key after (name_of (Log n)) ≡ true → n < least) where
   front_below : (n : ℕ) → InLogs logs.sealed n → n < least
   front_below n i =
@@ -81,4 +81,4 @@ module _ (order : Order) (facts : Facts) (after : Files) (log position least : �
   recent_begun =
       subst (λ (ls : List LogContent). AreRecent facts least tables (tabled tables ++ logged_in memory) ls m) (sym logs.logs)
       (recent_opened facts least tables (tabled tables ++ logged_in memory) logs.sealed logs.current m (each_below least logs.sealed front_below)
-      (empty_at after a.directory log position logs.sealed logs.current a.consistent.logs a.ends start logs.logs logs.number) front_used view)
+      (empty_at after a.directory log position logs.sealed logs.current a.consistent.logs a.ends start logs.logs logs.number) front_used view reached)

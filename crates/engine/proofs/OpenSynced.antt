@@ -73,6 +73,7 @@ module _ {K : Type 0} (order : Order) (old facts : Facts) (after : Files) (diffe
         last = (numbered, has.knows.free.listed (Log begun.log.number) numbered (ap is_some there), w.named);
         front = synced.logs.front;
         forward = has.knows.forward;
+        begun = synced.since;
         manifest = (subst IsNumbered (sym has.knows.number) has.log.consistent.manifest.numbered, has.knows.named ∙ ap (λ (n : ℕ). name_of (Manifest n)) (sym has.knows.number));
         placed = named;
       }

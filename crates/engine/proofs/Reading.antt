@@ -26,6 +26,7 @@ use Rattle.db_cursor.specs.Origins.{HaveOrigins}
 use Rattle.db_cursor.proofs.Origins.{origins_held}
 use Rattle.db_cursor.proofs.ScanSteps.{may_kept}
 use Rattle.db_cursor.proofs.Untorn.{intact_scan}
+use Rattle.directory_writes.proofs.SameChanges.{log_other}
 use Rattle.directory_writes.specs.Differing.{DiffersInTables, IsSameChange}
 use Rattle.level_cursor.specs.InRows.{ListsNumber}
 use Rattle.db_cursor.specs.Whole.{Whole}
@@ -38,12 +39,12 @@ use Rattle.version_laws.specs.Places.{table_sources, HasVersion}
 use Rattle.table_access.specs.Tables.{Seen, IsSound, Carries, KeepsOf, Knows}
 use Rattle.table_access.specs.Values.{IsTablePastLimit}
 use Rattle.store.specs.Files.{Files, Facts, Synced}
-use Rattle.opening.specs.Losses.{IsKept}
 use Rattle.table.proofs.FrameParts.{long_frame}
 use Rattle.versions.specs.Levels.{ListsSameTables}
 use Rattle.engine.specs.declared.ids.Ids.{Ids}
 use Rattle.engine.specs.internal.Directory.{IsReadable}
 use Rattle.recover.specs.Limits.{IsWithinLimits}
+use Rattle.recover.specs.Logs.{HasLogs, LogContent}
 use Rattle.engine.specs.OpenDb.{OpenDb, whole_of}
 use Rattle.reader.specs.internal.Iterators.{walked_of}
 use Rattle.engine.specs.Origins.{ComesFrom}
@@ -53,6 +54,9 @@ use Rattle.engine.specs.internal.Live.{AreLive, AreWalks, IsBoth, IsLiveWalk}
 use Rattle.machine.specs.Machine.{Machine, Walk}
 use Rattle.engine.proofs.RecentWrites.{recent_kept}
 use Rattle.engine.proofs.Synced.{StaysSynced, stays_same}
+use Rattle.engine.specs.InUse.{IsJobTable}
+use Rattle.running_job.specs.declared.open_job.OpenJob.{OpenJob}
+use Rattle.engine.specs.internal.Logs.{LeavesOrSyncs}
 use Rattle.engine.specs.internal.Recent.{AreRecent}
 use Rattle.engine.specs.internal.Standing.{HasLog, HasTables, IsBroken, IsServing, StandsOpen}
 use Rattle.engine.proofs.Compacting.{each_job, goes_beside, have_itself, known_itself, version_number, version_unowned}
@@ -166,9 +170,17 @@ live_of {X} {Y} Is kept live id x there h = at (kept_at kept id) (lookup (nat_eq
 abbrev pub read_by : Facts → Machine → Machine
 read_by facts m = record m { failures = facts.failures; denials = facts.denials }
 
--- what was synced whole is, where the files and what of them is synced are the same
-pub kept_read : (old new : Facts) → new.files ≡ old.files → new.synced ≡ old.synced → (q : List ℕ) → IsKept old q → IsKept new q
-kept_read old new files synced q h bytes there = ap (λ (s : Synced). s q) synced ∙ h bytes (ap (λ (fs : Files). get fs q) (sym files) ∙ there)
+-- of each file the same is synced
+pub synced_read : (old new : Facts) → new.synced ≡ old.synced → (q : List ℕ) → LeavesOrSyncs old new q
+synced_read old new synced q = inl (ap (λ (s : Synced). s q) synced)
+
+-- where only tables differ, the logs are the same
+pub logs_differ : (files whole : Files) (logs : List LogContent) → DiffersInTables files whole → HasLogs whole logs → HasLogs files logs
+logs_differ files whole [] differs h = tt
+logs_differ files whole (log ∷ logs) differs h = (
+  record { bytes = h.0.bytes; numbered = h.0.numbered; there = sym (differs.others (name_of (Log log.number)) (log_other log.number h.0.numbered)) ∙ h.0.there; spelled = h.0.spelled },
+  logs_differ files whole logs differs h.1,
+)
 
 -- what a scan reads is the same
 pub whole_kept : (cmp : List ℕ → List ℕ → Ordering) (old new : Whole) (sequence : ℕ) → LeavesMemories old.memory new.memory → new.seen.facts.files ≡ old.seen.facts.files → (IsSound cmp old.seen → IsSound cmp new.seen)
@@ -205,8 +217,8 @@ module _ {K : Type 0} {g : _} (order : Order) (kept : (scan : Scan K g) → Scan
 
   -- files and memory are the same, whatever else the calls did
   module _ (old new : Seen) (db : OpenDb K g) (memory : Memories) (m : Machine) (files : new.facts.files ≡ old.facts.files) (sound : IsSound order.cmp old → IsSound order.cmp new)
-      (keeps : KeepsThere old new) (gathers : GathersRead db old new) (left : LeavesMemories db.memory memory) (stays : StaysSynced old.facts new.facts db.log db.log db.directory db.tables)
-      (still : (q : List ℕ) → IsKept old.facts q → IsKept new.facts q) where
+      (keeps : KeepsThere old new) (gathers : GathersRead db old new) (left : LeavesMemories db.memory memory) (stays : StaysSynced old.facts new.facts db.log db.log db.directory db.tables (IsJobTable db.job))
+      (leaves : (q : List ℕ) → LeavesOrSyncs old.facts new.facts q) where
     pub inserts : logged_in memory ≡ logged_in db.memory
     inserts = left_logged db.memory memory left
 
@@ -270,7 +282,7 @@ module _ {K : Type 0} {g : _} (order : Order) (kept : (scan : Scan K g) → Scan
         let contents : h.contents ≡ d.tables = a.in_tables in
         let unowned_here = λ (number : ℕ). version_unowned work.job.outputs order h.ideal d h.contents db.tables number a.consistent contents h.tables.version c.running.unused in
         goes_beside order (whole_of old db) (whole_of new after) db.directory.numbers.next db.directory.numbers.next db.snapshots db.snapshots db.iterators db.iterators db.tables m.damaged h.ideal h.ideal d d work c a.consistent free fits (omega arith)
-        (λ number numbered below one. ((ap (λ (fs : Files). get fs (name_of (Table number))) files, λ file there was. (stays h.synced).1 number numbered ∙ was), ap (λ (fs : Files). get fs (name_of (OldTable number))) files)) sound
+        (λ number numbered below one. ((ap (λ (fs : Files). get fs (name_of (Table number))) files, λ file there was. (stays h.synced).1 number numbered ∙ was, (stays h.synced).2 number numbered (subst (λ (o : Option (OpenJob K g)). IsJobTable o number) (sym is) one)), ap (λ (fs : Files). get fs (name_of (OldTable number))) files)) sound
         (λ number kept_now. elim (gathers number kept_now) [
           | inl before ↦ inl before
           | inr (inl has) ↦ inr ((version_number order h.ideal d db.directory.numbers.next h.contents db.tables number a.consistent free contents h.tables.version has).1, unowned_here number has)
@@ -279,7 +291,7 @@ module _ {K : Type 0} {g : _} (order : Order) (kept : (scan : Scan K g) → Scan
               let there = walk.1.tables number one.3 in
               (below_next order old.facts.files h.ideal db.directory.numbers.next number h.origin.differs free there.1 there.2, c.unread one.0 one.1 one.2 number there.0)
               )
-        ]) (no_change h.ideal) refl refl (omega (arith, last)) (known_itself db.snapshots db.memory.last) (have_itself db.iterators db.tables) unowned_here) job
+        ]) (no_change h.ideal) refl refl refl (omega (arith, last)) (known_itself db.snapshots db.memory.last) (have_itself db.iterators db.tables) unowned_here) job
 
     abbrev pub serving_read : IsServing order old db m → IsServing order new after (read_by new.facts m)
     serving_read h = record {
@@ -303,7 +315,9 @@ module _ {K : Type 0} {g : _} (order : Order) (kept : (scan : Scan K g) → Scan
       numbers = h.numbers;
       synced = (stays h.synced).0;
       recent = subst (λ (es : List Entry). AreRecent new.facts db.directory.manifest.number h.contents (tabled h.contents ++ es) h.log.directory.directory.logs m) (sym inserts)
-          (recent_kept old.facts new.facts db.directory.manifest.number h.contents (tabled h.contents ++ logged_in db.memory) h.log.directory.directory.logs m (λ n i. still (name_of (Log n))) h.recent);
+          (recent_kept old.facts new.facts db.directory.manifest.number h.contents (tabled h.contents ++ logged_in db.memory) h.log.directory.directory.logs m
+          (logs_differ new.facts.files h.ideal h.log.directory.directory.logs (origin_read h.ideal h.origin).differs h.log.directory.consistent.logs)
+          (λ n i. (ap (λ (fs : Files). get fs (name_of (Log n))) files, leaves (name_of (Log n)))) h.recent);
       job = job_read h h.job;
     }
 
@@ -318,6 +332,7 @@ module _ {K : Type 0} {g : _} (order : Order) (kept : (scan : Scan K g) → Scan
     stands_kept ids s = record {
       counts = record { failures = refl; denials = refl };
       ids = s.ids;
+      reached = s.reached;
       opened = s.opened;
       rest = rest_read db.broken s.rest;
     }
@@ -326,4 +341,4 @@ module _ {K : Type 0} {g : _} (order : Order) (kept : (scan : Scan K g) → Scan
   pub stands_read : {numbers : ℕ → Type 0} (old new : Seen) (ids : Ids) (db : OpenDb K g) (memory : Memories) (m : Machine) → Carries order.cmp numbers old new → GathersRead db old new → IsTrue new.facts.faithful
       → LeavesMemories db.memory memory → StandsOpen order old ids db m → StandsOpen order new ids (record db { memory = memory }) (read_by new.facts m)
   stands_read old new ids db memory m carries gathers f left s = stands_kept old new db memory m (carries.reads.files f) (carries.sound f) (carried_there order.cmp old new carries f) gathers left
-      (stays_same old.facts new.facts db.log db.directory db.tables (carries.reads.calls f) (carries.reads.files f) (carries.reads.synced f)) (kept_read old.facts new.facts (carries.reads.files f) (carries.reads.synced f)) ids s
+      (stays_same old.facts new.facts db.log db.directory db.tables (IsJobTable db.job) (carries.reads.calls f) (carries.reads.files f) (carries.reads.synced f)) (synced_read old.facts new.facts (carries.reads.synced f)) ids s

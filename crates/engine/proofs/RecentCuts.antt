@@ -80,7 +80,7 @@ empty_front [] b is = refl
 empty_front (x ∷ a) b is = cc
 
 -- of logs without batches nothing is left
-empty_cuts : (facts : Facts) (wholes cuts : List LogContent) → AllByRecursion (λ (log : LogContent). log.batches ≡ []) wholes → AreCut facts wholes cuts → batches_in cuts ≡ []
+pub empty_cuts : (facts : Facts) (wholes cuts : List LogContent) → AllByRecursion (λ (log : LogContent). log.batches ≡ []) wholes → AreCut facts wholes cuts → batches_in cuts ≡ []
 empty_cuts facts [] [] none c = refl
 empty_cuts facts [] (cut ∷ cuts) none c = absurd c
 empty_cuts facts (whole ∷ wholes) cuts none (inr gone) = empty_cuts facts wholes cuts none.1 gone.1

@@ -3,19 +3,22 @@ use Rattle.std.proofs.Common.{◌≡◌, inl, inr, ℕ, ◌+◌, ◌-◌, ◌≤
 use Rattle.std.proofs.lemmas.List.{drop-drop, drop-take, length-drop, take-take}
 use Rattle.std.proofs.lemmas.List.Sums.{sum_by-take-drop}
 use Rattle.batch.specs.declared.operation.Operation.{Operation}
+use Rattle.edits.specs.Names.{name_of}
+use Rattle.edits.specs.declared.names.FileName.TheVariants.{Log}
 use Rattle.ikey.proofs.SearchedSources.{among_back, among_front, among_split, same_view}
 use Rattle.ikey.specs.Sources.{SameEntries}
 use Rattle.ikey.specs.Views.{Among, AllUpTo, IsView}
 use Rattle.ikey.specs.declared.entry.Entry.{Entry}
 use Rattle.machine.specs.Machine.{Machine, view_at}
 use Rattle.recover.proofs.Memberships.{from_tabled, in_with, to_tabled}
-use Rattle.recover.specs.Logs.{Batch, LogContent, batch_entries, logged}
+use Rattle.recover.specs.Logs.{Batch, InLogs, LogContent, batch_entries, logged}
 use Rattle.recover.specs.Tables.{TableContent, tabled}
 use Rattle.recover.specs.internal.Changes.{with_content}
 use Rattle.store.specs.Files.{Facts}
 use Rattle.engine.proofs.RecentBatches.{SplitLogged, batch_entries-append, batches-append, logged_in_batches, logged_within, split_logged}
+use Rattle.engine.proofs.RecentSure.{sure_flushed, sure_same}
 use Rattle.engine.proofs.RecentWrites.{BehindFound, behind_parts}
-use Rattle.engine.specs.internal.Recent.{AreLogged, AreParts, AreRecent, batches_in}
+use Rattle.engine.specs.internal.Recent.{AreLogged, AreParts, AreRecent, AreSure, batches_in}
 
 -- with one more table, which has what some logs had
 pub with_logged : (tables : List TableContent) (content : TableContent) (sealed : List LogContent) → SameEntries content.entries (logged sealed) → (e : Entry) → Among (tabled (with_content content tables)) e → Among (tabled tables ++ logged sealed) e
@@ -26,9 +29,13 @@ with_logged tables content sealed same e i =
       | inr old ↦ among_front (tabled tables) (logged sealed) e (to_tabled tables t.0 e old t.2)
     ]
 
+only : (log : LogContent) (n : ℕ) → InLogs (log ∷ []) n → n ≡ log.number
+only log n (inl is) = is
+only log n (inr i) = absurd i
+
 module _ (old new : Facts) (least : ℕ) (tables after : List TableContent) (entries more : List Entry) (sealed : List LogContent) (current : LogContent) (m : Machine)
     (h : AreRecent old least tables entries (sealed ++ current ∷ []) m)
-    (moved : (e : Entry) → Among (tabled after) e → Among (tabled tables ++ logged sealed) e) (same : SameEntries entries more) where
+    (moved : (e : Entry) → Among (tabled after) e → Among (tabled tables ++ logged sealed) e) (same : SameEntries entries more) (synced : new.synced (name_of (Log current.number)) ≡ old.synced (name_of (Log current.number))) where
   abbrev p : AreParts old least (sealed ++ current ∷ [])
   p = h.parts
 
@@ -90,6 +97,10 @@ module _ (old new : Facts) (least : ℕ) (tables after : List TableContent) (ent
       let place : h.from + (count + k) ≡ h.from + count + k = omega arith in
       subst (λ (n : ℕ). IsView more n (view_at m (h.from + count + k))) at (subst (λ (n : ℕ). IsView more (h.start + sum_by length (take (count + k) operations)) (view_at m n)) place view)
 
+  sure_now : AreSure new (h.from + count) [] (current ∷ []) m.synced
+  sure_now = sure_same old new (h.from + count) [] (current ∷ []) m.synced (λ n i. subst (λ (k : ℕ). new.synced (name_of (Log k)) ≡ old.synced (name_of (Log k))) (sym (only current n i)) synced)
+      (sure_flushed old h.from p.kept p.doubted behind.since current m.synced behind.rest p.some h.sure)
+
   -- the table has the entries of the logs in front of the current one, which is the only one then
   pub recent_flushed : AreRecent new least after more (current ∷ []) m
   recent_flushed = record {
@@ -104,4 +115,5 @@ module _ (old new : Facts) (least : ℕ) (tables after : List TableContent) (ent
     recent = subst (λ (os : List (List Operation)). AreLogged start (batches_in (current ∷ [])) os) others s.second;
     below = upto_start;
     past = past_on;
+    sure = sure_now;
   }

@@ -164,4 +164,5 @@ recent_installed facts least tables after entries more logs m fewer alike h = re
   past = λ k le. alike (h.start + sum_by length (take k (drop h.from m.batches))) (view_at m (h.from + k))
       (λ e i. (let below : e.sequence ≤ h.start = h.below e (among_front (tabled tables) (logged h.parts.found) e i) in omega (arith, below)))
       (h.past k le);
+  sure = h.sure;
 }

@@ -20,6 +20,7 @@ use Rattle.recover.specs.Tables.{TableContent, tabled}
 use Rattle.store.specs.Files.{Facts, Files}
 use Rattle.engine.proofs.RecentBatches.{SplitLogged, all_seen, batch_entries-append, batches-append, earlier_entries, logged_above, logged_in_batches, logged_within, split_logged}
 use Rattle.engine.proofs.RecentCuts.{IsLeft, LeftFront, front_cuts, left_front}
+use Rattle.engine.proofs.RecentSure.{sure_left}
 use Rattle.engine.proofs.Tabled.{directory_bounded}
 use Rattle.engine.specs.Headline.{Holds}
 use Rattle.engine.specs.internal.Recent.{AreLogged, AreRecent, batches_in}
@@ -79,7 +80,7 @@ in_front_of_last low logs front behind sealed last n r parts ends some i =
     omega (arith, above, most)
 
 module _ (order : Order) (facts : Facts) (lost : Files) (least : ℕ) (tables : List TableContent) (entries : List Entry) (d : Directory) (logs : List LogContent) (m : Machine)
-    (recent : AreRecent facts least tables entries d.logs m) (good : IsConsistent order facts.files d) (cut : AreCut facts d.logs logs) (left : IsConsistent order lost (record d { logs = logs }))
+    (recent : AreRecent facts least tables entries d.logs m) (files : Files) (good : IsConsistent order files d) (whole : HasLogs facts.files d.logs) (cut : AreCut facts d.logs logs) (left : IsConsistent order lost (record d { logs = logs }))
     (same : (n : ℕ) → IsNumbered n → InLogs recent.parts.found n → n < least → IsKept facts (name_of (Log n)) ⊎ (get lost (name_of (Log n)) ≡ get facts.files (name_of (Log n)))) where
   abbrev found : List LogContent
   found = recent.parts.found
@@ -97,7 +98,7 @@ module _ (order : Order) (facts : Facts) (lost : Files) (least : ℕ) (tables : 
   parts = recent.parts.all
 
   has : HasLogs facts.files ((found ++ kept) ++ doubted)
-  has = subst (HasLogs facts.files) parts good.logs
+  has = subst (HasLogs facts.files) parts whole
 
   all_left : AllByRecursion (IsLeft facts lost) (found ++ kept)
   all_left = both_left facts lost found kept (found_left facts lost least found (front_logs facts.files found kept (front_logs facts.files (found ++ kept) doubted has)) recent.parts.before same)
@@ -169,11 +170,12 @@ module _ (order : Order) (facts : Facts) (lost : Files) (least : ℕ) (tables : 
       (subst (λ (es : List Entry). IsView es reached map_then) (entries_behind are) (recent.past (length remaining) s.within))
 
   pub recent_cut : entries ≡ tabled tables ++ logged d.logs → tables ≡ d.tables
-      → (k : ℕ) × (k ≤ length (drop recent.from m.batches)) × Holds order lost (record m { batches = take (recent.from + k) m.batches; used = used_in (record d { logs = logs }) })
+      → (k : ℕ) × (k ≤ length (drop recent.from m.batches)) × (m.synced ≤ recent.from + k) × Holds order lost (record m { batches = take (recent.from + k) m.batches; used = used_in (record d { logs = logs }) })
   recent_cut are listed =
       let bounded : AllUpTo (used_in (record d { logs = logs })) (tabled tables ++ logged logs) = directory_bounded order lost tables (logged logs) (used_in (record d { logs = logs })) (inr (record d { logs = logs }, left, listed, refl, refl)) in (
         length remaining,
         s.within,
+        sure_left facts recent.from kept doubted cuts.behind m.synced recent.sure cuts.cut,
         record {
           entries = tabled tables ++ logged logs;
           directory = inr (record d { logs = logs }, left, (λ i. tabled (listed i) ++ logged logs), refl);

@@ -1,5 +1,5 @@
 -- What the logs that were begun have behind an open, a write, a new log, and calls that leave them alone.
-use Rattle.std.proofs.Common.{◌≡◌, inl, inr, ℕ, ◌+◌, ◌-◌, ◌<◌, ◌≤◌, List, [], ◌∷◌, ◌++◌, length, length-append, take, drop, sum_by, refl, sym, ap, subst, ◌∙◌, arith, append_assoc, append-nil, Option}
+use Rattle.std.proofs.Common.{◌≡◌, inl, inr, ℕ, ◌+◌, ◌-◌, ◌<◌, ◌≤◌, Bool, false, if◌then◌else◌, List, [], ◌∷◌, ◌++◌, length, length-append, take, drop, sum_by, refl, sym, ap, subst, ◌∙◌, arith, append_assoc, append-nil}
 use Rattle.std.proofs.lemmas.Bool.{cases_lt}
 use Rattle.std.proofs.lemmas.List.{drop-append-le, drop_all, length-drop, take-append-le, take_all}
 use Rattle.std.proofs.lemmas.List.Sums.{sum_by-append, sum_by-take-le}
@@ -12,15 +12,18 @@ use Rattle.ikey.specs.Views.{AllUpTo, Contents, IsView}
 use Rattle.ikey.specs.declared.entry.Entry.{Entry}
 use Rattle.machine.specs.Machine.{Machine, after_batch, after_batches, current, view_at}
 use Rattle.opening.specs.Losses.{IsKept}
+use Rattle.recover.proofs.Adding.{logs_back}
 use Rattle.recover.specs.Entries.{entries_of}
-use Rattle.recover.specs.Logs.{Batch, InLogs, LogContent, logged}
+use Rattle.recover.specs.Logs.{Batch, HasLogs, InLogs, LogContent, logged}
 use Rattle.recover.specs.Tables.{TableContent, tabled}
-use Rattle.store.specs.Files.{Facts, Files}
+use Rattle.store.specs.Files.{Facts}
 use Rattle.engine.proofs.EntryViews.{view_batch}
 use Rattle.engine.proofs.LiveIds.{entries_from, later_entries}
-use Rattle.engine.proofs.RecentBatches.{batches-append, logged_more, no_batches}
+use Rattle.engine.proofs.RecentBatches.{batches-append, logged_length, logged_more, no_batches}
 use Rattle.engine.proofs.RecentLosses.{in_first, in_second}
-use Rattle.engine.specs.internal.Recent.{AreEmptyBehind, AreLogged, AreParts, AreRecent, batches_in}
+use Rattle.engine.proofs.RecentSure.{SyncsMore, sure_behind, sure_front, sure_same, sure_sealed, sure_still}
+use Rattle.engine.specs.internal.Logs.{LeavesOrSyncs}
+use Rattle.engine.specs.internal.Recent.{AreEmptyBehind, AreLogged, AreParts, AreRecent, AreSure, batches_in}
 
 -- ---- lists of logs
 
@@ -66,14 +69,13 @@ kept_on : (old new : Facts) (logs : List LogContent) → ((n : ℕ) → InLogs l
 kept_on old new [] keeps h = tt
 kept_on old new (log ∷ logs) keeps h = (keeps log.number (inl refl) h.0, kept_on old new logs (λ n i. keeps n (inr i)) h.1)
 
--- what of them was synced whole still is
-pub recent_kept : (old new : Facts) (least : ℕ) (tables : List TableContent) (entries : List Entry) (logs : List LogContent) (m : Machine) → ((n : ℕ) → InLogs logs n → IsKept old (name_of (Log n)) → IsKept new (name_of (Log n)))
-    → AreRecent old least tables entries logs m → AreRecent new least tables entries logs m
-recent_kept old new least tables entries logs m keeps h =
+-- with what is synced of them
+recent_over : (old new : Facts) (least : ℕ) (tables : List TableContent) (entries : List Entry) (logs : List LogContent) (m : Machine) → (h : AreRecent old least tables entries logs m)
+    → AllByRecursion (λ (log : LogContent). IsKept new (name_of (Log log.number))) h.parts.kept → AreSure new h.from h.parts.kept h.parts.doubted m.synced → AreRecent new least tables entries logs m
+recent_over old new least tables entries logs m h kept sure =
     let p = h.parts in
-    let among : (n : ℕ) → InLogs p.kept n → InLogs logs n = λ n i. subst (λ (ls : List LogContent). InLogs ls n) (sym p.all) (in_first n (p.found ++ p.kept) p.doubted (in_second n p.found p.kept i)) in
     record {
-      parts = record { found = p.found; kept = p.kept; doubted = p.doubted; all = p.all; before = p.before; synced = kept_on old new p.kept (λ n i. keeps n (among n i)) p.synced; empty = p.empty; some = p.some };
+      parts = record { found = p.found; kept = p.kept; doubted = p.doubted; all = p.all; before = p.before; synced = kept; empty = p.empty; some = p.some };
       from = h.from;
       within = h.within;
       start = h.start;
@@ -81,40 +83,38 @@ recent_kept old new least tables entries logs m keeps h =
       recent = h.recent;
       below = h.below;
       past = h.past;
+      sure = sure;
     }
+
+among_kept : (facts : Facts) (least : ℕ) (logs : List LogContent) (p : AreParts facts least logs) (n : ℕ) → InLogs p.kept n → InLogs logs n
+among_kept facts least logs p n i = subst (λ (ls : List LogContent). InLogs ls n) (sym p.all) (in_first n (p.found ++ p.kept) p.doubted (in_second n p.found p.kept i))
+
+among_doubted : (facts : Facts) (least : ℕ) (logs : List LogContent) (p : AreParts facts least logs) (n : ℕ) → InLogs p.doubted n → InLogs logs n
+among_doubted facts least logs p n i = subst (λ (ls : List LogContent). InLogs ls n) (sym p.all) (in_second n (p.found ++ p.kept) p.doubted i)
+
+pub left_kept : (old new : Facts) (q : List ℕ) → get new.files q ≡ get old.files q → LeavesOrSyncs old new q → IsKept old q → IsKept new q
+left_kept old new q same (inl left) kept bytes there = left ∙ kept bytes (sym same ∙ there)
+left_kept old new q same (inr whole) kept bytes there = whole ∙ there
+
+-- the same files, and what is synced of each is as before, or all of it
+pub recent_kept : (old new : Facts) (least : ℕ) (tables : List TableContent) (entries : List Entry) (logs : List LogContent) (m : Machine) → HasLogs new.files logs
+    → ((n : ℕ) → InLogs logs n → (get new.files (name_of (Log n)) ≡ get old.files (name_of (Log n))) × LeavesOrSyncs old new (name_of (Log n)))
+    → AreRecent old least tables entries logs m → AreRecent new least tables entries logs m
+recent_kept old new least tables entries logs m has same h =
+    let p = h.parts in
+    recent_over old new least tables entries logs m h
+    (kept_on old new p.kept (λ n i. let is = same n (among_kept old least logs p n i) in left_kept old new (name_of (Log n)) is.0 is.1) p.synced)
+    (sure_still old new h.from p.kept p.doubted m.synced (logs_back new.files (p.found ++ p.kept) p.doubted (subst (HasLogs new.files) p.all has)) (λ n i. (same n (among_doubted old least logs p n i)).1) h.sure)
 
 -- the same files, and the same of them is synced
 pub recent_same : (old new : Facts) (least : ℕ) (tables : List TableContent) (entries : List Entry) (logs : List LogContent) (m : Machine)
     → ((n : ℕ) → InLogs logs n → (get new.files (name_of (Log n)) ≡ get old.files (name_of (Log n))) × (new.synced (name_of (Log n)) ≡ old.synced (name_of (Log n))))
     → AreRecent old least tables entries logs m → AreRecent new least tables entries logs m
 recent_same old new least tables entries logs m same h =
-    recent_kept old new least tables entries logs m
-    (λ n i kept bytes there. let is = same n i in is.1 ∙ kept bytes (sym is.0 ∙ there)) h
-
--- a call that changed neither
-pub recent_read : (old new : Facts) (least : ℕ) (tables : List TableContent) (entries : List Entry) (logs : List LogContent) (m : Machine) → new.files ≡ old.files → new.synced ≡ old.synced
-    → AreRecent old least tables entries logs m → AreRecent new least tables entries logs m
-recent_read old new least tables entries logs m files synced h =
-    recent_same old new least tables entries logs m (λ n i. (ap (λ (fs : Files). get fs (name_of (Log n))) files, ap (λ (f : List ℕ → Option (List ℕ)). f (name_of (Log n))) synced)) h
-
--- a machine that has accepted the same
-pub recent_as : (facts : Facts) (least : ℕ) (tables : List TableContent) (entries : List Entry) (logs : List LogContent) (m n : Machine) → n.base ≡ m.base → n.batches ≡ m.batches → n.used ≡ m.used
-    → AreRecent facts least tables entries logs m → AreRecent facts least tables entries logs n
-recent_as facts least tables entries logs m n base batches used h =
-    let same : drop h.from n.batches ≡ drop h.from m.batches = ap (drop h.from) batches in
-    record {
-      parts = h.parts;
-      from = h.from;
-      within = subst (λ (bs : List (List Operation)). h.from ≤ length bs) (sym batches) h.within;
-      start = h.start;
-      spent = ap (λ (bs : List (List Operation)). h.start + sum_by length bs) same ∙ h.spent ∙ sym used;
-      recent = subst (λ (bs : List (List Operation)). AreLogged h.start (batches_in (h.parts.kept ++ h.parts.doubted)) bs) (sym same) h.recent;
-      below = h.below;
-      past = λ k le.
-          let seen : IsView entries (h.start + sum_by length (take k (drop h.from n.batches))) (view_at m (h.from + k)) = subst (λ (bs : List (List Operation)). IsView entries (h.start + sum_by length (take k bs)) (view_at m (h.from + k))) (sym same)
-          (h.past k (subst (λ (bs : List (List Operation)). k ≤ length bs) same le)) in
-          subst (λ (c : Contents). IsView entries (h.start + sum_by length (take k (drop h.from n.batches))) c) (sym (λ i. after_batches (base i) (take (h.from + k) (batches i)))) seen;
-    }
+    let p = h.parts in
+    recent_over old new least tables entries logs m h
+    (kept_on old new p.kept (λ n i. let is = same n (among_kept old least logs p n i) in left_kept old new (name_of (Log n)) is.0 (inl is.1)) p.synced)
+    (sure_same old new h.from p.kept p.doubted m.synced (λ n i. (same n (among_doubted old least logs p n i)).1) h.sure)
 
 -- ---- an open
 
@@ -125,8 +125,8 @@ none_taken n k bs is =
 
 -- behind it all that was accepted lies in front of the new log, which is empty
 pub recent_opened : (facts : Facts) (least : ℕ) (tables : List TableContent) (entries : List Entry) (found : List LogContent) (log : LogContent) (m : Machine) → AllByRecursion (λ (other : LogContent). other.number < least) found → log.batches ≡ []
-    → AllUpTo m.used (tabled tables ++ logged found) → IsView entries m.used (current m) → AreRecent facts least tables entries (found ++ log ∷ []) m
-recent_opened facts least tables entries found log m before empty below view =
+    → AllUpTo m.used (tabled tables ++ logged found) → IsView entries m.used (current m) → m.synced ≤ length m.batches → AreRecent facts least tables entries (found ++ log ∷ []) m
+recent_opened facts least tables entries found log m before empty below view reached =
     let none : drop (length m.batches) m.batches ≡ [] = drop_all (length m.batches) m.batches (omega arith) in
     record {
       parts = record { found = found; kept = []; doubted = log ∷ []; all = ap (λ (logs : List LogContent). logs ++ log ∷ []) (sym (append-nil found)); before = before; synced = tt; empty = tt; some = omega arith };
@@ -141,6 +141,7 @@ recent_opened facts least tables entries found log m before empty below view =
           let at : m.used + sum_by length (take k (drop (length m.batches) m.batches)) ≡ m.used = none_taken m.used k (drop (length m.batches) m.batches) none in
           subst (λ (c : Contents). IsView entries (m.used + sum_by length (take k (drop (length m.batches) m.batches))) c) (sym (ap (after_batches m.base) (take_all (length m.batches + k) m.batches (omega arith))))
           (subst (λ (n : ℕ). IsView entries n (current m)) (sym at) view);
+      sure = sure_front facts (length m.batches) [] (log ∷ []) m.synced reached;
     }
 
 -- ---- one more log
@@ -177,6 +178,7 @@ recent_sealed facts least tables entries logs log m empty h =
       recent = subst (λ (bs : List Batch). AreLogged h.start bs (drop h.from m.batches)) (sym same) h.recent;
       below = h.below;
       past = h.past;
+      sure = sure_sealed facts h.from p.kept p.doubted log m.synced h.sure;
     }
 
 -- ---- a write
@@ -196,10 +198,11 @@ recent_now facts least tables entries logs m h =
     let whole : take (h.from + length operations) m.batches ≡ m.batches = take_all (h.from + length operations) m.batches (omega (arith, many, within)) in
     subst (λ (c : Contents). IsView entries m.used c) (ap (after_batches m.base) whole) (subst (λ (n : ℕ). IsView entries n (view_at m (h.from + length operations))) at (h.past (length operations) (omega arith)))
 
-module _ (old new : Facts) (least : ℕ) (tables : List TableContent) (entries : List Entry) (front : List LogContent) (last more : LogContent) (m n : Machine) (operations : List Operation)
+module _ (sync : Bool) (old new : Facts) (least : ℕ) (tables : List TableContent) (entries : List Entry) (front : List LogContent) (last more : LogContent) (m n : Machine) (operations : List Operation)
     (h : AreRecent old least tables entries (front ++ last ∷ []) m) (written : more.batches ≡ last.batches ++ (m.used + 1, operations) ∷ [])
     (synced : AllByRecursion (λ (log : LogContent). IsKept new (name_of (Log log.number))) front)
-    (base : n.base ≡ m.base) (batches : n.batches ≡ m.batches ++ operations ∷ []) (used : n.used ≡ m.used + length operations) (bounded : AllUpTo m.used entries) where
+    (base : n.base ≡ m.base) (batches : n.batches ≡ m.batches ++ operations ∷ []) (used : n.used ≡ m.used + length operations) (bounded : AllUpTo m.used entries)
+    (number : more.number ≡ last.number) (reaches : n.synced ≡ (if sync then length m.batches + 1 else m.synced)) (syncs : SyncsMore sync old new last more) where
   abbrev before : List (List Operation)
   before = drop h.from m.batches
 
@@ -272,6 +275,22 @@ module _ (old new : Facts) (least : ℕ) (tables : List TableContent) (entries :
     | inr le_before ↦ past_on k le_before
   ]
 
+  longer : length n.batches ≡ length m.batches + 1
+  longer = ap length batches ∙ length-append m.batches (operations ∷ [])
+
+  -- with sync the device has all that was accepted
+  all_there : h.from + length (batches_in (behind.since ++ more ∷ [])) ≡ length m.batches + 1
+  all_there =
+      let many = logged_length h.start (batches_in (behind.since ++ more ∷ [])) after are_logged in
+      let dropped : length after ≡ length n.batches - h.from = length-drop h.from n.batches in
+      let within : h.from ≤ length m.batches = h.within in
+      omega (arith, many, dropped, longer, within)
+
+  sure_now : AreSure new h.from behind.since (more ∷ []) n.synced
+  sure_now =
+      let grown : length more.batches ≡ length last.batches + 1 = ap length written ∙ length-append last.batches ((m.used + 1, operations) ∷ []) in
+      sure_behind sync old new h.from p.kept p.doubted behind.since last more m.synced (length m.batches + 1) n.synced behind.rest p.some number (omega (arith, grown)) all_there reaches syncs h.sure
+
   -- the logs in front were synced whole for it
   pub recent_written : AreRecent new least tables (entries ++ entries_of (m.used + 1) operations) (front ++ more ∷ []) n
   recent_written = record {
@@ -286,10 +305,41 @@ module _ (old new : Facts) (least : ℕ) (tables : List TableContent) (entries :
       some = omega arith;
     };
     from = h.from;
-    within = (let longer : length n.batches ≡ length m.batches + 1 = ap length batches ∙ length-append m.batches (operations ∷ []) in let was : h.from ≤ length m.batches = h.within in omega (arith, longer, was));
+    within = (let was : h.from ≤ length m.batches = h.within in omega (arith, longer, was));
     start = h.start;
     spent = spent_on;
     recent = are_logged;
     below = h.below;
     past = past_all;
+    sure = sure_now;
   }
+
+-- Or it has the same batches, since its record was cut.
+pub recent_torn : (old new : Facts) (least : ℕ) (tables : List TableContent) (entries : List Entry) (front : List LogContent) (last next : LogContent) (m : Machine) → AreRecent old least tables entries (front ++ last ∷ []) m → next.number ≡ last.number
+    → next.batches ≡ last.batches → AllByRecursion (λ (log : LogContent). IsKept new (name_of (Log log.number))) front → new.synced (name_of (Log last.number)) ≡ old.synced (name_of (Log last.number)) → AreRecent new least tables entries (front ++ next ∷ []) m
+recent_torn old new least tables entries front last next m h number same synced left =
+    let p = h.parts in
+    let behind = behind_parts old least front last p in
+    let same_batches : batches_in (behind.since ++ next ∷ []) ≡ batches_in (p.kept ++ p.doubted) =
+    batches-append behind.since (next ∷ []) ∙ ap (λ (bs : List Batch). batches_in behind.since ++ (bs ++ [])) same ∙ sym (batches-append behind.since (last ∷ [])) ∙ ap batches_in (sym behind.rest) in
+    record {
+      parts = record {
+        found = p.found;
+        kept = behind.since;
+        doubted = next ∷ [];
+        all = ap (λ (ls : List LogContent). ls ++ next ∷ []) behind.in_front;
+        before = p.before;
+        synced = all_behind (λ (log : LogContent). IsKept new (name_of (Log log.number))) p.found behind.since (subst (AllByRecursion (λ (log : LogContent). IsKept new (name_of (Log log.number)))) behind.in_front synced);
+        empty = tt;
+        some = omega arith;
+      };
+      from = h.from;
+      within = h.within;
+      start = h.start;
+      spent = h.spent;
+      recent = subst (λ (bs : List Batch). AreLogged h.start bs (drop h.from m.batches)) (sym same_batches) h.recent;
+      below = h.below;
+      past = h.past;
+      sure = sure_behind false old new h.from p.kept p.doubted behind.since last next m.synced (h.from + length (batches_in (behind.since ++ next ∷ []))) m.synced behind.rest p.some number
+          (let long = ap length same in omega (arith, long)) refl refl left h.sure;
+    }

@@ -33,6 +33,7 @@ use Rattle.std.specs.declared.cmp.Ordering.{Ordering}
 use Rattle.std.specs.Option.{option_and_then}
 use Rattle.store.specs.Calls.{Adds, Idles}
 use Rattle.store.specs.Files.{Creation, Facts, Files}
+use Rattle.store.proofs.Staying.{stays_on}
 use Rattle.store.specs.Losses.{CarriesBut}
 use Rattle.table.specs.Writing.{KeepsOthers}
 use Rattle.directory_writes.specs.internal.LogFile.{HasNewLog}
@@ -100,7 +101,7 @@ module _ {K : Type 0} {g : _} (order : Order) (source : Seen) (db : OpenDb K g) 
         synced = synced_same source.facts source.facts db.log db.directory state db.tables number name first_log previous_log le h.synced refl refl refl;
         job = each_job _ _ db.job (λ work is c.
             goes_beside order (whole_of source db) (whole_of source db) db.directory.numbers.next state.numbers.next db.snapshots db.snapshots db.iterators db.iterators db.tables m.damaged h.ideal h.ideal d d work c
-            h.log.directory.consistent knows.free db.directory.numbers.in_range.1 le (λ number numbered below one. ((refl, λ file there was. was), refl)) (λ sound. sound) (λ number kept_now. inl kept_now) (no_change source.facts.files source.facts.files h.ideal refl) refl refl
+            h.log.directory.consistent knows.free db.directory.numbers.in_range.1 le (λ number numbered below one. ((refl, λ file there was. was, λ stays. stays), refl)) (λ sound. sound) (λ number kept_now. inl kept_now) (no_change source.facts.files source.facts.files h.ideal refl) refl refl refl
             (omega arith) (known_itself db.snapshots db.memory.last) (have_itself db.iterators db.tables)
             (λ number. version_unowned work.job.outputs order h.ideal d h.contents db.tables number h.log.directory.consistent h.log.directory.in_tables h.tables.version c.running.unused)) h.job;
       }
@@ -135,8 +136,11 @@ module _ {K : Type 0} {g : _} (order : Order) (kept : (scan : Scan K g) → Scan
   numbered_next : IsNumbered next
   numbered_next = (let some = serving.log.knows.free.some in omega (arith, some), omega (arith, few))
 
+  table_apart : (n : ℕ) → IsNumbered n → name_of (Table n) ≢ name_of (Log next)
+  table_apart n numbered = files_apart (Table n) (Log next) numbered numbered_next (λ e. cc)
+
   newer_same : (n : ℕ) → IsNumbered n → get facts.files (name_of (Table n)) ≡ get old.facts.files (name_of (Table n))
-  newer_same n numbered = others (name_of (Table n)) (files_apart (Table n) (Log next) numbered numbered_next (λ e. cc))
+  newer_same n numbered = others (name_of (Table n)) (table_apart n numbered)
 
   older_same : (n : ℕ) → IsNumbered n → get facts.files (name_of (OldTable n)) ≡ get old.facts.files (name_of (OldTable n))
   older_same n numbered = others (name_of (OldTable n)) (files_apart (OldTable n) (Log next) numbered numbered_next (λ e. cc))
@@ -296,7 +300,7 @@ module _ {K : Type 0} {g : _} (order : Order) (kept : (scan : Scan K g) → Scan
           (sealed_synced old.facts facts db.log log db.directory state.numbers db.tables log_number log_name front next_is few (λ q apart. (others q apart, stays q apart)) carries noted unsynced serving.synced) refl refl refl;
       job = each_job _ _ db.job (λ work is c.
           goes_beside order (whole_of old db) (whole_of new sealed_db) next state.numbers.next db.snapshots db.snapshots db.iterators db.iterators db.tables m.damaged serving.ideal behind d (with_log d next) work c
-          a.consistent serving.log.knows.free db.directory.numbers.in_range.1 (omega (arith, next_is)) (λ number numbered below one. (whole_left old.facts facts (name_of (Table number)) (newer_same number numbered, stays (name_of (Table number)) (files_apart (Table number) (Log next) numbered numbered_next (λ e. cc))), older_same number numbered)) sound_still (λ number kept_now. inl kept_now) behind_is refl refl
+          a.consistent serving.log.knows.free db.directory.numbers.in_range.1 (omega (arith, next_is)) (λ number numbered below one. (whole_left old.facts facts (name_of (Table number)) (newer_same number numbered, stays (name_of (Table number)) (table_apart number numbered)) (stays_on old.facts facts (λ (q : List ℕ). q ≡ name_of (Log next)) (name_of (Table number)) (table_apart number numbered) carries), older_same number numbered)) sound_still (λ number kept_now. inl kept_now) behind_is refl refl refl
           (let last = sealed.last in omega (arith, last)) (known_itself db.snapshots db.memory.last) (have_itself db.iterators db.tables)
           (λ number. version_unowned work.job.outputs order serving.ideal d serving.contents db.tables number a.consistent a.in_tables serving.tables.version c.running.unused)) serving.job;
     }

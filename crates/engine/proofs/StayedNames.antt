@@ -10,16 +10,16 @@ use Rattle.edits.specs.declared.names.FileName.TheVariants.{Current, Log, Manife
 use Rattle.edits.specs.declared.numbers.FileNumbers.{FileNumbers}
 use Rattle.directory_writes.specs.Removal.{IsDead, IsLiveAmong}
 use Rattle.directory_writes.specs.internal.Removal.{table_number}
-use Rattle.opening.specs.Losses.{BeginsSpared, IsLogRead, StaysNamed, StaysOrBegins}
+use Rattle.opening.specs.Losses.{BeginsSpared, IsLogRead}
 use Rattle.opening.specs.declared.directory.CurrentLog.{CurrentLog}
 use Rattle.opening.specs.declared.directory.DirectoryState.{DirectoryState}
 use Rattle.opening.proofs.Reopening.{files_apart}
-use Rattle.opening.proofs.Staying.{begins_on, begun_by, stays_begins, stays_behind, begins_behind, stays_on}
 use Rattle.recover.proofs.NamedFiles.{get_same}
 use Rattle.store.proofs.Carrying.{carries_same}
+use Rattle.store.proofs.Staying.{begins_on, begun_by, stays_begins, stays_behind, begins_behind, stays_on}
 use Rattle.store.specs.Calls.{Adds, Idles}
 use Rattle.store.specs.Files.{Creation, Facts, Files}
-use Rattle.store.specs.Losses.{CarriesBut, behind_sync}
+use Rattle.store.specs.Losses.{CarriesBut, StaysNamed, StaysOrBegins, behind_sync}
 use Rattle.engine.specs.Working.{numbers_of}
 use Rattle.engine.specs.internal.Synced.{HaveNames, HaveStayed}
 
@@ -45,7 +45,7 @@ spares_tables mine files log state tables names others placed = record {
 }
 
 -- a live file isn't dead
-not_dead : (live : FileName → Type 0) (file : FileName) → IsFileName file → live file → IsDead live (name_of file) → ⊥
+pub not_dead : (live : FileName → Type 0) (file : FileName) → IsFileName file → live file → IsDead live (name_of file) → ⊥
 not_dead live file is alive dead = dead.3 (subst live (one_file file dead.0 is dead.1 dead.2) alive)
 
 -- what isn't live isn't read
@@ -87,6 +87,9 @@ module _ (old new : Facts) (mine : List ℕ → Type 0) (state later : Directory
     current = stays_on old new mine (name_of Current) spares.current carries h.current;
     manifest = subst (λ (n : ℕ). StaysNamed new (name_of (Manifest n))) (sym number) (stays_on old new mine (name_of (Manifest state.manifest.number)) spares.manifest carries h.manifest);
     logs = λ n num read. (let was = read_before n read in begins_on old new mine (name_of (Log n)) (spares.logs n num was) carries (h.logs n num was));
+    found = λ n num read below.
+        let was = read_before n read in
+        stays_on old new mine (name_of (Log n)) (spares.logs n num was) carries (h.found n num was (subst (λ (k : ℕ). n < k) number below));
     placed = λ p there.
         let apart = spares.placed p there in
         let was = h.placed p there in (
@@ -141,6 +144,9 @@ module _ (old new : Facts) (log : CurrentLog) (state : DirectoryState) (numbers 
       | inl same ↦ subst (λ (k : ℕ). StaysOrBegins new (name_of (Log k))) (sym same) begun
       | inr other ↦ begins_on old new Mine (name_of (Log n)) (log_apart n state.numbers.next num new_number other) carries (h.logs n num read)
     ];
+    found = λ n num read below.
+        let apart = log_apart n state.numbers.next num new_number (λ same. (let since = names.begun in let less = names.last.1 in omega (arith, same, below, since, less))) in
+        stays_on old new Mine (name_of (Log n)) apart carries (h.found n num read below);
     placed = λ p there.
         let numbered = (names.placed p there).0 in
         let apart = beside (Table p.table.number) numbered (λ e. cc) in
@@ -174,6 +180,7 @@ stayed_behind facts state tables ends undrawn = record {
   current = stays_behind facts (name_of Current) ends;
   manifest = stays_behind facts (name_of (Manifest state.manifest.number)) ends;
   logs = λ n num read. begins_behind facts (name_of (Log n)) ends;
+  found = λ n num read below. stays_behind facts (name_of (Log n)) ends;
   placed = λ p there. (stays_behind facts (name_of (Table p.table.number)) ends, λ none. stays_behind facts (name_of (OldTable p.table.number)) ends);
   undrawn = λ n num from. (stays_behind facts (name_of (Log n)) ends, undrawn n num from);
 }
@@ -196,6 +203,7 @@ module _ (facts : Facts) (log : CurrentLog) (state : DirectoryState) (tables : L
       | inl same ↦ subst (StaysOrBegins facts) (names.last.2 ∙ ap (λ (k : ℕ). name_of (Log k)) (sym same)) since.begun
       | inr other ↦ stays_begins facts (name_of (Log n)) (since.others (name_of (Log n)) (apart_last (Log n) num (λ e. other (number_of_log e))))
     ];
+    found = λ n num read below. since.others (name_of (Log n)) (apart_last (Log n) num (λ e. (let same = number_of_log e in let least = names.begun in omega (arith, same, below, least))));
     placed = λ p there.
         let numbered = (names.placed p there).0 in
         (since.others (name_of (Table p.table.number)) (apart_last (Table p.table.number) numbered (λ e. cc)), λ none. since.others (name_of (OldTable p.table.number)) (apart_last (OldTable p.table.number) numbered (λ e. cc)));

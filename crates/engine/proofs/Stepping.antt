@@ -57,7 +57,7 @@ use Rattle.engine.specs.internal.Recent.{AreRecent}
 use Rattle.engine.specs.internal.Standing.{HasLog, IsServing, entries_of}
 use Rattle.engine.specs.internal.Synced.{IsSyncedBut}
 use Rattle.opening.proofs.Reopening.{files_apart}
-use Rattle.engine.proofs.Compacting.{input_number, listed_number, own_number, running_whole, unowned, version_unowned}
+use Rattle.engine.proofs.Compacting.{input_number, listed_number, manifest_below, own_number, running_whole, unowned, version_unowned}
 use Rattle.engine.proofs.RecentWrites.{recent_same}
 use Rattle.engine.proofs.StayedNames.{SparesRead, first_least, spares_tables, stayed_on}
 use Rattle.engine.proofs.Synced.{kept_still, no_table, one_number, synced_still, table_still}
@@ -196,7 +196,7 @@ module _ {K : Type 0} {g : _} (order : Order) (kept : (scan : Scan K g) → Scan
           (table.0, table.1, below_next order old.facts.files serving.ideal next number serving.origin.differs serving.log.knows.free table.1 table.2)
 
       -- it writes tables of its own numbers alone
-      mine_numbered : (number : ℕ) → IsMineUpTo before.job.outputs next numbers.next number → IsNumbered number
+      pub mine_numbered : (number : ℕ) → IsMineUpTo before.job.outputs next numbers.next number → IsNumbered number
       mine_numbered number (inl at) = (let known = own_number before.job.outputs next number the_job.running.may.numbered (inl at) in let fits = db.directory.numbers.in_range.1 in (known.0, (let less = known.1 in omega (arith, less, fits))))
       mine_numbered number (inr drawn) =
           let some = serving.log.knows.free.some in
@@ -239,10 +239,10 @@ module _ {K : Type 0} {g : _} (order : Order) (kept : (scan : Scan K g) → Scan
       unowned_here p there = version_unowned before.job.outputs order serving.ideal d serving.contents db.tables p.table.number a.consistent a.in_tables serving.tables.version the_job.running.unused (p, there, refl)
 
       -- none of the tables that it writes is read
-      abbrev Written : List ℕ → Type 0
+      abbrev pub Written : List ℕ → Type 0
       Written = IsTableName (IsMineUpTo before.job.outputs next numbers.next)
 
-      spares_written : SparesRead Written old.facts.files db.directory db.tables
+      pub spares_written : SparesRead Written old.facts.files db.directory db.tables
       spares_written =
           spares_tables Written old.facts.files db.log db.directory db.tables serving.synced.names (λ file is none one. files_apart file (Table one.0) is (mine_numbered one.0 one.1) (no_table file one.0 none) one.2)
           (λ p there known. (
@@ -359,6 +359,10 @@ module _ {K : Type 0} {g : _} (order : Order) (kept : (scan : Scan K g) → Scan
               seen = λ id sequence there. subst (λ (es : List InternalEntry). SeesAsOne (map entry_of es) after.job.selection.snapshots sequence) (sym all_same)
                   (subst (λ (s : List ℕ). SeesAsOne (map entry_of (c.came ++ c.left)) s sequence) (sym snapshots) (c.seen id sequence there));
               unread = still_unread;
+              since = λ number own. elim (owns number own) [
+                | inl was ↦ c.since number was
+                | inr drawn ↦ (let below = manifest_below order serving.ideal d next a.consistent serving.log.knows.free in omega (arith, drawn, below))
+              ];
             }
 
         -- where it has ended, all came

@@ -1,21 +1,30 @@
 -- What a stop leaves in the middle of a command that writes no batch.
-use Rattle.std.proofs.Common.{◌≡◌, ◌⊎◌, ℕ, ◌+◌, Bool, true, false, List, [], ◌∷◌, ◌++◌, Contains, max, length, sum_by, Option, Some, None, MatchBool, MatchOption, Ok, IsTrue, inl, inr, refl, sym, ap, subst, ◌∙◌, arith}
+use Rattle.std.proofs.Common.{◌≡◌, ◌⊎◌, ◌<◌, ℕ, ◌+◌, ◌^◌, Bool, true, false, List, [], ◌∷◌, ◌++◌, Contains, max, length, sum_by, Option, Some, None, MatchBool, MatchOption, Ok, IsTrue, inl, inr, refl, sym, ap, subst, ◌∙◌, arith}
 use Rattle.std.proofs.lemmas.List.Sums.{sum_by-append}
+use Rattle.std.specs.FinMap.{get}
 use Rattle.batch.specs.declared.operation.Operation.{Operation}
-use Rattle.store.specs.Files.{Facts, Files, MayLock}
-use Rattle.store.specs.Stops.{LeavesOnly}
+use Rattle.store.specs.Calls.{Adds, Idles}
+use Rattle.store.specs.Files.{Creation, Disk, Facts, Files, MayLock}
+use Rattle.store.specs.Losses.{CarriesBut}
+use Rattle.store.specs.Stops.{LeavesOnly, WritesOnly}
 use Rattle.store.proofs.Stopping.{leaves_both, leaves_same, leaves_so}
 use Rattle.ikey.specs.Orders.{Order}
 use Rattle.ikey.specs.Sources.{SameViewLaw}
 use Rattle.ikey.specs.Views.{Contents, IsView}
 use Rattle.ikey.specs.declared.entry.Entry.{Entry}
+use Rattle.edits.specs.Names.{name_of}
 use Rattle.edits.specs.declared.field.PlacedTable.{PlacedTable}
+use Rattle.edits.specs.declared.names.FileName.TheVariants.{Log}
+use Rattle.edits.specs.declared.numbers.FileNumbers.{FileNumbers}
 use Rattle.recover.specs.Directory.{Directory, IsConsistent, entries_in, used_in}
 use Rattle.recover.specs.Entries.{greatest}
 use Rattle.recover.specs.Tables.{InTables, TableContent, tabled}
 use Rattle.recover.specs.internal.Changes.{flushed, with_log}
 use Rattle.recover.specs.internal.Laws.{FreeChangeLaw}
+use Rattle.table.specs.Writing.{SyncsOnly}
 use Rattle.table_access.specs.Tables.{Seen}
+use Rattle.directory_writes.specs.Removal.{IsDead, IsLiveAmong}
+use Rattle.directory_writes.specs.internal.Calls.{LeavesFile}
 use Rattle.directory_writes.specs.internal.Flush.{MayBeFlushed}
 use Rattle.directory_writes.specs.internal.LogFile.{HasNewLog, MayHaveLog}
 use Rattle.directory_writes.specs.internal.Removal.{AreOfDirectory, StaysConsistent}
@@ -45,11 +54,14 @@ use Rattle.engine.specs.internal.Directory.{MeansAccepted, MeansCurrent, MeansWi
 use Rattle.engine.specs.internal.Leading.{LeadsOpen}
 use Rattle.engine.specs.internal.Pieces.{IsPiece}
 use Rattle.engine.specs.internal.Resting.{Rests}
-use Rattle.engine.specs.internal.Standing.{IsBroken, IsServing, StandsClosed, StandsOpen, entries_of}
+use Rattle.engine.specs.internal.Standing.{IsBroken, IsServing, StandsClosed, StandsOpen, StandsWhole, entries_of}
 use Rattle.engine.specs.internal.Stopping.{KeepsOpen}
 use Rattle.engine.proofs.InUse.{table_used}
 use Rattle.engine.proofs.Lasting.{held}
 use Rattle.engine.proofs.Flags.{draws_flag, opens_flag}
+use Rattle.engine.proofs.LosingFirst.{first_then, found_then}
+use Rattle.engine.proofs.LosingSeals.{first_begun, found_begun}
+use Rattle.engine.proofs.LosingPieces.{first_behind, first_cleaned, first_same, found_behind, found_cleaned, found_same, serving_whole}
 use Rattle.engine.proofs.OpenLock.{accepted_beside, answered_open, may_lock_only}
 use Rattle.engine.proofs.OpenMachine.{accepted_again, means_whole}
 use Rattle.engine.proofs.Origins.{undamaged_serving}
@@ -129,24 +141,58 @@ module _ {K : Type 0} {g : _} (order : Order) (old new : Seen) (db : OpenDb K g)
   Accepted m files = MeansAccepted order files m
 
   -- where the store was only read
-  pub keeps_read : (IsTrue new.facts.faithful → new.facts.calls ≡ old.facts.calls) → (IsTrue new.facts.faithful → new.facts.files ≡ old.facts.files) → KeepsOpen order old new db
-  keeps_read calls files f ids m s = leaves_same old.facts new.facts (Accepted m) (calls f) (files f) (means_standing order old ids db m s.undamaged s.stands)
+  pub keeps_read : (IsTrue new.facts.faithful → new.facts.calls ≡ old.facts.calls) → (IsTrue new.facts.faithful → new.facts.files ≡ old.facts.files) → (IsTrue new.facts.faithful → new.facts.synced ≡ old.facts.synced) → KeepsOpen order old new db
+  keeps_read calls files synced = record {
+    stops = λ f ids m s. leaves_same old.facts new.facts (Accepted m) (calls f) (files f) (means_standing order old ids db m s.undamaged s.stands);
+    loses = λ f ids m s whole. first_same order old ids db m new.facts s whole (calls f) (files f) (synced f);
+    found = λ f ids m s whole. found_same old.facts new.facts db (files f) (synced f);
+  }
 
   module _ (whole : db.broken ≡ false) where
-    pub keeps_cleaned : (IsTrue new.facts.faithful → LeavesOnly old.facts new.facts (StaysConsistent (numbers_of db.directory) (λ number. IsTableUsed db.tables db.job db.iterators number) old.facts.files)) → KeepsOpen order old new db
-    keeps_cleaned stops f ids m s =
-        let serving = undamaged_serving order old db m s.undamaged (serving_of order old ids db m whole s.stands) in
-        leaves_so old.facts new.facts _ (Accepted m)
-        (λ files stays. means_still order old db m serving files (stays order serving.log.directory.directory serving.log.directory.consistent (uses_of order old db m serving))) (stops f)
+    pub keeps_cleaned : (IsTrue new.facts.faithful → LeavesOnly old.facts new.facts (StaysConsistent (numbers_of db.directory) (λ number. IsTableUsed db.tables db.job db.iterators number) old.facts.files))
+        → (IsTrue new.facts.faithful → WritesOnly old.facts new.facts (IsDead (IsLiveAmong old.facts.files (numbers_of db.directory) (λ number. IsTableUsed db.tables db.job db.iterators number))))
+        → (IsTrue new.facts.faithful → (q : List ℕ) → LeavesFile old.facts new.facts q ⊎ (get new.facts.files q ≡ None)) → KeepsOpen order old new db
+    keeps_cleaned stops only left = record {
+      stops = λ f ids m s.
+          let serving = undamaged_serving order old db m s.undamaged (serving_of order old ids db m whole s.stands) in
+          leaves_so old.facts new.facts _ (Accepted m)
+          (λ files stays. means_still order old db m serving files (stays order serving.log.directory.directory serving.log.directory.consistent (uses_of order old db m serving))) (stops f);
+      loses = λ f ids m s unbroken. first_cleaned order old ids db m new.facts s whole (only f);
+      found = λ f ids m s unbroken. found_cleaned order old ids db m new.facts s whole (only f) (left f);
+    }
 
-    pub keeps_logged : SameViewLaw → (IsTrue new.facts.faithful → LeavesOnly old.facts new.facts (MayHaveLog order old.facts.files db.directory.numbers.next)) → KeepsOpen order old new db
-    keeps_logged law stops f ids m s =
-        let serving = undamaged_serving order old db m s.undamaged (serving_of order old ids db m whole s.stands) in
-        leaves_so old.facts new.facts _ (Accepted m)
-        (λ files may. means_logged order old db m serving law files db.directory.numbers.next (may serving.log.directory.directory serving.log.directory.consistent serving.log.knows.free)) (stops f)
+    -- a log was begun, or may have been
+    pub keeps_logged : SameViewLaw → (numbers : FileNumbers) → (IsTrue new.facts.faithful → LeavesOnly old.facts new.facts (MayHaveLog order old.facts.files db.directory.numbers.next))
+        → (new.facts ≡ old.facts) ⊎ ((numbers.next ≡ db.directory.numbers.next + 1) × (db.directory.numbers.next < 2 ^ 62))
+        → (IsTrue new.facts.faithful → Idles old.facts new.facts ⊎ Adds old.facts new.facts (Creation (name_of (Log db.directory.numbers.next))))
+        → (IsTrue new.facts.faithful → SyncsOnly old.facts.synced new.facts.synced (name_of (Log db.directory.numbers.next)))
+        → (IsTrue new.facts.faithful → CarriesBut old.facts new.facts (λ (q : List ℕ). q ≡ name_of (Log db.directory.numbers.next))) → KeepsOpen order old new db
+    keeps_logged law numbers stops drew noted syncs carries = record {
+      stops = λ f ids m s.
+          let serving = undamaged_serving order old db m s.undamaged (serving_of order old ids db m whole s.stands) in
+          leaves_so old.facts new.facts _ (Accepted m)
+          (λ files may. means_logged order old db m serving law files db.directory.numbers.next (may serving.log.directory.directory serving.log.directory.consistent serving.log.knows.free)) (stops f);
+      loses = λ f ids m s unbroken. elim drew [
+        | inl same ↦ first_same order old ids db m new.facts s whole (ap (λ (x : Facts). x.calls) same) (ap (λ (x : Facts). x.files) same) (ap (λ (x : Facts). x.synced) same)
+        | inr is ↦ elim (noted f) [
+          | inl idle ↦ first_same order old ids db m new.facts s whole idle.0 (ap (λ (disk : Disk). disk.files) idle.1) (ap (λ (disk : Disk). disk.synced) idle.1)
+          | inr adds ↦
+              let serving = serving_whole order old ids db m s whole in
+              first_begun order old db m serving refl new.facts numbers is.0 is.1 adds (syncs f) (carries f)
+              ((stops f).now serving.log.directory.directory serving.log.directory.consistent serving.log.knows.free)
+        ]
+      ];
+      found = λ f ids m s unbroken. elim drew [
+        | inl same ↦ found_same old.facts new.facts db (ap (λ (x : Facts). x.files) same) (ap (λ (x : Facts). x.synced) same)
+        | inr is ↦ elim (noted f) [
+          | inl idle ↦ found_same old.facts new.facts db (ap (λ (disk : Disk). disk.files) idle.1) (ap (λ (disk : Disk). disk.synced) idle.1)
+          | inr adds ↦ found_begun order old db m (serving_whole order old ids db m s whole) refl new.facts numbers is.0 is.1 adds (syncs f) (carries f)
+        ]
+      ];
+    }
 
 pub keeps_none : {K : Type 0} {g : _} (order : Order) (source : Seen) (db : OpenDb K g) → KeepsOpen order source source db
-keeps_none order source db = keeps_read order source source db (λ f. refl) (λ f. refl)
+keeps_none order source db = keeps_read order source source db (λ f. refl) (λ f. refl) (λ f. refl)
 
 -- what the machine accepted stays where numbers are drawn
 draws_back : (order : Order) (files : Files) (m n : Machine) (most : ℕ) → Draws m most n → MeansAccepted order files n → MeansAccepted order files m
@@ -155,11 +201,30 @@ draws_back order files m n most drawn means = subst (λ (x : Machine). MeansAcce
 -- one piece behind another
 pub keeps_then : {K T : Type 0} {g : _} (order : Order) (old mid new : Seen) (before between : OpenDb K g) (most : Machine → ℕ) (done : T) → ((ids : Ids) → LeadsOpen order old mid ids before between (λ m n. IsPiece m (most m) (Ok done) n))
     → (IsTrue new.facts.faithful → IsTrue mid.facts.faithful) → KeepsOpen order old mid before → KeepsOpen order mid new between → KeepsOpen order old new before
-keeps_then order old mid new before between most done step back first next f ids m s =
-    let one = (step ids).moved (back f) m s.stands in
-    leaves_both old.facts mid.facts new.facts (λ files. MeansAccepted order files m) (first (back f) ids m s)
-    (leaves_so mid.facts new.facts (λ files. MeansAccepted order files one.0) (λ files. MeansAccepted order files m) (λ files means. draws_back order files m one.0 (most m) one.1.what means)
-    (next f ids one.0 (record { stands = one.2; undamaged = draws_flag m one.0 (most m) one.1.what ∙ s.undamaged })))
+keeps_then order old mid new before between most done step back first next = record {
+  stops = λ f ids m s.
+      let one = (step ids).moved (back f) m s.stands in
+      leaves_both old.facts mid.facts new.facts (λ files. MeansAccepted order files m) (first.stops (back f) ids m s)
+      (leaves_so mid.facts new.facts (λ files. MeansAccepted order files one.0) (λ files. MeansAccepted order files m) (λ files means. draws_back order files m one.0 (most m) one.1.what means)
+      (next.stops f ids one.0 (drawn_whole m one.0 (most m) ids s one.1.what one.2)));
+  loses = λ f ids m s whole.
+      let one = (step ids).moved (back f) m s.stands in
+      let r = drawn_whole m one.0 (most m) ids s one.1.what one.2 in
+      let found = first.found (back f) ids m s whole in
+      let later = next.stops f ids one.0 r in
+      first_then order old.facts mid.facts new.facts later.more before m later.calls found (first.loses (back f) ids m s whole)
+      (first_behind order old mid ids ids before between m one.0 s whole r (ap (λ (x : Machine). x.broken) one.1.what.1) found m (ap (λ (x : Machine). x.base) one.1.what.1) (ap (λ (x : Machine). x.batches) one.1.what.1)
+      (let same = ap (λ (x : Machine). x.synced) one.1.what.1 in omega (arith, same)) new.facts (λ unbroken. next.loses f ids one.0 r unbroken));
+  found = λ f ids m s whole.
+      let one = (step ids).moved (back f) m s.stands in
+      let r = drawn_whole m one.0 (most m) ids s one.1.what one.2 in
+      let found = first.found (back f) ids m s whole in
+      found_then old.facts mid.facts new.facts before found
+      (found_behind order old mid ids ids before between m one.0 s whole r (ap (λ (x : Machine). x.broken) one.1.what.1) found new.facts (λ unbroken. next.found f ids one.0 r unbroken));
+}
+  where
+    drawn_whole : (m n : Machine) (most : ℕ) (ids : Ids) → StandsWhole order old ids before m → Draws m most n → StandsOpen order mid ids between n → StandsWhole order mid ids between n
+    drawn_whole m n most ids s drawn stands = record { stands = stands; undamaged = draws_flag m n most drawn ∙ s.undamaged }
 
 -- ---- an open
 
@@ -193,7 +258,7 @@ settled_back order files m s settles means = at m.in_doubt refl settles
     at (Some operations) some (inr is) = inr (means_unpushed order files m operations (subst (λ (x : Machine). MeansAccepted order files x) is means))
 
 -- what the database stands for once it is open, the machine did before
-opened_back : (order : Order) (files : Files) (m n : Machine) (mode : Mode) → m.opened ≡ false → Opens m mode Done n → MeansAccepted order files n → MeansAccepted order files m
+pub opened_back : (order : Order) (files : Files) (m n : Machine) (mode : Mode) → m.opened ≡ false → Opens m mode Done n → MeansAccepted order files n → MeansAccepted order files m
 opened_back order files m n mode closed opens means =
     let said = (answered_open m n mode Done closed opens).1 in
     settled_back order files m said.0 said.1 (subst (λ (x : Machine). MeansAccepted order files x) said.3 means)
@@ -210,7 +275,7 @@ opened_keeps order old mid new db mode back step first next f ids m undamaged r 
     let one = (step ids).moved (back f) m r in
     leaves_both old mid.facts new.facts (λ files. MeansAccepted order files m) (first (back f) m (means_whole order old.files m undamaged r.rest))
     (leaves_so mid.facts new.facts (λ files. MeansAccepted order files one.0) (λ files. MeansAccepted order files m) (λ files means. opened_back order files m one.0 mode r.opened one.1 means)
-    (next f ids one.0 (record { stands = one.2; undamaged = opens_flag m one.0 mode Done one.1 ∙ undamaged })))
+    (next.stops f ids one.0 (record { stands = one.2; undamaged = opens_flag m one.0 mode Done one.1 ∙ undamaged })))
 
 -- the lock's file stands for nothing
 pub lock_keeps : (order : Order) {ids : Ids} (old new : Facts) (m : Machine) → FreeChangeLaw → m.damaged ≡ false → StandsClosed order old ids m → LeavesOnly old new (MayLock old.files) → LeavesOnly old new (λ files. MeansAccepted order files m)
@@ -244,7 +309,7 @@ stops_closed {K} {g} order source ids (Some db) new touches = stops_standing {K 
 pub stops_lent : {K : Type 0} {g : _} (order : Order) (source new : Seen) (ids : Ids) (o : Option (OpenDb K g)) (db : OpenDb K g) → o ≡ Some db → KeepsOpen order source new db
     → IsTrue new.facts.faithful → (m : Machine) → m.damaged ≡ false → StandsOver order source ids o m → StopsKeeping order m source.facts new.facts
 stops_lent order source new ids o db is keeps f m undamaged s =
-    stops_keeping order m source.facts new.facts (keeps f ids m (record { stands = subst (λ (x : Option (OpenDb _ _)). StandsOver order source ids x m) is s; undamaged = undamaged }))
+    stops_keeping order m source.facts new.facts (keeps.stops f ids m (record { stands = subst (λ (x : Option (OpenDb _ _)). StandsOver order source ids x m) is s; undamaged = undamaged }))
 
 -- ---- commands of an open database, one behind the other
 
@@ -255,8 +320,8 @@ worked m n = record m { numbers = n.numbers; broken = n.broken; failures = n.fai
 holds_back : (order : Order) (files : Files) (m n : Machine) → OnlyWorks m n → HoldsAccepted order files n → HoldsAccepted order files m
 holds_back order files m n works holds = at m.in_doubt (subst (λ (x : Machine). HoldsAccepted order files x) works.1 holds)
   where
-    at : (o : Option (List Operation)) → MatchOption o (Holds order files (worked m n)) (λ batch. Holds order files (worked m n) ⊎ Holds order files (accepted (worked m n) batch))
-        → MatchOption o (Holds order files m) (λ batch. Holds order files m ⊎ Holds order files (accepted m batch))
+    at : (o : Option (List Operation)) → MatchOption o (Holds order files (worked m n)) (λ batch. Holds order files (worked m n) ⊎ Holds order files (accepted (worked m n) batch false))
+        → MatchOption o (Holds order files m) (λ batch. Holds order files m ⊎ Holds order files (accepted m batch false))
     at None h = record { entries = h.entries; directory = h.directory; view = h.view }
     at (Some batch) (inl h) = inl (record { entries = h.entries; directory = h.directory; view = h.view })
     at (Some []) (inr h) = inr (record { entries = h.entries; directory = h.directory; view = h.view })

@@ -59,22 +59,22 @@ left_else : (order : Order) (m : Machine) (operations : List Operation) (files :
 left_else order m operations files why holds = at m.broken m.opened why
   where
     at : (broken opened : Bool) → opened ≡ false ⊎ broken ≡ true
-        → MatchBool broken (HoldsAccepted order files m) (MatchBool opened (Holds order files m ⊎ Holds order files (accepted m operations)) (HoldsAccepted order files m))
+        → MatchBool broken (HoldsAccepted order files m) (MatchBool opened (Holds order files m ⊎ Holds order files (accepted m operations false)) (HoldsAccepted order files m))
     at true opened why = holds
     at false false why = holds
     at false true (inl shut) = absurd (cc)
     at false true (inr broken) = absurd (cc)
 
-left_serving : (order : Order) (m : Machine) (operations : List Operation) (files : Files) → m.opened ≡ true → m.broken ≡ false → Holds order files m ⊎ Holds order files (accepted m operations) → LeftByWrite order m operations files
+left_serving : (order : Order) (m : Machine) (operations : List Operation) (files : Files) → m.opened ≡ true → m.broken ≡ false → Holds order files m ⊎ Holds order files (accepted m operations false) → LeftByWrite order m operations files
 left_serving order m operations files opens whole holds = at m.broken m.opened whole opens
   where
     at : (broken opened : Bool) → broken ≡ false → opened ≡ true
-        → MatchBool broken (HoldsAccepted order files m) (MatchBool opened (Holds order files m ⊎ Holds order files (accepted m operations)) (HoldsAccepted order files m))
+        → MatchBool broken (HoldsAccepted order files m) (MatchBool opened (Holds order files m ⊎ Holds order files (accepted m operations false)) (HoldsAccepted order files m))
     at true opened whole opens = absurd (cc)
     at false false whole opens = absurd (cc)
     at false true whole opens = holds
 
-holds_doubted : (order : Order) (files : Files) (m : Machine) (operations : List Operation) → m.damaged ≡ false → IsAtRest order files (doubted m operations) → Holds order files m ⊎ Holds order files (accepted m operations)
+holds_doubted : (order : Order) (files : Files) (m : Machine) (operations : List Operation) → m.damaged ≡ false → IsAtRest order files (doubted m operations) → Holds order files m ⊎ Holds order files (accepted m operations false)
 holds_doubted order files m operations undamaged rest = elim (means_whole order files (doubted m operations) undamaged rest) [
   | inl means ↦ inl (holds_current order files m means)
   | inr means ↦ inr (holds_with order files m operations means)
@@ -89,7 +89,7 @@ left_unwritten {K} {g} order source ids (Some db) operations m undamaged s = at 
     at : (b : Bool) → MatchBool b (IsBroken order source.facts.files m) (IsServing order source db m) → LeftByWrite order m operations source.facts.files
     at true rest = left_else order m operations source.facts.files (inr rest.broken) (held order source.facts.files m m.in_doubt (means_whole order source.facts.files m undamaged rest.rest))
     at false serving = left_serving order m operations source.facts.files s.opened serving.whole
-        (subst (λ (doubt : Option (List Operation)). MatchOption doubt (Holds order source.facts.files m) (λ batch. Holds order source.facts.files m ⊎ Holds order source.facts.files (accepted m batch)) → Holds order source.facts.files m ⊎ Holds order source.facts.files (accepted m operations))
+        (subst (λ (doubt : Option (List Operation)). MatchOption doubt (Holds order source.facts.files m) (λ batch. Holds order source.facts.files m ⊎ Holds order source.facts.files (accepted m batch false)) → Holds order source.facts.files m ⊎ Holds order source.facts.files (accepted m operations false))
         (sym serving.certain) (λ holds. inl holds) (held order source.facts.files m m.in_doubt (means_over order source ids (Some db) m undamaged s)))
 
 pub stops_unwritten : {K : Type 0} {g : _} → (order : Order) (source : Seen) (ids : Ids) (o : Option (OpenDb K g)) (operations : List Operation) (m : Machine) → m.damaged ≡ false → StandsOver order source ids o m
@@ -121,14 +121,14 @@ served None None (Some e) A B never h = absurd (never e h)
 never_done : (e : DbError) (P : Type 0) → (Done ≡ Refused e) × P → ⊥
 never_done e P h = let is = h.0 in absurd (cc)
 
-holds_written : (order : Order) (files : Files) (m n : Machine) (operations : List Operation) → m.in_doubt ≡ None → n ≈ accepted m operations → HoldsAccepted order files n → Holds order files (accepted m operations)
-holds_written order files m n [] certain is holds =
-    let at = subst (λ (doubt : Option (List Operation)). MatchOption doubt (Holds order files (record m { failures = n.failures; denials = n.denials })) (λ batch. Holds order files (record m { failures = n.failures; denials = n.denials }) ⊎ Holds order files (accepted (record m { failures = n.failures; denials = n.denials }) batch)))
+holds_written : (order : Order) (files : Files) (m n : Machine) (operations : List Operation) (sync : Bool) → m.in_doubt ≡ None → n ≈ accepted m operations sync → HoldsAccepted order files n → Holds order files (accepted m operations false)
+holds_written order files m n [] sync certain is holds =
+    let at = subst (λ (doubt : Option (List Operation)). MatchOption doubt (Holds order files (record m { failures = n.failures; denials = n.denials })) (λ batch. Holds order files (record m { failures = n.failures; denials = n.denials }) ⊎ Holds order files (accepted (record m { failures = n.failures; denials = n.denials }) batch false)))
     certain (subst (λ (x : Machine). HoldsAccepted order files x) is holds) in
     record { entries = at.entries; directory = at.directory; view = at.view }
-holds_written order files m n (operation ∷ operations) certain is holds =
-    let after = record (accepted m (operation ∷ operations)) { failures = n.failures; denials = n.denials } in
-    let at = subst (λ (doubt : Option (List Operation)). MatchOption doubt (Holds order files after) (λ batch. Holds order files after ⊎ Holds order files (accepted after batch)))
+holds_written order files m n (operation ∷ operations) sync certain is holds =
+    let after = record (accepted m (operation ∷ operations) sync) { failures = n.failures; denials = n.denials } in
+    let at = subst (λ (doubt : Option (List Operation)). MatchOption doubt (Holds order files after) (λ batch. Holds order files after ⊎ Holds order files (accepted after batch false)))
     certain (subst (λ (x : Machine). HoldsAccepted order files x) is holds) in
     record { entries = at.entries; directory = at.directory; view = at.view }
 
@@ -138,16 +138,19 @@ whole_of true false free = refl
 whole_of false broken free = absurd (cc)
 
 -- what files held behind a write they were left by it
-pub written_back : {K : Type 0} {g : _} → (order : Order) (source : Seen) (ids : Ids) (db : OpenDb K g) (m n : Machine) (operations : List Operation) → StandsOpen order source ids db m → Writes m operations Done n
+pub done_by : (m n : Machine) (operations : List Operation) (sync : Bool) → Writes m operations sync Done n → (not_serving (status_of m) ≡ None) × (n ≈ accepted m operations sync)
+done_by m n operations sync writes = served (first_refusal [] operations) (not_serving (status_of m)) (full (status_of m) operations) _ _ (λ e h. never_done e _ h) writes.1
+
+pub written_back : {K : Type 0} {g : _} → (order : Order) (source : Seen) (ids : Ids) (db : OpenDb K g) (m n : Machine) (operations : List Operation) (sync : Bool) → StandsOpen order source ids db m → Writes m operations sync Done n
     → (files : Files) → HoldsAccepted order files n → LeftByWrite order m operations files
-written_back order source ids db m n operations s writes files holds = at db.broken s.rest
+written_back order source ids db m n operations sync s writes files holds = at db.broken s.rest
   where
-    done : (not_serving (status_of m) ≡ None) × (n ≈ accepted m operations)
-    done = served (first_refusal [] operations) (not_serving (status_of m)) (full (status_of m) operations) _ _ (λ e h. never_done e _ h) writes.1
+    done : (not_serving (status_of m) ≡ None) × (n ≈ accepted m operations sync)
+    done = done_by m n operations sync writes
 
     at : (b : Bool) → MatchBool b (IsBroken order source.facts.files m) (IsServing order source db m) → LeftByWrite order m operations files
     at true rest = absurd (let broken : m.broken ≡ true = rest.broken in let whole : m.broken ≡ false = whole_of m.opened m.broken done.0 in cc)
-    at false serving = left_serving order m operations files s.opened serving.whole (inr (holds_written order files m n operations serving.certain done.1 holds))
+    at false serving = left_serving order m operations files s.opened serving.whole (inr (holds_written order files m n operations sync serving.certain done.1 holds))
 
 -- ---- a run
 

@@ -17,7 +17,9 @@ use Rattle.opening.specs.declared.directory.DirectoryState.{DirectoryState}
 use Rattle.opening.proofs.Reopening.{files_apart}
 use Rattle.store.specs.Calls.{Adds, Idles}
 use Rattle.store.specs.Files.{Creation, Facts, Files, Synced}
-use Rattle.store.specs.Losses.{CarriesBut, behind_sync}
+use Rattle.store.proofs.Carrying.{carries_same}
+use Rattle.store.proofs.Staying.{stays_on}
+use Rattle.store.specs.Losses.{CarriesBut, StaysNamed, behind_sync}
 use Rattle.directory_writes.specs.internal.Flush.{DrawsTable}
 use Rattle.directory_writes.specs.internal.Install.{IsTableSynced}
 use Rattle.directory_writes.specs.internal.Removal.{table_number}
@@ -73,8 +75,8 @@ none_above n bound (name ∷ names) num le h = (
 )
 
 -- so of one of a compaction's tables
-pub whole_left : (old new : Facts) (q : List ℕ) → LeavesFile old new q → LeavesWhole old new q
-whole_left old new q left = (left.0, λ file there was. left.1 ∙ was)
+pub whole_left : (old new : Facts) (q : List ℕ) → LeavesFile old new q → (StaysNamed old q → StaysNamed new q) → LeavesWhole old new q
+whole_left old new q left names = (left.0, λ file there was. left.1 ∙ was, names)
 
 -- it is as before, or gone
 pub lost_kept : (old new : Facts) (q : List ℕ) → LeavesFile old new q ⊎ (get new.files q ≡ None) → IsKept old q → IsKept new q
@@ -119,6 +121,7 @@ module _ (old new : Facts) (log after : CurrentLog) (state : DirectoryState) (nu
           (below_more log.number state.numbers.next (map string_bytes log.front.items) (let less = h.names.last.1 in omega (arith, less)) h.names.front)
           ((log.number, h.names.last.0, h.names.last.1, h.names.last.2), tt)));
       forward = (let least = h.names.forward in let less = h.names.last.1 in omega (arith, least, less, number));
+      begun = (let since = h.names.begun in let less = h.names.last.1 in omega (arith, since, less, number));
       manifest = h.names.manifest;
       placed = λ placed there. (let known = h.names.placed placed there in (known.0, (let less = known.1 in omega (arith, less, next))));
     };
@@ -148,6 +151,7 @@ module _ (old new : Facts) (log : CurrentLog) (state later : DirectoryState) (ta
       last = (h.names.last.0, (let less = h.names.last.1 in omega (arith, less, le)), h.names.last.2);
       front = h.names.front;
       forward = subst (λ (n : ℕ). n ≤ log.number) (sym first_log) h.names.forward;
+      begun = subst (λ (n : ℕ). n < log.number) (sym number) h.names.begun;
       manifest = (subst IsNumbered (sym number) h.names.manifest.0, ap string_bytes name ∙ h.names.manifest.1 ∙ ap (λ (n : ℕ). name_of (Manifest n)) (sym number));
       placed = named;
     };
@@ -175,16 +179,30 @@ module _ (old new : Facts) (log : CurrentLog) (state later : DirectoryState) (ta
   pub synced_same : new.calls ≡ old.calls → new.files ≡ old.files → new.synced ≡ old.synced → IsSyncedBut new log later tables
   synced_same calls files synced = synced_beside files synced (stayed_same old new log state later tables number first_log previous_log le h.names calls files synced h.stayed)
 
--- What a call does to what is synced, where it writes no table and leaves all that is known but the log.
-abbrev pub StaysSynced : Facts → Facts → CurrentLog → CurrentLog → DirectoryState → List PlacedTable → Type 0
-StaysSynced old new log after state tables = IsSyncedBut old log state tables → IsSyncedBut new after state tables × ((n : ℕ) → IsNumbered n → new.synced (name_of (Table n)) ≡ old.synced (name_of (Table n)))
+-- the tables of these numbers keep their names, if these have stayed since the last sync
+abbrev pub KeepsNames : Facts → Facts → (ℕ → Type 0) → Type 0
+KeepsNames old new used = (n : ℕ) → IsNumbered n → used n → StaysNamed old (name_of (Table n)) → StaysNamed new (name_of (Table n))
 
-pub stays_same : (old new : Facts) (log : CurrentLog) (state : DirectoryState) (tables : List PlacedTable) → new.calls ≡ old.calls → new.files ≡ old.files → new.synced ≡ old.synced → StaysSynced old new log log state tables
-stays_same old new log state tables calls files synced h = (synced_same old new log state state tables refl refl refl refl (omega arith) h calls files synced, λ n numbered. ap (λ (s : Synced). s (name_of (Table n))) synced)
+pub names_carried : (old new : Facts) (mine : List ℕ → Type 0) (used : ℕ → Type 0) → ((n : ℕ) → IsNumbered n → used n → mine (name_of (Table n)) → ⊥) → CarriesBut old new mine → KeepsNames old new used
+names_carried old new mine used apart carries n numbered one = stays_on old new mine (name_of (Table n)) (apart n numbered one) carries
+
+-- What a call does to what is synced, where it writes no table and leaves all that is known but the log.
+abbrev pub StaysSynced : Facts → Facts → CurrentLog → CurrentLog → DirectoryState → List PlacedTable → (ℕ → Type 0) → Type 0
+StaysSynced old new log after state tables used = IsSyncedBut old log state tables
+    → IsSyncedBut new after state tables × ((n : ℕ) → IsNumbered n → new.synced (name_of (Table n)) ≡ old.synced (name_of (Table n))) × KeepsNames old new used
+
+pub stays_same : (old new : Facts) (log : CurrentLog) (state : DirectoryState) (tables : List PlacedTable) (used : ℕ → Type 0) → new.calls ≡ old.calls → new.files ≡ old.files → new.synced ≡ old.synced → StaysSynced old new log log state tables used
+stays_same old new log state tables used calls files synced h = (
+  synced_same old new log state state tables refl refl refl refl (omega arith) h calls files synced,
+  λ n numbered. ap (λ (s : Synced). s (name_of (Table n))) synced,
+  names_carried old new (λ (q : List ℕ). ⊥) used (λ n numbered one is. is) (carries_same old new (λ (q : List ℕ). ⊥) calls files synced),
+)
 
 -- or may have done something that is undone
-pub stays_beside : (old new : Facts) (log : CurrentLog) (state : DirectoryState) (tables : List PlacedTable) → new.files ≡ old.files → new.synced ≡ old.synced → (IsSyncedBut old log state tables → HaveStayed new state tables) → StaysSynced old new log log state tables
-stays_beside old new log state tables files synced stayed h = (synced_beside old new log state state tables refl refl refl refl (omega arith) h files synced (stayed h), λ n numbered. ap (λ (s : Synced). s (name_of (Table n))) synced)
+pub stays_beside : (old new : Facts) (log : CurrentLog) (state : DirectoryState) (tables : List PlacedTable) (used : ℕ → Type 0) → new.files ≡ old.files → new.synced ≡ old.synced → (IsSyncedBut old log state tables → HaveStayed new state tables)
+    → KeepsNames old new used → StaysSynced old new log log state tables used
+stays_beside old new log state tables used files synced stayed keeps h =
+    (synced_beside old new log state state tables refl refl refl refl (omega arith) h files synced (stayed h), λ n numbered. ap (λ (s : Synced). s (name_of (Table n))) synced, keeps)
 
 -- what is no table's
 pub no_table : (file : FileName) (n : ℕ) → table_number file ≡ None → file ≢ Table n
@@ -287,6 +305,7 @@ module _ (old new : Facts) (log after : CurrentLog) (state : DirectoryState) (nu
       last = subst (λ (n : ℕ). IsNumbered n × (n < numbers.next) × (string_bytes after.name ≡ name_of (Log n))) (sym number) (h.names.last.0, (let less = h.names.last.1 in omega (arith, less, next)), name ∙ h.names.last.2);
       front = subst (λ (names : List (List ℕ)). AllByRecursion (IsLogBelow after.number) names) (sym (ap (map string_bytes) front)) tt;
       forward = omega (arith, number);
+      begun = (let since = h.names.begun in omega (arith, since, number));
       manifest = h.names.manifest;
       placed = λ p there. elim (in_inserted (record { level = 0; table = table }) p tables (only p there)) [
         | inl is ↦ subst (λ (n : ℕ). IsNumbered n × (n < numbers.next)) (sym (of_number p is)) (drawn, omega (arith, next))

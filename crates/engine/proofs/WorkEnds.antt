@@ -40,9 +40,9 @@ use Rattle.engine.specs.internal.Standing.{IsServing}
 use Rattle.machine.specs.Upkeep.{UpkeepRefused}
 use Rattle.engine.specs.internal.Pieces.{ClosesTables, IsPiece, IsSameMemory, broken_by}
 use Rattle.engine.specs.Working.{numbers_of}
-use Rattle.engine.specs.InUse.{IsMemoryUsed, IsTableUsed}
-use Rattle.engine.proofs.Cleaning.{DropsKept, LosesUnused, sealed_same, serving_cleaned, stayed_unused}
-use Rattle.engine.proofs.Reading.{kept_read, read_by, serving_read}
+use Rattle.engine.specs.InUse.{IsJobTable, IsMemoryUsed, IsTableUsed}
+use Rattle.engine.proofs.Cleaning.{DropsKept, LosesUnused, names_unused, sealed_same, serving_cleaned, stayed_unused}
+use Rattle.engine.proofs.Reading.{read_by, serving_read, synced_read}
 use Rattle.engine.proofs.Sealing.{SealKept, broken_seal, serving_drawn, serving_sealed}
 use Rattle.engine.proofs.WorkSteps.{breaks, drawing, draws, piece_within, serves_on}
 
@@ -64,12 +64,12 @@ module _ {K : Type 0} {g : _} (order : Order) (kept : (scan : Scan K g) → Scan
   new = record old { facts = facts }
 
   -- where the files are the same, and of the memory tables all that is read
-  pub serving_same : (db : OpenDb K g) (memory : Memories) (m : Machine) → facts.files ≡ old.facts.files → facts.synced ≡ old.facts.synced → StaysSynced old.facts facts db.log db.log db.directory db.tables → LeavesMemories db.memory memory → IsServing order old db m → IsServing order new (record db { memory = memory }) (read_by facts m)
+  pub serving_same : (db : OpenDb K g) (memory : Memories) (m : Machine) → facts.files ≡ old.facts.files → facts.synced ≡ old.facts.synced → StaysSynced old.facts facts db.log db.log db.directory db.tables (IsJobTable db.job) → LeavesMemories db.memory memory → IsServing order old db m → IsServing order new (record db { memory = memory }) (read_by facts m)
   serving_same db memory m same synced stays left h =
-      serving_read order kept old new db memory m same (sound_same order lasts old facts same) (λ number is. inl is) (λ number is. inl is) left stays (kept_read old.facts facts same synced) h
+      serving_read order kept old new db memory m same (sound_same order lasts old facts same) (λ number is. inl is) (λ number is. inl is) left stays (synced_read old.facts facts synced) h
 
   -- and perhaps a number was drawn
-  pub serving_numbered : (db : OpenDb K g) (memory : Memories) (numbers : FileNumbers) (m : Machine) → facts.files ≡ old.facts.files → facts.synced ≡ old.facts.synced → StaysSynced old.facts facts db.log db.log db.directory db.tables → LeavesMemories db.memory memory → db.directory.numbers.next ≤ numbers.next → numbers.next ≤ db.directory.numbers.next + 1
+  pub serving_numbered : (db : OpenDb K g) (memory : Memories) (numbers : FileNumbers) (m : Machine) → facts.files ≡ old.facts.files → facts.synced ≡ old.facts.synced → StaysSynced old.facts facts db.log db.log db.directory db.tables (IsJobTable db.job) → LeavesMemories db.memory memory → db.directory.numbers.next ≤ numbers.next → numbers.next ≤ db.directory.numbers.next + 1
       → IsServing order old db m → IsServing order new (record db { memory = memory; directory = record db.directory { numbers = numbers } }) (drawing m 1 facts)
   serving_numbered db memory numbers m same synced stays left le upto h =
       serving_drawn order new (record db { memory = memory }) (read_by facts m) (record db.directory { numbers = numbers }) (serving_same db memory m same synced stays left h) refl refl refl refl refl le upto
@@ -89,7 +89,7 @@ module _ {K : Type 0} {g : _} (order : Order) (kept : (scan : Scan K g) → Scan
       (λ m f same serving. (
         list_refused m old.facts facts e refused same,
         undrawn order (record old { facts = facts }) db m facts (serving_same order kept lasts old facts db db.memory m (files f).0 (files f).1
-            (stays_beside old.facts facts db.log db.directory db.tables (files f).0 (files f).1 (λ h. stayed_unused old.facts facts db h.names (carries f) h.stayed)) (leaves_same db.memory) serving),
+            (stays_beside old.facts facts db.log db.directory db.tables (IsJobTable db.job) (files f).0 (files f).1 (λ h. stayed_unused old.facts facts db h.names (carries f) h.stayed) (names_unused old.facts facts db (carries f))) (leaves_same db.memory) serving),
       ))
 
 -- nothing was done
@@ -98,14 +98,14 @@ module _ {K : Type 0} {g : _} (order : Order) (kept : (scan : Scan K g) → Scan
   ends_idle most done whole =
       piece_within order source source ids db db 0 most (Ok done) (omega arith)
       (serves_on order source source ids db db 0 (Ok done) whole whole (λ f. f) (omega arith) refl
-      (λ m f same serving. (draws m 0 source.facts, undrawn order source db m source.facts (serving_same order kept lasts source source.facts db db.memory m refl refl (stays_same source.facts source.facts db.log db.directory db.tables refl refl refl) (leaves_same db.memory) serving))))
+      (λ m f same serving. (draws m 0 source.facts, undrawn order source db m source.facts (serving_same order kept lasts source source.facts db db.memory m refl refl (stays_same source.facts source.facts db.log db.directory db.tables (IsJobTable db.job) refl refl refl) (leaves_same db.memory) serving))))
 
   -- there was no memory for it
   pub ends_full : {T : Type 0} (most : ℕ) → db.broken ≡ false → LeadsOpen order source source ids db db (λ m n. IsPiece {T = T} m most (Err error.OutOfMemory) n)
   ends_full most whole =
       piece_within order source source ids db db 0 most (Err error.OutOfMemory) (omega arith)
       (serves_on order source source ids db db 0 (Err error.OutOfMemory) whole whole (λ f. f) (omega arith) refl
-      (λ m f same serving. (draws m 0 source.facts, undrawn order source db m source.facts (serving_same order kept lasts source source.facts db db.memory m refl refl (stays_same source.facts source.facts db.log db.directory db.tables refl refl refl) (leaves_same db.memory) serving))))
+      (λ m f same serving. (draws m 0 source.facts, undrawn order source db m source.facts (serving_same order kept lasts source source.facts db db.memory m refl refl (stays_same source.facts source.facts db.log db.directory db.tables (IsJobTable db.job) refl refl refl) (leaves_same db.memory) serving))))
 
 -- ---- a new log
 
@@ -189,7 +189,7 @@ module _ {K : Type 0} {g : _} (order : Order) (kept : (scan : Scan K g) → Scan
       let upto : (next ≤ numbers.next) × (numbers.next ≤ next + 1) = elim draws_log [ inl none ↦ (let is = none.0 in (omega (arith, is), omega (arith, is))) | inr more ↦ (let is = more.0 in (omega (arith, is), omega (arith, is))) ] in (
         log_refused m e refused same below other,
         serving_numbered order kept lasts old facts (open_db memory state) back numbers m (files f).0 (files f).1
-            (stays_same old.facts facts state.log state.directory state.version.value.tables (log_calls e m serving f (files f).0 draws_log) (files f).0 (files f).1) left upto.0 upto.1 serving,
+            (stays_same old.facts facts state.log state.directory state.version.value.tables (IsJobTable state.job) (log_calls e m serving f (files f).0 draws_log) (files f).0 (files f).1) left upto.0 upto.1 serving,
       ))
 
   -- however it isn't

@@ -60,6 +60,7 @@ module _ {K : Type 0} {g : _} (order : Order) (old new : Seen) (ids : Ids) (befo
           record {
             counts = record { failures = refl; denials = refl };
             ids = s.ids;
+            reached = s.reached;
             opened = s.opened;
             rest = subst (λ (b : Bool). MatchBool b (IsBroken order new.facts.files n) (IsServing order new after n)) (sym still) done.1;
           },
@@ -81,6 +82,7 @@ module _ {K : Type 0} {g : _} (order : Order) (old new : Seen) (ids : Ids) (befo
           record {
             counts = record { failures = refl; denials = refl };
             ids = s.ids;
+            reached = s.reached;
             opened = s.opened;
             rest = subst (λ (b : Bool). MatchBool b (IsBroken order new.facts.files n) (IsServing order new after n)) (sym broken) (does m f (serving_of order old ids before m whole s));
           },

@@ -1,5 +1,5 @@
 -- What stays synced over a write.
-use Rattle.std.proofs.Common.{◌≡◌, ◌≢◌, ◌<◌, ◌≤◌, ℕ, Bool, List, [], ◌∷◌, Contains, map, Result, Ok, IsTrue, inl, inr, refl, sym, ap, subst, ◌∙◌, arith, length, string_bytes}
+use Rattle.std.proofs.Common.{◌≡◌, ◌≢◌, ◌<◌, ◌≤◌, ℕ, Bool, true, false, List, [], ◌∷◌, Contains, map, Result, Ok, IsTrue, inl, inr, refl, sym, ap, subst, ◌∙◌, arith, length, string_bytes}
 use Rattle.std.specs.List.{AllByRecursion}
 use Rattle.batch.specs.declared.operation.Operation.{Operation}
 use Rattle.edits.specs.Names.{name_of, IsNumbered}
@@ -14,8 +14,9 @@ use Rattle.recover.proofs.Adding.{current_apart, logs_apart, manifest_apart, old
 use Rattle.store.specs.Files.{Facts}
 use Rattle.store.specs.Losses.{CarriesBut}
 use Rattle.engine.proofs.FrontSyncing.{same_or_other}
+use Rattle.engine.proofs.RecentSure.{SyncsLast}
 use Rattle.engine.proofs.StayedNames.{stayed_all}
-use Rattle.engine.proofs.Synced.{kept_still, table_still}
+use Rattle.engine.proofs.Synced.{KeepsNames, kept_still, names_carried, table_still}
 use Rattle.engine.specs.Touching.{SyncsLog}
 use Rattle.engine.specs.internal.Synced.{AreSyncedBut, HaveNames, IsSyncedBut}
 
@@ -87,6 +88,7 @@ module _ (old new : Facts) (log : CurrentLog) (state : DirectoryState) (tables :
     last = subst (λ (n : ℕ). IsNumbered n × (n < state.numbers.next) × (string_bytes after.name ≡ name_of (Log n))) (sym number) (h.names.last.0, h.names.last.1, name ∙ h.names.last.2);
     front = subst (λ (n : ℕ). AllByRecursion (IsLogBelow n) (map string_bytes after.front.items)) (sym number) front;
     forward = subst (λ (n : ℕ). state.first_log ≤ n) (sym number) h.names.forward;
+    begun = subst (λ (n : ℕ). state.manifest.number < n) (sym number) h.names.begun;
     manifest = h.names.manifest;
     placed = h.names.placed;
   }
@@ -121,13 +123,20 @@ module _ (old new : Facts) (log : CurrentLog) (state : DirectoryState) (tables :
   pub apart_from_front : IsNoneOf (string_bytes log.name) (map string_bytes log.front.items)
   apart_from_front = none_in_front (map string_bytes log.front.items) h.names.front
 
+-- The log that was written to is synced where that was asked for, and else the same of it is.
+pub appended_last : {T E : Type 0} (sync : Bool) (old new : Facts) (log : CurrentLog) (state : DirectoryState) (tables : List PlacedTable) → IsTrue new.faithful → KeepsOthers old.files new.files (string_bytes log.name)
+    → CarriesBut old new (λ (q : List ℕ). ⊥) → IsSyncedBut old log state tables → (x : T) → SyncsLog {T = T} {E = E} (Unit {0}) (sync ≡ true) sync (string_bytes log.name) (map string_bytes log.front.items) old new (Ok x)
+    → SyncsLast sync old new (string_bytes log.name)
+appended_last true old new log state tables f beside carries h x s = s.kept f refl
+appended_last false old new log state tables f beside carries h x s = s.unasked f refl (string_bytes log.name) (apart_from_front old new log state tables beside (s.others f) carries h)
+
 -- of the tables the same is synced
 abbrev KeepsTables : Facts → Facts → Type 0
 KeepsTables old new = (n : ℕ) → IsNumbered n → new.synced (name_of (Table n)) ≡ old.synced (name_of (Table n))
 
 -- by what a write says of it
 module _ {T E : Type 0} (some asked : Type 0) (sync : Bool) (old new : Facts) (log after : CurrentLog) (state : DirectoryState) (tables : List PlacedTable) (f : IsTrue new.faithful)
-    (beside : KeepsOthers old.files new.files (string_bytes log.name)) (carries : CarriesBut old new (λ (q : List ℕ). ⊥)) (h : IsSyncedBut old log state tables) where
+    (used : ℕ → Type 0) (beside : KeepsOthers old.files new.files (string_bytes log.name)) (carries : CarriesBut old new (λ (q : List ℕ). ⊥)) (h : IsSyncedBut old log state tables) where
   abbrev Says : Result T E → Type 0
   Says result = SyncsLog some asked sync (string_bytes log.name) (map string_bytes log.front.items) old new result
 
@@ -136,9 +145,10 @@ module _ {T E : Type 0} (some asked : Type 0) (sync : Bool) (old new : Facts) (l
       let none = none_of_logs (name_of (Table n)) log state tables (λ k num. table_apart n k numbered num) h.names in
       s.others f (name_of (Table n)) none.0 none.1
 
-  pub written_stays : (result : Result T E) → Says result → after.number ≡ log.number → string_bytes after.name ≡ string_bytes log.name → map string_bytes after.front.items ≡ map string_bytes log.front.items → IsSyncedBut new after state tables × KeepsTables old new
-  written_stays result s number name front = (still_synced old new log state tables beside (s.others f) carries h after number name front, tables_same result s)
+  -- (and they keep their names)
+  pub written_stays : (result : Result T E) → Says result → after.number ≡ log.number → string_bytes after.name ≡ string_bytes log.name → map string_bytes after.front.items ≡ map string_bytes log.front.items → IsSyncedBut new after state tables × KeepsTables old new × KeepsNames old new used
+  written_stays result s number name front = (still_synced old new log state tables beside (s.others f) carries h after number name front, tables_same result s, names_carried old new (λ (q : List ℕ). ⊥) used (λ n numbered one is. is) carries)
 
-  pub appended_stays : some → after.front.items ≡ [] → after.number ≡ log.number → string_bytes after.name ≡ string_bytes log.name → (x : T) → Says (Ok x) → IsSyncedBut new after state tables × KeepsTables old new
+  pub appended_stays : some → after.front.items ≡ [] → after.number ≡ log.number → string_bytes after.name ≡ string_bytes log.name → (x : T) → Says (Ok x) → IsSyncedBut new after state tables × KeepsTables old new × KeepsNames old new used
   appended_stays puts front number name x s =
-      (synced_but_last old new log state tables beside (s.others f) carries h after number name front (s.front_kept f puts (apart_from_front old new log state tables beside (s.others f) carries h)), tables_same (Ok x) s)
+      (synced_but_last old new log state tables beside (s.others f) carries h after number name front (s.front_kept f puts (apart_from_front old new log state tables beside (s.others f) carries h)), tables_same (Ok x) s, names_carried old new (λ (q : List ℕ). ⊥) used (λ n numbered one is. is) carries)

@@ -25,7 +25,7 @@ pub record Holds (order : Order) (files : Files) (m : Machine) : Type 0 where
 
 -- They hold it with the batch in doubt as a whole, or without it.
 abbrev pub HoldsAccepted : Order → Files → Machine → Type 0
-HoldsAccepted order files m = MatchOption m.in_doubt (Holds order files m) (λ batch. Holds order files m ⊎ Holds order files (accepted m batch))
+HoldsAccepted order files m = MatchOption m.in_doubt (Holds order files m) (λ batch. Holds order files m ⊎ Holds order files (accepted m batch false))
 
 -- What else it says of them: whether there is a database, a number from which on all are free, and whether all of it can be read.
 pub record Bounds (order : Order) (files : Files) (m : Machine) : Type 0 where
@@ -37,7 +37,7 @@ pub record Bounds (order : Order) (files : Files) (m : Machine) : Type 0 where
 pub record IsFirst (order : Order) (facts : Facts) (m : Machine) : Type 0 where
   pub holds : Holds order facts.files m
   pub bounds : Bounds order facts.files m
-  pub accepted : (m.batches ≡ []) × (m.in_doubt ≡ None)
+  pub accepted : (m.batches ≡ []) × (m.in_doubt ≡ None) × (m.synced ≡ 0)
   pub closed : (m.opened ≡ false) × (m.broken ≡ false) × (m.snapshots ≡ []) × (m.iterators ≡ [])
   pub ids : (m.last_snapshot ≡ 0) × (m.last_iterator ≡ 0)
   pub counts : (m.failures ≡ facts.failures) × (m.denials ≡ facts.denials)

@@ -1,5 +1,5 @@
 -- Work until there is none, and as much as keeps up with what is written.
-use Rattle.std.specs.Prelude.{◌≡◌, ◌≤◌, ◌<◌, ◌*◌, List, length, Result, Ok, Err}
+use Rattle.std.specs.Prelude.{◌≡◌, ◌≤◌, ◌<◌, ◌*◌, Bool, List, length, Result, Ok, Err}
 use Rattle.batch.specs.declared.operation.Operation.{Operation}
 use Rattle.coding.specs.declared.error.DbError.{DbError}
 use Rattle.memtable.specs.Contents.{size_of}
@@ -33,6 +33,6 @@ WorksAtPace KeepsUp old new = OnlyDraws old new
 WorksAtPace (Refused error) old new = OnlyWorks old new
 
 -- A batch was accepted, and worked on behind that; or it was refused, and nothing was done.
-abbrev pub WritesAtPace : Machine → List Operation → Result Pace DbError → Machine → Type 0
-WritesAtPace old operations (Ok pace) new = (written : Machine) × Writes old operations answer.Done written × WorksAtPace pace written new
-WritesAtPace old operations (Err error) new = Writes old operations (answer.Refused error) new
+abbrev pub WritesAtPace : Machine → List Operation → Bool → Result Pace DbError → Machine → Type 0
+WritesAtPace old operations sync (Ok pace) new = (written : Machine) × Writes old operations sync answer.Done written × WorksAtPace pace written new
+WritesAtPace old operations sync (Err error) new = Writes old operations sync (answer.Refused error) new

@@ -24,7 +24,7 @@ use Rattle.engine.specs.declared.session.Session.{Session}
 abbrev pub LeftByWrite : Order → Machine → List Operation → Files → Type 0
 LeftByWrite order m operations files =
     MatchBool m.broken (HoldsAccepted order files m)
-    (MatchBool m.opened (Holds order files m ⊎ Holds order files (accepted m operations)) (HoldsAccepted order files m))
+    (MatchBool m.opened (Holds order files m ⊎ Holds order files (accepted m operations false)) (HoldsAccepted order files m))
 
 -- Every other command leaves those of what was accepted: an open, too, and one that is refused.
 abbrev pub LeftBy : Order → Machine → Op → Files → Type 0

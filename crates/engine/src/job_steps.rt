@@ -26,7 +26,7 @@ impl<K: KeyOrder> DbState<K> {
     ghost use Rattle.engine.specs.Breaking.{BreaksLent};
     ghost use Rattle.engine.specs.internal.Stopping.{KeepsLent};
     ghost use Rattle.engine.specs.internal.Lent.{LeadsLent, ServesLent, OutcomeLent};
-    ghost use Rattle.store.specs.Calls.{FailsNoWrite, KeepsCalls};
+    ghost use Rattle.store.specs.Calls.{FailsNoWrite, KeepsCalls, KeepsSynced};
     ghost use Rattle.engine.specs.OpenDb.{open_db};
     ghost use Rattle.db_cursor.specs.Whole.{seen_of};
     ghost use Rattle.engine.specs.Outcomes.{IsSame};
@@ -105,6 +105,7 @@ impl<K: KeyOrder> DbState<K> {
         ensures whole { self.new.broken ≡ false }
         ensures lock { (S.facts source.new.tables.store).locked ≡ (S.facts source.old.tables.store).locked }
         ensures calls { KeepsCalls (S.facts source.old.tables.store) (S.facts source.new.tables.store) }
+        ensures synced { KeepsSynced (S.facts source.old.tables.store) (S.facts source.new.tables.store) }
     {
         // Laws, for the proof alone.
         sound_lasts();

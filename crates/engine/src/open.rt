@@ -1,9 +1,11 @@
 //! Opening a database (LevelDB's db/db_impl.cc, DB::Open).
 
-ghost use Rattle.std.specs.Prelude.{◌≡◌, true, false, IsTrue, Err, IfOk, IfErr, OnOk};
+ghost use Rattle.std.specs.Prelude.{◌≡◌, ◌⊎◌, ℕ, List, true, false, string_bytes, IsTrue, Err, IfOk, IfErr, OnOk};
 ghost use Rattle.coding.specs.declared.error.DbError.TheVariants.{OutOfMemory};
 ghost use Rattle.ikey.specs.Orders.{order_of};
-ghost use Rattle.store.specs.Files.{MayLock};
+ghost use Rattle.store.specs.Calls.{Adds, Idles};
+ghost use Rattle.store.specs.Files.{LockFile, MayLock};
+ghost use Rattle.store.specs.Losses.{StaysNamed};
 ghost use Rattle.store.specs.Stops.{LeavesOnly};
 ghost use Rattle.machine.specs.Machine.{Machine};
 ghost use Rattle.engine.specs.internal.Directory.{MeansAccepted};
@@ -14,10 +16,14 @@ ghost use Rattle.engine.specs.internal.Standing.{StandsClosed};
 ghost use Rattle.engine.specs.Follows.{Leads, unit_answer};
 ghost use Rattle.engine.specs.declared.ids.Ids.{Ids};
 ghost use Rattle.engine.specs.Opened.{IsTidy};
-ghost use Rattle.engine.specs.internal.Resting.{Rests, StandsResult, is_of_memory};
+ghost use Rattle.engine.specs.internal.Reopening.{LosesLasting};
+ghost use Rattle.engine.specs.internal.Resting.{LosesMeaning, Rests, StandsResult, is_of_memory};
 ghost use Rattle.opening.specs.internal.Opening.{IsContinued};
 ghost use Rattle.opening.specs.internal.Durable.{HasDurable, Spares};
 ghost use Rattle.opening.specs.Durable.{LeavesDurable};
+ghost use Rattle.opening.specs.Losses.{BeginsSpared, HaveNamesStayed};
+ghost use Rattle.opening.specs.internal.Begun.{BeginsSynced};
+ghost use Rattle.opening.specs.internal.Renewing.{RenewsWhole};
 ghost use Rattle.engine.specs.Touching.{OpensStore};
 ghost use Rattle.opening.specs.Refusals.{IsMet};
 ghost use Rattle.opening.specs.Telling.{Tells};
@@ -62,6 +68,15 @@ pub fn open_store<K: KeyOrder, S: Store>(
     ensures stops { IsTrue (S.facts source.new.tables.store).faithful → (ids : Ids) (m : Machine)
         → m.damaged ≡ false → StandsClosed (order_of K.name K.cmp) (S.facts source.old.tables.store) ids m
         → LeavesOnly (S.facts source.old.tables.store) (S.facts source.new.tables.store) (λ files. MeansAccepted (order_of K.name K.cmp) files m) }
+    // So does a loss of power, where the device has the names that were there, and it cuts no file short that was.
+    ensures loses { IsTrue (S.facts source.new.tables.store).faithful → (ids : Ids) (m : Machine)
+        → m.damaged ≡ false → StandsClosed (order_of K.name K.cmp) (S.facts source.old.tables.store) ids m
+        → ((name : List ℕ) → StaysNamed (S.facts source.old.tables.store) name)
+        → LosesMeaning (order_of K.name K.cmp) (S.facts source.old.tables.store) (S.facts source.new.tables.store) m }
+    // And of a store that lasts the first of the accepted batches are left.
+    ensures lasting { IsTrue (S.facts source.new.tables.store).faithful → (ids : Ids) (m : Machine)
+        → m.damaged ≡ false → StandsClosed (order_of K.name K.cmp) (S.facts source.old.tables.store) ids m
+        → LosesLasting (order_of K.name K.cmp) (S.facts source.old.tables.store) (S.facts source.new.tables.store) }
 {
     // Laws, for the proof alone.
     free_change_law();
@@ -78,6 +93,7 @@ pub fn open_store<K: KeyOrder, S: Store>(
 fn take_lock<S: Store>(store: &mut S) -> Result<(), DbError>
     ensures lock { TakesLock (S.facts store.old) (S.facts store.new) result }
     ensures stops { IsTrue (S.facts store.new).faithful → LeavesOnly (S.facts store.old) (S.facts store.new) (MayLock (S.facts store.old).files) }
+    ensures noted { IsTrue (S.facts store.new).faithful → Idles (S.facts store.old) (S.facts store.new) ⊎ Adds (S.facts store.old) (S.facts store.new) LockFile }
 {
     match store.lock() {
         Ok(true) => Ok(()),
@@ -112,6 +128,13 @@ fn open_and_clean<K: KeyOrder, S: Store>(
     ensures stops { IsTrue (S.facts source.new.tables.store).faithful → (ids : Ids) (m : Machine)
         → m.damaged ≡ false → Rests (order_of K.name K.cmp) (S.facts source.old.tables.store) ids m
         → LeavesOnly (S.facts source.old.tables.store) (S.facts source.new.tables.store) (λ files. MeansAccepted (order_of K.name K.cmp) files m) }
+    ensures loses { IsTrue (S.facts source.new.tables.store).faithful → (ids : Ids) (m : Machine)
+        → m.damaged ≡ false → Rests (order_of K.name K.cmp) (S.facts source.old.tables.store) ids m
+        → HaveNamesStayed (S.facts source.old.tables.store)
+        → LosesMeaning (order_of K.name K.cmp) (S.facts source.old.tables.store) (S.facts source.new.tables.store) m }
+    ensures lasting { IsTrue (S.facts source.new.tables.store).faithful → (ids : Ids) (m : Machine)
+        → m.damaged ≡ false → Rests (order_of K.name K.cmp) (S.facts source.old.tables.store) ids m
+        → LosesLasting (order_of K.name K.cmp) (S.facts source.old.tables.store) (S.facts source.new.tables.store) }
 {
     let state = open_locked::<K, S>(alloc, source, options, mode)?;
     match state.clean(alloc, source) {
@@ -167,6 +190,19 @@ fn open_locked<K: KeyOrder, S: Store>(
     ensures stops { IsTrue (S.facts source.new.tables.store).faithful → (m : Machine)
         → MeansAccepted (order_of K.name K.cmp) (S.facts source.old.tables.store).files m
         → LeavesOnly (S.facts source.old.tables.store) (S.facts source.new.tables.store) (λ files. MeansAccepted (order_of K.name K.cmp) files m) }
+    ensures loses { IsTrue (S.facts source.new.tables.store).faithful → (m : Machine)
+        → MeansAccepted (order_of K.name K.cmp) (S.facts source.old.tables.store).files m
+        → HaveNamesStayed (S.facts source.old.tables.store)
+        → LosesMeaning (order_of K.name K.cmp) (S.facts source.old.tables.store) (S.facts source.new.tables.store) m }
+    ensures begins { IfOk result (λ state. IsTrue (S.facts source.new.tables.store).faithful
+        → BeginsSynced (S.facts source.old.tables.store) (S.facts source.new.tables.store) state.log state.directory) }
+    ensures since { IfOk result (λ state. IsTrue (S.facts source.new.tables.store).faithful
+        → BeginsSpared (S.facts source.new.tables.store) (string_bytes state.log.name)) }
+    ensures empty { IfOk result (λ state. state.log.end ≡ 0) }
+    ensures lasting { IsTrue (S.facts source.new.tables.store).faithful
+        → LosesLasting (order_of K.name K.cmp) (S.facts source.old.tables.store) (S.facts source.new.tables.store) }
+    ensures renewed { IfOk result (λ state. IsTrue (S.facts source.new.tables.store).faithful
+        → RenewsWhole (order_of K.name K.cmp) (S.facts source.old.tables.store) (S.facts source.new.tables.store) state.log state.directory) }
 {
     // Laws, for the proof alone.
     empty_is_sound();

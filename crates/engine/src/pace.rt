@@ -38,6 +38,7 @@ pub enum Pace {
 }
 
 impl<S: Store, K: KeyOrder> Db<S, K> {
+    ghost use Rattle.engine.specs.Losses.{DbLoses, DbLosesWrite};
     ghost use Rattle.engine.specs.Outcomes.{MayRefuseWork, MayRefuseWrite};
     ghost use Rattle.engine.specs.Pace.{HasKeptUp, OnlyDraws, OnlyWorks, WorksAtPace, WritesAtPace};
     ghost use Rattle.engine.specs.StandsDb.{FollowsDb, KeepsOpening, db_ids_of, db_options_of, open_by};
@@ -56,8 +57,9 @@ impl<S: Store, K: KeyOrder> Db<S, K> {
         ensures allowed { MatchResult result (λ done. Unit {0}) MayRefuseWork }
         ensures ids { db_ids_of self.new ≡ db_ids_of self.old }
         ensures opening { KeepsOpening self.old self.new }
-        // A stop in its middle leaves what was accepted.
+        // A stop in its middle leaves what was accepted, and a loss of power the first of it.
         ensures stops { DbStops (order_of K.name K.cmp) S.facts self.old self.new }
+        ensures loses { DbLoses (order_of K.name K.cmp) S.facts self.old self.new }
     {
         for _ in 0..u64::MAX {
             match self.work(alloc, budget) {
@@ -90,15 +92,16 @@ impl<S: Store, K: KeyOrder> Db<S, K> {
         batch: &Batch,
         sync: bool,
     ) -> Result<Pace, DbError>
-        ensures step { FollowsDb (order_of K.name K.cmp) S.facts self.old self.new (λ m n. WritesAtPace m batch.now result n) }
+        ensures step { FollowsDb (order_of K.name K.cmp) S.facts self.old self.new (λ m n. WritesAtPace m batch.now sync result n) }
         // Over any store:
         ensures kept { result ≡ Ok KeepsUp → HasKeptUp (db_options_of self.new) (open_by self.new) }
         ensures allowed { IfErr result MayRefuseWrite }
         ensures refused { (error : DbError) → result ≡ Ok (Refused error) → MayRefuseWork error }
         ensures ids { db_ids_of self.new ≡ db_ids_of self.old }
         ensures opening { KeepsOpening self.old self.new }
-        // A stop in its middle leaves what was accepted, with the batch as a whole or without it.
+        // A stop in its middle leaves what was accepted, with the batch as a whole or without it, and a loss of power the first of it.
         ensures stops { DbStopsWrite (order_of K.name K.cmp) S.facts batch.now self.old self.new }
+        ensures loses { DbLosesWrite (order_of K.name K.cmp) S.facts batch.now self.old self.new }
     {
         let before = self.source.memory.size() as u64;
         self.write(alloc, batch, sync)?;
@@ -121,6 +124,7 @@ impl<S: Store, K: KeyOrder> Db<S, K> {
         ensures ids { db_ids_of self.new ≡ db_ids_of self.old }
         ensures opening { KeepsOpening self.old self.new }
         ensures stops { DbStops (order_of K.name K.cmp) S.facts self.old self.new }
+        ensures loses { DbLoses (order_of K.name K.cmp) S.facts self.old self.new }
     {
         for _ in 0..u64::MAX {
             match self.work(alloc, budget) {

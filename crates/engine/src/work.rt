@@ -48,7 +48,9 @@ impl<K: KeyOrder> DbState<K> {
     ghost use Rattle.machine.specs.Upkeep.{Works};
     ghost use Rattle.engine.specs.WithinBudget.{EndsWithin};
     ghost use Rattle.engine.specs.WrittenTables.{FlushesSealed, PutsSealed};
-    ghost use Rattle.engine.specs.Working.{DoesWork, HasLiveOnly, LosesDead};
+    ghost use Rattle.directory_writes.specs.Removal.{IsDead};
+    ghost use Rattle.store.specs.Stops.{WritesOnly};
+    ghost use Rattle.engine.specs.Working.{DoesWork, HasLiveOnly, IsLiveIn, LosesDead};
     ghost use Rattle.engine.specs.internal.Pieces.{IsPiece, IsSameMemory, MayRefusePiece};
     ghost use Rattle.engine.specs.Working.{SealsMemory, WritesTable, work_answer};
     ghost use Rattle.engine.specs.internal.Pieces.{broken_by, flush_answer, settled_as, settled_by};
@@ -126,6 +128,9 @@ impl<K: KeyOrder> DbState<K> {
             → HasLiveOnly (S.facts source.new.tables.store).files (open_db source.new.memory self.now)) }
         ensures removes { IsTrue (S.facts source.new.tables.store).faithful
             → LosesDead (S.facts source.old.tables.store) (S.facts source.new.tables.store) (open_db source.new.memory self.now) }
+        ensures only { IsTrue (S.facts source.new.tables.store).faithful
+            → WritesOnly (S.facts source.old.tables.store) (S.facts source.new.tables.store)
+            (IsDead (IsLiveIn (S.facts source.old.tables.store).files (open_db source.old.memory self.now))) }
         ensures lock { (S.facts source.new.tables.store).locked ≡ (S.facts source.old.tables.store).locked }
         ensures stops { KeepsLent (order_of K.name K.cmp) S.facts source.old self.now source.new }
     {

@@ -47,3 +47,5 @@ pub record IsCompacting {K : Type 0} {g : _} (order : Order) (damaged : Bool) (w
   pub begun : IsBegunAt work (came ++ left) whole.memory.last reach
   pub seen : (id sequence : ℕ) → kept_at snapshots id ≡ Some sequence → SeesAsOne (map entry_of (came ++ left)) work.job.selection.snapshots sequence
   pub unread : (id : ℕ) (scan : Scan K g) → kept_at iterators id ≡ Some scan → (number : ℕ) → ListsNumber (tables_of scan) number → IsOwn work.job.outputs number → ⊥
+  -- no table that it writes was there before the open
+  pub since : (number : ℕ) → IsOwn work.job.outputs number → d.manifest ≤ number

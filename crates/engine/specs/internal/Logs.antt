@@ -3,8 +3,9 @@ use Rattle.std.specs.Prelude.{◌≡◌, ◌⊎◌, ℕ, ◌+◌, ◌<◌, ◌�
 use Rattle.std.specs.List.{AllByRecursion}
 use Rattle.std.specs.FinMap.{get}
 use Rattle.batch.specs.declared.operation.Operation.{Operation}
-use Rattle.store.specs.Calls.{FailsAsWrite}
-use Rattle.store.specs.Files.{Files, Facts, Appends, AppendsBeginning}
+use Rattle.store.specs.Calls.{Adds, FailsAsWrite, Idles}
+use Rattle.store.specs.Files.{Files, Facts, Appends, AppendsBeginning, Sync, with_synced}
+use Rattle.store.specs.Losses.{PutsSynced}
 use Rattle.edits.specs.Names.{name_of}
 use Rattle.edits.specs.declared.field.Field.{Field}
 use Rattle.edits.specs.declared.layout.Layout.{Layout}
@@ -14,13 +15,14 @@ use Rattle.ikey.specs.declared.entry.Entry.{Entry}
 use Rattle.recover.specs.internal.Changes.{IsExtended, ManifestEndsAt}
 use Rattle.recover.specs.Directory.{Directory, IsConsistent}
 use Rattle.recover.specs.Entries.{entries_of}
+use Rattle.recover.specs.Logs.{LogContent}
 use Rattle.recover.specs.Numbers.{IsFree}
 use Rattle.recover.specs.Tables.{TableContent}
 use Rattle.engine.specs.declared.log.LogError.{LogError}
 use Rattle.engine.specs.declared.log.LogError.TheVariants.{Memory, Device}
 use Rattle.machine.specs.Machine.{Machine}
 use Rattle.opening.specs.Durable.{IsSynced}
-use Rattle.opening.specs.Losses.{IsKept, IsNoneOf}
+use Rattle.opening.specs.Losses.{IsNoneOf}
 use Rattle.engine.specs.internal.Directory.{IsReadable}
 use Rattle.opening.specs.internal.Directories.{IsDirectoryOf, CanAppend}
 
@@ -34,6 +36,10 @@ pub record AppendsRecord (old new : Facts) (name bytes : List ℕ) (result : Res
   pub counted : result ≡ Err Device → old.failures < new.failures
   pub memory : IsTrue new.faithful → result ≡ Err Memory → new.files ≡ old.files
 
+-- What is synced of the file of this name is as before, or it is synced whole.
+abbrev pub LeavesOrSyncs : Facts → Facts → List ℕ → Type 0
+LeavesOrSyncs old new name = (new.synced name ≡ old.synced name) ⊎ IsSynced new name
+
 -- The files of these names are synced, and no other; no file changes.
 pub record SyncsThese (names : List (List ℕ)) (old new : Facts) : Type 0 where
   pub faithful : IsTrue new.faithful → IsTrue old.faithful
@@ -43,8 +49,7 @@ pub record SyncsThese (names : List (List ℕ)) (old new : Facts) : Type 0 where
   pub locked : new.locked ≡ old.locked
   pub files : IsTrue new.faithful → new.files ≡ old.files
   pub others : IsTrue new.faithful → (q : List ℕ) → IsNoneOf q names → new.synced q ≡ old.synced q
-  -- what was synced whole still is
-  pub keeps : IsTrue new.faithful → (q : List ℕ) → IsKept old q → IsKept new q
+  pub keeps : IsTrue new.faithful → (q : List ℕ) → LeavesOrSyncs old new q
 
 -- Each of them is; or, where the device fails, some are.
 pub record SyncsFront (names : List (List ℕ)) (old new : Facts) (result : Result (Unit {0}) LogError) : Type 0 where
@@ -81,3 +86,38 @@ pub record Logs (order : Order) (old new : Facts) (log : ℕ) (name : List ℕ) 
       → (number position : ℕ) (edits : List (List Field)) (layout : Layout) → ManifestEndsAt order old.files number position edits layout → ManifestEndsAt order new.files number position edits layout
   pub free : IsTrue new.faithful → (tables : List TableContent) (entries : List Entry) → name ≡ name_of (Log log) → CanAppend order old.files log end tables entries used
       → (n : ℕ) → IsFree order old.files n → IsFree order new.files n
+
+-- ---- call by call
+
+-- These files were synced, one after the other; no file changed.
+abbrev pub SyncsEach : List (List ℕ) → Facts → Facts → Type 0
+SyncsEach [] old new = Idles old new
+SyncsEach (name ∷ names) old new = (mid : Facts) × Adds old mid (Sync name) × (mid.synced ≡ with_synced old.synced name (get old.files name)) × SyncsEach names mid new
+
+-- So are these, and behind them all something is put behind a file; or the calls ended before that.
+pub record SyncsThenPuts (names : List (List ℕ)) (old new : Facts) (puts : Facts → Type 0) : Type 0 where
+  pub done : List (List ℕ)
+  pub mid : Facts
+  pub synced : SyncsEach done old mid
+  pub ends : Idles mid new ⊎ ((done ≡ names) × puts mid)
+
+-- The last log of the directory, which has this number, has the operations there as one batch more, or what it had. Nothing else changes.
+pub record HasLastLog (order : Order) (files : Files) (d : Directory) (log used : ℕ) (operations : List Operation) : Type 0 where
+  pub before : List LogContent
+  pub last : LogContent
+  pub next : LogContent
+  pub old : d.logs ≡ before ++ last ∷ []
+  pub number : (last.number ≡ log) × (next.number ≡ log)
+  pub batches : (next.batches ≡ last.batches) ⊎ (next.batches ≡ last.batches ++ (used + 1, operations) ∷ [])
+  pub consistent : IsConsistent order files (record d { logs = before ++ next ∷ [] })
+
+-- So it is wherever a beginning of these bytes stands behind the log of this name, which ended at `end`.
+abbrev pub AddsBatch : Order → Files → ℕ → List ℕ → ℕ → ℕ → List Operation → List ℕ → Type 0
+AddsBatch order old log name end used operations bytes = (files : Files) → AppendsBeginning old files name bytes → (tables : List TableContent) (entries : List Entry) → name ≡ name_of (Log log)
+    → (a : CanAppend order old log end tables entries used) → HasLastLog order files a.directory log used operations
+
+-- The bytes of a batch are put behind a log, and synced.
+pub record PutsBatch (old mid new : Facts) (log : ℕ) (name : List ℕ) (end used : ℕ) (operations : List Operation) : Type 0 where
+  pub bytes : List ℕ
+  pub puts : PutsSynced mid new name bytes
+  pub adds : (order : Order) → AddsBatch order old.files log name end used operations bytes

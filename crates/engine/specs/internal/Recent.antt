@@ -1,14 +1,15 @@
 -- Which of the accepted batches the logs have that this open began, and what the map was behind each of them: what a loss of power may take.
-use Rattle.std.specs.Prelude.{◌≡◌, ◌≤◌, ◌<◌, ◌+◌, ℕ, List, [], ◌∷◌, ◌++◌, length, take, drop, sum_by}
+use Rattle.std.specs.Prelude.{◌≡◌, ◌⊎◌, Some, ◌≤◌, ◌<◌, ◌+◌, ℕ, List, [], ◌∷◌, ◌++◌, length, take, drop, sum_by}
 use Rattle.std.specs.List.{AllByRecursion}
 use Rattle.batch.specs.declared.operation.Operation.{Operation}
 use Rattle.edits.specs.Names.{name_of}
 use Rattle.edits.specs.declared.names.FileName.TheVariants.{Log}
 use Rattle.ikey.specs.declared.entry.Entry.{Entry}
 use Rattle.ikey.specs.Views.{AllUpTo, Contents, IsView}
+use Rattle.logfile.specs.declared.record.Tail.{Tail}
 use Rattle.machine.specs.Machine.{Machine, after_batches}
 use Rattle.opening.specs.Losses.{IsKept}
-use Rattle.recover.specs.Logs.{Batch, LogContent, logged}
+use Rattle.recover.specs.Logs.{Batch, IsBatchLog, LogContent, logged}
 use Rattle.recover.specs.Tables.{TableContent, tabled}
 use Rattle.store.specs.Files.{Facts}
 
@@ -40,8 +41,20 @@ pub record AreParts (facts : Facts) (least : ℕ) (logs : List LogContent) : Typ
   pub empty : AreEmptyBehind doubted
   pub some : 0 < length doubted
 
+-- Of these logs the first so many batches at least are synced.
+abbrev pub HaveSynced : Facts → List LogContent → ℕ → Type 0
+HaveSynced facts [] count = count ≡ 0
+HaveSynced facts (log ∷ logs) count =
+    (count ≡ 0) ⊎ ((bytes : List ℕ) × (synced : List Batch) × (tail : Tail) × (facts.synced (name_of (Log log.number)) ≡ Some bytes) × IsBatchLog bytes synced tail × (count ≤ length synced) × (count ≤ length log.batches))
+
+-- So many of the accepted batches are left whatever a loss of power takes: those in front of these logs, those in logs that are synced whole, and those that are synced of the others.
+pub record AreSure (facts : Facts) (from : ℕ) (kept doubted : List LogContent) (count : ℕ) : Type 0 where
+  pub others : ℕ
+  pub synced : HaveSynced facts doubted others
+  pub within : count ≤ from + (length (batches_in kept) + others)
+
 -- What was accepted last is in the logs that were begun; and behind each of these batches, and in front of the first, the entries show what the map was.
-pub record AreRecentOf (facts : Facts) (least : ℕ) (tables : List TableContent) (entries : List Entry) (logs : List LogContent) (base : Contents) (batches : List (List Operation)) (used : ℕ) : Type 0 where
+pub record AreRecentOf (facts : Facts) (least : ℕ) (tables : List TableContent) (entries : List Entry) (logs : List LogContent) (base : Contents) (batches : List (List Operation)) (synced used : ℕ) : Type 0 where
   pub parts : AreParts facts least logs
   -- the first of them, and how many operations were accepted in front of it
   pub from : ℕ
@@ -51,7 +64,9 @@ pub record AreRecentOf (facts : Facts) (least : ℕ) (tables : List TableContent
   pub recent : AreLogged start (batches_in (parts.kept ++ parts.doubted)) (drop from batches)
   pub below : AllUpTo start (tabled tables ++ logged parts.found)
   pub past : (k : ℕ) → k ≤ length (drop from batches) → IsView entries (start + sum_by length (take k (drop from batches))) (after_batches base (take (from + k) batches))
+  -- those that a write had the device keep, with all in front of it
+  pub sure : AreSure facts from parts.kept parts.doubted synced
 
 -- of a machine: what else it has makes no difference
 abbrev pub AreRecent : Facts → ℕ → List TableContent → List Entry → List LogContent → Machine → Type 0
-AreRecent facts least tables entries logs m = AreRecentOf facts least tables entries logs m.base m.batches m.used
+AreRecent facts least tables entries logs m = AreRecentOf facts least tables entries logs m.base m.batches m.synced m.used

@@ -1,5 +1,5 @@
 -- Which states of the machine an open database may be in, and which a directory at rest.
-use Rattle.std.specs.Prelude.{ℕ, List, ◌++◌, ◌≡◌, ◌≤◌, false, None, map, ◌<◌, ◌^◌, true, MatchBool, MatchOption, [], string_bytes}
+use Rattle.std.specs.Prelude.{ℕ, List, ◌++◌, ◌≡◌, ◌≤◌, false, None, map, length, ◌<◌, ◌^◌, true, MatchBool, MatchOption, [], string_bytes}
 use Rattle.store.specs.Files.{Facts, Files}
 use Rattle.ikey.specs.Orders.{Order}
 use Rattle.engine.specs.declared.ids.Ids.{Ids}
@@ -85,6 +85,8 @@ pub record IsBroken (order : Order) (files : Files) (m : Machine) : Type 0 where
 pub record StandsOpen {K : Type 0} {g : _} (order : Order) (source : Seen) (given : Ids) (db : OpenDb K g) (m : Machine) : Type 0 where
   pub counts : HasCounts source.facts m
   pub ids : HasIds given m
+  -- what is synced was accepted
+  pub reached : m.synced ≤ length m.batches
   pub opened : m.opened ≡ true
   pub rest : MatchBool db.broken (IsBroken order source.facts.files m) (IsServing order source db m)
 
@@ -100,6 +102,8 @@ HasNoViews m = (m.snapshots ≡ []) × (m.iterators ≡ [])
 pub record StandsClosed (order : Order) (facts : Facts) (given : Ids) (m : Machine) : Type 0 where
   pub counts : HasCounts facts m
   pub ids : HasIds given m
+  -- what is synced was accepted
+  pub reached : m.synced ≤ length m.batches
   pub opened : m.opened ≡ false
   pub broken : m.broken ≡ false
   pub views : HasNoViews m

@@ -1,8 +1,9 @@
-use Rattle.std.proofs.Common.{◌∙◌, ℕ, List, ap, map, string_bytes}
+use Rattle.std.proofs.Common.{◌∙◌, ℕ, List, ap, map, subst, string_bytes}
 use Rattle.std.specs.FinMap.{get}
 use Rattle.store.proofs.Carrying.{carries_both}
 use Rattle.store.specs.Files.{Files}
-use Rattle.engine.proofs.FrontSyncing.{beside_front, fails_both, left_behind, memory_keeps, stood_behind, syncs_behind}
+use Rattle.engine.proofs.FrontSyncing.{beside_front, fails_both, left_behind, memory_keeps, puts_behind, stood_behind, syncs_behind, unput_behind}
+use Rattle.engine.specs.internal.Logs.{SyncsEach}
 use Rattle.engine.proofs.log.append_behind.Goals as goal
 
 pub returns-in-Ok-clause-syncs : goal.returns-in-Ok-clause-syncs
@@ -25,7 +26,7 @@ returns-in-Ok-clause-keeps g c =
     c.in-Ok.ensures.syncs.these c.append_record.ensures.appends c.append_record.ensures.syncs
 
 pub returns-in-Err-clause-keeps : goal.returns-in-Err-clause-keeps
-returns-in-Err-clause-keeps g c = λ f memory q was. c.in-Err.ensures.syncs.these.keeps f q was
+returns-in-Err-clause-keeps g c = λ f memory q. c.in-Err.ensures.syncs.these.keeps f q
 
 pub returns-in-Ok-clause-carries : goal.returns-in-Ok-clause-carries
 returns-in-Ok-clause-carries g c = λ f.
@@ -52,3 +53,15 @@ returns-in-Err-clause-fails g c = c.in-Err.ensures.syncs.these.writes
 
 pub returns-in-Err-clause-carries : goal.returns-in-Err-clause-carries
 returns-in-Err-clause-carries g c = c.in-Err.ensures.carries
+
+pub returns-in-Ok-clause-puts : goal.returns-in-Ok-clause-puts
+returns-in-Ok-clause-puts g c f =
+    let old = g.S.Store.facts c.args.store.now in
+    let mid = g.S.Store.facts c.sync_front.new.store in
+    let each = c.in-Ok.ensures.each (c.append_record.ensures.appends.faithful f) in
+    puts_behind (map string_bytes c.args.front.now) old mid (g.S.Store.facts c.append_record.new.store) c.args.name.now c.args.bytes.now (subst (λ (names : List (List ℕ)). SyncsEach names old mid) each.2 each.1) (c.append_record.ensures.puts f)
+
+pub returns-in-Err-clause-puts : goal.returns-in-Err-clause-puts
+returns-in-Err-clause-puts g c f =
+    let each = c.in-Err.ensures.each f in
+    unput_behind (map string_bytes c.args.front.now) each.0 (g.S.Store.facts c.args.store.now) (g.S.Store.facts c.sync_front.new.store) _ each.1

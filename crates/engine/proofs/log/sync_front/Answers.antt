@@ -1,7 +1,7 @@
 use Rattle.std.proofs.Common.{ℕ, List, map, take, drop, sym, ap, subst, ◌∙◌, string_bytes}
 use Rattle.std.proofs.lemmas.List.{take_all, take-append-drop, map-append}
 use Rattle.directory_writes.proofs.Cleaning.{names_more}
-use Rattle.engine.proofs.FrontSyncing.{SyncsSoFar, so_far_none, so_far_more, so_far_carried, so_far_failed, so_far_left, all_so_far}
+use Rattle.engine.proofs.FrontSyncing.{SyncsSoFar, so_far_none, so_far_more, so_far_carried, so_far_each, so_far_failed, so_far_left, all_so_far}
 use Rattle.engine.proofs.log.sync_front.Goals as goal
 
 pub loop-name-init : goal.loop-name-init
@@ -49,3 +49,15 @@ pub returns-then-is_err-clause-carries : goal.returns-then-is_err-clause-carries
 returns-then-is_err-clause-carries g c = λ f.
     so_far_carried (map string_bytes (take c.loop-name.name-index c.args.names.now)) c.as_str.result.now (g.S.Store.facts c.args.store.now) (g.S.Store.facts c.loop-name.store) (g.S.Store.facts c.sync.new.self) c.sync.result f
     c.sync.ensures.counts c.sync.ensures.same c.sync.ensures.unsynced c.sync.ensures.calls c.loop-name.invariant
+
+pub returns-clause-each : goal.returns-clause-each
+returns-clause-each g c f = (map string_bytes (take c.loop-name.name-index c.args.names.now), c.loop-name.invariant.each f, ap (map string_bytes) (take_all c.loop-name.name-index c.args.names.now c.loop-name-test.false))
+
+pub returns-then-is_err-clause-each : goal.returns-then-is_err-clause-each
+returns-then-is_err-clause-each g c f =
+    let names = map string_bytes (take c.loop-name.name-index c.args.names.now) in (
+      names,
+      so_far_each names c.as_str.result.now (g.S.Store.facts c.args.store.now) (g.S.Store.facts c.loop-name.store) (g.S.Store.facts c.sync.new.self) c.sync.result f (sym c.is_err.ensures.value ∙ c.if-is_err.true)
+          c.sync.ensures.counts c.sync.ensures.same c.sync.ensures.unsynced c.sync.ensures.calls c.loop-name.invariant,
+      tt,
+    )

@@ -14,7 +14,9 @@ use Rattle.engine.specs.internal.Resting.{Rests, StandsResult}
 use Rattle.directory_writes.specs.Differing.{OfEach}
 use Rattle.engine.proofs.OpenMachine.{means_whole, open_refused}
 use Rattle.engine.proofs.Opened.{durable_cleaned, opened_cleaned, spared_cleaned}
+use Rattle.engine.proofs.LosingOpened.{opened_loses}
 use Rattle.engine.proofs.StopSteps.{opened_keeps}
+use Rattle.engine.proofs.LosingClosed.{lasting_opened}
 use Rattle.engine.proofs.open.open_and_clean.Goals as goal
 
 pub returns-in_err-state-clause-step : goal.returns-in_err-state-clause-step
@@ -146,3 +148,62 @@ returns-then-lacks_memory-clause-stops g c =
     let o = c.in_ok-state.ensures in
     opened_keeps (order_of g.K.KeyOrder.name g.K.KeyOrder.cmp) (facts c.args.source.now.tables.store) (seen_of facts mid) (seen_of facts c.clean.new.source) (db_of mid.memory c.in_ok-state.state) c.args.mode
     (c.clean.ensures.step no_ids).faithful o.step o.stops c.clean.ensures.stops
+
+-- ---- what a loss of power leaves
+
+pub returns-in_err-state-clause-loses : goal.returns-in_err-state-clause-loses
+returns-in_err-state-clause-loses g c f ids m undamaged r =
+    c.in_err-state.ensures.loses f m (means_whole (order_of g.K.KeyOrder.name g.K.KeyOrder.cmp) (g.S.Store.facts c.args.source.now.tables.store).files m undamaged r.rest)
+
+pub returns-in-Ok-clause-loses : goal.returns-in-Ok-clause-loses
+returns-in-Ok-clause-loses g c =
+    let facts = g.S.Store.facts in
+    let mid = c.open_locked.new.source in
+    let o = c.in_ok-state.ensures in
+    opened_loses (order_of g.K.KeyOrder.name g.K.KeyOrder.cmp) (facts c.args.source.now.tables.store) (seen_of facts mid) (seen_of facts c.clean.new.source) (db_of mid.memory c.in_ok-state.state) c.args.mode
+    (c.clean.ensures.step no_ids).faithful o.step o.loses o.begins o.since o.empty o.whole c.clean.ensures.only
+
+pub returns-else-lacks_memory-clause-loses : goal.returns-else-lacks_memory-clause-loses
+returns-else-lacks_memory-clause-loses g c =
+    let facts = g.S.Store.facts in
+    let mid = c.open_locked.new.source in
+    let o = c.in_ok-state.ensures in
+    opened_loses (order_of g.K.KeyOrder.name g.K.KeyOrder.cmp) (facts c.args.source.now.tables.store) (seen_of facts mid) (seen_of facts c.clean.new.source) (db_of mid.memory c.in_ok-state.state) c.args.mode
+    (c.clean.ensures.step no_ids).faithful o.step o.loses o.begins o.since o.empty o.whole c.clean.ensures.only
+
+pub returns-then-lacks_memory-clause-loses : goal.returns-then-lacks_memory-clause-loses
+returns-then-lacks_memory-clause-loses g c =
+    let facts = g.S.Store.facts in
+    let mid = c.open_locked.new.source in
+    let o = c.in_ok-state.ensures in
+    opened_loses (order_of g.K.KeyOrder.name g.K.KeyOrder.cmp) (facts c.args.source.now.tables.store) (seen_of facts mid) (seen_of facts c.clean.new.source) (db_of mid.memory c.in_ok-state.state) c.args.mode
+    (c.clean.ensures.step no_ids).faithful o.step o.loses o.begins o.since o.empty o.whole c.clean.ensures.only
+
+-- ---- of a store that lasts
+
+pub returns-in_err-state-clause-lasting : goal.returns-in_err-state-clause-lasting
+returns-in_err-state-clause-lasting g c f ids m undamaged r = c.in_err-state.ensures.lasting f
+
+pub returns-in-Ok-clause-lasting : goal.returns-in-Ok-clause-lasting
+returns-in-Ok-clause-lasting g c =
+    let facts = g.S.Store.facts in
+    let mid = c.open_locked.new.source in
+    let o = c.in_ok-state.ensures in
+    lasting_opened (order_of g.K.KeyOrder.name g.K.KeyOrder.cmp) (facts c.args.source.now.tables.store) (seen_of facts mid) (seen_of facts c.clean.new.source) (db_of mid.memory c.in_ok-state.state) c.args.mode
+    (c.clean.ensures.step no_ids).faithful o.step o.lasting o.renewed o.since o.whole c.clean.ensures.only
+
+pub returns-else-lacks_memory-clause-lasting : goal.returns-else-lacks_memory-clause-lasting
+returns-else-lacks_memory-clause-lasting g c =
+    let facts = g.S.Store.facts in
+    let mid = c.open_locked.new.source in
+    let o = c.in_ok-state.ensures in
+    lasting_opened (order_of g.K.KeyOrder.name g.K.KeyOrder.cmp) (facts c.args.source.now.tables.store) (seen_of facts mid) (seen_of facts c.clean.new.source) (db_of mid.memory c.in_ok-state.state) c.args.mode
+    (c.clean.ensures.step no_ids).faithful o.step o.lasting o.renewed o.since o.whole c.clean.ensures.only
+
+pub returns-then-lacks_memory-clause-lasting : goal.returns-then-lacks_memory-clause-lasting
+returns-then-lacks_memory-clause-lasting g c =
+    let facts = g.S.Store.facts in
+    let mid = c.open_locked.new.source in
+    let o = c.in_ok-state.ensures in
+    lasting_opened (order_of g.K.KeyOrder.name g.K.KeyOrder.cmp) (facts c.args.source.now.tables.store) (seen_of facts mid) (seen_of facts c.clean.new.source) (db_of mid.memory c.in_ok-state.state) c.args.mode
+    (c.clean.ensures.step no_ids).faithful o.step o.lasting o.renewed o.since o.whole c.clean.ensures.only

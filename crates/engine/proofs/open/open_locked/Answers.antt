@@ -1,5 +1,5 @@
 use Rattle.ikey.specs.Orders.{order_of}
-use Rattle.std.proofs.Common.{◌≡◌, inl, Result, Err, refl, sym, ap, subst, arith, rules}
+use Rattle.std.proofs.Common.{◌≡◌, ◌⊎◌, inl, Result, Err, refl, sym, ap, subst, arith, rules}
 use Rattle.coding.specs.declared.error.DbError.{DbError}
 use Rattle.coding.specs.declared.error.DbError.TheVariants.{OutOfMemory}
 use Rattle.table_access.specs.Tables.{seen}
@@ -7,20 +7,29 @@ use Rattle.machine.specs.declared.command.Answer.TheVariants.{Refused}
 use Rattle.engine.specs.declared.state.DbState.{DbState}
 use Rattle.machine.specs.Lifetime.{Opens}
 use Rattle.engine.specs.Follows.{Leads, unit_answer}
-use Rattle.engine.specs.internal.Resting.{Rests, StandsResult}
+use Rattle.engine.specs.internal.Resting.{LosesMeaning, Rests, StandsResult}
 use Rattle.engine.specs.internal.Standing.{StandsClosed}
 use Rattle.opening.specs.Telling.{IsOpenable}
 use Rattle.directory_writes.specs.Differing.{OfEach}
+use Rattle.edits.specs.Names.{name_of}
+use Rattle.edits.specs.declared.names.FileName.TheVariants.{Current}
+use Rattle.opening.specs.Durable.{IsDurable, LeavesDurable, LeavesFile}
+use Rattle.opening.specs.Losses.{HaveNamesStayed}
+use Rattle.opening.specs.internal.Begun.{BeginsSynced}
 use Rattle.opening.specs.internal.Durable.{Spares}
 use Rattle.opening.specs.internal.Opening.{IsContinued}
 use Rattle.opening.proofs.BegunSteps.{continued_itself}
 use Rattle.opening.proofs.FoundEach.{unwritten_each}
 use Rattle.engine.proofs.LiveIds.{none_kept}
 use Rattle.engine.proofs.OpenMachine.{open_refused, open_finished, leads_from, sound_empty, nothing_kept}
+use Rattle.engine.proofs.LosingOpened.{continued_loses, unwritten_means}
 use Rattle.engine.proofs.StopSteps.{continued_keeps}
 use Rattle.store.proofs.Stopping.{leaves_same}
 use Rattle.engine.specs.internal.Directory.{MeansAccepted}
 use Rattle.store.specs.Stops.{LeavesOnly}
+use Rattle.engine.proofs.LosingClosed.{lasting_here, renews_lasting}
+use Rattle.engine.specs.internal.Reopening.{LosesLasting}
+use Rattle.opening.specs.internal.Renewing.{RenewsWhole}
 use Rattle.engine.proofs.open.open_locked.Goals as goal
 
 pub returns-in_err-begin-clause-step : goal.returns-in_err-begin-clause-step
@@ -98,8 +107,79 @@ returns-clause-stops g c f m means =
     subst (λ s. MeansAccepted order (g.S.Store.facts s).files m → LeavesOnly (g.S.Store.facts s) new (λ files. MeansAccepted order files m)) c.in_ok-begin.ensures.store
     (λ there. continued_keeps order mid new m there (c.in_ok-begun.ensures.stops f)) means
 
+-- ---- what a loss of power leaves
+
+pub returns-in_err-begin-clause-loses : goal.returns-in_err-begin-clause-loses
+returns-in_err-begin-clause-loses g c f m means stays =
+    let order = order_of g.K.KeyOrder.name g.K.KeyOrder.cmp in
+    let old = g.S.Store.facts c.args.source.now.tables.store in
+    subst (λ s. LosesMeaning order old (g.S.Store.facts s) m) (sym c.in_err-begin.ensures.store) (unwritten_means order old m means stays)
+
+pub returns-in_err-begun-clause-loses : goal.returns-in_err-begun-clause-loses
+returns-in_err-begun-clause-loses g c f m means stays =
+    let order = order_of g.K.KeyOrder.name g.K.KeyOrder.cmp in
+    let mid = g.S.Store.facts c.begin.new.self.store in
+    let new = g.S.Store.facts c.begin-2.new.store in
+    subst (λ s. MeansAccepted order (g.S.Store.facts s).files m → HaveNamesStayed (g.S.Store.facts s) → LosesMeaning order (g.S.Store.facts s) new m) c.in_ok-begin.ensures.store
+    (λ there names. continued_loses order mid new m there (c.in_err-begun.ensures.loses f names)) means stays
+
+pub returns-clause-loses : goal.returns-clause-loses
+returns-clause-loses g c f m means stays =
+    let order = order_of g.K.KeyOrder.name g.K.KeyOrder.cmp in
+    let mid = g.S.Store.facts c.begin.new.self.store in
+    let new = g.S.Store.facts c.begin-2.new.store in
+    subst (λ s. MeansAccepted order (g.S.Store.facts s).files m → HaveNamesStayed (g.S.Store.facts s) → LosesMeaning order (g.S.Store.facts s) new m) c.in_ok-begin.ensures.store
+    (λ there names. continued_loses order mid new m there (c.in_ok-begun.ensures.loses f names)) means stays
+
+pub returns-clause-begins : goal.returns-clause-begins
+returns-clause-begins g c = λ f.
+    subst (λ s. BeginsSynced (g.S.Store.facts s) (g.S.Store.facts c.begin-2.new.store) c.in_ok-begun.begun.log c.in_ok-begun.begun.directory) c.in_ok-begin.ensures.store (c.in_ok-begun.ensures.synced f)
+
+pub returns-clause-since : goal.returns-clause-since
+returns-clause-since g c = c.in_ok-begun.ensures.since
+
+pub returns-clause-empty : goal.returns-clause-empty
+returns-clause-empty g c = c.in_ok-begun.ensures.whole.empty
+
 -- ---- what is spared
 
 pub returns-clause-spared : goal.returns-clause-spared
 returns-clause-spared g c = λ f.
     subst (λ s. Spares (g.S.Store.facts s) (g.S.Store.facts c.begin-2.new.store)) c.in_ok-begin.ensures.store (c.in_ok-begun.ensures.spared f)
+
+-- ---- what is synced
+
+pub returns-in_err-begun-clause-durable : goal.returns-in_err-begun-clause-durable
+returns-in_err-begun-clause-durable g c =
+    let new = g.S.Store.facts c.begin-2.new.store in
+    let e = c.in_err-begun.field-0.0 in
+    let is : c.from_residual-in_err-begun.result ≡ Err e = search rules in
+    subst (λ (r : Result (DbState _ _) DbError). LeavesDurable (g.S.Store.facts c.args.source.now.tables.store) new r) (sym is)
+    (record { ok = λ f. tt; err = λ f. subst (λ s. LeavesFile (g.S.Store.facts s) new (name_of Current) ⊎ IsDurable new) c.in_ok-begin.ensures.store (c.in_err-begun.ensures.durable.err f) })
+
+-- ---- of a store that lasts
+
+pub returns-in_err-begin-clause-lasting : goal.returns-in_err-begin-clause-lasting
+returns-in_err-begin-clause-lasting g c f =
+    let order = order_of g.K.KeyOrder.name g.K.KeyOrder.cmp in
+    let old = g.S.Store.facts c.args.source.now.tables.store in
+    subst (λ s. LosesLasting order old (g.S.Store.facts s)) (sym c.in_err-begin.ensures.store) (lasting_here order old)
+
+pub returns-in_err-begun-clause-lasting : goal.returns-in_err-begun-clause-lasting
+returns-in_err-begun-clause-lasting g c f =
+    let order = order_of g.K.KeyOrder.name g.K.KeyOrder.cmp in
+    let mid = g.S.Store.facts c.begin.new.self.store in
+    let new = g.S.Store.facts c.begin-2.new.store in
+    subst (λ s. LosesLasting order (g.S.Store.facts s) new) c.in_ok-begin.ensures.store (renews_lasting order mid new (c.in_err-begun.ensures.renews f))
+
+pub returns-clause-lasting : goal.returns-clause-lasting
+returns-clause-lasting g c f =
+    let order = order_of g.K.KeyOrder.name g.K.KeyOrder.cmp in
+    let mid = g.S.Store.facts c.begin.new.self.store in
+    let new = g.S.Store.facts c.begin-2.new.store in
+    subst (λ s. LosesLasting order (g.S.Store.facts s) new) c.in_ok-begin.ensures.store (renews_lasting order mid new (c.in_ok-begun.ensures.renews f))
+
+pub returns-clause-renewed : goal.returns-clause-renewed
+returns-clause-renewed g c = λ f.
+    let order = order_of g.K.KeyOrder.name g.K.KeyOrder.cmp in
+    subst (λ s. RenewsWhole order (g.S.Store.facts s) (g.S.Store.facts c.begin-2.new.store) c.in_ok-begun.begun.log c.in_ok-begun.begun.directory) c.in_ok-begin.ensures.store (c.in_ok-begun.ensures.renewed f)

@@ -10,11 +10,14 @@ use Rattle.engine.specs.Follows.{Leads, unit_answer}
 use Rattle.engine.specs.internal.Resting.{StandsResult}
 use Rattle.engine.specs.Touching.{OpensStore}
 use Rattle.engine.proofs.OpenLock.{held, unlocked, lock_refused, locked}
+use Rattle.engine.proofs.LosingOpened.{lock_loses, locked_loses, unlocked_loses}
+use Rattle.engine.proofs.OpenMachine.{means_whole}
 use Rattle.engine.proofs.Telling.{tells_beside}
 use Rattle.engine.proofs.Locking.{unlocked_open, locked_open, given_back}
 use Rattle.engine.proofs.StopSteps.{keeps_behind, lock_keeps}
 use Rattle.store.proofs.Stopping.{leaves_both}
 use Rattle.engine.specs.internal.Directory.{MeansAccepted}
+use Rattle.engine.proofs.LosingClosed.{lasting_behind, lasting_locked, lasting_unlocked}
 use Rattle.engine.proofs.open.open_store.Goals as goal
 
 pub returns-in_err-take_lock-clause-step : goal.returns-in_err-take_lock-clause-step
@@ -106,3 +109,70 @@ returns-in-Err-clause-stops g c f ids m undamaged s =
     keeps_behind order old new (g.S.Store.facts c.unlock.new.self) m (c.unlock.ensures.calls f) (c.unlock.ensures.same f)
     (leaves_both old mid new (λ files. MeansAccepted order files m) (lock_keeps order old mid m c.free_change_law.ensures undamaged s (c.in_ok-take_lock.ensures.stops h))
     (c.in-Err.ensures.stops k ids m undamaged (locked order old mid m c.free_change_law.ensures c.in_ok-take_lock.ensures.lock h s)))
+
+-- ---- what a loss of power leaves
+
+pub returns-in_err-take_lock-clause-loses : goal.returns-in_err-take_lock-clause-loses
+returns-in_err-take_lock-clause-loses g c f ids m undamaged s stays =
+    let order = order_of g.K.KeyOrder.name g.K.KeyOrder.cmp in
+    let old = g.S.Store.facts c.args.source.now.tables.store in
+    let new = g.S.Store.facts c.take_lock.new.store in
+    lock_loses order old new m (c.in_err-take_lock.ensures.lock.synced f) (c.in_err-take_lock.ensures.noted f) stays (means_whole order old.files m undamaged s.rest)
+
+pub returns-in-Ok-clause-loses : goal.returns-in-Ok-clause-loses
+returns-in-Ok-clause-loses g c f ids m undamaged s stays =
+    let order = order_of g.K.KeyOrder.name g.K.KeyOrder.cmp in
+    let old = g.S.Store.facts c.args.source.now.tables.store in
+    let mid = g.S.Store.facts c.take_lock.new.store in
+    let new = g.S.Store.facts c.open_and_clean.new.source.tables.store in
+    let h = (c.in-Ok.ensures.step ids).faithful f in
+    let lock = c.in_ok-take_lock.ensures.lock in
+    let rests = locked order old mid m c.free_change_law.ensures lock h s in
+    locked_loses order old mid m (lock.files h) (lock.synced h) (c.in_ok-take_lock.ensures.noted h) stays (means_whole order old.files m undamaged s.rest)
+    new (λ files. MeansAccepted order files m) (c.in-Ok.ensures.stops f ids m undamaged rests) (c.in-Ok.ensures.loses f ids m undamaged rests)
+
+pub returns-in-Err-clause-loses : goal.returns-in-Err-clause-loses
+returns-in-Err-clause-loses g c f ids m undamaged s stays =
+    let order = order_of g.K.KeyOrder.name g.K.KeyOrder.cmp in
+    let old = g.S.Store.facts c.args.source.now.tables.store in
+    let mid = g.S.Store.facts c.take_lock.new.store in
+    let new = g.S.Store.facts c.open_and_clean.new.source.tables.store in
+    let k = c.unlock.ensures.counts.faithful f in
+    let h = (c.in-Err.ensures.step ids).faithful k in
+    let lock = c.in_ok-take_lock.ensures.lock in
+    let rests = locked order old mid m c.free_change_law.ensures lock h s in
+    unlocked_loses order old mid m (lock.files h) (lock.synced h) (c.in_ok-take_lock.ensures.noted h) stays (means_whole order old.files m undamaged s.rest)
+    new (g.S.Store.facts c.unlock.new.self) (λ files. MeansAccepted order files m) (c.in-Err.ensures.stops k ids m undamaged rests) (c.in-Err.ensures.loses k ids m undamaged rests)
+    (c.unlock.ensures.calls f) (c.unlock.ensures.same f) (c.unlock.ensures.synced f)
+
+-- ---- of a store that lasts
+
+pub returns-in_err-take_lock-clause-lasting : goal.returns-in_err-take_lock-clause-lasting
+returns-in_err-take_lock-clause-lasting g c f ids m undamaged s =
+    lasting_locked (order_of g.K.KeyOrder.name g.K.KeyOrder.cmp) (g.S.Store.facts c.args.source.now.tables.store) (g.S.Store.facts c.take_lock.new.store) (c.in_err-take_lock.ensures.lock.synced f) (c.in_err-take_lock.ensures.noted f)
+
+pub returns-in-Ok-clause-lasting : goal.returns-in-Ok-clause-lasting
+returns-in-Ok-clause-lasting g c f ids m undamaged s =
+    let order = order_of g.K.KeyOrder.name g.K.KeyOrder.cmp in
+    let old = g.S.Store.facts c.args.source.now.tables.store in
+    let mid = g.S.Store.facts c.take_lock.new.store in
+    let new = g.S.Store.facts c.open_and_clean.new.source.tables.store in
+    let h = (c.in-Ok.ensures.step ids).faithful f in
+    let lock = c.in_ok-take_lock.ensures.lock in
+    let rests = locked order old mid m c.free_change_law.ensures lock h s in
+    let goes = c.in-Ok.ensures.stops f ids m undamaged rests in
+    lasting_behind order old mid (lock.synced h) (c.in_ok-take_lock.ensures.noted h) new goes.more goes.calls (c.in-Ok.ensures.lasting f ids m undamaged rests)
+
+pub returns-in-Err-clause-lasting : goal.returns-in-Err-clause-lasting
+returns-in-Err-clause-lasting g c f ids m undamaged s =
+    let order = order_of g.K.KeyOrder.name g.K.KeyOrder.cmp in
+    let old = g.S.Store.facts c.args.source.now.tables.store in
+    let mid = g.S.Store.facts c.take_lock.new.store in
+    let new = g.S.Store.facts c.open_and_clean.new.source.tables.store in
+    let k = c.unlock.ensures.counts.faithful f in
+    let h = (c.in-Err.ensures.step ids).faithful k in
+    let lock = c.in_ok-take_lock.ensures.lock in
+    let rests = locked order old mid m c.free_change_law.ensures lock h s in
+    let goes = c.in-Err.ensures.stops k ids m undamaged rests in
+    lasting_unlocked order old mid (lock.synced h) (c.in_ok-take_lock.ensures.noted h) new (g.S.Store.facts c.unlock.new.self) goes.more goes.calls (c.in-Err.ensures.lasting k ids m undamaged rests)
+    (c.unlock.ensures.calls f) (c.unlock.ensures.same f) (c.unlock.ensures.synced f)

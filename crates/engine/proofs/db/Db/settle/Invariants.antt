@@ -1,14 +1,18 @@
 use Rattle.ikey.specs.Orders.{order_of}
 use Rattle.std.proofs.Common.{◌≡◌}
+use Rattle.engine.specs.Losses.{DbLoses}
 use Rattle.engine.specs.Pace.{OnlyDraws}
 use Rattle.engine.specs.StandsDb.{FollowsDb, KeepsOpening, db_ids_of}
 use Rattle.engine.specs.Stops.{DbStops}
+use Rattle.engine.specs.internal.Stopping.{DbKeepsFound}
 use Rattle.engine.proofs.db.Db.settle.Given as goal
 
 abbrev pub invariant-loop : goal.invariant-loop
 invariant-loop g l = record {
   steps : FollowsDb (order_of g.K.KeyOrder.name g.K.KeyOrder.cmp) g.S.Store.facts l.initial.self l.self OnlyDraws;
   stops : DbStops (order_of g.K.KeyOrder.name g.K.KeyOrder.cmp) g.S.Store.facts l.initial.self l.self;
+  loses : DbLoses (order_of g.K.KeyOrder.name g.K.KeyOrder.cmp) g.S.Store.facts l.initial.self l.self;
+  found : DbKeepsFound (order_of g.K.KeyOrder.name g.K.KeyOrder.cmp) g.S.Store.facts l.initial.self l.self;
   ids : db_ids_of l.self ≡ db_ids_of l.initial.self;
   opening : KeepsOpening l.initial.self l.self;
 }

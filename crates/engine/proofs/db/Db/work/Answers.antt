@@ -10,4 +10,10 @@ returns-clause-breaks g c whole = c.work.ensures.breaks whole
 
 pub returns-clause-stops : goal.returns-clause-stops
 returns-clause-stops g c f m undamaged s =
-    stops_keeping (order_of g.K.KeyOrder.name g.K.KeyOrder.cmp) m (g.S.Store.facts c.args.self.now.source.tables.store) (g.S.Store.facts c.work.new.source.tables.store) (c.work.ensures.stops f c.args.self.now.ids m (record { stands = s; undamaged = undamaged }))
+    stops_keeping (order_of g.K.KeyOrder.name g.K.KeyOrder.cmp) m (g.S.Store.facts c.args.self.now.source.tables.store) (g.S.Store.facts c.work.new.source.tables.store) (c.work.ensures.stops.stops f c.args.self.now.ids m (record { stands = s; undamaged = undamaged }))
+
+pub returns-clause-loses : goal.returns-clause-loses
+returns-clause-loses g c f m undamaged s whole = c.work.ensures.stops.loses f c.args.self.now.ids m (record { stands = s; undamaged = undamaged }) whole
+
+pub returns-clause-found : goal.returns-clause-found
+returns-clause-found g c f m undamaged s whole = c.work.ensures.stops.found f c.args.self.now.ids m (record { stands = s; undamaged = undamaged }) whole

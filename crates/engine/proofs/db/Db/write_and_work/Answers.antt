@@ -5,6 +5,7 @@ use Rattle.engine.specs.Pace.{WritesAtPace}
 use Rattle.engine.specs.StandsDb.{FollowsDb}
 use Rattle.engine.specs.declared.pace.Pace.{Pace}
 use Rattle.engine.proofs.Flags.{writes_flag}
+use Rattle.engine.proofs.LosingDb.{db_loses_written}
 use Rattle.engine.proofs.PaceSteps.{draws_none}
 use Rattle.machine.specs.declared.command.Answer.TheVariants.{Done}
 use Rattle.engine.proofs.RangeLeads.{leads_as, leads_then}
@@ -19,7 +20,7 @@ pub returns-in_err-write-clause-step : goal.returns-in_err-write-clause-step
 returns-in_err-write-clause-step g c =
     let order = order_of g.K.KeyOrder.name g.K.KeyOrder.cmp in
     let is : c.from_residual.result ≡ Err c.in_err-write.field-0.0 = search rules in
-    subst (λ (result : Result Pace DbError). FollowsDb order g.S.Store.facts c.args.self.now c.write.new.self (λ m n. WritesAtPace m c.args.batch.now result n)) (sym is)
+    subst (λ (result : Result Pace DbError). FollowsDb order g.S.Store.facts c.args.self.now c.write.new.self (λ m n. WritesAtPace m c.args.batch.now c.args.sync result n)) (sym is)
     (leads_as (λ m n h. h) c.in_err-write.ensures.step)
 
 pub returns-then-has_kept_up-clause-step : goal.returns-then-has_kept_up-clause-step
@@ -39,4 +40,9 @@ returns-clause-stops g c f m undamaged s =
     let one = c.in_ok-write.ensures.step.moved between m s in
     leaves_both (facts (db_store_of old)) (facts (db_store_of mid)) (facts (db_store_of new)) (λ files. LeftByWrite order m c.args.batch.now files) (c.write.ensures.stops between m undamaged s)
     (leaves_so (facts (db_store_of mid)) (facts (db_store_of new)) (λ files. HoldsAccepted order files one.0) (λ files. LeftByWrite order m c.args.batch.now files)
-    (λ files holds. written_back order (seen_by facts old) (db_ids_of old) (open_by old) m one.0 c.args.batch.now s one.1 files holds) (c.keep_up.ensures.stops f one.0 (writes_flag m one.0 c.args.batch.now Done one.1 ∙ undamaged) one.2))
+    (λ files holds. written_back order (seen_by facts old) (db_ids_of old) (open_by old) m one.0 c.args.batch.now c.args.sync s one.1 files holds) (c.keep_up.ensures.stops f one.0 (writes_flag m one.0 c.args.batch.now c.args.sync Done one.1 ∙ undamaged) one.2))
+
+pub returns-clause-loses : goal.returns-clause-loses
+returns-clause-loses g c =
+    db_loses_written (order_of g.K.KeyOrder.name g.K.KeyOrder.cmp) g.S.Store.facts c.args.self.now c.write.new.self c.keep_up.new.self c.keep_up.ensures.step.faithful c.write.ensures.found c.args.batch.now c.args.sync c.in_ok-write.ensures.step
+    c.keep_up.ensures.stops c.write.ensures.loses c.keep_up.ensures.loses

@@ -17,6 +17,7 @@ use Rattle.engine.proofs.Emptied.{level_closed}
 use Rattle.engine.proofs.Steps.{stays}
 use Rattle.engine.proofs.WriteSteps.{lifts}
 use Rattle.engine.proofs.Breaking.{breaks_as, breaks_none, breaks_open, is_done, told_io}
+use Rattle.engine.proofs.LosingDb.{loses_lent, loses_standing}
 use Rattle.engine.proofs.StopSteps.{stops_lent, stops_standing}
 use Rattle.engine.proofs.session.Session.compact_level.Goals as goal
 
@@ -108,3 +109,19 @@ pub returns-in-Err-clause-stops : goal.returns-in-Err-clause-stops
 returns-in-Err-clause-stops g c =
     let memory = c.args.self.now.source.memory in
     stops_lent (order_of g.K.KeyOrder.name g.K.KeyOrder.cmp) (seen_of g.S.Store.facts c.args.self.now.source) (seen_of g.S.Store.facts c.compact_level.new.source) c.args.self.now.ids (open_in c.args.self.now) (open_db memory c.in-Some.state) (ap (option_map (open_db memory)) c.in-Some.is) c.compact_level.ensures.stops
+
+-- ---- what a loss of power leaves
+
+pub returns-in-None-clause-loses : goal.returns-in-None-clause-loses
+returns-in-None-clause-loses g c =
+    loses_standing (order_of g.K.KeyOrder.name g.K.KeyOrder.cmp) (seen_of g.S.Store.facts c.args.self.now.source) c.args.self.now.ids (open_in c.args.self.now) (g.S.Store.facts c.args.self.now.source.tables.store) (λ t. refl) (λ t. refl) (λ t. refl)
+
+pub returns-in-Ok-clause-loses : goal.returns-in-Ok-clause-loses
+returns-in-Ok-clause-loses g c =
+    let memory = c.args.self.now.source.memory in
+    loses_lent (order_of g.K.KeyOrder.name g.K.KeyOrder.cmp) (seen_of g.S.Store.facts c.args.self.now.source) (seen_of g.S.Store.facts c.compact_level.new.source) c.args.self.now.ids (open_in c.args.self.now) (open_db memory c.in-Some.state) (ap (option_map (open_db memory)) c.in-Some.is) c.compact_level.ensures.stops
+
+pub returns-in-Err-clause-loses : goal.returns-in-Err-clause-loses
+returns-in-Err-clause-loses g c =
+    let memory = c.args.self.now.source.memory in
+    loses_lent (order_of g.K.KeyOrder.name g.K.KeyOrder.cmp) (seen_of g.S.Store.facts c.args.self.now.source) (seen_of g.S.Store.facts c.compact_level.new.source) c.args.self.now.ids (open_in c.args.self.now) (open_db memory c.in-Some.state) (ap (option_map (open_db memory)) c.in-Some.is) c.compact_level.ensures.stops

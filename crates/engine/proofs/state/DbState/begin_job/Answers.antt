@@ -106,3 +106,12 @@ returns-in_err-job-clause-calls g c f = c.in_err-job.ensures.leaves.carries.read
 
 pub returns-clause-calls : goal.returns-clause-calls
 returns-clause-calls g c f = c.in_ok-job.ensures.leaves.carries.reads.calls f
+
+pub returns-in_err-snapshots-clause-synced : goal.returns-in_err-snapshots-clause-synced
+returns-in_err-snapshots-clause-synced g c f = refl
+
+pub returns-in_err-job-clause-synced : goal.returns-in_err-job-clause-synced
+returns-in_err-job-clause-synced g c f = c.in_err-job.ensures.leaves.carries.reads.synced f
+
+pub returns-clause-synced : goal.returns-clause-synced
+returns-clause-synced g c f = c.in_ok-job.ensures.leaves.carries.reads.synced f

@@ -142,16 +142,16 @@ pub returns-in_default-clause-stops : goal.returns-in_default-clause-stops
 returns-in_default-clause-stops g c = keeps_none (order_of g.K.KeyOrder.name g.K.KeyOrder.cmp) (seen_of g.S.Store.facts c.args.source.now) (open_db c.args.source.now.memory c.args.self.now)
 
 pub returns-in_err-begin_job-clause-stops : goal.returns-in_err-begin_job-clause-stops
-returns-in_err-begin_job-clause-stops g c = keeps_read (order_of g.K.KeyOrder.name g.K.KeyOrder.cmp) (seen_of g.S.Store.facts c.args.source.now) (seen_of g.S.Store.facts c.begin_job.new.source) (open_db c.args.source.now.memory c.args.self.now) c.in_err-begin_job.ensures.calls c.in_err-begin_job.ensures.files
+returns-in_err-begin_job-clause-stops g c = keeps_read (order_of g.K.KeyOrder.name g.K.KeyOrder.cmp) (seen_of g.S.Store.facts c.args.source.now) (seen_of g.S.Store.facts c.begin_job.new.source) (open_db c.args.source.now.memory c.args.self.now) c.in_err-begin_job.ensures.calls c.in_err-begin_job.ensures.files c.in_err-begin_job.ensures.synced
 
 pub returns-in_err-step_job-clause-stops : goal.returns-in_err-step_job-clause-stops
 returns-in_err-step_job-clause-stops g c =
     keeps_then (order_of g.K.KeyOrder.name g.K.KeyOrder.cmp) (seen_of g.S.Store.facts c.args.source.now) (seen_of g.S.Store.facts c.begin_job.new.source) (seen_of g.S.Store.facts c.step_job.new.source) (open_db c.args.source.now.memory c.args.self.now) (open_db c.begin_job.new.source.memory c.begin_job.new.self) (λ m. 0) (tt {0})
     c.in_ok-begin_job.ensures.step (c.in_err-step_job.ensures.step no_ids).faithful
-    (keeps_read (order_of g.K.KeyOrder.name g.K.KeyOrder.cmp) (seen_of g.S.Store.facts c.args.source.now) (seen_of g.S.Store.facts c.begin_job.new.source) (open_db c.args.source.now.memory c.args.self.now) c.in_ok-begin_job.ensures.calls c.in_ok-begin_job.ensures.files) c.in_err-step_job.ensures.stops
+    (keeps_read (order_of g.K.KeyOrder.name g.K.KeyOrder.cmp) (seen_of g.S.Store.facts c.args.source.now) (seen_of g.S.Store.facts c.begin_job.new.source) (open_db c.args.source.now.memory c.args.self.now) c.in_ok-begin_job.ensures.calls c.in_ok-begin_job.ensures.files c.in_ok-begin_job.ensures.synced) c.in_err-step_job.ensures.stops
 
 pub returns-clause-stops : goal.returns-clause-stops
 returns-clause-stops g c =
     keeps_then (order_of g.K.KeyOrder.name g.K.KeyOrder.cmp) (seen_of g.S.Store.facts c.args.source.now) (seen_of g.S.Store.facts c.begin_job.new.source) (seen_of g.S.Store.facts c.step_job.new.source) (open_db c.args.source.now.memory c.args.self.now) (open_db c.begin_job.new.source.memory c.begin_job.new.self) (λ m. 0) (tt {0})
     c.in_ok-begin_job.ensures.step (c.in_ok-step_job.ensures.step no_ids).faithful
-    (keeps_read (order_of g.K.KeyOrder.name g.K.KeyOrder.cmp) (seen_of g.S.Store.facts c.args.source.now) (seen_of g.S.Store.facts c.begin_job.new.source) (open_db c.args.source.now.memory c.args.self.now) c.in_ok-begin_job.ensures.calls c.in_ok-begin_job.ensures.files) c.in_ok-step_job.ensures.stops
+    (keeps_read (order_of g.K.KeyOrder.name g.K.KeyOrder.cmp) (seen_of g.S.Store.facts c.args.source.now) (seen_of g.S.Store.facts c.begin_job.new.source) (open_db c.args.source.now.memory c.args.self.now) c.in_ok-begin_job.ensures.calls c.in_ok-begin_job.ensures.files c.in_ok-begin_job.ensures.synced) c.in_ok-step_job.ensures.stops

@@ -54,7 +54,7 @@ returns-in-Ok-clause-step g c ids =
     flushed_synced source.facts facts state.log (record state.log { front = c.take_flushed.new.self.log.front }) state.directory numbers flushed.manifest_end state.version.value.tables flushed.version.value.tables version.2.table
     refl refl c.take_flushed.ensures.front version.1 drawn.0 drawn.1 version.2.number_is version.2.lists
     (λ q table manifest. (ensures.call.others f q table manifest, ensures.call.synced f q table manifest)) (ensures.syncs.table f) (ensures.syncs.manifest f)
-    (no_old_table order source.facts.files state.directory.numbers.next ((free_each order source.facts.files serving.ideal state.directory.numbers.next serving.origin.differs).1 serving.log.knows.free) drawn.0 drawn.1) (ensures.carries f) (ensures.ends f) serving.synced))
+    (no_old_table order source.facts.files state.directory.numbers.next ((free_each order source.facts.files serving.ideal state.directory.numbers.next serving.origin.differs).1 serving.log.knows.free) drawn.0 drawn.1) (ensures.carries f) (ensures.ends f) serving.synced) ensures.carries)
 
 pub returns-then-is_empty-clause-puts : goal.returns-then-is_empty-clause-puts
 returns-then-is_empty-clause-puts g c f ids m s =
@@ -163,7 +163,7 @@ returns-in-Ok-clause-stops g c =
     let entries = c.in-Some.table.now.inserts in
     let plan : FlushPlan = record { log_number = state.log.number; previous_log_number = state.directory.previous_log; last_sequence = c.last-last_sequence.result; block_bytes = c.block_bytes.result } in
     flush_keeps order (λ scan. scan_kept order.cmp scan) c.one_directory.ensures c.sound_lasts.ensures c.same_view.ensures c.changes_are_kept.ensures.flushed source facts no_ids state memory numbers plan entries
-    c.requires.whole ensures.call ensures.drawn refl refl c.last-last_sequence.ensures.is (ap inserts_of c.in-Some.ensures) c.deref.result.now.tables (ap (λ (p : Placement). p.tables) c.deref.ensures) ensures.stops
+    c.requires.whole ensures.call ensures.drawn refl refl c.last-last_sequence.ensures.is (ap inserts_of c.in-Some.ensures) c.deref.result.now.tables (ap (λ (p : Placement). p.tables) c.deref.ensures) ensures.stops ensures.puts
 
 pub returns-in-Err-clause-stops : goal.returns-in-Err-clause-stops
 returns-in-Err-clause-stops g c =
@@ -177,4 +177,4 @@ returns-in-Err-clause-stops g c =
     let entries = c.in-Some.table.now.inserts in
     let plan : FlushPlan = record { log_number = state.log.number; previous_log_number = state.directory.previous_log; last_sequence = c.last-last_sequence.result; block_bytes = c.block_bytes.result } in
     flush_keeps order (λ scan. scan_kept order.cmp scan) c.one_directory.ensures c.sound_lasts.ensures c.same_view.ensures c.changes_are_kept.ensures.flushed source facts no_ids state memory numbers plan entries
-    c.requires.whole ensures.call ensures.drawn refl refl c.last-last_sequence.ensures.is (ap inserts_of c.in-Some.ensures) c.deref.result.now.tables (ap (λ (p : Placement). p.tables) c.deref.ensures) ensures.stops
+    c.requires.whole ensures.call ensures.drawn refl refl c.last-last_sequence.ensures.is (ap inserts_of c.in-Some.ensures) c.deref.result.now.tables (ap (λ (p : Placement). p.tables) c.deref.ensures) ensures.stops ensures.puts

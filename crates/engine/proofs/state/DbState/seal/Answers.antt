@@ -1,4 +1,4 @@
-use Rattle.std.proofs.Common.{◌≡◌, Result, Err, sym, subst, rules, refl}
+use Rattle.std.proofs.Common.{◌≡◌, Result, Err, inl, inr, sym, subst, rules, refl}
 use Rattle.coding.specs.declared.error.DbError.{DbError}
 use Rattle.coding.specs.declared.error.DbError.TheVariants.{OutOfMemory}
 use Rattle.ikey.specs.Orders.{order_of}
@@ -85,9 +85,11 @@ returns-in_err-seal-clause-stops g c = keeps_none (order_of g.K.KeyOrder.name g.
 pub returns-in-Ok-clause-stops : goal.returns-in-Ok-clause-stops
 returns-in-Ok-clause-stops g c =
     let source = (seen_of g.S.Store.facts c.args.source.now) in
-    keeps_logged (order_of g.K.KeyOrder.name g.K.KeyOrder.cmp) source (record source { facts = g.S.Store.facts c.begin_log.new.store }) (open_db c.args.source.now.memory c.args.self.now) c.requires.whole c.same_view.ensures (λ f. c.in-Ok.ensures.stops f (order_of g.K.KeyOrder.name g.K.KeyOrder.cmp))
+    keeps_logged (order_of g.K.KeyOrder.name g.K.KeyOrder.cmp) source (record source { facts = g.S.Store.facts c.begin_log.new.store }) (open_db c.args.source.now.memory c.args.self.now) c.requires.whole c.same_view.ensures c.begin_log.new.numbers (λ f. c.in-Ok.ensures.stops f (order_of g.K.KeyOrder.name g.K.KeyOrder.cmp))
+    (inr (c.in-Ok.ensures.drawn.2, c.in-Ok.ensures.drawn.3)) c.in-Ok.ensures.noted c.in-Ok.ensures.synced c.in-Ok.ensures.carries
 
 pub returns-in-Err-clause-stops : goal.returns-in-Err-clause-stops
 returns-in-Err-clause-stops g c =
     let source = (seen_of g.S.Store.facts c.args.source.now) in
-    keeps_logged (order_of g.K.KeyOrder.name g.K.KeyOrder.cmp) source (record source { facts = g.S.Store.facts c.begin_log.new.store }) (open_db c.args.source.now.memory c.args.self.now) c.requires.whole c.same_view.ensures (λ f. c.in-Err.ensures.stops f (order_of g.K.KeyOrder.name g.K.KeyOrder.cmp))
+    keeps_logged (order_of g.K.KeyOrder.name g.K.KeyOrder.cmp) source (record source { facts = g.S.Store.facts c.begin_log.new.store }) (open_db c.args.source.now.memory c.args.self.now) c.requires.whole c.same_view.ensures c.begin_log.new.numbers (λ f. c.in-Err.ensures.stops f (order_of g.K.KeyOrder.name g.K.KeyOrder.cmp))
+    (elim c.in-Err.ensures.drawn [ inl none ↦ inl none.1 | inr more ↦ inr more ]) c.in-Err.ensures.noted c.in-Err.ensures.synced c.in-Err.ensures.carries

@@ -2,7 +2,7 @@ use Rattle.std.proofs.Common.{◌≡◌, ◌≤◌, ◌+◌, ◌∷◌, ℕ, Boo
 use Rattle.coding.specs.declared.error.DbError.{DbError}
 use Rattle.ikey.specs.Orders.{order_of}
 use Rattle.running_job.specs.declared.open_job.OpenJob.{OpenJob}
-use Rattle.running_job.specs.internal.Ending.{EndLeavesOver, EndMayLeave, EndPutsOwn}
+use Rattle.running_job.specs.internal.Ending.{EndLeavesOver, EndMayLeave, EndMayPutOwn, EndPutsOwn}
 use Rattle.directory_writes.specs.Differing.{OfEach}
 use Rattle.db_cursor.proofs.ScanSteps.{scan_kept}
 use Rattle.std.specs.Map.{values_of}
@@ -10,6 +10,8 @@ use Rattle.edits.specs.declared.field.PlacedTable.{PlacedTable}
 use Rattle.compact.specs.Outputs.{IsNumberAtHand, IsTableName}
 use Rattle.directory_writes.specs.declared.install.Installed.{Installed}
 use Rattle.directory_writes.specs.internal.Flush.{SparesManifest}
+use Rattle.directory_writes.specs.internal.Install.{AreOutputsKept}
+use Rattle.directory_writes.specs.internal.Putting.{WritesThenPuts}
 use Rattle.directory_writes.specs.Replacing.{ReplacesInputs}
 use Rattle.versions.specs.Levels.{Placement}
 use Rattle.versions.specs.declared.plan.JobPlan.{JobPlan}
@@ -445,11 +447,13 @@ returns-in-Ok-install-clause-stops g c =
     let r = (Ok c.in-Ok-install.installed) in
     let leaves = subst (λ (w : OpenJob g.row.K.Denot g.K.KeyOrder). OfEach (λ ideal final. EndLeavesOver order new.facts facts ideal final numbers.next c.last-last_sequence.result state.directory.manifest c.deref.result.now.tables w r) new.facts.files facts.files) taken_out c.in-Ok-install.ensures.leaves_each in
     let stops = λ (f : IsTrue facts.faithful). subst (λ (w : OpenJob g.row.K.Denot g.K.KeyOrder). LeavesOnly new.facts facts (EndMayLeave order new.facts numbers.next c.last-last_sequence.result state.directory.manifest c.deref.result.now.tables w)) taken_out (c.in-Ok-install.ensures.stops f) in
+    let owns = λ (f : IsTrue facts.faithful). subst (λ (w : OpenJob g.row.K.Denot g.K.KeyOrder). LeavesOnly new.facts facts (EndMayPutOwn order new.facts numbers.next c.last-last_sequence.result state.directory.manifest c.deref.result.now.tables w)) taken_out (c.in-Ok-install.ensures.stops_own f) in
+    let puts = λ (f : IsTrue facts.faithful). subst (λ (w : OpenJob g.row.K.Denot g.K.KeyOrder). WritesThenPuts new.facts facts (IsTableName (IsNumberAtHand w.job.outputs)) (string_bytes state.directory.manifest.name) (AreOutputsKept order.cmp w.job new.facts numbers.next)) taken_out (c.in-Ok-install.ensures.puts f) in
     let is : state.job ≡ Some c.in-Some.running = search rules in
     let ended : c.in-Ok.progress.ended ≡ true = search rules in
     end_keeps order g.met.K.KeyOrder.total (λ scan. scan_kept order.cmp scan) c.one_directory.ensures c.sound_lasts.ensures old new no_ids state c.args.source.now.memory c.step-stepped.new.source.memory numbers (max c.args.budget 1) c.in-Some.running c.step-stepped.new.self is c.requires.whole
     s.numbers s.drawn s.touches s.sound c.args.budget c.in-Ok.progress s.goes_on s.may s.plan s.version s.snapshots s.owns facts ended c.last-last_sequence.result c.last-last_sequence.ensures.is c.deref.result.now.tables (ap (λ (p : Placement). p.tables) c.deref.ensures) r
-    i.call leaves s.stops stops
+    i.call leaves s.stops stops owns puts
 
 pub returns-in-Err-install-clause-stops : goal.returns-in-Err-install-clause-stops
 returns-in-Err-install-clause-stops g c =
@@ -465,8 +469,10 @@ returns-in-Err-install-clause-stops g c =
     let r = (Err c.in-Err-install.error) in
     let leaves = subst (λ (w : OpenJob g.row.K.Denot g.K.KeyOrder). OfEach (λ ideal final. EndLeavesOver order new.facts facts ideal final numbers.next c.last-last_sequence.result state.directory.manifest c.deref.result.now.tables w r) new.facts.files facts.files) taken_out c.in-Err-install.ensures.leaves_each in
     let stops = λ (f : IsTrue facts.faithful). subst (λ (w : OpenJob g.row.K.Denot g.K.KeyOrder). LeavesOnly new.facts facts (EndMayLeave order new.facts numbers.next c.last-last_sequence.result state.directory.manifest c.deref.result.now.tables w)) taken_out (c.in-Err-install.ensures.stops f) in
+    let owns = λ (f : IsTrue facts.faithful). subst (λ (w : OpenJob g.row.K.Denot g.K.KeyOrder). LeavesOnly new.facts facts (EndMayPutOwn order new.facts numbers.next c.last-last_sequence.result state.directory.manifest c.deref.result.now.tables w)) taken_out (c.in-Err-install.ensures.stops_own f) in
+    let puts = λ (f : IsTrue facts.faithful). subst (λ (w : OpenJob g.row.K.Denot g.K.KeyOrder). WritesThenPuts new.facts facts (IsTableName (IsNumberAtHand w.job.outputs)) (string_bytes state.directory.manifest.name) (AreOutputsKept order.cmp w.job new.facts numbers.next)) taken_out (c.in-Err-install.ensures.puts f) in
     let is : state.job ≡ Some c.in-Some.running = search rules in
     let ended : c.in-Ok.progress.ended ≡ true = search rules in
     end_keeps order g.met.K.KeyOrder.total (λ scan. scan_kept order.cmp scan) c.one_directory.ensures c.sound_lasts.ensures old new no_ids state c.args.source.now.memory c.step-stepped.new.source.memory numbers (max c.args.budget 1) c.in-Some.running c.step-stepped.new.self is c.requires.whole
     s.numbers s.drawn s.touches s.sound c.args.budget c.in-Ok.progress s.goes_on s.may s.plan s.version s.snapshots s.owns facts ended c.last-last_sequence.result c.last-last_sequence.ensures.is c.deref.result.now.tables (ap (λ (p : Placement). p.tables) c.deref.ensures) r
-    i.call leaves s.stops stops
+    i.call leaves s.stops stops owns puts

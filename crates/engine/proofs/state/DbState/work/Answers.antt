@@ -11,7 +11,7 @@ use Rattle.db_cursor.specs.Whole.{seen_of}
 use Rattle.engine.specs.Stands.{no_ids}
 use Rattle.machine.specs.Upkeep.{Works}
 use Rattle.engine.specs.internal.Pieces.{refused_as}
-use Rattle.engine.specs.Working.{work_answer}
+use Rattle.engine.specs.Working.{LosesDead, work_answer}
 use Rattle.engine.proofs.ExactFiles.{leaves_exactly}
 use Rattle.engine.proofs.Flags.{piece_flag}
 use Rattle.engine.proofs.FlushEnds.{flushes_behind}
@@ -78,6 +78,13 @@ returns-in-Err-clause-step g c ids =
 
 pub returns-in-Ok-clause-tidy : goal.returns-in-Ok-clause-tidy
 returns-in-Ok-clause-tidy g c = search rules
+
+pub returns-in-Ok-clause-removes : goal.returns-in-Ok-clause-removes
+returns-in-Ok-clause-removes g c = λ idle f.
+    let same = c.in-Ok.ensures.idle idle in
+    let old = g.S.Store.facts c.args.source.now.tables.store in
+    subst (λ state. LosesDead old (g.S.Store.facts c.do_piece.new.source.tables.store) (open_db c.do_piece.new.source.memory state)) (sym same.1)
+    (subst (λ source. LosesDead old (g.S.Store.facts source.tables.store) (open_db source.memory c.args.self.now)) (sym same.0) (c.in_ok-complete.ensures.removes ((c.in-Ok.ensures.step no_ids).faithful f)))
 
 pub returns-in-Ok-clause-exact : goal.returns-in-Ok-clause-exact
 returns-in-Ok-clause-exact g c =
