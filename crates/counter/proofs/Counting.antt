@@ -154,9 +154,9 @@ module _ (name : Name) (m at : Machine) (value : Option (List ℕ)) (count : ℕ
       subst (λ (k : ℕ). IsTally (names ++ name ∷ []) (insert (current at) name (fixed64 k))) (sym one)
       (counted_more names name (current at) (omega (arith, one, fits)) (stays names m at (got_value m at name value got).1 is))
 
-  pub written : (n : Machine) → Writes at (put_of name count) Done n → Increments name m (Ok count) n
-  written n h = λ names is.
-      let becomes = served (write_cause (status_of at) (put_of name count)) (Written at (put_of name count) Done n) _ (λ e q. (let same : Done ≡ Denied e = q.0 in (let never : ⊥ = (cc) in never))) h.1 in
+  pub written : (n : Machine) (sync : Bool) → Writes at (put_of name count) sync Done n → Increments name m (Ok count) n
+  written n sync h = λ names is.
+      let becomes = served (write_cause (status_of at) (put_of name count)) (Written at (put_of name count) sync Done n) _ (λ e q. (let same : Done ≡ Denied e = q.0 in (let never : ⊥ = (cc) in never))) h.1 in
       let map : current n ≡ after_batch (current at) (put_of name count) = ap current becomes ∙ pushed at.base at.batches (put_of name count) in
       (subst (λ (x : Contents). IsTally (names ++ name ∷ []) x) (sym map) (more names is), next_is names is ∙ sym (tally_of names name))
 
@@ -183,8 +183,8 @@ module _ (name : Name) (m at : Machine) (value : Option (List ℕ)) (count : ℕ
   write_left n error.Io h = in_doubt n error.Io h.2
   write_left n _ h = absurd h
 
-  pub refused_write : (n : Machine) (e : DbError) → Writes at (put_of name count) (Denied e) n → Increments name m (Err (Refused e)) n
-  refused_write n e h = either (write_cause (status_of at) (put_of name count)) (WriteRefused at (put_of name count) e n) (Left n (Refused e)) _ (write_left n e) (λ c q. left_as n e q.1) h.1
+  pub refused_write : (n : Machine) (sync : Bool) (e : DbError) → Writes at (put_of name count) sync (Denied e) n → Increments name m (Err (Refused e)) n
+  refused_write n sync e h = either (write_cause (status_of at) (put_of name count)) (WriteRefused at (put_of name count) e n) (Left n (Refused e)) _ (write_left n e) (λ c q. left_as n e q.1) h.1
 
 -- what may come of the next count
 pub is_own : (old : ℕ) (e : CountError) → NextOf old (Err e) → IsOwn e

@@ -1,4 +1,4 @@
-use Rattle.std.proofs.Common.{List, subst}
+use Rattle.std.proofs.Common.{List, subst, true}
 use Rattle.batch.specs.declared.operation.Operation.{Operation}
 use Rattle.machine.specs.Access.{Writes}
 use Rattle.machine.specs.declared.command.Answer.TheVariants.{Done, Refused as Denied}
@@ -20,10 +20,10 @@ returns-in-Err-batch_of g c =
 
 pub returns-in-Ok-write : goal.returns-in-Ok-write
 returns-in-Ok-write g c =
-    leads_then (λ m at n h k. written c.args.name.now m at c.in-Ok.value c.in-Ok-next_count.count h c.in-Ok-next_count.ensures.range c.in-Ok-next_count.ensures.is n
-    (subst (λ (operations : List Operation). Writes at operations Done n) c.in-Ok-batch_of.ensures k)) c.in-Ok.ensures.step c.in-Ok-write.ensures.step
+    leads_then (λ m at n h k. written c.args.name.now m at c.in-Ok.value c.in-Ok-next_count.count h c.in-Ok-next_count.ensures.range c.in-Ok-next_count.ensures.is n true
+    (subst (λ (operations : List Operation). Writes at operations true Done n) c.in-Ok-batch_of.ensures k)) c.in-Ok.ensures.step c.in-Ok-write.ensures.step
 
 pub returns : goal.returns
 returns g c =
-    leads_then (λ m at n h k. refused_write c.args.name.now m at c.in-Ok.value c.in-Ok-next_count.count h c.in-Ok-next_count.ensures.range c.in-Ok-next_count.ensures.is n c.in-Err-write.error
-    (subst (λ (operations : List Operation). Writes at operations (Denied c.in-Err-write.error) n) c.in-Ok-batch_of.ensures k)) c.in-Ok.ensures.step c.in-Err-write.ensures.step
+    leads_then (λ m at n h k. refused_write c.args.name.now m at c.in-Ok.value c.in-Ok-next_count.count h c.in-Ok-next_count.ensures.range c.in-Ok-next_count.ensures.is n true c.in-Err-write.error
+    (subst (λ (operations : List Operation). Writes at operations true (Denied c.in-Err-write.error) n) c.in-Ok-batch_of.ensures k)) c.in-Ok.ensures.step c.in-Err-write.ensures.step
