@@ -199,4 +199,8 @@ impl Store for WatchedStore {
     fn noted(&self) -> Trouble {
         self.noted
     }
+
+    fn synced_law(&self) {
+        self.inner.synced_law();
+    }
 }

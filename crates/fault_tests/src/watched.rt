@@ -181,4 +181,8 @@ impl Store for WatchedStore {
     fn noted(&self) -> Trouble {
         self.inner.noted()
     }
+
+    fn synced_law(&self) {
+        self.inner.synced_law();
+    }
 }

@@ -227,4 +227,8 @@ impl<S: Store> Store for ReadOnly<S> {
     fn noted(&self) -> Trouble {
         self.inner.noted()
     }
+
+    fn synced_law(&self) {
+        self.inner.synced_law();
+    }
 }

@@ -19,6 +19,7 @@ use Rattle.std.specs.String.{string_cmp}
 use Rattle.std.specs.FinMap.{get, insert, remove, keys, from_entries, from_sorted, get-from_sorted, entries-from_sorted, find, is_sorted, get-from_entries, get-insert, get-remove, same_map, slice_cmp-IsAntisymmetric, nat_cmp-IsAntisymmetric}
 use Rattle.std.proofs.lemmas.Map.Text.{btree_map_updates_text, is_eq-slice_cmp}
 use Rattle.store.specs.Files.{Files, Synced, Renames, made_if_missing, with_synced, renamed}
+use Rattle.store.specs.MemFile.{synced_bytes}
 use Rattle.store.specs.declared.mem_file.MemFile.{MemFile}
 use Rattle.store.specs.MemStore.{files_of, synced_of}
 use Rattle.store.specs.Past.{Holds}
@@ -265,7 +266,7 @@ made_still files from to there = still_at (is_some (get files to)) (eq_by_cmp (s
 -- ---- what is synced
 
 abbrev kept_of : Option MemFile → Option (List ℕ)
-kept_of file = option_and_then (λ (v : MemFile). v.synced) file
+kept_of file = option_and_then (λ (v : MemFile). synced_bytes v) file
 
 abbrev Changed : List ℕ → Tree → Tree → Option MemFile → Type 0
 Changed name m n w = UpdatesBy string_cmp (λ k. slice_cmp nat_cmp name (string_bytes k)) m n w
@@ -281,11 +282,11 @@ synced-change name m n w u = λ i q. at q i
         ∙ ap (λ b. cond b (kept_of w) (kept_of (get_by_text m q))) (turned name q)
 
 -- the same of a key that has this name
-pub synced-insert : (name : List ℕ) (k : String Global) (m n : Tree) (v : MemFile) → string_bytes k ≡ name → Updates string_cmp m n k (Some v) → synced_of n.entries ≡ with_synced (synced_of m.entries) name v.synced
-synced-insert name k m n v is u = synced-change (string_bytes k) m n (Some v) u ∙ ap (λ x. with_synced (synced_of m.entries) x v.synced) is
+pub synced-insert : (name : List ℕ) (k : String Global) (m n : Tree) (v : MemFile) → string_bytes k ≡ name → Updates string_cmp m n k (Some v) → synced_of n.entries ≡ with_synced (synced_of m.entries) name (synced_bytes v)
+synced-insert name k m n v is u = synced-change (string_bytes k) m n (Some v) u ∙ ap (λ x. with_synced (synced_of m.entries) x (synced_bytes v)) is
 
 -- what is synced of a file that a look-up found, and of one that is missing
-pub synced-found : (m : Tree) (name : List ℕ) (v : MemFile) → get_by_text m name ≡ Some v → synced_of m.entries name ≡ v.synced
+pub synced-found : (m : Tree) (name : List ℕ) (v : MemFile) → get_by_text m name ≡ Some v → synced_of m.entries name ≡ synced_bytes v
 synced-found m name v is = ap kept_of is
 
 pub synced-missed : (m : Tree) (name : List ℕ) → get_by_text m name ≡ None → synced_of m.entries name ≡ None
@@ -314,12 +315,12 @@ same_look_up [] (f ∷ fs) h q = absurd h
 same_look_up (e ∷ es) [] h q = absurd h
 same_look_up (e ∷ es) (f ∷ fs) h q =
     by_test f (is_eq (slice_cmp nat_cmp q (string_bytes f.0))) fs refl
-    ∙ (λ i. cond (is_eq (slice_cmp nat_cmp q (h.0.0 i))) ((h.0.1 i).synced) (same_look_up es fs h.1 q i))
+    ∙ (λ i. cond (is_eq (slice_cmp nat_cmp q (h.0.0 i))) (synced_bytes (h.0.1 i)) (same_look_up es fs h.1 q i))
     ∙ sym (by_test e (is_eq (slice_cmp nat_cmp q (string_bytes e.0))) es refl)
   where
     by_test : (e : String Global × MemFile) (b : Bool) (rest : List (String Global × MemFile)) → is_eq (slice_cmp nat_cmp q (string_bytes e.0)) ≡ b
-        → synced_of (e ∷ rest) q ≡ cond (is_eq (slice_cmp nat_cmp q (string_bytes e.0))) (e.1.synced) (synced_of rest q)
-    by_test e b rest is = elim (is_eq (slice_cmp nat_cmp q (string_bytes e.0))) as (λ t. kept_of (cond t (Some e.1) (lookup (λ k. is_eq (slice_cmp nat_cmp q (string_bytes k))) rest)) ≡ cond t (e.1.synced) (synced_of rest q)) [ true ↦ refl | false ↦ refl ]
+        → synced_of (e ∷ rest) q ≡ cond (is_eq (slice_cmp nat_cmp q (string_bytes e.0))) (synced_bytes e.1) (synced_of rest q)
+    by_test e b rest is = elim (is_eq (slice_cmp nat_cmp q (string_bytes e.0))) as (λ t. kept_of (cond t (Some e.1) (lookup (λ k. is_eq (slice_cmp nat_cmp q (string_bytes k))) rest)) ≡ cond t (synced_bytes e.1) (synced_of rest q)) [ true ↦ refl | false ↦ refl ]
 
 -- a copy of a map has the same synced
 pub synced-clone : (m n : Tree) → IsClone (λ s t. string_bytes t ≡ string_bytes s) (λ v w. w ≡ v) m n → synced_of n.entries ≡ synced_of m.entries

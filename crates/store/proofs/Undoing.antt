@@ -12,7 +12,7 @@ use Rattle.std.specs.Cmp.Lexicographic.{slice_cmp, nat_list_cmp_total}
 use Rattle.std.specs.Ordering.{nat_cmp, eq_by_cmp}
 use Rattle.std.specs.FinMap.{get, insert, remove, get-insert, get-remove}
 use Rattle.store.specs.Files.{Files, Synced, Facts, Disk, disk_of, Call, Change, Addition, Does, Appends, lock_name, with_synced, renamed}
-use Rattle.store.specs.MemFile.{front_of}
+use Rattle.store.specs.MemFile.{front_of, synced_bytes}
 use Rattle.store.specs.Calls.{Notes, NotesAppend, NotesSync, Adds}
 use Rattle.store.specs.declared.error.StoreError.{StoreError}
 use Rattle.store.specs.declared.error.StoreError.TheVariants.{Memory}
@@ -109,9 +109,9 @@ taken_back k file found now name is gone kept holds =
     let files : with_file now.files (string_bytes k) (Some file.bytes) ≡ found.files =
     ap (λ n. with_file now.files n (Some file.bytes)) is
     ∙ restored found.files now.files name (Some file.bytes) (λ q other. ap (λ (f : Files). get f q) gone ∙ other_remove found.files name q other) holds.0 in
-    let synced : with_synced now.synced (string_bytes k) file.synced ≡ found.synced =
-    ap (λ n. with_synced now.synced n file.synced) is
-    ∙ restored_synced found.synced now.synced name file.synced (λ q other. ap (λ (s : Synced). s q) kept ∙ other_synced found.synced name q None other) holds.1 in
+    let synced : with_synced now.synced (string_bytes k) (synced_bytes file) ≡ found.synced =
+    ap (λ n. with_synced now.synced n (synced_bytes file)) is
+    ∙ restored_synced found.synced now.synced name (synced_bytes file) (λ q other. ap (λ (s : Synced). s q) kept ∙ other_synced found.synced name q None other) holds.1 in
     λ i. record { files = files i; synced = synced i }
 
 pub locked_back : (found now : Disk) → get found.files lock_name ≡ None → now.files ≡ insert found.files lock_name [] → now.synced ≡ found.synced → undone Locked now ≡ found

@@ -38,6 +38,14 @@ held_last (call ∷ calls) now q = option_map_or (held_last calls now) (name_beh
 abbrev pub BeginsWith : List ℕ → List ℕ → Type 0
 BeginsWith bytes front = (rest : List ℕ) × (bytes ≡ front ++ rest)
 
+-- What is synced of the file of this name is a beginning of what it holds.
+abbrev pub SyncsBeginning : Facts → List ℕ → Type 0
+SyncsBeginning facts name = (held synced : List ℕ) → get facts.files name ≡ Some held → facts.synced name ≡ Some synced → BeginsWith held synced
+
+-- So it is with every file.
+abbrev pub SyncsBeginnings : Facts → Type 0
+SyncsBeginnings facts = (name : List ℕ) → SyncsBeginning facts name
+
 -- The names are those of a moment, behind which these calls were made. Each file has a beginning of what it held last, with what of it was synced at least.
 pub record IsLost (at : Files) (since : List Call) (now : Disk) (lost : Files) : Type 0 where
   pub names : (q : List ℕ) → contains_key lost q ≡ contains_key at q

@@ -3,7 +3,7 @@ use Rattle.std.specs.Prelude.{◌≡◌, ℕ, List, [], ◌∷◌, ◌++◌, Opt
 use Rattle.std.specs.FinMap.{get, insert, remove}
 use Rattle.std.specs.Option.{option_map, option_and_then}
 use Rattle.store.specs.Files.{Files, Disk, Call, Change, Creation, Addition, Sync, Move, Removal, LockFile, lock_name, with_synced}
-use Rattle.store.specs.MemFile.{front_of}
+use Rattle.store.specs.MemFile.{front_of, synced_bytes}
 use Rattle.store.specs.declared.mem_file.MemFile.{MemFile}
 use Rattle.store.specs.declared.past.Past.{Past}
 use Rattle.store.specs.declared.past.Past.TheVariants.{Made, Grown, Kept, Moved, Taken, Locked}
@@ -13,7 +13,7 @@ abbrev pub bytes_of : Option MemFile → Option (List ℕ)
 bytes_of file = option_map (λ (v : MemFile). v.bytes) file
 
 abbrev pub synced_in : Option MemFile → Option (List ℕ)
-synced_in file = option_and_then (λ (v : MemFile). v.synced) file
+synced_in file = option_and_then (λ (v : MemFile). synced_bytes v) file
 
 -- the name held this file, or none
 abbrev pub Holds : Disk → List ℕ → Option MemFile → Type 0
@@ -44,7 +44,7 @@ undone (Moved from to held) now = record {
 }
 undone (Taken name file) now = record {
   files = with_file now.files (string_bytes name) (Some file.bytes);
-  synced = with_synced now.synced (string_bytes name) file.synced;
+  synced = with_synced now.synced (string_bytes name) (synced_bytes file);
 }
 undone Locked now = record { files = with_file now.files lock_name None; synced = now.synced }
 

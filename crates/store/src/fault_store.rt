@@ -487,4 +487,8 @@ impl Store for FaultStore {
     fn noted(&self) -> Trouble {
         self.inner.noted()
     }
+
+    fn synced_law(&self) {
+        self.inner.synced_law();
+    }
 }

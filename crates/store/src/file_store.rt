@@ -197,6 +197,8 @@ impl Store for FileStore {
     fn noted(&self) -> Trouble {
         self.noted
     }
+
+    fn synced_law(&self) {}
 }
 
 impl FileStore {

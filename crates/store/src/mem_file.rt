@@ -1,6 +1,6 @@
 // A file in memory.
 ghost use Rattle.std.specs.Prelude.{◌≡◌, ◌++◌, Some, None, [], length, OnOk, OnErr, IfOk};
-ghost use Rattle.store.specs.MemFile.{Content, front_of, HasFront};
+ghost use Rattle.store.specs.MemFile.{Content, HasFront, synced_bytes};
 
 use std::alloc::{AllocError, Global};
 use std::marker::Model;
@@ -16,7 +16,7 @@ pub struct MemFile {
 impl Model for MemFile {
     ghost Value = { Content };
 
-    ghost view = { λ file. record { bytes = file.bytes.items; synced = front_of file.bytes.items file.synced } };
+    ghost view = { λ file. record { bytes = file.bytes.items; synced = file.synced } };
 
     ghost invariant = { λ file. HasFront file.bytes.items file.synced };
 }
@@ -41,7 +41,7 @@ impl MemFile {
 
     /// How many of its bytes are synced, if it ever was.
     pub fn synced_length(&self) -> Option<usize>
-        ensures { self.now.synced ≡ front_of self.now.bytes result }
+        ensures { self.now.synced ≡ result }
     {
         self.synced
     }
@@ -50,6 +50,7 @@ impl MemFile {
     pub fn append(&mut self, bytes: &[u8]) -> Result<(), AllocError>
         ensures ok { OnOk result (self.new ≡ record self.old { bytes = self.old.bytes ++ bytes.now }) }
         ensures err { OnErr result (self.new ≡ self.old) }
+        ensures synced { synced_bytes self.new ≡ synced_bytes self.old }
     {
         self.bytes.extend_from_slice(bytes)?;
         Ok(())
@@ -57,7 +58,7 @@ impl MemFile {
 
     /// Takes what it has now for synced.
     pub fn sync(&mut self)
-        ensures { self.new ≡ record self.old { synced = Some self.old.bytes } }
+        ensures { self.new ≡ record self.old { synced = Some (length self.old.bytes) } }
     {
         self.synced = Some(self.bytes.len());
     }

@@ -5,7 +5,7 @@ ghost use Rattle.std.specs.FinMap.{insert};
 ghost use Rattle.store.specs.Calls.{Notes};
 ghost use Rattle.store.specs.Files.{LockFile, Locks, Renames, made_if_missing, with_synced, renamed};
 ghost use Rattle.store.specs.Counted.{with_failed};
-ghost use Rattle.store.specs.MemFile.{front_of};
+ghost use Rattle.store.specs.MemFile.{front_of, synced_bytes};
 ghost use Rattle.store.specs.MemStore.{files_of, synced_of};
 ghost use Rattle.store.specs.Past.{Holds};
 
@@ -261,6 +261,8 @@ impl Store for MemStore {
     fn noted(&self) -> Trouble {
         self.noted
     }
+
+    fn synced_law(&self) {}
 }
 
 // Puts a file under a name, and answers the one that had it.
@@ -271,7 +273,7 @@ fn put(
     file: MemFile,
 ) -> Result<Option<MemFile>, AllocError>
     ensures ok { OnOk result (files_of files.new.entries ≡ insert (files_of files.old.entries) name.now file.bytes) }
-    ensures synced { OnOk result (synced_of files.new.entries ≡ with_synced (synced_of files.old.entries) name.now file.synced) }
+    ensures synced { OnOk result (synced_of files.new.entries ≡ with_synced (synced_of files.old.entries) name.now (synced_bytes file)) }
     ensures held { IfOk result (Holds (record { files = files_of files.old.entries; synced = synced_of files.old.entries }) name.now) }
     ensures err { OnErr result (files.new.entries ≡ files.old.entries) }
 {

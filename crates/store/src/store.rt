@@ -2,6 +2,7 @@
 ghost use Rattle.std.specs.Prelude.{◌≡◌, ◌≢◌, ◌⊎◌, ◌<◌, List, ℕ, [], length, take, drop, map, string_bytes, IfOk, OnOk, OnErr, None, IsTrue, IsSome, true, false};
 ghost use Rattle.std.specs.FinMap as map;
 ghost use Rattle.store.specs.Files.{Facts, Lists, Appends, AppendsBeginning, Renames, Removes, Locks, MayLock, with_synced, renamed, Creation, Sync, Move, Removal, LockFile};
+ghost use Rattle.store.specs.Losses.{SyncsBeginnings};
 ghost use Rattle.store.specs.Troubles.{behind};
 ghost use Rattle.store.specs.declared.trouble.Trouble.{Trouble};
 ghost use Rattle.store.specs.Calls.{Counts, FailsNoWrite, FailsAsWrite, Keeps, KeepsSynced, KeepsCalls, Changes, ChangesSynced, Notes, NotesAppend, NotesSync};
@@ -222,4 +223,8 @@ pub trait Store {
     /// The note that was taken last, whether or not a call was refused since.
     fn noted(&self) -> Trouble
         ensures { result ≡ told self.now };
+
+    /// Law: what is synced of a file is a beginning of what it holds. It does nothing.
+    fn synced_law(&self)
+        ensures { SyncsBeginnings (facts self.now) };
 }

@@ -85,6 +85,10 @@ impl Store for Watched {
     fn noted(&self) -> Trouble {
         self.inner.noted()
     }
+
+    fn synced_law(&self) {
+        self.inner.synced_law();
+    }
 }
 
 // More bytes than the 176 of the file, up to more than is read of any, and the footer's handles that say so of the metaindex,

@@ -202,4 +202,8 @@ impl<S: Store> Store for Watched<S> {
     fn noted(&self) -> Trouble {
         self.inner.noted()
     }
+
+    fn synced_law(&self) {
+        self.inner.synced_law();
+    }
 }

@@ -104,6 +104,10 @@ impl Store for Untouched {
     fn noted(&self) -> Trouble {
         self.inner.noted()
     }
+
+    fn synced_law(&self) {
+        self.inner.synced_law();
+    }
 }
 
 type Looked = Reader<Untouched, Bytewise>;

@@ -2,6 +2,7 @@ use Rattle.std.proofs.Common.{◌≡◌, ◌++◌, Some, length, sym, ap, ◌∙
 use Rattle.std.specs.FinMap.{insert}
 use Rattle.store.specs.Files.{with_synced}
 use Rattle.store.specs.MemStore.{files_of, synced_of}
+use Rattle.store.specs.MemFile.{synced_bytes}
 use Rattle.store.specs.declared.mem_file.MemFile.{MemFile}
 use Rattle.store.proofs.MemFiles.{synced-change, synced-found, synced_same, files-write, insert_same, get-found, get-missed, found_apart}
 use Rattle.store.proofs.Outcomes.{on_err}
@@ -33,12 +34,12 @@ pub returns-in_err-append-in-Some-clause-synced : goal.returns-in_err-append-in-
 returns-in_err-append-in-Some-clause-synced c =
     let synced = synced_of c.args.files.now.entries in
     synced-change c.args.name.now c.args.files.now (c.get_mut.follows.lender c.append.new.self) (Some c.append.new.self) ((c.get_mut.follows.holds c.append.new.self).3 (search rules))
-    ∙ ap (λ (v : MemFile). with_synced synced c.args.name.now v.synced) c.in_err-append-in-Some.ensures.err
-    ∙ synced_same synced c.args.name.now c.in-Some.file.now.synced (synced-found c.args.files.now c.args.name.now c.in-Some.file.now (sym c.in-Some.ensures.value))
+    ∙ ap (with_synced synced c.args.name.now) c.append.ensures.synced
+    ∙ synced_same synced c.args.name.now (synced_bytes c.in-Some.file.now) (synced-found c.args.files.now c.args.name.now c.in-Some.file.now (sym c.in-Some.ensures.value))
 
 pub returns-in_ok-append-in-Some-clause-synced : goal.returns-in_ok-append-in-Some-clause-synced
 returns-in_ok-append-in-Some-clause-synced c =
     let synced = synced_of c.args.files.now.entries in
     synced-change c.args.name.now c.args.files.now (c.get_mut.follows.lender c.append.new.self) (Some c.append.new.self) ((c.get_mut.follows.holds c.append.new.self).3 (search rules))
-    ∙ ap (λ (v : MemFile). with_synced synced c.args.name.now v.synced) c.in_ok-append-in-Some.ensures.ok
-    ∙ synced_same synced c.args.name.now c.in-Some.file.now.synced (synced-found c.args.files.now c.args.name.now c.in-Some.file.now (sym c.in-Some.ensures.value))
+    ∙ ap (with_synced synced c.args.name.now) c.append.ensures.synced
+    ∙ synced_same synced c.args.name.now (synced_bytes c.in-Some.file.now) (synced-found c.args.files.now c.args.name.now c.in-Some.file.now (sym c.in-Some.ensures.value))

@@ -2,6 +2,7 @@ use Rattle.std.proofs.Common.{◌≡◌, Some, None, sym, ap, ◌∙◌, rules}
 use Rattle.std.specs.FinMap.{get, insert}
 use Rattle.store.specs.Files.{Files, Synced, with_synced}
 use Rattle.store.specs.MemStore.{files_of, synced_of}
+use Rattle.store.specs.MemFile.{synced_bytes}
 use Rattle.store.specs.declared.mem_file.MemFile.{MemFile}
 use Rattle.store.proofs.MemFiles.{synced-change, synced-found, synced-missed, files-remove, files-write, get-found, get-missed, found_apart, present_apart, get-remove_other, synced_other}
 use Rattle.store.proofs.memory.move_file.Goals as goal
@@ -33,8 +34,8 @@ returns-in-Some-get_mut-clause-synced c = λ _ _ _.
     let synced = synced_of before.entries in
     let taken = synced-change c.args.from.now before c.remove.new.self None c.remove.ensures.updates in
     synced-change c.args.to.now c.remove.new.self (c.get_mut.follows.lender new) (Some new) ((c.get_mut.follows.holds new).3 (search rules))
-    ∙ ap (λ (s : Synced). with_synced s c.args.to.now new.synced) taken
-    ∙ ap (with_synced (with_synced synced c.args.from.now None) c.args.to.now) (ap (λ (v : MemFile). v.synced) c.replace.ensures.after ∙ sym (synced-found before c.args.from.now file (sym c.in-Some.ensures.value)))
+    ∙ ap (λ (s : Synced). with_synced s c.args.to.now (synced_bytes new)) taken
+    ∙ ap (with_synced (with_synced synced c.args.from.now None) c.args.to.now) (ap (λ (v : MemFile). synced_bytes v) c.replace.ensures.after ∙ sym (synced-found before c.args.from.now file (sym c.in-Some.ensures.value)))
 
 pub returns-in-Some-get_mut-clause-held : goal.returns-in-Some-get_mut-clause-held
 returns-in-Some-get_mut-clause-held c = λ _ apart.
@@ -49,7 +50,7 @@ returns-in-Some-get_mut-clause-held c = λ _ apart.
           ∙ ap (λ (v : MemFile). Some v.bytes) (sym c.replace.ensures.value),
       synced_other before mid from to apart c.remove.ensures.updates
           ∙ synced-found mid to c.in-Some-get_mut.place.now is
-          ∙ ap (λ (v : MemFile). v.synced) (sym c.replace.ensures.value),
+          ∙ ap (λ (v : MemFile). synced_bytes v) (sym c.replace.ensures.value),
     )
 
 pub returns-clause-moved : goal.returns-clause-moved

@@ -1,7 +1,8 @@
-use Rattle.std.proofs.Common.{◌≡◌, Some, sym, ap, ◌∙◌, rules}
+use Rattle.std.proofs.Common.{◌≡◌, Some, length, sym, ap, ◌∙◌, rules, arith}
+use Rattle.std.proofs.lemmas.List.{take_all}
 use Rattle.std.specs.FinMap.{get}
 use Rattle.store.specs.Files.{with_synced}
-use Rattle.store.specs.MemFile.{front_of}
+use Rattle.store.specs.MemFile.{front_of, synced_bytes}
 use Rattle.store.specs.MemStore.{files_of, synced_of}
 use Rattle.store.specs.declared.mem_file.MemFile.{MemFile}
 use Rattle.store.proofs.MemFiles.{files-write, insert_same, get-found, get-missed, found_apart, synced-change, synced-found, synced-missed, synced_same}
@@ -27,8 +28,8 @@ returns-in-Some-clause-synced c =
     let at = get-found c.args.files.now c.args.name.now c.in-Some.file.now (sym c.in-Some.ensures.value) in
     let synced = synced_of c.args.files.now.entries in
     synced-change c.args.name.now c.args.files.now (c.get_mut.follows.lender c.sync.new.self) (Some c.sync.new.self) ((c.get_mut.follows.holds c.sync.new.self).3 (search rules))
-    ∙ ap (λ (v : MemFile). with_synced synced c.args.name.now v.synced) c.sync.ensures
-    ∙ ap (with_synced synced c.args.name.now) (sym at)
+    ∙ ap (λ (v : MemFile). with_synced synced c.args.name.now (synced_bytes v)) c.sync.ensures
+    ∙ ap (with_synced synced c.args.name.now) (ap Some (take_all (length c.in-Some.file.now.bytes) c.in-Some.file.now.bytes (omega arith)) ∙ sym at)
 
 pub returns-in-Some-clause-count : goal.returns-in-Some-clause-count
 returns-in-Some-clause-count c = λ bytes at.
@@ -38,4 +39,4 @@ returns-in-Some-clause-count c = λ bytes at.
     let is = sym c.in-Some.ensures.value in
     let found = get-found m name file is in
     let same : file.bytes ≡ bytes = (cc) in
-    synced-found m name file is ∙ c.synced_length-count.ensures ∙ ap (λ b. front_of b c.synced_length-count.result) same
+    synced-found m name file is ∙ ap (front_of file.bytes) c.synced_length-count.ensures ∙ ap (λ b. front_of b c.synced_length-count.result) same

@@ -2,6 +2,7 @@ use Rattle.std.proofs.Common.{◌≡◌, ◌++◌, ◌∷◌, List, [], None, re
 use Rattle.std.specs.FinMap.{insert}
 use Rattle.store.specs.Files.{Disk, Creation, with_synced}
 use Rattle.store.specs.MemStore.{files_of, synced_of}
+use Rattle.store.specs.MemFile.{synced_bytes}
 use Rattle.store.specs.declared.mem_file.MemFile.{MemFile}
 use Rattle.store.specs.declared.past.Past.{Past}
 use Rattle.store.specs.declared.past.Past.TheVariants.{Made}
@@ -15,7 +16,7 @@ returns-clause-calls c =
     let held = c.in_ok-held.held in
     let old = c.args.self.now.files.entries in
     let made : files_of c.put.new.files.entries ≡ insert (files_of old) name [] = c.in_ok-held.ensures.ok ∙ ap (λ (v : MemFile). insert (files_of old) name v.bytes) c.new.ensures in
-    let kept : synced_of c.put.new.files.entries ≡ with_synced (synced_of old) name None = c.in_ok-held.ensures.synced ∙ ap (λ (v : MemFile). with_synced (synced_of old) name v.synced) c.new.ensures in
+    let kept : synced_of c.put.new.files.entries ≡ with_synced (synced_of old) name None = c.in_ok-held.ensures.synced ∙ ap (λ (v : MemFile). with_synced (synced_of old) name (synced_bytes v)) c.new.ensures in
     let found : Disk = record { files = files_of old; synced = synced_of old } in
     let now : Disk = record { files = files_of c.put.new.files.entries; synced = synced_of c.put.new.files.entries } in
     notes_change _ _ _ c.args.self.now.past.items c.keep.new.past.items (Made k held) (Creation name) refl refl
