@@ -1,6 +1,7 @@
 //! The store's calls by which an open writes, with the database's refusals.
 
-ghost use Rattle.std.specs.Prelude.{◌≡◌, ◌≢◌, ◌⊎◌, IsTrue, List, [], OnOk, ℕ};
+ghost use Rattle.std.specs.Prelude.{◌≡◌, ◌≢◌, ◌⊎◌, IsTrue, List, [], OnOk, ℕ, false};
+ghost use Rattle.std.specs.FinMap.{contains_key};
 ghost use Rattle.edits.specs.Names.{name_of};
 ghost use Rattle.edits.specs.declared.names.FileName.TheVariants.{Current};
 ghost use Rattle.store.specs.Losses.{LosesOnly, StaysNamed, behind_sync};
@@ -9,7 +10,7 @@ ghost use Rattle.opening.specs.internal.Calls.{KeepsOthers, Writes, MakesCurrent
 ghost use Rattle.opening.specs.Durable.{SyncsOnly};
 ghost use Rattle.opening.specs.Losses.{LeavesUncut};
 ghost use Rattle.opening.specs.internal.Durable.{WritesSynced, MakesSynced};
-ghost use Rattle.opening.specs.internal.Renewing.{SetsThen, SetsWhole};
+ghost use Rattle.opening.specs.internal.Renewing.{SetsThen, SetsWhole, StartsNew};
 
 use coding::DbError;
 use directory_writes::{create_file, refusal_of};
@@ -21,6 +22,8 @@ pub fn write_file<S: Store>(store: &mut S, name: &str, bytes: &[u8]) -> Result<(
     ensures synced { WritesSynced (S.facts store.old) (S.facts store.new) name.now bytes.now result }
     ensures stops { IsTrue (S.facts store.new).faithful → WritesOnly (S.facts store.old) (S.facts store.new) (λ (q : List ℕ). q ≡ name.now) }
     ensures ends { IsTrue (S.facts store.new).faithful → OnOk result (behind_sync [] (S.facts store.new).calls ≡ []) }
+    ensures starts { IsTrue (S.facts store.new).faithful → contains_key (S.facts store.old).files name.now ≡ false
+        → StartsNew (S.facts store.old) (S.facts store.new) name.now }
 {
     create_file(store, name)?;
     if let Err(error) = store.append(name, bytes) {

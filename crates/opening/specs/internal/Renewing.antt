@@ -1,6 +1,6 @@
 -- What an open does to the store, one call behind the other: each step behind the one in front of it, where that was done, or the calls ended there.
-use Rattle.std.specs.Prelude.{◌≡◌, ◌⊎◌, ◌+◌, ℕ, List, [], Some, string_bytes}
-use Rattle.std.specs.FinMap.{get}
+use Rattle.std.specs.Prelude.{◌≡◌, ◌⊎◌, ◌+◌, ℕ, false, List, [], Some, string_bytes}
+use Rattle.std.specs.FinMap.{get, contains_key}
 use Rattle.store.specs.Calls.{Adds, Idles}
 use Rattle.store.specs.Files.{Creation, Facts, Move, Sync, renamed, with_synced}
 use Rattle.store.specs.Losses.{behind_sync}
@@ -54,14 +54,19 @@ pub record SetsThen (old new : Facts) (temporary bytes : List ℕ) (next : Facts
 
 -- ---- all that is written
 
+-- A file was made anew, and then it alone was written; or nothing was done.
+abbrev pub StartsNew : Facts → Facts → List ℕ → Type 0
+StartsNew old new name = Idles old new ⊎ ((made : Facts) × Adds old made (Creation name) × OnlyIt made new name)
+
 -- A file was made, or nothing was done.
 abbrev pub Makes : Facts → Facts → List ℕ → Type 0
 Makes old new name = OnlyIt old new name × (Idles old new ⊎ Adds old new (Creation name))
 
--- A new MANIFEST was written, then `CURRENT` was set, and then a log was made; or the calls ended before.
+-- A new MANIFEST was written, made first where there was none of its name, then `CURRENT` was set, and then a log was made; or the calls ended before.
 pub record Renews (old new : Facts) (manifest content temporary current log : List ℕ) : Type 0 where
   pub mid : Facts
   pub only : OnlyIt old mid manifest
+  pub starts : contains_key old.files manifest ≡ false → StartsNew old mid manifest
   pub goes : Idles mid new ⊎ (IsWritten old mid manifest content × SetsThen mid new temporary current (λ last. Makes last new log))
 
 -- All of it was done.

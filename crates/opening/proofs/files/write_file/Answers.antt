@@ -3,6 +3,7 @@ use Rattle.coding.specs.declared.error.DbError.{DbError}
 use Rattle.directory_writes.proofs.StoreCalls.{behind_added}
 use Rattle.opening.specs.internal.Calls.{Writes}
 use Rattle.opening.specs.internal.Durable.{WritesSynced}
+use Rattle.opening.proofs.RenewSteps.{starts_appended, starts_refused, starts_synced}
 use Rattle.opening.proofs.Syncing.{unwritten, unwritten_behind, written}
 use Rattle.opening.proofs.StoreCalls.{appended_stops, created, not_created, not_appended, not_synced, file_written, sync_others, synced_stops}
 use Rattle.opening.proofs.files.write_file.Goals as goal
@@ -85,3 +86,33 @@ returns-clause-stops g c f =
 
 pub returns-clause-ends : goal.returns-clause-ends
 returns-clause-ends g c = λ f. behind_added (g.S.Store.facts c.append.new.self) (g.S.Store.facts c.sync.new.self) c.args.name.now (c.in_default-sync.ensures.calls.ok f)
+
+-- ---- a file that wasn't there
+
+pub returns-in_err-create_file-clause-starts : goal.returns-in_err-create_file-clause-starts
+returns-in_err-create_file-clause-starts g c f absent = starts_refused (g.S.Store.facts c.args.store.now) (g.S.Store.facts c.create_file.new.store) c.args.name.now (c.in_err-create_file.ensures.noted f)
+
+pub returns-in-Err-clause-starts : goal.returns-in-Err-clause-starts
+returns-in-Err-clause-starts g c f absent =
+    let m = c.append.ensures.counts.faithful f in
+    let made = c.in_ok-create_file.ensures in
+    starts_appended (g.S.Store.facts c.args.store.now) (g.S.Store.facts c.create_file.new.store) (g.S.Store.facts c.append.new.self) c.args.name.now c.args.bytes.now
+    absent (made.creates.ok m) (made.noted m) (c.append.ensures.calls.noted f) (c.append.ensures.synced f)
+
+pub returns-in-Err-sync-clause-starts : goal.returns-in-Err-sync-clause-starts
+returns-in-Err-sync-clause-starts g c f absent =
+    let l = c.sync.ensures.counts.faithful f in
+    let m = c.append.ensures.counts.faithful l in
+    let made = c.in_ok-create_file.ensures in
+    starts_synced (g.S.Store.facts c.args.store.now) (g.S.Store.facts c.create_file.new.store) (g.S.Store.facts c.append.new.self) (g.S.Store.facts c.sync.new.self) c.args.name.now c.args.bytes.now c.sync.result
+    absent (made.creates.ok m) (made.noted m) (c.append.ensures.calls.noted l) (c.append.ensures.synced l)
+    (c.sync.ensures.calls.ok f) (c.sync.ensures.calls.err f) (c.sync.ensures.same f) (c.sync.ensures.synced f) (c.sync.ensures.unsynced f)
+
+pub returns-clause-starts : goal.returns-clause-starts
+returns-clause-starts g c f absent =
+    let l = c.sync.ensures.counts.faithful f in
+    let m = c.append.ensures.counts.faithful l in
+    let made = c.in_ok-create_file.ensures in
+    starts_synced (g.S.Store.facts c.args.store.now) (g.S.Store.facts c.create_file.new.store) (g.S.Store.facts c.append.new.self) (g.S.Store.facts c.sync.new.self) c.args.name.now c.args.bytes.now c.sync.result
+    absent (made.creates.ok m) (made.noted m) (c.append.ensures.calls.noted l) (c.append.ensures.synced l)
+    (c.sync.ensures.calls.ok f) (c.sync.ensures.calls.err f) (c.sync.ensures.same f) (c.sync.ensures.synced f) (c.sync.ensures.unsynced f)

@@ -1,5 +1,5 @@
 use Rattle.ikey.specs.Orders.{order_of}
-use Rattle.std.proofs.Common.{◌≡◌, ◌≢◌, ◌⊎◌, List, [], ◌∷◌, ◌++◌, length, ℕ, Result, Ok, Err, IsTrue, OnOk, inl, inr, refl, sym, ap, subst, ◌∙◌, append_assoc, rules, string_bytes}
+use Rattle.std.proofs.Common.{◌≡◌, ◌≢◌, ◌⊎◌, false, List, [], ◌∷◌, ◌++◌, length, ℕ, Result, Ok, Err, IsTrue, OnOk, inl, inr, refl, sym, ap, subst, ◌∙◌, append_assoc, rules, string_bytes}
 use Rattle.coding.specs.declared.error.DbError.{DbError}
 use Rattle.std.specs.FinMap.{contains_key, insert}
 use Rattle.store.specs.Calls.{Adds, Idles}
@@ -12,7 +12,7 @@ use Rattle.opening.specs.internal.Calls.{Writes, MakesCurrent}
 use Rattle.edits.specs.Names.{name_of}
 use Rattle.edits.specs.declared.names.FileName.TheVariants.{Current, Manifest}
 use Rattle.opening.specs.internal.Opening.{Rewrites}
-use Rattle.opening.specs.internal.Renewing.{IsWritten, Makes, OnlyIt, SetsThen, SetsWhole}
+use Rattle.opening.specs.internal.Renewing.{IsWritten, Makes, OnlyIt, SetsThen, SetsWhole, StartsNew}
 use Rattle.opening.proofs.RenewSteps.{made_whole, renews_all, sets_last, sets_makes}
 use Rattle.opening.specs.Durable.{SyncsOnly, LeavesDurable}
 use Rattle.opening.specs.Losses.{BeginsSpared}
@@ -413,7 +413,9 @@ pub returns-in_err-write_file-clause-renews : goal.returns-in_err-write_file-cla
 returns-in_err-write_file-clause-renews g c f =
     let old = g.S.Store.facts c.args.store.now in
     let new = g.S.Store.facts c.write_file.new.store in
-    record { mid = new; only = subst (OnlyIt old new) c.as_str.ensures.value (c.in_err-write_file.ensures.stops f); goes = inl (refl, refl) }
+    let N : List ℕ → Type 0 = λ name. contains_key old.files name ≡ false → StartsNew old new name in
+    let starts = subst N c.as_str.ensures.value (c.in_err-write_file.ensures.starts f) in
+    record { mid = new; only = subst (OnlyIt old new) c.as_str.ensures.value (c.in_err-write_file.ensures.stops f); starts = starts; goes = inl (refl, refl) }
 
 pub returns-in_err-make_current-clause-renews : goal.returns-in_err-make_current-clause-renews
 returns-in_err-make_current-clause-renews g c f =
@@ -425,11 +427,13 @@ returns-in_err-make_current-clause-renews g c f =
     let W : List ℕ → List ℕ → Type 0 = λ name bytes. IsWritten old mid name bytes in
     let written = subst (λ name. W name c.args.rewrite.now.manifest.items) c.as_str.ensures.value (subst (λ bytes. W c.as_str.result.now bytes) c.deref.ensures.value
     (record { only = wrote.stops m; there = wrote.files.ok m; kept = wrote.synced.ok m; ends = wrote.ends m })) in
+    let N : List ℕ → Type 0 = λ name. contains_key old.files name ≡ false → StartsNew old mid name in
+    let starts = subst N c.as_str.ensures.value (wrote.starts m) in
     let T : List ℕ → List ℕ → Type 0 = λ name bytes. name ≢ name_of Current → SetsThen mid new name bytes (λ last. last ≡ new) in
     let temporary = string_bytes c.args.rewrite.now.temporary_name in
     let sets = subst (λ name. T name c.args.rewrite.now.current.items) c.as_str-2.ensures.value (subst (λ bytes. T c.as_str-2.result.now bytes) c.deref-2.ensures.value (c.in_err-make_current.ensures.sets f)) in
     let apart : temporary ≢ name_of Current = λ e. temporary_apart c.args.found.now c.requires.usable (sym c.requires.planned.temporary_name ∙ e) in
-    record { mid = mid; only = written.only; goes = inr (written, sets_last mid new temporary c.args.rewrite.now.current.items (string_bytes c.args.rewrite.now.log_name) (sets apart)) }
+    record { mid = mid; only = written.only; starts = starts; goes = inr (written, sets_last mid new temporary c.args.rewrite.now.current.items (string_bytes c.args.rewrite.now.log_name) (sets apart)) }
 
 pub returns-clause-renews : goal.returns-clause-renews
 returns-clause-renews g c f =
@@ -443,12 +447,14 @@ returns-clause-renews g c f =
     let W : List ℕ → List ℕ → Type 0 = λ name bytes. IsWritten old mid name bytes in
     let written = subst (λ name. W name c.args.rewrite.now.manifest.items) c.as_str.ensures.value (subst (λ bytes. W c.as_str.result.now bytes) c.deref.ensures.value
     (record { only = wrote.stops m; there = wrote.files.ok m; kept = wrote.synced.ok m; ends = wrote.ends m })) in
+    let N : List ℕ → Type 0 = λ name. contains_key old.files name ≡ false → StartsNew old mid name in
+    let starts = subst N c.as_str.ensures.value (wrote.starts m) in
     let T : List ℕ → List ℕ → Type 0 = λ name bytes. name ≢ name_of Current → SetsWhole mid most name bytes in
     let temporary = string_bytes c.args.rewrite.now.temporary_name in
     let sets = subst (λ name. T name c.args.rewrite.now.current.items) c.as_str-2.ensures.value (subst (λ bytes. T c.as_str-2.result.now bytes) c.deref-2.ensures.value (c.in_ok-make_current.ensures.whole l)) in
     let apart : temporary ≢ name_of Current = λ e. temporary_apart c.args.found.now c.requires.usable (sym c.requires.planned.temporary_name ∙ e) in
     let makes = subst (Makes most new) c.as_str-3.ensures.value (c.create_file.ensures.only f, c.create_file.ensures.noted f) in
-    record { mid = mid; only = written.only; goes = inr (written, sets_makes mid most new temporary c.args.rewrite.now.current.items (string_bytes c.args.rewrite.now.log_name) (sets apart) makes) }
+    record { mid = mid; only = written.only; starts = starts; goes = inr (written, sets_makes mid most new temporary c.args.rewrite.now.current.items (string_bytes c.args.rewrite.now.log_name) (sets apart) makes) }
 
 pub returns-clause-renewed : goal.returns-clause-renewed
 returns-clause-renewed g c f finds =
